@@ -1,0 +1,13 @@
+-- What the code's types and values are as trees.
+use Rattle.sample_core.specs.Datum.{Datum, unit, truth, number, pair, no_event, event, list, of_elements}
+use Rattle.sample_core.specs.declared.sample.Sample.{Sample}
+use Rattle.sample_core.specs.declared.sample.Sample.TheVariants as V
+
+abbrev pub datum_of : Sample → Datum
+datum_of V.Unit = unit
+datum_of (V.Bool b) = truth b
+datum_of (V.Int n) = number n
+datum_of (V.Pair a b) = pair a b
+datum_of V.NoEvent = no_event
+datum_of (V.Event a) = event a
+datum_of (V.List vs) = list (of_elements vs)

@@ -1,0 +1,19 @@
+// Want of memory, the one refusal that every call which allocates has.
+
+use std::alloc::{AllocError, AllocFailed};
+
+/// A growth was refused.
+#[derive(Clone, Copy, PartialEq, Eq, Debug)]
+pub struct Memory;
+
+impl From<AllocError> for Memory {
+    fn from(_: AllocError) -> Memory {
+        Memory
+    }
+}
+
+impl<T: Drop> From<AllocFailed<T>> for Memory {
+    fn from(_failed: AllocFailed<T>) -> Memory {
+        Memory
+    }
+}

@@ -1,0 +1,151 @@
+// Values.
+
+ghost use Rattle.std.specs.Prelude.{◌≡◌, IfOk, map};
+ghost use Rattle.sample_core.specs.Seen.{datum_of};
+
+use crate::memory::Memory;
+use std::alloc::Global;
+use std::marker::Model;
+use std::rc::Rc;
+
+/// A value.
+#[cycle(sample)]
+#[derive(Drop)]
+pub enum Sample {
+    /// `unit`.
+    Unit,
+    /// `true` or `false`.
+    Bool(bool),
+    /// A number.
+    Int(i64),
+    /// `(pair v w)`.
+    Pair(Child, Child),
+    /// `none`.
+    NoEvent,
+    /// `(event v)`.
+    Event(Child),
+    /// `(list v1 .. vn)`.
+    List(Samples),
+}
+
+/// A value inside a value. Contracts see it as the value's tree; copies share it.
+#[cycle(sample)]
+#[derive(Drop)]
+pub struct Child {
+    inner: Rc<Sample>,
+}
+
+/// The elements of a list value. Contracts see them as a list of trees; copies share them.
+#[cycle(sample)]
+#[derive(Drop)]
+pub struct Samples {
+    all: Rc<Vec<Sample>>,
+}
+
+impl Model for Child {
+    ghost use Rattle.sample_core.specs.Datum.{Datum, datum_size};
+    ghost use Rattle.sample_core.specs.DatumCode.{datum_code};
+
+    ghost Value = { Datum };
+
+    ghost coded = { datum_code };
+
+    ghost use Rattle.sample_core.specs.Seen.{datum_of};
+
+    ghost view = { λ a. datum_of a.inner.value };
+
+    ghost size = { datum_size };
+
+    ghost use Rattle.sample_core.specs.Falls.{depth_le};
+
+    ghost size_decreases = { λ a h. depth_le a.inner.value };
+}
+
+impl Model for Samples {
+    ghost use Rattle.std.specs.Prelude.{List, map};
+    ghost use Rattle.std.specs.Coded.{coded_list};
+    ghost use Rattle.sample_core.specs.Datum.{Datum, of_elements, datums_size};
+    ghost use Rattle.sample_core.specs.DatumCode.{datum_code};
+
+    ghost Value = { List Datum };
+
+    ghost coded = { coded_list datum_code };
+
+    ghost use Rattle.sample_core.specs.Seen.{datum_of};
+
+    ghost view = { λ a. map datum_of a.all.value.items };
+
+    ghost size = { λ vs. datums_size (of_elements vs) };
+
+    ghost use Rattle.sample_core.specs.Falls.{depths_le};
+    ghost use Rattle.std.proofs.Common.{arith};
+
+    ghost size_decreases = { λ a h. Prim.omega (arith, depths_le a.all.value.items) };
+}
+
+impl Child {
+    /// The value as a part of another.
+    pub fn new(alloc: Global, sample: Sample) -> Result<Child, Memory>
+        ensures { IfOk result (λ c. c ≡ datum_of sample) }
+    {
+        let inner = Rc::new(alloc, sample)?;
+        Ok(Child { inner })
+    }
+
+    /// The value itself.
+    pub fn get(&self) -> &Sample
+        ensures { datum_of result.now ≡ self.now }
+    {
+        &self.inner
+    }
+
+    /// The same value, shared.
+    pub fn try_copy(&self) -> Result<Child, Memory>
+        ensures { IfOk result (λ c. c ≡ self.now) }
+    {
+        let inner = self.inner.clone()?;
+        Ok(Child { inner })
+    }
+}
+
+impl Samples {
+    /// The values as the elements of a list value.
+    pub fn new(alloc: Global, all: Vec<Sample>) -> Result<Samples, Memory>
+        ensures { IfOk result (λ vs. vs ≡ map datum_of all.items) }
+    {
+        let all = Rc::new(alloc, all)?;
+        Ok(Samples { all })
+    }
+
+    /// The elements in order.
+    pub fn as_slice(&self) -> &[Sample]
+        ensures { map datum_of result.now ≡ self.now }
+    {
+        self.all.as_slice()
+    }
+
+    /// The same elements, shared.
+    pub fn try_copy(&self) -> Result<Samples, Memory>
+        ensures { IfOk result (λ vs. vs ≡ self.now) }
+    {
+        let all = self.all.clone()?;
+        Ok(Samples { all })
+    }
+}
+
+impl Sample {
+    /// A copy, whose parts are shared with it.
+    pub fn try_copy(&self, _alloc: Global) -> Result<Sample, Memory>
+        ensures { IfOk result (λ s. s ≡ self.now) }
+    {
+        Ok(match self {
+            Sample::Unit => Sample::Unit,
+            Sample::Bool(b) => Sample::Bool(*b),
+            Sample::Int(n) => Sample::Int(*n),
+            Sample::Pair(a, b) => Sample::Pair(a.try_copy()?, b.try_copy()?),
+            Sample::NoEvent => Sample::NoEvent,
+            Sample::Event(a) => Sample::Event(a.try_copy()?),
+            Sample::List(all) => Sample::List(all.try_copy()?),
+        })
+    }
+}

@@ -1,0 +1,78 @@
+// Types of values.
+
+ghost use Rattle.std.specs.Prelude.{◌≡◌, IfOk};
+ghost use Rattle.sample_core.specs.SeenType.{type_of};
+
+use crate::memory::Memory;
+use std::alloc::Global;
+use std::marker::Model;
+use std::rc::Rc;
+
+/// A type of values.
+#[cycle(ty)]
+#[derive(Drop)]
+pub enum Ty {
+    /// The one value `unit`.
+    Unit,
+    /// `true` and `false`.
+    Bool,
+    /// Signed numbers of 64 bits.
+    Int,
+    /// Pairs of a value of each type.
+    Pair(TyChild, TyChild),
+    /// No event, or an event that carries a value.
+    Event(TyChild),
+    /// Lists of any length.
+    List(TyChild),
+}
+
+/// A type inside a type. Contracts see it as the type's tree; copies share it.
+#[cycle(ty)]
+#[derive(Drop)]
+pub struct TyChild {
+    inner: Rc<Ty>,
+}
+
+impl Model for TyChild {
+    ghost use Rattle.sample_core.specs.TypeTree.{TypeTree, type_size};
+    ghost use Rattle.sample_core.specs.TypeCode.{type_code};
+
+    ghost Value = { TypeTree };
+
+    ghost coded = { type_code };
+
+    ghost use Rattle.sample_core.specs.SeenType.{type_of};
+
+    ghost view = { λ a. type_of a.inner.value };
+
+    ghost size = { type_size };
+
+    ghost use Rattle.std.proofs.Common.{arith};
+
+    ghost size_decreases = { λ a h. Prim.grind arith };
+}
+
+impl TyChild {
+    /// The type as a part of another.
+    pub fn new(alloc: Global, ty: Ty) -> Result<TyChild, Memory>
+        ensures { IfOk result (λ c. c ≡ type_of ty) }
+    {
+        let inner = Rc::new(alloc, ty)?;
+        Ok(TyChild { inner })
+    }
+
+    /// The type itself.
+    pub fn get(&self) -> &Ty
+        ensures { type_of result.now ≡ self.now }
+    {
+        &self.inner
+    }
+
+    /// The same type, shared.
+    pub fn try_copy(&self) -> Result<TyChild, Memory>
+        ensures { IfOk result (λ c. c ≡ self.now) }
+    {
+        let inner = self.inner.clone()?;
+        Ok(TyChild { inner })
+    }
+}
