@@ -1,0 +1,167 @@
+// Expressions as trees.
+
+ghost use Rattle.std.specs.Prelude.{◌≡◌, IfOk, map};
+ghost use Rattle.leaf_expr.specs.Seen.{expression_of};
+
+use crate::literal::Literal;
+use sample_core::{Memory, Ty};
+use std::alloc::Global;
+use std::marker::Model;
+use std::rc::Rc;
+
+/// An expression: a total function of an input and of parameters.
+#[cycle(expr)]
+#[derive(Drop)]
+pub enum Expr {
+    /// `x`, the input.
+    Input,
+    /// `(p k)`, parameter k, from 0.
+    Param(u32),
+    /// A literal.
+    Literal(Literal),
+    /// `(pair a b)`.
+    Pair(Part, Part),
+    /// `(fst e)`.
+    Fst(Part),
+    /// `(snd e)`.
+    Snd(Part),
+    /// `(then f g)`: g at the value of f.
+    Then(Part, Part),
+    /// `(neg a)`.
+    Neg(Part),
+    /// `(add a b)`.
+    Add(Part, Part),
+    /// `(sub a b)`.
+    Sub(Part, Part),
+    /// `(mul a b)`.
+    Mul(Part, Part),
+    /// `(less a b)`.
+    Less(Part, Part),
+    /// `(equal a b)`.
+    Equal(Part, Part),
+    /// `(not a)`.
+    Not(Part),
+    /// `(and a b)`.
+    And(Part, Part),
+    /// `(or a b)`.
+    Or(Part, Part),
+    /// `(if c a b)`: a where c is true, else b.
+    If(Part, Part, Part),
+    /// `(none T)`.
+    NoEvent(Ty),
+    /// `(event e)`.
+    Event(Part),
+    /// `(on e d b)`: with an event v of e, b at the pair of the input and v; else d.
+    On(Part, Part, Part),
+    /// `(list T e1 .. en)`.
+    List(Ty, Parts),
+    /// `(nth e i d)`: the element of e at i, from 0; d outside.
+    Nth(Part, Part, Part),
+    /// `(len e)`.
+    Len(Part),
+}
+
+/// An expression inside an expression. Contracts see it as the expression's tree; copies share it.
+#[cycle(expr)]
+#[derive(Drop)]
+pub struct Part {
+    inner: Rc<Expr>,
+}
+
+/// The elements of a list expression. Contracts see them as a list of trees; copies share them.
+#[cycle(expr)]
+#[derive(Drop)]
+pub struct Parts {
+    all: Rc<Vec<Expr>>,
+}
+
+impl Model for Part {
+    ghost use Rattle.leaf_expr.specs.Expression.{Expression, expression_size};
+    ghost use Rattle.leaf_expr.specs.ExpressionCode.{expression_code};
+
+    ghost Value = { Expression };
+
+    ghost coded = { expression_code };
+
+    ghost use Rattle.leaf_expr.specs.Seen.{expression_of};
+
+    ghost view = { λ a. expression_of a.inner.value };
+
+    ghost size = { expression_size };
+
+    ghost use Rattle.leaf_expr.specs.Falls.{depth_le};
+
+    ghost size_decreases = { λ a h. depth_le a.inner.value };
+}
+
+impl Model for Parts {
+    ghost use Rattle.std.specs.Prelude.{List, map};
+    ghost use Rattle.std.specs.Coded.{coded_list};
+    ghost use Rattle.leaf_expr.specs.Expression.{Expression, expressions_of, expressions_size};
+    ghost use Rattle.leaf_expr.specs.ExpressionCode.{expression_code};
+
+    ghost Value = { List Expression };
+
+    ghost coded = { coded_list expression_code };
+
+    ghost use Rattle.leaf_expr.specs.Seen.{expression_of};
+
+    ghost view = { λ a. map expression_of a.all.value.items };
+
+    ghost size = { λ es. expressions_size (expressions_of es) };
+
+    ghost use Rattle.leaf_expr.specs.Falls.{depths_le};
+    ghost use Rattle.std.proofs.Common.{arith};
+
+    ghost size_decreases = { λ a h. Prim.omega (arith, depths_le a.all.value.items) };
+}
+
+impl Part {
+    /// The expression as a part of another.
+    pub fn new(alloc: Global, expr: Expr) -> Result<Part, Memory>
+        ensures { IfOk result (λ p. p ≡ expression_of expr) }
+    {
+        let inner = Rc::new(alloc, expr)?;
+        Ok(Part { inner })
+    }
+
+    /// The expression itself.
+    pub fn get(&self) -> &Expr
+        ensures { expression_of result.now ≡ self.now }
+    {
+        &self.inner
+    }
+
+    /// The same expression, shared.
+    pub fn try_copy(&self) -> Result<Part, Memory>
+        ensures { IfOk result (λ p. p ≡ self.now) }
+    {
+        let inner = self.inner.clone()?;
+        Ok(Part { inner })
+    }
+}
+
+impl Parts {
+    /// The expressions as the elements of a list expression.
+    pub fn new(alloc: Global, all: Vec<Expr>) -> Result<Parts, Memory>
+        ensures { IfOk result (λ es. es ≡ map expression_of all.items) }
+    {
+        let all = Rc::new(alloc, all)?;
+        Ok(Parts { all })
+    }
+
+    /// The elements in order.
+    pub fn as_slice(&self) -> &[Expr]
+        ensures { map expression_of result.now ≡ self.now }
+    {
+        self.all.as_slice()
+    }
+
+    /// The same elements, shared.
+    pub fn try_copy(&self) -> Result<Parts, Memory>
+        ensures { IfOk result (λ es. es ≡ self.now) }
+    {
+        let all = self.all.clone()?;
+        Ok(Parts { all })
+    }
+}
