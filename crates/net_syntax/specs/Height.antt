@@ -1,0 +1,39 @@
+-- The height of a network: 1 without child networks, else 1 plus the greatest child's.
+use Rattle.std.specs.Prelude.{ℕ, zero, suc, max, List, [], ◌∷◌, ◌++◌}
+use Rattle.net_syntax.specs.Network.{Network, Networks, arr, seq, first, par, loop_pre, i_pre, delay, hold, accum_by, after, repeatedly, time, integral, switch, d_switch, r_switch, k_switch, p_switch, old, no_members, and_member}
+
+-- the height of the frozen network k
+abbrev pub height_at : List ℕ → ℕ → ℕ
+height_at [] k = 0
+height_at (h ∷ hs) zero = h
+height_at (h ∷ hs) (suc k) = height_at hs k
+
+abbrev pub greatest : List ℕ → ℕ
+greatest [] = 0
+greatest (n ∷ ns) = max n (greatest ns)
+
+abbrev mutual
+  pub height : {L : Type 0} → Network L → List ℕ → ℕ
+  height (seq f g) hs = suc (max (height f hs) (height g hs))
+  height (first f) hs = suc (height f hs)
+  height (par fs) hs = suc (greatest (heights fs hs))
+  height (loop_pre c f) hs = suc (height f hs)
+  height (switch f t) hs = suc (max (height f hs) (height t hs))
+  height (d_switch f t) hs = suc (max (height f hs) (height t hs))
+  height (r_switch f t) hs = suc (max (height f hs) (height t hs))
+  height (k_switch f e t) hs = suc (max (max (height f hs) (height e hs)) (height t (hs ++ height f hs ∷ [])))
+  height (p_switch r fs e t) hs = suc (max (max (greatest (heights fs hs)) (height e hs)) (height t (hs ++ heights fs hs)))
+  height (old k) hs = suc (height_at hs k)
+  height (arr e) hs = 1
+  height (i_pre c) hs = 1
+  height (delay q c) hs = 1
+  height (hold c) hs = 1
+  height (accum_by g z) hs = 1
+  height (after q c) hs = 1
+  height (repeatedly q c) hs = 1
+  height time hs = 1
+  height integral hs = 1
+
+  pub heights : {L : Type 0} → Networks L → List ℕ → List ℕ
+  heights no_members hs = []
+  heights (and_member f fs) hs = height f hs ∷ heights fs hs

@@ -1,0 +1,14 @@
+pub mod Network
+pub mod NetworkCode
+pub mod Seen
+pub mod Falls
+pub mod Signal
+pub mod IsSignal
+pub mod Meaning
+pub mod Environment
+pub mod Stream
+pub mod TypedNetworkCode
+pub mod Weight
+pub mod Height
+pub mod Typing
+pub mod TypedEnvironment

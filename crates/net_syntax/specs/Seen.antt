@@ -1,0 +1,17 @@
+-- What the code's networks are as trees.
+use Rattle.leaf_expr.specs.Expression.{Expression}
+use Rattle.leaf_expr.specs.Seen.{expression_of}
+use Rattle.leaf_expr.specs.declared.expr.Expr.{Expr}
+use Rattle.net_syntax.specs.Network.{Network, arr, seq, i_pre, map_network}
+use Rattle.net_syntax.specs.declared.net.Net.{Net}
+use Rattle.net_syntax.specs.declared.net.Net.TheVariants as V
+
+-- a network over leaves of any type
+abbrev pub network_of : {L : Type 0} → Net L → Network L
+network_of (V.Arr e) = arr e
+network_of (V.Seq f g) = seq f g
+network_of (V.IPre c) = i_pre c
+
+-- a network of expressions
+abbrev pub tree_of : Net Expr → Network Expression
+tree_of net = map_network expression_of (network_of net)

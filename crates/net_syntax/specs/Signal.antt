@@ -1,0 +1,258 @@
+-- Signal functions on whole lists of timed samples.
+use Rattle.std.specs.Prelude.{ℕ, zero, suc, ◌+◌, ℤ, pos, ◌+ℤ◌, ◌*ℤ◌, Bool, true, false, nat_le, nat_lt, ◌&&◌, ◌/◌, if◌then◌else◌, List, [], ◌∷◌, ◌++◌, length, take, drop, map, flat_map, Option, Some, None}
+use Rattle.std.specs.Int.{int_wrap, w64}
+use Rattle.sample_core.specs.Datum.{Datum, unit, number, pair, no_event, event, list, left, right, of_elements, whole}
+
+-- values, each with the step that precedes it
+abbrev pub Timed : Type 0
+Timed = List (ℕ × Datum)
+
+-- what a network denotes: as many outputs as samples
+abbrev pub Signal : Type 0
+Signal = Timed → List Datum
+
+abbrev pub values : Timed → List Datum
+values xs = map (λ x. x.1) xs
+
+-- item by item, as far as both lists go
+abbrev pub zip_with : {A B C : Type 0} → (A → B → C) → List A → List B → List C
+zip_with h [] ys = []
+zip_with h (x ∷ xs) [] = []
+zip_with h (x ∷ xs) (y ∷ ys) = h x y ∷ zip_with h xs ys
+
+-- the steps of xs with other values
+abbrev pub with_values : Timed → List Datum → Timed
+with_values xs ys = zip_with (λ x y. (x.0, y)) xs ys
+
+-- the pairs of the values of xs and ys, with the steps of xs
+abbrev pub paired : Timed → List Datum → Timed
+paired xs ys = zip_with (λ x y. (x.0, pair x.1 y)) xs ys
+
+-- each value changed
+abbrev pub each_value : (Datum → Datum) → Timed → Timed
+each_value h xs = map (λ x. (x.0, h x.1)) xs
+
+-- another first step
+abbrev pub retime : ℕ → Timed → Timed
+retime d [] = []
+retime d (x ∷ xs) = (d, x.1) ∷ xs
+
+abbrev pub pairs : List Datum → List Datum → List Datum
+pairs vs ws = zip_with pair vs ws
+
+-- the times of the samples that follow one at t
+abbrev pub times_after : ℕ → Timed → List ℕ
+times_after t [] = []
+times_after t (x ∷ xs) = (t + x.0) ∷ times_after (t + x.0) xs
+
+-- the times of the samples: the first step is ignored
+abbrev pub times : Timed → List ℕ
+times [] = []
+times (x ∷ xs) = 0 ∷ times_after 0 xs
+
+-- the time of the last sample, 0 where there is none
+abbrev pub last_or : {A : Type 0} → A → List A → A
+last_or a [] = a
+last_or a (x ∷ xs) = last_or x xs
+
+abbrev pub time_at : Timed → ℕ
+time_at p = last_or 0 (times p)
+
+-- the prefixes that end in each sample, the shortest first
+abbrev pub prefixes : {A : Type 0} → List A → List (List A)
+prefixes [] = []
+prefixes (x ∷ xs) = (x ∷ []) ∷ map (λ p. x ∷ p) (prefixes xs)
+
+-- a formula over the samples so far
+abbrev pub by_past : (Timed → Datum) → Signal
+by_past h xs = map h (prefixes xs)
+
+-- all but the last
+abbrev pub before_last : {A : Type 0} → List A → List A
+before_last [] = []
+before_last (x ∷ []) = []
+before_last (x ∷ y ∷ ys) = x ∷ before_last (y ∷ ys)
+
+-- `iPre`: the value before
+abbrev pub previous_of : Datum → Timed → Datum
+previous_of c p = last_or c (values (before_last p))
+
+-- `delay`: of these times and values the latest that lies at least q before now
+abbrev pub latest_by : ℕ → ℕ → Datum → List ℕ → List Datum → Datum
+latest_by q now c (t ∷ ts) (v ∷ vs) = latest_by q now (if nat_le (t + q) now then v else c) ts vs
+latest_by q now c _ _ = c
+
+abbrev pub delayed : ℕ → Datum → Timed → Datum
+delayed q c p = latest_by q (time_at p) c (times p) (values p)
+
+-- `hold`
+abbrev pub held : Datum → List Datum → Datum
+held c [] = c
+held c (event v ∷ vs) = held v vs
+held c (_ ∷ vs) = held c vs
+
+-- `accumBy`: the accumulator after these inputs
+abbrev pub accumulated : (Datum → Datum) → Datum → List Datum → Datum
+accumulated g acc [] = acc
+accumulated g acc (event v ∷ vs) = accumulated g (g (pair acc v)) vs
+accumulated g acc (_ ∷ vs) = accumulated g acc vs
+
+abbrev pub if_event : Datum → Datum → Datum
+if_event (event v) w = event w
+if_event _ w = no_event
+
+abbrev pub accumulation : (Datum → Datum) → Datum → Timed → Datum
+accumulation g z p = if_event (last_or no_event (values p)) (accumulated g z (values p))
+
+abbrev pub when : Bool → Datum → Datum
+when true c = event c
+when false c = no_event
+
+abbrev pub first_sample : Timed → Bool
+first_sample (x ∷ []) = true
+first_sample _ = false
+
+-- `after`: the first sample at or past q
+abbrev pub reached : ℕ → Datum → Timed → Datum
+reached q c p = when (nat_le q (time_at p) && (if first_sample p then true else nat_lt (time_at (before_last p)) q)) c
+
+-- `repeatedly`: a multiple of q was reached since the sample before
+abbrev pub repeated : ℕ → Datum → Timed → Datum
+repeated q c p = when (nat_lt (time_at (before_last p) / q) (time_at p / q)) c
+
+abbrev pub clock : Timed → Datum
+clock p = number (int_wrap w64 (pos (time_at p)))
+
+-- the sum of each step times the value before it
+abbrev pub area : ℤ → Timed → ℤ
+area before [] = pos 0
+area before (x ∷ xs) = (pos x.0 *ℤ before) +ℤ area (whole x.1) xs
+
+abbrev pub integrated : Timed → Datum
+integrated [] = number (pos 0)
+integrated (x ∷ xs) = number (int_wrap w64 (area (whole x.1) xs))
+
+-- `>>>`
+abbrev pub sequence : Signal → Signal → Signal
+sequence f g xs = g (with_values xs (f xs))
+
+-- `first`
+abbrev pub on_left : Signal → Signal
+on_left f xs = pairs (f (each_value left xs)) (map right (values xs))
+
+abbrev pub heads : List (List Datum) → List Datum
+heads [] = []
+heads ([] ∷ rows) = unit ∷ heads rows
+heads ((v ∷ vs) ∷ rows) = v ∷ heads rows
+
+abbrev pub tails : List (List Datum) → List (List Datum)
+tails [] = []
+tails ([] ∷ rows) = [] ∷ tails rows
+tails ((v ∷ vs) ∷ rows) = vs ∷ tails rows
+
+-- one list value for each sample, of what each row has there
+abbrev pub gathered : {A : Type 0} → List A → List (List Datum) → List Datum
+gathered [] rows = []
+gathered (x ∷ xs) rows = list (of_elements (heads rows)) ∷ gathered xs (tails rows)
+
+abbrev pub all_of : List Signal → Timed → List (List Datum)
+all_of [] xs = []
+all_of (f ∷ fs) xs = f xs ∷ all_of fs xs
+
+-- `parB`
+abbrev pub in_parallel : List Signal → Signal
+in_parallel fs xs = gathered xs (all_of fs xs)
+
+-- `loopPre`: what is fed back at the first n samples
+abbrev pub fed_back : Datum → Signal → Timed → ℕ → List Datum
+fed_back c f xs zero = []
+fed_back c f xs (suc n) = c ∷ map right (f (paired (take n xs) (fed_back c f xs n)))
+
+abbrev pub feedback : Datum → Signal → Signal
+feedback c f xs = map left (f (paired xs (fed_back c f xs (length xs))))
+
+-- the first event: its place, and what it carries
+abbrev pub later : Option (ℕ × Datum) → Option (ℕ × Datum)
+later None = None
+later (Some e) = Some (suc e.0, e.1)
+
+abbrev pub first_event : List Datum → Option (ℕ × Datum)
+first_event [] = None
+first_event (event c ∷ vs) = Some (0, c)
+first_event (_ ∷ vs) = later (first_event vs)
+
+-- outputs to the first event, and what takes over there
+abbrev pub cut_at : Option (ℕ × Datum) → List Datum → (ℕ → Datum → List Datum) → List Datum
+cut_at None ys go = ys
+cut_at (Some e) ys go = go e.0 e.1
+
+-- the step of the first sample
+abbrev pub step_of : Timed → ℕ
+step_of [] = 0
+step_of (x ∷ xs) = x.0
+
+-- f up to the first event of e. From that sample on what takes over for the event's value, the samples before it and its step
+abbrev pub switched : Signal → Signal → (Datum → Timed → ℕ → Signal) → Signal
+switched f e t xs = cut_at (first_event (e xs)) (f xs) (λ n c. take n (f xs) ++ t c (take n xs) (step_of (drop n xs)) (drop n xs))
+
+abbrev pub lefts : Signal → Signal
+lefts f xs = map left (f xs)
+
+abbrev pub rights : Signal → Signal
+rights f xs = map right (f xs)
+
+-- `switch`
+abbrev pub switching : Signal → (Datum → Signal) → Signal
+switching f t = switched (lefts f) (rights f) (λ c p d. t c)
+
+-- `dSwitch`
+abbrev pub switching_late : Signal → (Datum → Signal) → Signal
+switching_late f t xs = cut_at (first_event (rights f xs)) (lefts f xs) (λ n c. take (suc n) (lefts f xs) ++ drop 1 (t c (drop n xs)))
+
+-- the samples before the first with an event, and for each event its value and the samples from it to the next
+abbrev pub Pieces : Type 0
+Pieces = Timed × List (Datum × Timed)
+
+abbrev pub put_sample : ℕ → Datum → Pieces → Pieces
+put_sample d (pair a (event c)) p = ([], (c, (d, a) ∷ p.0) ∷ p.1)
+put_sample d v p = ((d, left v) ∷ p.0, p.1)
+
+abbrev pub pieces : Timed → Pieces
+pieces [] = ([], [])
+pieces (x ∷ xs) = put_sample x.0 x.1 (pieces xs)
+
+abbrev pub restarting : Signal → (Datum → Signal) → Signal
+restarting f t xs = f (pieces xs).0 ++ flat_map (λ piece. t piece.0 piece.1) (pieces xs).1
+
+-- a frozen signal resumed after the past p, with the step that it was frozen with
+abbrev pub resumed : Signal → Timed → ℕ → Signal
+resumed f p d [] = []
+resumed f p d (x ∷ xs) = drop (length p) (f (p ++ (d, x.1) ∷ xs))
+
+-- what e gives on the pairs of f's input and output
+abbrev pub watching : Signal → Signal → Signal
+watching f e xs = e (paired xs (f xs))
+
+-- `kSwitch`
+abbrev pub switching_on : Signal → Signal → (Datum → Signal → Signal) → Signal
+switching_on f e t = switched f (watching f e) (λ c p d. t c (resumed f p d))
+
+-- what member i gets
+abbrev pub routed : (Datum → Datum) → ℕ → Timed → Timed
+routed r i xs = each_value (λ a. r (pair a (number (pos i)))) xs
+
+abbrev pub routes : (Datum → Datum) → ℕ → List Signal → List Signal
+routes r i [] = []
+routes r i (f ∷ fs) = (λ xs. f (routed r i xs)) ∷ routes r (suc i) fs
+
+abbrev pub frozen_all : (Datum → Datum) → ℕ → List Signal → Timed → ℕ → List Signal
+frozen_all r i [] p d = []
+frozen_all r i (f ∷ fs) p d = resumed f (routed r i p) d ∷ frozen_all r (suc i) fs p d
+
+-- the members' outputs, each member on what it gets
+abbrev pub collected : (Datum → Datum) → List Signal → Signal
+collected r fs = in_parallel (routes r 0 fs)
+
+-- `pSwitch`
+abbrev pub switching_all : (Datum → Datum) → List Signal → Signal → (Datum → List Signal → Signal) → Signal
+switching_all r fs e t = switched (collected r fs) (watching (collected r fs) e) (λ c p d. t c (frozen_all r 0 fs p d))

@@ -1,0 +1,14 @@
+-- The code of a network with its types, by which the check tells such networks apart.
+use Rattle.std.specs.Prelude.{refl}
+use Rattle.std.specs.Coded.{Coded, code_by, coded×}
+use Rattle.sample_core.specs.TypeTree.{TypeTree}
+use Rattle.sample_core.specs.TypeCode.{type_code}
+use Rattle.leaf_expr.specs.Expression.{Expression}
+use Rattle.leaf_expr.specs.ExpressionCode.{expression_code}
+use Rattle.net_syntax.specs.Network.{Network}
+use Rattle.net_syntax.specs.NetworkCode.{network_code}
+use Rattle.net_syntax.specs.Stream.{TypedNetwork}
+
+abbrev pub typed_network_code : Coded TypedNetwork
+typed_network_code = code_by (TypeTree × (TypeTree × Network Expression)) (coded× type_code (coded× type_code (network_code expression_code)))
+    (λ t. (t.input, (t.output, t.net))) (λ p. record { input = p.0; output = p.1.0; net = p.1.1 }) (λ _. refl)

@@ -1,0 +1,39 @@
+-- The weight of a network: each node counts 1 and adds its child networks.
+use Rattle.std.specs.Prelude.{ℕ, zero, suc, ◌+◌, List, [], ◌∷◌, ◌++◌}
+use Rattle.net_syntax.specs.Network.{Network, Networks, arr, seq, first, par, loop_pre, i_pre, delay, hold, accum_by, after, repeatedly, time, integral, switch, d_switch, r_switch, k_switch, p_switch, old, no_members, and_member}
+
+-- the weight of the frozen network k
+abbrev pub weight_at : List ℕ → ℕ → ℕ
+weight_at [] k = 0
+weight_at (w ∷ ws) zero = w
+weight_at (w ∷ ws) (suc k) = weight_at ws k
+
+abbrev pub total : List ℕ → ℕ
+total [] = 0
+total (n ∷ ns) = n + total ns
+
+abbrev mutual
+  pub weight : {L : Type 0} → Network L → List ℕ → ℕ
+  weight (seq f g) ws = suc (weight f ws + weight g ws)
+  weight (first f) ws = suc (weight f ws)
+  weight (par fs) ws = suc (total (weights fs ws))
+  weight (loop_pre c f) ws = suc (weight f ws)
+  weight (switch f t) ws = suc (weight f ws + weight t ws)
+  weight (d_switch f t) ws = suc (weight f ws + weight t ws)
+  weight (r_switch f t) ws = suc (weight f ws + weight t ws)
+  weight (k_switch f e t) ws = suc (weight f ws + weight e ws + weight t (ws ++ weight f ws ∷ []))
+  weight (p_switch r fs e t) ws = suc (total (weights fs ws) + weight e ws + weight t (ws ++ weights fs ws))
+  weight (old k) ws = suc (weight_at ws k)
+  weight (arr e) ws = 1
+  weight (i_pre c) ws = 1
+  weight (delay q c) ws = 1
+  weight (hold c) ws = 1
+  weight (accum_by g z) ws = 1
+  weight (after q c) ws = 1
+  weight (repeatedly q c) ws = 1
+  weight time ws = 1
+  weight integral ws = 1
+
+  pub weights : {L : Type 0} → Networks L → List ℕ → List ℕ
+  weights no_members ws = []
+  weights (and_member f fs) ws = weight f ws ∷ weights fs ws

@@ -1,0 +1,76 @@
+// Networks, over leaves of any type.
+
+ghost use Rattle.std.specs.Prelude.{◌≡◌, IfOk};
+ghost use Rattle.net_syntax.specs.Seen.{network_of};
+
+use sample_core::Memory;
+use std::alloc::Global;
+use std::marker::Model;
+use std::rc::Rc;
+
+/// A network, over leaves L.
+#[cycle(net)]
+#[derive(Drop)]
+pub enum Net<L> {
+    /// `(arr e)`: each sample changed by the leaf.
+    Arr(L),
+    /// `(>>> f g)`: what f puts out is what g gets.
+    Seq(Sub<L>, Sub<L>),
+    /// `(iPre c)`: c first, then each sample one later.
+    IPre(L),
+}
+
+/// A network inside a network. Contracts see it as the network's tree; copies share it.
+#[cycle(net)]
+#[derive(Drop)]
+pub struct Sub<L> {
+    inner: Rc<Net<L>>,
+}
+
+impl<L> Model for Sub<L> {
+    ghost use Rattle.net_syntax.specs.Network.{Network, network_size};
+    ghost use Rattle.net_syntax.specs.NetworkCode.{network_code};
+
+    ghost Value = { Network L };
+
+    ghost coded = { network_code L.code };
+
+    ghost use Rattle.net_syntax.specs.Seen.{network_of};
+
+    ghost view = { λ a. network_of a.inner.value };
+
+    ghost size = { network_size };
+
+    ghost use Rattle.net_syntax.specs.Falls.{depth_le};
+
+    ghost size_decreases = { λ a h. depth_le a.inner.value };
+}
+
+impl<L> Sub<L> {
+    /// The network as a part of another.
+    pub fn new(alloc: Global, net: Net<L>) -> Result<Sub<L>, Memory>
+    where
+        L: Drop,
+        ensures { IfOk result (λ s. s ≡ network_of net) }
+    {
+        let inner = Rc::new(alloc, net)?;
+        Ok(Sub { inner })
+    }
+
+    /// The network itself.
+    pub fn get(&self) -> &Net<L>
+        ensures { network_of result.now ≡ self.now }
+    {
+        &self.inner
+    }
+
+    /// The same network, shared.
+    pub fn try_copy(&self) -> Result<Sub<L>, Memory>
+    where
+        L: Drop,
+        ensures { IfOk result (λ s. s ≡ self.now) }
+    {
+        let inner = self.inner.clone()?;
+        Ok(Sub { inner })
+    }
+}
