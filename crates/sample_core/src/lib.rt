@@ -2,6 +2,7 @@
 #![tactic(auto)]
 
 mod equal;
+mod fault;
 mod memory;
 mod print;
 mod sample;
@@ -9,6 +10,7 @@ mod ty;
 mod typing;
 
 pub use equal::{same, same_type};
+pub use fault::ValueFault;
 pub use memory::Memory;
 pub use print::{print_type, print_value, push_type, push_value};
 pub use sample::{Child, Sample, Samples};

@@ -1,3 +1,4 @@
 pub mod TextLines
 pub mod StepText
 pub mod SeenStep
+pub mod Printed

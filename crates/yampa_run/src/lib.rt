@@ -1,5 +1,10 @@
 //! Runs of networks on the texts of streams, and what the program prints.
 #![tactic(auto)]
 
+mod fault;
+mod printed;
 mod step_text;
 mod text_lines;
+
+pub use fault::{RunFault, RunReport, StreamFault};
+pub use printed::fault_line;

@@ -1,0 +1,68 @@
+// Why a run ended early, and what the program says of it.
+
+use sample_core::{Memory, ValueFault};
+use thiserror::Error;
+
+/// What is wrong with a stream. Lines are counted from 1.
+#[derive(Debug, Drop, PartialEq, Eq, Error)]
+pub enum StreamFault {
+    /// Line 1 begins with `+`; or a later line doesn't begin with `+`, a step in range and a space.
+    #[error("line {line}: step")]
+    Step { line: u64 },
+    /// A value is faulty. Places are counted from the value's first byte.
+    #[error("line {line}: {fault}")]
+    Value { line: u64, fault: ValueFault },
+    /// Line 1 is `=`.
+    #[error("line {line}: nothing before")]
+    NothingBefore { line: u64 },
+    /// A line has more than 65,536 bytes.
+    #[error("line {line}: too long")]
+    LineTooLong { line: u64 },
+    /// There is a line 1,000,001.
+    #[error("line {line}: too many samples")]
+    TooManySamples { line: u64 },
+    /// 2^40 reads were made.
+    #[error("too many reads")]
+    ReadTurns,
+    /// A read failed.
+    #[error("cannot be read")]
+    Read,
+    /// A growth was refused.
+    #[error("out of memory")]
+    Memory,
+    /// An earlier call answered a fault.
+    #[error("ended")]
+    Ended,
+}
+
+impl From<Memory> for StreamFault {
+    ghost use Rattle.std.specs.Prelude.{◌≡◌};
+    ghost use Rattle.yampa_run.specs.declared.fault.StreamFault.TheVariants as Fault;
+
+    ghost from_gives = { λ _ e. e ≡ Fault.Memory };
+
+    fn from(_: Memory) -> StreamFault {
+        StreamFault::Memory
+    }
+}
+
+/// Why a run ended early. `lines` is the number of lines wholly written.
+#[derive(Debug, Drop, PartialEq, Eq, Error)]
+pub enum RunFault {
+    /// The stream has a fault.
+    #[error("after {lines} lines: stream: {fault}")]
+    Stream { lines: u64, fault: StreamFault },
+    /// A write failed.
+    #[error("after {lines} lines: a write failed")]
+    Write { lines: u64 },
+    /// A growth was refused.
+    #[error("after {lines} lines: out of memory")]
+    Memory { lines: u64 },
+}
+
+/// What a run did that met its stream's end.
+#[derive(Clone, Copy, Debug, PartialEq, Eq)]
+pub struct RunReport {
+    /// The lines written, one for each sample.
+    pub lines: u64,
+}

@@ -1,0 +1,89 @@
+// What the program prints of a run that ended early.
+
+ghost use Rattle.std.specs.Prelude.{◌≡◌, ◌++◌, IfOk, OnOk, string_bytes};
+ghost use Rattle.std.specs.Fmt.{decimal};
+ghost use Rattle.yampa_run.specs.Printed.{IsAnswered, IsMet, at_line, line_of, status_of, stream_words, value_words};
+
+use crate::fault::{RunFault, StreamFault};
+use itoa::Buffer;
+use sample_core::{Memory, ValueFault};
+use std::alloc::Global;
+
+/// The exit status of a run that ended early, and the line that tells why, without a line feed.
+/// The fault is one that a run answers: none says that its stream was used past an earlier fault.
+pub fn fault_line(alloc: Global, fault: &RunFault) -> Result<(u8, String), Memory>
+    requires { IsAnswered fault.now }
+    ensures status { IfOk result (λ r. r.0 ≡ status_of fault.now) }
+    ensures line { IfOk result (λ r. string_bytes r.1 ≡ line_of fault.now) }
+{
+    let mut line = String::new(alloc);
+    match fault {
+        RunFault::Stream { fault, .. } => push_stream(&mut line, fault)?,
+        RunFault::Write { .. } => line.push_str("output: cannot be written")?,
+        RunFault::Memory { .. } => line.push_str("memory")?,
+    }
+    Ok((status(fault), line))
+}
+
+/// 1 for what is wrong with the stream's text, 3 for reading, writing and memory.
+fn status(fault: &RunFault) -> u8
+    ensures { result ≡ status_of fault.now }
+{
+    match fault {
+        RunFault::Stream { fault, .. } => match fault {
+            StreamFault::ReadTurns | StreamFault::Read | StreamFault::Memory => 3,
+            StreamFault::Value {
+                fault: ValueFault::Memory,
+                ..
+            } => 3,
+            _ => 1,
+        },
+        RunFault::Write { .. } | RunFault::Memory { .. } => 3,
+    }
+}
+
+fn push_stream(out: &mut String, fault: &StreamFault) -> Result<(), Memory>
+    requires { IsMet fault.now }
+    ensures { OnOk result (string_bytes out.new ≡ string_bytes out.old ++ stream_words fault.now) }
+{
+    match fault {
+        StreamFault::Step { line } => push_at(out, *line, "step"),
+        StreamFault::Value { line, fault } => push_value_fault(out, *line, fault),
+        StreamFault::NothingBefore { line } => push_at(out, *line, "nothing before"),
+        StreamFault::LineTooLong { line } => push_at(out, *line, "too long"),
+        StreamFault::TooManySamples { line } => push_at(out, *line, "too many samples"),
+        StreamFault::ReadTurns => Ok(out.push_str("stream: too many reads")?),
+        StreamFault::Read => Ok(out.push_str("stream: cannot be read")?),
+        StreamFault::Memory => Ok(out.push_str("memory")?),
+        StreamFault::Ended => unreachable!(),
+    }
+}
+
+fn push_value_fault(out: &mut String, line: u64, fault: &ValueFault) -> Result<(), Memory>
+    ensures { OnOk result (string_bytes out.new ≡ string_bytes out.old ++ value_words line fault.now) }
+{
+    match fault {
+        ValueFault::NotAValue { at } => push_place(out, line, "no value at ", *at),
+        ValueFault::OtherType { at } => push_place(out, line, "other type at ", *at),
+        ValueFault::NumberRange { at } => push_place(out, line, "number range at ", *at),
+        ValueFault::Memory => Ok(out.push_str("memory")?),
+    }
+}
+
+fn push_at(out: &mut String, line: u64, what: &str) -> Result<(), Memory>
+    ensures { OnOk result (string_bytes out.new ≡ string_bytes out.old ++ at_line line what.now) }
+{
+    out.push_str("stream: line ")?;
+    out.push_str(Buffer::new().format(line))?;
+    out.push_str(": ")?;
+    out.push_str(what)?;
+    Ok(())
+}
+
+fn push_place(out: &mut String, line: u64, what: &str, place: usize) -> Result<(), Memory>
+    ensures { OnOk result (string_bytes out.new ≡ string_bytes out.old ++ at_line line (what.now ++ decimal place)) }
+{
+    push_at(out, line, what)?;
+    out.push_str(Buffer::new().format(place))?;
+    Ok(())
+}
