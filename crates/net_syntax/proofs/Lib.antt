@@ -18,3 +18,9 @@ pub mod Unique
 pub mod ExpressionTyped
 pub mod StreamLaws
 pub mod Computed
+pub mod SwitchedOutputs
+pub mod Steps
+pub mod PlainSteps
+pub mod SwitchSteps
+pub mod RestartSteps
+pub mod CellSteps

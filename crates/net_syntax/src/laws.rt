@@ -8,6 +8,15 @@ ghost use Rattle.net_syntax.specs.Laws.{
   AlikeLaw,
   SameLaw,
 };
+ghost use Rattle.net_syntax.specs.SwitchLaws.{
+  SwitchLaw,
+  SwitchLateLaw,
+  RestartLaw,
+  FreezeLaw,
+  FreezeMembersLaw,
+  ResumeLaw,
+  KeptNumbersLaw,
+};
 ghost use Rattle.net_syntax.specs.Examples.{
   AddThenDelay,
   OnNothing,
@@ -48,6 +57,17 @@ pub fn typing_laws()
     ensures typed { TypedOutputsLaw }
     ensures alike { AlikeLaw }
     ensures same { SameLaw }
+{}
+
+/// What the switches and resumed networks put out, by the environments that their parts run in.
+pub fn switching_laws()
+    ensures switch { SwitchLaw }
+    ensures switch_late { SwitchLateLaw }
+    ensures restart { RestartLaw }
+    ensures freeze { FreezeLaw }
+    ensures freeze_members { FreezeMembersLaw }
+    ensures resume { ResumeLaw }
+    ensures kept_numbers { KeptNumbersLaw }
 {}
 
 /// What some networks put out, computed by the definitions.

@@ -5,6 +5,6 @@ mod laws;
 mod net;
 mod typed_net;
 
-pub use laws::{output_examples, stream_laws, typing_laws, weight_examples};
+pub use laws::{output_examples, stream_laws, switching_laws, typing_laws, weight_examples};
 pub use net::{Net, Sub};
 pub use typed_net::TypedNet;
