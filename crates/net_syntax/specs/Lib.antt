@@ -4,6 +4,7 @@ pub mod Seen
 pub mod Falls
 pub mod Signal
 pub mod IsSignal
+pub mod Answer
 pub mod Meaning
 pub mod Environment
 pub mod Stream
@@ -12,3 +13,8 @@ pub mod Weight
 pub mod Height
 pub mod Typing
 pub mod TypedEnvironment
+pub mod Same
+pub mod Alike
+pub mod Laws
+pub mod SwitchLaws
+pub mod Examples
