@@ -1,4 +1,7 @@
 pub mod TextLines
 pub mod StepText
-pub mod SeenStep
+pub mod SeenStream
 pub mod Printed
+pub mod Kept
+pub mod StreamText
+pub mod Output

@@ -6,7 +6,7 @@ ghost use Rattle.std.specs.Option.{option_copied};
 ghost use Rattle.std.specs.List.{prefix_len};
 ghost use Rattle.std.specs.Str.Parse.{digits_value};
 ghost use Rattle.yampa_run.specs.StepText.{behind, is_step, stepped};
-ghost use Rattle.yampa_run.specs.SeenStep.{seen_step};
+ghost use Rattle.yampa_run.specs.SeenStream.{seen_step};
 
 /// The greatest step, 2^63 - 1.
 const MOST: u64 = 0x7fff_ffff_ffff_ffff;
