@@ -4,6 +4,7 @@
 mod fault;
 mod printed;
 mod step_text;
+mod stepper;
 mod text_lines;
 
 pub use fault::{RunFault, RunReport, StreamFault};
