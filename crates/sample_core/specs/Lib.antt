@@ -7,3 +7,6 @@ pub mod Seen
 pub mod SeenType
 pub mod Falls
 pub mod Spelling
+pub mod Words
+pub mod Number
+pub mod Reading
