@@ -3,3 +3,5 @@ pub mod StepText
 pub mod SeenStream
 pub mod Printed
 pub mod Kept
+pub mod StreamText
+pub mod Output

@@ -5,6 +5,7 @@ mod fault;
 mod printed;
 mod step_text;
 mod stepper;
+mod stream_text;
 mod text_lines;
 
 pub use fault::{RunFault, RunReport, StreamFault};
