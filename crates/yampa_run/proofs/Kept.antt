@@ -53,7 +53,7 @@ passed f (x ∷ p) r n e = absurd (not_nil (stream_of f (x ∷ p)) ((stream f).s
     not_nil [] l q = absurd (omega arith)
     not_nil (v ∷ vs) l q = cc
 
-kept_nil : (net : Network Expression) → kept net [] ≡ []
+pub kept_nil : (net : Network Expression) → kept net [] ≡ []
 kept_nil (seq f g) = ap (λ a. a ++ kept g []) (kept_nil f) ∙ kept_nil g
 kept_nil _ = refl
 

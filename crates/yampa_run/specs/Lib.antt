@@ -5,3 +5,4 @@ pub mod Printed
 pub mod Kept
 pub mod StreamText
 pub mod Output
+pub mod Course

@@ -64,8 +64,12 @@ held_from A n before (line ∷ lines) = and_on (line_read A n before line) (λ x
 abbrev pub samples : TypeTree → List ℕ → Held
 samples A text = held_from A 1 None (lines_of text)
 
+-- The fault is what reading has; want of memory says nothing of the text.
+abbrev pub Refuses : {Y : Type 0} → StreamFault → Result Y StreamFault → Type 0
+Refuses S.Memory read = ⊤
+Refuses fault read = read ≡ Err fault
+
 -- What a call returned, seen by view, is what reading gives, unless memory ran out.
 abbrev pub Tells : {X Y : Type 0} → (X → Y) → Result X StreamFault → Result Y StreamFault → Type 0
 Tells view (Ok x) read = read ≡ Ok (view x)
-Tells view (Err S.Memory) read = ⊤
-Tells view (Err fault) read = read ≡ Err fault
+Tells view (Err fault) read = Refuses fault read

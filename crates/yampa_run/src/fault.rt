@@ -1,6 +1,7 @@
 // Why a run ended early, and what the program says of it.
 
 use sample_core::{Memory, ValueFault};
+use std::alloc::AllocError;
 use thiserror::Error;
 
 /// What is wrong with a stream. Lines are counted from 1.
@@ -42,6 +43,17 @@ impl From<Memory> for StreamFault {
     ghost from_gives = { λ _ e. e ≡ Fault.Memory };
 
     fn from(_: Memory) -> StreamFault {
+        StreamFault::Memory
+    }
+}
+
+impl From<AllocError> for StreamFault {
+    ghost use Rattle.std.specs.Prelude.{◌≡◌};
+    ghost use Rattle.yampa_run.specs.declared.fault.StreamFault.TheVariants as Fault;
+
+    ghost from_gives = { λ _ e. e ≡ Fault.Memory };
+
+    fn from(_: AllocError) -> StreamFault {
         StreamFault::Memory
     }
 }

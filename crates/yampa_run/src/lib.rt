@@ -3,6 +3,7 @@
 
 mod fault;
 mod printed;
+mod run;
 mod step_text;
 mod stepper;
 mod stream_text;
@@ -10,3 +11,4 @@ mod text_lines;
 
 pub use fault::{RunFault, RunReport, StreamFault};
 pub use printed::fault_line;
+pub use run::run_whole;
