@@ -3,3 +3,8 @@ mod HasTypeCases
 mod Numbers
 mod NumberParse
 mod ReadSteps
+mod WordLemmas
+mod Behind
+mod ValueRead
+mod ValueFound
+mod ReadingIs
