@@ -8,3 +8,6 @@ mod Behind
 mod ValueRead
 mod ValueFound
 mod ReadingIs
+mod FaultFound
+mod FaultRead
+mod FaultIs

@@ -22,7 +22,7 @@ one_more reader (suc n) front rest element after v e l h =
     let k : suc n - 1 ≡ n = omega arith in
     ap (λ r. with_front front (elements_at reader (suc n) r)) e ∙ ap (λ r. with_front front (r >>= (λ x. elements_at reader n x.1 >>= (λ y. Ok (x.0 ∷ y.0, y.1))))) h ∙ front_more front v (elements_at reader n after) ∙ ap (λ m. with_front (front ++ v ∷ []) (elements_at reader m after)) (sym k)
 
-fault_inside : (reader : List ℕ → Result (Datum × List ℕ) ValueFault) (n : ℕ) (front : List Datum) (rest element : List ℕ) (f : ValueFault) → rest ≡ 32 ∷ element → 0 < n → reader element ≡ Err f → with_front front (elements_at reader n rest) ≡ Err f
+pub fault_inside : (reader : List ℕ → Result (Datum × List ℕ) ValueFault) (n : ℕ) (front : List Datum) (rest element : List ℕ) (f : ValueFault) → rest ≡ 32 ∷ element → 0 < n → reader element ≡ Err f → with_front front (elements_at reader n rest) ≡ Err f
 unfolding elements_at
 fault_inside reader zero front rest element f e l h = absurd (omega arith)
 fault_inside reader (suc n) front rest element f e l h =

@@ -1,5 +1,5 @@
 -- Where bytes stop being the beginning of a value of a type, and what is wrong there.
-use Rattle.std.specs.Prelude.{◌≡◌, Bool, true, false, ◌||◌, ℕ, List, ◌∷◌, ◌++◌, bytes_eq, codes}
+use Rattle.std.specs.Prelude.{◌≡◌, Bool, true, false, ◌||◌, ℕ, List, ◌∷◌, ◌++◌, length, ◌-◌, bytes_eq, codes}
 use Rattle.sample_core.specs.Datum.{Datum, Datums}
 use Rattle.sample_core.specs.TypeTree.{TypeTree, unit_ty, bool_ty, int_ty, pair_ty, event_ty, list_ty}
 use Rattle.sample_core.specs.Number.{is_number, is_in_64}
@@ -45,3 +45,10 @@ pub data Wrong : Wanted → List ℕ → ℕ → ValueFault → Type 0 where
   too_large : {rest : List ℕ} {p : ℕ} → is_number (word_of rest) ≡ true → is_in_64 (word_of rest) ≡ false → Wrong (value_of int_ty) rest p (Fault.NumberRange p)
   no_byte : {b : ℕ} {rest : List ℕ} {p : ℕ} → begins_with b rest ≡ false → Wrong (the_byte b) rest p (Fault.NotAValue p)
   neither : {rest : List ℕ} {p : ℕ} → begins_with 32 rest ≡ false → begins_with 41 rest ≡ false → Wrong space_or_close rest p (Fault.NotAValue p)
+
+-- the bytes begin as a value of the type does, up to a place where the fault is
+pub record FirstFault (A : TypeTree) (bs : List ℕ) (f : ValueFault) : Type 0 where
+  pub wanted : Wanted
+  pub rest : List ℕ
+  pub leads : Leads A bs wanted rest
+  pub wrong : Wrong wanted rest (length bs - length rest) f

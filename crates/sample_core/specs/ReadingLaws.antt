@@ -1,5 +1,5 @@
 -- What reading has to do with spelling, and with each fault.
-use Rattle.std.specs.Prelude.{◌≡◌, ◌↔◌, ◌-◌, ◌&&◌, false, ℕ, List, ◌++◌, length, drop, Ok, Err}
+use Rattle.std.specs.Prelude.{◌≡◌, ◌↔◌, ◌&&◌, false, ℕ, List, ◌++◌, length, drop, Ok, Err}
 use Rattle.sample_core.specs.Datum.{Datum}
 use Rattle.sample_core.specs.TypeTree.{TypeTree}
 use Rattle.sample_core.specs.HasType.{HasType}
@@ -7,7 +7,7 @@ use Rattle.sample_core.specs.Spelling.{spelling}
 use Rattle.sample_core.specs.Words.{goes_on}
 use Rattle.sample_core.specs.Spelled.{SpellsValue, ends_in_word}
 use Rattle.sample_core.specs.Reading.{reading}
-use Rattle.sample_core.specs.Faults.{Wanted, Leads, Wrong}
+use Rattle.sample_core.specs.Faults.{FirstFault}
 use Rattle.sample_core.specs.declared.fault.ValueFault.{ValueFault}
 
 -- what is read at the front is spelled there, and what is spelled there is read
@@ -22,6 +22,6 @@ OneValueLaw = (A : TypeTree) (bs rest more : List ℕ) (v w : Datum) → SpellsV
 abbrev pub ReadAgainLaw : Type 0
 ReadAgainLaw = (A : TypeTree) (v : Datum) (rest : List ℕ) → HasType v A → (ends_in_word v && goes_on rest) ≡ false → reading A (spelling v ++ rest) ≡ Ok (v, length (spelling v))
 
--- a fault is answered exactly where the bytes begin as a value of the type does, up to a place where the wanted does not stand
+-- a fault is answered exactly where the bytes begin as a value of the type does, up to a place where that fault is
 abbrev pub FaultLaw : Type 0
-FaultLaw = (A : TypeTree) (bs : List ℕ) (f : ValueFault) → reading A bs ≡ Err f ↔ ((w : Wanted) × (rest : List ℕ) × Leads A bs w rest × Wrong w rest (length bs - length rest) f)
+FaultLaw = (A : TypeTree) (bs : List ℕ) (f : ValueFault) → reading A bs ≡ Err f ↔ FirstFault A bs f

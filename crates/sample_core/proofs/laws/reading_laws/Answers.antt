@@ -1,4 +1,5 @@
 use Rattle.sample_core.proofs.ReadingIs.{reading_law, one_value_law, read_again_law}
+use Rattle.sample_core.proofs.FaultIs.{fault_law}
 use Rattle.sample_core.proofs.laws.reading_laws.Goals as goal
 
 pub returns-clause-found : goal.returns-clause-found
@@ -9,3 +10,6 @@ returns-clause-one c = one_value_law
 
 pub returns-clause-again : goal.returns-clause-again
 returns-clause-again c = read_again_law
+
+pub returns-clause-fault : goal.returns-clause-fault
+returns-clause-fault c = fault_law
