@@ -3,3 +3,11 @@ mod HasTypeCases
 mod Numbers
 mod NumberParse
 mod ReadSteps
+mod WordLemmas
+mod Behind
+mod ValueRead
+mod ValueFound
+mod ReadingIs
+mod FaultFound
+mod FaultRead
+mod FaultIs

@@ -10,3 +10,6 @@ pub mod Spelling
 pub mod Words
 pub mod Number
 pub mod Reading
+pub mod Spelled
+pub mod Faults
+pub mod ReadingLaws

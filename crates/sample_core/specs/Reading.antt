@@ -51,10 +51,10 @@ truth_at size bs = if bytes_eq (word_of bs) (codes "true") then Ok (truth true, 
 unfoldable pub number_at : ℕ → List ℕ → Result (Datum × List ℕ) ValueFault
 number_at size bs = if is_number (word_of bs) then (if is_in_64 (word_of bs) then Ok (number (number_of (word_of bs)), after_word bs) else Err (Fault.NumberRange (size - length bs))) else Err (wrong size bs)
 
--- whether a space stands in front
-abbrev pub begins_space : List ℕ → Bool
-begins_space [] = false
-begins_space (b ∷ bs) = nat_eq b 32
+-- whether the byte b stands in front
+abbrev pub begins_with : ℕ → List ℕ → Bool
+begins_with b [] = false
+begins_with b (c ∷ cs) = nat_eq c b
 
 -- at most n elements, each behind a space, as long as a space stands there
 unfoldable pub elements_at : (List ℕ → Result (Datum × List ℕ) ValueFault) → ℕ → List ℕ → Result (List Datum × List ℕ) ValueFault

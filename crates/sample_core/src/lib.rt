@@ -3,6 +3,7 @@
 
 mod equal;
 mod fault;
+mod laws;
 mod memory;
 mod number;
 mod print;
@@ -14,9 +15,13 @@ mod words;
 
 pub use equal::{same, same_type};
 pub use fault::ValueFault;
+pub use laws::reading_laws;
 pub use memory::Memory;
 pub use print::{print_type, print_value, push_type, push_value};
 pub use read::read_value;
 pub use sample::{Child, Sample, Samples};
 pub use ty::{Ty, TyChild};
 pub use typing::has_type;
+
+#[cfg(test)]
+mod tests;

@@ -1,7 +1,7 @@
 // Reading one value off the front of a text.
 
 ghost use Rattle.std.specs.Prelude.{◌≡◌, ◌-◌, ◌≤◌, ◌∷◌, false, MatchOption, length, map, IfOk};
-ghost use Rattle.sample_core.specs.Reading.{Gives, begins_value, begins_space, wrong, behind_byte, behind_head, unit_at, truth_at, number_at, elements_at, value_at, reading};
+ghost use Rattle.sample_core.specs.Reading.{Gives, begins_value, begins_with, wrong, behind_byte, behind_head, unit_at, truth_at, number_at, elements_at, value_at, reading};
 ghost use Rattle.sample_core.specs.Seen.{datum_of};
 ghost use Rattle.sample_core.specs.SeenType.{type_of};
 
@@ -74,7 +74,7 @@ fn after_byte<'t>(size: usize, text: &'t [u8], byte: u8) -> Result<&'t [u8], Val
 
 /// What is behind a space.
 fn after_space(text: &[u8]) -> Option<&[u8]>
-    ensures { MatchOption result (begins_space text.now ≡ false) (λ rest. text.now ≡ 32 ∷ rest.now) }
+    ensures { MatchOption result (begins_with 32 text.now ≡ false) (λ rest. text.now ≡ 32 ∷ rest.now) }
 {
     match text {
         [b' ', rest @ ..] => Some(rest),

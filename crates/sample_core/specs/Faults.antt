@@ -1,0 +1,54 @@
+-- Where bytes stop being the beginning of a value of a type, and what is wrong there.
+use Rattle.std.specs.Prelude.{◌≡◌, Bool, true, false, ◌||◌, ℕ, List, ◌∷◌, ◌++◌, length, ◌-◌, bytes_eq, codes}
+use Rattle.sample_core.specs.Datum.{Datum, Datums}
+use Rattle.sample_core.specs.TypeTree.{TypeTree, unit_ty, bool_ty, int_ty, pair_ty, event_ty, list_ty}
+use Rattle.sample_core.specs.Number.{is_number, is_in_64}
+use Rattle.sample_core.specs.Words.{goes_on, word_of, form_word}
+use Rattle.sample_core.specs.Reading.{begins_value, begins_with}
+use Rattle.sample_core.specs.Spelled.{SpellsValue, SpellsRow}
+use Rattle.sample_core.specs.declared.fault.ValueFault.{ValueFault}
+use Rattle.sample_core.specs.declared.fault.ValueFault.TheVariants as Fault
+
+-- whether a value of the type begins: one of its words, a number of whatever size, or '(' and its form's word
+abbrev pub begins_type : TypeTree → List ℕ → Bool
+begins_type unit_ty bs = bytes_eq (word_of bs) (codes "unit")
+begins_type bool_ty bs = bytes_eq (word_of bs) (codes "true") || bytes_eq (word_of bs) (codes "false")
+begins_type int_ty bs = is_number (word_of bs)
+begins_type (pair_ty A B) bs = bytes_eq (form_word bs) (codes "pair")
+begins_type (event_ty A) bs = bytes_eq (word_of bs) (codes "none") || bytes_eq (form_word bs) (codes "event")
+begins_type (list_ty A) bs = bytes_eq (form_word bs) (codes "list")
+
+-- what must stand at a place: a value of a type, a byte, or in a list a space or a ')'
+pub data Wanted : Type 0 where
+  value_of : TypeTree → Wanted
+  the_byte : ℕ → Wanted
+  space_or_close : Wanted
+
+-- The bytes begin as a value of the type does, up to a place. There the wanted must stand, and the rest stands.
+pub data Leads : TypeTree → List ℕ → Wanted → List ℕ → Type 0 where
+  at_front : {A : TypeTree} {bs : List ℕ} → Leads A bs (value_of A) bs
+  behind_pair : {A B : TypeTree} {rest : List ℕ} → goes_on rest ≡ false → Leads (pair_ty A B) (codes "(pair" ++ rest) (the_byte 32) rest
+  in_first : {A B : TypeTree} {bs rest : List ℕ} {w : Wanted} → Leads A bs w rest → Leads (pair_ty A B) (codes "(pair " ++ bs) w rest
+  behind_first : {A B : TypeTree} {v : Datum} {bs rest : List ℕ} → SpellsValue v A bs rest → Leads (pair_ty A B) (codes "(pair " ++ bs) (the_byte 32) rest
+  in_second : {A B : TypeTree} {v : Datum} {bs cs rest : List ℕ} {w : Wanted} → SpellsValue v A bs (32 ∷ cs) → Leads B cs w rest → Leads (pair_ty A B) (codes "(pair " ++ bs) w rest
+  behind_second : {A B : TypeTree} {v x : Datum} {bs cs rest : List ℕ} → SpellsValue v A bs (32 ∷ cs) → SpellsValue x B cs rest → Leads (pair_ty A B) (codes "(pair " ++ bs) (the_byte 41) rest
+  behind_event : {A : TypeTree} {rest : List ℕ} → goes_on rest ≡ false → Leads (event_ty A) (codes "(event" ++ rest) (the_byte 32) rest
+  in_event : {A : TypeTree} {bs rest : List ℕ} {w : Wanted} → Leads A bs w rest → Leads (event_ty A) (codes "(event " ++ bs) w rest
+  behind_inner : {A : TypeTree} {v : Datum} {bs rest : List ℕ} → SpellsValue v A bs rest → Leads (event_ty A) (codes "(event " ++ bs) (the_byte 41) rest
+  behind_elements : {A : TypeTree} {vs : Datums} {bs rest : List ℕ} → SpellsRow vs A bs rest → Leads (list_ty A) (codes "(list" ++ bs) space_or_close rest
+  in_element : {A : TypeTree} {vs : Datums} {bs cs rest : List ℕ} {w : Wanted} → SpellsRow vs A bs (32 ∷ cs) → Leads A cs w rest → Leads (list_ty A) (codes "(list" ++ bs) w rest
+
+-- what stands at the place p is not what is wanted there
+pub data Wrong : Wanted → List ℕ → ℕ → ValueFault → Type 0 where
+  no_value : {A : TypeTree} {rest : List ℕ} {p : ℕ} → begins_value rest ≡ false → Wrong (value_of A) rest p (Fault.NotAValue p)
+  another_type : {A : TypeTree} {rest : List ℕ} {p : ℕ} → begins_value rest ≡ true → begins_type A rest ≡ false → Wrong (value_of A) rest p (Fault.OtherType p)
+  too_large : {rest : List ℕ} {p : ℕ} → is_number (word_of rest) ≡ true → is_in_64 (word_of rest) ≡ false → Wrong (value_of int_ty) rest p (Fault.NumberRange p)
+  no_byte : {b : ℕ} {rest : List ℕ} {p : ℕ} → begins_with b rest ≡ false → Wrong (the_byte b) rest p (Fault.NotAValue p)
+  neither : {rest : List ℕ} {p : ℕ} → begins_with 32 rest ≡ false → begins_with 41 rest ≡ false → Wrong space_or_close rest p (Fault.NotAValue p)
+
+-- the bytes begin as a value of the type does, up to a place where the fault is
+pub record FirstFault (A : TypeTree) (bs : List ℕ) (f : ValueFault) : Type 0 where
+  pub wanted : Wanted
+  pub rest : List ℕ
+  pub leads : Leads A bs wanted rest
+  pub wrong : Wrong wanted rest (length bs - length rest) f

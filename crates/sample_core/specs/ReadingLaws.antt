@@ -1,0 +1,27 @@
+-- What reading has to do with spelling, and with each fault.
+use Rattle.std.specs.Prelude.{◌≡◌, ◌↔◌, ◌&&◌, false, ℕ, List, ◌++◌, length, drop, Ok, Err}
+use Rattle.sample_core.specs.Datum.{Datum}
+use Rattle.sample_core.specs.TypeTree.{TypeTree}
+use Rattle.sample_core.specs.HasType.{HasType}
+use Rattle.sample_core.specs.Spelling.{spelling}
+use Rattle.sample_core.specs.Words.{goes_on}
+use Rattle.sample_core.specs.Spelled.{SpellsValue, ends_in_word}
+use Rattle.sample_core.specs.Reading.{reading}
+use Rattle.sample_core.specs.Faults.{FirstFault}
+use Rattle.sample_core.specs.declared.fault.ValueFault.{ValueFault}
+
+-- what is read at the front is spelled there, and what is spelled there is read
+abbrev pub ReadingLaw : Type 0
+ReadingLaw = (A : TypeTree) (bs : List ℕ) (v : Datum) (n : ℕ) → reading A bs ≡ Ok (v, n) ↔ ((n ≡ length (spelling v)) × SpellsValue v A bs (drop n bs))
+
+-- bytes spell one value of a type, if any
+abbrev pub OneValueLaw : Type 0
+OneValueLaw = (A : TypeTree) (bs rest more : List ℕ) (v w : Datum) → SpellsValue v A bs rest → SpellsValue w A bs more → (v ≡ w) × (rest ≡ more)
+
+-- a printed value is read again before any byte that does not go on its last word
+abbrev pub ReadAgainLaw : Type 0
+ReadAgainLaw = (A : TypeTree) (v : Datum) (rest : List ℕ) → HasType v A → (ends_in_word v && goes_on rest) ≡ false → reading A (spelling v ++ rest) ≡ Ok (v, length (spelling v))
+
+-- a fault is answered exactly where the bytes begin as a value of the type does, up to a place where that fault is
+abbrev pub FaultLaw : Type 0
+FaultLaw = (A : TypeTree) (bs : List ℕ) (f : ValueFault) → reading A bs ≡ Err f ↔ FirstFault A bs f
