@@ -3,9 +3,11 @@
 
 mod evaluation;
 mod expr;
+mod laws;
 mod literal;
 mod operations;
 
 pub use evaluation::eval;
 pub use expr::{Expr, Part, Parts};
+pub use laws::typing_laws;
 pub use literal::Literal;
