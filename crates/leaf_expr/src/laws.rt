@@ -9,5 +9,4 @@ pub fn typing_laws()
     ensures one_type { OneTypeLaw }
     ensures exact { ExactnessLaw }
     ensures equality { EqualityLaw }
-{
-}
+{}
