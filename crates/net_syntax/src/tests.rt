@@ -15,10 +15,16 @@ fn add_then_delay(alloc: Global) -> Result<Net<Expr>, Memory> {
     Ok(Net::Seq(add, delay))
 }
 
+fn shared_copy(alloc: Global) -> Result<Net<Expr>, Memory> {
+    let net = add_then_delay(alloc)?;
+    let part = Sub::new(alloc, net)?.try_copy()?;
+    part.get().try_copy(alloc)
+}
+
 #[test]
 fn a_network_is_built_and_shared(rt: HostRuntime) {
-    let net = add_then_delay(rt.alloc());
-    assert!(rt; net.is_ok());
+    let copied = shared_copy(rt.alloc());
+    assert!(rt; copied.is_ok());
 }
 
 #[test]
