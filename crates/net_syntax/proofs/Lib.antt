@@ -15,7 +15,6 @@ pub mod SameSwitches
 pub mod SameNets
 pub mod TypedMeanings
 pub mod Unique
-pub mod ExpressionTyped
 pub mod StreamLaws
 pub mod Computed
 pub mod SwitchedOutputs
@@ -24,3 +23,4 @@ pub mod PlainSteps
 pub mod SwitchSteps
 pub mod RestartSteps
 pub mod CellSteps
+pub mod Unlimited

@@ -12,6 +12,8 @@ pub mod TypedNetworkCode
 pub mod Weight
 pub mod Height
 pub mod Typing
+pub mod TypedWithin
+pub mod NetworkLimits
 pub mod TypedEnvironment
 pub mod Same
 pub mod Alike

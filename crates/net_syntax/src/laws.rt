@@ -7,6 +7,8 @@ ghost use Rattle.net_syntax.specs.Laws.{
   TypedOutputsLaw,
   AlikeLaw,
   SameLaw,
+  OneTypeLaw,
+  WithinLaw,
 };
 ghost use Rattle.net_syntax.specs.SwitchLaws.{
   SwitchLaw,
@@ -52,11 +54,13 @@ pub fn stream_laws()
     ensures retimed { RetimeLaw }
 {}
 
-/// A typed network puts out typed values, and the same ones in alike environments.
+/// A typed network puts out typed values, the same ones in alike environments, and it has one output type.
 pub fn typing_laws()
     ensures typed { TypedOutputsLaw }
     ensures alike { AlikeLaw }
     ensures same { SameLaw }
+    ensures one_type { OneTypeLaw }
+    ensures within { WithinLaw }
 {}
 
 /// What the switches and resumed networks put out, by the environments that their parts run in.
