@@ -4,3 +4,8 @@ pub mod ExpressionValue
 pub mod ExpressionTyping
 pub mod Seen
 pub mod Falls
+pub mod Token
+pub mod Part
+pub mod Language
+pub mod Reader
+pub mod ReadLaws

@@ -6,3 +6,4 @@ pub mod HasType
 pub mod Seen
 pub mod SeenType
 pub mod Falls
+pub mod Number
