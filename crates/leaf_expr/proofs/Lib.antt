@@ -4,3 +4,9 @@ pub mod ReadOnly
 pub mod ReadCounts
 pub mod Fillers
 pub mod ReadFaults
+pub mod Numbers
+pub mod TokenLaws
+pub mod LeafProper
+pub mod PrintedMeans
+pub mod TextLaws
+pub mod TextRows

@@ -9,3 +9,8 @@ pub mod Part
 pub mod Language
 pub mod Reader
 pub mod ReadLaws
+pub mod Grammar
+pub mod Printed
+pub mod Text
+pub mod TextRows
+pub mod NumberLaws

@@ -3,6 +3,10 @@
 
 mod expr;
 mod literal;
+mod text_laws;
 
 pub use expr::{Expr, Part, Parts};
 pub use literal::Literal;
+pub use text_laws::{
+    grammar_rows, number_laws, printing_laws, reading_laws, sugar_laws, whole_text_laws,
+};
