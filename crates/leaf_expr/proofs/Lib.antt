@@ -10,3 +10,4 @@ pub mod LeafProper
 pub mod PrintedMeans
 pub mod TextLaws
 pub mod TextRows
+pub mod TokenSteps

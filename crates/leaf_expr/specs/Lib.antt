@@ -14,3 +14,4 @@ pub mod Printed
 pub mod Text
 pub mod TextRows
 pub mod NumberLaws
+pub mod Lexeme

@@ -45,6 +45,10 @@ tokens_from n text = tokens_in false n (drop n text)
 abbrev pub tokens : List ℕ → List Placed
 tokens text = tokens_in false 0 text
 
+-- a byte that a token begins with, where no comment is
+abbrev pub begins_token : ℕ → Bool
+begins_token b = is_word_byte b || nat_eq b 40 || nat_eq b 41
+
 -- the token that these bytes spell
 abbrev pub token_of : List ℕ → Token
 token_of (b ∷ []) = if nat_eq b 40 then opening else if nat_eq b 41 then closing else word (b ∷ [])
