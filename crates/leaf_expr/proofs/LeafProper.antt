@@ -3,7 +3,8 @@ use Rattle.std.proofs.Common.{◌≡◌, ℕ, Bool, true, false, ◌&&◌, List,
 use Rattle.std.specs.Prelude.{codes, bytes_eq, if◌then◌else◌}
 use Rattle.std.specs.Fmt.{decimal}
 use Rattle.sample_core.specs.TypeTree.{unit_ty, event_ty}
-use Rattle.sample_core.specs.Number.{Reading, reads, misspelt, unfit, map_reading, integer_at, natural_at, is_number_word, is_well_spelt, is_in_64, is_between}
+use Rattle.sample_core.specs.Number.{is_number_word, is_well_spelt, is_in_64}
+use Rattle.leaf_expr.specs.NumberPlace.{Reading, reads, misspelt, unfit, map_reading, integer_at, natural_at, is_between}
 use Rattle.leaf_expr.specs.Token.{opening, closing, word}
 use Rattle.leaf_expr.specs.Part.{atom, form, last, more, atom_spells, form_spells, last_spells, more_spells}
 use Rattle.leaf_expr.specs.Expression.{sample, fst, number_literal}

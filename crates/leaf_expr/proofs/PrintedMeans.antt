@@ -4,7 +4,7 @@ use Rattle.std.specs.Fmt.{decimal, signed_decimal}
 use Rattle.sample_core.specs.TypeTree.{TypeTree, unit_ty, bool_ty, int_ty, pair_ty, event_ty, list_ty}
 use Rattle.leaf_expr.specs.Expression.{Expression, Expressions, sample, parameter, unit_literal, truth_literal, number_literal, make_pair, fst, snd, then, neg, add, sub, mul, less, equal, negation, conjunction, disjunction, choice, none_of, make_event, on, make_list, nth, len, no_more, and_then, expressions_of}
 use Rattle.leaf_expr.specs.Part.{atom, plain, all_plain}
-use Rattle.sample_core.specs.Number.{Reading, reads, map_reading}
+use Rattle.leaf_expr.specs.NumberPlace.{Reading, reads, map_reading}
 use Rattle.leaf_expr.specs.Language.{meaning, made, read_word, places}
 use Rattle.leaf_expr.specs.Grammar.{leaf, word_at, row_at, words, rows, type_sort, expression_sort, index_sort, word_among, number_at}
 use Rattle.leaf_expr.specs.Printed.{type_part, expression_part, expression_parts, InRange, AllInRange}

@@ -1,6 +1,7 @@
 -- Where reading stops, each list of tokens that goes so far stops there too.
 use Rattle.std.proofs.Common.{◌≡◌, ℕ, zero, suc, pred, ◌+◌, ◌≢◌, ◌≤◌, ◌<◌, Bool, true, false, ◌&&◌, if◌then◌else◌, List, [], ◌∷◌, ◌++◌, length, refl, sym, ap, ◌∙◌, subst, arith, Option, Some, None, Result, Ok, Err, append_assoc, length-append}
-use Rattle.sample_core.specs.Number.{Reading, reads, misspelt, unfit, is_number_word}
+use Rattle.sample_core.specs.Number.{is_number_word}
+use Rattle.leaf_expr.specs.NumberPlace.{Reading, reads, misspelt, unfit}
 use Rattle.leaf_expr.specs.Token.{Token, opening, closing, word, Placed}
 use Rattle.leaf_expr.specs.Part.{Part, Parts, Spells, SpellAll, atom_spells, form_spells, last_spells, more_spells, depth}
 use Rattle.leaf_expr.specs.Language.{Language, Begins, Places, Maker, Row, no_place, place, places}

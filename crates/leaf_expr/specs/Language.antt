@@ -1,6 +1,6 @@
 -- Languages of texts: sorts of trees, the words that are trees, and the forms with their parts.
 use Rattle.std.specs.Prelude.{◌≡◌, ℕ, ◌≤◌, Bool, List, [], ◌∷◌, Option, Some, None, option_and_then}
-use Rattle.sample_core.specs.Number.{Reading, reads}
+use Rattle.leaf_expr.specs.NumberPlace.{Reading, reads}
 use Rattle.leaf_expr.specs.Token.{Placed}
 use Rattle.leaf_expr.specs.Part.{Part, Parts, atom, form, last, more, Spells, depth}
 

@@ -4,6 +4,7 @@ pub mod ExpressionValue
 pub mod ExpressionTyping
 pub mod Seen
 pub mod Falls
+pub mod NumberPlace
 pub mod Token
 pub mod Part
 pub mod Language

@@ -1,5 +1,5 @@
 -- Each value inside a value is smaller than it.
-use Rattle.std.specs.Prelude.{◌≤◌, ◌+◌, max, List, [], ◌∷◌, map}
+use Rattle.std.specs.Prelude.{◌≤◌, max, List, [], ◌∷◌, map}
 use Rattle.std.proofs.Common.{arith}
 use denote.Param.Weighed.{most}
 use Rattle.sample_core.specs.Datum.{of_elements, datum_size, datums_size}

@@ -1,5 +1,5 @@
 -- Which values are of which type.
-use Rattle.std.specs.Prelude.{ℕ, ℤ, Bool, FitsSigned, List, [], ◌∷◌}
+use Rattle.std.specs.Prelude.{ℤ, Bool, FitsSigned, List, [], ◌∷◌}
 use Rattle.std.specs.Int.{w64}
 use Rattle.sample_core.specs.Datum.{Datum, Datums, unit, truth, number, pair, no_event, event, list, end, more}
 use Rattle.sample_core.specs.TypeTree.{TypeTree, unit_ty, bool_ty, int_ty, pair_ty, event_ty, list_ty}

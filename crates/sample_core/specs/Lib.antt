@@ -6,4 +6,7 @@ pub mod HasType
 pub mod Seen
 pub mod SeenType
 pub mod Falls
+pub mod Spelling
+pub mod Words
 pub mod Number
+pub mod Reading

@@ -1,10 +1,22 @@
 //! Values and their types: what every sample of a stream is made of.
 #![tactic(auto)]
 
+mod equal;
+mod fault;
 mod memory;
+mod number;
+mod print;
+mod read;
 mod sample;
 mod ty;
+mod typing;
+mod words;
 
+pub use equal::{same, same_type};
+pub use fault::ValueFault;
 pub use memory::Memory;
+pub use print::{print_type, print_value, push_type, push_value};
+pub use read::read_value;
 pub use sample::{Child, Sample, Samples};
 pub use ty::{Ty, TyChild};
+pub use typing::has_type;

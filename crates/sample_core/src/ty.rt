@@ -76,3 +76,19 @@ impl TyChild {
         Ok(TyChild { inner })
     }
 }
+
+impl Ty {
+    /// A copy, whose parts are shared with it.
+    pub fn try_copy(&self, _alloc: Global) -> Result<Ty, Memory>
+        ensures { IfOk result (λ t. t ≡ self.now) }
+    {
+        Ok(match self {
+            Ty::Unit => Ty::Unit,
+            Ty::Bool => Ty::Bool,
+            Ty::Int => Ty::Int,
+            Ty::Pair(a, b) => Ty::Pair(a.try_copy()?, b.try_copy()?),
+            Ty::Event(a) => Ty::Event(a.try_copy()?),
+            Ty::List(a) => Ty::List(a.try_copy()?),
+        })
+    }
+}

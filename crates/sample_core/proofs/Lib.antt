@@ -1,0 +1,5 @@
+pub mod Elements
+mod HasTypeCases
+mod Numbers
+mod NumberParse
+mod ReadSteps

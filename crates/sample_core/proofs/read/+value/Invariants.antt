@@ -1,0 +1,21 @@
+use Rattle.std.proofs.Common.{◌≡◌, ◌+◌, ◌-◌, ◌*◌, ◌≤◌, length, map}
+use Rattle.sample_core.specs.Reading.{elements_at, value_at}
+use Rattle.sample_core.specs.Seen.{datum_of}
+use Rattle.sample_core.specs.SeenType.{type_of}
+use Rattle.sample_core.specs.TypeTree.{type_size}
+use Rattle.sample_core.proofs.ReadSteps.{with_front}
+use Rattle.sample_core.proofs.read.+value.Given as goal
+
+abbrev pub decreases-value : goal.decreases-value
+decreases-value l = 2 * type_size (type_of l.ty.now)
+
+abbrev pub decreases-elements : goal.decreases-elements
+decreases-elements l = 2 * type_size (type_of l.ty.now) + 1
+
+abbrev pub decreases-elements-loop-element : goal.decreases-elements-loop-element
+decreases-elements-loop-element l = length l.rest
+
+-- the elements so far, and those that the rest gives, are all; each took a byte at least
+abbrev pub invariant-elements-loop-element : goal.invariant-elements-loop-element
+invariant-elements-loop-element l =
+    (with_front (map datum_of l.all.items) (elements_at (value_at l.size (type_of l.ty)) (length l.text - length l.all.items) l.rest) ≡ elements_at (value_at l.size (type_of l.ty)) (length l.text) l.text) × (length l.rest + length l.all.items ≤ length l.text)

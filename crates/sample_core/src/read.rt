@@ -1,0 +1,210 @@
+// Reading one value off the front of a text.
+
+ghost use Rattle.std.specs.Prelude.{◌≡◌, ◌-◌, ◌≤◌, ◌∷◌, false, MatchOption, length, map, IfOk};
+ghost use Rattle.sample_core.specs.Reading.{Gives, begins_value, begins_space, wrong, behind_byte, behind_head, unit_at, truth_at, number_at, elements_at, value_at, reading};
+ghost use Rattle.sample_core.specs.Seen.{datum_of};
+ghost use Rattle.sample_core.specs.SeenType.{type_of};
+
+use crate::fault::ValueFault;
+use crate::number::{is_number_spelling, number};
+use crate::sample::{Child, Sample, Samples};
+use crate::ty::Ty;
+use crate::words::{is_word, split_form, split_word};
+use std::alloc::Global;
+
+/// Reads one value of the type at the front of the text, and how many bytes it takes. Bytes may follow it. The first fault is answered.
+#[tactic(auto, unfolding(crate::specs::Reading::reading))]
+pub fn read_value(alloc: Global, text: &[u8], ty: &Ty) -> Result<(Sample, usize), ValueFault>
+    ensures exact { Gives (λ x. (datum_of x.0, x.1)) result (reading (type_of ty.now) text.now) }
+    ensures within { IfOk result (λ x. x.1 ≤ length text.now) }
+{
+    let (sample, rest) = value(alloc, text.len(), text, ty)?;
+    Ok((sample, text.len() - rest.len()))
+}
+
+/// The place of the rest of a text of that size.
+fn place(size: usize, rest: &[u8]) -> usize
+    ensures { result ≡ size - length rest.now }
+{
+    size.saturating_sub(rest.len())
+}
+
+/// Whether a value of some type begins.
+fn begins_some_value(text: &[u8]) -> bool
+    ensures { result ≡ begins_value text.now }
+{
+    let (word, _) = split_word(text);
+    let (head, _) = split_form(text);
+    is_word(word, "unit")
+        || is_word(word, "true")
+        || is_word(word, "false")
+        || is_word(word, "none")
+        || is_number_spelling(word)
+        || is_word(head, "pair")
+        || is_word(head, "event")
+        || is_word(head, "list")
+}
+
+/// The fault where no value of the wanted type begins.
+#[tactic(auto, unfolding(crate::specs::Reading::wrong))]
+fn wrong_value(size: usize, text: &[u8]) -> ValueFault
+    ensures { result ≡ wrong size text.now }
+{
+    let at = place(size, text);
+    if begins_some_value(text) {
+        ValueFault::OtherType { at }
+    } else {
+        ValueFault::NotAValue { at }
+    }
+}
+
+/// What is behind the byte.
+#[tactic(auto, unfolding(crate::specs::Reading::behind_byte))]
+fn after_byte<'t>(size: usize, text: &'t [u8], byte: u8) -> Result<&'t [u8], ValueFault>
+    ensures exact { Gives (λ rest. rest.now) result (behind_byte size byte text.now) }
+    ensures shorter { IfOk result (λ rest. length rest.now ≤ length text.now) }
+{
+    match text {
+        [first, rest @ ..] if *first == byte => Ok(rest),
+        _ => Err(ValueFault::NotAValue {
+            at: place(size, text),
+        }),
+    }
+}
+
+/// What is behind a space.
+fn after_space(text: &[u8]) -> Option<&[u8]>
+    ensures { MatchOption result (begins_space text.now ≡ false) (λ rest. text.now ≡ 32 ∷ rest.now) }
+{
+    match text {
+        [b' ', rest @ ..] => Some(rest),
+        _ => None,
+    }
+}
+
+/// What is behind a `(` and the word.
+#[tactic(auto, unfolding(crate::specs::Reading::behind_head))]
+fn after_head<'t>(size: usize, text: &'t [u8], name: &str) -> Result<&'t [u8], ValueFault>
+    ensures exact { Gives (λ rest. rest.now) result (behind_head size name.now text.now) }
+    ensures shorter { IfOk result (λ rest. length rest.now ≤ length text.now) }
+{
+    let (head, rest) = split_form(text);
+    if !is_word(head, name) {
+        return Err(wrong_value(size, text));
+    }
+    Ok(rest)
+}
+
+/// The value `unit`.
+#[tactic(auto, unfolding(crate::specs::Reading::unit_at))]
+fn unit(size: usize, text: &[u8]) -> Result<(Sample, &[u8]), ValueFault>
+    ensures exact { Gives (λ x. (datum_of x.0, x.1.now)) result (unit_at size text.now) }
+    ensures shorter { IfOk result (λ x. length x.1.now ≤ length text.now) }
+{
+    let (word, rest) = split_word(text);
+    if !is_word(word, "unit") {
+        return Err(wrong_value(size, text));
+    }
+    Ok((Sample::Unit, rest))
+}
+
+/// `true` or `false`.
+#[tactic(auto, unfolding(crate::specs::Reading::truth_at))]
+fn truth(size: usize, text: &[u8]) -> Result<(Sample, &[u8]), ValueFault>
+    ensures exact { Gives (λ x. (datum_of x.0, x.1.now)) result (truth_at size text.now) }
+    ensures shorter { IfOk result (λ x. length x.1.now ≤ length text.now) }
+{
+    let (word, rest) = split_word(text);
+    if is_word(word, "true") {
+        Ok((Sample::Bool(true), rest))
+    } else if is_word(word, "false") {
+        Ok((Sample::Bool(false), rest))
+    } else {
+        Err(wrong_value(size, text))
+    }
+}
+
+/// A number.
+#[tactic(auto, unfolding(crate::specs::Reading::number_at))]
+fn integer(size: usize, text: &[u8]) -> Result<(Sample, &[u8]), ValueFault>
+    ensures exact { Gives (λ x. (datum_of x.0, x.1.now)) result (number_at size text.now) }
+    ensures shorter { IfOk result (λ x. length x.1.now ≤ length text.now) }
+{
+    let (word, rest) = split_word(text);
+    if !is_number_spelling(word) {
+        return Err(wrong_value(size, text));
+    }
+    match number(word) {
+        Some(n) => Ok((Sample::Int(n), rest)),
+        None => Err(ValueFault::NumberRange {
+            at: place(size, text),
+        }),
+    }
+}
+
+/// A value of the type, and what is behind it.
+#[cycle(value)]
+#[tactic(auto, unfolding(crate::specs::Reading::value_at))]
+fn value<'t>(
+    alloc: Global,
+    size: usize,
+    text: &'t [u8],
+    ty: &Ty,
+) -> Result<(Sample, &'t [u8]), ValueFault>
+    ensures exact { Gives (λ x. (datum_of x.0, x.1.now)) result (value_at size (type_of ty.now) text.now) }
+    ensures shorter { IfOk result (λ x. length x.1.now ≤ length text.now) }
+{
+    match ty {
+        Ty::Unit => unit(size, text),
+        Ty::Bool => truth(size, text),
+        Ty::Int => integer(size, text),
+        Ty::Pair(a, b) => {
+            let rest = after_head(size, text, "pair")?;
+            let rest = after_byte(size, rest, b' ')?;
+            let (first, rest) = value(alloc, size, rest, a.get())?;
+            let rest = after_byte(size, rest, b' ')?;
+            let (second, rest) = value(alloc, size, rest, b.get())?;
+            let rest = after_byte(size, rest, b')')?;
+            let pair = Sample::Pair(Child::new(alloc, first)?, Child::new(alloc, second)?);
+            Ok((pair, rest))
+        }
+        Ty::Event(a) => {
+            let (word, rest) = split_word(text);
+            if is_word(word, "none") {
+                return Ok((Sample::NoEvent, rest));
+            }
+            let rest = after_head(size, text, "event")?;
+            let rest = after_byte(size, rest, b' ')?;
+            let (inner, rest) = value(alloc, size, rest, a.get())?;
+            let rest = after_byte(size, rest, b')')?;
+            Ok((Sample::Event(Child::new(alloc, inner)?), rest))
+        }
+        Ty::List(a) => {
+            let rest = after_head(size, text, "list")?;
+            let (all, rest) = elements(alloc, size, rest, a.get())?;
+            let rest = after_byte(size, rest, b')')?;
+            Ok((Sample::List(Samples::new(alloc, all)?), rest))
+        }
+    }
+}
+
+/// Elements of the type, each behind a space, as long as a space stands there; and what is behind them.
+#[cycle(value)]
+fn elements<'t>(
+    alloc: Global,
+    size: usize,
+    text: &'t [u8],
+    ty: &Ty,
+) -> Result<(Vec<Sample>, &'t [u8]), ValueFault>
+    ensures exact { Gives (λ x. (map datum_of x.0.items, x.1.now)) result (elements_at (value_at size (type_of ty.now)) (length text.now) text.now) }
+    ensures shorter { IfOk result (λ x. length x.1.now ≤ length text.now) }
+{
+    let mut all = Vec::new(alloc);
+    let mut rest = text;
+    while let Some(element) = after_space(rest) {
+        let (sample, after) = value(alloc, size, element, ty)?;
+        all.push(sample)?;
+        rest = after;
+    }
+    Ok((all, rest))
+}

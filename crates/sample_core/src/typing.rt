@@ -1,0 +1,37 @@
+// Which values are of which type.
+
+ghost use Rattle.std.specs.Prelude.{◌↔◌, IsTrue};
+ghost use Rattle.sample_core.specs.HasType.{HasType};
+ghost use Rattle.sample_core.specs.Seen.{datum_of};
+ghost use Rattle.sample_core.specs.SeenType.{type_of};
+
+use crate::sample::Sample;
+use crate::ty::Ty;
+
+/// Whether the value is of the type.
+#[tactic(auto, using(crate::proofs::HasTypeCases::pair_is, crate::proofs::HasTypeCases::event_is, crate::specs::HasType::unit_has, crate::specs::HasType::truth_has, crate::specs::HasType::number_has, crate::specs::HasType::none_has))]
+pub fn has_type(sample: &Sample, ty: &Ty) -> bool
+    ensures { IsTrue result ↔ HasType (datum_of sample.now) (type_of ty.now) }
+{
+    match (sample, ty) {
+        (Sample::Unit, Ty::Unit) => true,
+        (Sample::Bool(_), Ty::Bool) => true,
+        (Sample::Int(n), Ty::Int) => {
+            let _in_range = *n;
+            true
+        }
+        (Sample::Pair(v, w), Ty::Pair(a, b)) => has_type(v.get(), a.get())
+            && has_type(w.get(), b.get()),
+        (Sample::NoEvent, Ty::Event(_)) => true,
+        (Sample::Event(v), Ty::Event(a)) => has_type(v.get(), a.get()),
+        (Sample::List(all), Ty::List(a)) => {
+            for v in all.as_slice() {
+                if !has_type(v, a.get()) {
+                    return false;
+                }
+            }
+            true
+        }
+        _ => false,
+    }
+}
