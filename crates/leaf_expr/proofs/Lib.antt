@@ -3,3 +3,16 @@ pub mod SameDatum
 pub mod Soundness
 pub mod Exactness
 pub mod Uniqueness
+pub mod ReadFound
+pub mod Proper
+pub mod ReadOnly
+pub mod ReadCounts
+pub mod Fillers
+pub mod ReadFaults
+pub mod Numbers
+pub mod TokenLaws
+pub mod LeafProper
+pub mod PrintedMeans
+pub mod TextLaws
+pub mod TextRows
+pub mod TokenSteps

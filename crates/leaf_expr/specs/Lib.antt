@@ -8,3 +8,15 @@ pub mod TypeLimits
 pub mod ExpressionLimits
 pub mod ExpressionCheck
 pub mod TypingLaws
+pub mod NumberPlace
+pub mod Token
+pub mod Part
+pub mod Language
+pub mod Reader
+pub mod ReadLaws
+pub mod Grammar
+pub mod Printed
+pub mod Text
+pub mod TextRows
+pub mod NumberLaws
+pub mod Lexeme

@@ -7,9 +7,15 @@ mod laws;
 mod limits;
 mod literal;
 mod operations;
+mod text_laws;
+mod token;
 
 pub use evaluation::eval;
 pub use expr::{Expr, Part, Parts};
 pub use laws::typing_laws;
 pub use limits::{expr_fits, type_fits};
 pub use literal::Literal;
+pub use text_laws::{
+    grammar_rows, number_laws, printing_laws, reading_laws, sugar_laws, whole_text_laws,
+};
+pub use token::token_at;

@@ -1,0 +1,90 @@
+-- Whole texts.
+use Rattle.std.proofs.Common.{arith, ◌≡◌, ℕ, suc, ◌+◌, ◌≤◌, ◌≢◌, Bool, true, false, nat_lt, List, [], ◌∷◌, ◌++◌, length, refl, sym, ap, ◌∙◌, subst, Result, Ok, Err, if◌then◌else◌}
+use Rattle.std.proofs.lemmas.Bool.{ltb-false, le-ltb}
+use Rattle.std.proofs.lemmas.List.{append-nil}
+use Rattle.leaf_expr.specs.Token.{Placed, tokens, tokens_in}
+use Rattle.leaf_expr.specs.Part.{Spells, spelling, depth}
+use Rattle.leaf_expr.specs.Language.{Begins}
+use Rattle.leaf_expr.specs.Grammar.{leaf, Sort, Tree, expression_sort, type_sort}
+use Rattle.leaf_expr.specs.Expression.{Expression}
+use Rattle.leaf_expr.specs.Printed.{expression_part, InRange, type_part}
+use Rattle.leaf_expr.specs.Reader.{Fault, syntax, Read, unfit_token, read}
+use Rattle.leaf_expr.specs.ReadLaws.{Stops, too_short, at_token, Misfit}
+use Rattle.leaf_expr.specs.Text.{TextFault, too_long, at, whole, read_text, PrintedTypeLaw, PrintedTextLaw, IsText, NoText, ends, fails, follows, ReadTextLaw, OneTextLaw, TextFaultLaw, PrintedLaw}
+use Rattle.leaf_expr.proofs.ReadFound.{found}
+use Rattle.leaf_expr.proofs.ReadOnly.{only}
+use Rattle.leaf_expr.proofs.ReadFaults.{framed, one_reading, stops}
+use Rattle.leaf_expr.proofs.TokenLaws.{spells_printed}
+use Rattle.leaf_expr.proofs.PrintedMeans.{expression_means, expression_plain, type_means, type_plain}
+use Rattle.leaf_expr.proofs.LeafProper.{leaf_proper}
+
+pub printed_begins : PrintedLaw
+printed_begins e room n bs r d b = record { part = expression_part e; spells = spells_printed (expression_part e) n bs (expression_plain e r) b; means = expression_means e r; within = d }
+
+pub printed_type_begins : PrintedTypeLaw
+printed_type_begins t room n bs d b = record { part = type_part t; spells = spells_printed (type_part t) n bs (type_plain t) b; means = type_means t; within = d }
+
+whole_ok : {T : Type 0} (r : Read T) (t : T) → whole r ≡ Ok t → (n : ℕ) × (r ≡ Ok (t, n, []))
+whole_ok {T = T} (Ok (u, n, [])) t e = (n, ap (λ x. Ok (x, n, [])) (inner e))
+  where
+    inner : ◌≡◌ {A = Result T TextFault} (Ok u) (Ok t) → u ≡ t
+    inner p = cc
+whole_ok (Ok (u, n, x ∷ ts)) t e = absurd (cc)
+whole_ok (Err f) t e = absurd (cc)
+
+short_text : (s : Sort) (bs : List ℕ) (r : Result (Tree s) TextFault) → r ≢ Err too_long → read_text s bs ≡ r → (length bs ≤ 1048576) × (whole (read leaf (length bs) 600 s (tokens bs)) ≡ r)
+short_text s bs r d e = go (nat_lt 1048576 (length bs)) refl e
+  where
+    go : (b : Bool) → nat_lt 1048576 (length bs) ≡ b → (if b then Err too_long else whole (read leaf (length bs) 600 s (tokens bs))) ≡ r → (length bs ≤ 1048576) × (whole (read leaf (length bs) 600 s (tokens bs)) ≡ r)
+    go true q e' = absurd (d (sym e'))
+    go false q e' = (ltb-false 1048576 (length bs) q, e')
+
+pub text_read : (s : Sort) (bs : List ℕ) (t : Tree s) → IsText s bs t → read_text s bs ≡ Ok t
+text_read s bs t h =
+    let b : Begins leaf 600 s t (tokens bs) h.stop [] = h.begins in
+    ap (λ c. if c then Err too_long else whole (read leaf (length bs) 600 s (tokens bs))) (le-ltb 1048576 (length bs) h.short) ∙ ap whole (only leaf leaf_proper (length bs) 600 s b.part (tokens bs) h.stop [] t b.spells b.means b.within)
+
+pub text_found : (s : Sort) (bs : List ℕ) (t : Tree s) → read_text s bs ≡ Ok t → IsText s bs t
+text_found s bs t e =
+    let i : (length bs ≤ 1048576) × (whole (read leaf (length bs) 600 s (tokens bs)) ≡ Ok t) = short_text s bs (Ok t) (λ q. cc) e in
+    let w : (n : ℕ) × (read leaf (length bs) 600 s (tokens bs) ≡ Ok (t, n, [])) = whole_ok _ t i.1 in
+    record { short = i.0; stop = w.0; begins = found leaf (length bs) 600 s (tokens bs) (t, w.0, []) w.1 }
+
+pub read_text_law : ReadTextLaw
+read_text_law s bs t = (text_found s bs t, text_read s bs t)
+
+pub one_text : OneTextLaw
+one_text s bs t u a b = (one_reading leaf leaf_proper 600 600 s t u (tokens bs) a.stop b.stop [] [] a.begins b.begins).0
+
+no_text : (s : Sort) (bs : List ℕ) (e : Fault) (r : Read (Tree s)) → read leaf (length bs) 600 s (tokens bs) ≡ r → whole r ≡ Err (at e) → NoText s bs e
+no_text s bs e (Ok (t, n, [])) p q = absurd (cc)
+no_text s bs e (Ok (t, n, x ∷ rest)) p q =
+    let b : Begins leaf 600 s t (tokens bs) n (x ∷ rest) = found leaf (length bs) 600 s (tokens bs) (t, n, x ∷ rest) p in
+    let f : (front : List Placed) × (tokens bs ≡ front ++ x ∷ rest) × ((us : List Placed) → Spells b.part (front ++ us) n us) = framed b.part (tokens bs) n (x ∷ rest) b.spells in
+    let i : e ≡ unfit_token 600 x = cc in
+    let d : depth b.part ≤ 600 = b.within in
+    follows f.0 x rest f.1 (λ us u m c. absurd (
+    let o : (t ≡ u) × (n ≡ m) × (x ∷ us ≡ []) = one_reading leaf leaf_proper 600 600 s t u (f.0 ++ x ∷ us) n m (x ∷ us) [] (record { part = b.part; spells = f.2 (x ∷ us); means = b.means; within = d }) c in
+    let z : x ∷ us ≡ [] = o.2 in cc)) t n (record { part = b.part; spells = subst (λ us. Spells b.part us n []) (append-nil f.0) (f.2 []); means = b.means; within = d }) i
+no_text s bs e (Err f) p q = go (stops leaf leaf_proper (length bs) 600 s (tokens bs) f p)
+  where
+    i : f ≡ e
+    i = cc
+
+    go : Stops leaf (length bs) 600 s (tokens bs) f → NoText s bs e
+    go (too_short a h v) = ends (sym i ∙ a) (λ t n b. h t n [] b) v
+    go (at_token before x after a h v m) = fails before x after a (λ us t n c. h us t n [] c) v (subst (λ z. Misfit leaf 600 s before x z) i m)
+
+pub text_fault : TextFaultLaw
+text_fault s bs e p =
+    let i : (length bs ≤ 1048576) × (whole (read leaf (length bs) 600 s (tokens bs)) ≡ Err (at e)) = short_text s bs (Err (at e)) (λ q. cc) p in
+    no_text s bs e (read leaf (length bs) 600 s (tokens bs)) refl i.1
+
+pub printed_text : PrintedTextLaw
+printed_text e r d l = text_read expression_sort (spelling (expression_part e)) e (record { short = l; stop = length (spelling (expression_part e)); begins = go })
+  where
+    n : 0 + length (spelling (expression_part e)) ≡ length (spelling (expression_part e))
+    n = omega arith
+
+    go : Begins leaf 600 expression_sort e (tokens (spelling (expression_part e))) (length (spelling (expression_part e))) []
+    go = subst (λ m. Begins leaf 600 expression_sort e (tokens (spelling (expression_part e))) m []) n (subst (λ bs. Begins leaf 600 expression_sort e (tokens_in false 0 bs) (0 + length (spelling (expression_part e))) []) (append-nil (spelling (expression_part e))) (printed_begins e 600 0 [] r d refl))

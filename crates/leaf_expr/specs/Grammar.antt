@@ -1,0 +1,106 @@
+-- The grammar of types and expressions: a table of words, and a table of forms.
+use Rattle.std.specs.Prelude.{ℕ, true, false, Bool, List, [], ◌∷◌, Option, Some, None, bytes_eq, codes, if◌then◌else◌}
+use Rattle.sample_core.specs.TypeTree.{TypeTree, unit_ty, bool_ty, int_ty, pair_ty, event_ty, list_ty}
+use Rattle.leaf_expr.specs.NumberPlace.{Reading, reads, unfit, integer_at, natural_at, map_reading}
+use Rattle.leaf_expr.specs.Expression.{Expression, sample, parameter, unit_literal, truth_literal, number_literal, make_pair, fst, snd, then, neg, add, sub, mul, less, equal, negation, conjunction, disjunction, choice, none_of, make_event, on, make_list, nth, len, expressions_of}
+use Rattle.leaf_expr.specs.Language.{Language, Places, Maker, Row, no_place, place, places}
+
+-- what stands at a place: a type, an expression, or the number of a parameter
+pub data Sort : Type 0 where
+  type_sort : Sort
+  expression_sort : Sort
+  index_sort : Sort
+
+abbrev pub Tree : Sort → Type 0
+Tree type_sort = TypeTree
+Tree expression_sort = Expression
+Tree index_sort = ℕ
+
+-- a type as the next part
+abbrev pub t : Places Sort → Places Sort
+t ps = place type_sort ps
+
+-- an expression as the next part
+abbrev pub e : Places Sort → Places Sort
+e ps = place expression_sort ps
+
+-- the number of a parameter as the next part
+abbrev pub k : Places Sort → Places Sort
+k ps = place index_sort ps
+
+-- words that are a tree by themselves
+unfoldable pub words : (s : Sort) → List (List ℕ × Tree s)
+words type_sort = (codes "Unit", unit_ty) ∷ (codes "Bool", bool_ty) ∷ (codes "Int", int_ty) ∷ []
+words expression_sort = (codes "x", sample) ∷ (codes "unit", unit_literal) ∷ (codes "true", truth_literal true) ∷ (codes "false", truth_literal false) ∷ []
+words index_sort = []
+
+abbrev pub row : {R : Type 0} → (w : List ℕ) → (ps : Places Sort) → Maker Tree ps R → Row Sort Tree R
+row w ps make = record { name = w; takes = ps; makes = make }
+
+-- forms: the word, the parts, and the tree that they make; the sugar last
+unfoldable pub rows : (s : Sort) → List (Row Sort Tree (Tree s))
+rows type_sort =
+    row (codes "Pair") (t (t no_place)) pair_ty
+    ∷ row (codes "Event") (t no_place) event_ty
+    ∷ row (codes "List") (t no_place) list_ty
+    ∷ []
+rows expression_sort =
+    row (codes "p") (k no_place) parameter
+    ∷ row (codes "pair") (e (e no_place)) make_pair
+    ∷ row (codes "fst") (e no_place) fst
+    ∷ row (codes "snd") (e no_place) snd
+    ∷ row (codes "then") (e (e no_place)) (then)
+    ∷ row (codes "neg") (e no_place) neg
+    ∷ row (codes "add") (e (e no_place)) add
+    ∷ row (codes "sub") (e (e no_place)) sub
+    ∷ row (codes "mul") (e (e no_place)) mul
+    ∷ row (codes "less") (e (e no_place)) less
+    ∷ row (codes "equal") (e (e no_place)) equal
+    ∷ row (codes "not") (e no_place) negation
+    ∷ row (codes "and") (e (e no_place)) conjunction
+    ∷ row (codes "or") (e (e no_place)) disjunction
+    ∷ row (codes "if") (e (e (e no_place))) choice
+    ∷ row (codes "none") (t no_place) none_of
+    ∷ row (codes "event") (e no_place) make_event
+    ∷ row (codes "on") (e (e (e no_place))) on
+    ∷ row (codes "list") (t (places expression_sort)) (λ T es. make_list T (expressions_of es))
+    ∷ row (codes "nth") (e (e (e no_place))) nth
+    ∷ row (codes "len") (e no_place) len
+    ∷ row (codes "lMerge") (e (e no_place)) (λ a b. on a b (make_event (snd sample)))
+    ∷ row (codes "gate") (t (e (e no_place))) (λ T a b. choice b a (none_of T))
+    ∷ row (codes "tag") (t (e (e no_place))) (λ T a c. on a (none_of T) (make_event ((then) (fst sample) c)))
+    ∷ row (codes "attach") (t (e (e no_place))) (λ T a c. on a (none_of T) (make_event (make_pair (snd sample) ((then) (fst sample) c))))
+    ∷ []
+rows index_sort = []
+
+-- what a word is that no table has: an expression may be a number of 64 bits, a parameter's number is at most 65,535
+abbrev pub number_at : (s : Sort) → List ℕ → Reading (Tree s)
+number_at type_sort w = unfit
+number_at expression_sort w = map_reading number_literal (integer_at w)
+number_at index_sort w = natural_at 0 65535 w
+
+abbrev pub word_among : {T : Type 0} → List ℕ → List (List ℕ × T) → Reading T → Reading T
+word_among w [] r = r
+word_among w (x ∷ xs) r = if bytes_eq w x.0 then reads x.1 else word_among w xs r
+
+unfoldable pub word_at : (s : Sort) → List ℕ → Reading (Tree s)
+word_at s w = word_among w (words s) (number_at s w)
+
+abbrev pub row_among : {R : Type 0} → List ℕ → List (Row Sort Tree R) → Option (Row Sort Tree R)
+row_among w [] = None
+row_among w (x ∷ xs) = if bytes_eq w x.name then Some x else row_among w xs
+
+unfoldable pub row_at : (s : Sort) → List ℕ → Option (Row Sort Tree (Tree s))
+row_at s w = row_among w (rows s)
+
+abbrev pub has_form : Sort → Bool
+has_form index_sort = false
+has_form _ = true
+
+abbrev pub takes_number : Sort → Bool
+takes_number type_sort = false
+takes_number _ = true
+
+-- the language of types and expressions
+abbrev pub leaf : Language
+leaf = record { Sort = Sort; Tree = Tree; word_at = word_at; row_at = row_at; has_form = has_form; takes_number = takes_number }

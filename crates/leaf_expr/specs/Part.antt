@@ -1,0 +1,62 @@
+-- What tokens group to: a word, or parentheses round a word and further parts.
+use Rattle.std.specs.Prelude.{ℕ, suc, ◌+◌, max, Bool, true, false, ◌&&◌, List, [], ◌∷◌, ◌++◌, length}
+use Rattle.leaf_expr.specs.Token.{opening, closing, word, Placed, is_word_byte}
+
+mutual
+  pub data Part : Type 0 where
+    atom : List ℕ → Part
+    form : List ℕ → Parts → Part
+
+  pub data Parts : Type 0 where
+    last : Parts
+    more : Part → Parts → Parts
+
+-- the tokens ts are those of the part, up to byte n, and then rest
+mutual
+  pub data Spells : Part → List Placed → ℕ → List Placed → Type 0 where
+    atom_spells : {n : ℕ} {w : List ℕ} {ts : List Placed} → Spells (atom w) ((n, word w) ∷ ts) (n + length w) ts
+    form_spells : {n m k : ℕ} {w : List ℕ} {ps : Parts} {ts rest : List Placed} → SpellAll ps ts ((k, closing) ∷ rest) → Spells (form w ps) ((n, opening) ∷ (m, word w) ∷ ts) (suc k) rest
+
+  -- the tokens ts are those of the parts and then rest
+  pub data SpellAll : Parts → List Placed → List Placed → Type 0 where
+    last_spells : {ts : List Placed} → SpellAll last ts ts
+    more_spells : {n : ℕ} {p : Part} {ps : Parts} {ts mid rest : List Placed} → Spells p ts n mid → SpellAll ps mid rest → SpellAll (more p ps) ts rest
+
+-- how many parentheses are open at once
+abbrev mutual
+  pub depth : Part → ℕ
+  depth (atom w) = 0
+  depth (form w ps) = suc (depths ps)
+
+  pub depths : Parts → ℕ
+  depths last = 0
+  depths (more p ps) = max (depth p) (depths ps)
+
+-- one space between tokens, none inside a parenthesis' edges
+abbrev mutual
+  pub spelling : Part → List ℕ
+  spelling (atom w) = w
+  spelling (form w ps) = 40 ∷ w ++ (spellings ps ++ 41 ∷ [])
+
+  -- each part behind a space
+  pub spellings : Parts → List ℕ
+  spellings last = []
+  spellings (more p ps) = 32 ∷ spelling p ++ spellings ps
+
+abbrev pub all_word_bytes : List ℕ → Bool
+all_word_bytes [] = true
+all_word_bytes (b ∷ bs) = is_word_byte b && all_word_bytes bs
+
+abbrev pub is_word : List ℕ → Bool
+is_word [] = false
+is_word (b ∷ bs) = is_word_byte b && all_word_bytes bs
+
+-- each word of the part is one
+abbrev mutual
+  pub plain : Part → Bool
+  plain (atom w) = is_word w
+  plain (form w ps) = is_word w && all_plain ps
+
+  pub all_plain : Parts → Bool
+  all_plain last = true
+  all_plain (more p ps) = plain p && all_plain ps

@@ -1,0 +1,74 @@
+-- Reading a tree off the front of the tokens, or the first fault.
+use Rattle.std.specs.Prelude.{ℕ, zero, suc, ◌+◌, List, [], ◌∷◌, length, Option, Some, None, Result, Ok, Err, if◌then◌else◌}
+use Rattle.leaf_expr.specs.NumberPlace.{Reading, reads, misspelt, unfit}
+use Rattle.leaf_expr.specs.Token.{opening, closing, word, Placed}
+use Rattle.leaf_expr.specs.Language.{Language, Places, Maker, Row, no_place, place, places}
+
+-- the place of a token, or the text's length
+pub data Fault : Type 0 where
+  syntax : ℕ → Fault
+  number : ℕ → Fault
+  too_deep : ℕ → Fault
+
+abbrev pub fault_place : Fault → ℕ
+fault_place (syntax n) = n
+fault_place (number n) = n
+fault_place (too_deep n) = n
+
+-- what was read, the byte behind it, and the tokens left
+abbrev pub Read : Type 0 → Type 0
+Read T = Result (T × ℕ × List Placed) Fault
+
+infixl 10 ◌>>=◌
+abbrev pub ◌>>=◌ : {A B : Type 0} → Result A Fault → (A → Result B Fault) → Result B Fault
+(Ok x) >>= g = g x
+(Err e) >>= g = Err e
+
+-- a token that fits nowhere here, with room for so many more parentheses
+abbrev pub unfit_token : ℕ → Placed → Fault
+unfit_token zero (n, opening) = too_deep n
+unfit_token _ x = syntax x.0
+
+abbrev pub word_read : {T : Type 0} → ℕ → List ℕ → List Placed → Reading T → Read T
+word_read n w ts (reads x) = Ok (x, n + length w, ts)
+word_read n w ts misspelt = Err (number n)
+word_read n w ts unfit = Err (syntax n)
+
+-- in a language, and a text of so many bytes
+module _ (L : Language) (size : ℕ) where
+  -- the end of a form
+  abbrev pub close : {T : Type 0} → ℕ → T → List Placed → Read T
+  close room x [] = Err (syntax size)
+  close room x ((n, closing) ∷ ts) = Ok (x, suc n, ts)
+  close room x (y ∷ ts) = Err (unfit_token room y)
+
+  -- parts up to the end of the form, each by the reader given; it has no more of them than the count
+  abbrev pub read_all : {T R : Type 0} → (List Placed → Read T) → ℕ → (List T → R) → List Placed → Read R
+  read_all reader zero make ts = Err (syntax size)
+  read_all reader (suc n) make [] = Err (syntax size)
+  read_all reader (suc n) make ((m, closing) ∷ ts) = Ok (make [], suc m, ts)
+  read_all reader (suc n) make ts = reader ts >>= (λ x. read_all reader n (λ xs. make (x.0 ∷ xs)) x.2)
+
+  abbrev pub read_parts : {R : Type 0} → ((s : L.Sort) → List Placed → Read (L.Tree s)) → ℕ → (qs : Places L.Sort) → Maker L.Tree qs R → List Placed → Read R
+  read_parts reader room no_place x ts = close room x ts
+  read_parts reader room (place s qs) make ts = reader s ts >>= (λ x. read_parts reader room qs (make x.0) x.2)
+  read_parts reader room (places s) make ts = read_all (reader s) (length ts) make ts
+
+  -- behind the word at n of a form
+  abbrev pub read_row : {R : Type 0} → ((q : L.Sort) → List Placed → Read (L.Tree q)) → ℕ → ℕ → Option (Row L.Sort L.Tree R) → List Placed → Read R
+  read_row reader room n None ts = Err (syntax n)
+  read_row reader room n (Some r) ts = read_parts reader room r.takes r.makes ts
+
+  -- behind the parenthesis of a form
+  abbrev pub read_form : ((q : L.Sort) → List Placed → Read (L.Tree q)) → ℕ → (s : L.Sort) → List Placed → Read (L.Tree s)
+  read_form reader room s [] = Err (syntax size)
+  read_form reader room s ((n, word w) ∷ ts) = read_row reader room n (L.row_at s w) ts
+  read_form reader room s (x ∷ ts) = Err (unfit_token room x)
+
+  -- a tree of the sort, with room for so many more parentheses
+  abbrev pub read : ℕ → (s : L.Sort) → List Placed → Read (L.Tree s)
+  read room s [] = Err (syntax size)
+  read room s ((n, word w) ∷ ts) = word_read n w ts (L.word_at s w)
+  read room s ((n, closing) ∷ ts) = Err (syntax n)
+  read zero s ((n, opening) ∷ ts) = Err (too_deep n)
+  read (suc room) s ((n, opening) ∷ ts) = if L.has_form s then read_form (read room) room s ts else Err (syntax n)

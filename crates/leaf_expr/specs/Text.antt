@@ -1,0 +1,57 @@
+-- Whole texts of one type or expression.
+use Rattle.std.specs.Prelude.{◌≡◌, ℕ, ◌+◌, ◌≤◌, nat_lt, false, List, [], ◌∷◌, ◌++◌, length, Result, Ok, Err, if◌then◌else◌}
+use Rattle.sample_core.specs.TypeTree.{TypeTree}
+use Rattle.leaf_expr.specs.Token.{Placed, tokens, tokens_in, begins_word}
+use Rattle.leaf_expr.specs.Expression.{Expression}
+use Rattle.leaf_expr.specs.Part.{spelling, depth}
+use Rattle.leaf_expr.specs.Language.{Language, Begins}
+use Rattle.leaf_expr.specs.Grammar.{leaf, Sort, Tree, type_sort, expression_sort}
+use Rattle.leaf_expr.specs.ReadLaws.{Completes, Misfit}
+use Rattle.leaf_expr.specs.Printed.{expression_part, type_part, InRange}
+use Rattle.leaf_expr.specs.Reader.{Fault, syntax, Read, unfit_token, read}
+
+pub data TextFault : Type 0 where
+  too_long : TextFault
+  at : Fault → TextFault
+
+-- nothing follows
+abbrev pub whole : {T : Type 0} → Read T → Result T TextFault
+whole (Ok (t, n, [])) = Ok t
+whole (Ok (t, n, x ∷ ts)) = Err (at (unfit_token 600 x))
+whole (Err e) = Err (at e)
+
+-- the tree of the sort that the text is, or its first fault
+abbrev pub read_text : (s : Sort) → List ℕ → Result (Tree s) TextFault
+read_text s bs = if nat_lt 1048576 (length bs) then Err too_long else whole (read leaf (length bs) 600 s (tokens bs))
+
+-- the text is one tree of the sort, with at most 600 parentheses open at once, in at most 1,048,576 bytes
+pub record IsText (s : Sort) (bs : List ℕ) (t : Tree s) : Type 0 where
+  pub short : length bs ≤ 1048576
+  pub stop : ℕ
+  pub begins : Begins leaf 600 s t (tokens bs) stop []
+
+-- No text is one tree: the tokens end too early, or a token doesn't fit where a tree goes on, or one follows a tree.
+pub data NoText (s : Sort) (bs : List ℕ) (e : Fault) : Type 0 where
+  ends : e ≡ syntax (length bs) → ((t : Tree s) (n : ℕ) → Begins leaf 600 s t (tokens bs) n [] → ⊥) → Completes leaf s (tokens bs) → NoText s bs e
+  fails : (before : List Placed) (x : Placed) (after : List Placed) → tokens bs ≡ before ++ x ∷ after → ((more : List Placed) (t : Tree s) (n : ℕ) → Begins leaf 600 s t (before ++ x ∷ more) n [] → ⊥) → Completes leaf s before → Misfit leaf 600 s before x e → NoText s bs e
+  follows : (before : List Placed) (x : Placed) (after : List Placed) → tokens bs ≡ before ++ x ∷ after → ((more : List Placed) (t : Tree s) (n : ℕ) → Begins leaf 600 s t (before ++ x ∷ more) n [] → ⊥) → (t : Tree s) (n : ℕ) → Begins leaf 600 s t before n [] → e ≡ syntax x.0 → NoText s bs e
+
+abbrev pub ReadTextLaw : Type 0
+ReadTextLaw = (s : Sort) (bs : List ℕ) (t : Tree s) → (read_text s bs ≡ Ok t → IsText s bs t) × (IsText s bs t → read_text s bs ≡ Ok t)
+
+abbrev pub OneTextLaw : Type 0
+OneTextLaw = (s : Sort) (bs : List ℕ) (t u : Tree s) → IsText s bs t → IsText s bs u → t ≡ u
+
+abbrev pub TextFaultLaw : Type 0
+TextFaultLaw = (s : Sort) (bs : List ℕ) (e : Fault) → read_text s bs ≡ Err (at e) → NoText s bs e
+
+-- a printed expression is read again before any bytes that do not go on its last word
+abbrev pub PrintedLaw : Type 0
+PrintedLaw = (e : Expression) (room n : ℕ) (bs : List ℕ) → InRange e → depth (expression_part e) ≤ room → begins_word bs ≡ false → (let end = n + length (spelling (expression_part e)) in Begins leaf room expression_sort e (tokens_in false n (spelling (expression_part e) ++ bs)) end (tokens_in false end bs))
+
+abbrev pub PrintedTypeLaw : Type 0
+PrintedTypeLaw = (t : TypeTree) (room n : ℕ) (bs : List ℕ) → depth (type_part t) ≤ room → begins_word bs ≡ false → (let end = n + length (spelling (type_part t)) in Begins leaf room type_sort t (tokens_in false n (spelling (type_part t) ++ bs)) end (tokens_in false end bs))
+
+-- a printed expression is a text of it
+abbrev pub PrintedTextLaw : Type 0
+PrintedTextLaw = (e : Expression) → InRange e → depth (expression_part e) ≤ 600 → length (spelling (expression_part e)) ≤ 1048576 → read_text expression_sort (spelling (expression_part e)) ≡ Ok e
