@@ -20,3 +20,4 @@ pub mod Text
 pub mod TextRows
 pub mod NumberLaws
 pub mod Lexeme
+pub mod Gives

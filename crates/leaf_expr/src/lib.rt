@@ -9,6 +9,7 @@ mod literal;
 mod operations;
 mod text_laws;
 mod token;
+mod typing;
 
 pub use evaluation::eval;
 pub use expr::{Expr, Part, Parts};
@@ -19,3 +20,4 @@ pub use text_laws::{
     grammar_rows, number_laws, printing_laws, reading_laws, sugar_laws, whole_text_laws,
 };
 pub use token::token_at;
+pub use typing::{ExprFault, type_of_expr};
