@@ -1,0 +1,24 @@
+// Where files are read from.
+
+ghost use Rattle.std.specs.Prelude.{ℕ, List, Option, IfOk};
+ghost use Rattle.yampa_run.specs.Files.{AgreesWith};
+
+use std::alloc::Global;
+
+/// Why a file wasn't read.
+#[derive(Clone, Copy, PartialEq, Eq, Debug)]
+pub enum FileFault {
+    /// There is no such file, or it can't be read.
+    Unread,
+    /// A growth was refused.
+    Memory,
+}
+
+/// Files by their names. They tell contracts the bytes of a name, or nothing of it.
+pub trait Files {
+    ghost told: { Self → List ℕ → Option (List ℕ) };
+
+    /// The bytes of the file of that name: those that are told, where any are.
+    fn read(&self, alloc: Global, name: &str) -> Result<Vec<u8>, FileFault>
+        ensures { IfOk result (λ bytes. AgreesWith (told self.now name.now) bytes.items) };
+}
