@@ -11,3 +11,5 @@ mod ReadingIs
 mod FaultFound
 mod FaultRead
 mod FaultIs
+mod Leftmost
+mod ReadValue

@@ -1,7 +1,9 @@
 -- Where bytes stop being the beginning of a value of a type, and what is wrong there.
-use Rattle.std.specs.Prelude.{◌≡◌, Bool, true, false, ◌||◌, ℕ, List, ◌∷◌, ◌++◌, length, ◌-◌, bytes_eq, codes}
+use Rattle.std.specs.Prelude.{◌≡◌, Bool, true, false, ◌||◌, ℕ, List, ◌∷◌, ◌++◌, length, take, ◌-◌, bytes_eq, codes}
 use Rattle.sample_core.specs.Datum.{Datum, Datums}
 use Rattle.sample_core.specs.TypeTree.{TypeTree, unit_ty, bool_ty, int_ty, pair_ty, event_ty, list_ty}
+use Rattle.sample_core.specs.HasType.{HasType}
+use Rattle.sample_core.specs.Spelling.{spelling}
 use Rattle.sample_core.specs.Number.{is_number, is_in_64}
 use Rattle.sample_core.specs.Words.{goes_on, word_of, form_word}
 use Rattle.sample_core.specs.Reading.{begins_value, begins_with}
@@ -52,3 +54,27 @@ pub record FirstFault (A : TypeTree) (bs : List ℕ) (f : ValueFault) : Type 0 w
   pub rest : List ℕ
   pub leads : Leads A bs wanted rest
   pub wrong : Wrong wanted rest (length bs - length rest) f
+
+-- what a refusal says of the bytes: want of memory says nothing
+abbrev pub FaultOf : ValueFault → TypeTree → List ℕ → Type 0
+FaultOf Fault.Memory A bs = Unit {0}
+FaultOf (Fault.NotAValue p) A bs = FirstFault A bs (Fault.NotAValue p)
+FaultOf (Fault.OtherType p) A bs = FirstFault A bs (Fault.OtherType p)
+FaultOf (Fault.NumberRange p) A bs = FirstFault A bs (Fault.NumberRange p)
+
+-- behind a place stands the same as far as it matters there: the same word, also behind a '(', or the same byte, if any
+abbrev pub SameThere : Wanted → List ℕ → List ℕ → Type 0
+SameThere (value_of A) rest after = (word_of after ≡ word_of rest) × (form_word after ≡ form_word rest)
+SameThere (the_byte b) rest after = take 1 after ≡ take 1 rest
+SameThere space_or_close rest after = take 1 after ≡ take 1 rest
+
+-- The bytes before the place begin the spelling of some value of the type, and no value of the type is spelled by them
+-- and what stands there, whatever follows.
+pub record IsLeftmost (A : TypeTree) (bs : List ℕ) (wanted : Wanted) (rest : List ℕ) : Type 0 where
+  pub before : List ℕ
+  pub place : bs ≡ before ++ rest
+  pub value : Datum
+  pub more_bytes : List ℕ
+  pub typed : HasType value A
+  pub spells : spelling value ≡ before ++ more_bytes
+  pub none : (after : List ℕ) → SameThere wanted rest after → (v : Datum) (behind : List ℕ) → SpellsValue v A (before ++ after) behind → ⊥

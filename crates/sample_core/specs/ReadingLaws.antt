@@ -7,7 +7,7 @@ use Rattle.sample_core.specs.Spelling.{spelling}
 use Rattle.sample_core.specs.Words.{goes_on}
 use Rattle.sample_core.specs.Spelled.{SpellsValue, ends_in_word}
 use Rattle.sample_core.specs.Reading.{reading}
-use Rattle.sample_core.specs.Faults.{FirstFault}
+use Rattle.sample_core.specs.Faults.{FirstFault, IsLeftmost}
 use Rattle.sample_core.specs.declared.fault.ValueFault.{ValueFault}
 
 -- what is read at the front is spelled there, and what is spelled there is read
@@ -25,3 +25,11 @@ ReadAgainLaw = (A : TypeTree) (v : Datum) (rest : List ℕ) → HasType v A → 
 -- a fault is answered exactly where the bytes begin as a value of the type does, up to a place where that fault is
 abbrev pub FaultLaw : Type 0
 FaultLaw = (A : TypeTree) (bs : List ℕ) (f : ValueFault) → reading A bs ≡ Err f ↔ FirstFault A bs f
+
+-- reading is refused exactly where no value of the type is spelled in front
+abbrev pub NoValueLaw : Type 0
+NoValueLaw = (A : TypeTree) (bs : List ℕ) → ((f : ValueFault) × (reading A bs ≡ Err f)) ↔ ((v : Datum) (rest : List ℕ) → SpellsValue v A bs rest → ⊥)
+
+-- the place of a fault is the leftmost
+abbrev pub LeftmostLaw : Type 0
+LeftmostLaw = (A : TypeTree) (bs : List ℕ) (f : ValueFault) (h : FirstFault A bs f) → IsLeftmost A bs h.wanted h.rest

@@ -1,9 +1,12 @@
 // Reading one value off the front of a text.
 
-ghost use Rattle.std.specs.Prelude.{◌≡◌, ◌-◌, ◌≤◌, ◌∷◌, false, MatchOption, length, map, IfOk};
+ghost use Rattle.std.specs.Prelude.{◌≡◌, ◌-◌, ◌≤◌, ◌∷◌, false, MatchOption, length, drop, map, IfOk, IfErr};
 ghost use Rattle.sample_core.specs.Reading.{Gives, begins_value, begins_with, wrong, behind_byte, behind_head, unit_at, truth_at, number_at, elements_at, value_at, reading};
+ghost use Rattle.sample_core.specs.Faults.{FaultOf};
 ghost use Rattle.sample_core.specs.Seen.{datum_of};
 ghost use Rattle.sample_core.specs.SeenType.{type_of};
+ghost use Rattle.sample_core.specs.Spelled.{SpellsValue};
+ghost use Rattle.sample_core.specs.Spelling.{spelling};
 
 use crate::fault::ValueFault;
 use crate::number::{is_number_spelling, number};
@@ -12,9 +15,23 @@ use crate::ty::Ty;
 use crate::words::{is_word, split_form, split_word};
 use std::alloc::Global;
 
-/// Reads one value of the type at the front of the text, and how many bytes it takes. Bytes may follow it. The first fault is answered.
-#[tactic(auto, unfolding(crate::specs::Reading::reading))]
+/// Reads one value of the type at the front of the text, and how many bytes it takes. Bytes may follow it, but none that
+/// goes on its last word. Refused with the leftmost fault, or for want of memory.
 pub fn read_value(alloc: Global, text: &[u8], ty: &Ty) -> Result<(Sample, usize), ValueFault>
+    // What is read is spelled in front.
+    ensures found { IfOk result (λ x. (x.1 ≡ length (spelling (datum_of x.0))) × SpellsValue (datum_of x.0) (type_of ty.now) text.now (drop x.1 text.now)) }
+    // A fault is where the text stops being the beginning of a value of the type.
+    ensures refused { IfErr result (λ f. FaultOf f (type_of ty.now) text.now) }
+    // Which of them it is, the text alone says.
+    ensures exact { Gives (λ x. (datum_of x.0, x.1)) result (reading (type_of ty.now) text.now) }
+    ensures within { IfOk result (λ x. x.1 ≤ length text.now) }
+{
+    front(alloc, text, ty)
+}
+
+/// The value at the front of the text, and how many bytes it takes.
+#[tactic(auto, unfolding(crate::specs::Reading::reading))]
+fn front(alloc: Global, text: &[u8], ty: &Ty) -> Result<(Sample, usize), ValueFault>
     ensures exact { Gives (λ x. (datum_of x.0, x.1)) result (reading (type_of ty.now) text.now) }
     ensures within { IfOk result (λ x. x.1 ≤ length text.now) }
 {

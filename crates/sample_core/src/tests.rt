@@ -4,10 +4,6 @@ use super::*;
 use std::alloc::Global;
 use std::test::Fail;
 
-fn int() -> Ty {
-    Ty::Int
-}
-
 fn event_of(alloc: Global, ty: Ty) -> Result<Ty, Fail> {
     Ok(Ty::Event(TyChild::new(alloc, ty)?))
 }
@@ -62,17 +58,21 @@ fn values_print(rt: HostRuntime) -> Result<(), Fail> {
         print_value(alloc, &copy)?.as_str(),
         "(event (pair -5 true))"
     );
+    Ok(())
+}
+
+#[test]
+fn small_values_print(rt: HostRuntime) -> Result<(), Fail> {
+    let alloc = rt.alloc();
     let none = Sample::List(Samples::new(alloc, Vec::new(alloc))?);
     assert_eq!(rt; print_value(alloc, &none)?.as_str(), "(list)");
     assert_eq!(rt;
         print_value(alloc, &Sample::Int(i64::MIN))?.as_str(),
         "-9223372036854775808"
     );
-    assert_eq!(rt; print_value(alloc, &Sample::Bool(false))?.as_str(), "false");
     let mut text = String::new(alloc);
-    text.push_str("a ")?;
-    push_value(&mut text, &Sample::Int(0))?;
-    assert_eq!(rt; text.as_str(), "a 0");
+    push_value(&mut text, &Sample::Bool(false))?;
+    assert_eq!(rt; text.as_str(), "false");
     Ok(())
 }
 
@@ -81,16 +81,14 @@ fn types_print(rt: HostRuntime) -> Result<(), Fail> {
     let alloc = rt.alloc();
     let ty = pair_of(alloc, list_of(alloc, Ty::Bool)?, event_of(alloc, Ty::Unit)?)?;
     let copy = ty.try_copy(alloc)?;
+    assert!(rt; same_type(&ty, &copy));
     assert_eq!(rt;
         print_type(alloc, &ty)?.as_str(),
         "(Pair (List Bool) (Event Unit))"
     );
-    assert_eq!(rt; print_type(alloc, &int())?.as_str(), "Int");
-    assert!(rt; same_type(&ty, &copy));
-    assert!(rt; !same_type(&ty, &int()));
     let mut text = String::new(alloc);
-    push_type(&mut text, &Ty::Unit)?;
-    assert_eq!(rt; text.as_str(), "Unit");
+    push_type(&mut text, &Ty::Int)?;
+    assert_eq!(rt; text.as_str(), "Int");
     Ok(())
 }
 
@@ -98,126 +96,150 @@ fn types_print(rt: HostRuntime) -> Result<(), Fail> {
 fn values_compare(rt: HostRuntime) -> Result<(), Fail> {
     let alloc = rt.alloc();
     let a = pair(alloc, Sample::Int(1), Sample::Bool(true))?;
-    let b = pair(alloc, Sample::Int(1), Sample::Bool(false))?;
     let copy = a.try_copy(alloc)?;
     assert!(rt; same(&a, &copy));
-    assert!(rt; !same(&a, &b));
-    let ty = pair_of(alloc, int(), Ty::Bool)?;
+    assert!(rt; !same(&a, &Sample::Unit));
+    let ty = pair_of(alloc, Ty::Int, Ty::Bool)?;
     assert!(rt; has_type(&a, &ty));
-    assert!(rt; !has_type(&a, &int()));
-    let mixed = Samples::new(alloc, vec![in alloc; Sample::Int(1), Sample::Unit]?)?;
-    assert!(rt; !has_type(&Sample::List(mixed), &list_of(alloc, int())?));
-    let empty = Sample::List(Samples::new(alloc, Vec::new(alloc))?);
-    assert!(rt; has_type(&empty, &list_of(alloc, int())?));
-    assert!(rt; has_type(&Sample::NoEvent, &event_of(alloc, int())?));
+    assert!(rt; !has_type(&a, &Ty::Int));
     Ok(())
 }
 
 #[test]
-fn values_read(rt: HostRuntime) -> Result<(), Fail> {
+fn numbers_read(rt: HostRuntime) -> Result<(), Fail> {
     let alloc = rt.alloc();
-    let events = event_of(alloc, int())?;
-    let nested = pair_of(alloc, list_of(alloc, event_of(alloc, Ty::Bool)?)?, Ty::Unit)?;
-    assert!(rt; is_read(alloc, "0", &int())?);
-    assert!(rt; is_read(alloc, "-9223372036854775808", &int())?);
-    assert!(rt; is_read(alloc, "9223372036854775807", &int())?);
-    assert!(rt; is_read(alloc, "none", &events)?);
-    assert!(rt; is_read(alloc, "(event 7)", &events)?);
-    assert!(rt; is_read(alloc, "(pair (list) unit)", &nested)?);
-    assert!(rt;
-        is_read(
-            alloc,
-            "(pair (list (event true) none (event false)) unit)",
-            &nested
-        )?
-    );
+    for text in ["0", "-1", "-9223372036854775808", "9223372036854775807"] {
+        assert!(rt; is_read(alloc, text, &Ty::Int)?);
+    }
+    Ok(())
+}
+
+#[test]
+fn nested_values_read(rt: HostRuntime) -> Result<(), Fail> {
+    let alloc = rt.alloc();
+    let ty = pair_of(alloc, list_of(alloc, event_of(alloc, Ty::Bool)?)?, Ty::Unit)?;
+    for text in [
+        "(pair (list) unit)",
+        "(pair (list (event true) none (event false)) unit)",
+    ] {
+        assert!(rt; is_read(alloc, text, &ty)?);
+    }
     Ok(())
 }
 
 #[test]
 fn length_is_told(rt: HostRuntime) -> Result<(), Fail> {
     let alloc = rt.alloc();
-    let (sample, len) = read_value(alloc, b"5 6", &int())?;
-    assert!(rt; same(&sample, &Sample::Int(5)));
-    assert_eq!(rt; len, 1);
-    let (_, len) = read_value(alloc, b"12(x", &int())?;
-    assert_eq!(rt; len, 2);
+    for text in ["12 6", "12(x", "12)", "12"] {
+        let (sample, len) = read_value(alloc, text.as_bytes(), &Ty::Int)?;
+        assert!(rt; same(&sample, &Sample::Int(12)));
+        assert_eq!(rt; len, 2);
+    }
     Ok(())
 }
 
 #[test]
-fn faults_at_the_front(rt: HostRuntime) -> Result<(), Fail> {
+fn what_is_no_value(rt: HostRuntime) -> Result<(), Fail> {
     let alloc = rt.alloc();
-    let not = |at| ValueFault::NotAValue { at };
-    let other = |at| ValueFault::OtherType { at };
-    let events = event_of(alloc, int())?;
-    assert!(rt; is_refused(alloc, "", &int(), not(0)));
-    assert!(rt; is_refused(alloc, "true", &int(), other(0)));
+    for text in [
+        "",
+        " 5",
+        "007",
+        "-0",
+        "-",
+        "+1",
+        "5x",
+        "(pairs 1 2)",
+        "( pair 1 2)",
+        "True",
+        ")",
+    ] {
+        assert!(rt; is_refused(alloc, text, &Ty::Int, ValueFault::NotAValue { at: 0 }));
+    }
+    Ok(())
+}
+
+#[test]
+fn what_has_another_type(rt: HostRuntime) -> Result<(), Fail> {
+    let alloc = rt.alloc();
+    for text in ["true", "none", "unit", "(pair)", "(list", "(event 5)"] {
+        assert!(rt; is_refused(alloc, text, &Ty::Int, ValueFault::OtherType { at: 0 }));
+    }
     assert!(rt;
         is_refused(
             alloc,
             "9223372036854775808",
-            &int(),
-            ValueFault::NumberRange { at: 0 }
+            &Ty::Bool,
+            ValueFault::OtherType { at: 0 }
         )
     );
-    assert!(rt;
-        is_refused(
-            alloc,
-            "-9223372036854775809",
-            &int(),
-            ValueFault::NumberRange { at: 0 }
-        )
-    );
-    assert!(rt; is_refused(alloc, "9223372036854775808", &Ty::Bool, other(0)));
-    assert!(rt; is_refused(alloc, "007", &int(), not(0)));
-    assert!(rt; is_refused(alloc, "-0", &int(), not(0)));
-    assert!(rt; is_refused(alloc, "-", &int(), not(0)));
-    assert!(rt; is_refused(alloc, "+1", &int(), not(0)));
-    assert!(rt; is_refused(alloc, "5x", &int(), not(0)));
-    assert!(rt; is_refused(alloc, "(pair)", &int(), other(0)));
-    assert!(rt; is_refused(alloc, "(pairs 1 2)", &int(), not(0)));
-    assert!(rt; is_refused(alloc, "( pair 1 2)", &int(), not(0)));
-    assert!(rt; is_refused(alloc, "none", &int(), other(0)));
-    assert!(rt; is_refused(alloc, "5", &events, other(0)));
-    assert!(rt; is_refused(alloc, " 5", &int(), not(0)));
     Ok(())
 }
 
 #[test]
-fn faults_inside(rt: HostRuntime) -> Result<(), Fail> {
+fn what_is_out_of_range(rt: HostRuntime) -> Result<(), Fail> {
     let alloc = rt.alloc();
-    let not = |at| ValueFault::NotAValue { at };
-    let other = |at| ValueFault::OtherType { at };
-    let ty = pair_of(alloc, int(), event_of(alloc, int())?)?;
-    let list = list_of(alloc, int())?;
-    assert!(rt; is_refused(alloc, "(pair 5 no", &ty, not(8)));
-    assert!(rt; is_refused(alloc, "(pair 5  none)", &ty, not(8)));
-    assert!(rt; is_refused(alloc, "(pair 5)", &ty, not(7)));
-    assert!(rt; is_refused(alloc, "(pair", &ty, not(5)));
-    assert!(rt; is_refused(alloc, "(pair 5 none", &ty, not(12)));
-    assert!(rt; is_refused(alloc, "(pair 5 none )", &ty, not(12)));
-    assert!(rt; is_refused(alloc, "(pair 5 7)", &ty, other(8)));
-    assert!(rt; is_refused(alloc, "(pair unit none)", &ty, other(6)));
-    assert!(rt; is_refused(alloc, "(pair 5 (event true))", &ty, other(15)));
-    assert!(rt;
-        is_refused(
-            alloc,
-            "(pair 5 (event 99999999999999999999))",
-            &ty,
-            ValueFault::NumberRange { at: 15 }
-        )
-    );
-    assert!(rt; is_refused(alloc, "(list )", &list, not(6)));
-    assert!(rt; is_refused(alloc, "(list(1)", &list, not(5)));
-    assert!(rt; is_refused(alloc, "(list 1 2,3)", &list, not(9)));
-    assert!(rt; is_refused(alloc, "(list 1 true)", &list, other(8)));
-    assert!(rt; is_refused(alloc, "(list 1 2", &list, not(9)));
+    for text in [
+        "9223372036854775808",
+        "-9223372036854775809",
+        "99999999999999999999",
+    ] {
+        assert!(rt; is_refused(alloc, text, &Ty::Int, ValueFault::NumberRange { at: 0 }));
+    }
     Ok(())
 }
 
 #[test]
-fn long_texts(rt: HostRuntime) -> Result<(), Fail> {
+fn missing_bytes(rt: HostRuntime) -> Result<(), Fail> {
+    let alloc = rt.alloc();
+    let ty = pair_of(alloc, Ty::Int, event_of(alloc, Ty::Int)?)?;
+    for (text, at) in [
+        ("(pair", 5),
+        ("(pair 5)", 7),
+        ("(pair 5 no", 8),
+        ("(pair 5  none)", 8),
+        ("(pair 5 none", 12),
+        ("(pair 5 none )", 12),
+    ] {
+        assert!(rt; is_refused(alloc, text, &ty, ValueFault::NotAValue { at }));
+    }
+    Ok(())
+}
+
+#[test]
+fn other_types_inside(rt: HostRuntime) -> Result<(), Fail> {
+    let alloc = rt.alloc();
+    let ty = pair_of(alloc, Ty::Int, event_of(alloc, Ty::Int)?)?;
+    for (text, at) in [
+        ("(pair unit none)", 6),
+        ("(pair 5 7)", 8),
+        ("(pair 5 (event true))", 15),
+    ] {
+        assert!(rt; is_refused(alloc, text, &ty, ValueFault::OtherType { at }));
+    }
+    let large = "(pair 5 (event 99999999999999999999))";
+    assert!(rt; is_refused(alloc, large, &ty, ValueFault::NumberRange { at: 15 }));
+    Ok(())
+}
+
+#[test]
+fn faults_in_lists(rt: HostRuntime) -> Result<(), Fail> {
+    let alloc = rt.alloc();
+    let ty = list_of(alloc, Ty::Int)?;
+    for (text, at) in [
+        ("(list )", 6),
+        ("(list(1)", 5),
+        ("(list 1 2,3)", 9),
+        ("(list 1 2", 9),
+    ] {
+        assert!(rt; is_refused(alloc, text, &ty, ValueFault::NotAValue { at }));
+    }
+    assert!(rt; is_refused(alloc, "(list 1 true)", &ty, ValueFault::OtherType { at: 8 }));
+    Ok(())
+}
+
+#[test]
+fn long_lists(rt: HostRuntime) -> Result<(), Fail> {
     let alloc = rt.alloc();
     let mut text = String::new(alloc);
     text.push_str("(list")?;
@@ -225,8 +247,14 @@ fn long_texts(rt: HostRuntime) -> Result<(), Fail> {
         text.push_str(" 1234")?;
     }
     text.push_str(")")?;
-    let ty = list_of(alloc, int())?;
+    let ty = list_of(alloc, Ty::Int)?;
     assert!(rt; is_read(alloc, text.as_str(), &ty)?);
+    Ok(())
+}
+
+#[test]
+fn long_numbers(rt: HostRuntime) -> Result<(), Fail> {
+    let alloc = rt.alloc();
     let mut digits = String::new(alloc);
     for _ in 0..65_000 {
         digits.push_str("9")?;
@@ -235,7 +263,7 @@ fn long_texts(rt: HostRuntime) -> Result<(), Fail> {
         is_refused(
             alloc,
             digits.as_str(),
-            &int(),
+            &Ty::Int,
             ValueFault::NumberRange { at: 0 }
         )
     );

@@ -1,5 +1,6 @@
 use Rattle.sample_core.proofs.ReadingIs.{reading_law, one_value_law, read_again_law}
-use Rattle.sample_core.proofs.FaultIs.{fault_law}
+use Rattle.sample_core.proofs.FaultIs.{fault_law, no_value_law}
+use Rattle.sample_core.proofs.Leftmost.{leftmost_law}
 use Rattle.sample_core.proofs.laws.reading_laws.Goals as goal
 
 pub returns-clause-found : goal.returns-clause-found
@@ -13,3 +14,9 @@ returns-clause-again c = read_again_law
 
 pub returns-clause-fault : goal.returns-clause-fault
 returns-clause-fault c = fault_law
+
+pub returns-clause-none : goal.returns-clause-none
+returns-clause-none c = no_value_law
+
+pub returns-clause-leftmost : goal.returns-clause-leftmost
+returns-clause-leftmost c = leftmost_law
