@@ -12,3 +12,7 @@ pub mod Weight
 pub mod Height
 pub mod Typing
 pub mod TypedEnvironment
+pub mod Same
+pub mod Alike
+pub mod Laws
+pub mod Examples

@@ -1,0 +1,101 @@
+-- The worked examples, each by computing.
+use Rattle.std.proofs.Common.{refl, arith}
+use Rattle.std.specs.Int.{int_wrap}
+use Rattle.net_syntax.specs.Examples.{AddThenDelay, OnNothing, AddWraps, RepeatedlyByTime, AfterOnce, AfterAtOnce, TimeWraps, SwitchAtOnce, SwitchLate, StartedAtTheEvent, SwitchTwice, SwitchTwiceWeight, RestartAtEvents, RestartAtTheFirst, FreezeClock, FreezeAndResume, ClockOfSix, SwapMembers, DelayByTime, SumsFedBack, SumsHeld, EdgeAtTrue, HeaviestWithin, JustTooHeavy, TooHeavy}
+
+pub add_then_delay : AddThenDelay
+unfolding int_wrap
+add_then_delay = refl
+
+pub on_nothing : OnNothing
+unfolding int_wrap
+on_nothing = refl
+
+pub add_wraps : AddWraps
+unfolding int_wrap
+add_wraps = refl
+
+pub repeatedly_by_time : RepeatedlyByTime
+unfolding int_wrap
+repeatedly_by_time = refl
+
+pub after_once : AfterOnce
+unfolding int_wrap
+after_once = refl
+
+pub after_at_once : AfterAtOnce
+unfolding int_wrap
+after_at_once = refl
+
+pub time_wraps : TimeWraps
+unfolding int_wrap
+time_wraps = refl
+
+pub switch_at_once : SwitchAtOnce
+unfolding int_wrap
+switch_at_once = refl
+
+pub switch_late : SwitchLate
+unfolding int_wrap
+switch_late = refl
+
+pub started_at_the_event : StartedAtTheEvent
+unfolding int_wrap
+started_at_the_event = refl
+
+pub switch_twice : SwitchTwice
+unfolding int_wrap
+switch_twice = refl
+
+pub switch_twice_weight : SwitchTwiceWeight
+unfolding int_wrap
+switch_twice_weight = refl
+
+pub restart_at_events : RestartAtEvents
+unfolding int_wrap
+restart_at_events = refl
+
+pub restart_at_the_first : RestartAtTheFirst
+unfolding int_wrap
+restart_at_the_first = refl
+
+pub freeze_clock : FreezeClock
+unfolding int_wrap
+freeze_clock = refl
+
+pub freeze_and_resume : FreezeAndResume
+unfolding int_wrap
+freeze_and_resume = refl
+
+pub clock_of_six : ClockOfSix
+unfolding int_wrap
+clock_of_six = refl
+
+pub swap_members : SwapMembers
+unfolding int_wrap
+swap_members = refl
+
+pub delay_by_time : DelayByTime
+unfolding int_wrap
+delay_by_time = refl
+
+pub sums_fed_back : SumsFedBack
+unfolding int_wrap
+sums_fed_back = refl
+
+pub sums_held : SumsHeld
+unfolding int_wrap
+sums_held = refl
+
+pub edge_at_true : EdgeAtTrue
+unfolding int_wrap
+edge_at_true = refl
+
+pub heaviest_within : HeaviestWithin
+heaviest_within = refl
+
+pub just_too_heavy : JustTooHeavy
+just_too_heavy = refl
+
+pub too_heavy : TooHeavy
+too_heavy = omega arith

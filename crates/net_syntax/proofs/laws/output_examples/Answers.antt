@@ -1,0 +1,65 @@
+use Rattle.net_syntax.proofs.Computed.{add_then_delay, on_nothing, add_wraps, repeatedly_by_time, after_once, after_at_once, time_wraps, switch_at_once, switch_late, started_at_the_event, switch_twice, restart_at_events, restart_at_the_first, freeze_clock, freeze_and_resume, clock_of_six, swap_members, delay_by_time, sums_fed_back, sums_held, edge_at_true}
+use Rattle.net_syntax.proofs.laws.output_examples.Goals as goal
+
+pub returns-clause-add_then_delay : goal.returns-clause-add_then_delay
+returns-clause-add_then_delay c = add_then_delay
+
+pub returns-clause-on_nothing : goal.returns-clause-on_nothing
+returns-clause-on_nothing c = on_nothing
+
+pub returns-clause-add_wraps : goal.returns-clause-add_wraps
+returns-clause-add_wraps c = add_wraps
+
+pub returns-clause-repeatedly_by_time : goal.returns-clause-repeatedly_by_time
+returns-clause-repeatedly_by_time c = repeatedly_by_time
+
+pub returns-clause-after_once : goal.returns-clause-after_once
+returns-clause-after_once c = after_once
+
+pub returns-clause-after_at_once : goal.returns-clause-after_at_once
+returns-clause-after_at_once c = after_at_once
+
+pub returns-clause-time_wraps : goal.returns-clause-time_wraps
+returns-clause-time_wraps c = time_wraps
+
+pub returns-clause-switch_at_once : goal.returns-clause-switch_at_once
+returns-clause-switch_at_once c = switch_at_once
+
+pub returns-clause-switch_late : goal.returns-clause-switch_late
+returns-clause-switch_late c = switch_late
+
+pub returns-clause-started_at_the_event : goal.returns-clause-started_at_the_event
+returns-clause-started_at_the_event c = started_at_the_event
+
+pub returns-clause-switch_twice : goal.returns-clause-switch_twice
+returns-clause-switch_twice c = switch_twice
+
+pub returns-clause-restart_at_events : goal.returns-clause-restart_at_events
+returns-clause-restart_at_events c = restart_at_events
+
+pub returns-clause-restart_at_the_first : goal.returns-clause-restart_at_the_first
+returns-clause-restart_at_the_first c = restart_at_the_first
+
+pub returns-clause-freeze_clock : goal.returns-clause-freeze_clock
+returns-clause-freeze_clock c = freeze_clock
+
+pub returns-clause-freeze_and_resume : goal.returns-clause-freeze_and_resume
+returns-clause-freeze_and_resume c = freeze_and_resume
+
+pub returns-clause-clock_of_six : goal.returns-clause-clock_of_six
+returns-clause-clock_of_six c = clock_of_six
+
+pub returns-clause-swap_members : goal.returns-clause-swap_members
+returns-clause-swap_members c = swap_members
+
+pub returns-clause-delay_by_time : goal.returns-clause-delay_by_time
+returns-clause-delay_by_time c = delay_by_time
+
+pub returns-clause-sums_fed_back : goal.returns-clause-sums_fed_back
+returns-clause-sums_fed_back c = sums_fed_back
+
+pub returns-clause-sums_held : goal.returns-clause-sums_held
+returns-clause-sums_held c = sums_held
+
+pub returns-clause-edge_at_true : goal.returns-clause-edge_at_true
+returns-clause-edge_at_true c = edge_at_true

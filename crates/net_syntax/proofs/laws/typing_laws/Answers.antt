@@ -1,0 +1,11 @@
+use Rattle.net_syntax.proofs.StreamLaws.{outputs-typed, alike-outputs, same-outputs}
+use Rattle.net_syntax.proofs.laws.typing_laws.Goals as goal
+
+pub returns-clause-typed : goal.returns-clause-typed
+returns-clause-typed c = outputs-typed
+
+pub returns-clause-alike : goal.returns-clause-alike
+returns-clause-alike c = alike-outputs
+
+pub returns-clause-same : goal.returns-clause-same
+returns-clause-same c = same-outputs

@@ -1,0 +1,84 @@
+// Laws of what networks denote: each function is a law, and does nothing.
+
+ghost use Rattle.net_syntax.specs.Laws.{
+  LengthLaw,
+  CausalLaw,
+  RetimeLaw,
+  TypedOutputsLaw,
+  AlikeLaw,
+  SameLaw,
+};
+ghost use Rattle.net_syntax.specs.Examples.{
+  AddThenDelay,
+  OnNothing,
+  AddWraps,
+  RepeatedlyByTime,
+  AfterOnce,
+  AfterAtOnce,
+  TimeWraps,
+  SwitchAtOnce,
+  SwitchLate,
+  StartedAtTheEvent,
+  SwitchTwice,
+  SwitchTwiceWeight,
+  RestartAtEvents,
+  RestartAtTheFirst,
+  FreezeClock,
+  FreezeAndResume,
+  ClockOfSix,
+  SwapMembers,
+  DelayByTime,
+  SumsFedBack,
+  SumsHeld,
+  EdgeAtTrue,
+  HeaviestWithin,
+  JustTooHeavy,
+  TooHeavy,
+};
+
+/// A network puts out one value for each sample, doesn't look ahead, and doesn't see the first step.
+pub fn stream_laws()
+    ensures length { LengthLaw }
+    ensures causal { CausalLaw }
+    ensures retimed { RetimeLaw }
+{}
+
+/// A typed network puts out typed values, and the same ones in alike environments.
+pub fn typing_laws()
+    ensures typed { TypedOutputsLaw }
+    ensures alike { AlikeLaw }
+    ensures same { SameLaw }
+{}
+
+/// What some networks put out, computed by the definitions.
+pub fn output_examples()
+    ensures add_then_delay { AddThenDelay }
+    ensures on_nothing { OnNothing }
+    ensures add_wraps { AddWraps }
+    ensures repeatedly_by_time { RepeatedlyByTime }
+    ensures after_once { AfterOnce }
+    ensures after_at_once { AfterAtOnce }
+    ensures time_wraps { TimeWraps }
+    ensures switch_at_once { SwitchAtOnce }
+    ensures switch_late { SwitchLate }
+    ensures started_at_the_event { StartedAtTheEvent }
+    ensures switch_twice { SwitchTwice }
+    ensures restart_at_events { RestartAtEvents }
+    ensures restart_at_the_first { RestartAtTheFirst }
+    ensures freeze_clock { FreezeClock }
+    ensures freeze_and_resume { FreezeAndResume }
+    ensures clock_of_six { ClockOfSix }
+    ensures swap_members { SwapMembers }
+    ensures delay_by_time { DelayByTime }
+    ensures sums_fed_back { SumsFedBack }
+    ensures sums_held { SumsHeld }
+    ensures edge_at_true { EdgeAtTrue }
+{}
+
+/// What some networks weigh, computed by the definitions.
+pub fn weight_examples()
+    ensures switch_twice_weight { SwitchTwiceWeight }
+    ensures heaviest_within { HeaviestWithin }
+    ensures just_too_heavy { JustTooHeavy }
+    ensures too_heavy { TooHeavy }
+{}
