@@ -16,3 +16,4 @@ pub mod Same
 pub mod Alike
 pub mod Laws
 pub mod Examples
+pub mod Position
