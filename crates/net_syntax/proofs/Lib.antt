@@ -18,3 +18,5 @@ pub mod Unique
 pub mod ExpressionTyped
 pub mod StreamLaws
 pub mod Computed
+pub mod Free
+pub mod Limits

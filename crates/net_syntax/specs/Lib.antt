@@ -17,3 +17,5 @@ pub mod Alike
 pub mod Laws
 pub mod Examples
 pub mod Position
+pub mod TypedWithin
+pub mod Limits
