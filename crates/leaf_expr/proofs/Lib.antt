@@ -1,2 +1,5 @@
 pub mod Places
 pub mod SameDatum
+pub mod Soundness
+pub mod Exactness
+pub mod Uniqueness

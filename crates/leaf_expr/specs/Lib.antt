@@ -4,3 +4,7 @@ pub mod ExpressionValue
 pub mod ExpressionTyping
 pub mod Seen
 pub mod Falls
+pub mod TypeLimits
+pub mod ExpressionLimits
+pub mod ExpressionCheck
+pub mod TypingLaws

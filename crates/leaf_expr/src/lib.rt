@@ -3,9 +3,13 @@
 
 mod evaluation;
 mod expr;
+mod laws;
+mod limits;
 mod literal;
 mod operations;
 
 pub use evaluation::eval;
 pub use expr::{Expr, Part, Parts};
+pub use laws::typing_laws;
+pub use limits::{expr_fits, type_fits};
 pub use literal::Literal;
