@@ -1,5 +1,5 @@
--- Networks of expressions: typed outputs, and equal ones in alike environments.
-use Rattle.std.proofs.Common.{List, sym}
+-- Networks of expressions: typed outputs, equal ones in alike environments, and one output type.
+use Rattle.std.proofs.Common.{◌≡◌, List, sym}
 use Rattle.sample_core.specs.TypeTree.{TypeTree}
 use Rattle.leaf_expr.specs.Expression.{Expression}
 use Rattle.leaf_expr.specs.ExpressionValue.{value_of}
@@ -11,21 +11,25 @@ use Rattle.net_syntax.specs.Typing.{Arrow, TypedValues, TypedSamples}
 use Rattle.net_syntax.specs.Stream.{outputs_of, NetTyped}
 use Rattle.net_syntax.specs.Same.{SameNet}
 use Rattle.net_syntax.specs.Alike.{EnvironmentTyped, SameOutputs}
-use Rattle.net_syntax.proofs.ExpressionTyped.{expressions_typed}
+use Rattle.leaf_expr.proofs.Soundness.{typed_value}
+use Rattle.leaf_expr.proofs.Uniqueness.{one_type}
 use Rattle.net_syntax.proofs.SameNets.{same-typed}
+use Rattle.net_syntax.specs.NetworkLimits.{NetTypedWithin}
+use Rattle.net_syntax.proofs.Unique.{unique}
+use Rattle.net_syntax.proofs.Unlimited.{free}
 use Rattle.net_syntax.proofs.TypedMeanings.{Holds, holds, typed_outputs, outputs_alike, alike_from_equal}
 
 -- a typed network in a typed environment puts out typed values
 pub outputs-typed : (Ps : List TypeTree) (Os : List Arrow) (net : Network Expression) (A B : TypeTree) (E : Environment Expression) (xs : Timed)
     → EnvironmentTyped Ps Os E → NetTyped Ps Os net A B → TypedSamples A xs → TypedValues B (outputs_of net E xs)
-outputs-typed = typed_outputs value_of ExpressionTyped expressions_typed
+outputs-typed = typed_outputs value_of ExpressionTyped typed_value
 
 -- networks that do the same put out the same in alike environments
 pub same-outputs : (Ps : List TypeTree) (Os : List Arrow) (f g : Network Expression) (A B : TypeTree) → SameNet value_of Ps Os A B f g → SameOutputs Ps Os A f g
 same-outputs Ps Os f g A B s E F a xs j =
-    let e : Holds value_of ExpressionTyped expressions_typed Ps Os (context_of value_of E) = holds value_of ExpressionTyped expressions_typed Ps Os E a.one_typed in
-    let h : Holds value_of ExpressionTyped expressions_typed Ps Os (context_of value_of F) = holds value_of ExpressionTyped expressions_typed Ps Os F a.other_typed in
-    outputs_alike value_of ExpressionTyped expressions_typed Ps Os f g A B E F xs
+    let e : Holds value_of ExpressionTyped typed_value Ps Os (context_of value_of E) = holds value_of ExpressionTyped typed_value Ps Os E a.one_typed in
+    let h : Holds value_of ExpressionTyped typed_value Ps Os (context_of value_of F) = holds value_of ExpressionTyped typed_value Ps Os F a.other_typed in
+    outputs_alike value_of ExpressionTyped typed_value Ps Os f g A B E F xs
     (record {
       alike_params = sym a.same_params;
       alike_typed = e.held_params;
@@ -34,4 +38,12 @@ same-outputs Ps Os f g A B s E F a xs j =
 
 -- a typed network puts out the same in alike environments
 pub alike-outputs : (Ps : List TypeTree) (Os : List Arrow) (net : Network Expression) (A B : TypeTree) → NetTyped Ps Os net A B → SameOutputs Ps Os A net net
-alike-outputs Ps Os net A B h = same-outputs Ps Os net net A B (same-typed value_of ExpressionTyped expressions_typed Ps Os net A B h)
+alike-outputs Ps Os net A B h = same-outputs Ps Os net net A B (same-typed value_of ExpressionTyped typed_value Ps Os net A B h)
+
+-- a network has one output type at an input type
+pub one-output-type : (Ps : List TypeTree) (Os : List Arrow) (net : Network Expression) (A B C : TypeTree) → NetTyped Ps Os net A B → NetTyped Ps Os net A C → B ≡ C
+one-output-type = unique ExpressionTyped one_type
+
+-- a network that is typed within the limits is typed
+pub within-typed : (Ps : List TypeTree) (Os : List Arrow) (net : Network Expression) (A B : TypeTree) → NetTypedWithin Ps Os net A B → NetTyped Ps Os net A B
+within-typed Ps Os net A B h = free (λ e Qs X Y f. f.checked.given) h

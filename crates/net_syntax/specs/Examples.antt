@@ -8,14 +8,16 @@ use Rattle.net_syntax.specs.Network.{Network, arr, seq, first, par, loop_pre, i_
 use Rattle.net_syntax.specs.Weight.{weight}
 use Rattle.net_syntax.specs.Stream.{stream_of}
 
--- a number value, a number value below zero (minus k), and a number as an expression
+-- the number k as a value
 abbrev pub n : ℕ → Datum
 n k = number (pos k)
 
+-- the number -k as a value
 abbrev pub minus : ℕ → Datum
 minus zero = number (pos 0)
 minus (suc k) = number (negsuc k)
 
+-- the number k as an expression
 abbrev pub num : ℕ → Expression
 num k = number_literal (pos k)
 
@@ -31,19 +33,23 @@ add_param = arr (add sample (parameter 0))
 abbrev pub at_left : ℕ → Network Expression
 at_left k = arr (choice (equal (fst sample) (num k)) (make_event unit_literal) (none_of unit_ty))
 
+-- 1, 20, 3, a step of 1 between them
 abbrev pub one_then_twenty : Timed
 one_then_twenty = (0, n 1) ∷ (1, n 20) ∷ (1, n 3) ∷ []
 
+-- the times 0, 4, 9, 15, 22, 23; the third value is 1, the fifth 2
 abbrev pub six_samples : Timed
 six_samples = (0, n 0) ∷ (4, n 0) ∷ (5, n 1) ∷ (6, n 0) ∷ (7, n 2) ∷ (1, n 0) ∷ []
 
--- `(>>> (arr (add x 1)) (iPre 0))` on 5, 6, 7, and on nothing
+-- `(>>> (arr (add x 1)) (iPre 0))`
 abbrev pub add_then_delay : Network Expression
 add_then_delay = seq (arr (add sample (num 1))) (i_pre (num 0))
 
+-- on 5, 6, 7
 abbrev pub AddThenDelay : Type 0
 AddThenDelay = stream_of add_then_delay ((0, n 5) ∷ (1, n 6) ∷ (1, n 7) ∷ []) ≡ n 0 ∷ n 6 ∷ n 7 ∷ []
 
+-- on no samples, no outputs
 abbrev pub OnNothing : Type 0
 OnNothing = stream_of add_then_delay [] ≡ []
 
@@ -55,10 +61,11 @@ AddWraps = stream_of (arr (add sample (num 1))) ((0, n 9223372036854775807) ∷ 
 abbrev pub RepeatedlyByTime : Type 0
 RepeatedlyByTime = stream_of (repeatedly 3 unit_literal) ((0, unit) ∷ (2, unit) ∷ (2, unit) ∷ (7, unit) ∷ (1, unit) ∷ []) ≡ no_event ∷ no_event ∷ event unit ∷ event unit ∷ event unit ∷ []
 
--- `(after 5 7)` once 5 is passed, and `(after 0 7)` at once, whatever the first step
+-- `(after 5 7)`, once 5 is passed
 abbrev pub AfterOnce : Type 0
 AfterOnce = stream_of (after 5 (num 7)) ((0, unit) ∷ (9223372036854775807, unit) ∷ (1, unit) ∷ []) ≡ no_event ∷ event (n 7) ∷ no_event ∷ []
 
+-- `(after 0 7)`, at once, whatever the first step
 abbrev pub AfterAtOnce : Type 0
 AfterAtOnce = stream_of (after 0 (num 7)) ((4, unit) ∷ []) ≡ event (n 7) ∷ []
 
@@ -66,13 +73,15 @@ AfterAtOnce = stream_of (after 0 (num 7)) ((4, unit) ∷ []) ≡ event (n 7) ∷
 abbrev pub TimeWraps : Type 0
 TimeWraps = stream_of time ((0, unit) ∷ (9223372036854775807, unit) ∷ (9223372036854775807, unit) ∷ []) ≡ n 0 ∷ n 9223372036854775807 ∷ minus 2 ∷ []
 
--- `switch` puts out its continuation at the event's sample, `dSwitch` from the sample after; but both start it there
+-- `switch` puts out its continuation at the event's sample
 abbrev pub SwitchAtOnce : Type 0
 SwitchAtOnce = stream_of (switch above_nine add_param) one_then_twenty ≡ n 1 ∷ n 40 ∷ n 23 ∷ []
 
+-- `dSwitch` puts it out from the sample after
 abbrev pub SwitchLate : Type 0
 SwitchLate = stream_of (d_switch above_nine add_param) one_then_twenty ≡ n 1 ∷ n 20 ∷ n 23 ∷ []
 
+-- but starts it at the event's sample
 abbrev pub StartedAtTheEvent : Type 0
 StartedAtTheEvent = stream_of (d_switch above_nine time) one_then_twenty ≡ n 1 ∷ n 20 ∷ n 1 ∷ []
 
@@ -80,43 +89,51 @@ StartedAtTheEvent = stream_of (d_switch above_nine time) one_then_twenty ≡ n 1
 abbrev pub switch_twice : Network Expression
 switch_twice = switch above_nine (switch (arr (make_pair sample (make_event (neg (parameter 0))))) (arr (add sample (parameter 1))))
 
+-- 3 added to -20
 abbrev pub SwitchTwice : Type 0
 SwitchTwice = stream_of switch_twice one_then_twenty ≡ n 1 ∷ n 0 ∷ minus 17 ∷ []
 
+-- it weighs 5
 abbrev pub SwitchTwiceWeight : Type 0
 SwitchTwiceWeight = weight switch_twice [] ≡ 5
 
--- `(rSwitch (iPre 0) (iPre (p 0)))`: each event starts the continuation anew
+-- `(rSwitch (iPre 0) (iPre (p 0)))`
 abbrev pub restart : Network Expression
 restart = r_switch (i_pre (num 0)) (i_pre (parameter 0))
 
+-- each event starts the continuation anew
 abbrev pub RestartAtEvents : Type 0
 RestartAtEvents = stream_of restart ((0, pair (n 5) no_event) ∷ (1, pair (n 6) (event (n 9))) ∷ (1, pair (n 7) (event (n 8))) ∷ (1, pair (n 4) no_event) ∷ []) ≡ n 0 ∷ n 9 ∷ n 8 ∷ n 7 ∷ []
 
+-- also one at the first sample
 abbrev pub RestartAtTheFirst : Type 0
 RestartAtTheFirst = stream_of restart ((0, pair (n 5) (event (n 3))) ∷ (1, pair (n 6) no_event) ∷ []) ≡ n 3 ∷ n 5 ∷ []
 
--- `(kSwitch time E (switch (arr (pair -1 (if (equal x 2) (event unit) (none Unit)))) (old 0)))`: the clock stands while it is frozen, and goes on with the step that it was frozen with
+-- `(kSwitch time E (switch (arr (pair -1 (if (equal x 2) (event unit) (none Unit)))) (old 0)))`
 abbrev pub freeze_clock : Network Expression
 freeze_clock = k_switch time (at_left 1) (switch (arr (make_pair (number_literal (negsuc 0)) (choice (equal sample (num 2)) (make_event unit_literal) (none_of unit_ty)))) (old 0))
 
+-- the clock stands while it is frozen, and goes on with the step that it was frozen with
 abbrev pub FreezeClock : Type 0
 FreezeClock = stream_of freeze_clock six_samples ≡ n 0 ∷ n 4 ∷ minus 1 ∷ minus 1 ∷ n 9 ∷ n 10 ∷ []
 
--- `(kSwitch time E (old 0))` is `time`
+-- `(kSwitch time E (old 0))` puts out what `time` does
 abbrev pub FreezeAndResume : Type 0
 FreezeAndResume = stream_of (k_switch time (at_left 1) (old 0)) six_samples ≡ stream_of time six_samples
 
+-- `time`
 abbrev pub ClockOfSix : Type 0
 ClockOfSix = stream_of time six_samples ≡ n 0 ∷ n 4 ∷ n 9 ∷ n 15 ∷ n 22 ∷ n 23 ∷ []
 
--- `(pSwitch (fst x) (col time integral) E (parB (old 1) (old 0)))`: the members change places
+-- `(pSwitch (fst x) (col time integral) E (parB (old 1) (old 0)))`
 abbrev pub swap_members : Network Expression
 swap_members = p_switch (fst sample) (networks_of (time ∷ integral ∷ [])) (at_left 7) (par (networks_of (old 1 ∷ old 0 ∷ [])))
 
+-- a list value of two numbers
 abbrev pub two : ℕ → ℕ → Datum
 two j k = list (of_elements (n j ∷ n k ∷ []))
 
+-- the members change places, and go on from where they were frozen
 abbrev pub SwapMembers : Type 0
 SwapMembers = stream_of swap_members ((0, n 2) ∷ (3, n 2) ∷ (4, n 7) ∷ (1, n 0) ∷ []) ≡ two 0 0 ∷ two 3 6 ∷ two 14 7 ∷ two 21 8 ∷ []
 
@@ -124,10 +141,11 @@ SwapMembers = stream_of swap_members ((0, n 2) ∷ (3, n 2) ∷ (4, n 7) ∷ (1,
 abbrev pub DelayByTime : Type 0
 DelayByTime = stream_of (delay 3 (num 0)) ((0, n 1) ∷ (2, n 2) ∷ (2, n 3) ∷ (2, n 4) ∷ []) ≡ n 0 ∷ n 0 ∷ n 1 ∷ n 2 ∷ []
 
--- `(loopPre 0 (arr (pair (add (fst x) (snd x)) (add (fst x) (snd x)))))`: sums
+-- `(add (fst x) (snd x))`
 abbrev pub both_parts : Expression
 both_parts = add (fst sample) (snd sample)
 
+-- `(loopPre 0 (arr (pair S S)))`, S that sum: the sums so far
 abbrev pub SumsFedBack : Type 0
 SumsFedBack = stream_of (loop_pre (num 0) (arr (make_pair both_parts both_parts))) ((0, n 1) ∷ (1, n 2) ∷ (1, n 3) ∷ []) ≡ n 1 ∷ n 3 ∷ n 6 ∷ []
 
@@ -135,40 +153,48 @@ SumsFedBack = stream_of (loop_pre (num 0) (arr (make_pair both_parts both_parts)
 abbrev pub SumsHeld : Type 0
 SumsHeld = stream_of (seq (accum_by both_parts (num 10)) (hold (num 10))) ((0, no_event) ∷ (1, event (n 5)) ∷ (1, no_event) ∷ (1, event (n 1)) ∷ []) ≡ n 10 ∷ n 15 ∷ n 15 ∷ n 16 ∷ []
 
--- `edge` in its core forms: an event where the input becomes true
+-- the parts of a pair change places
 abbrev pub swap : Network Expression
 swap = arr (make_pair (snd sample) (fst sample))
 
+-- `(second f)` in its core forms
 abbrev pub second : Network Expression → Network Expression
 second f = seq swap (seq (first f) swap)
 
+-- `edge` in its core forms
 abbrev pub edge : Network Expression
 edge = seq (seq (arr (make_pair sample sample)) (seq (first (arr sample)) (second (i_pre (truth_literal true))))) (arr (choice (conjunction (fst sample) (negation (snd sample))) (make_event unit_literal) (none_of unit_ty)))
 
+-- an event where the input becomes true
 abbrev pub EdgeAtTrue : Type 0
 EdgeAtTrue = stream_of edge ((0, truth true) ∷ (1, truth false) ∷ (1, truth true) ∷ []) ≡ no_event ∷ no_event ∷ event unit ∷ []
 
--- frozen networks in frozen networks: m times `(kSwitch (>>> (old k) (old k)) E ..)`, k one more each time, then the last network
+-- `(arr (none Unit))`
 abbrev pub never_event : Network Expression
 never_event = arr (none_of unit_ty)
 
+-- m times `(kSwitch (>>> (old k) (old k)) E ..)`, k one more each time, then the last network
 abbrev pub doubled : ℕ → ℕ → Network Expression → Network Expression
 doubled zero k last = last
 doubled (suc m) k last = k_switch (seq (old k) (old k)) never_event (doubled m (suc k) last)
 
+-- f and the further networks, nested to the right in `>>>`
 abbrev pub in_sequence : Network Expression → List (Network Expression) → Network Expression
 in_sequence f [] = f
 in_sequence f (g ∷ gs) = seq f (in_sequence g gs)
 
+-- some frozen networks, and then the networks gs
 abbrev pub olds_then : List (Network Expression) → Network Expression
 olds_then gs = in_sequence (old 16) (old 15 ∷ old 14 ∷ old 12 ∷ old 7 ∷ old 4 ∷ old 2 ∷ old 1 ∷ gs)
 
--- each nesting doubles the weight: the heaviest network within the limit, one that is just past it, and one that is far past it
+-- each nesting doubles the weight: the heaviest network within the limit
 abbrev pub HeaviestWithin : Type 0
 HeaviestWithin = weight (k_switch (arr sample) never_event (doubled 16 0 (olds_then (arr sample ∷ arr sample ∷ arr sample ∷ [])))) [] ≡ 1000000
 
+-- one that is just past it
 abbrev pub JustTooHeavy : Type 0
 JustTooHeavy = weight (k_switch (arr sample) never_event (doubled 16 0 (olds_then (arr sample ∷ arr sample ∷ arr sample ∷ arr sample ∷ [])))) [] ≡ 1000002
 
+-- one that is past it by its nesting alone
 abbrev pub TooHeavy : Type 0
 TooHeavy = 1000000 < weight (k_switch (arr sample) never_event (doubled 19 0 (old 19))) []

@@ -8,11 +8,13 @@ height_at [] k = 0
 height_at (h ∷ hs) zero = h
 height_at (h ∷ hs) (suc k) = height_at hs k
 
+-- the greatest of a list, 0 of none
 abbrev pub greatest : List ℕ → ℕ
 greatest [] = 0
 greatest (n ∷ ns) = max n (greatest ns)
 
 abbrev mutual
+  -- hs: the heights of the frozen networks in scope
   pub height : {L : Type 0} → Network L → List ℕ → ℕ
   height (seq f g) hs = suc (max (height f hs) (height g hs))
   height (first f) hs = suc (height f hs)
@@ -34,6 +36,7 @@ abbrev mutual
   height time hs = 1
   height integral hs = 1
 
+  -- each member's height
   pub heights : {L : Type 0} → Networks L → List ℕ → List ℕ
   heights no_members hs = []
   heights (and_member f fs) hs = height f hs ∷ heights fs hs

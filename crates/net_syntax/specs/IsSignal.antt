@@ -1,7 +1,8 @@
--- What every network's meaning is: as many outputs as samples, none looking ahead, the first step not seen.
+-- What the meaning of every network keeps to.
 use Rattle.std.specs.Prelude.{◌≡◌, ℕ, length, take}
 use Rattle.net_syntax.specs.Signal.{Timed, Signal, retime}
 
+-- as many outputs as samples, no look ahead, and the first step not seen
 pub record IsSignal (f : Signal) : Type 0 where
   pub sized : (xs : Timed) → length (f xs) ≡ length xs
   pub causal : (n : ℕ) (xs : Timed) → f (take n xs) ≡ take n (f xs)

@@ -8,6 +8,7 @@ use Rattle.net_syntax.specs.Network.{Network}
 use Rattle.net_syntax.specs.Environment.{Environment}
 use Rattle.net_syntax.specs.Typing.{Arrow, TypedValues, TypedSamples}
 use Rattle.net_syntax.specs.Stream.{outputs_of, NetTyped}
+use Rattle.net_syntax.specs.NetworkLimits.{NetTypedWithin}
 use Rattle.net_syntax.specs.Same.{SameNet}
 use Rattle.net_syntax.specs.Alike.{EnvironmentTyped, SameOutputs}
 
@@ -35,3 +36,11 @@ AlikeLaw = (Ps : List TypeTree) (Os : List Arrow) (net : Network Expression) (A 
 -- networks that do the same put out the same in alike environments
 abbrev pub SameLaw : Type 0
 SameLaw = (Ps : List TypeTree) (Os : List Arrow) (f g : Network Expression) (A B : TypeTree) → SameNet value_of Ps Os A B f g → SameOutputs Ps Os A f g
+
+-- a network has one output type at an input type
+abbrev pub OneTypeLaw : Type 0
+OneTypeLaw = (Ps : List TypeTree) (Os : List Arrow) (net : Network Expression) (A B C : TypeTree) → NetTyped Ps Os net A B → NetTyped Ps Os net A C → B ≡ C
+
+-- a network that is typed within the limits is typed
+abbrev pub WithinLaw : Type 0
+WithinLaw = (Ps : List TypeTree) (Os : List Arrow) (net : Network Expression) (A B : TypeTree) → NetTypedWithin Ps Os net A B → NetTyped Ps Os net A B

@@ -4,6 +4,7 @@ pub mod Seen
 pub mod Falls
 pub mod Signal
 pub mod IsSignal
+pub mod Answer
 pub mod Meaning
 pub mod Environment
 pub mod Stream
@@ -11,11 +12,13 @@ pub mod TypedNetworkCode
 pub mod Weight
 pub mod Height
 pub mod Typing
+pub mod TypedWithin
+pub mod NetworkLimits
 pub mod TypedEnvironment
 pub mod Same
 pub mod Alike
 pub mod Laws
+pub mod SwitchLaws
 pub mod Examples
+pub mod WithinLimits
 pub mod Position
-pub mod TypedWithin
-pub mod Limits

@@ -9,9 +9,11 @@ pub record Context : Type 0 where
   pub params : List Datum
   pub olds : List Signal
 
+-- one parameter more
 abbrev pub with_param : Context → Datum → Context
 with_param E c = record E { params = E.params ++ c ∷ [] }
 
+-- these frozen networks more
 abbrev pub with_olds : Context → List Signal → Context
 with_olds E os = record E { olds = E.olds ++ os }
 
@@ -22,6 +24,7 @@ old_at (f ∷ fs) zero = f
 old_at (f ∷ fs) (suc k) = old_at fs k
 
 abbrev mutual
+  -- what a network denotes in a context, where val gives the leaves' values; one line a form
   pub meaning : {L : Type 0} → (L → List Datum → Datum → Datum) → Network L → Context → Signal
   meaning val (arr e) E = λ xs. map (val e E.params) (values xs)
   meaning val (seq f g) E = sequence (meaning val f E) (meaning val g E)
@@ -43,6 +46,7 @@ abbrev mutual
   meaning val (p_switch r fs e t) E = switching_all (val r E.params) (meanings val fs E) (meaning val e E) (λ c os. meaning val t (with_olds (with_param E c) os))
   meaning val (old k) E = old_at E.olds k
 
+  -- what each member denotes
   pub meanings : {L : Type 0} → (L → List Datum → Datum → Datum) → Networks L → Context → List Signal
   meanings val no_members E = []
   meanings val (and_member f fs) E = meaning val f E ∷ meanings val fs E

@@ -8,6 +8,7 @@ use Rattle.sample_core.specs.HasType.{HasType}
 use Rattle.net_syntax.specs.Typing.{TypedSamples, Arrow, LeafTyping, Typed}
 use Rattle.net_syntax.specs.Environment.{Environment, closed, param, frozen}
 
+-- the parameters have the types, and each frozen network is typed in its own environment, after a past of its input type
 pub data TypedEnvironment {L : Type 0} (T : LeafTyping L) : List TypeTree → List Arrow → Environment L → Type 0 where
   closed_typed : TypedEnvironment T [] [] closed
   param_typed : {Ps : List TypeTree} {Os : List Arrow} {E : Environment L} {c : Datum} {C : TypeTree} → TypedEnvironment T Ps Os E → HasType c C → TypedEnvironment T (Ps ++ C ∷ []) Os (param E c)

@@ -10,14 +10,17 @@ pub record Arrow : Type 0 where
   pub input : TypeTree
   pub output : TypeTree
 
+-- frozen network k has this input and this output
 pub data OldAt : List Arrow → ℕ → Arrow → Type 0 where
   old_here : {o : Arrow} {Os : List Arrow} → OldAt (o ∷ Os) zero o
   old_after : {o : Arrow} {Os : List Arrow} {k : ℕ} {q : Arrow} → OldAt Os k q → OldAt (o ∷ Os) (suc k) q
 
+-- n frozen networks of one input and output
 abbrev pub copies : ℕ → Arrow → List Arrow
 copies zero o = []
 copies (suc n) o = o ∷ copies n o
 
+-- how many members there are
 abbrev pub members : {L : Type 0} → Networks L → ℕ
 members no_members = 0
 members (and_member f fs) = suc (members fs)
@@ -27,6 +30,7 @@ abbrev pub LeafTyping : Type 0 → Type 1
 LeafTyping L = L → List TypeTree → TypeTree → TypeTree → Type 0
 
 mutual
+  -- parameters' types, frozen networks' types, a network, its input type and its output type; one constructor a form
   pub data Typed {L : Type 0} (T : LeafTyping L) : List TypeTree → List Arrow → Network L → TypeTree → TypeTree → Type 0 where
     arr_typed : {Ps : List TypeTree} {Os : List Arrow} {e : L} {A B : TypeTree} → T e Ps A B → Typed T Ps Os (arr e) A B
     seq_typed : {Ps : List TypeTree} {Os : List Arrow} {f g : Network L} {A B C : TypeTree} → Typed T Ps Os f A B → Typed T Ps Os g B C → Typed T Ps Os (seq f g) A C
@@ -48,15 +52,17 @@ mutual
     p_switch_typed : {Ps : List TypeTree} {Os : List Arrow} {r : L} {fs : Networks L} {e t : Network L} {A B C D : TypeTree} → 1 ≤ members fs → members fs ≤ 64 → T r Ps (pair_ty A int_ty) D → AllTyped T Ps Os fs D B → Typed T Ps Os e (pair_ty A (list_ty B)) (event_ty C) → Typed T (Ps ++ C ∷ []) (Os ++ copies (members fs) (record { input = D; output = B })) t A (list_ty B) → Typed T Ps Os (p_switch r fs e t) A (list_ty B)
     old_typed : {Ps : List TypeTree} {Os : List Arrow} {k : ℕ} {A B : TypeTree} → OldAt Os k (record { input = A; output = B }) → Typed T Ps Os (old k) A B
 
+  -- each member has the same types
   pub data AllTyped {L : Type 0} (T : LeafTyping L) : List TypeTree → List Arrow → Networks L → TypeTree → TypeTree → Type 0 where
     no_members_typed : {Ps : List TypeTree} {Os : List Arrow} {A B : TypeTree} → AllTyped T Ps Os no_members A B
     and_member_typed : {Ps : List TypeTree} {Os : List Arrow} {f : Network L} {fs : Networks L} {A B : TypeTree} → Typed T Ps Os f A B → AllTyped T Ps Os fs A B → AllTyped T Ps Os (and_member f fs) A B
 
--- lists of typed values, and of samples with such
+-- each value has the type
 pub data TypedValues (A : TypeTree) : List Datum → Type 0 where
   no_value : TypedValues A []
   and_value : {v : Datum} {vs : List Datum} → HasType v A → TypedValues A vs → TypedValues A (v ∷ vs)
 
+-- each sample's value has the type
 pub data TypedSamples (A : TypeTree) : List (ℕ × Datum) → Type 0 where
   no_sample : TypedSamples A []
   and_sample : {x : ℕ × Datum} {xs : List (ℕ × Datum)} → HasType x.1 A → TypedSamples A xs → TypedSamples A (x ∷ xs)

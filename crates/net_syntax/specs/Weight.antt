@@ -8,11 +8,13 @@ weight_at [] k = 0
 weight_at (w ∷ ws) zero = w
 weight_at (w ∷ ws) (suc k) = weight_at ws k
 
+-- the sum of a list
 abbrev pub total : List ℕ → ℕ
 total [] = 0
 total (n ∷ ns) = n + total ns
 
 abbrev mutual
+  -- ws: the weights of the frozen networks in scope
   pub weight : {L : Type 0} → Network L → List ℕ → ℕ
   weight (seq f g) ws = suc (weight f ws + weight g ws)
   weight (first f) ws = suc (weight f ws)
@@ -34,6 +36,7 @@ abbrev mutual
   weight time ws = 1
   weight integral ws = 1
 
+  -- each member's weight
   pub weights : {L : Type 0} → Networks L → List ℕ → List ℕ
   weights no_members ws = []
   weights (and_member f fs) ws = weight f ws ∷ weights fs ws

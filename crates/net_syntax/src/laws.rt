@@ -7,6 +7,17 @@ ghost use Rattle.net_syntax.specs.Laws.{
   TypedOutputsLaw,
   AlikeLaw,
   SameLaw,
+  OneTypeLaw,
+  WithinLaw,
+};
+ghost use Rattle.net_syntax.specs.SwitchLaws.{
+  SwitchLaw,
+  SwitchLateLaw,
+  RestartLaw,
+  FreezeLaw,
+  FreezeMembersLaw,
+  ResumeLaw,
+  KeptNumbersLaw,
 };
 ghost use Rattle.net_syntax.specs.Examples.{
   AddThenDelay,
@@ -43,11 +54,24 @@ pub fn stream_laws()
     ensures retimed { RetimeLaw }
 {}
 
-/// A typed network puts out typed values, and the same ones in alike environments.
+/// A typed network puts out typed values, the same ones in alike environments, and it has one output type.
 pub fn typing_laws()
     ensures typed { TypedOutputsLaw }
     ensures alike { AlikeLaw }
     ensures same { SameLaw }
+    ensures one_type { OneTypeLaw }
+    ensures within { WithinLaw }
+{}
+
+/// What the switches and resumed networks put out, by the environments that their parts run in.
+pub fn switching_laws()
+    ensures switch { SwitchLaw }
+    ensures switch_late { SwitchLateLaw }
+    ensures restart { RestartLaw }
+    ensures freeze { FreezeLaw }
+    ensures freeze_members { FreezeMembersLaw }
+    ensures resume { ResumeLaw }
+    ensures kept_numbers { KeptNumbersLaw }
 {}
 
 /// What some networks put out, computed by the definitions.

@@ -3,6 +3,7 @@
 ghost use Rattle.std.specs.Prelude.{◌≡◌, IfOk};
 ghost use Rattle.net_syntax.specs.Seen.{network_of};
 
+use leaf_expr::Expr;
 use sample_core::Memory;
 use std::alloc::Global;
 use std::marker::Model;
@@ -72,5 +73,18 @@ impl<L> Sub<L> {
     {
         let inner = self.inner.clone()?;
         Ok(Sub { inner })
+    }
+}
+
+impl Net<Expr> {
+    /// A copy, whose parts are shared with it.
+    pub fn try_copy(&self, alloc: Global) -> Result<Net<Expr>, Memory>
+        ensures { IfOk result (λ n. n ≡ self.now) }
+    {
+        Ok(match self {
+            Net::Arr(e) => Net::Arr(e.try_copy(alloc)?),
+            Net::Seq(f, g) => Net::Seq(f.try_copy()?, g.try_copy()?),
+            Net::IPre(c) => Net::IPre(c.try_copy(alloc)?),
+        })
     }
 }

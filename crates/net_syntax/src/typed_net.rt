@@ -4,7 +4,7 @@ ghost use Rattle.std.specs.Prelude.{◌≡◌};
 ghost use Rattle.sample_core.specs.SeenType.{type_of};
 ghost use Rattle.net_syntax.specs.Seen.{tree_of};
 ghost use Rattle.net_syntax.specs.Stream.{HoldsTypes};
-ghost use Rattle.net_syntax.specs.Limits.{IsWithinLimits};
+ghost use Rattle.net_syntax.specs.WithinLimits.{WithinLimits};
 
 use crate::net::Net;
 use leaf_expr::Expr;
@@ -32,17 +32,17 @@ impl Model for TypedNet {
 
     ghost use Rattle.sample_core.specs.SeenType.{type_of};
     ghost use Rattle.net_syntax.specs.Seen.{tree_of};
-    ghost use Rattle.net_syntax.specs.Limits.{IsWithinLimits};
+    ghost use Rattle.net_syntax.specs.WithinLimits.{WithinLimits};
 
     ghost view = { λ a. record { input = type_of a.input; output = type_of a.output; net = tree_of a.net; weight = a.weight; height = a.height } };
 
-    ghost invariant = { λ a. IsWithinLimits (record { input = type_of a.input; output = type_of a.output; net = tree_of a.net; weight = a.weight; height = a.height }) };
+    ghost invariant = { λ a. WithinLimits (record { input = type_of a.input; output = type_of a.output; net = tree_of a.net; weight = a.weight; height = a.height }) };
 }
 
 impl TypedNet {
     /// The network with its types, its weight and its height, which it must have, all within the limits.
     pub fn new(input: Ty, output: Ty, net: Net<Expr>, weight: u32, height: u32) -> TypedNet
-        requires { IsWithinLimits (record { input = type_of input; output = type_of output; net = tree_of net; weight = weight; height = height }) }
+        requires { WithinLimits (record { input = type_of input; output = type_of output; net = tree_of net; weight = weight; height = height }) }
         ensures { result ≡ record { input = type_of input; output = type_of output; net = tree_of net; weight = weight; height = height } }
     {
         TypedNet {
@@ -72,7 +72,7 @@ impl TypedNet {
     pub fn net(&self) -> &Net<Expr>
         ensures net { tree_of result.now ≡ self.now.net }
         ensures typed { HoldsTypes self.now }
-        ensures limits { IsWithinLimits self.now }
+        ensures limits { WithinLimits self.now }
     {
         &self.net
     }

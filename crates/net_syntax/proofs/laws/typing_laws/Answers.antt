@@ -1,4 +1,4 @@
-use Rattle.net_syntax.proofs.StreamLaws.{outputs-typed, alike-outputs, same-outputs}
+use Rattle.net_syntax.proofs.StreamLaws.{outputs-typed, alike-outputs, same-outputs, one-output-type, within-typed}
 use Rattle.net_syntax.proofs.laws.typing_laws.Goals as goal
 
 pub returns-clause-typed : goal.returns-clause-typed
@@ -9,3 +9,9 @@ returns-clause-alike c = alike-outputs
 
 pub returns-clause-same : goal.returns-clause-same
 returns-clause-same c = same-outputs
+
+pub returns-clause-one_type : goal.returns-clause-one_type
+returns-clause-one_type c = one-output-type
+
+pub returns-clause-within : goal.returns-clause-within
+returns-clause-within c = within-typed

@@ -1,4 +1,4 @@
-use Rattle.net_syntax.proofs.Limits.{holds_types}
+use Rattle.net_syntax.proofs.HoldsTypes.{holds_types}
 use Rattle.net_syntax.proofs.typed_net.TypedNet.net.Goals as goal
 
 pub returns-clause-typed : goal.returns-clause-typed

@@ -1,0 +1,23 @@
+use Rattle.net_syntax.proofs.SwitchedOutputs.{switch_outputs, switch_late_outputs, restart_outputs, freeze_outputs, freeze_members_outputs, resume_outputs, kept_numbers}
+use Rattle.net_syntax.proofs.laws.switching_laws.Goals as goal
+
+pub returns-clause-switch : goal.returns-clause-switch
+returns-clause-switch c = switch_outputs
+
+pub returns-clause-switch_late : goal.returns-clause-switch_late
+returns-clause-switch_late c = switch_late_outputs
+
+pub returns-clause-restart : goal.returns-clause-restart
+returns-clause-restart c = restart_outputs
+
+pub returns-clause-freeze : goal.returns-clause-freeze
+returns-clause-freeze c = freeze_outputs
+
+pub returns-clause-freeze_members : goal.returns-clause-freeze_members
+returns-clause-freeze_members c = freeze_members_outputs
+
+pub returns-clause-resume : goal.returns-clause-resume
+returns-clause-resume c = resume_outputs
+
+pub returns-clause-kept_numbers : goal.returns-clause-kept_numbers
+returns-clause-kept_numbers c = kept_numbers
