@@ -1,15 +1,17 @@
 -- The checking walk answers a type exactly where the expression has it and the limits hold.
-use Rattle.std.proofs.Common.{◌≡◌, ℕ, zero, suc, ◌≤◌, ℤ, Bool, true, false, ◌&&◌, leb, List, [], ◌∷◌, Ok, Err, refl, sym, ap, ◌∙◌, subst, Decides, FitsSigned, w64, le-leb, leb-true, ◌↔◌, ◌⊎◌, inl, inr}
+use Rattle.std.proofs.Common.{◌≡◌, IsTrue, ℕ, zero, suc, ◌≤◌, ℤ, Bool, true, false, ◌&&◌, leb, List, [], ◌∷◌, Ok, Err, refl, sym, ap, ◌∙◌, subst, Decides, FitsSigned, w64, le-leb, leb-true, ◌↔◌, ◌⊎◌, inl, inr}
 use Rattle.std.specs.Int.{int_wrap}
 use Rattle.std.specs.Ordering.{int_eq}
 use Rattle.std.proofs.lemmas.Int.{SFits-int_wrap, int_wrap_fits}
-use Rattle.std.proofs.lemmas.Bool.Decides.{Decides-and, Decides-like, Decides-int_eq}
+use Rattle.std.proofs.lemmas.Bool.Decides.{Decides-and, Decides-like, Decides-int_eq, same_from_decides}
 use Rattle.sample_core.specs.TypeTree.{TypeTree, unit_ty, bool_ty, int_ty, pair_ty, event_ty, list_ty}
 use Rattle.leaf_expr.specs.Expression.{Expression, Expressions, sample, parameter, unit_literal, truth_literal, number_literal, make_pair, fst, snd, then, neg, add, sub, mul, less, equal, negation, conjunction, disjunction, choice, none_of, make_event, on, make_list, nth, len, no_more, and_then}
 use Rattle.leaf_expr.specs.ExpressionTyping.{ParamAt, param_here, param_after, ExpressionTyped, ExpressionsTyped, sample_typed, parameter_typed, unit_typed, truth_typed, number_typed, pair_typed, fst_typed, snd_typed, then_typed, neg_typed, add_typed, sub_typed, mul_typed, less_typed, equal_typed, negation_typed, conjunction_typed, disjunction_typed, choice_typed, none_of_typed, event_typed, on_typed, list_typed, nth_typed, len_typed, no_more_typed, and_then_typed}
 use Rattle.leaf_expr.specs.TypeLimits.{depth_of, nodes_of, TypeFits, type_fits, same_tree}
 use Rattle.leaf_expr.specs.ExpressionLimits.{height_of, nodes_in, ExpressionFits, expression_fits, Within, AllWithin, Checked, FullyChecked}
-use Rattle.leaf_expr.specs.ExpressionCheck.{ExpressionFault, TypeAnswer, on_ok, tested, wanted, of_type, limited, first_of, second_of, carried_of, element_of, type_of_param, type_walk, elements_walk, type_answer, mismatch, too_deep}
+use Rattle.leaf_expr.specs.ExpressionCheck.{TypeAnswer, on_ok, tested, wanted, of_type, limited, first_of, second_of, carried_of, element_of, type_of_param, type_walk, elements_walk, type_answer}
+use Rattle.leaf_expr.specs.declared.typing.ExprFault.{ExprFault}
+use Rattle.leaf_expr.specs.declared.typing.ExprFault.TheVariants.{Mismatch, TooDeep}
 
 -- tests
 true_is_not_false : {P : Type 0} → true ≡ false → P
@@ -73,14 +75,14 @@ Decides-number n = Decides-like (int_eq (int_wrap w64 n) n) (λ e. subst (FitsSi
 on_ok-is : (r : TypeAnswer) (k : TypeTree → TypeAnswer) (t : TypeTree) {b : TypeAnswer} → r ≡ Ok t → k t ≡ b → on_ok r k ≡ b
 on_ok-is r k t e q = ap (λ v. on_ok v k) e ∙ q
 
-tested-is : (t : Bool) (f : ExpressionFault) (r : TypeAnswer) {b : TypeAnswer} → t ≡ true → r ≡ b → tested t f r ≡ b
+tested-is : (t : Bool) (f : ExprFault) (r : TypeAnswer) {b : TypeAnswer} → t ≡ true → r ≡ b → tested t f r ≡ b
 tested-is t f r e q = ap (λ v. tested v f r) e ∙ q
 
 limited-is : (t : TypeTree) → TypeFits t → limited t ≡ Ok t
-limited-is t h = tested-is (type_fits t) too_deep (Ok t) ((Decides-type_fits t).1 h) refl
+limited-is t h = tested-is (type_fits t) TooDeep (Ok t) ((Decides-type_fits t).1 h) refl
 
 wanted-is : (r : TypeAnswer) (t : TypeTree) → r ≡ Ok t → wanted r t ≡ Ok t
-wanted-is r t e = on_ok-is r (λ s. tested (same_tree s t) mismatch (Ok s)) t e (tested-is (same_tree t t) mismatch (Ok t) (same_tree-refl t) refl)
+wanted-is r t e = on_ok-is r (λ s. tested (same_tree s t) Mismatch (Ok s)) t e (tested-is (same_tree t t) Mismatch (Ok t) (same_tree-refl t) refl)
 
 of_type-is : (r : TypeAnswer) (t : TypeTree) (k : TypeAnswer) {b : TypeAnswer} → r ≡ Ok t → k ≡ b → of_type r t k ≡ b
 of_type-is r t k e q = on_ok-is (wanted r t) (λ s. k) t (wanted-is r t e) q
@@ -95,7 +97,7 @@ mutual
   walk-complete {B = B} (parameter_typed i) w = on_ok-is _ _ B (type_of_param-is i) (limited-is B w)
   walk-complete {B = B} unit_typed w = limited-is B w
   walk-complete {B = B} truth_typed w = limited-is B w
-  walk-complete {B = B} (number_typed {n = n} f) w = tested-is _ mismatch _ ((Decides-number n).1 f) (limited-is B w)
+  walk-complete {B = B} (number_typed {n = n} f) w = tested-is _ Mismatch _ ((Decides-number n).1 f) (limited-is B w)
   walk-complete {B = B} (pair_typed {B = C} {C = D} h k) w = on_ok-is _ _ C (walk-complete h w.0) (on_ok-is _ _ D (walk-complete k w.1) (limited-is B w.2))
   walk-complete {B = B} (fst_typed h) w = on_ok-is _ _ _ (walk-complete h w.0) (limited-is B w.1)
   walk-complete {B = B} (snd_typed h) w = on_ok-is _ _ _ (walk-complete h w.0) (limited-is B w.1)
@@ -136,7 +138,7 @@ on_ok-passed : (r : TypeAnswer) (k : TypeTree → TypeAnswer) (B : TypeTree) →
 on_ok-passed (Ok t) k B e = record { type = t; before = refl; rest = e }
 on_ok-passed (Err f) k B e = absurd (cc)
 
-tested-passed : (t : Bool) (f : ExpressionFault) (r : TypeAnswer) (B : TypeTree) → tested t f r ≡ Ok B → (t ≡ true) × (r ≡ Ok B)
+tested-passed : (t : Bool) (f : ExprFault) (r : TypeAnswer) (B : TypeTree) → tested t f r ≡ Ok B → (t ≡ true) × (r ≡ Ok B)
 tested-passed true f r B e = (refl, e)
 tested-passed false f r B e = absurd (cc)
 
@@ -146,13 +148,13 @@ type_or d (Err f) = d
 
 limited-passed : (t B : TypeTree) → limited t ≡ Ok B → TypeFits t × (t ≡ B)
 unfolding type_or
-limited-passed t B e = let h = tested-passed (type_fits t) too_deep (Ok t) B e in ((Decides-type_fits t).0 h.0, ap (type_or t) h.1)
+limited-passed t B e = let h = tested-passed (type_fits t) TooDeep (Ok t) B e in ((Decides-type_fits t).0 h.0, ap (type_or t) h.1)
 
 of_type-passed : (r : TypeAnswer) (t : TypeTree) (k : TypeAnswer) (B : TypeTree) → of_type r t k ≡ Ok B → (r ≡ Ok t) × (k ≡ Ok B)
 of_type-passed r t k B e =
     let g = on_ok-passed (wanted r t) (λ s. k) B e in
-    let h = on_ok-passed r (λ s. tested (same_tree s t) mismatch (Ok s)) g.type g.before in
-    let q = tested-passed (same_tree h.type t) mismatch (Ok h.type) g.type h.rest in
+    let h = on_ok-passed r (λ s. tested (same_tree s t) Mismatch (Ok s)) g.type g.before in
+    let q = tested-passed (same_tree h.type t) Mismatch (Ok h.type) g.type h.rest in
     (h.before ∙ ap Ok (same_tree-true h.type t q.0), g.rest)
 
 first_of-passed : (t B : TypeTree) → first_of t ≡ Ok B → (D : TypeTree) × (t ≡ pair_ty B D)
@@ -202,7 +204,7 @@ mutual
   walk-sound unit_literal Ps A B q = let l = limited-passed unit_ty B q in as_answered unit_literal Ps A unit_ty B l.1 (record { given = unit_typed; fits = l.0 })
   walk-sound (truth_literal b) Ps A B q = let l = limited-passed bool_ty B q in as_answered (truth_literal b) Ps A bool_ty B l.1 (record { given = truth_typed; fits = l.0 })
   walk-sound (number_literal n) Ps A B q =
-      let p = tested-passed (int_eq (int_wrap w64 n) n) mismatch (limited int_ty) B q in
+      let p = tested-passed (int_eq (int_wrap w64 n) n) Mismatch (limited int_ty) B q in
       let l = limited-passed int_ty B p.1 in
       as_answered (number_literal n) Ps A int_ty B l.1 (record { given = number_typed ((Decides-number n).0 p.0); fits = l.0 })
   walk-sound (make_pair a b) Ps A B q =
@@ -355,6 +357,10 @@ mutual
 
 pub type_answer-exact : (Ps : List TypeTree) (A : TypeTree) (e : Expression) (B : TypeTree) → (type_answer Ps A e ≡ Ok B) ↔ FullyChecked e Ps A B
 type_answer-exact Ps A e B = (
-  λ q. let p = tested-passed _ too_deep (type_walk Ps A e) B q in record { whole_fits = (Decides-expression_fits e).0 p.0; checked = walk-sound e Ps A B p.1 },
-  λ h. tested-is _ too_deep (type_walk Ps A e) ((Decides-expression_fits e).1 h.whole_fits) (walk-complete h.checked.given h.checked.fits),
+  λ q. let p = tested-passed _ TooDeep (type_walk Ps A e) B q in record { whole_fits = (Decides-expression_fits e).0 p.0; checked = walk-sound e Ps A B p.1 },
+  λ h. tested-is _ TooDeep (type_walk Ps A e) ((Decides-expression_fits e).1 h.whole_fits) (walk-complete h.checked.given h.checked.fits),
 )
+
+-- a test that is true exactly where two types are equal answers as `same_tree` does
+pub as_same_tree : (b : Bool) (A B : TypeTree) → IsTrue b ↔ (A ≡ B) → b ≡ same_tree A B
+as_same_tree b A B h = same_from_decides b (same_tree A B) h (Decides-same_tree A B)

@@ -6,15 +6,12 @@ use Rattle.sample_core.specs.TypeTree.{TypeTree, unit_ty, bool_ty, int_ty, pair_
 use Rattle.leaf_expr.specs.TypeLimits.{type_fits, same_tree}
 use Rattle.leaf_expr.specs.Expression.{Expression, Expressions, sample, parameter, unit_literal, truth_literal, number_literal, make_pair, fst, snd, then, neg, add, sub, mul, less, equal, negation, conjunction, disjunction, choice, none_of, make_event, on, make_list, nth, len, no_more, and_then}
 use Rattle.leaf_expr.specs.ExpressionLimits.{expression_fits}
+use Rattle.leaf_expr.specs.declared.typing.ExprFault.{ExprFault}
+use Rattle.leaf_expr.specs.declared.typing.ExprFault.TheVariants.{Mismatch, NoParam, TooDeep}
 
--- mismatch: a type is not as wanted; no_param: there is no such parameter; too_deep: a type or the expression is over its limits
-pub data ExpressionFault : Type 0 where
-  mismatch : ExpressionFault
-  no_param : ExpressionFault
-  too_deep : ExpressionFault
-
+-- a type, or the first fault: `Mismatch` where a type is not as wanted, `NoParam` where there is no such parameter, `TooDeep` where a type or the expression is over its limits
 abbrev pub TypeAnswer : Type 0
-TypeAnswer = Result TypeTree ExpressionFault
+TypeAnswer = Result TypeTree ExprFault
 
 -- the rest, where the answer so far is no fault
 abbrev pub on_ok : TypeAnswer → (TypeTree → TypeAnswer) → TypeAnswer
@@ -22,13 +19,13 @@ on_ok (Ok t) k = k t
 on_ok (Err f) k = Err f
 
 -- a test, its fault, and the rest
-abbrev pub tested : Bool → ExpressionFault → TypeAnswer → TypeAnswer
+abbrev pub tested : Bool → ExprFault → TypeAnswer → TypeAnswer
 tested true f r = r
 tested false f r = Err f
 
 -- a part's answer, where it is the type that is wanted of the part
 abbrev pub wanted : TypeAnswer → TypeTree → TypeAnswer
-wanted r t = on_ok r (λ s. tested (same_tree s t) mismatch (Ok s))
+wanted r t = on_ok r (λ s. tested (same_tree s t) Mismatch (Ok s))
 
 -- a part's answer, the type that is wanted of the part, and the rest
 abbrev pub of_type : TypeAnswer → TypeTree → TypeAnswer → TypeAnswer
@@ -36,31 +33,31 @@ of_type r t k = on_ok (wanted r t) (λ s. k)
 
 -- a type, where it is within the limits
 abbrev pub limited : TypeTree → TypeAnswer
-limited t = tested (type_fits t) too_deep (Ok t)
+limited t = tested (type_fits t) TooDeep (Ok t)
 
 -- the type of a pair's first part
 abbrev pub first_of : TypeTree → TypeAnswer
 first_of (pair_ty A B) = Ok A
-first_of _ = Err mismatch
+first_of _ = Err Mismatch
 
 -- the type of a pair's second part
 abbrev pub second_of : TypeTree → TypeAnswer
 second_of (pair_ty A B) = Ok B
-second_of _ = Err mismatch
+second_of _ = Err Mismatch
 
 -- the type of what an event carries
 abbrev pub carried_of : TypeTree → TypeAnswer
 carried_of (event_ty A) = Ok A
-carried_of _ = Err mismatch
+carried_of _ = Err Mismatch
 
 -- the type of a list's elements
 abbrev pub element_of : TypeTree → TypeAnswer
 element_of (list_ty A) = Ok A
-element_of _ = Err mismatch
+element_of _ = Err Mismatch
 
 -- the type of parameter k, from 0
 abbrev pub type_of_param : List TypeTree → ℕ → TypeAnswer
-type_of_param [] k = Err no_param
+type_of_param [] k = Err NoParam
 type_of_param (P ∷ Ps) zero = Ok P
 type_of_param (P ∷ Ps) (suc k) = type_of_param Ps k
 
@@ -71,7 +68,7 @@ abbrev mutual
   type_walk Ps A (parameter k) = on_ok (type_of_param Ps k) limited
   type_walk Ps A unit_literal = limited unit_ty
   type_walk Ps A (truth_literal b) = limited bool_ty
-  type_walk Ps A (number_literal n) = tested (int_eq (int_wrap w64 n) n) mismatch (limited int_ty)
+  type_walk Ps A (number_literal n) = tested (int_eq (int_wrap w64 n) n) Mismatch (limited int_ty)
   type_walk Ps A (make_pair a b) = on_ok (type_walk Ps A a) (λ B. on_ok (type_walk Ps A b) (λ C. limited (pair_ty B C)))
   type_walk Ps A (fst e) = on_ok (type_walk Ps A e) (λ P. on_ok (first_of P) limited)
   type_walk Ps A (snd e) = on_ok (type_walk Ps A e) (λ P. on_ok (second_of P) limited)
@@ -99,4 +96,4 @@ abbrev mutual
 
 -- the type of a whole expression, whose height and size are tested first
 abbrev pub type_answer : List TypeTree → TypeTree → Expression → TypeAnswer
-type_answer Ps A e = tested (expression_fits e) too_deep (type_walk Ps A e)
+type_answer Ps A e = tested (expression_fits e) TooDeep (type_walk Ps A e)

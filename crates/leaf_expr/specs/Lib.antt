@@ -8,3 +8,4 @@ pub mod TypeLimits
 pub mod ExpressionLimits
 pub mod ExpressionCheck
 pub mod TypingLaws
+pub mod Gives
