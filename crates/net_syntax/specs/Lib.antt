@@ -20,3 +20,5 @@ pub mod Alike
 pub mod Laws
 pub mod SwitchLaws
 pub mod Examples
+pub mod WithinLimits
+pub mod Position

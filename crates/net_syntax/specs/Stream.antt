@@ -1,5 +1,5 @@
 -- Networks of expressions: what they put out, and when they are typed.
-use Rattle.std.specs.Prelude.{List, []}
+use Rattle.std.specs.Prelude.{ℕ, List, []}
 use Rattle.sample_core.specs.Datum.{Datum}
 use Rattle.sample_core.specs.TypeTree.{TypeTree}
 use Rattle.leaf_expr.specs.Expression.{Expression}
@@ -22,11 +22,13 @@ stream_of net xs = outputs_of net closed xs
 abbrev pub NetTyped : List TypeTree → List Arrow → Network Expression → TypeTree → TypeTree → Type 0
 NetTyped = Typed ExpressionTyped
 
--- a network with its types
+-- a network with its types, its weight and its height
 pub record TypedNetwork : Type 0 where
   pub input : TypeTree
   pub output : TypeTree
   pub net : Network Expression
+  pub weight : ℕ
+  pub height : ℕ
 
 -- the network has its types, with nothing in scope
 abbrev pub HoldsTypes : TypedNetwork → Type 0

@@ -1,6 +1,6 @@
 -- The code of a network with its types, by which the check tells such networks apart.
-use Rattle.std.specs.Prelude.{refl}
-use Rattle.std.specs.Coded.{Coded, code_by, coded×}
+use Rattle.std.specs.Prelude.{ℕ, refl}
+use Rattle.std.specs.Coded.{Coded, code_by, coded×, coded_ℕ}
 use Rattle.sample_core.specs.TypeTree.{TypeTree}
 use Rattle.sample_core.specs.TypeCode.{type_code}
 use Rattle.leaf_expr.specs.Expression.{Expression}
@@ -10,5 +10,7 @@ use Rattle.net_syntax.specs.NetworkCode.{network_code}
 use Rattle.net_syntax.specs.Stream.{TypedNetwork}
 
 abbrev pub typed_network_code : Coded TypedNetwork
-typed_network_code = code_by (TypeTree × (TypeTree × Network Expression)) (coded× type_code (coded× type_code (network_code expression_code)))
-    (λ t. (t.input, (t.output, t.net))) (λ p. record { input = p.0; output = p.1.0; net = p.1.1 }) (λ _. refl)
+typed_network_code =
+    code_by (TypeTree × (TypeTree × (Network Expression × (ℕ × ℕ)))) (coded× type_code (coded× type_code (coded× (network_code expression_code) (coded× coded_ℕ coded_ℕ))))
+    (λ t. (t.input, (t.output, (t.net, (t.weight, t.height)))))
+    (λ p. record { input = p.0; output = p.1.0; net = p.1.1.0; weight = p.1.1.1.0; height = p.1.1.1.1 }) (λ _. refl)

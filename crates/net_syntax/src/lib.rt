@@ -2,11 +2,15 @@
 #![tactic(auto)]
 
 mod laws;
+mod measure;
 mod net;
+mod position;
 mod typed_net;
 
 pub use laws::{output_examples, stream_laws, switching_laws, typing_laws, weight_examples};
+pub use measure::{MOST_HEIGHT, MOST_WEIGHT, height, weight};
 pub use net::{Net, Sub};
+pub use position::{Position, print_position, push_position};
 pub use typed_net::TypedNet;
 
 #[cfg(test)]

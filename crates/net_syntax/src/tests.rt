@@ -1,9 +1,10 @@
 // Each call once, with ample memory.
 
+use crate::measure::{height, weight};
 use crate::net::{Net, Sub};
-use crate::typed_net::TypedNet;
+use crate::position::{Position, print_position};
 use leaf_expr::{Expr, Literal, Part};
-use sample_core::{Memory, Ty};
+use sample_core::Memory;
 use std::alloc::Global;
 
 // `(>>> (arr (add x 1)) (iPre 0))`
@@ -27,10 +28,47 @@ fn a_network_is_built_and_shared(rt: HostRuntime) {
     assert!(rt; copied.is_ok());
 }
 
+// `(>>> (arr x) (>>> (arr x) ..))` with so many `(arr x)`
+fn in_a_row(alloc: Global, count: u32) -> Result<Net<Expr>, Memory> {
+    let mut net = Net::Arr(Expr::Input);
+    for _ in 1..count {
+        let first = Sub::new(alloc, Net::Arr(Expr::Input))?;
+        net = Net::Seq(first, Sub::new(alloc, net)?);
+    }
+    Ok(net)
+}
+
+fn measured(alloc: Global, net: &Net<Expr>) -> Result<(u32, u32), Memory> {
+    Ok((weight(alloc, net)?, height(alloc, net)?))
+}
+
 #[test]
-fn a_typed_network_gives_its_parts(rt: HostRuntime) {
-    let typed = TypedNet::new(Ty::Int, Ty::Int, Net::Arr(Expr::Input));
-    assert!(rt; matches!(typed.input(), Ty::Int));
-    assert!(rt; matches!(typed.output(), Ty::Int));
-    assert!(rt; matches!(typed.net(), Net::Arr(_)));
+fn weight_and_height_are_counted(rt: HostRuntime) {
+    let net = add_then_delay(rt.alloc()).expect(&rt, "ample memory");
+    assert!(rt; measured(rt.alloc(), &net) == Ok((3, 2)));
+    for (count, wanted) in [
+        (1, (1, 1)),
+        (256, (511, 256)),
+        (257, (513, 257)),
+        (400, (799, 257)),
+    ] {
+        let net = in_a_row(rt.alloc(), count).expect(&rt, "ample memory");
+        assert!(rt; measured(rt.alloc(), &net) == Ok(wanted));
+    }
+}
+
+fn position_of(alloc: Global, children: &[u32]) -> Result<Position, Memory> {
+    Ok(Position::new(children.to_vec(alloc)?))
+}
+
+#[test]
+fn positions_are_printed(rt: HostRuntime) {
+    let root = position_of(rt.alloc(), &[]).expect(&rt, "ample memory");
+    let deep = position_of(rt.alloc(), &[0, 1, 10, 4294967295]).expect(&rt, "ample memory");
+    let root_text = print_position(rt.alloc(), &root).expect(&rt, "ample memory");
+    let deep_text = print_position(rt.alloc(), &deep).expect(&rt, "ample memory");
+    assert_eq!(rt; root_text.as_str(), "(at)");
+    assert_eq!(rt; deep_text.as_str(), "(at 0 1 10 4294967295)");
+    assert_eq!(rt; deep.path(), [0, 1, 10, 4294967295].as_slice());
+    assert!(rt; root != deep);
 }

@@ -1,21 +1,25 @@
-// Networks with their types.
+// Networks with their types, weight and height.
 
 ghost use Rattle.std.specs.Prelude.{◌≡◌};
 ghost use Rattle.sample_core.specs.SeenType.{type_of};
 ghost use Rattle.net_syntax.specs.Seen.{tree_of};
 ghost use Rattle.net_syntax.specs.Stream.{HoldsTypes};
+ghost use Rattle.net_syntax.specs.WithinLimits.{WithinLimits};
 
 use crate::net::Net;
 use leaf_expr::Expr;
 use sample_core::Ty;
 use std::marker::Model;
 
-/// A network that has an input type and an output type, with no parameters and no frozen networks in scope.
+/// A network within the limits that has an input type and an output type, with no parameters and no frozen networks
+/// in scope. It keeps its weight and its height too.
 #[derive(Drop)]
 pub struct TypedNet {
     input: Ty,
     output: Ty,
     net: Net<Expr>,
+    weight: u32,
+    height: u32,
 }
 
 impl Model for TypedNet {
@@ -28,22 +32,26 @@ impl Model for TypedNet {
 
     ghost use Rattle.sample_core.specs.SeenType.{type_of};
     ghost use Rattle.net_syntax.specs.Seen.{tree_of};
-    ghost use Rattle.net_syntax.specs.Stream.{HoldsTypes};
+    ghost use Rattle.net_syntax.specs.WithinLimits.{WithinLimits};
 
-    ghost view = { λ a. record { input = type_of a.input; output = type_of a.output; net = tree_of a.net } };
+    ghost view = { λ a. record { input = type_of a.input; output = type_of a.output; net = tree_of a.net; weight = a.weight; height = a.height } };
 
-    ghost invariant = { λ a. HoldsTypes (record { input = type_of a.input; output = type_of a.output; net = tree_of a.net }) };
+    ghost invariant = { λ a. WithinLimits (record { input = type_of a.input; output = type_of a.output; net = tree_of a.net; weight = a.weight; height = a.height }) };
 }
 
 impl TypedNet {
-    /// The network with its types, which it must have.
-    pub fn new(input: Ty, output: Ty, net: Net<Expr>) -> TypedNet
-        requires { HoldsTypes (record { input = type_of input; output = type_of output; net = tree_of net }) }
-        ensures input { result.input ≡ type_of input }
-        ensures output { result.output ≡ type_of output }
-        ensures net { result.net ≡ tree_of net }
+    /// The network with its types, its weight and its height, which it must have, all within the limits.
+    pub fn new(input: Ty, output: Ty, net: Net<Expr>, weight: u32, height: u32) -> TypedNet
+        requires { WithinLimits (record { input = type_of input; output = type_of output; net = tree_of net; weight = weight; height = height }) }
+        ensures { result ≡ record { input = type_of input; output = type_of output; net = tree_of net; weight = weight; height = height } }
     {
-        TypedNet { input, output, net }
+        TypedNet {
+            input,
+            output,
+            net,
+            weight,
+            height,
+        }
     }
 
     /// The type of what the network gets.
@@ -60,11 +68,26 @@ impl TypedNet {
         &self.output
     }
 
-    /// The network, which has the types.
+    /// The network, which has the types, the weight and the height.
     pub fn net(&self) -> &Net<Expr>
         ensures net { tree_of result.now ≡ self.now.net }
         ensures typed { HoldsTypes self.now }
+        ensures limits { WithinLimits self.now }
     {
         &self.net
+    }
+
+    /// How many nodes the network has, where each resumed network counts as its own.
+    pub fn weight(&self) -> u32
+        ensures { result ≡ self.now.weight }
+    {
+        self.weight
+    }
+
+    /// How many nodes stand in one another, at most.
+    pub fn height(&self) -> u32
+        ensures { result ≡ self.now.height }
+    {
+        self.height
     }
 }

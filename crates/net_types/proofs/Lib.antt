@@ -1,0 +1,4 @@
+pub mod Tests
+pub mod WalkSound
+pub mod WalkComplete
+pub mod Checks

@@ -1,0 +1,11 @@
+use Rattle.std.proofs.Common.{arith}
+use Rattle.std.proofs.lemmas.Grind.{common_steps}
+use Rattle.sample_core.specs.SeenType.{type_of}
+use Rattle.net_syntax.specs.Seen.{tree_of}
+use Rattle.net_types.proofs.Checks.{within_limits}
+use Rattle.net_types.proofs.check.check_types.Goals as goal
+
+pub new-requires : goal.new-requires
+new-requires c =
+    within_limits (type_of c.args.input) (type_of c.in_ok-output.output) (tree_of c.args.net) c.in_ok-weight.weight c.in_ok-height.height
+    (grind arith) (rw (← c.new-path.ensures.items) c.in_ok-output.ensures.answer) c.in_ok-weight.ensures c.in_ok-height.ensures (omega arith) (omega arith)

@@ -1,0 +1,8 @@
+use Rattle.net_types.proofs.Checks.{walk_exact, check_exact}
+use Rattle.net_types.proofs.laws.typing_laws.Goals as goal
+
+pub returns-clause-walk : goal.returns-clause-walk
+returns-clause-walk c = walk_exact
+
+pub returns-clause-check : goal.returns-clause-check
+returns-clause-check c = check_exact

@@ -1,0 +1,30 @@
+-- The check of a whole network.
+use Rattle.std.specs.Prelude.{◌≡◌, ◌≢◌, ℕ, leb, List, [], Result, Ok, Err, MatchResult}
+use Rattle.sample_core.specs.TypeTree.{TypeTree}
+use Rattle.leaf_expr.specs.Expression.{Expression}
+use Rattle.leaf_expr.specs.ExpressionCheck.{type_answer}
+use Rattle.net_syntax.specs.Network.{Network}
+use Rattle.net_syntax.specs.Weight.{weight}
+use Rattle.net_syntax.specs.Height.{height}
+use Rattle.net_syntax.specs.Typing.{Arrow}
+use Rattle.net_syntax.specs.Stream.{TypedNetwork}
+use Rattle.net_types.specs.declared.fault.TypeFault.{TypeFault}
+use Rattle.net_types.specs.declared.fault.TypeFault.TheVariants as Fault
+use Rattle.net_types.specs.Walk.{LeafChecker, ◌>>=◌, ◌>>◌, test, within, walk}
+
+-- the output of the network of expressions at P, or the first fault in it
+abbrev pub net_walk : List ℕ → List TypeTree → List Arrow → TypeTree → Network Expression → Result TypeTree TypeFault
+net_walk P Ps Os A net = walk (λ e Qs B. type_answer Qs B e) P Ps Os A net
+
+-- a whole network with nothing in scope: the input's type first, then the walk, then the height, last the weight
+abbrev pub check : TypeTree → Network Expression → Result TypedNetwork TypeFault
+check A net = do
+  within A
+  B ← net_walk [] [] [] A net
+  test (leb (height net []) 256) Fault.TooDeep
+  test (leb (weight net []) 1000000) Fault.TooHeavy
+  Ok (record { input = A; output = B; net = net; weight = weight net []; height = height net [] })
+
+-- the call's result, seen by view, is the answer; only `Memory`, where a growth was refused, says nothing of it
+abbrev pub Gives : {X Y : Type 0} → (X → Y) → Result X TypeFault → Result Y TypeFault → Type 0
+Gives view result answer = MatchResult result (λ x. answer ≡ Ok (view x)) (λ f. f ≢ Fault.Memory → answer ≡ Err f)

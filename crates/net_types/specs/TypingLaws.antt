@@ -1,0 +1,18 @@
+-- What is to hold of the walk and of the check.
+use Rattle.std.specs.Prelude.{◌≡◌, ◌↔◌, ℕ, List, Ok}
+use Rattle.sample_core.specs.TypeTree.{TypeTree}
+use Rattle.leaf_expr.specs.Expression.{Expression}
+use Rattle.net_syntax.specs.Network.{Network}
+use Rattle.net_syntax.specs.Typing.{Arrow}
+use Rattle.net_syntax.specs.Stream.{TypedNetwork}
+use Rattle.net_syntax.specs.NetworkLimits.{NetTypedWithin}
+use Rattle.net_syntax.specs.WithinLimits.{WithinLimits}
+use Rattle.net_types.specs.Check.{net_walk, check}
+
+-- the walk answers an output type exactly where the network has it within the limits
+abbrev pub WalkLaw : Type 0
+WalkLaw = (P : List ℕ) (Ps : List TypeTree) (Os : List Arrow) (A : TypeTree) (net : Network Expression) (B : TypeTree) → (net_walk P Ps Os A net ≡ Ok B) ↔ NetTypedWithin Ps Os net A B
+
+-- the check answers a network exactly where its input and its tree are those that were given, and it has its types, weight and height within the limits
+abbrev pub CheckLaw : Type 0
+CheckLaw = (A : TypeTree) (net : Network Expression) (t : TypedNetwork) → (check A net ≡ Ok t) ↔ ((t.input ≡ A) × (t.net ≡ net) × WithinLimits t)

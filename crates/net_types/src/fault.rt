@@ -1,0 +1,89 @@
+// Why a network is refused.
+
+ghost use Rattle.std.specs.Prelude.{◌≡◌};
+
+use leaf_expr::ExprFault;
+use net_syntax::Position;
+use sample_core::Memory;
+use std::alloc::{AllocError, AllocFailed};
+use thiserror::Error;
+
+/// Why a network has no types within the limits. A position is that of the node or the expression which is refused.
+#[derive(Debug, Drop, PartialEq, Eq, Error)]
+pub enum TypeFault {
+    /// The expression is refused.
+    #[error("an expression is refused: {fault}")]
+    Expr {
+        position: Position,
+        fault: ExprFault,
+    },
+    /// A type differs from the one that is wanted.
+    #[error("types differ")]
+    Joint {
+        position: Position,
+    },
+    /// No frozen network has that level.
+    #[error("no frozen network has that level")]
+    NoOld {
+        position: Position,
+    },
+    /// An event type is wanted.
+    #[error("an event type is wanted")]
+    NotEvent {
+        position: Position,
+    },
+    /// A pair type is wanted.
+    #[error("a pair type is wanted")]
+    NotPair {
+        position: Position,
+    },
+    /// There are no members, or more than 64.
+    #[error("no members, or more than 64")]
+    Members {
+        position: Position,
+    },
+    /// A number is outside the range of its place.
+    #[error("a number is out of range")]
+    Number {
+        position: Position,
+    },
+    /// The input type, a type that a node makes, or the network's height is over its limit.
+    #[error("too deep")]
+    TooDeep,
+    /// The network's weight is over its limit.
+    #[error("too heavy")]
+    TooHeavy,
+    /// A growth was refused.
+    #[error("out of memory")]
+    Memory,
+}
+
+impl From<Memory> for TypeFault {
+    ghost use Rattle.net_types.specs.declared.fault.TypeFault.TheVariants as Fault;
+
+    ghost from_gives = { λ _ e. e ≡ Fault.Memory };
+
+    fn from(_: Memory) -> TypeFault {
+        TypeFault::Memory
+    }
+}
+
+impl From<AllocError> for TypeFault {
+    ghost use Rattle.net_types.specs.declared.fault.TypeFault.TheVariants as Fault;
+
+    ghost from_gives = { λ _ e. e ≡ Fault.Memory };
+
+    fn from(_: AllocError) -> TypeFault {
+        TypeFault::Memory
+    }
+}
+
+impl<T: Drop> From<AllocFailed<T>> for TypeFault {
+    ghost use Rattle.net_types.specs.declared.fault.TypeFault.TheVariants as Fault;
+
+    ghost from_gives = { λ _ e. e ≡ Fault.Memory };
+
+    fn from(_failed: AllocFailed<T>) -> TypeFault {
+        TypeFault::Memory
+    }
+}

@@ -1,0 +1,10 @@
+// Laws of the walk and of the check: each function is a law, and does nothing.
+
+ghost use Rattle.net_types.specs.TypingLaws.{WalkLaw, CheckLaw};
+
+/// The walk answers a type exactly where the network has it within the limits, and the check exactly what is within
+/// all limits.
+pub fn typing_laws()
+    ensures walk { WalkLaw }
+    ensures check { CheckLaw }
+{}
