@@ -40,6 +40,7 @@ pub fn outcome(alloc: Global, net: &TypedNet, stream: &[u8]) -> Result<String, F
 }
 
 /// One file, called `net`.
+#[derive(Drop)]
 pub struct OneFile<'a> {
     pub bytes: &'a [u8],
 }

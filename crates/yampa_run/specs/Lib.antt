@@ -6,3 +6,4 @@ pub mod Kept
 pub mod StreamText
 pub mod Output
 pub mod Course
+pub mod Files

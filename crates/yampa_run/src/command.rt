@@ -1,6 +1,5 @@
 // The command line.
 
-use crate::prepare::Refusal;
 use clap::error::ErrorKind;
 use clap::{Arg, ArgAction, ArgMatches, Command};
 use sample_core::Memory;
@@ -43,7 +42,7 @@ fn make_command<'a>(alloc: Global) -> Result<Command<'a>, AllocError> {
         .subcommand(run)
 }
 
-fn request<'a>(name: &str, matches: &ArgMatches<'a>) -> Option<Request<'a>> {
+fn read_request<'a>(name: &str, matches: &ArgMatches<'a>) -> Option<Request<'a>> {
     let net = matches.get_str("NET")?;
     match name {
         "types" => Some(Request::Types { net }),
@@ -56,7 +55,7 @@ fn request<'a>(name: &str, matches: &ArgMatches<'a>) -> Option<Request<'a>> {
 pub fn parse<'a>(alloc: Global, words: &'a [&'a str]) -> Result<Request<'a>, Reply> {
     match make_command(alloc)?.try_get_matches_from(words) {
         Ok(matches) => match matches.subcommand() {
-            Some((name, inner)) => match request(name, inner) {
+            Some((name, inner)) => match read_request(name, inner) {
                 Some(request) => Ok(request),
                 None => Err(Reply::Wrong(String::from_str(alloc, "no such command")?)),
             },
