@@ -16,3 +16,5 @@ pub mod Text
 pub mod TextRows
 pub mod NumberLaws
 pub mod Lexeme
+pub mod Form
+pub mod ReadText

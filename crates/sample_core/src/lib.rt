@@ -4,7 +4,7 @@
 mod equal;
 mod fault;
 mod memory;
-mod number;
+pub mod number;
 mod print;
 mod read;
 mod sample;
