@@ -21,3 +21,5 @@ pub mod TextRows
 pub mod NumberLaws
 pub mod Lexeme
 pub mod Gives
+pub mod Form
+pub mod ReadText
