@@ -16,3 +16,8 @@ pub mod PrintedMeans
 pub mod TextLaws
 pub mod TextRows
 pub mod TokenSteps
+pub mod Forms
+pub mod ReadSteps
+pub mod WordSteps
+pub mod ItemSteps
+pub mod IndexSteps

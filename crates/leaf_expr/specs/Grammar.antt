@@ -1,5 +1,5 @@
 -- The grammar of types and expressions: a table of words, and a table of forms.
-use Rattle.std.specs.Prelude.{ℕ, true, false, Bool, List, [], ◌∷◌, Option, Some, None, bytes_eq, codes, if◌then◌else◌}
+use Rattle.std.specs.Prelude.{ℕ, true, false, Bool, List, [], ◌∷◌, ◌++◌, Option, Some, None, bytes_eq, codes, if◌then◌else◌}
 use Rattle.sample_core.specs.TypeTree.{TypeTree, unit_ty, bool_ty, int_ty, pair_ty, event_ty, list_ty}
 use Rattle.leaf_expr.specs.NumberPlace.{Reading, reads, unfit, integer_at, natural_at, map_reading}
 use Rattle.leaf_expr.specs.Expression.{Expression, sample, parameter, unit_literal, truth_literal, number_literal, make_pair, fst, snd, then, neg, add, sub, mul, less, equal, negation, conjunction, disjunction, choice, none_of, make_event, on, make_list, nth, len, expressions_of}
@@ -37,40 +37,60 @@ words index_sort = []
 abbrev pub row : {R : Type 0} → (w : List ℕ) → (ps : Places Sort) → Maker Tree ps R → Row Sort Tree R
 row w ps make = record { name = w; takes = ps; makes = make }
 
--- forms: the word, the parts, and the tree that they make; the sugar last
-unfoldable pub rows : (s : Sort) → List (Row Sort Tree (Tree s))
-rows type_sort =
-    row (codes "Pair") (t (t no_place)) pair_ty
-    ∷ row (codes "Event") (t no_place) event_ty
-    ∷ row (codes "List") (t no_place) list_ty
-    ∷ []
-rows expression_sort =
+-- the forms of types
+abbrev pub type_rows : List (Row Sort Tree TypeTree)
+type_rows = row (codes "Pair") (t (t no_place)) pair_ty ∷ row (codes "Event") (t no_place) event_ty ∷ row (codes "List") (t no_place) list_ty ∷ []
+
+-- a parameter, no event of a type, and a list of elements of a type
+abbrev pub other_rows : List (Row Sort Tree Expression)
+other_rows =
     row (codes "p") (k no_place) parameter
-    ∷ row (codes "pair") (e (e no_place)) make_pair
-    ∷ row (codes "fst") (e no_place) fst
+    ∷ row (codes "none") (t no_place) none_of
+    ∷ row (codes "list") (t (places expression_sort)) (λ T es. make_list T (expressions_of es))
+    ∷ []
+
+-- the forms of one expression
+abbrev pub unary_rows : List (Row Sort Tree Expression)
+unary_rows =
+    row (codes "fst") (e no_place) fst
     ∷ row (codes "snd") (e no_place) snd
-    ∷ row (codes "then") (e (e no_place)) (then)
     ∷ row (codes "neg") (e no_place) neg
+    ∷ row (codes "not") (e no_place) negation
+    ∷ row (codes "event") (e no_place) make_event
+    ∷ row (codes "len") (e no_place) len
+    ∷ []
+
+-- the forms of two expressions, the sugar last
+abbrev pub binary_rows : List (Row Sort Tree Expression)
+binary_rows =
+    row (codes "pair") (e (e no_place)) make_pair
+    ∷ row (codes "then") (e (e no_place)) (then)
     ∷ row (codes "add") (e (e no_place)) add
     ∷ row (codes "sub") (e (e no_place)) sub
     ∷ row (codes "mul") (e (e no_place)) mul
     ∷ row (codes "less") (e (e no_place)) less
     ∷ row (codes "equal") (e (e no_place)) equal
-    ∷ row (codes "not") (e no_place) negation
     ∷ row (codes "and") (e (e no_place)) conjunction
     ∷ row (codes "or") (e (e no_place)) disjunction
-    ∷ row (codes "if") (e (e (e no_place))) choice
-    ∷ row (codes "none") (t no_place) none_of
-    ∷ row (codes "event") (e no_place) make_event
-    ∷ row (codes "on") (e (e (e no_place))) on
-    ∷ row (codes "list") (t (places expression_sort)) (λ T es. make_list T (expressions_of es))
-    ∷ row (codes "nth") (e (e (e no_place))) nth
-    ∷ row (codes "len") (e no_place) len
     ∷ row (codes "lMerge") (e (e no_place)) (λ a b. on a b (make_event (snd sample)))
-    ∷ row (codes "gate") (t (e (e no_place))) (λ T a b. choice b a (none_of T))
+    ∷ []
+
+-- the forms of three expressions
+abbrev pub ternary_rows : List (Row Sort Tree Expression)
+ternary_rows = row (codes "if") (e (e (e no_place))) choice ∷ row (codes "on") (e (e (e no_place))) on ∷ row (codes "nth") (e (e (e no_place))) nth ∷ []
+
+-- the sugar of a type and two expressions
+abbrev pub typed_rows : List (Row Sort Tree Expression)
+typed_rows =
+    row (codes "gate") (t (e (e no_place))) (λ T a b. choice b a (none_of T))
     ∷ row (codes "tag") (t (e (e no_place))) (λ T a c. on a (none_of T) (make_event ((then) (fst sample) c)))
     ∷ row (codes "attach") (t (e (e no_place))) (λ T a c. on a (none_of T) (make_event (make_pair (snd sample) ((then) (fst sample) c))))
     ∷ []
+
+-- forms: the word, the parts, and the tree that they make
+unfoldable pub rows : (s : Sort) → List (Row Sort Tree (Tree s))
+rows type_sort = type_rows
+rows expression_sort = other_rows ++ unary_rows ++ binary_rows ++ ternary_rows ++ typed_rows
 rows index_sort = []
 
 -- what a word is that no table has: an expression may be a number of 64 bits, a parameter's number is at most 65,535

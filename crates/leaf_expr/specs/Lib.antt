@@ -20,3 +20,5 @@ pub mod Text
 pub mod TextRows
 pub mod NumberLaws
 pub mod Lexeme
+pub mod Form
+pub mod ReadText

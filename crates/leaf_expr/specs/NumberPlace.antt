@@ -1,5 +1,5 @@
 -- What a word is where a number may stand.
-use Rattle.std.specs.Prelude.{ℕ, Bool, ◌&&◌, not, nat_le, List, ℤ, if◌then◌else◌}
+use Rattle.std.specs.Prelude.{ℕ, Bool, ◌&&◌, not, nat_le, List, ℤ, pos, negsuc, Option, Some, None, if◌then◌else◌}
 use Rattle.sample_core.specs.Number.{is_minus, is_number_word, is_well_spelt, magnitude, number_of, is_in_64}
 
 -- What a word is at a place: a tree, a number word that is badly spelt or out of range, or neither.
@@ -25,3 +25,8 @@ abbrev pub map_reading : {A B : Type 0} → (A → B) → Reading A → Reading 
 map_reading f (reads x) = reads (f x)
 map_reading f misspelt = misspelt
 map_reading f unfit = unfit
+
+-- a number as that of a parameter: from 0 to 65,535
+abbrev pub index : ℤ → Option ℕ
+index (pos k) = if nat_le k 65535 then Some k else None
+index (negsuc k) = None

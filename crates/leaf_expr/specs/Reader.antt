@@ -37,10 +37,20 @@ word_read n w ts unfit = Err (syntax n)
 -- in a language, and a text of so many bytes
 module _ (L : Language) (size : ℕ) where
   -- the end of a form
+  abbrev pub read_end : ℕ → List Placed → Result (ℕ × List Placed) Fault
+  read_end room [] = Err (syntax size)
+  read_end room ((n, closing) ∷ ts) = Ok (suc n, ts)
+  read_end room (y ∷ ts) = Err (unfit_token room y)
+
+  -- the end of a form that is x
   abbrev pub close : {T : Type 0} → ℕ → T → List Placed → Read T
-  close room x [] = Err (syntax size)
-  close room x ((n, closing) ∷ ts) = Ok (x, suc n, ts)
-  close room x (y ∷ ts) = Err (unfit_token room y)
+  close room x ts = read_end room ts >>= (λ y. Ok (x, y.0, y.1))
+
+  -- the word of a form, and its place
+  abbrev pub read_head : ℕ → List Placed → Result (ℕ × List ℕ × List Placed) Fault
+  read_head room [] = Err (syntax size)
+  read_head room ((n, word w) ∷ ts) = Ok (n, w, ts)
+  read_head room (x ∷ ts) = Err (unfit_token room x)
 
   -- parts up to the end of the form, each by the reader given; it has no more of them than the count
   abbrev pub read_all : {T R : Type 0} → (List Placed → Read T) → ℕ → (List T → R) → List Placed → Read R
@@ -61,9 +71,7 @@ module _ (L : Language) (size : ℕ) where
 
   -- behind the parenthesis of a form
   abbrev pub read_form : ((q : L.Sort) → List Placed → Read (L.Tree q)) → ℕ → (s : L.Sort) → List Placed → Read (L.Tree s)
-  read_form reader room s [] = Err (syntax size)
-  read_form reader room s ((n, word w) ∷ ts) = read_row reader room n (L.row_at s w) ts
-  read_form reader room s (x ∷ ts) = Err (unfit_token room x)
+  read_form reader room s ts = read_head room ts >>= (λ h. read_row reader room h.0 (L.row_at s h.1) h.2)
 
   -- a tree of the sort, with room for so many more parentheses
   abbrev pub read : ℕ → (s : L.Sort) → List Placed → Read (L.Tree s)

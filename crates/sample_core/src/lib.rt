@@ -5,7 +5,7 @@ mod equal;
 mod fault;
 mod laws;
 mod memory;
-mod number;
+pub mod number;
 mod print;
 mod read;
 mod sample;

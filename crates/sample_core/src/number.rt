@@ -1,7 +1,7 @@
 // Numbers in their one spelling.
 
 ghost use Rattle.std.specs.Prelude.{◌≡◌, IsTrue, Some, None, if◌then◌else◌};
-ghost use Rattle.sample_core.specs.Number.{digits_part, is_number, is_in_64, number_of};
+ghost use Rattle.sample_core.specs.Number.{digits_part, is_number, is_number_word as number_word, is_in_64, number_of};
 ghost use Rattle.std.specs.Str.{all_ascii_digits};
 
 /// Whether the bytes are digits.
@@ -26,8 +26,16 @@ fn without_minus(word: &[u8]) -> &[u8]
     }
 }
 
+/// Whether the word is an optional `-` and digits, at least one.
+pub fn is_number_word(word: &[u8]) -> bool
+    ensures { result ≡ number_word word.now }
+{
+    let digits = without_minus(word);
+    !digits.is_empty() && are_digits(digits)
+}
+
 /// Whether the word is a number: `0`, or an optional `-`, a digit 1 to 9 and further digits.
-pub(crate) fn is_number_spelling(word: &[u8]) -> bool
+pub fn is_number_spelling(word: &[u8]) -> bool
     ensures { result ≡ is_number word.now }
 {
     let digits = without_minus(word);
@@ -38,7 +46,7 @@ pub(crate) fn is_number_spelling(word: &[u8]) -> bool
 }
 
 /// The number that the word spells, where it has 64 bits.
-pub(crate) fn number(word: &[u8]) -> Option<i64>
+pub fn number(word: &[u8]) -> Option<i64>
     requires { IsTrue (is_number word.now) }
     ensures { result ≡ (if is_in_64 word.now then Some (number_of word.now) else None) }
 {

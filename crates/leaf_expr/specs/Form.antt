@@ -1,0 +1,108 @@
+-- The code's forms as rows of the grammar.
+use Rattle.std.specs.Prelude.{ℕ, List, codes}
+use Rattle.sample_core.specs.TypeTree.{TypeTree, pair_ty, event_ty, list_ty}
+use Rattle.leaf_expr.specs.Expression.{Expression, sample, parameter, make_pair, fst, snd, then, neg, add, sub, mul, less, equal, negation, conjunction, disjunction, choice, none_of, make_event, on, make_list, nth, len, expressions_of}
+use Rattle.leaf_expr.specs.Language.{Row, no_place, places}
+use Rattle.leaf_expr.specs.Grammar.{Sort, Tree, expression_sort, row, t, e, k}
+use Rattle.leaf_expr.specs.declared.form.TypeForm.{TypeForm}
+use Rattle.leaf_expr.specs.declared.form.TypeForm.TheVariants as T
+use Rattle.leaf_expr.specs.declared.form.Unary.{Unary}
+use Rattle.leaf_expr.specs.declared.form.Unary.TheVariants as U
+use Rattle.leaf_expr.specs.declared.form.Binary.{Binary}
+use Rattle.leaf_expr.specs.declared.form.Binary.TheVariants as B
+use Rattle.leaf_expr.specs.declared.form.Ternary.{Ternary}
+use Rattle.leaf_expr.specs.declared.form.Ternary.TheVariants as R
+use Rattle.leaf_expr.specs.declared.form.Typed.{Typed}
+use Rattle.leaf_expr.specs.declared.form.Typed.TheVariants as Y
+use Rattle.leaf_expr.specs.declared.form.Form.{Form}
+use Rattle.leaf_expr.specs.declared.form.Form.TheVariants as F
+
+abbrev pub type_row : TypeForm → Row Sort Tree TypeTree
+type_row T.Pair = row (codes "Pair") (t (t no_place)) pair_ty
+type_row T.Event = row (codes "Event") (t no_place) event_ty
+type_row T.List = row (codes "List") (t no_place) list_ty
+
+abbrev pub unary_name : Unary → List ℕ
+unary_name U.Fst = codes "fst"
+unary_name U.Snd = codes "snd"
+unary_name U.Neg = codes "neg"
+unary_name U.Not = codes "not"
+unary_name U.Event = codes "event"
+unary_name U.Len = codes "len"
+
+-- what a form of one expression makes of it
+abbrev pub unary_of : Unary → Expression → Expression
+unary_of U.Fst = fst
+unary_of U.Snd = snd
+unary_of U.Neg = neg
+unary_of U.Not = negation
+unary_of U.Event = make_event
+unary_of U.Len = len
+
+abbrev pub binary_name : Binary → List ℕ
+binary_name B.Pair = codes "pair"
+binary_name B.Then = codes "then"
+binary_name B.Add = codes "add"
+binary_name B.Sub = codes "sub"
+binary_name B.Mul = codes "mul"
+binary_name B.Less = codes "less"
+binary_name B.Equal = codes "equal"
+binary_name B.And = codes "and"
+binary_name B.Or = codes "or"
+binary_name B.Merge = codes "lMerge"
+
+-- what a form of two expressions makes of them
+abbrev pub binary_of : Binary → Expression → Expression → Expression
+binary_of B.Pair = make_pair
+binary_of B.Then = then
+binary_of B.Add = add
+binary_of B.Sub = sub
+binary_of B.Mul = mul
+binary_of B.Less = less
+binary_of B.Equal = equal
+binary_of B.And = conjunction
+binary_of B.Or = disjunction
+binary_of B.Merge = λ a b. on a b (make_event (snd sample))
+
+abbrev pub ternary_name : Ternary → List ℕ
+ternary_name R.If = codes "if"
+ternary_name R.On = codes "on"
+ternary_name R.Nth = codes "nth"
+
+-- what a form of three expressions makes of them
+abbrev pub ternary_of : Ternary → Expression → Expression → Expression → Expression
+ternary_of R.If = choice
+ternary_of R.On = on
+ternary_of R.Nth = nth
+
+abbrev pub typed_name : Typed → List ℕ
+typed_name Y.Gate = codes "gate"
+typed_name Y.Tag = codes "tag"
+typed_name Y.Attach = codes "attach"
+
+-- what a form of a type and two expressions makes of them
+abbrev pub typed_of : Typed → TypeTree → Expression → Expression → Expression
+typed_of Y.Gate = λ T a b. choice b a (none_of T)
+typed_of Y.Tag = λ T a c. on a (none_of T) (make_event ((then) (fst sample) c))
+typed_of Y.Attach = λ T a c. on a (none_of T) (make_event (make_pair (snd sample) ((then) (fst sample) c)))
+
+abbrev pub unary_row : Unary → Row Sort Tree Expression
+unary_row f = row (unary_name f) (e no_place) (unary_of f)
+
+abbrev pub binary_row : Binary → Row Sort Tree Expression
+binary_row f = row (binary_name f) (e (e no_place)) (binary_of f)
+
+abbrev pub ternary_row : Ternary → Row Sort Tree Expression
+ternary_row f = row (ternary_name f) (e (e (e no_place))) (ternary_of f)
+
+abbrev pub typed_row : Typed → Row Sort Tree Expression
+typed_row f = row (typed_name f) (t (e (e no_place))) (typed_of f)
+
+abbrev pub form_row : Form → Row Sort Tree Expression
+form_row F.Param = row (codes "p") (k no_place) parameter
+form_row F.NoEvent = row (codes "none") (t no_place) none_of
+form_row F.List = row (codes "list") (t (places expression_sort)) (λ T es. make_list T (expressions_of es))
+form_row (F.Unary f) = unary_row f
+form_row (F.Binary f) = binary_row f
+form_row (F.Ternary f) = ternary_row f
+form_row (F.Typed f) = typed_row f

@@ -1,0 +1,88 @@
+-- What the code's readers answer: what the reader of the grammar does on the tokens from some byte on.
+use Rattle.std.specs.Prelude.{◌≡◌, ℕ, Bool, true, false, List, [], ◌∷◌, length, map, Result, Ok, Err, Option, Some, None}
+use Rattle.sample_core.specs.TypeTree.{TypeTree}
+use Rattle.sample_core.specs.SeenType.{type_of}
+use Rattle.sample_core.specs.declared.ty.Ty.{Ty}
+use Rattle.leaf_expr.specs.Expression.{Expression}
+use Rattle.leaf_expr.specs.Seen.{expression_of}
+use Rattle.leaf_expr.specs.declared.expr.Expr.{Expr}
+use Rattle.leaf_expr.specs.Token.{Placed, closing, tokens_from}
+use Rattle.leaf_expr.specs.NumberPlace.{Reading, reads, misspelt, unfit}
+use Rattle.leaf_expr.specs.declared.word.WordFault.{WordFault}
+use Rattle.leaf_expr.specs.declared.word.WordFault.TheVariants as W
+use Rattle.leaf_expr.specs.Grammar.{leaf, Tree, Sort, type_sort, expression_sort, index_sort}
+use Rattle.leaf_expr.specs.Reader.{Fault, syntax, number, too_deep, Read, read, read_form, read_parts, read_all}
+use Rattle.leaf_expr.specs.Language.{Row}
+use Rattle.leaf_expr.specs.Text.{TextFault, too_long, at}
+use Rattle.leaf_expr.specs.declared.text_fault.ExprTextFault.{ExprTextFault}
+use Rattle.leaf_expr.specs.declared.text_fault.ExprTextFault.TheVariants as V
+
+-- a fault that reading has; want of memory says nothing of the text
+abbrev pub Refuses : {Y : Type 0} → ExprTextFault → Result Y Fault → Type 0
+Refuses (V.Syntax n) read = read ≡ Err (syntax n)
+Refuses (V.Number n) read = read ≡ Err (number n)
+Refuses (V.TooDeep n) read = read ≡ Err (too_deep n)
+Refuses V.TooLong read = ⊥
+Refuses V.Memory read = Unit {0}
+
+-- what a call returned, seen by view, is what reading gives, unless memory ran out
+abbrev pub Gives : {X Y : Type 0} → (X → Y) → Result X ExprTextFault → Result Y Fault → Type 0
+Gives view (Ok x) read = read ≡ Ok (view x)
+Gives view (Err e) read = Refuses e read
+
+-- the same of a whole text
+abbrev pub RefusesText : {Y : Type 0} → ExprTextFault → Result Y TextFault → Type 0
+RefusesText (V.Syntax n) read = read ≡ Err (at (syntax n))
+RefusesText (V.Number n) read = read ≡ Err (at (number n))
+RefusesText (V.TooDeep n) read = read ≡ Err (at (too_deep n))
+RefusesText V.TooLong read = read ≡ Err too_long
+RefusesText V.Memory read = Unit {0}
+
+abbrev pub GivesText : {X Y : Type 0} → (X → Y) → Result X ExprTextFault → Result Y TextFault → Type 0
+GivesText view (Ok x) read = read ≡ Ok (view x)
+GivesText view (Err e) read = RefusesText e read
+
+-- a tree of the sort in the text from byte n on, with room for so many more parentheses
+abbrev pub tree_at : (s : Sort) → List ℕ → ℕ → ℕ → Read (Tree s)
+tree_at s text room n = read leaf (length text) room s (tokens_from n text)
+
+-- a type, the byte behind it, and the tokens from there on
+abbrev pub type_left : List ℕ → Ty × ℕ → TypeTree × ℕ × List Placed
+type_left text x = (type_of x.0, x.1, tokens_from x.1 text)
+
+-- an expression, the byte behind it, and the tokens from there on
+abbrev pub expression_left : List ℕ → Expr × ℕ → Expression × ℕ × List Placed
+expression_left text x = (expression_of x.0, x.1, tokens_from x.1 text)
+
+-- behind the parenthesis of a form, in the text from byte n on
+abbrev pub form_at : (s : Sort) → List ℕ → ℕ → ℕ → Read (Tree s)
+form_at s text room n = read_form leaf (length text) (read leaf (length text) room) room s (tokens_from n text)
+
+-- the parts of a form and its end, in the text from byte n on
+abbrev pub row_parts : {R : Type 0} → Row Sort Tree R → List ℕ → ℕ → ℕ → Read R
+row_parts r text room n = read_parts leaf (length text) (read leaf (length text) room) room r.takes r.makes (tokens_from n text)
+
+-- the elements of a list up to the end of the form, in the text from byte n on
+abbrev pub items_at : List ℕ → ℕ → ℕ → Read (List Expression)
+items_at text room n = read_all leaf (length text) (read leaf (length text) room expression_sort) (length (tokens_from n text)) (λ xs. xs) (tokens_from n text)
+
+-- the elements as trees, the byte behind them, and the tokens from there on
+abbrev pub items_left : List ℕ → List Expr × ℕ → List Expression × ℕ × List Placed
+items_left text x = (map expression_of x.0, x.1, tokens_from x.1 text)
+
+-- what a word is in a table of words alone
+abbrev pub fit : {T : Type 0} → Option T → Reading T
+fit None = unfit
+fit (Some x) = reads x
+
+-- what the code found a word to be
+abbrev pub found_word : {X Y : Type 0} → (X → Y) → Result X WordFault → Reading Y
+found_word view (Ok x) = reads (view x)
+found_word view (Err W.Misspelt) = misspelt
+found_word view (Err W.Unfit) = unfit
+
+-- the first token closes a form
+abbrev pub begins_closing : List Placed → Bool
+begins_closing [] = false
+begins_closing ((n, closing) ∷ ts) = true
+begins_closing (x ∷ ts) = false

@@ -1,0 +1,311 @@
+// Reading expressions.
+
+ghost use Rattle.std.specs.Prelude.{◌≡◌, ◌-◌, ◌+◌, false, length, MatchOption, IfSome, ◌<◌, ◌∷◌};
+ghost use Rattle.leaf_expr.specs.Expression.{parameter};
+ghost use Rattle.leaf_expr.specs.Form.{form_row, unary_row, binary_row, ternary_row, typed_row};
+ghost use Rattle.leaf_expr.specs.Grammar.{expression_sort, index_sort, type_sort};
+ghost use Rattle.leaf_expr.specs.ReadText.{Gives, GivesText, tree_at, form_at, row_parts, expression_left, type_left, items_at, items_left, begins_closing};
+ghost use Rattle.leaf_expr.specs.Seen.{expression_of};
+ghost use Rattle.leaf_expr.specs.Text.{read_text};
+ghost use Rattle.leaf_expr.specs.Token.{closing, tokens_from};
+
+use crate::expr::{Expr, Part, Parts};
+use crate::form::{Binary, Form, Ternary, Typed, Unary, form_named};
+use crate::type_reader::{MAX_OPEN, form_end, form_head, read_type};
+use crate::text_fault::ExprTextFault;
+use crate::token::{Lexeme, lexeme_at};
+use crate::word::{WordFault, expr_word, index_word};
+use sample_core::Ty;
+use std::alloc::Global;
+
+/// How many bytes a text may have.
+const MAX_LENGTH: usize = 1_048_576;
+
+/// The number of a parameter, at or after byte `at`.
+fn read_index(text: &[u8], at: usize, room: usize) -> Result<(u32, usize), ExprTextFault>
+    ensures { Gives (λ x. (x.0, x.1, tokens_from x.1 text.now)) result (tree_at index_sort text.now room at) }
+{
+    match lexeme_at(text, at) {
+        Lexeme::End => Err(ExprTextFault::Syntax { at: text.len() }),
+        Lexeme::Close(start) => Err(ExprTextFault::Syntax { at: start }),
+        Lexeme::Open(start) if room == 0 => Err(ExprTextFault::TooDeep { at: start }),
+        Lexeme::Open(start) => Err(ExprTextFault::Syntax { at: start }),
+        Lexeme::Word(start, end) => match index_word(&text[start..end]) {
+            Ok(k) => Ok((k, end)),
+            Err(WordFault::Misspelt) => Err(ExprTextFault::Number { at: start }),
+            Err(WordFault::Unfit) => Err(ExprTextFault::Syntax { at: start }),
+        },
+    }
+}
+
+/// The expression at or after byte `at`, with room for so many more parentheses, and the byte behind it.
+#[cycle(read_expression)]
+#[tactic(auto, using(crate::proofs::ReadSteps::opened))]
+fn read_expression(
+    alloc: Global,
+    text: &[u8],
+    at: usize,
+    room: usize,
+) -> Result<(Expr, usize), ExprTextFault>
+    ensures { Gives (expression_left text.now) result (tree_at expression_sort text.now room at) }
+{
+    match lexeme_at(text, at) {
+        Lexeme::End => Err(ExprTextFault::Syntax { at: text.len() }),
+        Lexeme::Close(start) => Err(ExprTextFault::Syntax { at: start }),
+        Lexeme::Open(start) => {
+            if room == 0 {
+                return Err(ExprTextFault::TooDeep { at: start });
+            }
+            form(alloc, text, start + 1, room - 1)
+        }
+        Lexeme::Word(start, end) => match expr_word(&text[start..end]) {
+            Ok(expr) => Ok((expr, end)),
+            Err(WordFault::Misspelt) => Err(ExprTextFault::Number { at: start }),
+            Err(WordFault::Unfit) => Err(ExprTextFault::Syntax { at: start }),
+        },
+    }
+}
+
+/// What stands behind the parenthesis of a form.
+#[cycle(read_expression)]
+#[tactic(auto, using(crate::proofs::ReadSteps::named, crate::proofs::ReadSteps::unnamed))]
+fn form(
+    alloc: Global,
+    text: &[u8],
+    at: usize,
+    room: usize,
+) -> Result<(Expr, usize), ExprTextFault>
+    ensures { Gives (expression_left text.now) result (form_at expression_sort text.now room at) }
+{
+    let (start, end) = form_head(text, at, room)?;
+    match form_named(&text[start..end]) {
+        Some(form) => parts(alloc, text, end, room, form),
+        None => Err(ExprTextFault::Syntax { at: start }),
+    }
+}
+
+/// The parts of a form, and its end.
+#[cycle(read_expression)]
+fn parts(
+    alloc: Global,
+    text: &[u8],
+    at: usize,
+    room: usize,
+    form: Form,
+) -> Result<(Expr, usize), ExprTextFault>
+    ensures { Gives (expression_left text.now) result (row_parts (form_row form) text.now room at) }
+{
+    match form {
+        Form::Param => param(text, at, room),
+        Form::NoEvent => no_event(alloc, text, at, room),
+        Form::List => list(alloc, text, at, room),
+        Form::Unary(form) => unary(alloc, text, at, room, form),
+        Form::Binary(form) => binary(alloc, text, at, room, form),
+        Form::Ternary(form) => ternary(alloc, text, at, room, form),
+        Form::Typed(form) => typed(alloc, text, at, room, form),
+    }
+}
+
+/// The number of a parameter, and the end of the form.
+fn param(text: &[u8], at: usize, room: usize) -> Result<(Expr, usize), ExprTextFault>
+    ensures { Gives (expression_left text.now) result (row_parts (form_row Form.Param) text.now room at) }
+{
+    let (k, at) = read_index(text, at, room)?;
+    let end = form_end(text, at, room)?;
+    Ok((Expr::Param(k), end))
+}
+
+/// The type of no event, and the end of the form.
+fn no_event(
+    alloc: Global,
+    text: &[u8],
+    at: usize,
+    room: usize,
+) -> Result<(Expr, usize), ExprTextFault>
+    ensures { Gives (expression_left text.now) result (row_parts (form_row Form.NoEvent) text.now room at) }
+{
+    let (ty, at) = read_type(alloc, text, at, room)?;
+    let end = form_end(text, at, room)?;
+    Ok((Expr::NoEvent(ty), end))
+}
+
+/// An expression inside an expression.
+#[cycle(read_expression)]
+fn part(
+    alloc: Global,
+    text: &[u8],
+    at: usize,
+    room: usize,
+) -> Result<(Part, usize), ExprTextFault>
+    ensures { Gives (λ x. (x.0, x.1, tokens_from x.1 text.now)) result (tree_at expression_sort text.now room at) }
+{
+    let (expr, at) = read_expression(alloc, text, at, room)?;
+    Ok((Part::new(alloc, expr)?, at))
+}
+
+/// One expression, and the end of the form.
+#[cycle(read_expression)]
+fn unary(
+    alloc: Global,
+    text: &[u8],
+    at: usize,
+    room: usize,
+    form: Unary,
+) -> Result<(Expr, usize), ExprTextFault>
+    ensures { Gives (expression_left text.now) result (row_parts (unary_row form) text.now room at) }
+{
+    let (a, at) = part(alloc, text, at, room)?;
+    let end = form_end(text, at, room)?;
+    Ok((form.of(a), end))
+}
+
+/// Two expressions, and the end of the form.
+#[cycle(read_expression)]
+fn binary(
+    alloc: Global,
+    text: &[u8],
+    at: usize,
+    room: usize,
+    form: Binary,
+) -> Result<(Expr, usize), ExprTextFault>
+    ensures { Gives (expression_left text.now) result (row_parts (binary_row form) text.now room at) }
+{
+    let (a, at) = part(alloc, text, at, room)?;
+    let (b, at) = part(alloc, text, at, room)?;
+    let end = form_end(text, at, room)?;
+    let expr = form.of(alloc, a, b)?;
+    Ok((expr, end))
+}
+
+/// Three expressions, and the end of the form.
+#[cycle(read_expression)]
+fn ternary(
+    alloc: Global,
+    text: &[u8],
+    at: usize,
+    room: usize,
+    form: Ternary,
+) -> Result<(Expr, usize), ExprTextFault>
+    ensures { Gives (expression_left text.now) result (row_parts (ternary_row form) text.now room at) }
+{
+    let (a, at) = part(alloc, text, at, room)?;
+    let (b, at) = part(alloc, text, at, room)?;
+    let (c, at) = part(alloc, text, at, room)?;
+    let end = form_end(text, at, room)?;
+    Ok((form.of(a, b, c), end))
+}
+
+/// A type and two expressions, and the end of the form.
+#[cycle(read_expression)]
+fn typed(
+    alloc: Global,
+    text: &[u8],
+    at: usize,
+    room: usize,
+    form: Typed,
+) -> Result<(Expr, usize), ExprTextFault>
+    ensures { Gives (expression_left text.now) result (row_parts (typed_row form) text.now room at) }
+{
+    let (ty, at) = read_type(alloc, text, at, room)?;
+    let (a, at) = part(alloc, text, at, room)?;
+    let (b, at) = part(alloc, text, at, room)?;
+    let end = form_end(text, at, room)?;
+    let expr = form.of(alloc, ty, a, b)?;
+    Ok((expr, end))
+}
+
+/// The type of a list and its elements, and the end of the form.
+#[cycle(read_expression)]
+fn list(
+    alloc: Global,
+    text: &[u8],
+    at: usize,
+    room: usize,
+) -> Result<(Expr, usize), ExprTextFault>
+    ensures { Gives (expression_left text.now) result (row_parts (form_row Form.List) text.now room at) }
+{
+    let (ty, at) = read_type(alloc, text, at, room)?;
+    let (all, end) = items(alloc, text, at, room)?;
+    let elements = Parts::new(alloc, all)?;
+    Ok((Expr::List(ty, elements), end))
+}
+
+/// The byte behind the `)` that is the next token, where it is one.
+fn closing_at(text: &[u8], at: usize) -> Option<usize>
+    ensures token { MatchOption result (begins_closing (tokens_from at text.now) ≡ false) (λ end. tokens_from at text.now ≡ (end - 1, closing) ∷ tokens_from end text.now) }
+    ensures behind { IfSome result (λ end. 0 < end) }
+{
+    match lexeme_at(text, at) {
+        Lexeme::Close(start) => Some(start + 1),
+        Lexeme::End => None,
+        Lexeme::Open(_) => None,
+        Lexeme::Word(_, _) => None,
+    }
+}
+
+/// The elements of a list, and the end of the form.
+#[cycle(read_expression)]
+fn items(
+    alloc: Global,
+    text: &[u8],
+    at: usize,
+    room: usize,
+) -> Result<(Vec<Expr>, usize), ExprTextFault>
+    ensures { Gives (λ x. items_left text.now (x.0.items, x.1)) result (items_at text.now room at) }
+{
+    let mut all = Vec::new(alloc);
+    let mut next = at;
+    loop {
+        if let Some(end) = closing_at(text, next) {
+            return Ok((all, end));
+        }
+        let (expr, behind) = read_expression(alloc, text, next, room)?;
+        all.push(expr)?;
+        next = behind;
+    }
+}
+
+/// Reads the one type whose tokens begin at or after byte `at` of the text as it stands from that byte on, with
+/// `depth` parentheses open before it, and gives the byte behind it. Anything may follow. The first token that
+/// doesn't fit is answered: `Number` never, `TooDeep` at the 601st parenthesis open at once, else `Syntax`.
+pub fn read_type_at(
+    alloc: Global,
+    text: &[u8],
+    at: usize,
+    depth: usize,
+) -> Result<(Ty, usize), ExprTextFault>
+    ensures { Gives (type_left text.now) result (tree_at type_sort text.now (600 - depth) at) }
+{
+    read_type(alloc, text, at, MAX_OPEN.saturating_sub(depth))
+}
+
+/// Reads the one expression whose tokens begin at or after byte `at` of the text as it stands from that byte on,
+/// with `depth` parentheses open before it, and gives the byte behind it. Anything may follow. Sugar is expanded.
+/// The first token that doesn't fit is answered.
+pub fn read_expr_at(
+    alloc: Global,
+    text: &[u8],
+    at: usize,
+    depth: usize,
+) -> Result<(Expr, usize), ExprTextFault>
+    ensures { Gives (expression_left text.now) result (tree_at expression_sort text.now (600 - depth) at) }
+{
+    read_expression(alloc, text, at, MAX_OPEN.saturating_sub(depth))
+}
+
+/// Reads a text that is one expression and nothing else, of at most 1,048,576 bytes. Sugar is expanded. The first
+/// token that doesn't fit is answered.
+pub fn read_expr(alloc: Global, text: &[u8]) -> Result<Expr, ExprTextFault>
+    ensures { GivesText expression_of result (read_text expression_sort text.now) }
+{
+    if text.len() > MAX_LENGTH {
+        return Err(ExprTextFault::TooLong);
+    }
+    let (expr, end) = read_expression(alloc, text, 0, MAX_OPEN)?;
+    match lexeme_at(text, end) {
+        Lexeme::End => Ok(expr),
+        Lexeme::Open(start) => Err(ExprTextFault::Syntax { at: start }),
+        Lexeme::Close(start) => Err(ExprTextFault::Syntax { at: start }),
+        Lexeme::Word(start, _) => Err(ExprTextFault::Syntax { at: start }),
+    }
+}

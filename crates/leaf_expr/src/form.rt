@@ -1,0 +1,308 @@
+// The forms of types and expressions, by the word that each begins with.
+
+ghost use Rattle.std.specs.Prelude.{◌≡◌, IfOk, option_map, bytes_eq};
+ghost use Rattle.sample_core.specs.SeenType.{type_of};
+ghost use Rattle.leaf_expr.specs.Expression.{sample, fst, then, none_of, make_event, on};
+ghost use Rattle.leaf_expr.specs.Seen.{expression_of};
+ghost use Rattle.leaf_expr.specs.Form.{form_row, unary_row, binary_row, ternary_row, typed_row, type_row};
+ghost use Rattle.leaf_expr.specs.Grammar.{type_sort, expression_sort, row_at, row_among, other_rows, unary_rows, binary_rows, ternary_rows, typed_rows};
+
+use crate::expr::{Expr, Part};
+use sample_core::{Memory, Ty};
+use std::alloc::Global;
+
+/// A form of types.
+#[derive(Clone, Copy)]
+pub(crate) enum TypeForm {
+    Pair,
+    Event,
+    List,
+}
+
+impl Unary {
+    ghost use Rattle.leaf_expr.specs.Form.{unary_of};
+
+    /// The form with that expression.
+    pub(crate) fn of(self, a: Part) -> Expr
+        ensures { expression_of result ≡ unary_of self a }
+    {
+        match self {
+            Unary::Fst => Expr::Fst(a),
+            Unary::Snd => Expr::Snd(a),
+            Unary::Neg => Expr::Neg(a),
+            Unary::Not => Expr::Not(a),
+            Unary::Event => Expr::Event(a),
+            Unary::Len => Expr::Len(a),
+        }
+    }
+}
+
+impl Binary {
+    ghost use Rattle.leaf_expr.specs.Form.{binary_of};
+
+    /// The form with those expressions; `(lMerge a b)` is `(on a b (event (snd x)))`.
+    pub(crate) fn of(self, alloc: Global, a: Part, b: Part) -> Result<Expr, Memory>
+        ensures { IfOk result (λ e. expression_of e ≡ binary_of self a b) }
+    {
+        Ok(match self {
+            Binary::Pair => Expr::Pair(a, b),
+            Binary::Then => Expr::Then(a, b),
+            Binary::Add => Expr::Add(a, b),
+            Binary::Sub => Expr::Sub(a, b),
+            Binary::Mul => Expr::Mul(a, b),
+            Binary::Less => Expr::Less(a, b),
+            Binary::Equal => Expr::Equal(a, b),
+            Binary::And => Expr::And(a, b),
+            Binary::Or => Expr::Or(a, b),
+            Binary::Merge => {
+                let value = Part::new(alloc, Expr::Snd(Part::new(alloc, Expr::Input)?))?;
+                Expr::On(a, b, Part::new(alloc, Expr::Event(value))?)
+            }
+        })
+    }
+}
+
+impl Ternary {
+    ghost use Rattle.leaf_expr.specs.Form.{ternary_of};
+
+    /// The form with those expressions.
+    pub(crate) fn of(self, a: Part, b: Part, c: Part) -> Expr
+        ensures { expression_of result ≡ ternary_of self a b c }
+    {
+        match self {
+            Ternary::If => Expr::If(a, b, c),
+            Ternary::On => Expr::On(a, b, c),
+            Ternary::Nth => Expr::Nth(a, b, c),
+        }
+    }
+}
+
+/// `(then (fst x) c)`: c at the sample, where the input is a pair of it and an event's value.
+fn at_sample(alloc: Global, c: Part) -> Result<Part, Memory>
+    ensures { IfOk result (λ e. e ≡ then (fst sample) c) }
+{
+    let left = Part::new(alloc, Expr::Fst(Part::new(alloc, Expr::Input)?))?;
+    Part::new(alloc, Expr::Then(left, c))
+}
+
+/// An event of that expression where `a` has one, and no event of the type elsewhere.
+fn mapped(alloc: Global, ty: Ty, a: Part, value: Part) -> Result<Expr, Memory>
+    ensures { IfOk result (λ e. expression_of e ≡ on a (none_of (type_of ty)) (make_event value)) }
+{
+    let none = Part::new(alloc, Expr::NoEvent(ty))?;
+    Ok(Expr::On(a, none, Part::new(alloc, Expr::Event(value))?))
+}
+
+impl Typed {
+    ghost use Rattle.leaf_expr.specs.Form.{typed_of};
+
+    /// The form with that type and those expressions: `(gate T e b)` is `(if b e (none T))`, `(tag T e c)` is
+    /// `(on e (none T) (event (then (fst x) c)))`, and `(attach T e c)` is
+    /// `(on e (none T) (event (pair (snd x) (then (fst x) c))))`.
+    pub(crate) fn of(self, alloc: Global, ty: Ty, a: Part, b: Part) -> Result<Expr, Memory>
+        ensures { IfOk result (λ e. expression_of e ≡ typed_of self (type_of ty) a b) }
+    {
+        match self {
+            Typed::Gate => Ok(Expr::If(b, a, Part::new(alloc, Expr::NoEvent(ty))?)),
+            Typed::Tag => mapped(alloc, ty, a, at_sample(alloc, b)?),
+            Typed::Attach => {
+                let value = Part::new(alloc, Expr::Snd(Part::new(alloc, Expr::Input)?))?;
+                let both = Expr::Pair(value, at_sample(alloc, b)?);
+                mapped(alloc, ty, a, Part::new(alloc, both)?)
+            }
+        }
+    }
+}
+
+/// Whether the word is that name.
+pub(crate) fn is_word(word: &[u8], name: &str) -> bool
+    ensures { result ≡ bytes_eq word.now name.now }
+{
+    word == name.as_bytes()
+}
+
+/// The form of types that the word begins.
+#[tactic(auto, unfolding(crate::specs::Grammar::row_at, crate::specs::Grammar::rows))]
+pub(crate) fn type_form_named(word: &[u8]) -> Option<TypeForm>
+    ensures { option_map type_row result ≡ row_at type_sort word.now }
+{
+    if is_word(word, "Pair") {
+        Some(TypeForm::Pair)
+    } else if is_word(word, "Event") {
+        Some(TypeForm::Event)
+    } else if is_word(word, "List") {
+        Some(TypeForm::List)
+    } else {
+        None
+    }
+}
+
+/// A form of one expression.
+#[derive(Clone, Copy)]
+pub(crate) enum Unary {
+    Fst,
+    Snd,
+    Neg,
+    Not,
+    Event,
+    Len,
+}
+
+/// A form of two expressions. `Merge` is sugar.
+#[derive(Clone, Copy)]
+pub(crate) enum Binary {
+    Pair,
+    Then,
+    Add,
+    Sub,
+    Mul,
+    Less,
+    Equal,
+    And,
+    Or,
+    Merge,
+}
+
+/// A form of three expressions.
+#[derive(Clone, Copy)]
+pub(crate) enum Ternary {
+    If,
+    On,
+    Nth,
+}
+
+/// A form of a type and two expressions. Each is sugar.
+#[derive(Clone, Copy)]
+pub(crate) enum Typed {
+    Gate,
+    Tag,
+    Attach,
+}
+
+/// A form of expressions, by the parts that it takes.
+#[derive(Clone, Copy)]
+pub(crate) enum Form {
+    /// The number of a parameter.
+    Param,
+    /// A type.
+    NoEvent,
+    /// A type and any number of expressions.
+    List,
+    Unary(Unary),
+    Binary(Binary),
+    Ternary(Ternary),
+    Typed(Typed),
+}
+
+/// The form of two expressions that the word begins.
+fn binary_named(word: &[u8]) -> Option<Binary>
+    ensures { option_map binary_row result ≡ row_among word.now binary_rows }
+{
+    if is_word(word, "pair") {
+        Some(Binary::Pair)
+    } else if is_word(word, "then") {
+        Some(Binary::Then)
+    } else if is_word(word, "add") {
+        Some(Binary::Add)
+    } else if is_word(word, "sub") {
+        Some(Binary::Sub)
+    } else if is_word(word, "mul") {
+        Some(Binary::Mul)
+    } else if is_word(word, "less") {
+        Some(Binary::Less)
+    } else if is_word(word, "equal") {
+        Some(Binary::Equal)
+    } else if is_word(word, "and") {
+        Some(Binary::And)
+    } else if is_word(word, "or") {
+        Some(Binary::Or)
+    } else if is_word(word, "lMerge") {
+        Some(Binary::Merge)
+    } else {
+        None
+    }
+}
+
+/// The form of one expression that the word begins.
+fn unary_named(word: &[u8]) -> Option<Unary>
+    ensures { option_map unary_row result ≡ row_among word.now unary_rows }
+{
+    if is_word(word, "fst") {
+        Some(Unary::Fst)
+    } else if is_word(word, "snd") {
+        Some(Unary::Snd)
+    } else if is_word(word, "neg") {
+        Some(Unary::Neg)
+    } else if is_word(word, "not") {
+        Some(Unary::Not)
+    } else if is_word(word, "event") {
+        Some(Unary::Event)
+    } else if is_word(word, "len") {
+        Some(Unary::Len)
+    } else {
+        None
+    }
+}
+
+/// The form of three expressions that the word begins.
+fn ternary_named(word: &[u8]) -> Option<Ternary>
+    ensures { option_map ternary_row result ≡ row_among word.now ternary_rows }
+{
+    if is_word(word, "if") {
+        Some(Ternary::If)
+    } else if is_word(word, "on") {
+        Some(Ternary::On)
+    } else if is_word(word, "nth") {
+        Some(Ternary::Nth)
+    } else {
+        None
+    }
+}
+
+/// The form of a type and two expressions that the word begins.
+fn typed_named(word: &[u8]) -> Option<Typed>
+    ensures { option_map typed_row result ≡ row_among word.now typed_rows }
+{
+    if is_word(word, "gate") {
+        Some(Typed::Gate)
+    } else if is_word(word, "tag") {
+        Some(Typed::Tag)
+    } else if is_word(word, "attach") {
+        Some(Typed::Attach)
+    } else {
+        None
+    }
+}
+
+/// The form of other parts that the word begins.
+fn other_named(word: &[u8]) -> Option<Form>
+    ensures { option_map form_row result ≡ row_among word.now other_rows }
+{
+    if is_word(word, "p") {
+        Some(Form::Param)
+    } else if is_word(word, "none") {
+        Some(Form::NoEvent)
+    } else if is_word(word, "list") {
+        Some(Form::List)
+    } else {
+        None
+    }
+}
+
+/// The form of expressions that the word begins.
+pub(crate) fn form_named(word: &[u8]) -> Option<Form>
+    ensures { option_map form_row result ≡ row_at expression_sort word.now }
+{
+    if let Some(form) = other_named(word) {
+        Some(form)
+    } else if let Some(form) = unary_named(word) {
+        Some(Form::Unary(form))
+    } else if let Some(form) = binary_named(word) {
+        Some(Form::Binary(form))
+    } else if let Some(form) = ternary_named(word) {
+        Some(Form::Ternary(form))
+    } else {
+        let form = typed_named(word)?;
+        Some(Form::Typed(form))
+    }
+}

@@ -1,0 +1,101 @@
+// Words that are a type, an expression or a parameter's number by themselves.
+
+ghost use Rattle.std.specs.Prelude.{◌≡◌, option_map};
+ghost use Rattle.sample_core.specs.SeenType.{type_of};
+ghost use Rattle.leaf_expr.specs.Grammar.{word_at, type_sort, expression_sort, index_sort};
+ghost use Rattle.leaf_expr.specs.NumberPlace.{integer_at, index};
+ghost use Rattle.leaf_expr.specs.ReadText.{fit, found_word};
+ghost use Rattle.leaf_expr.specs.Seen.{expression_of};
+
+use crate::expr::Expr;
+use crate::form::is_word;
+use crate::literal::Literal;
+use sample_core::Ty;
+use sample_core::number::{is_number_spelling, is_number_word, number};
+
+/// The greatest number that a parameter is called by in a text.
+const MAX_INDEX: i64 = 65_535;
+
+/// Why a word doesn't fit where a number may stand.
+#[derive(Clone, Copy)]
+pub(crate) enum WordFault {
+    /// A number word that is badly spelt or out of range.
+    Misspelt,
+    /// Another word.
+    Unfit,
+}
+
+/// The type that the word is.
+#[tactic(auto, unfolding(crate::specs::Grammar::word_at, crate::specs::Grammar::words))]
+pub(crate) fn type_word(word: &[u8]) -> Option<Ty>
+    ensures { word_at type_sort word.now ≡ fit (option_map type_of result) }
+{
+    if is_word(word, "Unit") {
+        Some(Ty::Unit)
+    } else if is_word(word, "Bool") {
+        Some(Ty::Bool)
+    } else if is_word(word, "Int") {
+        Some(Ty::Int)
+    } else {
+        None
+    }
+}
+
+/// The number of 64 bits that the word is.
+#[tactic(auto, using(crate::proofs::WordSteps::no_number, crate::proofs::WordSteps::bad_number, crate::proofs::WordSteps::big_number, crate::proofs::WordSteps::small_number))]
+fn integer_word(word: &[u8]) -> Result<i64, WordFault>
+    ensures { found_word (λ n. n) result ≡ integer_at word.now }
+{
+    if !is_number_word(word) {
+        return Err(WordFault::Unfit);
+    }
+    if !is_number_spelling(word) {
+        return Err(WordFault::Misspelt);
+    }
+    match number(word) {
+        Some(n) => Ok(n),
+        None => Err(WordFault::Misspelt),
+    }
+}
+
+/// The number as a parameter's, where it is in their range.
+fn index_of(n: i64) -> Option<u32>
+    ensures { result ≡ index n }
+{
+    if n < 0 || n > MAX_INDEX {
+        None
+    } else {
+        Some(n as u32)
+    }
+}
+
+/// The parameter's number that the word is.
+#[tactic(auto, using(crate::proofs::IndexSteps::index_refused, crate::proofs::IndexSteps::index_found, crate::proofs::IndexSteps::index_wild))]
+pub(crate) fn index_word(word: &[u8]) -> Result<u32, WordFault>
+    ensures { found_word (λ k. k) result ≡ word_at index_sort word.now }
+{
+    let n = integer_word(word)?;
+    match index_of(n) {
+        Some(k) => Ok(k),
+        None => Err(WordFault::Misspelt),
+    }
+}
+
+/// The expression that the word is: the input, or a literal.
+#[tactic(auto, unfolding(crate::specs::Grammar::word_at, crate::specs::Grammar::words))]
+pub(crate) fn expr_word(word: &[u8]) -> Result<Expr, WordFault>
+    ensures { found_word expression_of result ≡ word_at expression_sort word.now }
+{
+    if is_word(word, "x") {
+        Ok(Expr::Input)
+    } else if is_word(word, "unit") {
+        Ok(Expr::Literal(Literal::Unit))
+    } else if is_word(word, "true") {
+        Ok(Expr::Literal(Literal::Bool(true)))
+    } else if is_word(word, "false") {
+        Ok(Expr::Literal(Literal::Bool(false)))
+    } else {
+        let n = integer_word(word)?;
+        Ok(Expr::Literal(Literal::Int(n)))
+    }
+}
