@@ -3,28 +3,25 @@
 
 mod evaluation;
 mod expr;
+mod expr_reader;
+mod form;
 mod laws;
 mod limits;
 mod literal;
 mod operations;
-mod text_laws;
-mod token;
-mod typing;
-mod form;
-mod literal;
-mod expr_reader;
-mod type_reader;
 mod text_fault;
 mod text_laws;
 mod token;
+mod type_reader;
+mod typing;
 mod word;
 
 pub use evaluation::eval;
 pub use expr::{Expr, Part, Parts};
+pub use expr_reader::{read_expr, read_expr_at, read_type_at};
 pub use laws::typing_laws;
 pub use limits::{expr_fits, type_fits};
 pub use literal::Literal;
-pub use expr_reader::{read_expr, read_expr_at, read_type_at};
 pub use text_fault::ExprTextFault;
 pub use text_laws::{
     grammar_rows, number_laws, printing_laws, reading_laws, sugar_laws, whole_text_laws,

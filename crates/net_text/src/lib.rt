@@ -1,0 +1,12 @@
+//! Texts of networks: network files, read and printed.
+#![tactic(auto)]
+
+mod fault;
+mod leaf_text;
+mod read;
+
+pub use fault::NetTextFault;
+pub use read::read_net;
+
+#[cfg(test)]
+mod tests;
