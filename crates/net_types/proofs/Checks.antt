@@ -17,7 +17,7 @@ use Rattle.net_types.specs.declared.fault.TypeFault.{TypeFault}
 use Rattle.net_types.specs.declared.fault.TypeFault.TheVariants as Fault
 use Rattle.net_types.specs.Check.{net_walk, check}
 use Rattle.net_types.specs.TypingLaws.{WalkLaw, CheckLaw}
-use Rattle.net_types.proofs.Tests.{Holds, ok_holds, next, holding, goes_on, tested, passes, within_tells, within_passes, type_fits-TypeFits, IsExact}
+use Rattle.net_types.proofs.WalkTests.{Holds, ok_holds, next, holding, goes_on, tested, passes, within_tells, within_passes, type_fits-TypeFits, IsExact}
 use Rattle.net_types.proofs.WalkSound.{sound}
 use Rattle.net_types.proofs.WalkComplete.{complete}
 

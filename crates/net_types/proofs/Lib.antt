@@ -1,4 +1,4 @@
-pub mod Tests
+pub mod WalkTests
 pub mod WalkSound
 pub mod WalkComplete
 pub mod Checks

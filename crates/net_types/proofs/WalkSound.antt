@@ -7,7 +7,7 @@ use Rattle.leaf_expr.specs.TypeLimits.{TypeFits}
 use Rattle.leaf_expr.specs.declared.typing.ExprFault.{ExprFault}
 use Rattle.net_types.specs.Walk.{LeafChecker, ◌↓◌, within, same, all_same, one_output, placed, leaf, walk, walk_all}
 use Rattle.net_syntax.specs.TypedWithin.{TypedWithin, AllWithin, arr_within, seq_within, first_within, par_within, loop_within, i_pre_within, delay_within, hold_within, accum_within, after_within, repeatedly_within, time_within, integral_within, switch_within, d_switch_within, r_switch_within, k_switch_within, p_switch_within, old_within, no_members_within, and_member_within}
-use Rattle.net_types.proofs.Tests.{Holds, ok_holds, err_holds, next, weaker, within_tells, same_tells, pair_tells, event_tells, between_tells, counted_tells, frozen_tells, IsExact}
+use Rattle.net_types.proofs.WalkTests.{Holds, ok_holds, err_holds, next, weaker, within_tells, same_tells, pair_tells, event_tells, between_tells, counted_tells, frozen_tells, IsExact}
 
 -- the outputs of the members one by one
 pub data EachWithin {L : Type 0} (T : LeafTyping L) (M : TypeTree → Type 0) (Ps : List TypeTree) (Os : List Arrow) (A : TypeTree) : Networks L → List TypeTree → Type 0 where

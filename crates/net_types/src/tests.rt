@@ -85,100 +85,107 @@ fn a_network_is_given_its_types_weight_and_height(rt: HostRuntime) {
     assert_eq!(rt; typed.height(), 2);
 }
 
-// A network, the input type that it is checked at, and the fault that is wanted.
-fn refused(alloc: Global, row: u32) -> Result<(Ty, Net<Expr>, TypeFault), Memory> {
-    let no_param = ExprFault::NoParam;
-    Ok(match row {
-        0 => (
-            Ty::Int,
-            less_then_delay(alloc)?,
-            TypeFault::Joint {
-                position: at(alloc, &[1])?,
-            },
-        ),
-        1 => (
-            Ty::Int,
-            Net::Arr(Expr::Param(0)),
-            TypeFault::Expr {
-                position: at(alloc, &[0])?,
-                fault: no_param,
-            },
-        ),
-        2 => (
-            events(alloc, 31)?,
-            event_of_input(alloc)?,
-            TypeFault::Expr {
-                position: at(alloc, &[0])?,
-                fault: ExprFault::TooDeep,
-            },
-        ),
-        3 => (
-            events(alloc, 32)?,
-            Net::Arr(Expr::Param(0)),
-            TypeFault::TooDeep,
-        ),
-        4 => (
-            Ty::Bool,
-            Net::IPre(number(0)),
-            TypeFault::Joint {
-                position: at(alloc, &[])?,
-            },
-        ),
-        5 => (
-            Ty::Int,
-            in_turn(alloc, in_a_row(alloc, 2)?, Net::Arr(Expr::Param(0)))?,
-            TypeFault::Expr {
-                position: at(alloc, &[1, 0])?,
-                fault: no_param,
-            },
-        ),
-        6 => (
-            Ty::Bool,
-            in_turn(
-                alloc,
-                in_turn(alloc, Net::Arr(Expr::Input), Net::IPre(Expr::Param(0)))?,
-                Net::IPre(number(0)),
-            )?,
-            TypeFault::Expr {
-                position: at(alloc, &[0, 1, 0])?,
-                fault: no_param,
-            },
-        ),
-        7 => (Ty::Int, in_a_row(alloc, 257)?, TypeFault::TooDeep),
-        8 => (
-            Ty::Bool,
-            in_turn(alloc, in_a_row(alloc, 257)?, Net::IPre(number(0)))?,
-            TypeFault::Joint {
-                position: at(alloc, &[1])?,
-            },
-        ),
-        _ => (Ty::Int, doubled(alloc, 19)?, TypeFault::TooHeavy),
-    })
+fn joint(alloc: Global, children: &[u32]) -> Result<TypeFault, Memory> {
+    let position = at(alloc, children)?;
+    Ok(TypeFault::Joint { position })
+}
+
+fn in_expr(alloc: Global, children: &[u32], fault: ExprFault) -> Result<TypeFault, Memory> {
+    let position = at(alloc, children)?;
+    Ok(TypeFault::Expr { position, fault })
+}
+
+fn is_refused(alloc: Global, input: Ty, net: Net<Expr>, wanted: TypeFault) -> bool {
+    measured(alloc, input, net) == Err(wanted)
+}
+
+fn a_truth_is_no_number(alloc: Global) -> Result<bool, Memory> {
+    let net = less_then_delay(alloc)?;
+    let wanted = joint(alloc, &[1])?;
+    Ok(is_refused(alloc, Ty::Int, net, wanted))
+}
+
+fn a_parameter_is_missing(alloc: Global) -> Result<bool, Memory> {
+    let wanted = in_expr(alloc, &[0], ExprFault::NoParam)?;
+    Ok(is_refused(alloc, Ty::Int, Net::Arr(Expr::Param(0)), wanted))
+}
+
+fn an_event_is_too_deep(alloc: Global) -> Result<bool, Memory> {
+    let net = event_of_input(alloc)?;
+    let input = events(alloc, 31)?;
+    let wanted = in_expr(alloc, &[0], ExprFault::TooDeep)?;
+    Ok(is_refused(alloc, input, net, wanted))
+}
+
+fn the_input_is_too_deep(alloc: Global) -> Result<bool, Memory> {
+    let input = events(alloc, 32)?;
+    Ok(is_refused(alloc, input, Net::Arr(Expr::Param(0)), TypeFault::TooDeep))
+}
+
+fn a_constant_differs(alloc: Global) -> Result<bool, Memory> {
+    let wanted = joint(alloc, &[])?;
+    Ok(is_refused(alloc, Ty::Bool, Net::IPre(number(0)), wanted))
+}
+
+fn the_first_fault_comes_first(alloc: Global) -> Result<bool, Memory> {
+    let inner = in_turn(alloc, Net::Arr(Expr::Input), Net::IPre(Expr::Param(0)))?;
+    let net = in_turn(alloc, inner, Net::IPre(number(0)))?;
+    let wanted = in_expr(alloc, &[0, 1, 0], ExprFault::NoParam)?;
+    Ok(is_refused(alloc, Ty::Bool, net, wanted))
+}
+
+fn types_come_before_the_height(alloc: Global) -> Result<bool, Memory> {
+    let high = in_a_row(alloc, 257)?;
+    let net = in_turn(alloc, high, Net::IPre(number(0)))?;
+    let wanted = joint(alloc, &[1])?;
+    Ok(is_refused(alloc, Ty::Bool, net, wanted))
+}
+
+fn a_network_is_too_high(alloc: Global) -> Result<bool, Memory> {
+    let net = in_a_row(alloc, 257)?;
+    Ok(is_refused(alloc, Ty::Int, net, TypeFault::TooDeep))
+}
+
+fn a_network_is_too_heavy(alloc: Global) -> Result<bool, Memory> {
+    let net = doubled(alloc, 19)?;
+    Ok(is_refused(alloc, Ty::Int, net, TypeFault::TooHeavy))
 }
 
 #[test]
 fn the_first_fault_is_answered_where_it_stands(rt: HostRuntime) {
-    for row in 0..10 {
-        let (input, net, wanted) = refused(rt.alloc(), row).expect(&rt, "ample memory");
-        let found = measured(rt.alloc(), input, net);
-        assert!(rt; found == Err(wanted), "row {row}");
-    }
+    assert!(rt; a_truth_is_no_number(rt.alloc()) == Ok(true));
+    assert!(rt; a_parameter_is_missing(rt.alloc()) == Ok(true));
+    assert!(rt; an_event_is_too_deep(rt.alloc()) == Ok(true));
+    assert!(rt; the_input_is_too_deep(rt.alloc()) == Ok(true));
+    assert!(rt; a_constant_differs(rt.alloc()) == Ok(true));
+    assert!(rt; the_first_fault_comes_first(rt.alloc()) == Ok(true));
+    assert!(rt; types_come_before_the_height(rt.alloc()) == Ok(true));
+    assert!(rt; a_network_is_too_high(rt.alloc()) == Ok(true));
+    assert!(rt; a_network_is_too_heavy(rt.alloc()) == Ok(true));
 }
 
-fn accepted(alloc: Global, row: u32) -> Result<(Ty, Net<Expr>, u32, u32), Memory> {
-    Ok(match row {
-        0 => (Ty::Int, Net::Arr(Expr::Input), 1, 1),
-        1 => (events(alloc, 31)?, Net::Arr(Expr::Input), 1, 1),
-        2 => (Ty::Int, in_a_row(alloc, 256)?, 511, 256),
-        _ => (Ty::Int, doubled(alloc, 18)?, 524_287, 19),
-    })
+fn is_accepted(alloc: Global, input: Ty, net: Net<Expr>, weight: u32, height: u32) -> bool {
+    measured(alloc, input, net) == Ok((weight, height))
+}
+
+fn the_deepest_input(alloc: Global) -> Result<bool, Memory> {
+    let input = events(alloc, 31)?;
+    Ok(is_accepted(alloc, input, Net::Arr(Expr::Input), 1, 1))
+}
+
+fn the_highest_network(alloc: Global) -> Result<bool, Memory> {
+    let net = in_a_row(alloc, 256)?;
+    Ok(is_accepted(alloc, Ty::Int, net, 511, 256))
+}
+
+fn a_heavy_network(alloc: Global) -> Result<bool, Memory> {
+    let net = doubled(alloc, 18)?;
+    Ok(is_accepted(alloc, Ty::Int, net, 524_287, 19))
 }
 
 #[test]
 fn what_is_just_within_the_limits_is_accepted(rt: HostRuntime) {
-    for row in 0..4 {
-        let (input, net, weight, height) = accepted(rt.alloc(), row).expect(&rt, "ample memory");
-        let found = measured(rt.alloc(), input, net);
-        assert!(rt; found == Ok((weight, height)), "row {row}");
-    }
+    assert!(rt; the_deepest_input(rt.alloc()) == Ok(true));
+    assert!(rt; the_highest_network(rt.alloc()) == Ok(true));
+    assert!(rt; a_heavy_network(rt.alloc()) == Ok(true));
 }

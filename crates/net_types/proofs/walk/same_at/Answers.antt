@@ -1,7 +1,7 @@
 use Rattle.std.proofs.Common.{arith}
 use Rattle.std.proofs.lemmas.Grind.{common_steps}
 use Rattle.sample_core.specs.SeenType.{type_of}
-use Rattle.net_types.proofs.Tests.{same_at_equal, same_at_other}
+use Rattle.net_types.proofs.WalkTests.{same_at_equal, same_at_other}
 use Rattle.net_types.proofs.walk.same_at.Goals as goal
 
 pub returns-then-same_type : goal.returns-then-same_type
