@@ -16,3 +16,4 @@ pub mod ReadSteps
 pub mod WordSteps
 pub mod ItemSteps
 pub mod IndexSteps
+pub mod Joined

@@ -6,6 +6,7 @@ mod form;
 mod literal;
 mod expr_reader;
 mod type_reader;
+mod print;
 mod text_fault;
 mod text_laws;
 mod token;
@@ -14,8 +15,12 @@ mod word;
 pub use expr::{Expr, Part, Parts};
 pub use literal::Literal;
 pub use expr_reader::{read_expr, read_expr_at, read_type_at};
+pub use print::{print_expr, push_expr};
 pub use text_fault::ExprTextFault;
 pub use text_laws::{
     grammar_rows, number_laws, printing_laws, reading_laws, sugar_laws, whole_text_laws,
 };
 pub use token::token_at;
+
+#[cfg(test)]
+mod text_tests;
