@@ -21,3 +21,4 @@ pub mod ReadSteps
 pub mod WordSteps
 pub mod ItemSteps
 pub mod IndexSteps
+pub mod Joined
