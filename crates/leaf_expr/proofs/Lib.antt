@@ -3,3 +3,4 @@ pub mod SameDatum
 pub mod Soundness
 pub mod Exactness
 pub mod Uniqueness
+pub mod ShapeValue

@@ -9,3 +9,4 @@ pub mod ExpressionLimits
 pub mod ExpressionCheck
 pub mod TypingLaws
 pub mod Gives
+pub mod ShapeTable
