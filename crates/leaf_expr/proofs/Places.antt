@@ -3,7 +3,7 @@ use Rattle.std.proofs.Common.{◌≡◌, ℕ, zero, suc, ◌+◌, ◌<◌, ◌�
 use Rattle.sample_core.specs.Datum.{Datum, unit, list, elements, of_elements}
 use Rattle.sample_core.specs.Seen.{datum_of}
 use Rattle.sample_core.specs.declared.sample.Sample.{Sample}
-use Rattle.leaf_expr.specs.Expression.{Expression, expressions_of, expression_size, expressions_size}
+use Rattle.leaf_expr.specs.Expression.{Expression, Expressions, no_more, and_then, expressions_of, expression_size, expressions_size}
 use Rattle.leaf_expr.specs.Seen.{expression_of}
 use Rattle.leaf_expr.specs.declared.expr.Expr.{Expr}
 use Rattle.sample_core.specs.SeenType.{type_of}
@@ -61,3 +61,15 @@ element_falls (x ∷ xs) (suc i) e h = omega (arith, element_falls xs i e (omega
 pub element_smaller : (all : List Expr) (es : List Expression) (i : ℕ) (e : Expr) → i < length all → e ≡ get_or all i e → map expression_of all ≡ es → expression_size (expression_of e) < expressions_size (expressions_of es)
 element_smaller all es i e h q p =
     subst (λ t. expression_size (expression_of t) < expressions_size (expressions_of es)) (sym q) (subst (λ t. expression_size (expression_of (get_or all i e)) < expressions_size (expressions_of t)) p (element_falls all i e h))
+
+abbrev count : Expressions → ℕ
+count no_more = 0
+count (and_then e es) = suc (count es)
+
+count_of_all : (es : List Expression) → count (expressions_of es) ≡ length es
+count_of_all [] = refl
+count_of_all (e ∷ es) = ap suc (count_of_all es)
+
+-- equal elements are equally many
+pub same_length : (es fs : List Expression) → expressions_of es ≡ expressions_of fs → length es ≡ length fs
+same_length es fs e = sym (count_of_all es) ∙ ap count e ∙ count_of_all fs

@@ -23,3 +23,4 @@ pub mod Lexeme
 pub mod Gives
 pub mod Form
 pub mod ReadText
+pub mod ShapeTable
