@@ -19,7 +19,7 @@ use sample_core::Ty;
 use std::alloc::Global;
 
 /// How many bytes a text may have.
-const MAX_LENGTH: usize = 1_048_576;
+pub const MAX_LENGTH: usize = 1_048_576;
 
 /// The number of a parameter, at or after byte `at`.
 fn read_index(text: &[u8], at: usize, room: usize) -> Result<(u32, usize), ExprTextFault>
