@@ -1,10 +1,12 @@
-//! Runs of networks on the texts of streams, and what the program prints.
+//! Runs of networks on the texts of streams, the command line, and what the program prints.
 #![tactic(auto)]
 
 mod command;
 mod fault;
 mod files;
+mod preparation;
 mod printed;
+mod refused;
 mod run;
 mod step_text;
 mod stepper;
@@ -13,5 +15,6 @@ mod text_lines;
 
 pub use fault::{RunFault, RunReport, StreamFault};
 pub use files::{FileFault, Files};
+pub use preparation::{Job, Refusal, prepare};
 pub use printed::fault_line;
 pub use run::run_whole;
