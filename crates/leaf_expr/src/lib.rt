@@ -17,12 +17,13 @@ mod word;
 
 pub use evaluation::eval;
 pub use expr::{Expr, Part, Parts};
+pub use expr_reader::{MAX_LENGTH, read_expr, read_expr_at, read_type_at};
 pub use laws::typing_laws;
 pub use limits::{expr_fits, type_fits};
 pub use literal::Literal;
-pub use expr_reader::{read_expr, read_expr_at, read_type_at};
 pub use text_fault::ExprTextFault;
 pub use text_laws::{
     grammar_rows, number_laws, printing_laws, reading_laws, sugar_laws, whole_text_laws,
 };
-pub use token::token_at;
+pub use token::{Lexeme, lexeme_at, token_at};
+pub use type_reader::{MAX_OPEN, form_end, form_head};

@@ -57,7 +57,7 @@ fn word_end(text: &[u8], start: usize) -> usize
 
 /// The first token of a text from some byte on, or its end.
 #[derive(Clone, Copy)]
-pub(crate) enum Lexeme {
+pub enum Lexeme {
     /// No token follows.
     End,
     /// A `(` at that byte.
@@ -69,7 +69,7 @@ pub(crate) enum Lexeme {
 }
 
 /// The first token at or after byte `at`, as the text stands from that byte on.
-pub(crate) fn lexeme_at(text: &[u8], at: usize) -> Lexeme
+pub fn lexeme_at(text: &[u8], at: usize) -> Lexeme
     ensures { IsLexeme text.now at result }
 {
     if at >= text.len() {

@@ -15,11 +15,11 @@ use sample_core::{Ty, TyChild};
 use std::alloc::Global;
 
 /// How many parentheses may be open at once.
-pub(crate) const MAX_OPEN: usize = 600;
+pub const MAX_OPEN: usize = 600;
 
 #[tactic(auto, using(crate::proofs::ReadSteps::unfit_open, crate::proofs::ReadSteps::closed))]
 /// The end of a form: the byte behind its `)`.
-pub(crate) fn form_end(text: &[u8], at: usize, room: usize) -> Result<usize, ExprTextFault>
+pub fn form_end(text: &[u8], at: usize, room: usize) -> Result<usize, ExprTextFault>
     ensures { Gives (λ n. (n, tokens_from n text.now)) result (read_end leaf (length text.now) room (tokens_from at text.now)) }
 {
     match lexeme_at(text, at) {
@@ -33,11 +33,7 @@ pub(crate) fn form_end(text: &[u8], at: usize, room: usize) -> Result<usize, Exp
 
 #[tactic(auto, using(crate::proofs::ReadSteps::unfit_open))]
 /// The word of a form: where it begins and ends.
-pub(crate) fn form_head(
-    text: &[u8],
-    at: usize,
-    room: usize,
-) -> Result<(usize, usize), ExprTextFault>
+pub fn form_head(text: &[u8], at: usize, room: usize) -> Result<(usize, usize), ExprTextFault>
     ensures head { Gives (λ x. (x.0, slice_range text.now x.0 x.1, tokens_from x.1 text.now)) result (read_head leaf (length text.now) room (tokens_from at text.now)) }
     ensures within { IfOk result (λ x. (x.0 < x.1) × (x.1 ≤ length text.now)) }
 {
