@@ -16,8 +16,6 @@ bad_number w e f = go (is_well_spelt w) refl
     go true p = absurd (let i : is_number w ≡ true = rw (e, p) refl in let j : true ≡ false = sym i ∙ f in cc)
     go false p = rw (e, p) refl
 
-
-
 pub big_number : (w : List ℕ) → is_number w ≡ true → is_in_64 w ≡ false → misspelt ≡ integer_at w
 big_number w e f = let b : (is_number_word w ≡ true) × (is_well_spelt w ≡ true) = parts_of (is_number_word w) (is_well_spelt w) e in rw (b.0, b.1, f) refl
 

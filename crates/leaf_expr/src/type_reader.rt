@@ -33,11 +33,7 @@ pub fn form_end(text: &[u8], at: usize, room: usize) -> Result<usize, ExprTextFa
 
 #[tactic(auto, using(crate::proofs::ReadSteps::unfit_open))]
 /// The word of a form: where it begins and ends.
-pub fn form_head(
-    text: &[u8],
-    at: usize,
-    room: usize,
-) -> Result<(usize, usize), ExprTextFault>
+pub fn form_head(text: &[u8], at: usize, room: usize) -> Result<(usize, usize), ExprTextFault>
     ensures head { Gives (λ x. (x.0, slice_range text.now x.0 x.1, tokens_from x.1 text.now)) result (read_head leaf (length text.now) room (tokens_from at text.now)) }
     ensures within { IfOk result (λ x. (x.0 < x.1) × (x.1 ≤ length text.now)) }
 {

@@ -1,0 +1,4 @@
+pub mod Grammar
+pub mod Form
+pub mod File
+pub mod ReadNet

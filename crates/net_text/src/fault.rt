@@ -2,8 +2,7 @@
 
 ghost use Rattle.std.specs.Prelude.{◌≡◌};
 
-use sample_core::Memory;
-use std::alloc::{AllocError, AllocFailed};
+use leaf_expr::ExprTextFault;
 use thiserror::Error;
 
 /// Why a text is no network file. Each place is that of the first token that doesn't fit, counted in bytes from the
@@ -30,32 +29,18 @@ pub enum NetTextFault {
     Memory,
 }
 
-impl From<Memory> for NetTextFault {
-    ghost use Rattle.net_text.specs.declared.fault.NetTextFault.TheVariants as Fault;
+impl From<ExprTextFault> for NetTextFault {
+    ghost use Rattle.net_text.specs.ReadNet.{in_file};
 
-    ghost from_gives = { λ _ e. e ≡ Fault.Memory };
+    ghost from_gives = { λ f e. e ≡ in_file f };
 
-    fn from(_: Memory) -> NetTextFault {
-        NetTextFault::Memory
-    }
-}
-
-impl From<AllocError> for NetTextFault {
-    ghost use Rattle.net_text.specs.declared.fault.NetTextFault.TheVariants as Fault;
-
-    ghost from_gives = { λ _ e. e ≡ Fault.Memory };
-
-    fn from(_: AllocError) -> NetTextFault {
-        NetTextFault::Memory
-    }
-}
-
-impl<T: Drop> From<AllocFailed<T>> for NetTextFault {
-    ghost use Rattle.net_text.specs.declared.fault.NetTextFault.TheVariants as Fault;
-
-    ghost from_gives = { λ _ e. e ≡ Fault.Memory };
-
-    fn from(_failed: AllocFailed<T>) -> NetTextFault {
-        NetTextFault::Memory
+    fn from(fault: ExprTextFault) -> NetTextFault {
+        match fault {
+            ExprTextFault::Syntax { at } => NetTextFault::Syntax { at },
+            ExprTextFault::Number { at } => NetTextFault::Number { at },
+            ExprTextFault::TooDeep { at } => NetTextFault::TooDeep { at },
+            ExprTextFault::TooLong => NetTextFault::TooLong,
+            ExprTextFault::Memory => NetTextFault::Memory,
+        }
     }
 }

@@ -2,7 +2,7 @@
 #![tactic(auto)]
 
 mod fault;
-mod leaf_text;
+mod form;
 mod read;
 
 pub use fault::NetTextFault;

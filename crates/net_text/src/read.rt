@@ -1,39 +1,58 @@
 // Reading network files.
 
-ghost use Rattle.std.specs.Prelude.{◌≤◌, ◌<◌, IfOk, IfSome, length};
+ghost use Rattle.std.specs.Prelude.{◌≡◌, ◌≤◌, length, option_map};
+ghost use Rattle.leaf_expr.specs.Grammar.{expression_sort};
+ghost use Rattle.leaf_expr.specs.ReadText.{Gives, tree_at, expression_left};
+ghost use Rattle.leaf_expr.specs.Seen.{expression_of};
+ghost use Rattle.leaf_expr.specs.Token.{tokens, tokens_from};
+ghost use Rattle.net_syntax.specs.Network.{map_network};
+ghost use Rattle.net_syntax.specs.Seen.{tree_of};
+ghost use Rattle.sample_core.specs.SeenType.{type_of};
+ghost use Rattle.net_text.specs.File.{behind_word, behind_header, read_body, read_file};
+ghost use Rattle.net_text.specs.Form.{form_row, leaf_form_row};
+ghost use Rattle.net_text.specs.ReadNet.{GivesFile, network_at as network_read, form_at as form_read, row_parts, network_left};
 
 use crate::fault::NetTextFault;
-use crate::leaf_text::{read_expr_at, read_type_at};
-use leaf_expr::{Expr, Literal, Part, token_at};
+use crate::form::{Form, LeafForm, form_named, network_named};
+use leaf_expr::{
+    Expr, ExprTextFault, Lexeme, MAX_LENGTH, MAX_OPEN, form_end, form_head, lexeme_at,
+    read_expr_at, read_type_at, token_at,
+};
 use net_syntax::{Net, Sub};
-use sample_core::{Memory, Ty};
+use sample_core::Ty;
 use std::alloc::Global;
 
-/// How many bytes a network file may have.
-const MAX_BYTES: usize = 1_048_576;
-
-/// How many parentheses may be open at once.
-pub(crate) const MAX_OPEN: usize = 600;
-
-/// The network of a network file, `yampa 1 input TYPE NET`, and the type of its input.
-pub fn read_net(alloc: Global, text: &[u8]) -> Result<(Ty, Net<Expr>), NetTextFault> {
-    if text.len() > MAX_BYTES {
+/// Reads a network file, `yampa 1 input TYPE NET`: the type of the input, and the network. Sugar is expanded. A file
+/// of more than 1,048,576 bytes is `TooLong`; else the first token that doesn't fit is answered: `Header` where it is
+/// one of the first three, `TooDeep` at the 601st parenthesis open at once, `Number` at a number word that is badly
+/// spelt or out of range where a number may stand, and `Syntax` at any other.
+pub fn read_net(alloc: Global, text: &[u8]) -> Result<(Ty, Net<Expr>), NetTextFault>
+    ensures { GivesFile result (read_file text.now) }
+{
+    if text.len() > MAX_LENGTH {
         return Err(NetTextFault::TooLong);
     }
-    let Some(at) = header_end(text) else {
-        return Err(NetTextFault::Header);
-    };
-    let (input, at) = read_type_at(alloc, text, at, 0)?;
-    let (net, at) = network_at(alloc, text, at, 0)?;
-    match token_at(text, at) {
-        None => Ok((input, net)),
-        Some((start, _)) => Err(NetTextFault::Syntax { at: start }),
+    match header_end(text) {
+        Some(at) => Ok(body_at(alloc, text, at)?),
+        None => Err(NetTextFault::Header),
     }
 }
 
-/// The byte behind the words `yampa 1 input`, where the text begins with them.
+/// A type and a network, and nothing behind them, at or after byte `at`.
+fn body_at(alloc: Global, text: &[u8], at: usize) -> Result<(Ty, Net<Expr>), ExprTextFault>
+    ensures { Gives (λ x. (type_of x.0, tree_of x.1)) result (read_body (length text.now) (tokens_from at text.now)) }
+{
+    let (input, at) = read_type_at(alloc, text, at, 0)?;
+    let (net, at) = network_at(alloc, text, at, MAX_OPEN)?;
+    match token_at(text, at) {
+        None => Ok((input, net)),
+        Some((start, _)) => Err(ExprTextFault::Syntax { at: start }),
+    }
+}
+
+/// The byte behind the words `yampa 1 input`, where these are the first tokens.
 fn header_end(text: &[u8]) -> Option<usize>
-    ensures { IfSome result (λ end. end ≤ length text.now) }
+    ensures { option_map (λ end. tokens_from end text.now) result ≡ behind_header (tokens text.now) }
 {
     let at = word_end(text, 0, "yampa")?;
     let at = word_end(text, at, "1")?;
@@ -42,195 +61,146 @@ fn header_end(text: &[u8]) -> Option<usize>
 
 /// The byte behind the word, where it is the first token at or after `at`.
 fn word_end(text: &[u8], at: usize, word: &str) -> Option<usize>
-    ensures { IfSome result (λ end. end ≤ length text.now) }
+    ensures { option_map (λ end. tokens_from end text.now) result ≡ behind_word word.now (tokens_from at text.now) }
 {
-    let (start, end) = token_at(text, at)?;
-    if &text[start..end] == word.as_bytes() {
-        Some(end)
-    } else {
-        None
-    }
-}
-
-/// A form of networks of one expression. `Constant` is sugar.
-#[derive(Clone, Copy)]
-enum LeafForm {
-    Arr,
-    Constant,
-    IPre,
-}
-
-/// A form of networks, by the parts that it takes.
-#[derive(Clone, Copy)]
-enum Form {
-    /// One expression.
-    Leaf(LeafForm),
-    /// Two networks.
-    Seq,
-}
-
-impl LeafForm {
-    /// The form with that expression; `(constant e)` is `(arr (then unit e))`.
-    fn of(self, alloc: Global, e: Expr) -> Result<Net<Expr>, Memory> {
-        Ok(match self {
-            LeafForm::Arr => Net::Arr(e),
-            LeafForm::Constant => {
-                let unit = Part::new(alloc, Expr::Literal(Literal::Unit))?;
-                Net::Arr(Expr::Then(unit, Part::new(alloc, e)?))
+    match lexeme_at(text, at) {
+        Lexeme::Word(start, end) => {
+            if &text[start..end] == word.as_bytes() {
+                Some(end)
+            } else {
+                None
             }
-            LeafForm::IPre => Net::IPre(e),
-        })
+        }
+        Lexeme::End => None,
+        Lexeme::Open(_) => None,
+        Lexeme::Close(_) => None,
     }
 }
 
-/// The form of networks that the word begins.
-fn form_named(word: &[u8]) -> Option<Form> {
-    match word {
-        b"arr" => Some(Form::Leaf(LeafForm::Arr)),
-        b"constant" => Some(Form::Leaf(LeafForm::Constant)),
-        b"iPre" => Some(Form::Leaf(LeafForm::IPre)),
-        b">>>" => Some(Form::Seq),
-        _ => None,
-    }
-}
-
-/// The network that the word is.
-fn network_named(word: &[u8]) -> Option<Net<Expr>> {
-    match word {
-        b"identity" => Some(Net::Arr(Expr::Input)),
-        _ => None,
-    }
-}
-
-/// The network at or after byte `at`, with so many parentheses open before it, and the byte behind it.
+/// The network at or after byte `at`, with room for so many more parentheses, and the byte behind it.
 #[cycle(network)]
+#[tactic(auto, using(crate::proofs::ReadSteps::opened))]
 fn network_at(
     alloc: Global,
     text: &[u8],
     at: usize,
-    depth: usize,
-) -> Result<(Net<Expr>, usize), NetTextFault>
-    requires { depth ≤ 600 }
-    ensures { IfOk result (λ x. x.1 ≤ length text.now) }
+    room: usize,
+) -> Result<(Net<Expr>, usize), ExprTextFault>
+    requires { room ≤ 600 }
+    ensures { Gives (network_left text.now) result (network_read text.now room at) }
 {
-    let Some((start, end)) = token_at(text, at) else {
-        return Err(NetTextFault::Syntax { at: text.len() });
-    };
-    match &text[start..end] {
-        b"(" if depth == MAX_OPEN => Err(NetTextFault::TooDeep { at: start }),
-        b"(" => form_at(alloc, text, end, depth + 1),
-        word => match network_named(word) {
+    match lexeme_at(text, at) {
+        Lexeme::End => Err(ExprTextFault::Syntax { at: text.len() }),
+        Lexeme::Close(start) => Err(ExprTextFault::Syntax { at: start }),
+        Lexeme::Open(start) => {
+            if room == 0 {
+                return Err(ExprTextFault::TooDeep { at: start });
+            }
+            form_at(alloc, text, start + 1, room - 1)
+        }
+        Lexeme::Word(start, end) => match network_named(&text[start..end]) {
             Some(net) => Ok((net, end)),
-            None => Err(NetTextFault::Syntax { at: start }),
+            None => Err(ExprTextFault::Syntax { at: start }),
         },
     }
 }
 
-/// What stands behind the parenthesis of a form, and the byte behind it.
+/// What stands behind the parenthesis of a form.
 #[cycle(network)]
+#[tactic(auto, using(crate::proofs::ReadSteps::named, crate::proofs::ReadSteps::unnamed, crate::proofs::ReadSteps::headless))]
 fn form_at(
     alloc: Global,
     text: &[u8],
     at: usize,
-    depth: usize,
-) -> Result<(Net<Expr>, usize), NetTextFault>
-    requires { depth ≤ 600 }
-    ensures { IfOk result (λ x. x.1 ≤ length text.now) }
+    room: usize,
+) -> Result<(Net<Expr>, usize), ExprTextFault>
+    requires { room ≤ 600 }
+    ensures { Gives (network_left text.now) result (form_read text.now room at) }
 {
-    let (start, end) = form_word(text, at, depth)?;
+    let (start, end) = form_head(text, at, room)?;
     match form_named(&text[start..end]) {
-        Some(form) => parts_at(alloc, text, end, depth, form),
-        None => Err(NetTextFault::Syntax { at: start }),
+        Some(form) => parts_at(alloc, text, end, room, form),
+        None => Err(ExprTextFault::Syntax { at: start }),
     }
 }
 
-/// The parts of a form and its end, and the byte behind it.
+/// The parts of a form, and its end.
 #[cycle(network)]
 fn parts_at(
     alloc: Global,
     text: &[u8],
     at: usize,
-    depth: usize,
+    room: usize,
     form: Form,
-) -> Result<(Net<Expr>, usize), NetTextFault>
-    requires { depth ≤ 600 }
-    ensures { IfOk result (λ x. x.1 ≤ length text.now) }
+) -> Result<(Net<Expr>, usize), ExprTextFault>
+    requires { room ≤ 600 }
+    ensures { Gives (network_left text.now) result (row_parts (form_row form) text.now room at) }
 {
     match form {
-        Form::Leaf(form) => leaf_form_at(alloc, text, at, depth, form),
-        Form::Seq => {
-            let (f, at) = sub_at(alloc, text, at, depth)?;
-            let (g, at) = sub_at(alloc, text, at, depth)?;
-            let end = form_end(text, at, depth)?;
-            Ok((Net::Seq(f, g), end))
-        }
+        Form::Leaf(form) => leaf_form_at(alloc, text, at, room, form),
+        Form::Seq => seq_at(alloc, text, at, room),
     }
 }
 
-/// A network inside a network, and the byte behind it.
+/// Two networks, and the end of the form.
+#[cycle(network)]
+fn seq_at(
+    alloc: Global,
+    text: &[u8],
+    at: usize,
+    room: usize,
+) -> Result<(Net<Expr>, usize), ExprTextFault>
+    requires { room ≤ 600 }
+    ensures { Gives (network_left text.now) result (row_parts (form_row Form.Seq) text.now room at) }
+{
+    let (f, at) = sub_at(alloc, text, at, room)?;
+    let (g, at) = sub_at(alloc, text, at, room)?;
+    let end = form_end(text, at, room)?;
+    Ok((Net::Seq(f, g), end))
+}
+
+/// A network inside a network.
 #[cycle(network)]
 fn sub_at(
     alloc: Global,
     text: &[u8],
     at: usize,
-    depth: usize,
-) -> Result<(Sub<Expr>, usize), NetTextFault>
-    requires { depth ≤ 600 }
-    ensures { IfOk result (λ x. x.1 ≤ length text.now) }
+    room: usize,
+) -> Result<(Sub<Expr>, usize), ExprTextFault>
+    requires { room ≤ 600 }
+    ensures { Gives (λ x. (map_network expression_of x.0, x.1, tokens_from x.1 text.now)) result (network_read text.now room at) }
 {
-    let (net, at) = network_at(alloc, text, at, depth)?;
+    let (net, at) = network_at(alloc, text, at, room)?;
     Ok((Sub::new(alloc, net)?, at))
 }
 
-/// The expression of a form and its end, and the byte behind it.
+/// One expression, and the end of the form.
+#[tactic(auto, using(crate::proofs::Carried::read_same))]
 fn leaf_form_at(
     alloc: Global,
     text: &[u8],
     at: usize,
-    depth: usize,
+    room: usize,
     form: LeafForm,
-) -> Result<(Net<Expr>, usize), NetTextFault>
-    requires { depth ≤ 600 }
-    ensures { IfOk result (λ x. x.1 ≤ length text.now) }
+) -> Result<(Net<Expr>, usize), ExprTextFault>
+    requires { room ≤ 600 }
+    ensures { Gives (network_left text.now) result (row_parts (leaf_form_row form) text.now room at) }
 {
-    let (e, at) = read_expr_at(alloc, text, at, depth)?;
-    let end = form_end(text, at, depth)?;
-    Ok((form.of(alloc, e)?, end))
+    let (e, at) = expr_at(alloc, text, at, room)?;
+    let end = form_end(text, at, room)?;
+    let net = form.of(alloc, e)?;
+    Ok((net, end))
 }
 
-/// Where the word of a form begins and ends, with so many parentheses open.
-fn form_word(text: &[u8], at: usize, depth: usize) -> Result<(usize, usize), NetTextFault>
-    ensures { IfOk result (λ x. (x.0 < x.1) × (x.1 ≤ length text.now)) }
+/// The expression at or after byte `at`, with room for so many more parentheses, and the byte behind it.
+fn expr_at(
+    alloc: Global,
+    text: &[u8],
+    at: usize,
+    room: usize,
+) -> Result<(Expr, usize), ExprTextFault>
+    requires { room ≤ 600 }
+    ensures { Gives (expression_left text.now) result (tree_at expression_sort text.now room at) }
 {
-    let Some((start, end)) = token_at(text, at) else {
-        return Err(NetTextFault::Syntax { at: text.len() });
-    };
-    match &text[start..end] {
-        b"(" | b")" => Err(unfit(text, start, depth)),
-        _ => Ok((start, end)),
-    }
-}
-
-/// The byte behind the `)` of a form, with so many parentheses open.
-fn form_end(text: &[u8], at: usize, depth: usize) -> Result<usize, NetTextFault>
-    ensures { IfOk result (λ end. end ≤ length text.now) }
-{
-    let Some((start, end)) = token_at(text, at) else {
-        return Err(NetTextFault::Syntax { at: text.len() });
-    };
-    match &text[start..end] {
-        b")" => Ok(end),
-        _ => Err(unfit(text, start, depth)),
-    }
-}
-
-/// The fault of the token at `start`, which doesn't fit.
-fn unfit(text: &[u8], start: usize, depth: usize) -> NetTextFault
-    requires { start < length text.now }
-{
-    if text[start] == b'(' && depth == MAX_OPEN {
-        NetTextFault::TooDeep { at: start }
-    } else {
-        NetTextFault::Syntax { at: start }
-    }
+    read_expr_at(alloc, text, at, MAX_OPEN - room)
 }

@@ -1,0 +1,45 @@
+-- Network files: `yampa 1 input TYPE NET`.
+use Rattle.std.specs.Prelude.{◌≡◌, ℕ, nat_lt, bytes_eq, codes, List, [], ◌∷◌, length, Option, Some, None, option_and_then, Result, Ok, Err, if◌then◌else◌}
+use Rattle.sample_core.specs.TypeTree.{TypeTree}
+use Rattle.leaf_expr.specs.Expression.{Expression}
+use Rattle.leaf_expr.specs.Token.{Placed, word, tokens}
+use Rattle.leaf_expr.specs.Grammar.{leaf, type_sort}
+use Rattle.leaf_expr.specs.Reader.{Fault, syntax, Read, ◌>>=◌, read}
+use Rattle.net_syntax.specs.Network.{Network}
+use Rattle.net_text.specs.Grammar.{networks, network_sort}
+
+-- why bytes are no network file
+pub data FileFault : Type 0 where
+  header : FileFault
+  too_long : FileFault
+  at : Fault → FileFault
+
+-- the tokens behind that word, where it comes first
+abbrev pub behind_word : List ℕ → List Placed → Option (List Placed)
+behind_word u ((n, word w) ∷ ts) = if bytes_eq w u then Some ts else None
+behind_word u _ = None
+
+-- the tokens behind `yampa 1 input`, where these come first
+abbrev pub behind_header : List Placed → Option (List Placed)
+behind_header ts = option_and_then (behind_word (codes "input")) (option_and_then (behind_word (codes "1")) (behind_word (codes "yampa") ts))
+
+-- x, where no token is left
+abbrev pub at_end : {T : Type 0} → T → List Placed → Result T Fault
+at_end x [] = Ok x
+at_end x (y ∷ ts) = Err (syntax y.0)
+
+-- a type and a network, and nothing behind them, in a text of so many bytes
+abbrev pub read_body : ℕ → List Placed → Result (TypeTree × Network Expression) Fault
+read_body size ts = read leaf size 600 type_sort ts >>= (λ a. read networks size 600 network_sort a.2 >>= (λ g. at_end (a.0, g.0) g.2))
+
+abbrev pub body_fault : {T : Type 0} → Result T Fault → Result T FileFault
+body_fault (Ok x) = Ok x
+body_fault (Err e) = Err (at e)
+
+abbrev pub read_behind : ℕ → Option (List Placed) → Result (TypeTree × Network Expression) FileFault
+read_behind size None = Err header
+read_behind size (Some ts) = body_fault (read_body size ts)
+
+-- the input's type and the network of the file that the bytes are, or the first fault
+abbrev pub read_file : List ℕ → Result (TypeTree × Network Expression) FileFault
+read_file bs = if nat_lt 1048576 (length bs) then Err too_long else read_behind (length bs) (behind_header (tokens bs))

@@ -1,0 +1,56 @@
+-- What the code's reader of networks answers: what the reader of the grammar does on the tokens from some byte on.
+use Rattle.std.specs.Prelude.{◌≡◌, ℕ, List, length, Result, Ok, Err}
+use Rattle.sample_core.specs.TypeTree.{TypeTree}
+use Rattle.sample_core.specs.SeenType.{type_of}
+use Rattle.sample_core.specs.declared.ty.Ty.{Ty}
+use Rattle.leaf_expr.specs.Expression.{Expression}
+use Rattle.leaf_expr.specs.declared.expr.Expr.{Expr}
+use Rattle.leaf_expr.specs.declared.text_fault.ExprTextFault.{ExprTextFault}
+use Rattle.leaf_expr.specs.declared.text_fault.ExprTextFault.TheVariants as E
+use Rattle.leaf_expr.specs.Token.{Placed, tokens_from}
+use Rattle.leaf_expr.specs.Reader.{syntax, number, too_deep, Read, read, read_form, read_parts}
+use Rattle.net_syntax.specs.Network.{Network}
+use Rattle.net_syntax.specs.Seen.{tree_of}
+use Rattle.net_syntax.specs.declared.net.Net.{Net}
+use Rattle.net_text.specs.Grammar.{networks, network_sort, NetRow}
+use Rattle.net_text.specs.File.{FileFault, header, too_long, at}
+use Rattle.net_text.specs.declared.fault.NetTextFault.{NetTextFault}
+use Rattle.net_text.specs.declared.fault.NetTextFault.TheVariants as V
+
+-- a network in the text from byte n on, with room for so many more parentheses
+abbrev pub network_at : List ℕ → ℕ → ℕ → Read (Network Expression)
+network_at text room n = read networks (length text) room network_sort (tokens_from n text)
+
+-- behind the parenthesis of a form, in the text from byte n on
+abbrev pub form_at : List ℕ → ℕ → ℕ → Read (Network Expression)
+form_at text room n = read_form networks (length text) (read networks (length text) room) room network_sort (tokens_from n text)
+
+-- the parts of a form and its end, in the text from byte n on
+abbrev pub row_parts : NetRow → List ℕ → ℕ → ℕ → Read (Network Expression)
+row_parts r text room n = read_parts networks (length text) (read networks (length text) room) room r.takes r.makes (tokens_from n text)
+
+-- a network, the byte behind it, and the tokens from there on
+abbrev pub network_left : List ℕ → Net Expr × ℕ → Network Expression × ℕ × List Placed
+network_left text x = (tree_of x.0, x.1, tokens_from x.1 text)
+
+-- a fault inside a file
+abbrev pub in_file : ExprTextFault → NetTextFault
+in_file (E.Syntax n) = V.Syntax n
+in_file (E.Number n) = V.Number n
+in_file (E.TooDeep n) = V.TooDeep n
+in_file E.TooLong = V.TooLong
+in_file E.Memory = V.Memory
+
+-- a fault that reading has; want of memory says nothing of the file
+abbrev pub RefusesFile : {Y : Type 0} → NetTextFault → Result Y FileFault → Type 0
+RefusesFile V.Header read = read ≡ Err header
+RefusesFile (V.Syntax n) read = read ≡ Err (at (syntax n))
+RefusesFile (V.Number n) read = read ≡ Err (at (number n))
+RefusesFile (V.TooDeep n) read = read ≡ Err (at (too_deep n))
+RefusesFile V.TooLong read = read ≡ Err too_long
+RefusesFile V.Memory read = Unit {0}
+
+-- what the call returned is what reading gives, unless memory ran out
+abbrev pub GivesFile : Result (Ty × Net Expr) NetTextFault → Result (TypeTree × Network Expression) FileFault → Type 0
+GivesFile (Ok x) read = read ≡ Ok (type_of x.0, tree_of x.1)
+GivesFile (Err e) read = RefusesFile e read
