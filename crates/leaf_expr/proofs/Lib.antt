@@ -17,3 +17,4 @@ pub mod WordSteps
 pub mod ItemSteps
 pub mod IndexSteps
 pub mod Joined
+pub mod Answered
