@@ -23,3 +23,4 @@ pub mod ItemSteps
 pub mod IndexSteps
 pub mod Joined
 pub mod ShapeValue
+pub mod Answered
