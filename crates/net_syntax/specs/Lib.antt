@@ -22,3 +22,4 @@ pub mod SwitchLaws
 pub mod Examples
 pub mod WithinLimits
 pub mod Position
+pub mod Place

@@ -1,3 +1,4 @@
 pub mod Walk
 pub mod Check
+pub mod FaultPlaces
 pub mod TypingLaws

@@ -1,5 +1,5 @@
 -- What is to hold of the walk and of the check.
-use Rattle.std.specs.Prelude.{◌≡◌, ◌↔◌, ℕ, List, Ok}
+use Rattle.std.specs.Prelude.{◌≡◌, ◌↔◌, ℕ, List, [], Ok, Err}
 use Rattle.sample_core.specs.TypeTree.{TypeTree}
 use Rattle.leaf_expr.specs.Expression.{Expression}
 use Rattle.net_syntax.specs.Network.{Network}
@@ -7,6 +7,8 @@ use Rattle.net_syntax.specs.Typing.{Arrow}
 use Rattle.net_syntax.specs.Stream.{TypedNetwork}
 use Rattle.net_syntax.specs.NetworkLimits.{NetTypedWithin}
 use Rattle.net_syntax.specs.WithinLimits.{WithinLimits}
+use Rattle.net_types.specs.declared.fault.TypeFault.{TypeFault}
+use Rattle.net_types.specs.FaultPlaces.{Sited}
 use Rattle.net_types.specs.Check.{net_walk, check}
 
 -- the walk answers an output type exactly where the network has it within the limits
@@ -16,3 +18,7 @@ WalkLaw = (P : List ℕ) (Ps : List TypeTree) (Os : List Arrow) (A : TypeTree) (
 -- the check answers a network exactly where its input and its tree are those that were given, and it has its types, weight and height within the limits
 abbrev pub CheckLaw : Type 0
 CheckLaw = (A : TypeTree) (net : Network Expression) (t : TypedNetwork) → (check A net ≡ Ok t) ↔ ((t.input ≡ A) × (t.net ≡ net) × WithinLimits t)
+
+-- a refused expression stands at an expression of the network, and each other fault that has a position at a network in it; want of memory is never the check's answer
+abbrev pub FaultLaw : Type 0
+FaultLaw = (A : TypeTree) (net : Network Expression) (f : TypeFault) → check A net ≡ Err f → Sited net [] f

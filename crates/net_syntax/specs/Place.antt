@@ -1,0 +1,79 @@
+-- What stands at a position: child numbers lead from the root through networks, and into an expression.
+use Rattle.std.specs.Prelude.{ℕ, zero, suc, List, [], ◌∷◌, Option, Some, None, option_map}
+use Rattle.net_syntax.specs.Network.{Network, Networks, arr, seq, first, par, loop_pre, i_pre, delay, hold, accum_by, after, repeatedly, switch, d_switch, r_switch, k_switch, p_switch, no_members, and_member}
+
+infixl 20 ◌>>=◌
+-- the next step, where there is something
+abbrev pub ◌>>=◌ : {A B : Type 0} → Option A → (A → Option B) → Option B
+◌>>=◌ None k = None
+◌>>=◌ (Some a) k = k a
+
+-- a network, or an expression
+pub data Tree (L : Type 0) : Type 0 where
+  a_network : Network L → Tree L
+  a_leaf : L → Tree L
+
+-- member k, from 0
+abbrev pub member : {L : Type 0} → Networks L → ℕ → Option (Network L)
+member no_members k = None
+member (and_member f fs) zero = Some f
+member (and_member f fs) (suc k) = member fs k
+
+-- what stands at a number behind the route of a pSwitch: its members, then its event, then its continuation
+pub data Part : Type 0 where
+  member_part : Part
+  event_part : Part
+  continuation_part : Part
+  no_part : Part
+
+-- which of them stands at number k
+abbrev pub part : {L : Type 0} → Networks L → ℕ → Part
+part no_members zero = event_part
+part no_members (suc zero) = continuation_part
+part no_members (suc (suc k)) = no_part
+part (and_member f fs) zero = member_part
+part (and_member f fs) (suc k) = part fs k
+
+-- the network that stands there
+abbrev pub part_child : {L : Type 0} → Part → Networks L → Network L → Network L → ℕ → Option (Network L)
+part_child member_part fs e n k = member fs k
+part_child event_part fs e n k = Some e
+part_child continuation_part fs e n k = Some n
+part_child no_part fs e n k = None
+
+-- child k, from 0
+abbrev pub child : {L : Type 0} → Network L → ℕ → Option (Tree L)
+child (arr e) zero = Some (a_leaf e)
+child (seq f g) zero = Some (a_network f)
+child (seq f g) (suc zero) = Some (a_network g)
+child (first f) zero = Some (a_network f)
+child (par fs) k = option_map a_network (member fs k)
+child (loop_pre c f) zero = Some (a_leaf c)
+child (loop_pre c f) (suc zero) = Some (a_network f)
+child (i_pre c) zero = Some (a_leaf c)
+child (delay q c) zero = Some (a_leaf c)
+child (hold c) zero = Some (a_leaf c)
+child (accum_by g z) zero = Some (a_leaf g)
+child (accum_by g z) (suc zero) = Some (a_leaf z)
+child (after q c) zero = Some (a_leaf c)
+child (repeatedly q c) zero = Some (a_leaf c)
+child (switch f n) zero = Some (a_network f)
+child (switch f n) (suc zero) = Some (a_network n)
+child (d_switch f n) zero = Some (a_network f)
+child (d_switch f n) (suc zero) = Some (a_network n)
+child (r_switch f n) zero = Some (a_network f)
+child (r_switch f n) (suc zero) = Some (a_network n)
+child (k_switch f e n) zero = Some (a_network f)
+child (k_switch f e n) (suc zero) = Some (a_network e)
+child (k_switch f e n) (suc (suc zero)) = Some (a_network n)
+child (p_switch r fs e n) zero = Some (a_leaf r)
+child (p_switch r fs e n) (suc k) = option_map a_network (part_child (part fs k) fs e n k)
+child _ _ = None
+
+-- the network, or the whole expression with what is left of the position inside it
+abbrev pub at : {L : Type 0} → Tree L → List ℕ → Option (Tree L × List ℕ)
+at (a_leaf e) p = Some (a_leaf e, p)
+at (a_network f) [] = Some (a_network f, [])
+at (a_network f) (k ∷ p) = do
+  s ← child f k
+  at s p
