@@ -1,5 +1,5 @@
 -- The checking walk answers a type exactly where the expression has it and the limits hold.
-use Rattle.std.proofs.Common.{◌≡◌, IsTrue, ℕ, zero, suc, ◌≤◌, ℤ, Bool, true, false, ◌&&◌, leb, List, [], ◌∷◌, Ok, Err, refl, sym, ap, ◌∙◌, subst, Decides, FitsSigned, w64, le-leb, leb-true, ◌↔◌, ◌⊎◌, inl, inr}
+use Rattle.std.proofs.Common.{◌≡◌, IsTrue, ℕ, zero, suc, ◌≤◌, ℤ, Bool, true, false, ◌&&◌, leb, List, [], ◌∷◌, Ok, Err, refl, sym, ap, ◌∙◌, subst, Decides, FitsSigned, w64, le-leb, leb-true, ◌↔◌}
 use Rattle.std.specs.Int.{int_wrap}
 use Rattle.std.specs.Ordering.{int_eq}
 use Rattle.std.proofs.lemmas.Int.{SFits-int_wrap, int_wrap_fits}

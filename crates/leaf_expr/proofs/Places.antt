@@ -1,5 +1,5 @@
 -- What stands at a place of a list, and how many there are.
-use Rattle.std.proofs.Common.{◌≡◌, ℕ, zero, suc, ◌+◌, ◌<◌, ◌≤◌, ℤ, pos, List, [], ◌∷◌, length, get_or, Ok, Err, map, refl, ap, subst, sym, ◌∙◌, arith}
+use Rattle.std.proofs.Common.{◌≡◌, ℕ, zero, suc, ◌<◌, ◌≤◌, ℤ, pos, List, [], ◌∷◌, length, get_or, Ok, Err, map, refl, ap, subst, sym, ◌∙◌, arith}
 use Rattle.sample_core.specs.Datum.{Datum, unit, list, elements, of_elements}
 use Rattle.sample_core.specs.Seen.{datum_of}
 use Rattle.sample_core.specs.declared.sample.Sample.{Sample}

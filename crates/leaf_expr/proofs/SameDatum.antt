@@ -1,6 +1,5 @@
 -- `same_datum` is equality.
-use Rattle.std.proofs.Common.{◌≡◌, ℤ, Bool, true, false, not, ◌&&◌, refl, ap, ◌∙◌, subst, Decides, ◌↔◌, IsTrue}
-use Rattle.std.specs.Ordering.{int_eq}
+use Rattle.std.proofs.Common.{◌≡◌, Bool, true, false, ◌&&◌, refl, ap, ◌∙◌, subst, Decides, ◌↔◌, IsTrue}
 use Rattle.std.specs.Cmp.{booleans_Decides}
 use Rattle.std.proofs.lemmas.Bool.Decides.{Decides-int_eq, same_from_decides}
 use Rattle.sample_core.specs.Datum.{Datum, Datums, unit, truth, number, pair, no_event, event, list, end, more}

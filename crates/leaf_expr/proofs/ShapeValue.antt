@@ -1,10 +1,9 @@
 -- An expression's value is the one that its shape gives.
-use Rattle.std.proofs.Common.{◌≡◌, ℤ, pos, ◌+ℤ◌, ◌*ℤ◌, int_lt, List, refl, ap, sym, ◌∙◌, w64, arith}
-use Rattle.std.specs.Int.{int_wrap}
+use Rattle.std.proofs.Common.{◌≡◌, ℤ, pos, ◌+ℤ◌, ◌*ℤ◌, List, refl, ap, sym, ◌∙◌, w64}
 use Rattle.std.proofs.lemmas.Int.{int_wrap-add_left}
 use Rattle.std.proofs.Math.IntN.{one, *ℤ_comm, *ℤ-one, +ℤ_idr}
 use Rattle.sample_core.specs.Datum.{Datum, number, whole}
-use Rattle.leaf_expr.specs.Expression.{Expression, sample, unit_literal, truth_literal, number_literal, make_pair, fst, snd, add, mul, less, make_event}
+use Rattle.leaf_expr.specs.Expression.{Expression, sample, number_literal, make_pair, fst, snd, add, mul, less, make_event}
 use Rattle.leaf_expr.specs.ExpressionValue.{value_of, wrapped}
 use Rattle.leaf_expr.specs.ShapeTable.{shape_of, shape_value}
 

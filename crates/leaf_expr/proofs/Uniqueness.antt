@@ -2,7 +2,7 @@
 use Rattle.std.proofs.Common.{◌≡◌, ℕ, List, refl, ap, sym, ◌∙◌, subst}
 use Rattle.sample_core.specs.TypeTree.{TypeTree, pair_ty, event_ty}
 use Rattle.leaf_expr.specs.Expression.{Expression}
-use Rattle.leaf_expr.specs.ExpressionTyping.{ParamAt, param_here, param_after, ExpressionTyped, ExpressionsTyped, sample_typed, parameter_typed, unit_typed, truth_typed, number_typed, pair_typed, fst_typed, snd_typed, then_typed, neg_typed, add_typed, sub_typed, mul_typed, less_typed, equal_typed, negation_typed, conjunction_typed, disjunction_typed, choice_typed, none_of_typed, event_typed, on_typed, list_typed, nth_typed, len_typed, no_more_typed, and_then_typed}
+use Rattle.leaf_expr.specs.ExpressionTyping.{ParamAt, param_here, param_after, ExpressionTyped, sample_typed, parameter_typed, unit_typed, truth_typed, number_typed, pair_typed, fst_typed, snd_typed, then_typed, neg_typed, add_typed, sub_typed, mul_typed, less_typed, equal_typed, negation_typed, conjunction_typed, disjunction_typed, choice_typed, none_of_typed, event_typed, on_typed, list_typed, nth_typed, len_typed}
 
 abbrev left_ty : TypeTree → TypeTree
 left_ty (pair_ty A B) = A

@@ -3,7 +3,6 @@ use Rattle.std.specs.Prelude.{◌≡◌, ℤ, pos, ◌+ℤ◌, ◌*ℤ◌, int_l
 use Rattle.sample_core.specs.Datum.{Datum, unit, truth, number, pair, event, whole, left, right}
 use Rattle.leaf_expr.specs.Expression.{Expression, sample, unit_literal, truth_literal, number_literal, make_pair, fst, snd, add, mul, less, make_event}
 use Rattle.leaf_expr.specs.ExpressionValue.{value_of, wrapped}
-use Rattle.leaf_expr.specs.declared.literal.Literal.{Literal}
 use Rattle.leaf_expr.specs.declared.literal.Literal.TheVariants as C
 use Rattle.leaf_expr.specs.declared.shape.Shape.{Shape}
 use Rattle.leaf_expr.specs.declared.shape.Shape.TheVariants as S

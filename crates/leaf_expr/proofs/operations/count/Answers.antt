@@ -1,4 +1,4 @@
-use Rattle.std.proofs.Common.{◌≡◌, arith}
+use Rattle.std.proofs.Common.{arith}
 use Rattle.std.proofs.lemmas.Grind.{common_steps}
 use Rattle.leaf_expr.proofs.Places.{elements_of_elements}
 use Rattle.leaf_expr.proofs.operations.count.Goals as goal

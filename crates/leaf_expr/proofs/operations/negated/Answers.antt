@@ -1,7 +1,6 @@
-use Rattle.std.proofs.Common.{ap, w64, arith}
+use Rattle.std.proofs.Common.{w64, arith}
 use Rattle.std.proofs.lemmas.Grind.{common_steps}
 use Rattle.std.proofs.lemmas.Int.{wrapping_neg_is}
-use Rattle.sample_core.specs.Datum.{number}
 use Rattle.leaf_expr.proofs.operations.negated.Goals as goal
 
 pub returns : goal.returns
