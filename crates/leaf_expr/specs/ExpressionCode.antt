@@ -1,5 +1,5 @@
 -- The code of an expression, by which the check tells expressions apart.
-use Rattle.std.specs.Prelude.{◌≡◌, ℕ, zero, suc, refl, Bool, true, false, ℤ, pos, negsuc}
+use Rattle.std.specs.Prelude.{◌≡◌, ℕ, refl}
 use Rattle.std.proofs.Common.{ap, arith}
 use Rattle.std.specs.Coded.{Coded, coded_ℤ, coded_bool}
 use base.Stored.{Gv, gnil, gnum, gcons, num, coded_via}

@@ -1,5 +1,5 @@
 -- Each expression inside an expression is smaller than it.
-use Rattle.std.specs.Prelude.{◌≤◌, ◌+◌, max, List, [], ◌∷◌, map}
+use Rattle.std.specs.Prelude.{◌≤◌, max, List, [], ◌∷◌, map}
 use Rattle.std.proofs.Common.{arith}
 use denote.Param.Weighed.{most}
 use Rattle.leaf_expr.specs.Expression.{expressions_of, expression_size, expressions_size}

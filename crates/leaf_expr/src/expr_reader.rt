@@ -14,9 +14,9 @@ ghost use Rattle.leaf_expr.specs.Token.{Placed, closing, tokens_from};
 
 use crate::expr::{Expr, Part, Parts};
 use crate::form::{Binary, Form, Ternary, Typed, Unary, form_named};
-use crate::type_reader::{MAX_OPEN, form_end, form_head, read_type};
 use crate::text_fault::ExprTextFault;
 use crate::token::{Lexeme, lexeme_at};
+use crate::type_reader::{MAX_OPEN, form_end, form_head, read_type};
 use crate::word::{WordFault, expr_word, index_word};
 use sample_core::Ty;
 use std::alloc::Global;
@@ -72,12 +72,7 @@ fn read_expression(
 /// What stands behind the parenthesis of a form.
 #[cycle(read_expression)]
 #[tactic(auto, using(crate::proofs::ReadSteps::named, crate::proofs::ReadSteps::unnamed))]
-fn form(
-    alloc: Global,
-    text: &[u8],
-    at: usize,
-    room: usize,
-) -> Result<(Expr, usize), ExprTextFault>
+fn form(alloc: Global, text: &[u8], at: usize, room: usize) -> Result<(Expr, usize), ExprTextFault>
     ensures { Gives (expression_left text.now) result (form_at expression_sort text.now room at) }
 {
     let (start, end) = form_head(text, at, room)?;
@@ -134,12 +129,7 @@ fn no_event(
 
 /// An expression inside an expression.
 #[cycle(read_expression)]
-fn part(
-    alloc: Global,
-    text: &[u8],
-    at: usize,
-    room: usize,
-) -> Result<(Part, usize), ExprTextFault>
+fn part(alloc: Global, text: &[u8], at: usize, room: usize) -> Result<(Part, usize), ExprTextFault>
     ensures { Gives (λ x. (x.0, x.1, tokens_from x.1 text.now)) result (tree_at expression_sort text.now room at) }
 {
     let (expr, at) = read_expression(alloc, text, at, room)?;
@@ -219,12 +209,7 @@ fn typed(
 
 /// The type of a list and its elements, and the end of the form.
 #[cycle(read_expression)]
-fn list(
-    alloc: Global,
-    text: &[u8],
-    at: usize,
-    room: usize,
-) -> Result<(Expr, usize), ExprTextFault>
+fn list(alloc: Global, text: &[u8], at: usize, room: usize) -> Result<(Expr, usize), ExprTextFault>
     ensures { Gives (expression_left text.now) result (row_parts (form_row Form.List) text.now room at) }
 {
     let (ty, at) = read_type(alloc, text, at, room)?;

@@ -2,19 +2,19 @@
 #![tactic(auto)]
 
 mod expr;
+mod expr_reader;
 mod form;
 mod literal;
-mod expr_reader;
-mod type_reader;
 mod print;
 mod text_fault;
 mod text_laws;
 mod token;
+mod type_reader;
 mod word;
 
 pub use expr::{Expr, Part, Parts};
-pub use literal::Literal;
 pub use expr_reader::{read_expr, read_expr_at, read_type_at};
+pub use literal::Literal;
 pub use print::{print_expr, push_expr};
 pub use text_fault::ExprTextFault;
 pub use text_laws::{
