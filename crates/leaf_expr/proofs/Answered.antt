@@ -1,12 +1,12 @@
 -- What the code's readers answer, said by the grammar alone.
-use Rattle.std.proofs.Common.{◌≡◌, ◌≢◌, ℕ, ◌<◌, Bool, true, false, if◌then◌else◌, nat_lt, List, [], ◌∷◌, length, refl, sym, subst, IfOk, Result, Ok, Err}
+use Rattle.std.proofs.Common.{◌≡◌, ◌≢◌, ℕ, ◌<◌, Bool, true, false, if◌then◌else◌, nat_lt, List, [], ◌∷◌, length, refl, subst, IfOk, Result, Ok, Err}
 use Rattle.std.specs.Prelude.{IfErr}
 use Rattle.std.proofs.lemmas.Bool.{ltb-true}
 use Rattle.leaf_expr.specs.Token.{Placed, tokens, tokens_from}
 use Rattle.leaf_expr.specs.Language.{Begins}
 use Rattle.leaf_expr.specs.Grammar.{leaf, Sort, Tree}
-use Rattle.leaf_expr.specs.Reader.{Fault, syntax, number, too_deep, Read, read}
-use Rattle.leaf_expr.specs.Text.{TextFault, too_long, at, whole, read_text, IsText}
+use Rattle.leaf_expr.specs.Reader.{syntax, number, too_deep, Read, read}
+use Rattle.leaf_expr.specs.Text.{too_long, whole, read_text, IsText}
 use Rattle.leaf_expr.specs.ReadText.{Gives, GivesText, IsFault, IsTextFault, tree_at}
 use Rattle.leaf_expr.specs.declared.text_fault.ExprTextFault.{ExprTextFault}
 use Rattle.leaf_expr.specs.declared.text_fault.ExprTextFault.TheVariants as V

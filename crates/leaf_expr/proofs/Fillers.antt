@@ -1,11 +1,11 @@
 -- Whatever was read so far can be completed to a tree, and leads to one place.
-use Rattle.std.proofs.Common.{◌≡◌, ℕ, zero, suc, ◌+◌, Bool, true, false, ◌&&◌, if◌then◌else◌, List, [], ◌∷◌, ◌++◌, refl, sym, ap, ◌∙◌, subst, arith, Option, Some, None, append_assoc}
+use Rattle.std.proofs.Common.{◌≡◌, ℕ, zero, suc, ◌+◌, Bool, true, ◌&&◌, if◌then◌else◌, List, [], ◌∷◌, ◌++◌, refl, sym, ap, arith, Option, Some, None, append_assoc}
 use Rattle.sample_core.specs.Number.{is_number_word}
 use Rattle.leaf_expr.specs.Token.{opening, closing, word, Placed}
-use Rattle.leaf_expr.specs.Part.{Part, Parts, form, last, more, SpellAll, form_spells, last_spells, more_spells}
+use Rattle.leaf_expr.specs.Part.{Parts, form, last, more, SpellAll, form_spells, last_spells, more_spells}
 use Rattle.leaf_expr.specs.Language.{Language, Places, Maker, Row, no_place, place, places, made}
 use Rattle.leaf_expr.specs.Reader.{Fault, syntax, number, unfit_token}
-use Rattle.leaf_expr.specs.ReadLaws.{Completes, Whole, Leads, LeadsIn, at_tree, at_word, in_form, at_end, in_part, behind, in_item, behind_item, fault_at, Misfit}
+use Rattle.leaf_expr.specs.ReadLaws.{Completes, Whole, LeadsIn, at_tree, at_word, in_form, at_end, in_part, behind, in_item, behind_item, fault_at, Misfit}
 use Rattle.leaf_expr.proofs.Proper.{Proper}
 
 module _ (L : Language) where

@@ -1,10 +1,10 @@
 -- What a word is as a parameter's number, by what it is as a number.
-use Rattle.std.proofs.Common.{◌≡◌, ℕ, ◌≤◌, Bool, true, false, ◌&&◌, if◌then◌else◌, nat_le, List, refl, sym, ap, ◌∙◌, arith, ℤ, pos, negsuc, FitsSigned, w64, to_z, of_z, Option, Some, None, Err}
+use Rattle.std.proofs.Common.{◌≡◌, ℕ, ◌≤◌, Bool, true, false, if◌then◌else◌, nat_le, List, refl, sym, ap, ◌∙◌, arith, ℤ, pos, negsuc, FitsSigned, w64, to_z, of_z, Some, None, Err}
 use Rattle.std.proofs.Math.Facts.{to_z-of_z}
 use Rattle.std.specs.Fmt.{decimal, signed_decimal}
 use Rattle.std.proofs.lemmas.Bool.{leb-true, le-leb}
-use Rattle.sample_core.specs.Number.{is_number_word, is_well_spelt, is_in_64, number_of, magnitude}
-use Rattle.leaf_expr.specs.NumberPlace.{Reading, reads, misspelt, unfit, is_between, integer_at, natural_at, index}
+use Rattle.sample_core.specs.Number.{is_number_word}
+use Rattle.leaf_expr.specs.NumberPlace.{Reading, reads, misspelt, unfit, integer_at, natural_at, index}
 use Rattle.leaf_expr.specs.Grammar.{word_at, words, index_sort}
 use Rattle.leaf_expr.specs.ReadText.{found_word}
 use Rattle.leaf_expr.specs.declared.word.WordFault.{WordFault}

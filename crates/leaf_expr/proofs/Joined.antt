@@ -1,5 +1,5 @@
 -- What is printed part by part is the printed form.
-use Rattle.std.proofs.Common.{◌≡◌, ℕ, zero, suc, ◌+◌, ◌<◌, List, [], ◌∷◌, ◌++◌, length, get_or, map, refl, sym, ap, ◌∙◌, append_assoc, arith}
+use Rattle.std.proofs.Common.{◌≡◌, ℕ, zero, suc, ◌<◌, List, [], ◌∷◌, ◌++◌, length, get_or, map, refl, ap, ◌∙◌, append_assoc, arith}
 use Rattle.std.proofs.lemmas.List.{append-nil}
 use Rattle.std.specs.Prelude.{codes}
 use Rattle.sample_core.specs.TypeTree.{TypeTree, unit_ty, bool_ty, int_ty, pair_ty, event_ty, list_ty}
@@ -25,10 +25,10 @@ type_spelled (event_ty a) = rw (type_spelled a) (ap (λ x. codes "(Event " ++ x)
 type_spelled (list_ty a) = rw (type_spelled a) (ap (λ x. codes "(List " ++ x) (alone_joined (type_spelling a)))
 
 pub one_joined : (o w a : List ℕ) → o ++ (40 ∷ w) ++ (32 ∷ a) ++ (41 ∷ []) ≡ o ++ (40 ∷ w ++ ((32 ∷ a ++ []) ++ 41 ∷ []))
-one_joined o w a = simp (append_assoc, append-nil) refl
+one_joined o w a = simp append_assoc refl
 
 pub list_joined : (o w a all : List ℕ) → o ++ (40 ∷ w) ++ (32 ∷ a) ++ all ++ (41 ∷ []) ≡ o ++ (40 ∷ w ++ ((32 ∷ a ++ all) ++ 41 ∷ []))
-list_joined o w a all = simp (append_assoc, append-nil) refl
+list_joined o w a all = simp append_assoc refl
 
 -- an element of a list expression is smaller than the elements
 pub element_smaller : (all : List Expr) (i : ℕ) (s : Expr) → i < length all → expression_size (expression_of (get_or all i s)) < expressions_size (expressions_of (map expression_of all))

@@ -1,18 +1,15 @@
 -- The language of types and expressions is proper.
-use Rattle.std.proofs.Common.{◌≡◌, ℕ, Bool, true, false, ◌&&◌, List, [], ◌∷◌, refl, sym, ap, ◌∙◌, arith, None}
+use Rattle.std.proofs.Common.{◌≡◌, ℕ, Bool, true, false, ◌&&◌, List, [], ◌∷◌, refl, None}
 use Rattle.std.specs.Prelude.{codes, bytes_eq, if◌then◌else◌}
-use Rattle.std.specs.Fmt.{decimal}
 use Rattle.sample_core.specs.TypeTree.{unit_ty, event_ty}
-use Rattle.sample_core.specs.Number.{is_number_word, is_well_spelt, is_in_64}
-use Rattle.leaf_expr.specs.NumberPlace.{Reading, reads, misspelt, unfit, map_reading, integer_at, natural_at, is_between}
+use Rattle.sample_core.specs.Number.{is_number_word}
+use Rattle.leaf_expr.specs.NumberPlace.{Reading, reads, misspelt, unfit, map_reading, integer_at}
 use Rattle.leaf_expr.specs.Token.{opening, closing, word}
 use Rattle.leaf_expr.specs.Part.{atom, form, last, more, atom_spells, form_spells, last_spells, more_spells}
 use Rattle.leaf_expr.specs.Expression.{sample, fst, number_literal}
-use Rattle.leaf_expr.specs.Language.{read_word}
-use Rattle.leaf_expr.specs.Grammar.{leaf, Sort, Tree, type_sort, expression_sort, index_sort, words, rows, word_at, row_at, word_among, number_at, has_form, takes_number}
+use Rattle.leaf_expr.specs.Grammar.{leaf, Sort, type_sort, expression_sort, index_sort, words, rows, word_at, row_at, word_among, number_at, has_form, takes_number}
 use Rattle.leaf_expr.specs.ReadLaws.{Completes}
 use Rattle.leaf_expr.proofs.Proper.{Proper}
-use Rattle.leaf_expr.proofs.Numbers.{natural_spelled}
 
 formless : (s : Sort) (w : List ℕ) → has_form s ≡ false → row_at s w ≡ None
 unfolding row_at rows

@@ -1,5 +1,5 @@
 -- What every language of this repository has, and the proofs about reading rest on.
-use Rattle.std.specs.Prelude.{◌≡◌, ℕ, Bool, true, false, ◌&&◌, List, [], ◌∷◌, None}
+use Rattle.std.specs.Prelude.{◌≡◌, ℕ, true, false, ◌&&◌, List, [], ◌∷◌, None}
 use Rattle.sample_core.specs.Number.{is_number_word}
 use Rattle.leaf_expr.specs.NumberPlace.{misspelt, unfit}
 use Rattle.leaf_expr.specs.Token.{opening}

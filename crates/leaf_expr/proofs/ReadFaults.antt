@@ -1,11 +1,10 @@
 -- Where reading stops, each list of tokens that goes so far stops there too.
-use Rattle.std.proofs.Common.{◌≡◌, ℕ, zero, suc, pred, ◌+◌, ◌≢◌, ◌≤◌, ◌<◌, Bool, true, false, ◌&&◌, if◌then◌else◌, List, [], ◌∷◌, ◌++◌, length, refl, sym, ap, ◌∙◌, subst, arith, Option, Some, None, Result, Ok, Err, append_assoc, length-append}
-use Rattle.sample_core.specs.Number.{is_number_word}
+use Rattle.std.proofs.Common.{◌≡◌, ℕ, zero, suc, pred, ◌+◌, ◌≢◌, ◌≤◌, ◌<◌, Bool, true, false, if◌then◌else◌, List, [], ◌∷◌, ◌++◌, length, refl, sym, ap, ◌∙◌, subst, arith, Option, Some, None, Result, Ok, Err, append_assoc, length-append}
 use Rattle.leaf_expr.specs.NumberPlace.{Reading, reads, misspelt, unfit}
 use Rattle.leaf_expr.specs.Token.{Token, opening, closing, word, Placed}
 use Rattle.leaf_expr.specs.Part.{Part, Parts, Spells, SpellAll, atom_spells, form_spells, last_spells, more_spells, depth}
 use Rattle.leaf_expr.specs.Language.{Language, Begins, Places, Maker, Row, no_place, place, places}
-use Rattle.leaf_expr.specs.Reader.{Fault, syntax, number, Read, ◌>>=◌, unfit_token, word_read, close, read_all, read_parts, read_row, read_form, read}
+use Rattle.leaf_expr.specs.Reader.{Fault, syntax, Read, ◌>>=◌, unfit_token, word_read, close, read_all, read_parts, read_row, read_form, read}
 use Rattle.leaf_expr.specs.ReadLaws.{Completes, Whole, Misfit, Stops, too_short, at_token, FaultLaw, OneReadingLaw}
 use Rattle.leaf_expr.proofs.Proper.{Proper}
 use Rattle.leaf_expr.proofs.Fillers.{CompletesAll, MisfitIn, begun, begun_many, passed, passed_many, completes_form, misfit_form, misfit_part, misfit_item, misfit_behind, misfit_behind_item, misfit_end, misfit_head, unfit_word, misfit_word, misfit_closing, misfit_deep, misfit_form_here, fill}

@@ -1,11 +1,11 @@
 -- What is in the grammar is read, whatever follows.
-use Rattle.std.proofs.Common.{◌≡◌, ℕ, zero, suc, ◌+◌, ◌≤◌, ◌<◌, Bool, true, false, if◌then◌else◌, List, ◌∷◌, length, refl, ◌∙◌, ap, arith, Option, Some, None, Result, Ok, Err}
+use Rattle.std.proofs.Common.{◌≡◌, ℕ, zero, suc, ◌+◌, ◌≤◌, ◌<◌, Bool, true, false, if◌then◌else◌, List, ◌∷◌, length, refl, ◌∙◌, arith, Option, Some, None, Ok, Err}
 use Rattle.std.specs.Prelude.{option_and_then}
 use Rattle.leaf_expr.specs.NumberPlace.{Reading, reads, misspelt, unfit}
 use Rattle.leaf_expr.specs.Token.{closing, word, Placed}
 use Rattle.leaf_expr.specs.Part.{Part, Parts, form, Spells, SpellAll, atom_spells, form_spells, last_spells, more_spells, depth, depths}
 use Rattle.leaf_expr.specs.Language.{Language, Places, Maker, Row, no_place, place, places, meaning, made, read_word}
-use Rattle.leaf_expr.specs.Reader.{Fault, syntax, Read, ◌>>=◌, word_read, read_all, read_parts, read_row, read_form, read}
+use Rattle.leaf_expr.specs.Reader.{syntax, Read, ◌>>=◌, word_read, read_all, read_parts, read_row, read_form, read}
 use Rattle.leaf_expr.proofs.Proper.{Proper}
 
 mutual

@@ -1,5 +1,5 @@
 -- Steps of reading, as the code takes them.
-use Rattle.std.proofs.Common.{◌≡◌, ◌≢◌, ℕ, zero, suc, ◌+◌, ◌-◌, true, List, ◌∷◌, length, refl, ap, ◌∙◌, sym, arith, Ok, Err, Some, None}
+use Rattle.std.proofs.Common.{◌≡◌, ◌≢◌, ℕ, zero, suc, ◌+◌, ◌-◌, true, List, ◌∷◌, refl, ap, ◌∙◌, sym, arith, Ok, Err, Some, None}
 use Rattle.leaf_expr.specs.Token.{opening, closing, Placed}
 use Rattle.sample_core.specs.TypeTree.{TypeTree}
 use Rattle.leaf_expr.specs.Expression.{Expression, parameter, none_of}

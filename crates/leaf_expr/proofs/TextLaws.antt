@@ -1,14 +1,13 @@
 -- Whole texts.
-use Rattle.std.proofs.Common.{arith, ◌≡◌, ℕ, suc, ◌+◌, ◌≤◌, ◌≢◌, Bool, true, false, nat_lt, List, [], ◌∷◌, ◌++◌, length, refl, sym, ap, ◌∙◌, subst, Result, Ok, Err, if◌then◌else◌}
+use Rattle.std.proofs.Common.{arith, ◌≡◌, ℕ, ◌+◌, ◌≤◌, ◌≢◌, Bool, true, false, nat_lt, List, [], ◌∷◌, ◌++◌, length, refl, sym, ap, ◌∙◌, subst, Result, Ok, Err, if◌then◌else◌}
 use Rattle.std.proofs.lemmas.Bool.{ltb-false, le-ltb}
 use Rattle.std.proofs.lemmas.List.{append-nil}
 use Rattle.leaf_expr.specs.Token.{Placed, tokens, tokens_in}
 use Rattle.leaf_expr.specs.Part.{Spells, spelling, depth}
 use Rattle.leaf_expr.specs.Language.{Begins}
-use Rattle.leaf_expr.specs.Grammar.{leaf, Sort, Tree, expression_sort, type_sort}
-use Rattle.leaf_expr.specs.Expression.{Expression}
-use Rattle.leaf_expr.specs.Printed.{expression_part, InRange, type_part}
-use Rattle.leaf_expr.specs.Reader.{Fault, syntax, Read, unfit_token, read}
+use Rattle.leaf_expr.specs.Grammar.{leaf, Sort, Tree, expression_sort}
+use Rattle.leaf_expr.specs.Printed.{expression_part, type_part}
+use Rattle.leaf_expr.specs.Reader.{Fault, Read, unfit_token, read}
 use Rattle.leaf_expr.specs.ReadLaws.{Stops, too_short, at_token, Misfit}
 use Rattle.leaf_expr.specs.Text.{TextFault, too_long, at, whole, read_text, PrintedTypeLaw, PrintedTextLaw, IsText, NoText, ends, fails, follows, ReadTextLaw, OneTextLaw, TextFaultLaw, PrintedLaw}
 use Rattle.leaf_expr.proofs.ReadFound.{found}

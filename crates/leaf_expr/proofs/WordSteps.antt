@@ -1,10 +1,8 @@
 -- What a word is where a number may stand, by its tests.
-use Rattle.std.proofs.Common.{◌≡◌, ℕ, ◌≤◌, Bool, true, false, ◌&&◌, if◌then◌else◌, nat_le, List, refl, sym, ap, ◌∙◌, subst, arith, ℤ, pos, negsuc, FitsSigned, w64, Option, Some, None}
-use Rattle.std.specs.Fmt.{decimal, signed_decimal}
-use Rattle.std.proofs.lemmas.Bool.{leb-true, le-leb, leb-false}
+use Rattle.std.proofs.Common.{◌≡◌, ℕ, Bool, true, false, List, refl, sym, ◌∙◌}
 use Rattle.sample_core.specs.Number.{is_number, is_number_word, is_well_spelt, is_in_64, number_of}
-use Rattle.leaf_expr.specs.NumberPlace.{Reading, reads, misspelt, unfit, integer_at, natural_at}
-use Rattle.leaf_expr.proofs.Numbers.{integer_spelled, integer_back, natural_spelled, natural_back, parts_of}
+use Rattle.leaf_expr.specs.NumberPlace.{reads, misspelt, unfit, integer_at}
+use Rattle.leaf_expr.proofs.Numbers.{parts_of}
 
 pub no_number : (w : List ℕ) → is_number_word w ≡ false → unfit ≡ integer_at w
 no_number w e = rw e refl

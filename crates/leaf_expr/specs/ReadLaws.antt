@@ -1,10 +1,10 @@
 -- What reading a tree off the front of the tokens answers, said by the grammar alone.
-use Rattle.std.specs.Prelude.{◌≡◌, ℕ, zero, suc, ◌+◌, Bool, true, false, ◌&&◌, if◌then◌else◌, List, [], ◌∷◌, ◌++◌, Option, Some, None, Ok, Err}
+use Rattle.std.specs.Prelude.{◌≡◌, ℕ, zero, suc, ◌+◌, true, ◌&&◌, if◌then◌else◌, List, [], ◌∷◌, ◌++◌, Option, Some, None, Ok, Err}
 use Rattle.sample_core.specs.Number.{is_number_word}
 use Rattle.leaf_expr.specs.Token.{opening, word, Placed}
 use Rattle.leaf_expr.specs.Part.{Part, Spells}
 use Rattle.leaf_expr.specs.Language.{Language, Places, Row, no_place, place, places, Begins, meaning}
-use Rattle.leaf_expr.specs.Reader.{Fault, syntax, number, too_deep, fault_place, read}
+use Rattle.leaf_expr.specs.Reader.{Fault, syntax, number, too_deep, read}
 
 module _ (L : Language) where
   -- Some tokens behind us make it a tree, whatever follows; it may open more parentheses than there may be.

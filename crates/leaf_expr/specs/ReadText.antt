@@ -10,7 +10,7 @@ use Rattle.leaf_expr.specs.Token.{Placed, closing, tokens_from}
 use Rattle.leaf_expr.specs.NumberPlace.{Reading, reads, misspelt, unfit}
 use Rattle.leaf_expr.specs.declared.word.WordFault.{WordFault}
 use Rattle.leaf_expr.specs.declared.word.WordFault.TheVariants as W
-use Rattle.leaf_expr.specs.Grammar.{leaf, Tree, Sort, type_sort, expression_sort, index_sort}
+use Rattle.leaf_expr.specs.Grammar.{leaf, Tree, Sort, expression_sort}
 use Rattle.leaf_expr.specs.Reader.{Fault, syntax, number, too_deep, Read, read, read_form, read_parts, read_all}
 use Rattle.leaf_expr.specs.Language.{Row}
 use Rattle.leaf_expr.specs.ReadLaws.{Stops}

@@ -4,7 +4,7 @@ use Rattle.sample_core.specs.TypeTree.{TypeTree}
 use Rattle.leaf_expr.specs.Token.{Placed, tokens, tokens_in, begins_word}
 use Rattle.leaf_expr.specs.Expression.{Expression}
 use Rattle.leaf_expr.specs.Part.{spelling, depth}
-use Rattle.leaf_expr.specs.Language.{Language, Begins}
+use Rattle.leaf_expr.specs.Language.{Begins}
 use Rattle.leaf_expr.specs.Grammar.{leaf, Sort, Tree, type_sort, expression_sort}
 use Rattle.leaf_expr.specs.ReadLaws.{Completes, Misfit}
 use Rattle.leaf_expr.specs.Printed.{expression_part, type_part, InRange}

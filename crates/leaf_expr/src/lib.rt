@@ -37,8 +37,3 @@ pub use text_laws::{
 pub use token::{Lexeme, lexeme_at, token_at};
 pub use type_reader::{MAX_OPEN, form_end, form_head};
 pub use typing::{ExprFault, type_of_expr};
-
-#[cfg(test)]
-mod tests;
-#[cfg(test)]
-mod text_tests;

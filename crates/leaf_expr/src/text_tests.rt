@@ -14,12 +14,7 @@ fn prints<R: Abort>(rt: &R, alloc: Global, text: &str, printed: &str) -> Result<
 }
 
 /// The text is refused so.
-fn refused<R: Abort>(
-    rt: &R,
-    alloc: Global,
-    text: &str,
-    fault: ExprTextFault,
-) -> Result<(), Fail> {
+fn refused<R: Abort>(rt: &R, alloc: Global, text: &str, fault: ExprTextFault) -> Result<(), Fail> {
     match read_expr(alloc, text.as_bytes()) {
         Ok(_) => assert!(rt; false, "read {text}"),
         Err(found) => assert!(rt; found == fault, "{text}: {found:?}"),
@@ -68,7 +63,12 @@ fn core_forms(rt: HostRuntime) -> Result<(), Fail> {
 #[test]
 fn sugar(rt: HostRuntime) -> Result<(), Fail> {
     let alloc = rt.alloc();
-    prints(&rt, alloc, "(lMerge x (fst x))", "(on x (fst x) (event (snd x)))")?;
+    prints(
+        &rt,
+        alloc,
+        "(lMerge x (fst x))",
+        "(on x (fst x) (event (snd x)))",
+    )?;
     prints(&rt, alloc, "(gate Int 1 true)", "(if true 1 (none Int))")?;
     prints(
         &rt,
@@ -99,7 +99,12 @@ fn refusals(rt: HostRuntime) -> Result<(), Fail> {
     refused(&rt, alloc, "(add x 01)", ExprTextFault::Number { at: 7 })?;
     refused(&rt, alloc, "(add x -0)", ExprTextFault::Number { at: 7 })?;
     refused(&rt, alloc, "(p 65536)", ExprTextFault::Number { at: 3 })?;
-    refused(&rt, alloc, "9223372036854775808", ExprTextFault::Number { at: 0 })?;
+    refused(
+        &rt,
+        alloc,
+        "9223372036854775808",
+        ExprTextFault::Number { at: 0 },
+    )?;
     refused(&rt, alloc, "(1 2)", ExprTextFault::Syntax { at: 1 })?;
     refused(&rt, alloc, "(none 5)", ExprTextFault::Syntax { at: 6 })?;
     refused(&rt, alloc, "+1", ExprTextFault::Syntax { at: 0 })?;
@@ -118,9 +123,19 @@ fn too_many_parentheses(rt: HostRuntime) -> Result<(), Fail> {
     for _ in 0..600u32 {
         text.push_str("(neg ")?;
     }
-    refused(&rt, alloc, text.as_str(), ExprTextFault::Syntax { at: 3000 })?;
+    refused(
+        &rt,
+        alloc,
+        text.as_str(),
+        ExprTextFault::Syntax { at: 3000 },
+    )?;
     text.push_str("(neg ")?;
-    refused(&rt, alloc, text.as_str(), ExprTextFault::TooDeep { at: 3000 })?;
+    refused(
+        &rt,
+        alloc,
+        text.as_str(),
+        ExprTextFault::TooDeep { at: 3000 },
+    )?;
     Ok(())
 }
 

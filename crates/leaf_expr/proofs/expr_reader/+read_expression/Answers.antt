@@ -4,10 +4,10 @@ use Rattle.leaf_expr.specs.Expression.{make_list, expressions_of}
 use Rattle.std.proofs.lemmas.Grind.{common_steps}
 use Rattle.leaf_expr.specs.Form.{form_row}
 use Rattle.leaf_expr.specs.Grammar.{leaf, expression_sort}
-use Rattle.leaf_expr.specs.ReadText.{Gives, Refuses, row_parts, expression_left, items_at}
+use Rattle.leaf_expr.specs.ReadText.{Gives, row_parts, expression_left}
 use Rattle.leaf_expr.specs.Seen.{expression_of}
 use Rattle.leaf_expr.specs.Token.{tokens_from}
-use Rattle.leaf_expr.proofs.ItemSteps.{done, more, gone, list_parts, list_refuses}
+use Rattle.leaf_expr.proofs.ItemSteps.{done, more, list_parts, list_refuses}
 use Rattle.leaf_expr.proofs.ReadCounts.{read_shortens}
 use Rattle.leaf_expr.proofs.expr_reader.+read_expression.Goals as goal
 

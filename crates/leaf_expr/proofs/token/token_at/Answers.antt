@@ -1,5 +1,4 @@
-use Rattle.std.proofs.Common.{◌∙◌, sym}
-use Rattle.leaf_expr.proofs.TokenSteps.{opening_cut, closing_cut, word_cut}
+use Rattle.leaf_expr.proofs.TokenSteps.{opening_cut, closing_cut}
 use Rattle.leaf_expr.proofs.token.token_at.Goals as goal
 
 pub returns-in-Open-clause-token : goal.returns-in-Open-clause-token
