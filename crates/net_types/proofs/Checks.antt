@@ -1,5 +1,5 @@
 -- The walk and the check answer exactly the networks within the limits.
-use Rattle.std.proofs.Common.{◌≡◌, ◌∙◌, ℕ, ◌↔◌, true, min, arith, leb, List, [], Result, Ok, Err, refl, ◌≤◌, sym, ap, subst, le-leb, leb-true}
+use Rattle.std.proofs.Common.{◌≡◌, ◌∙◌, ℕ, true, min, arith, leb, [], Ok, refl, ◌≤◌, sym, le-leb, leb-true}
 use Rattle.sample_core.specs.TypeTree.{TypeTree}
 use Rattle.leaf_expr.specs.Expression.{Expression}
 use Rattle.leaf_expr.specs.TypeLimits.{type_fits}
@@ -7,13 +7,10 @@ use Rattle.leaf_expr.specs.ExpressionCheck.{type_answer}
 use Rattle.leaf_expr.specs.ExpressionLimits.{FullyChecked}
 use Rattle.leaf_expr.proofs.Exactness.{type_answer-exact}
 use Rattle.net_syntax.specs.Network.{Network}
-use Rattle.net_syntax.specs.Typing.{Arrow}
 use Rattle.net_syntax.specs.Height.{height}
 use Rattle.net_syntax.specs.Weight.{weight}
 use Rattle.net_syntax.specs.Stream.{TypedNetwork}
-use Rattle.net_syntax.specs.NetworkLimits.{NetworkFits}
 use Rattle.net_syntax.specs.WithinLimits.{WithinLimits}
-use Rattle.net_types.specs.declared.fault.TypeFault.{TypeFault}
 use Rattle.net_types.specs.declared.fault.TypeFault.TheVariants as Fault
 use Rattle.net_types.specs.Check.{net_walk, check}
 use Rattle.net_types.specs.TypingLaws.{WalkLaw, CheckLaw}

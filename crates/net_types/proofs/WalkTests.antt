@@ -1,7 +1,7 @@
 -- What the walk's tests tell where they pass, and where they do.
 use Rattle.std.proofs.Common.{◌≡◌, ◌∙◌, ℕ, zero, suc, ◌≤◌, Bool, true, false, ◌&&◌, leb, List, [], ◌∷◌, Result, Ok, Err, ◌↔◌, refl, sym, ap, subst, le-leb, leb-true}
 use Rattle.net_syntax.specs.Network.{Networks}
-use Rattle.sample_core.specs.TypeTree.{TypeTree, unit_ty, bool_ty, int_ty, pair_ty, event_ty, list_ty}
+use Rattle.sample_core.specs.TypeTree.{TypeTree, pair_ty, event_ty}
 use Rattle.net_syntax.specs.Typing.{Arrow, OldAt, old_here, old_after, members, LeafTyping}
 use Rattle.leaf_expr.specs.TypeLimits.{depth_of, nodes_of, TypeFits, type_fits, same_tree}
 use Rattle.net_types.specs.declared.fault.TypeFault.{TypeFault}

@@ -10,7 +10,7 @@ use Rattle.net_syntax.specs.Typing.{Arrow}
 use Rattle.net_syntax.specs.Stream.{TypedNetwork}
 use Rattle.net_types.specs.declared.fault.TypeFault.{TypeFault}
 use Rattle.net_types.specs.declared.fault.TypeFault.TheVariants as Fault
-use Rattle.net_types.specs.Walk.{LeafChecker, ◌>>=◌, ◌>>◌, test, within, walk}
+use Rattle.net_types.specs.Walk.{◌>>=◌, ◌>>◌, test, within, walk}
 
 -- the output of the network of expressions at P, or the first fault in it
 abbrev pub net_walk : List ℕ → List TypeTree → List Arrow → TypeTree → Network Expression → Result TypeTree TypeFault

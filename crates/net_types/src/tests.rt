@@ -3,44 +3,31 @@
 use crate::check::check_types;
 use crate::fault::TypeFault;
 use leaf_expr::{Expr, ExprFault, Literal, Part};
-use net_syntax::{Net, Position, Sub};
+use net_syntax::{Net, Sub};
 use sample_core::{Memory, Ty, TyChild};
 use std::alloc::Global;
 
-fn part(alloc: Global, expr: Expr) -> Result<Part, Memory> {
-    Part::new(alloc, expr)
+// The weight and the height, or the fault.
+type Measured = Result<(u32, u32), TypeFault>;
+
+fn measured(alloc: Global, input: Ty, net: Net<Expr>) -> Measured {
+    let typed = check_types(alloc, input, net)?;
+    Ok((typed.weight(), typed.height()))
 }
 
-fn number(value: i64) -> Expr {
-    Expr::Literal(Literal::Int(value))
-}
-
-fn in_turn(alloc: Global, first: Net<Expr>, second: Net<Expr>) -> Result<Net<Expr>, Memory> {
-    Ok(Net::Seq(Sub::new(alloc, first)?, Sub::new(alloc, second)?))
-}
-
-// `(>>> (arr (add x 1)) (iPre 0))`
-fn add_then_delay(alloc: Global) -> Result<Net<Expr>, Memory> {
-    let add = Expr::Add(part(alloc, Expr::Input)?, part(alloc, number(1))?);
-    in_turn(alloc, Net::Arr(add), Net::IPre(number(0)))
-}
-
-// `(>>> (arr (less x 1)) (iPre 0))`
-fn less_then_delay(alloc: Global) -> Result<Net<Expr>, Memory> {
-    let less = Expr::Less(part(alloc, Expr::Input)?, part(alloc, number(1))?);
-    in_turn(alloc, Net::Arr(less), Net::IPre(number(0)))
-}
-
-// `(arr (event x))`
-fn event_of_input(alloc: Global) -> Result<Net<Expr>, Memory> {
-    Ok(Net::Arr(Expr::Event(part(alloc, Expr::Input)?)))
+// `(>>> (arr e) (iPre 0))`
+fn before_a_delay(alloc: Global, expr: Expr) -> Result<Net<Expr>, Memory> {
+    let first = Sub::new(alloc, Net::Arr(expr))?;
+    let second = Sub::new(alloc, Net::IPre(Expr::Literal(Literal::Int(0))))?;
+    Ok(Net::Seq(first, second))
 }
 
 // `(>>> (arr x) (>>> (arr x) ..))` with so many `(arr x)`
 fn in_a_row(alloc: Global, count: u32) -> Result<Net<Expr>, Memory> {
     let mut net = Net::Arr(Expr::Input);
     for _ in 1..count {
-        net = in_turn(alloc, Net::Arr(Expr::Input), net)?;
+        let rest = Sub::new(alloc, net)?;
+        net = Net::Seq(Sub::new(alloc, Net::Arr(Expr::Input))?, rest);
     }
     Ok(net)
 }
@@ -64,128 +51,69 @@ fn events(alloc: Global, times: u32) -> Result<Ty, Memory> {
     Ok(ty)
 }
 
-fn at(alloc: Global, children: &[u32]) -> Result<Position, Memory> {
-    Ok(Position::new(children.to_vec(alloc)?))
+// `(>>> (arr (add x 1)) (iPre 0))`
+fn sum_before_a_delay(alloc: Global) -> Measured {
+    let x = Part::new(alloc, Expr::Input)?;
+    let one = Part::new(alloc, Expr::Literal(Literal::Int(1)))?;
+    measured(alloc, Ty::Int, before_a_delay(alloc, Expr::Add(x, one))?)
 }
 
-// The weight and the height, or the fault.
-fn measured(alloc: Global, input: Ty, net: Net<Expr>) -> Result<(u32, u32), TypeFault> {
-    let typed = check_types(alloc, input, net)?;
-    Ok((typed.weight(), typed.height()))
+// `(>>> (arr (less x 1)) (iPre 0))`
+fn truth_before_a_delay(alloc: Global) -> Measured {
+    let x = Part::new(alloc, Expr::Input)?;
+    let one = Part::new(alloc, Expr::Literal(Literal::Int(1)))?;
+    measured(alloc, Ty::Int, before_a_delay(alloc, Expr::Less(x, one))?)
 }
 
-#[test]
-fn a_network_is_given_its_types_weight_and_height(rt: HostRuntime) {
-    let net = add_then_delay(rt.alloc()).expect(&rt, "ample memory");
-    let typed = check_types(rt.alloc(), Ty::Int, net).expect(&rt, "it is typed");
-    assert!(rt; matches!(typed.input(), Ty::Int));
-    assert!(rt; matches!(typed.output(), Ty::Int));
-    assert!(rt; matches!(typed.net(), Net::Seq(_, _)));
-    assert_eq!(rt; typed.weight(), 3);
-    assert_eq!(rt; typed.height(), 2);
+// `(arr (event x))` at a type as deep as a type may be
+fn event_too_deep(alloc: Global) -> Measured {
+    let expr = Expr::Event(Part::new(alloc, Expr::Input)?);
+    measured(alloc, events(alloc, 31)?, Net::Arr(expr))
 }
 
-fn joint(alloc: Global, children: &[u32]) -> Result<TypeFault, Memory> {
-    let position = at(alloc, children)?;
-    Ok(TypeFault::Joint { position })
+fn input_too_deep(alloc: Global) -> Measured {
+    measured(alloc, events(alloc, 32)?, Net::Arr(Expr::Param(0)))
 }
 
-fn in_expr(alloc: Global, children: &[u32], fault: ExprFault) -> Result<TypeFault, Memory> {
-    let position = at(alloc, children)?;
-    Ok(TypeFault::Expr { position, fault })
+fn row_of(alloc: Global, count: u32) -> Measured {
+    measured(alloc, Ty::Int, in_a_row(alloc, count)?)
 }
 
-fn is_refused(alloc: Global, input: Ty, net: Net<Expr>, wanted: TypeFault) -> bool {
-    measured(alloc, input, net) == Err(wanted)
+fn too_heavy(alloc: Global) -> Measured {
+    measured(alloc, Ty::Int, doubled(alloc, 19)?)
 }
 
-fn a_truth_is_no_number(alloc: Global) -> Result<bool, Memory> {
-    let net = less_then_delay(alloc)?;
-    let wanted = joint(alloc, &[1])?;
-    Ok(is_refused(alloc, Ty::Int, net, wanted))
+fn differs_at(found: &Measured, children: &[u32]) -> bool {
+    match found {
+        Err(TypeFault::Joint { position }) => position.path() == children,
+        _ => false,
+    }
 }
 
-fn a_parameter_is_missing(alloc: Global) -> Result<bool, Memory> {
-    let wanted = in_expr(alloc, &[0], ExprFault::NoParam)?;
-    Ok(is_refused(alloc, Ty::Int, Net::Arr(Expr::Param(0)), wanted))
-}
-
-fn an_event_is_too_deep(alloc: Global) -> Result<bool, Memory> {
-    let net = event_of_input(alloc)?;
-    let input = events(alloc, 31)?;
-    let wanted = in_expr(alloc, &[0], ExprFault::TooDeep)?;
-    Ok(is_refused(alloc, input, net, wanted))
-}
-
-fn the_input_is_too_deep(alloc: Global) -> Result<bool, Memory> {
-    let input = events(alloc, 32)?;
-    Ok(is_refused(alloc, input, Net::Arr(Expr::Param(0)), TypeFault::TooDeep))
-}
-
-fn a_constant_differs(alloc: Global) -> Result<bool, Memory> {
-    let wanted = joint(alloc, &[])?;
-    Ok(is_refused(alloc, Ty::Bool, Net::IPre(number(0)), wanted))
-}
-
-fn the_first_fault_comes_first(alloc: Global) -> Result<bool, Memory> {
-    let inner = in_turn(alloc, Net::Arr(Expr::Input), Net::IPre(Expr::Param(0)))?;
-    let net = in_turn(alloc, inner, Net::IPre(number(0)))?;
-    let wanted = in_expr(alloc, &[0, 1, 0], ExprFault::NoParam)?;
-    Ok(is_refused(alloc, Ty::Bool, net, wanted))
-}
-
-fn types_come_before_the_height(alloc: Global) -> Result<bool, Memory> {
-    let high = in_a_row(alloc, 257)?;
-    let net = in_turn(alloc, high, Net::IPre(number(0)))?;
-    let wanted = joint(alloc, &[1])?;
-    Ok(is_refused(alloc, Ty::Bool, net, wanted))
-}
-
-fn a_network_is_too_high(alloc: Global) -> Result<bool, Memory> {
-    let net = in_a_row(alloc, 257)?;
-    Ok(is_refused(alloc, Ty::Int, net, TypeFault::TooDeep))
-}
-
-fn a_network_is_too_heavy(alloc: Global) -> Result<bool, Memory> {
-    let net = doubled(alloc, 19)?;
-    Ok(is_refused(alloc, Ty::Int, net, TypeFault::TooHeavy))
+fn is_refused_at(found: &Measured, children: &[u32], wanted: ExprFault) -> bool {
+    match found {
+        Err(TypeFault::Expr { position, fault }) => position.path() == children && *fault == wanted,
+        _ => false,
+    }
 }
 
 #[test]
-fn the_first_fault_is_answered_where_it_stands(rt: HostRuntime) {
-    assert!(rt; a_truth_is_no_number(rt.alloc()) == Ok(true));
-    assert!(rt; a_parameter_is_missing(rt.alloc()) == Ok(true));
-    assert!(rt; an_event_is_too_deep(rt.alloc()) == Ok(true));
-    assert!(rt; the_input_is_too_deep(rt.alloc()) == Ok(true));
-    assert!(rt; a_constant_differs(rt.alloc()) == Ok(true));
-    assert!(rt; the_first_fault_comes_first(rt.alloc()) == Ok(true));
-    assert!(rt; types_come_before_the_height(rt.alloc()) == Ok(true));
-    assert!(rt; a_network_is_too_high(rt.alloc()) == Ok(true));
-    assert!(rt; a_network_is_too_heavy(rt.alloc()) == Ok(true));
-}
-
-fn is_accepted(alloc: Global, input: Ty, net: Net<Expr>, weight: u32, height: u32) -> bool {
-    measured(alloc, input, net) == Ok((weight, height))
-}
-
-fn the_deepest_input(alloc: Global) -> Result<bool, Memory> {
-    let input = events(alloc, 31)?;
-    Ok(is_accepted(alloc, input, Net::Arr(Expr::Input), 1, 1))
-}
-
-fn the_highest_network(alloc: Global) -> Result<bool, Memory> {
-    let net = in_a_row(alloc, 256)?;
-    Ok(is_accepted(alloc, Ty::Int, net, 511, 256))
-}
-
-fn a_heavy_network(alloc: Global) -> Result<bool, Memory> {
-    let net = doubled(alloc, 18)?;
-    Ok(is_accepted(alloc, Ty::Int, net, 524_287, 19))
+fn networks_within_the_limits_are_accepted(rt: HostRuntime) {
+    assert!(rt; sum_before_a_delay(rt.alloc()) == Ok((3, 2)));
+    assert!(rt; row_of(rt.alloc(), 256) == Ok((511, 256)));
 }
 
 #[test]
-fn what_is_just_within_the_limits_is_accepted(rt: HostRuntime) {
-    assert!(rt; the_deepest_input(rt.alloc()) == Ok(true));
-    assert!(rt; the_highest_network(rt.alloc()) == Ok(true));
-    assert!(rt; a_heavy_network(rt.alloc()) == Ok(true));
+fn an_input_or_a_network_over_the_limits_is_refused(rt: HostRuntime) {
+    assert!(rt; matches!(&input_too_deep(rt.alloc()), Err(TypeFault::TooDeep)));
+    assert!(rt; matches!(&row_of(rt.alloc(), 257), Err(TypeFault::TooDeep)));
+    assert!(rt; matches!(&too_heavy(rt.alloc()), Err(TypeFault::TooHeavy)));
+}
+
+#[test]
+fn a_fault_is_answered_where_it_stands(rt: HostRuntime) {
+    assert!(rt; differs_at(&truth_before_a_delay(rt.alloc()), &[1]));
+    let no_param = measured(rt.alloc(), Ty::Int, Net::Arr(Expr::Param(0)));
+    assert!(rt; is_refused_at(&no_param, &[0], ExprFault::NoParam));
+    assert!(rt; is_refused_at(&event_too_deep(rt.alloc()), &[0], ExprFault::TooDeep));
 }

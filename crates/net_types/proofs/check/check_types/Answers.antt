@@ -1,5 +1,4 @@
 use Rattle.std.proofs.Common.{arith}
-use Rattle.std.proofs.lemmas.Grind.{common_steps}
 use Rattle.sample_core.specs.SeenType.{type_of}
 use Rattle.net_syntax.specs.Seen.{tree_of}
 use Rattle.net_types.proofs.Checks.{within_limits}
