@@ -1,10 +1,10 @@
 pub mod Elements
-mod HasTypeCases
-mod Numbers
+pub mod HasTypeCases
+pub mod Numbers
 mod NumberParse
 mod ReadSteps
-mod WordLemmas
-mod Behind
+pub mod WordLemmas
+pub mod Behind
 mod ValueRead
 mod ValueFound
 mod ReadingIs

@@ -20,7 +20,7 @@ begins_type (pair_ty A B) bs = bytes_eq (form_word bs) (codes "pair")
 begins_type (event_ty A) bs = bytes_eq (word_of bs) (codes "none") || bytes_eq (form_word bs) (codes "event")
 begins_type (list_ty A) bs = bytes_eq (form_word bs) (codes "list")
 
--- what must stand at a place: a value of a type, a byte, or in a list a space or a ')'
+-- what must stand at a place: a value of a type, a byte (32 is a space, 41 is ')'), or in a list either of these
 pub data Wanted : Type 0 where
   value_of : TypeTree → Wanted
   the_byte : ℕ → Wanted
@@ -28,24 +28,40 @@ pub data Wanted : Type 0 where
 
 -- The bytes begin as a value of the type does, up to a place. There the wanted must stand, and the rest stands.
 pub data Leads : TypeTree → List ℕ → Wanted → List ℕ → Type 0 where
+  -- in front, the value itself
   at_front : {A : TypeTree} {bs : List ℕ} → Leads A bs (value_of A) bs
+  -- behind the word `pair`, a space
   behind_pair : {A B : TypeTree} {rest : List ℕ} → goes_on rest ≡ false → Leads (pair_ty A B) (codes "(pair" ++ rest) (the_byte 32) rest
+  -- what the first part leads to
   in_first : {A B : TypeTree} {bs rest : List ℕ} {w : Wanted} → Leads A bs w rest → Leads (pair_ty A B) (codes "(pair " ++ bs) w rest
+  -- behind the first part, a space
   behind_first : {A B : TypeTree} {v : Datum} {bs rest : List ℕ} → SpellsValue v A bs rest → Leads (pair_ty A B) (codes "(pair " ++ bs) (the_byte 32) rest
+  -- what the second part leads to
   in_second : {A B : TypeTree} {v : Datum} {bs cs rest : List ℕ} {w : Wanted} → SpellsValue v A bs (32 ∷ cs) → Leads B cs w rest → Leads (pair_ty A B) (codes "(pair " ++ bs) w rest
+  -- behind both parts, a ')'
   behind_second : {A B : TypeTree} {v x : Datum} {bs cs rest : List ℕ} → SpellsValue v A bs (32 ∷ cs) → SpellsValue x B cs rest → Leads (pair_ty A B) (codes "(pair " ++ bs) (the_byte 41) rest
+  -- behind the word `event`, a space
   behind_event : {A : TypeTree} {rest : List ℕ} → goes_on rest ≡ false → Leads (event_ty A) (codes "(event" ++ rest) (the_byte 32) rest
+  -- what the event's value leads to
   in_event : {A : TypeTree} {bs rest : List ℕ} {w : Wanted} → Leads A bs w rest → Leads (event_ty A) (codes "(event " ++ bs) w rest
+  -- behind it, a ')'
   behind_inner : {A : TypeTree} {v : Datum} {bs rest : List ℕ} → SpellsValue v A bs rest → Leads (event_ty A) (codes "(event " ++ bs) (the_byte 41) rest
+  -- behind the word `list` and some elements, a space or a ')'
   behind_elements : {A : TypeTree} {vs : Datums} {bs rest : List ℕ} → SpellsRow vs A bs rest → Leads (list_ty A) (codes "(list" ++ bs) space_or_close rest
+  -- what a further element leads to
   in_element : {A : TypeTree} {vs : Datums} {bs cs rest : List ℕ} {w : Wanted} → SpellsRow vs A bs (32 ∷ cs) → Leads A cs w rest → Leads (list_ty A) (codes "(list" ++ bs) w rest
 
 -- what stands at the place p is not what is wanted there
 pub data Wrong : Wanted → List ℕ → ℕ → ValueFault → Type 0 where
+  -- none of any type begins
   no_value : {A : TypeTree} {rest : List ℕ} {p : ℕ} → begins_value rest ≡ false → Wrong (value_of A) rest p (Fault.NotAValue p)
+  -- one of another type begins
   another_type : {A : TypeTree} {rest : List ℕ} {p : ℕ} → begins_value rest ≡ true → begins_type A rest ≡ false → Wrong (value_of A) rest p (Fault.OtherType p)
+  -- a number wanted is outside 64 bits
   too_large : {rest : List ℕ} {p : ℕ} → is_number (word_of rest) ≡ true → is_in_64 (word_of rest) ≡ false → Wrong (value_of int_ty) rest p (Fault.NumberRange p)
+  -- the byte is missing
   no_byte : {b : ℕ} {rest : List ℕ} {p : ℕ} → begins_with b rest ≡ false → Wrong (the_byte b) rest p (Fault.NotAValue p)
+  -- neither a space nor a ')' stands there
   neither : {rest : List ℕ} {p : ℕ} → begins_with 32 rest ≡ false → begins_with 41 rest ≡ false → Wrong space_or_close rest p (Fault.NotAValue p)
 
 -- the bytes begin as a value of the type does, up to a place where the fault is

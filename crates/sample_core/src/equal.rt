@@ -9,7 +9,7 @@ use crate::ty::Ty;
 
 /// Whether the two values are equal.
 pub fn same(a: &Sample, b: &Sample) -> bool
-    ensures { IsTrue result ↔ datum_of a.now ≡ datum_of b.now }
+    ensures { IsTrue result ↔ (datum_of a.now ≡ datum_of b.now) }
 {
     match (a, b) {
         (Sample::Unit, Sample::Unit) => true,
@@ -38,7 +38,7 @@ pub fn same(a: &Sample, b: &Sample) -> bool
 
 /// Whether the two types are equal.
 pub fn same_type(a: &Ty, b: &Ty) -> bool
-    ensures { IsTrue result ↔ type_of a.now ≡ type_of b.now }
+    ensures { IsTrue result ↔ (type_of a.now ≡ type_of b.now) }
 {
     match (a, b) {
         (Ty::Unit, Ty::Unit) => true,

@@ -17,6 +17,7 @@ pub fn has_type(sample: &Sample, ty: &Ty) -> bool
         (Sample::Unit, Ty::Unit) => true,
         (Sample::Bool(_), Ty::Bool) => true,
         (Sample::Int(n), Ty::Int) => {
+            // Read, so that the proof knows it to be one of 64 bits.
             let _in_range = *n;
             true
         }
