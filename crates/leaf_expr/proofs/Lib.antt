@@ -21,3 +21,5 @@ pub mod ReadSteps
 pub mod WordSteps
 pub mod ItemSteps
 pub mod IndexSteps
+pub mod Joined
+pub mod Answered

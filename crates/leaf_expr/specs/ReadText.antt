@@ -1,5 +1,5 @@
 -- What the code's readers answer: what the reader of the grammar does on the tokens from some byte on.
-use Rattle.std.specs.Prelude.{◌≡◌, ℕ, Bool, true, false, List, [], ◌∷◌, length, map, Result, Ok, Err, Option, Some, None}
+use Rattle.std.specs.Prelude.{◌≡◌, ◌<◌, ℕ, Bool, true, false, List, [], ◌∷◌, length, map, Result, Ok, Err, Option, Some, None}
 use Rattle.sample_core.specs.TypeTree.{TypeTree}
 use Rattle.sample_core.specs.SeenType.{type_of}
 use Rattle.sample_core.specs.declared.ty.Ty.{Ty}
@@ -13,7 +13,8 @@ use Rattle.leaf_expr.specs.declared.word.WordFault.TheVariants as W
 use Rattle.leaf_expr.specs.Grammar.{leaf, Tree, Sort, type_sort, expression_sort, index_sort}
 use Rattle.leaf_expr.specs.Reader.{Fault, syntax, number, too_deep, Read, read, read_form, read_parts, read_all}
 use Rattle.leaf_expr.specs.Language.{Row}
-use Rattle.leaf_expr.specs.Text.{TextFault, too_long, at}
+use Rattle.leaf_expr.specs.ReadLaws.{Stops}
+use Rattle.leaf_expr.specs.Text.{TextFault, too_long, at, NoText}
 use Rattle.leaf_expr.specs.declared.text_fault.ExprTextFault.{ExprTextFault}
 use Rattle.leaf_expr.specs.declared.text_fault.ExprTextFault.TheVariants as V
 
@@ -86,3 +87,20 @@ abbrev pub begins_closing : List Placed → Bool
 begins_closing [] = false
 begins_closing ((n, closing) ∷ ts) = true
 begins_closing (x ∷ ts) = false
+
+-- Why no tree of the sort stands in the text from byte n on, with room for so many parentheses: the first token
+-- that doesn't fit, or the end.
+abbrev pub IsFault : (s : Sort) → List ℕ → ℕ → ℕ → ExprTextFault → Type 0
+IsFault s text room n (V.Syntax k) = Stops leaf (length text) room s (tokens_from n text) (syntax k)
+IsFault s text room n (V.Number k) = Stops leaf (length text) room s (tokens_from n text) (number k)
+IsFault s text room n (V.TooDeep k) = Stops leaf (length text) room s (tokens_from n text) (too_deep k)
+IsFault s text room n V.TooLong = ⊥
+IsFault s text room n V.Memory = Unit {0}
+
+-- why the text is no tree of the sort
+abbrev pub IsTextFault : (s : Sort) → List ℕ → ExprTextFault → Type 0
+IsTextFault s text (V.Syntax k) = NoText s text (syntax k)
+IsTextFault s text (V.Number k) = NoText s text (number k)
+IsTextFault s text (V.TooDeep k) = NoText s text (too_deep k)
+IsTextFault s text V.TooLong = 1048576 < length text
+IsTextFault s text V.Memory = Unit {0}

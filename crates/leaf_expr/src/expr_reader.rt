@@ -1,13 +1,16 @@
 // Reading expressions.
 
-ghost use Rattle.std.specs.Prelude.{◌≡◌, ◌-◌, ◌+◌, false, length, MatchOption, IfSome, ◌<◌, ◌∷◌};
-ghost use Rattle.leaf_expr.specs.Expression.{parameter};
+ghost use Rattle.std.specs.Prelude.{◌≡◌, ℕ, ◌-◌, ◌<◌, ◌∷◌, false, List, MatchOption, IfSome, IfOk, IfErr};
+ghost use Rattle.sample_core.specs.SeenType.{type_of};
+ghost use Rattle.sample_core.specs.TypeTree.{TypeTree};
+ghost use Rattle.leaf_expr.specs.Expression.{Expression};
 ghost use Rattle.leaf_expr.specs.Form.{form_row, unary_row, binary_row, ternary_row, typed_row};
-ghost use Rattle.leaf_expr.specs.Grammar.{expression_sort, index_sort, type_sort};
-ghost use Rattle.leaf_expr.specs.ReadText.{Gives, GivesText, tree_at, form_at, row_parts, expression_left, type_left, items_at, items_left, begins_closing};
+ghost use Rattle.leaf_expr.specs.Grammar.{leaf, expression_sort, index_sort, type_sort};
+ghost use Rattle.leaf_expr.specs.Language.{Begins};
+ghost use Rattle.leaf_expr.specs.ReadText.{Gives, GivesText, tree_at, form_at, row_parts, expression_left, type_left, items_at, items_left, begins_closing, IsFault, IsTextFault};
 ghost use Rattle.leaf_expr.specs.Seen.{expression_of};
-ghost use Rattle.leaf_expr.specs.Text.{read_text};
-ghost use Rattle.leaf_expr.specs.Token.{closing, tokens_from};
+ghost use Rattle.leaf_expr.specs.Text.{read_text, IsText};
+ghost use Rattle.leaf_expr.specs.Token.{Placed, closing, tokens_from};
 
 use crate::expr::{Expr, Part, Parts};
 use crate::form::{Binary, Form, Ternary, Typed, Unary, form_named};
@@ -250,10 +253,8 @@ fn items(
     }
 }
 
-/// Reads the one type whose tokens begin at or after byte `at` of the text as it stands from that byte on, with
-/// `depth` parentheses open before it, and gives the byte behind it. Anything may follow. The first token that
-/// doesn't fit is answered: `Number` never, `TooDeep` at the 601st parenthesis open at once, else `Syntax`.
-pub fn read_type_at(
+/// A type from a place on, with so many parentheses open before it.
+fn type_at(
     alloc: Global,
     text: &[u8],
     at: usize,
@@ -264,10 +265,8 @@ pub fn read_type_at(
     read_type(alloc, text, at, MAX_OPEN.saturating_sub(depth))
 }
 
-/// Reads the one expression whose tokens begin at or after byte `at` of the text as it stands from that byte on,
-/// with `depth` parentheses open before it, and gives the byte behind it. Anything may follow. Sugar is expanded.
-/// The first token that doesn't fit is answered.
-pub fn read_expr_at(
+/// An expression from a place on, with so many parentheses open before it.
+fn expr_at(
     alloc: Global,
     text: &[u8],
     at: usize,
@@ -278,9 +277,8 @@ pub fn read_expr_at(
     read_expression(alloc, text, at, MAX_OPEN.saturating_sub(depth))
 }
 
-/// Reads a text that is one expression and nothing else, of at most 1,048,576 bytes. Sugar is expanded. The first
-/// token that doesn't fit is answered.
-pub fn read_expr(alloc: Global, text: &[u8]) -> Result<Expr, ExprTextFault>
+/// A whole text.
+fn whole_expr(alloc: Global, text: &[u8]) -> Result<Expr, ExprTextFault>
     ensures { GivesText expression_of result (read_text expression_sort text.now) }
 {
     if text.len() > MAX_LENGTH {
@@ -293,4 +291,61 @@ pub fn read_expr(alloc: Global, text: &[u8]) -> Result<Expr, ExprTextFault>
         Lexeme::Close(start) => Err(ExprTextFault::Syntax { at: start }),
         Lexeme::Word(start, _) => Err(ExprTextFault::Syntax { at: start }),
     }
+}
+
+/// Reads the one type whose tokens begin at or after byte `at` of the text as it stands from that byte on, with
+/// `depth` parentheses open before it, and gives the byte behind it. Anything may follow. The first token that
+/// doesn't fit is answered: `TooDeep` at the 601st parenthesis open at once, else `Syntax`.
+pub fn read_type_at(
+    alloc: Global,
+    text: &[u8],
+    at: usize,
+    depth: usize,
+) -> Result<(Ty, usize), ExprTextFault>
+    // What is read is in the grammar.
+    ensures found { IfOk result (λ x. Begins leaf (600 - depth) type_sort (type_of x.0) (tokens_from at text.now) x.1 (tokens_from x.1 text.now)) }
+    // What is in the grammar is read, unless memory runs out.
+    ensures only { (t : TypeTree) (n : ℕ) (rest : List Placed) → Begins leaf (600 - depth) type_sort t (tokens_from at text.now) n rest → Gives (type_left text.now) result (Ok (t, n, rest)) }
+    // What is refused is so at the first token that doesn't fit.
+    ensures refused { IfErr result (IsFault type_sort text.now (600 - depth) at) }
+    // Which answer it is.
+    ensures exact { Gives (type_left text.now) result (tree_at type_sort text.now (600 - depth) at) }
+{
+    type_at(alloc, text, at, depth)
+}
+
+/// Reads the one expression whose tokens begin at or after byte `at` of the text as it stands from that byte on,
+/// with `depth` parentheses open before it, and gives the byte behind it. Anything may follow. Sugar is expanded.
+/// The first token that doesn't fit is answered.
+pub fn read_expr_at(
+    alloc: Global,
+    text: &[u8],
+    at: usize,
+    depth: usize,
+) -> Result<(Expr, usize), ExprTextFault>
+    // What is read is in the grammar.
+    ensures found { IfOk result (λ x. Begins leaf (600 - depth) expression_sort (expression_of x.0) (tokens_from at text.now) x.1 (tokens_from x.1 text.now)) }
+    // What is in the grammar is read, unless memory runs out.
+    ensures only { (t : Expression) (n : ℕ) (rest : List Placed) → Begins leaf (600 - depth) expression_sort t (tokens_from at text.now) n rest → Gives (expression_left text.now) result (Ok (t, n, rest)) }
+    // What is refused is so at the first token that doesn't fit.
+    ensures refused { IfErr result (IsFault expression_sort text.now (600 - depth) at) }
+    // Which answer it is.
+    ensures exact { Gives (expression_left text.now) result (tree_at expression_sort text.now (600 - depth) at) }
+{
+    expr_at(alloc, text, at, depth)
+}
+
+/// Reads a text that is one expression and nothing else, of at most 1,048,576 bytes. Sugar is expanded. The first
+/// token that doesn't fit is answered.
+pub fn read_expr(alloc: Global, text: &[u8]) -> Result<Expr, ExprTextFault>
+    // What is read is what the text says.
+    ensures found { IfOk result (λ e. IsText expression_sort text.now (expression_of e)) }
+    // A text of an expression is read, unless memory runs out.
+    ensures only { (e : Expression) → IsText expression_sort text.now e → GivesText expression_of result (Ok e) }
+    // What is refused is so at the first token that doesn't fit, or for its length.
+    ensures refused { IfErr result (IsTextFault expression_sort text.now) }
+    // Which answer it is.
+    ensures exact { GivesText expression_of result (read_text expression_sort text.now) }
+{
+    whole_expr(alloc, text)
 }
