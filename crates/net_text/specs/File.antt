@@ -28,9 +28,13 @@ abbrev pub at_end : {T : Type 0} → T → List Placed → Result T Fault
 at_end x [] = Ok x
 at_end x (y ∷ ts) = Err (syntax y.0)
 
+-- a network behind a type, and nothing behind it, in a text of so many bytes
+abbrev pub read_network : ℕ → TypeTree × ℕ × List Placed → Result (TypeTree × Network Expression) Fault
+read_network size a = read networks size 600 network_sort a.2 >>= (λ g. at_end (a.0, g.0) g.2)
+
 -- a type and a network, and nothing behind them, in a text of so many bytes
 abbrev pub read_body : ℕ → List Placed → Result (TypeTree × Network Expression) Fault
-read_body size ts = read leaf size 600 type_sort ts >>= (λ a. read networks size 600 network_sort a.2 >>= (λ g. at_end (a.0, g.0) g.2))
+read_body size ts = read leaf size 600 type_sort ts >>= read_network size
 
 abbrev pub body_fault : {T : Type 0} → Result T Fault → Result T FileFault
 body_fault (Ok x) = Ok x

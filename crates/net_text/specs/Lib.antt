@@ -2,3 +2,6 @@ pub mod Grammar
 pub mod Form
 pub mod File
 pub mod ReadNet
+pub mod Printed
+pub mod FileLaws
+pub mod FileRows

@@ -3,9 +3,13 @@
 
 mod fault;
 mod form;
+mod laws;
+mod print;
 mod read;
 
 pub use fault::NetTextFault;
+pub use laws::{file_laws, grammar_rows, printing_laws, reading_laws};
+pub use print::{print_net, push_net};
 pub use read::read_net;
 
 #[cfg(test)]

@@ -1,14 +1,17 @@
 // Reading network files.
 
-ghost use Rattle.std.specs.Prelude.{◌≡◌, ◌≤◌, length, option_map};
+ghost use Rattle.std.specs.Prelude.{◌≡◌, ◌≤◌, length, option_map, IfOk, IfErr};
 ghost use Rattle.leaf_expr.specs.Grammar.{expression_sort};
 ghost use Rattle.leaf_expr.specs.ReadText.{Gives, tree_at, expression_left};
 ghost use Rattle.leaf_expr.specs.Seen.{expression_of};
 ghost use Rattle.leaf_expr.specs.Token.{tokens, tokens_from};
-ghost use Rattle.net_syntax.specs.Network.{map_network};
+ghost use Rattle.leaf_expr.specs.Expression.{Expression};
+ghost use Rattle.sample_core.specs.TypeTree.{TypeTree};
+ghost use Rattle.net_syntax.specs.Network.{Network, map_network};
 ghost use Rattle.net_syntax.specs.Seen.{tree_of};
 ghost use Rattle.sample_core.specs.SeenType.{type_of};
 ghost use Rattle.net_text.specs.File.{behind_word, behind_header, read_body, read_file};
+ghost use Rattle.net_text.specs.FileLaws.{IsFile, IsFileFault};
 ghost use Rattle.net_text.specs.Form.{form_row, leaf_form_row};
 ghost use Rattle.net_text.specs.ReadNet.{GivesFile, network_at as network_read, form_at as form_read, row_parts, network_left};
 
@@ -27,6 +30,20 @@ use std::alloc::Global;
 /// one of the first three, `TooDeep` at the 601st parenthesis open at once, `Number` at a number word that is badly
 /// spelt or out of range where a number may stand, and `Syntax` at any other.
 pub fn read_net(alloc: Global, text: &[u8]) -> Result<(Ty, Net<Expr>), NetTextFault>
+    // What is read is what the file says.
+    ensures found { IfOk result (λ x. IsFile text.now (type_of x.0) (tree_of x.1)) }
+    // A network file is read, unless memory runs out.
+    ensures only { (A : TypeTree) (f : Network Expression) → IsFile text.now A f → GivesFile result (Ok (A, f)) }
+    // What is refused is so at the first token that doesn't fit, or for its length.
+    ensures refused { IfErr result (IsFileFault text.now) }
+    // Which answer it is.
+    ensures exact { GivesFile result (read_file text.now) }
+{
+    file(alloc, text)
+}
+
+/// A whole network file.
+fn file(alloc: Global, text: &[u8]) -> Result<(Ty, Net<Expr>), NetTextFault>
     ensures { GivesFile result (read_file text.now) }
 {
     if text.len() > MAX_LENGTH {

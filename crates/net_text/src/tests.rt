@@ -1,6 +1,7 @@
 // Worked texts: what is read, what is refused and where, and each call once with ample memory.
 
 use crate::fault::NetTextFault;
+use crate::print::print_net;
 use crate::read::read_net;
 use leaf_expr::{Expr, Literal};
 use net_syntax::Net;
@@ -278,4 +279,48 @@ fn sugar_is_expanded(rt: HostRuntime) {
     };
     assert!(rt; matches!(unit.get(), Expr::Literal(Literal::Unit)));
     assert!(rt; matches!(seven.get(), Expr::Literal(Literal::Int(7))));
+}
+
+// what a file is printed as, once read
+fn printed(alloc: Global, text: &str) -> Result<String, NetTextFault> {
+    let (input, net) = read_net(alloc, text.as_bytes())?;
+    print_net(alloc, &input, &net).map_err(|_| NetTextFault::Memory)
+}
+
+#[test]
+fn a_printed_file_has_three_lines(rt: HostRuntime) {
+    let alloc = rt.alloc();
+    for (text, wanted) in [
+        (
+            "yampa 1 input Int(>>>(arr(add x 1));\n(iPre 0))",
+            "yampa 1\ninput Int\n(>>> (arr (add x 1)) (iPre 0))\n",
+        ),
+        (
+            "yampa 1 input (Pair Int Bool) identity",
+            "yampa 1\ninput (Pair Int Bool)\n(arr x)\n",
+        ),
+        (
+            "yampa 1 input Unit (constant -7)",
+            "yampa 1\ninput Unit\n(arr (then unit -7))\n",
+        ),
+        (
+            "yampa 1 input Int (arr (gate Int x true))",
+            "yampa 1\ninput Int\n(arr (if true x (none Int)))\n",
+        ),
+        (
+            "yampa 1 input Int (arr (attach Int (event 1) 2))",
+            "yampa 1\ninput Int\n(arr (on (event 1) (none Int) (event (pair (snd x) (then (fst x) 2)))))\n",
+        ),
+    ] {
+        let Ok(file) = printed(alloc, text) else {
+            assert!(rt; false);
+            return;
+        };
+        assert_eq!(rt; file.as_str(), wanted);
+        let Ok(again) = printed(alloc, file.as_str()) else {
+            assert!(rt; false);
+            return;
+        };
+        assert_eq!(rt; again.as_str(), wanted);
+    }
 }

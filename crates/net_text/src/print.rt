@@ -1,0 +1,70 @@
+// The one printed form of networks and of network files.
+
+ghost use Rattle.std.specs.Prelude.{◌≡◌, ◌++◌, IfOk, OnOk, string_bytes};
+ghost use Rattle.sample_core.specs.SeenType.{type_of};
+ghost use Rattle.leaf_expr.specs.Part.{spelling};
+ghost use Rattle.leaf_expr.specs.Printed.{one, two, expression_part};
+ghost use Rattle.leaf_expr.specs.Seen.{expression_of};
+ghost use Rattle.net_syntax.specs.Network.{map_network};
+ghost use Rattle.net_syntax.specs.Seen.{tree_of};
+ghost use Rattle.net_text.specs.Printed.{network_part, file_spelling};
+
+use leaf_expr::{Expr, push_expr};
+use net_syntax::{Net, Sub};
+use sample_core::{Memory, Ty, push_type};
+use std::alloc::Global;
+
+/// The network file of that input type and network, in three lines: `yampa 1`, `input TYPE` and the network, in core
+/// forms. Where its numbers, its depth and its length are within the limits of files, it is read back to the same.
+pub fn print_net(alloc: Global, input: &Ty, net: &Net<Expr>) -> Result<String, Memory>
+    ensures { IfOk result (λ text. string_bytes text ≡ file_spelling (type_of input.now) (tree_of net.now)) }
+{
+    let mut text = String::new(alloc);
+    text.push_str("yampa 1\ninput ")?;
+    push_type(&mut text, input)?;
+    text.push_str("\n")?;
+    push_net(&mut text, net)?;
+    text.push_str("\n")?;
+    Ok(text)
+}
+
+/// Adds the network's one printed form to the text.
+#[cycle(push_net)]
+pub fn push_net(text: &mut String, net: &Net<Expr>) -> Result<(), Memory>
+    ensures { OnOk result (string_bytes text.new ≡ string_bytes text.old ++ spelling (network_part (tree_of net.now))) }
+{
+    match net {
+        Net::Arr(e) => push_leaf(text, "arr", e),
+        Net::Seq(f, g) => push_two(text, ">>>", f, g),
+        Net::IPre(c) => push_leaf(text, "iPre", c),
+    }
+}
+
+/// A form of one expression.
+#[tactic(auto, using(crate::proofs::Joined::one_joined))]
+fn push_leaf(text: &mut String, name: &str, e: &Expr) -> Result<(), Memory>
+    ensures { OnOk result (string_bytes text.new ≡ string_bytes text.old ++ spelling (one name.now (expression_part (expression_of e.now)))) }
+{
+    text.push_str("(")?;
+    text.push_str(name)?;
+    text.push_str(" ")?;
+    push_expr(text, e)?;
+    text.push_str(")")?;
+    Ok(())
+}
+
+/// A form of two networks.
+#[cycle(push_net)]
+#[tactic(auto, using(crate::proofs::Joined::two_joined))]
+fn push_two(text: &mut String, name: &str, f: &Sub<Expr>, g: &Sub<Expr>) -> Result<(), Memory>
+    ensures { OnOk result (string_bytes text.new ≡ string_bytes text.old ++ spelling (two name.now (network_part (map_network expression_of f.now)) (network_part (map_network expression_of g.now)))) }
+{
+    text.push_str("(")?;
+    text.push_str(name)?;
+    text.push_str(" ")?;
+    push_net(text, f.get())?;
+    text.push_str(" ")?;
+    push_net(text, g.get())?;
+    text.push_str(")")?;
+    Ok(())
+}
