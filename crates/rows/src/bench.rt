@@ -63,7 +63,9 @@ impl Files for OneFile<'_> {
 
 /// What a command line on one file, called `net`, leads to.
 pub fn prepared(alloc: Global, words: &[&str], bytes: &[u8]) -> Result<String, Fail> {
-    Ok(match prepare(alloc, words, &OneFile { bytes }) {
+    let files = OneFile { bytes };
+    let job = prepare(alloc, words, &files);
+    Ok(match job {
         Ok(Job::Print(text)) => text,
         Ok(Job::Run(_)) => String::from_str(alloc, "run")?,
         Err(Refusal::Line { status, line }) => format!(in alloc; "{status} {line}")?,

@@ -10,10 +10,19 @@ fn tells_why_a_file_is_refused(rt: HostRuntime) -> Result<(), Fail> {
         ("", "1 network: header"),
         ("yampa 1 input Int (arr", "1 network: syntax at byte 22"),
         ("yampa 1 input Int (arr 01)", "1 network: number at byte 23"),
-        ("yampa 1 input Int (arr x) (arr x)", "1 network: syntax at byte 26"),
+        (
+            "yampa 1 input Int (arr x) (arr x)",
+            "1 network: syntax at byte 26",
+        ),
         ("yampa 1 input Int time", "1 network: syntax at byte 18"),
-        ("yampa 1 input Int (iPre -0) ; -0", "1 network: number at byte 24"),
-        ("yampa 1 input Int (arr (p -1))", "1 network: number at byte 26"),
+        (
+            "yampa 1 input Int (iPre -0) ; -0",
+            "1 network: number at byte 24",
+        ),
+        (
+            "yampa 1 input Int (arr (p -1))",
+            "1 network: number at byte 26",
+        ),
         (
             "yampa 1 input Int (arr (fst x))",
             "1 network: mismatch in (at 0)",

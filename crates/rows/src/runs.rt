@@ -10,6 +10,12 @@ fn adds_and_delays(rt: HostRuntime) -> Result<(), Fail> {
     let net = network(rt.alloc(), INCREMENT)?;
     let told = outcome(rt.alloc(), &net, b"5\n+1 6\n+1 7")?;
     assert_eq!(rt; told.as_str(), "0\n6\n7\n3 lines");
+    Ok(())
+}
+
+#[test]
+fn repeats_a_value(rt: HostRuntime) -> Result<(), Fail> {
+    let net = network(rt.alloc(), INCREMENT)?;
     let told = outcome(rt.alloc(), &net, b"5\n+1 6\n+1 =\n+9223372036854775807 1\n")?;
     assert_eq!(rt; told.as_str(), "0\n6\n7\n7\n4 lines");
     Ok(())
@@ -87,7 +93,10 @@ fn keeps_its_limits(rt: HostRuntime) -> Result<(), Fail> {
         stream.extend_from_slice(b"+1 =\n")?;
     }
     let told = outcome(rt.alloc(), &net, &stream)?;
-    assert_eq!(rt; told.len(), 2_000_000 + "1 stream: line 1000001: too many samples".len());
+    assert_eq!(rt;
+        told.len(),
+        2_000_000 + "1 stream: line 1000001: too many samples".len()
+    );
     assert!(rt; told.ends_with("1 stream: line 1000001: too many samples"));
     Ok(())
 }

@@ -10,6 +10,7 @@ use yampa_run::{FileFault, Files};
 const MOST_BYTES: u64 = 1_048_577;
 
 /// Files of the host by their paths. Nothing is told of what they hold.
+#[derive(Drop)]
 pub struct HostFiles<'a, R> {
     rt: &'a R,
 }

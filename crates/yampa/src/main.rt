@@ -1,6 +1,9 @@
 //! The program: hands the words, the files and the standard streams to `yampa_run`, and prints what it answers.
 #![tactic(auto)]
 
+ghost use Rattle.std.specs.Prelude.{IfErr};
+ghost use Rattle.yampa_run.specs.Printed.{IsAnswered};
+
 mod host;
 
 use host::HostFiles;
@@ -33,7 +36,9 @@ fn job(rt: &HostRuntime) -> Result<Job, Refusal> {
     };
     let mut borrowed = Vec::new(rt.alloc());
     for word in &words {
-        borrowed.push(word.as_str())?;
+        if borrowed.push(word.as_str()).is_err() {
+            return Err(Refusal::Memory);
+        }
     }
     prepare(rt.alloc(), &borrowed, &HostFiles::new(rt))
 }
@@ -48,7 +53,10 @@ fn words(rt: &HostRuntime) -> io::Result<Vec<String>> {
 }
 
 fn unread_words(alloc: Global, error: &io::Error) -> Refusal {
-    match (error.kind(), String::from_str(alloc, "the words are not UTF-8")) {
+    match (
+        error.kind(),
+        String::from_str(alloc, "the words are not UTF-8"),
+    ) {
         (ErrorKind::InvalidData, Ok(line)) => Refusal::Line { status: 2, line },
         _ => Refusal::Memory,
     }
@@ -56,21 +64,24 @@ fn unread_words(alloc: Global, error: &io::Error) -> Refusal {
 
 /// Runs the network on standard input, and prints the lines of its answers. Answers the exit status.
 fn run(rt: &HostRuntime, net: &TypedNet) -> u8 {
-    let mut out = Vec::new(rt.alloc());
-    let ended = match read_stream(rt) {
-        Ok(stream) => run_whole(rt.alloc(), net, &stream, &mut out).map(|_| ()),
-        Err(fault) => Err(fault),
+    let stream = match read_stream(rt) {
+        Ok(stream) => stream,
+        Err(fault) => return tell(rt, &fault),
     };
-    let printed = print(rt, &out);
-    match ended {
-        Ok(()) => printed,
-        Err(_) if printed != 0 => printed,
-        Err(fault) => tell(rt, &fault),
+    let mut out = Vec::new(rt.alloc());
+    match run_whole(rt.alloc(), net, &stream, &mut out) {
+        Ok(_) => print(rt, &out),
+        Err(fault) => match print(rt, &out) {
+            0 => tell(rt, &fault),
+            status => status,
+        },
     }
 }
 
 /// All of standard input.
-fn read_stream(rt: &HostRuntime) -> Result<Vec<u8>, RunFault> {
+fn read_stream(rt: &HostRuntime) -> Result<Vec<u8>, RunFault>
+    ensures { IfErr result IsAnswered }
+{
     let mut stream = Vec::new(rt.alloc());
     match rt.stdin().read_to_end(&mut stream) {
         Ok(_) => Ok(stream),
@@ -94,7 +105,9 @@ fn print(rt: &HostRuntime, bytes: &[u8]) -> u8 {
 }
 
 /// Prints why a run ended early. Answers its exit status.
-fn tell(rt: &HostRuntime, fault: &RunFault) -> u8 {
+fn tell(rt: &HostRuntime, fault: &RunFault) -> u8
+    requires { IsAnswered fault.now }
+{
     match fault_line(rt.alloc(), fault) {
         Ok((status, line)) => complain(rt, status, &line),
         Err(Memory) => complain(rt, BROKEN, "memory"),

@@ -21,6 +21,7 @@ use Rattle.yampa_run.specs.Course.{RunsLine, IsOfText, Stops, ended_by}
 use Rattle.yampa_run.specs.Kept.{kept, Answers, Steps}
 use Rattle.yampa_run.specs.Output.{spelled_lines}
 use Rattle.yampa_run.specs.StepText.{behind, stepped}
+use Rattle.yampa_run.specs.Printed.{IsAnswered}
 use Rattle.yampa_run.specs.StreamText.{Held, Refuses, and_on, held_from, if_whole, is_some, later_line, line_after, line_read, samples, with_step}
 use Rattle.yampa_run.specs.TextLines.{lines_of}
 use Rattle.yampa_run.specs.declared.fault.StreamFault.{StreamFault}
@@ -74,11 +75,11 @@ goes_on t text lines n before before' held held' rest line after out out' i e g 
     record {
       p = g.p ++ r.x ∷ [];
       told = g.told
-        ∙ ap (λ ls. then_held g.p (held_from t.input (suc lines) before ls)) e
-        ∙ ap (λ a. then_held g.p (and_on a (λ x. later (Some x.1) (suc lines)))) read
-        ∙ ap (λ ys. record { taken = ys; fault = (later (Some r.x.1) (suc lines)).fault }) (sym (append_assoc g.p (r.x ∷ []) (later (Some r.x.1) (suc lines)).taken))
-        ∙ ap (λ b. then_held (g.p ++ r.x ∷ []) (later b (suc lines))) (sym r.keeps)
-        ∙ ap (λ m. then_held (g.p ++ r.x ∷ []) (later before' m)) (sym i);
+          ∙ ap (λ ls. then_held g.p (held_from t.input (suc lines) before ls)) e
+          ∙ ap (λ a. then_held g.p (and_on a (λ x. later (Some x.1) (suc lines)))) read
+          ∙ ap (λ ys. record { taken = ys; fault = (later (Some r.x.1) (suc lines)).fault }) (sym (append_assoc g.p (r.x ∷ []) (later (Some r.x.1) (suc lines)).taken))
+          ∙ ap (λ b. then_held (g.p ++ r.x ∷ []) (later b (suc lines))) (sym r.keeps)
+          ∙ ap (λ m. then_held (g.p ++ r.x ∷ []) (later before' m)) (sym i);
       keeps = next.1;
       count = let l : length (g.p ++ r.x ∷ []) ≡ length g.p + length (r.x ∷ []) = length-append g.p (r.x ∷ []) in omega (arith, l, g.count, i);
       wrote = r.writes ∙ ap (λ o. o ++ (spelling r.y ++ 10 ∷ [])) g.wrote ∙ sym (spelled_lines-push (stream_of t.net g.p) r.y) ∙ ap spelled_lines (sym next.0);
@@ -118,10 +119,10 @@ faulty : (t : TypedNetwork) (text : List ℕ) (lines n : ℕ) (before : Option D
 faulty t text lines n before held rest line after out out' fault i e g o r =
     let bad : line_read t.input (suc lines) before line ≡ Err fault = subst (λ k. line_read t.input k before line ≡ Err fault) i r in
     let all : samples t.input text ≡ record { taken = g.p; fault = Some fault } =
-        g.told
-        ∙ ap (λ ls. then_held g.p (held_from t.input (suc lines) before ls)) e
-        ∙ ap (λ a. then_held g.p (and_on a (λ x. held_from t.input (suc (suc lines)) (Some x.1) (lines_of after)))) bad
-        ∙ ap (λ p. record { taken = p; fault = Some fault }) (append-nil g.p) in
+    g.told
+    ∙ ap (λ ls. then_held g.p (held_from t.input (suc lines) before ls)) e
+    ∙ ap (λ a. then_held g.p (and_on a (λ x. held_from t.input (suc (suc lines)) (Some x.1) (lines_of after)))) bad
+    ∙ ap (λ p. record { taken = p; fault = Some fault }) (append-nil g.p) in
     (o ∙ g.wrote ∙ ap (λ h. spelled_lines (stream_of t.net h.taken)) (sym all), ap (λ h. h.fault) all, subst OfText bad (read_of_text t.input (suc lines) before line), sym g.count ∙ ap (λ h. length h.taken) (sym all))
 
 -- want of memory ends it
@@ -129,9 +130,10 @@ short : (t : TypedNetwork) (text : List ℕ) (lines : ℕ) (before : Option Datu
 short t text lines before held rest out out' g o =
     let more : Timed = (held_from t.input (suc lines) before (lines_of rest)).taken in
     let all : (samples t.input text).taken ≡ g.p ++ more = ap (λ h. h.taken) g.told in
-    let front : take lines (g.p ++ more) ≡ g.p = take_at g.p more lines g.count in
-    (o ∙ g.wrote ∙ ap spelled_lines (ap (stream_of t.net) (sym front) ∙ outputs-take value_of t.net closed lines (g.p ++ more) ∙ ap (λ xs. take lines (stream_of t.net xs)) (sym all)),
-      let l : length (samples t.input text).taken ≡ length (g.p ++ more) = ap length all in omega (arith, l, length-append g.p more, g.count))
+    let front : take lines (g.p ++ more) ≡ g.p = take_at g.p more lines g.count in (
+      o ∙ g.wrote ∙ ap spelled_lines (ap (stream_of t.net) (sym front) ∙ outputs-take value_of t.net closed lines (g.p ++ more) ∙ ap (λ xs. take lines (stream_of t.net xs)) (sym all)),
+      let l : length (samples t.input text).taken ≡ length (g.p ++ more) = ap length all in omega (arith, l, length-append g.p more, g.count),
+    )
 
 pub stops : (t : TypedNetwork) (text : List ℕ) (lines n : ℕ) (before : Option Datum) (held : List Datum) (rest line after out out' : List ℕ) (fault : StreamFault) → n ≡ suc lines → lines_of rest ≡ line ∷ lines_of after → Progress t text lines before held rest out → out' ≡ out → Refuses fault (line_read t.input n before line) → Stops t text out' (ended_by lines fault)
 stops t text lines n before held rest line after out out' (S.Step k) i e g o r = faulty t text lines n before held rest line after out out' (S.Step k) i e g o r
@@ -143,3 +145,17 @@ stops t text lines n before held rest line after out out' S.ReadTurns i e g o r 
 stops t text lines n before held rest line after out out' S.Read i e g o r = faulty t text lines n before held rest line after out out' S.Read i e g o r
 stops t text lines n before held rest line after out out' S.Memory i e g o r = short t text lines before held rest out out' g o
 stops t text lines n before held rest line after out out' S.Ended i e g o r = faulty t text lines n before held rest line after out out' S.Ended i e g o r
+
+-- what a run ends with is told by the program
+pub answered : (t : TypedNetwork) (text out : List ℕ) (fault : RunFault) → Stops t text out fault → IsAnswered fault
+answered t text out (U.Stream lines (S.Step n)) h = tt
+answered t text out (U.Stream lines (S.Value n v)) h = tt
+answered t text out (U.Stream lines (S.NothingBefore n)) h = tt
+answered t text out (U.Stream lines (S.LineTooLong n)) h = tt
+answered t text out (U.Stream lines (S.TooManySamples n)) h = tt
+answered t text out (U.Stream lines S.ReadTurns) h = tt
+answered t text out (U.Stream lines S.Read) h = tt
+answered t text out (U.Stream lines S.Memory) h = tt
+answered t text out (U.Stream lines S.Ended) h = h.2
+answered t text out (U.Write lines) h = tt
+answered t text out (U.Memory lines) h = tt

@@ -3,9 +3,9 @@
 use crate::command::{Reply, Request, parse};
 use crate::files::{FileFault, Files};
 use crate::refused::{Role, text_line, type_line, unread_line};
+use net_syntax::TypedNet;
 use net_text::{NetTextFault, read_net};
 use net_types::{TypeFault, check_types};
-use net_syntax::TypedNet;
 use sample_core::{Memory, push_type};
 use std::alloc::{AllocError, Global};
 

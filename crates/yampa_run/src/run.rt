@@ -4,6 +4,7 @@ ghost use Rattle.std.specs.Prelude.{◌≡◌, [], IfErr, IfOk, None, OnErr, OnO
 ghost use Rattle.std.specs.Option.{option_map};
 ghost use Rattle.sample_core.specs.Seen.{datum_of};
 ghost use Rattle.yampa_run.specs.Course.{RunsLine, Stops, ended_by, run_of, taken_by};
+ghost use Rattle.yampa_run.specs.Printed.{IsAnswered};
 ghost use Rattle.yampa_run.specs.StreamText.{Refuses, line_read};
 
 use crate::fault::{RunFault, RunReport, StreamFault};
@@ -41,6 +42,7 @@ pub fn run_whole(
     ensures faultless { OnOk result ((run_of net.now stream.now).fault ≡ None) }
     ensures lines { IfOk result (λ report. report.lines ≡ taken_by net.now stream.now) }
     ensures stopped { IfErr result (Stops net.now stream.now out.new.items) }
+    ensures answered { IfErr result IsAnswered }
 {
     let mut course = Course {
         before: None,

@@ -39,7 +39,11 @@ pub fn step<'a>(
 }
 
 /// The value that is held first, the constant where none is; and what is left.
-fn delay<'a>(alloc: Global, constant: &Expr, held: &'a [Sample]) -> Result<(Sample, &'a [Sample]), Memory>
+fn delay<'a>(
+    alloc: Global,
+    constant: &Expr,
+    held: &'a [Sample],
+) -> Result<(Sample, &'a [Sample]), Memory>
     ensures { IfOk result (λ r. Delays (map datum_of held.now) (value_of (expression_of constant.now) [] unit) (datum_of r.0) (map datum_of r.1.now)) }
 {
     match held.split_first() {

@@ -1,6 +1,6 @@
 // Texts of expressions and types: the rows that are worked out by hand, each form once, each refusal once.
 
-use crate::{ExprTextFault, print_expr, read_expr, read_expr_at, read_type_at, token_at};
+use leaf_expr::{ExprTextFault, print_expr, read_expr, read_expr_at, read_type_at, token_at};
 use std::alloc::Global;
 use std::process::Abort;
 use std::test::Fail;
