@@ -67,7 +67,7 @@ pub fn prepared(alloc: Global, words: &[&str], bytes: &[u8]) -> Result<String, F
     let job = prepare(alloc, words, &files);
     Ok(match job {
         Ok(Job::Print(text)) => text,
-        Ok(Job::Run(_)) => String::from_str(alloc, "run")?,
+        Ok(Job::Run(_net)) => String::from_str(alloc, "run")?,
         Err(Refusal::Line { status, line }) => format!(in alloc; "{status} {line}")?,
         Err(Refusal::Memory) => String::from_str(alloc, "memory")?,
     })

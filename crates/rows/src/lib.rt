@@ -6,8 +6,6 @@ mod bench;
 #[cfg(test)]
 mod commands;
 #[cfg(test)]
-mod expression_texts;
-#[cfg(test)]
 mod refusals;
 #[cfg(test)]
 mod runs;
