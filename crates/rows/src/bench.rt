@@ -4,11 +4,12 @@ use net_syntax::TypedNet;
 use net_text::read_net;
 use net_types::check_types;
 use std::alloc::Global;
+use std::process::Abort;
 use std::test::Fail;
 use yampa_run::{FileFault, Files, Job, Refusal, fault_line, prepare, run_whole};
 
 /// The network of a file's text, with its types.
-pub fn network(alloc: Global, text: &str) -> Result<TypedNet, Fail> {
+fn network(alloc: Global, text: &str) -> Result<TypedNet, Fail> {
     let Ok((input, net)) = read_net(alloc, text.as_bytes()) else {
         return Err(Fail::from("the text is refused"));
     };
@@ -19,7 +20,7 @@ pub fn network(alloc: Global, text: &str) -> Result<TypedNet, Fail> {
 }
 
 /// What a run writes, and then its count of lines, or its status and fault line.
-pub fn outcome(alloc: Global, net: &TypedNet, stream: &[u8]) -> Result<String, Fail> {
+fn outcome(alloc: Global, net: &TypedNet, stream: &[u8]) -> Result<String, Fail> {
     let mut out = Vec::new(alloc);
     let ended = run_whole(alloc, net, stream, &mut out);
     let Ok(text) = std::str::from_utf8(&out) else {
@@ -41,8 +42,8 @@ pub fn outcome(alloc: Global, net: &TypedNet, stream: &[u8]) -> Result<String, F
 
 /// One file, called `net`.
 #[derive(Drop)]
-pub struct OneFile<'a> {
-    pub bytes: &'a [u8],
+struct OneFile<'a> {
+    bytes: &'a [u8],
 }
 
 impl Files for OneFile<'_> {
@@ -62,7 +63,7 @@ impl Files for OneFile<'_> {
 }
 
 /// What a command line on one file, called `net`, leads to.
-pub fn prepared(alloc: Global, words: &[&str], bytes: &[u8]) -> Result<String, Fail> {
+fn prepared(alloc: Global, words: &[&str], bytes: &[u8]) -> Result<String, Fail> {
     let files = OneFile { bytes };
     let job = prepare(alloc, words, &files);
     Ok(match job {
@@ -71,4 +72,31 @@ pub fn prepared(alloc: Global, words: &[&str], bytes: &[u8]) -> Result<String, F
         Err(Refusal::Line { status, line }) => format!(in alloc; "{status} {line}")?,
         Err(Refusal::Memory) => String::from_str(alloc, "memory")?,
     })
+}
+
+/// The network of the text, run on the stream, writes and ends so.
+pub fn expect_outcome<R: Abort>(
+    rt: &R,
+    alloc: Global,
+    text: &str,
+    stream: &[u8],
+    wanted: &str,
+) -> Result<(), Fail> {
+    let net = network(alloc, text)?;
+    let told = outcome(alloc, &net, stream)?;
+    assert_eq!(rt; told.as_str(), wanted);
+    Ok(())
+}
+
+/// The command line on the file leads to that.
+pub fn expect_prepared<R: Abort>(
+    rt: &R,
+    alloc: Global,
+    words: &[&str],
+    bytes: &[u8],
+    wanted: &str,
+) -> Result<(), Fail> {
+    let told = prepared(alloc, words, bytes)?;
+    assert_eq!(rt; told.as_str(), wanted);
+    Ok(())
 }
