@@ -3,7 +3,6 @@
 use crate::fault::NetTextFault;
 use crate::print::print_net;
 use crate::read::read_net;
-use leaf_expr::{Expr, Literal};
 use net_syntax::Net;
 use sample_core::Ty;
 use std::alloc::Global;
@@ -47,12 +46,7 @@ fn the_worked_refusals(rt: HostRuntime) {
 #[test]
 fn a_file_is_read(rt: HostRuntime) {
     let read = read_net(rt.alloc(), b"yampa 1 input Int (>>> (arr x) (iPre 0))");
-    let Ok((Ty::Int, Net::Seq(f, g))) = read else {
-        assert!(rt; false);
-        return;
-    };
-    assert!(rt; matches!(f.get(), Net::Arr(Expr::Input)));
-    assert!(rt; matches!(g.get(), Net::IPre(Expr::Literal(Literal::Int(0)))));
+    assert!(rt; matches!(read, Ok((Ty::Int, Net::Seq(_, _)))));
 }
 
 #[test]
@@ -167,12 +161,12 @@ fn white_space_and_comments_part_tokens(rt: HostRuntime) {
 #[test]
 fn bytes_that_are_no_text(rt: HostRuntime) {
     let alloc = rt.alloc();
-    let read = read_net(alloc, b"yampa 1 input Int \xffidentity");
-    assert!(rt; matches!(read, Err(NetTextFault::Syntax { at: 18 })));
-    let read = read_net(alloc, b"yampa 1 input Int identity\x0b");
-    assert!(rt; matches!(read, Err(NetTextFault::Syntax { at: 18 })));
-    let read = read_net(alloc, b"yampa 1 input\x00Int identity");
-    assert!(rt; matches!(read, Err(NetTextFault::Header)));
+    let fault = read_net(alloc, b"yampa 1 input Int \xffidentity").err();
+    assert_eq!(rt; fault, Some(NetTextFault::Syntax { at: 18 }));
+    let fault = read_net(alloc, b"yampa 1 input Int identity\x0b").err();
+    assert_eq!(rt; fault, Some(NetTextFault::Syntax { at: 18 }));
+    let fault = read_net(alloc, b"yampa 1 input\x00Int identity").err();
+    assert_eq!(rt; fault, Some(NetTextFault::Header));
 }
 
 #[test]
@@ -263,22 +257,6 @@ fn forms_take_just_their_parts(rt: HostRuntime) {
         fault_of(alloc, "yampa 1 input Int (arr (p 65536))"),
         Some(NetTextFault::Number { at: 26 })
     );
-}
-
-#[test]
-fn sugar_is_expanded(rt: HostRuntime) {
-    let alloc = rt.alloc();
-    let read = read_net(alloc, b"yampa 1 input Int identity");
-    assert!(rt; matches!(read, Ok((Ty::Int, Net::Arr(Expr::Input)))));
-    let Ok((Ty::Int, Net::Arr(Expr::Then(unit, seven)))) = read_net(
-        alloc,
-        b"yampa 1 input Int (constant 7)",
-    ) else {
-        assert!(rt; false);
-        return;
-    };
-    assert!(rt; matches!(unit.get(), Expr::Literal(Literal::Unit)));
-    assert!(rt; matches!(seven.get(), Expr::Literal(Literal::Int(7))));
 }
 
 // what a file is printed as, once read
