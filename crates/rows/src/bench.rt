@@ -1,43 +1,57 @@
 // What the rows are run on.
 
+ghost use Rattle.std.specs.Prelude.{IfErr};
+ghost use Rattle.yampa_run.specs.Printed.{IsAnswered};
+
 use net_syntax::TypedNet;
 use net_text::read_net;
 use net_types::check_types;
 use std::alloc::Global;
-use std::process::Abort;
-use std::test::Fail;
-use yampa_run::{FileFault, Files, Job, Refusal, fault_line, prepare, run_whole};
+use yampa_run::{
+    FileFault, Files, Job, Refusal, RunFault, RunReport, fault_line, prepare, run_whole,
+};
 
-/// The network of a file's text, with its types.
-fn network(alloc: Global, text: &str) -> Result<TypedNet, Fail> {
-    let Ok((input, net)) = read_net(alloc, text.as_bytes()) else {
-        return Err(Fail::from("the text is refused"));
-    };
-    match check_types(alloc, input, net) {
-        Ok(net) => Ok(net),
-        Err(_) => Err(Fail::from("the types are refused")),
+/// A run that was worked out: a network file, a stream, what is written, and the exit status with the line that tells
+/// why the run ended early.
+pub struct Run {
+    pub net: &'static str,
+    pub stream: &'static str,
+    pub output: &'static str,
+    pub status: u8,
+    pub line: &'static str,
+}
+
+/// Whether the run goes as it was worked out.
+pub fn goes_so(alloc: Global, run: &Run) -> bool {
+    match network(alloc, run.net) {
+        Some(net) => writes_so(alloc, &net, run),
+        None => false,
     }
 }
 
-/// What a run writes, and then its count of lines, or its status and fault line.
-fn outcome(alloc: Global, net: &TypedNet, stream: &[u8]) -> Result<String, Fail> {
+fn network(alloc: Global, text: &str) -> Option<TypedNet> {
+    match read_net(alloc, text.as_bytes()) {
+        Ok((input, net)) => check_types(alloc, input, net).ok(),
+        Err(_fault) => None,
+    }
+}
+
+fn writes_so(alloc: Global, net: &TypedNet, run: &Run) -> bool {
     let mut out = Vec::new(alloc);
-    let ended = run_whole(alloc, net, stream, &mut out);
-    let Ok(text) = std::str::from_utf8(&out) else {
-        return Err(Fail::from("the output is no text"));
-    };
-    Ok(match ended {
-        Ok(report) => {
-            let lines = report.lines;
-            format!(in alloc; "{text}{lines} lines")?
-        }
-        Err(fault) => {
-            let Ok((status, line)) = fault_line(alloc, &fault) else {
-                return Err(Fail::from("memory"));
-            };
-            format!(in alloc; "{text}{status} {line}")?
-        }
-    })
+    let ended = run_whole(alloc, net, run.stream.as_bytes(), &mut out);
+    ends_so(alloc, ended, run) && out.as_slice() == run.output.as_bytes()
+}
+
+fn ends_so(alloc: Global, ended: Result<RunReport, RunFault>, run: &Run) -> bool
+    requires { IfErr ended IsAnswered }
+{
+    match ended {
+        Ok(_report) => run.status == 0,
+        Err(fault) => match fault_line(alloc, &fault) {
+            Ok((status, line)) => status == run.status && line.as_str() == run.line,
+            Err(_memory) => false,
+        },
+    }
 }
 
 /// One file, called `net`.
@@ -62,41 +76,26 @@ impl Files for OneFile<'_> {
     }
 }
 
-/// What a command line on one file, called `net`, leads to.
-fn prepared(alloc: Global, words: &[&str], bytes: &[u8]) -> Result<String, Fail> {
+/// Whether the command line on one file, called `net`, leads to a run (status 0, line `run`), to that text (status 0),
+/// or to a refusal with that status and line.
+pub fn leads_to(alloc: Global, words: &[&str], bytes: &[u8], status: u8, line: &str) -> bool {
     let files = OneFile { bytes };
-    let job = prepare(alloc, words, &files);
-    Ok(match job {
-        Ok(Job::Print(text)) => text,
-        Ok(Job::Run(_net)) => String::from_str(alloc, "run")?,
-        Err(Refusal::Line { status, line }) => format!(in alloc; "{status} {line}")?,
-        Err(Refusal::Memory) => String::from_str(alloc, "memory")?,
-    })
+    match prepare(alloc, words, &files) {
+        Ok(job) => status == 0 && does(job, line),
+        Err(refusal) => refuses(refusal, status, line),
+    }
 }
 
-/// The network of the text, run on the stream, writes and ends so.
-pub fn expect_outcome<R: Abort>(
-    rt: &R,
-    alloc: Global,
-    text: &str,
-    stream: &[u8],
-    wanted: &str,
-) -> Result<(), Fail> {
-    let net = network(alloc, text)?;
-    let told = outcome(alloc, &net, stream)?;
-    assert_eq!(rt; told.as_str(), wanted);
-    Ok(())
+fn does(job: Job, line: &str) -> bool {
+    match job {
+        Job::Print(text) => text.as_str() == line,
+        Job::Run(_net) => line == "run",
+    }
 }
 
-/// The command line on the file leads to that.
-pub fn expect_prepared<R: Abort>(
-    rt: &R,
-    alloc: Global,
-    words: &[&str],
-    bytes: &[u8],
-    wanted: &str,
-) -> Result<(), Fail> {
-    let told = prepared(alloc, words, bytes)?;
-    assert_eq!(rt; told.as_str(), wanted);
-    Ok(())
+fn refuses(refusal: Refusal, wanted_status: u8, wanted: &str) -> bool {
+    match refusal {
+        Refusal::Line { status, line } => status == wanted_status && line.as_str() == wanted,
+        Refusal::Memory => false,
+    }
 }

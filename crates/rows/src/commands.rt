@@ -1,28 +1,19 @@
 // Command lines.
 
-use crate::bench::expect_prepared;
-use std::test::Fail;
+use crate::bench::leads_to;
 
 const INCREMENT: &[u8] = b"yampa 1 input Int (>>> (arr (add x 1)) (iPre 0))";
 
 #[test]
-fn tells_types_weight_and_height(rt: HostRuntime) -> Result<(), Fail> {
-    expect_prepared(
-        &rt,
-        rt.alloc(),
-        &["yampa", "types", "net"],
-        INCREMENT,
-        "Int -> Int\nweight 3\nheight 2\n",
-    )
+fn tells_types_weight_and_height(rt: HostRuntime) {
+    let words = ["yampa", "types", "net"];
+    let text = "Int -> Int\nweight 3\nheight 2\n";
+    assert!(rt; leads_to(rt.alloc(), &words, INCREMENT, 0, text));
 }
 
 #[test]
-fn tells_of_a_file_that_is_not_there(rt: HostRuntime) -> Result<(), Fail> {
-    expect_prepared(
-        &rt,
-        rt.alloc(),
-        &["yampa", "run", "other"],
-        INCREMENT,
-        "3 network: cannot be read",
-    )
+fn tells_of_a_file_that_is_not_there(rt: HostRuntime) {
+    let words = ["yampa", "run", "other"];
+    let line = "network: cannot be read";
+    assert!(rt; leads_to(rt.alloc(), &words, INCREMENT, 3, line));
 }
