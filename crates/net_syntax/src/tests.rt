@@ -1,6 +1,5 @@
 // Each call once, with ample memory.
 
-use crate::measure::{height, weight};
 use crate::net::{Net, Sub};
 use crate::position::{Position, print_position};
 use leaf_expr::{Expr, Literal, Part};
@@ -26,35 +25,6 @@ fn shared_copy(alloc: Global) -> Result<Net<Expr>, Memory> {
 fn a_network_is_built_and_shared(rt: HostRuntime) {
     let copied = shared_copy(rt.alloc());
     assert!(rt; copied.is_ok());
-}
-
-// `(>>> (arr x) (>>> (arr x) ..))` with so many `(arr x)`
-fn in_a_row(alloc: Global, count: u32) -> Result<Net<Expr>, Memory> {
-    let mut net = Net::Arr(Expr::Input);
-    for _ in 1..count {
-        let first = Sub::new(alloc, Net::Arr(Expr::Input))?;
-        net = Net::Seq(first, Sub::new(alloc, net)?);
-    }
-    Ok(net)
-}
-
-fn measured(alloc: Global, net: &Net<Expr>) -> Result<(u32, u32), Memory> {
-    Ok((weight(alloc, net)?, height(alloc, net)?))
-}
-
-#[test]
-fn weight_and_height_are_counted(rt: HostRuntime) {
-    let net = add_then_delay(rt.alloc()).expect(&rt, "ample memory");
-    assert!(rt; measured(rt.alloc(), &net) == Ok((3, 2)));
-    for (count, wanted) in [
-        (1, (1, 1)),
-        (256, (511, 256)),
-        (257, (513, 257)),
-        (400, (799, 257)),
-    ] {
-        let net = in_a_row(rt.alloc(), count).expect(&rt, "ample memory");
-        assert!(rt; measured(rt.alloc(), &net) == Ok(wanted));
-    }
 }
 
 fn position_of(alloc: Global, children: &[u32]) -> Result<Position, Memory> {
