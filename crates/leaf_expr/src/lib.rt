@@ -2,7 +2,10 @@
 #![tactic(auto)]
 
 mod expr;
+mod feed;
 mod literal;
+mod shape;
 
 pub use expr::{Expr, Part, Parts};
 pub use literal::Literal;
+pub use shape::{shape_of, Shape};
