@@ -30,4 +30,4 @@ pub record TypedNetwork : Type 0 where
 
 -- the network has its types, with nothing in scope
 abbrev pub HoldsTypes : TypedNetwork → Type 0
-HoldsTypes t = ∥ NetTyped [] [] t.net t.input t.output ∥₁
+HoldsTypes t = NetTyped [] [] t.net t.input t.output

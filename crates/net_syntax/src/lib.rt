@@ -8,3 +8,6 @@ mod typed_net;
 pub use laws::{output_examples, stream_laws, switching_laws, typing_laws, weight_examples};
 pub use net::{Net, Sub};
 pub use typed_net::TypedNet;
+
+#[cfg(test)]
+mod tests;
