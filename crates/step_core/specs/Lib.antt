@@ -1,0 +1,13 @@
+pub mod Visits
+pub mod EnvironmentVisits
+pub mod IsCount
+pub mod Course
+pub mod Courses
+pub mod Setting
+pub mod Cell
+pub mod State
+pub mod Shapes
+pub mod Stands
+pub mod Engine
+pub mod Run
+pub mod Rank

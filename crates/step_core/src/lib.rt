@@ -1,0 +1,2 @@
+//! Running a network sample by sample.
+#![tactic(auto)]
