@@ -18,3 +18,4 @@ pub mod Alike
 pub mod Laws
 pub mod SwitchLaws
 pub mod Examples
+pub mod TypeGiven

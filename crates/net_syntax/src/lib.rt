@@ -3,6 +3,7 @@
 
 mod laws;
 mod net;
+mod type_given;
 mod typed_net;
 
 pub use laws::{output_examples, stream_laws, switching_laws, typing_laws, weight_examples};
