@@ -2,6 +2,7 @@
 use Rattle.std.specs.Prelude.{ℕ, zero, suc, ℤ, pos, neg_ℤ, ◌+ℤ◌, ◌-ℤ◌, ◌*ℤ◌, int_lt, Bool, true, false, not, ◌&&◌, ◌||◌, List, [], ◌∷◌, length}
 use Rattle.std.specs.Int.{int_wrap, w64}
 use Rattle.std.specs.Ordering.{int_eq}
+use Rattle.std.specs.Bool.{beq}
 use Rattle.sample_core.specs.Datum.{Datum, Datums, unit, truth, number, pair, no_event, event, list, end, more, left, right, whole, elements, of_elements}
 use Rattle.leaf_expr.specs.Expression.{Expression, Expressions, sample, parameter, unit_literal, truth_literal, number_literal, make_pair, fst, snd, then, neg, add, sub, mul, less, equal, negation, conjunction, disjunction, choice, none_of, make_event, on, make_list, nth, len, no_more, and_then}
 
@@ -9,8 +10,7 @@ use Rattle.leaf_expr.specs.Expression.{Expression, Expressions, sample, paramete
 abbrev mutual
   pub same_datum : Datum → Datum → Bool
   same_datum unit unit = true
-  same_datum (truth true) (truth b) = b
-  same_datum (truth false) (truth b) = not b
+  same_datum (truth a) (truth b) = beq a b
   same_datum (number m) (number n) = int_eq m n
   same_datum (pair a b) (pair c d) = same_datum a c && same_datum b d
   same_datum no_event no_event = true
@@ -23,31 +23,37 @@ abbrev mutual
   same_datums (more a as1) (more b bs) = same_datum a b && same_datums as1 bs
   same_datums _ _ = false
 
+-- whether a value is `true`
 abbrev pub is_true : Datum → Bool
 is_true (truth b) = b
 is_true _ = false
 
+-- the first value where the test holds, else the second
 abbrev pub chosen : Bool → Datum → Datum → Datum
 chosen true v w = v
 chosen false v w = w
 
+-- a number modulo 2^64, read as signed
 abbrev pub wrapped : ℤ → Datum
 wrapped z = number (int_wrap w64 z)
 
+-- the element at a place, from 0; d outside
 abbrev pub nth_of : Datums → ℕ → Datum → Datum
 nth_of end n d = d
 nth_of (more v vs) zero d = v
 nth_of (more v vs) (suc n) d = nth_of vs n d
 
--- the element of a list value at a place, from 0; d outside
+-- the same of a list value and a signed place; d also where the value is no list
 abbrev pub element_at : Datum → ℤ → Datum → Datum
 element_at (list vs) (pos n) d = nth_of vs n d
 element_at _ _ d = d
 
+-- how many elements a list value has; 0 where it is no list
 abbrev pub count_of : Datum → ℕ
 count_of (list vs) = length (elements vs)
 count_of _ = 0
 
+-- parameter k, from 0; `unit` where there is none
 abbrev pub param_at : List Datum → ℕ → Datum
 param_at [] k = unit
 param_at (v ∷ vs) zero = v

@@ -116,6 +116,39 @@ impl Model for Parts {
     ghost size_decreases = { λ a h. Prim.omega (arith, depths_le a.all.value.items) };
 }
 
+impl Expr {
+    /// A copy, whose parts are shared with it.
+    pub fn try_copy(&self, alloc: Global) -> Result<Expr, Memory>
+        ensures { IfOk result (λ e. e ≡ self.now) }
+    {
+        Ok(match self {
+            Expr::Input => Expr::Input,
+            Expr::Param(k) => Expr::Param(*k),
+            Expr::Literal(literal) => Expr::Literal(*literal),
+            Expr::Pair(a, b) => Expr::Pair(a.try_copy()?, b.try_copy()?),
+            Expr::Fst(e) => Expr::Fst(e.try_copy()?),
+            Expr::Snd(e) => Expr::Snd(e.try_copy()?),
+            Expr::Then(f, g) => Expr::Then(f.try_copy()?, g.try_copy()?),
+            Expr::Neg(a) => Expr::Neg(a.try_copy()?),
+            Expr::Add(a, b) => Expr::Add(a.try_copy()?, b.try_copy()?),
+            Expr::Sub(a, b) => Expr::Sub(a.try_copy()?, b.try_copy()?),
+            Expr::Mul(a, b) => Expr::Mul(a.try_copy()?, b.try_copy()?),
+            Expr::Less(a, b) => Expr::Less(a.try_copy()?, b.try_copy()?),
+            Expr::Equal(a, b) => Expr::Equal(a.try_copy()?, b.try_copy()?),
+            Expr::Not(a) => Expr::Not(a.try_copy()?),
+            Expr::And(a, b) => Expr::And(a.try_copy()?, b.try_copy()?),
+            Expr::Or(a, b) => Expr::Or(a.try_copy()?, b.try_copy()?),
+            Expr::If(c, a, b) => Expr::If(c.try_copy()?, a.try_copy()?, b.try_copy()?),
+            Expr::NoEvent(carried) => Expr::NoEvent(carried.try_copy(alloc)?),
+            Expr::Event(e) => Expr::Event(e.try_copy()?),
+            Expr::On(e, d, b) => Expr::On(e.try_copy()?, d.try_copy()?, b.try_copy()?),
+            Expr::List(element, all) => Expr::List(element.try_copy(alloc)?, all.try_copy()?),
+            Expr::Nth(e, i, d) => Expr::Nth(e.try_copy()?, i.try_copy()?, d.try_copy()?),
+            Expr::Len(e) => Expr::Len(e.try_copy()?),
+        })
+    }
+}
+
 impl Part {
     /// The expression as a part of another.
     pub fn new(alloc: Global, expr: Expr) -> Result<Part, Memory>

@@ -1,8 +1,11 @@
 //! Expressions: the total functions that networks are built over.
 #![tactic(auto)]
 
+mod evaluation;
 mod expr;
 mod literal;
+mod operations;
 
+pub use evaluation::eval;
 pub use expr::{Expr, Part, Parts};
 pub use literal::Literal;

@@ -19,3 +19,4 @@ pub mod Laws
 pub mod SwitchLaws
 pub mod Examples
 pub mod TypeGiven
+pub mod Position

@@ -1,0 +1,11 @@
+use Rattle.std.proofs.Common.{◌≡◌, ◌++◌, drop, map}
+use Rattle.sample_core.specs.Seen.{datum_of}
+use Rattle.leaf_expr.specs.Expression.{expressions_of}
+use Rattle.leaf_expr.specs.Seen.{expression_of}
+use Rattle.leaf_expr.specs.ExpressionValue.{values_of}
+use Rattle.leaf_expr.proofs.evaluation.+eval.Given as goal
+
+-- the values so far, and those of the elements to come, are those of all
+abbrev pub invariant-eval_elements-loop-element : goal.invariant-eval_elements-loop-element
+invariant-eval_elements-loop-element l =
+    map datum_of l.values.items ++ values_of (expressions_of (map expression_of (drop l.element-index l.element-items))) (map datum_of l.params) (datum_of l.x) ≡ values_of (expressions_of (map expression_of l.element-items)) (map datum_of l.params) (datum_of l.x)

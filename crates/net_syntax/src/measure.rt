@@ -1,0 +1,59 @@
+// How heavy and how high a network is.
+
+ghost use Rattle.std.specs.Prelude.{◌≡◌, min, suc, [], IfOk};
+ghost use Rattle.net_syntax.specs.Height.{height as height_of};
+ghost use Rattle.net_syntax.specs.Seen.{tree_of};
+ghost use Rattle.net_syntax.specs.Weight.{weight as weight_of};
+
+use crate::net::Net;
+use leaf_expr::Expr;
+use sample_core::Memory;
+use std::alloc::Global;
+
+/// The greatest weight of a network that is run.
+pub const MOST_WEIGHT: u32 = 1_000_000;
+
+/// The greatest height of a network that is run.
+pub const MOST_HEIGHT: u32 = 256;
+
+/// The network's weight; one more than the greatest that is allowed where it is more.
+pub fn weight(_alloc: Global, net: &Net<Expr>) -> Result<u32, Memory>
+    ensures { IfOk result (λ w. w ≡ min (weight_of (tree_of net.now) []) (suc MOST_WEIGHT)) }
+{
+    Ok(bounded_weight(net))
+}
+
+/// The network's height; one more than the greatest that is allowed where it is more.
+pub fn height(_alloc: Global, net: &Net<Expr>) -> Result<u32, Memory>
+    ensures { IfOk result (λ h. h ≡ min (height_of (tree_of net.now) []) (suc MOST_HEIGHT)) }
+{
+    Ok(bounded_height(net))
+}
+
+/// The network's weight, at most one more than the greatest that is allowed.
+fn bounded_weight(net: &Net<Expr>) -> u32
+    ensures { result ≡ min (weight_of (tree_of net.now) []) (suc MOST_WEIGHT) }
+{
+    match net {
+        Net::Arr(_) => 1,
+        Net::Seq(f, g) => {
+            let parts = bounded_weight(f.get()) + bounded_weight(g.get());
+            (1 + parts).min(MOST_WEIGHT + 1)
+        }
+        Net::IPre(_) => 1,
+    }
+}
+
+/// The network's height, at most one more than the greatest that is allowed.
+fn bounded_height(net: &Net<Expr>) -> u32
+    ensures { result ≡ min (height_of (tree_of net.now) []) (suc MOST_HEIGHT) }
+{
+    match net {
+        Net::Arr(_) => 1,
+        Net::Seq(f, g) => {
+            let parts = bounded_height(f.get()).max(bounded_height(g.get()));
+            (1 + parts).min(MOST_HEIGHT + 1)
+        }
+        Net::IPre(_) => 1,
+    }
+}

@@ -1,0 +1,79 @@
+// Positions of networks and expressions inside a network.
+
+ghost use Rattle.std.specs.Prelude.{◌≡◌, ◌++◌, nat_eq, IfOk, OnOk, string_bytes};
+ghost use lib.Pointwise.{pointwise};
+ghost use Rattle.std.specs.Cmp.{partial_equiv_from_equiv};
+ghost use Rattle.std.proofs.lemmas.Cmp.{nat_list_eq_equiv};
+ghost use Rattle.net_syntax.specs.Position.{position_spelling};
+
+use itoa::Buffer;
+use sample_core::Memory;
+use std::alloc::Global;
+use std::marker::Model;
+
+/// Where a part of a network stands: the child numbers, from 0, that lead to it from the root.
+/// Contracts see it as the list of these numbers.
+#[derive(Debug, Drop)]
+pub struct Position {
+    path: Vec<u32>,
+}
+
+impl Model for Position {
+    ghost use Rattle.std.specs.Prelude.{ℕ, List};
+
+    ghost Value = { List ℕ };
+
+    ghost view = { λ a. a.path.items };
+}
+
+impl Position {
+    /// The position to which these child numbers lead.
+    pub fn new(path: Vec<u32>) -> Position
+        ensures { result ≡ path.items }
+    {
+        Position { path }
+    }
+
+    /// The child numbers from the root.
+    pub fn path(&self) -> &[u32]
+        ensures { result.now ≡ self.now }
+    {
+        &self.path
+    }
+}
+
+impl PartialEq for Position {
+    ghost eq = { pointwise nat_eq };
+
+    ghost laws = { partial_equiv_from_equiv nat_list_eq_equiv };
+
+    fn eq(&self, other: &Position) -> bool {
+        self.path == other.path
+    }
+}
+
+impl Eq for Position {
+    ghost laws = { nat_list_eq_equiv };
+}
+
+/// The position as it is printed: `(at 0 1)`, and `(at)` for the root.
+pub fn print_position(alloc: Global, position: &Position) -> Result<String, Memory>
+    ensures { IfOk result (λ text. string_bytes text ≡ position_spelling position.now) }
+{
+    let mut text = String::new(alloc);
+    push_position(&mut text, position)?;
+    Ok(text)
+}
+
+/// Adds the position, as it is printed, to the text.
+pub fn push_position(text: &mut String, position: &Position) -> Result<(), Memory>
+    ensures { OnOk result (string_bytes text.new ≡ string_bytes text.old ++ position_spelling position.now) }
+{
+    text.push_str("(at")?;
+    for child in position.path() {
+        text.push_str(" ")?;
+        text.push_str(Buffer::new().format(*child))?;
+    }
+    text.push_str(")")?;
+    Ok(())
+}
