@@ -1,2 +1,3 @@
+mod ShapeValue
 pub mod Places
 pub mod SameDatum

@@ -4,3 +4,7 @@ pub mod ExpressionValue
 pub mod ExpressionTyping
 pub mod Seen
 pub mod Falls
+pub mod Shape
+pub mod SameByCode
+pub mod KeyTree
+pub mod Fed

@@ -20,3 +20,5 @@ pub mod SwitchLaws
 pub mod Examples
 pub mod TypeGiven
 pub mod Position
+pub mod Leaves
+pub mod SeenNeed
