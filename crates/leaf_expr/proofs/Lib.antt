@@ -1,3 +1,4 @@
-mod ShapeValue
 pub mod Places
 pub mod SameDatum
+pub mod ShapeValue
+mod SameElements

@@ -3,9 +3,10 @@
 ghost use Rattle.std.specs.Prelude.{◌≡◌, fold};
 ghost use Rattle.sample_core.specs.SeenType.{type_of};
 ghost use Rattle.leaf_expr.specs.Seen.{expression_of, literal_of};
-ghost use Rattle.leaf_expr.specs.Fed.{tag_of, type_fed, expression_fed};
+ghost use Rattle.leaf_expr.specs.Expression.{expressions_of};
+ghost use Rattle.leaf_expr.specs.Fed.{tag_of, type_fed, expression_fed, expressions_fed};
 
-use crate::expr::Expr;
+use crate::expr::{Expr, Parts};
 use crate::literal::Literal;
 use sample_core::Ty;
 use std::hash::Hasher;
@@ -68,7 +69,15 @@ fn tag(expr: &Expr) -> u8
     }
 }
 
+/// Feeds the parts to the hasher, one after another.
+macro_rules! feed_parts {
+    ($state:expr; $($part:expr),+) => {{
+        $(feed_expr($part.get(), $state);)+
+    }};
+}
+
 /// Feeds the expression's forms to the hasher, each before its parts.
+#[cycle(feed)]
 pub fn feed_expr<H: Hasher>(expr: &Expr, state: &mut H)
     ensures { state.new ≡ fold H.write state.old (expression_fed (expression_of expr.now)) }
 {
@@ -77,36 +86,39 @@ pub fn feed_expr<H: Hasher>(expr: &Expr, state: &mut H)
         Expr::Input | Expr::Literal(Literal::Unit | Literal::Bool(_)) => {}
         Expr::Param(k) => state.write_u32(*k),
         Expr::Literal(Literal::Int(n)) => state.write_i64(*n),
+        Expr::Pair(a, b) => feed_parts!(state; a, b),
+        Expr::Fst(e) => feed_parts!(state; e),
+        Expr::Snd(e) => feed_parts!(state; e),
+        Expr::Then(f, g) => feed_parts!(state; f, g),
+        Expr::Neg(a) => feed_parts!(state; a),
+        Expr::Add(a, b) => feed_parts!(state; a, b),
+        Expr::Sub(a, b) => feed_parts!(state; a, b),
+        Expr::Mul(a, b) => feed_parts!(state; a, b),
+        Expr::Less(a, b) => feed_parts!(state; a, b),
+        Expr::Equal(a, b) => feed_parts!(state; a, b),
+        Expr::Not(a) => feed_parts!(state; a),
+        Expr::And(a, b) => feed_parts!(state; a, b),
+        Expr::Or(a, b) => feed_parts!(state; a, b),
+        Expr::If(c, a, b) => feed_parts!(state; c, a, b),
         Expr::NoEvent(t) => feed_type(t, state),
-        Expr::Fst(a)
-        | Expr::Snd(a)
-        | Expr::Neg(a)
-        | Expr::Not(a)
-        | Expr::Event(a)
-        | Expr::Len(a) => feed_expr(a.get(), state),
-        Expr::Pair(a, b)
-        | Expr::Then(a, b)
-        | Expr::Add(a, b)
-        | Expr::Sub(a, b)
-        | Expr::Mul(a, b)
-        | Expr::Less(a, b)
-        | Expr::Equal(a, b)
-        | Expr::And(a, b)
-        | Expr::Or(a, b) => {
-            feed_expr(a.get(), state);
-            feed_expr(b.get(), state);
-        }
-        Expr::If(a, b, c) | Expr::On(a, b, c) | Expr::Nth(a, b, c) => {
-            feed_expr(a.get(), state);
-            feed_expr(b.get(), state);
-            feed_expr(c.get(), state);
-        }
+        Expr::Event(e) => feed_parts!(state; e),
+        Expr::On(e, d, b) => feed_parts!(state; e, d, b),
         Expr::List(t, all) => {
             feed_type(t, state);
-            for e in all.as_slice() {
-                feed_expr(e, state);
-            }
+            feed_all(all, state);
             state.write_u8(26);
         }
+        Expr::Nth(e, i, d) => feed_parts!(state; e, i, d),
+        Expr::Len(e) => feed_parts!(state; e),
+    }
+}
+
+/// Feeds the elements of a list expression to the hasher, one after another.
+#[cycle(feed)]
+fn feed_all<H: Hasher>(all: &Parts, state: &mut H)
+    ensures { state.new ≡ fold H.write state.old (expressions_fed (expressions_of all.now)) }
+{
+    for e in all.as_slice() {
+        feed_expr(e, state);
     }
 }

@@ -2,4 +2,4 @@ use Rattle.leaf_expr.proofs.ShapeValue.{shape_values}
 use Rattle.leaf_expr.proofs.shape.shape_laws.Goals as goal
 
 pub returns : goal.returns
-returns = shape_values
+returns c = shape_values
