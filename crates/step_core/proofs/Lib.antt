@@ -16,3 +16,4 @@ pub mod Forms
 pub mod EngineMeets
 pub mod Runners
 pub mod Ranks
+pub mod Advanced

@@ -11,3 +11,7 @@ pub mod Stands
 pub mod Engine
 pub mod Run
 pub mod Rank
+pub mod RowTyping
+pub mod SeenRows
+pub mod Bound
+pub mod Held

@@ -1,2 +1,5 @@
-//! Running a network sample by sample.
+//! Running a network sample by sample, over a table of stored closures.
 #![tactic(auto)]
+
+mod advance;
+
