@@ -5,5 +5,5 @@ use Rattle.leaf_expr.specs.KeyTree.{KeyTree}
 use Rattle.leaf_table.specs.declared.table.LeafTable.{LeafTable}
 
 -- the keys of the rows: row k is the k-th
-abbrev pub rows_of : {g : _} → LeafTable g → List KeyTree
+abbrev pub rows_of : {d : _} {f : _} {m : _} → LeafTable d f m → List KeyTree
 rows_of table = keys table.rows

@@ -1,6 +1,7 @@
 // Parts of values.
 
-ghost use Rattle.std.specs.Prelude.{◌≡◌, IfOk};
+ghost use Rattle.std.specs.Prelude.{◌≡◌, ◌+ℤ◌, ◌*ℤ◌, IfOk};
+ghost use Rattle.std.specs.Int.{int_wrap, w64};
 ghost use Rattle.sample_core.specs.Datum.{left, right, whole};
 ghost use Rattle.sample_core.specs.Seen.{datum_of};
 
@@ -15,6 +16,20 @@ pub fn number(value: &Sample) -> i64
         Sample::Int(n) => *n,
         _ => 0,
     }
+}
+
+/// The product modulo 2^64, read as signed.
+pub fn product(m: i64, n: i64) -> i64
+    ensures { result ≡ int_wrap w64 (m *ℤ n) }
+{
+    m.wrapping_mul(n)
+}
+
+/// The sum modulo 2^64, read as signed.
+pub fn sum(m: i64, n: i64) -> i64
+    ensures { result ≡ int_wrap w64 (m +ℤ n) }
+{
+    m.wrapping_add(n)
 }
 
 /// The first part of a pair; a value that is no pair itself.

@@ -3,19 +3,20 @@
 ghost use Rattle.std.specs.Prelude.{◌≡◌, IfOk, Some, map};
 ghost use Rattle.sample_core.specs.Seen.{datum_of};
 ghost use Rattle.leaf_expr.specs.Shape.{shape, value_by_shape};
+ghost use Rattle.leaf_expr.specs.declared.shape.Shape.TheVariants as S;
 ghost use Rattle.leaf_expr.specs.KeyTree.{KeyTree};
 ghost use Rattle.leaf_table.specs.Computes.{Computes};
 
-use crate::part::{child, copied, first, number, second};
-use leaf_expr::{eval, LeafKey, Literal, Shape};
+use crate::part::{child, copied, first, number, product, second, sum};
+use leaf_expr::{eval, LeafKey, Literal};
 use sample_core::{Memory, Sample};
 use std::alloc::{AllocError, Global};
 
 /// The input itself, for an expression of the shape `Identity`.
 pub fn run_identity(alloc: Global, params: &[Sample], x: &Sample) -> Result<Sample, AllocError>
-    ensures named { IfOk result (λ v. value_by_shape Shape.Identity (datum_of x.now) ≡ Some (datum_of v)) }
+    ensures named { IfOk result (λ v. value_by_shape S.Identity (datum_of x.now) ≡ Some (datum_of v)) }
     ensures fact { IfOk result
-        (λ v. (key : KeyTree) → shape key.expr ≡ Shape.Identity → Computes key (map datum_of params.now) (datum_of x.now) (datum_of v)) }
+        (λ v. (key : KeyTree) → shape key.expr ≡ S.Identity → Computes key (map datum_of params.now) (datum_of x.now) (datum_of v)) }
 {
     let _ = params;
     copied(alloc, x)
@@ -28,11 +29,13 @@ pub fn run_constant(
     params: &[Sample],
     x: &Sample,
 ) -> Result<Sample, AllocError>
-    ensures named { IfOk result (λ v. value_by_shape (Shape.Constant c) (datum_of x.now) ≡ Some (datum_of v)) }
+    ensures named { IfOk result (λ v. value_by_shape (S.Constant c) (datum_of x.now) ≡ Some (datum_of v)) }
     ensures fact { IfOk result
-        (λ v. (key : KeyTree) → shape key.expr ≡ Shape.Constant c → Computes key (map datum_of params.now) (datum_of x.now) (datum_of v)) }
+        (λ v. (key : KeyTree) → shape key.expr ≡ S.Constant c → Computes key (map datum_of params.now) (datum_of x.now) (datum_of v)) }
 {
-    let _ = (alloc, params, x);
+    let _ = alloc;
+    let _ = params;
+    let _ = x;
     Ok(match c {
         Literal::Unit => Sample::Unit,
         Literal::Bool(b) => Sample::Bool(b),
@@ -48,19 +51,20 @@ pub fn run_affine(
     params: &[Sample],
     x: &Sample,
 ) -> Result<Sample, AllocError>
-    ensures named { IfOk result (λ v. value_by_shape (Shape.Affine a b) (datum_of x.now) ≡ Some (datum_of v)) }
+    ensures named { IfOk result (λ v. value_by_shape (S.Affine a b) (datum_of x.now) ≡ Some (datum_of v)) }
     ensures fact { IfOk result
-        (λ v. (key : KeyTree) → shape key.expr ≡ Shape.Affine a b → Computes key (map datum_of params.now) (datum_of x.now) (datum_of v)) }
+        (λ v. (key : KeyTree) → shape key.expr ≡ S.Affine a b → Computes key (map datum_of params.now) (datum_of x.now) (datum_of v)) }
 {
-    let _ = (alloc, params);
-    Ok(Sample::Int(a.wrapping_mul(number(x)).wrapping_add(b)))
+    let _ = alloc;
+    let _ = params;
+    Ok(Sample::Int(sum(product(a, number(x)), b)))
 }
 
 /// The input's parts the other way round, for an expression of the shape `Swap`.
 pub fn run_swap(alloc: Global, params: &[Sample], x: &Sample) -> Result<Sample, AllocError>
-    ensures named { IfOk result (λ v. value_by_shape Shape.Swap (datum_of x.now) ≡ Some (datum_of v)) }
+    ensures named { IfOk result (λ v. value_by_shape S.Swap (datum_of x.now) ≡ Some (datum_of v)) }
     ensures fact { IfOk result
-        (λ v. (key : KeyTree) → shape key.expr ≡ Shape.Swap → Computes key (map datum_of params.now) (datum_of x.now) (datum_of v)) }
+        (λ v. (key : KeyTree) → shape key.expr ≡ S.Swap → Computes key (map datum_of params.now) (datum_of x.now) (datum_of v)) }
 {
     let _ = params;
     let right = child(alloc, second(x))?;
@@ -70,9 +74,9 @@ pub fn run_swap(alloc: Global, params: &[Sample], x: &Sample) -> Result<Sample, 
 
 /// The input's first part, for an expression of the shape `Left`.
 pub fn run_left(alloc: Global, params: &[Sample], x: &Sample) -> Result<Sample, AllocError>
-    ensures named { IfOk result (λ v. value_by_shape Shape.Left (datum_of x.now) ≡ Some (datum_of v)) }
+    ensures named { IfOk result (λ v. value_by_shape S.Left (datum_of x.now) ≡ Some (datum_of v)) }
     ensures fact { IfOk result
-        (λ v. (key : KeyTree) → shape key.expr ≡ Shape.Left → Computes key (map datum_of params.now) (datum_of x.now) (datum_of v)) }
+        (λ v. (key : KeyTree) → shape key.expr ≡ S.Left → Computes key (map datum_of params.now) (datum_of x.now) (datum_of v)) }
 {
     let _ = params;
     copied(alloc, first(x))
@@ -80,9 +84,9 @@ pub fn run_left(alloc: Global, params: &[Sample], x: &Sample) -> Result<Sample, 
 
 /// The input's second part, for an expression of the shape `Right`.
 pub fn run_right(alloc: Global, params: &[Sample], x: &Sample) -> Result<Sample, AllocError>
-    ensures named { IfOk result (λ v. value_by_shape Shape.Right (datum_of x.now) ≡ Some (datum_of v)) }
+    ensures named { IfOk result (λ v. value_by_shape S.Right (datum_of x.now) ≡ Some (datum_of v)) }
     ensures fact { IfOk result
-        (λ v. (key : KeyTree) → shape key.expr ≡ Shape.Right → Computes key (map datum_of params.now) (datum_of x.now) (datum_of v)) }
+        (λ v. (key : KeyTree) → shape key.expr ≡ S.Right → Computes key (map datum_of params.now) (datum_of x.now) (datum_of v)) }
 {
     let _ = params;
     copied(alloc, second(x))
@@ -95,19 +99,20 @@ pub fn run_below(
     params: &[Sample],
     x: &Sample,
 ) -> Result<Sample, AllocError>
-    ensures named { IfOk result (λ v. value_by_shape (Shape.Below k) (datum_of x.now) ≡ Some (datum_of v)) }
+    ensures named { IfOk result (λ v. value_by_shape (S.Below k) (datum_of x.now) ≡ Some (datum_of v)) }
     ensures fact { IfOk result
-        (λ v. (key : KeyTree) → shape key.expr ≡ Shape.Below k → Computes key (map datum_of params.now) (datum_of x.now) (datum_of v)) }
+        (λ v. (key : KeyTree) → shape key.expr ≡ S.Below k → Computes key (map datum_of params.now) (datum_of x.now) (datum_of v)) }
 {
-    let _ = (alloc, params);
+    let _ = alloc;
+    let _ = params;
     Ok(Sample::Bool(number(x) < k))
 }
 
 /// The event of the input, for an expression of the shape `Wrap`.
 pub fn run_wrap(alloc: Global, params: &[Sample], x: &Sample) -> Result<Sample, AllocError>
-    ensures named { IfOk result (λ v. value_by_shape Shape.Wrap (datum_of x.now) ≡ Some (datum_of v)) }
+    ensures named { IfOk result (λ v. value_by_shape S.Wrap (datum_of x.now) ≡ Some (datum_of v)) }
     ensures fact { IfOk result
-        (λ v. (key : KeyTree) → shape key.expr ≡ Shape.Wrap → Computes key (map datum_of params.now) (datum_of x.now) (datum_of v)) }
+        (λ v. (key : KeyTree) → shape key.expr ≡ S.Wrap → Computes key (map datum_of params.now) (datum_of x.now) (datum_of v)) }
 {
     let _ = params;
     Ok(Sample::Event(child(alloc, x)?))

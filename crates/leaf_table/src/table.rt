@@ -1,6 +1,6 @@
 // The table of stored closures.
 
-ghost use Rattle.std.specs.Prelude.{◌≡◌, ◌≤◌, ◌<◌, ◌++◌, ◌∷◌, ◌↔◌, [], length, IfOk, IfErr, IsOk, IsErr, OnOk, OnErr, IfSome, OnNone, All, Ok, Some, None, slice_get, Contains, map};
+ghost use Rattle.std.specs.Prelude.{◌≡◌, ◌≤◌, ◌<◌, ◌++◌, ◌∷◌, ◌↔◌, [], length, IfOk, IfErr, IsOk, IsErr, OnOk, OnErr, IfSome, IfNone, All, Ok, Some, None, slice_get, Contains, map};
 ghost use Rattle.indexmap.specs.IndexMap.{index_map_len};
 ghost use Rattle.sample_core.specs.HasType.{HasType, TypedParams};
 ghost use Rattle.sample_core.specs.Seen.{datum_of};
@@ -55,17 +55,29 @@ impl LeafTable {
         ensures full { IfErr result (λ e. (e.1 ≡ TableFault.Full) ↔ (length (rows_of self.old) ≡ 4096)) }
         ensures refused { (Contains (rows_of self.old) leaf.key → ⊥) → length (rows_of self.old) ≡ 4096 → IsErr result }
     {
-        if let Some(row) = self.rows.get_index_of(&leaf.key) {
-            return Ok(LeafId(row));
+        if let Some(id) = self.find(&leaf.key) {
+            return Ok(id);
         }
-        let row = self.rows.len();
-        if row >= MAX_ROWS {
+        if self.rows.len() >= MAX_ROWS {
             return Err((leaf, TableFault::Full));
         }
-        let key = match leaf.key.try_copy(self.alloc) {
-            Ok(key) => key,
-            Err(Memory) => return Err((leaf, TableFault::Memory)),
-        };
+        match leaf.key.try_copy(self.alloc) {
+            Ok(key) => self.push(key, leaf),
+            Err(Memory) => Err((leaf, TableFault::Memory)),
+        }
+    }
+
+    /// Adds the leaf as a new last row. A leaf that is not taken comes back.
+    fn push(&mut self, key: LeafKey, leaf: Leaf) -> Result<LeafId, (Leaf, TableFault)>
+        requires own { leaf.key ≡ key }
+        requires fresh { Contains (rows_of self.old) key → ⊥ }
+        requires room { length (rows_of self.old) < 4096 }
+        ensures row { IfOk result (λ id. id.0 ≡ length (rows_of self.old)) }
+        ensures grown { OnOk result (rows_of self.new ≡ rows_of self.old ++ key ∷ []) }
+        ensures unchanged { OnErr result (rows_of self.new ≡ rows_of self.old) }
+        ensures returned { IfErr result (λ e. (e.0 ≡ leaf) × (e.1 ≡ TableFault.Memory)) }
+    {
+        let row = self.rows.len();
         match self.rows.insert(key, leaf) {
             Ok(_) => Ok(LeafId(row)),
             Err(failed) => {
@@ -78,7 +90,7 @@ impl LeafTable {
     /// The number of the row with this key.
     pub fn find(&self, key: &LeafKey) -> Option<LeafId>
         ensures found { IfSome result (λ id. slice_get (rows_of self.now) id.0 ≡ Some key.now) }
-        ensures missing { OnNone result (Contains (rows_of self.now) key.now → ⊥) }
+        ensures missing { IfNone result (Contains (rows_of self.now) key.now → ⊥) }
     {
         match self.rows.get_index_of(key) {
             Some(row) => Some(LeafId(row)),
