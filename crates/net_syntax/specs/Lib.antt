@@ -21,4 +21,3 @@ pub mod Examples
 pub mod TypeGiven
 pub mod Position
 pub mod Leaves
-pub mod SeenNeed

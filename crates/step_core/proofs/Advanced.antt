@@ -1,5 +1,5 @@
 -- What a start and a step of a network of rows do, form by form.
-use Rattle.std.proofs.Common.{◌≡◌, ℕ, suc, ◌+◌, ◌<◌, List, [], ◌∷◌, ◌++◌, Option, Some, None, length, slice_get, refl, sym, ap, ◌∙◌, subst, append_assoc, append-nil}
+use Rattle.std.proofs.Common.{◌≡◌, ℕ, suc, ◌+◌, ◌<◌, List, [], ◌∷◌, ◌++◌, Option, Some, None, Result, Ok, Err, IfOk, length, slice_get, refl, sym, ap, ◌∙◌, subst, append_assoc, append-nil}
 use Rattle.std.proofs.Math.Logic.{∥∥₁_elim, ∥∥₁_map}
 use Rattle.std.proofs.Math.Bridge.{le_prop}
 use Rattle.std.specs.Coded.{Coded-set}
@@ -100,8 +100,8 @@ module _ (keys : List KeyTree) where
         added = two.added ∙ ap (λ vs. vs ++ two.held) one.added ∙ append_assoc before one.held two.held;
       }
 
-  pub moved_arr : (k : ℕ) (held : List Datum) (x y : Datum) (before : List Datum) → Called k x y → MovedWhere keys (arr k) held x y before before held
-  moved_arr k held x y before h A B from us vs d (arr_holds r) e t = (record {
+  pub moved_arr : (k : ℕ) (held : List Datum) (d : ℕ) (x y : Datum) (before : List Datum) → Called k x y → MovedWhere keys (arr k) held (d, x) y before before held
+  moved_arr k held d x y before h A B from us vs (arr_holds r) e t = (record {
     state = arr_state (row_expression keys k) [];
     held = [];
     visits = 1;
@@ -111,9 +111,9 @@ module _ (keys : List KeyTree) where
     added = sym (append-nil before);
   }, e)
 
-  pub moved_i_pre : (k : ℕ) (held : List Datum) (x y : Datum) (before now rest : List Datum) → IsFirst held y rest → now ≡ before ++ x ∷ [] → MovedWhere keys (i_pre k) held x y before now rest
-  moved_i_pre k [] x y before now rest f n A B from us vs d (i_pre_holds h) e t = absurd (cc)
-  moved_i_pre k (u ∷ held) x y before now rest f n A B from us vs d (i_pre_holds {v = v} h) e t =
+  pub moved_i_pre : (k : ℕ) (held : List Datum) (d : ℕ) (x y : Datum) (before now rest : List Datum) → IsFirst held y rest → now ≡ before ++ x ∷ [] → MovedWhere keys (i_pre k) held (d, x) y before now rest
+  moved_i_pre k [] d x y before now rest f n A B from us vs (i_pre_holds h) e t = absurd (cc)
+  moved_i_pre k (u ∷ held) d x y before now rest f n A B from us vs (i_pre_holds {v = v} h) e t =
       let same : u ≡ v = cc in
       let left : held ≡ vs = cc in
       (record {
@@ -126,10 +126,10 @@ module _ (keys : List KeyTree) where
         added = n;
       }, f.1 ∙ left)
 
-  pub moved_seq : (f g : Network ℕ) (held middle : List Datum) (x v y : Datum) (before between now rest : List Datum) → MovedWhere keys f held x v before between middle → MovedWhere keys g middle v y between now rest → MovedWhere keys (seq f g) held x y before now rest
-  moved_seq f g held middle x v y before between now rest hf hg A C from us vs d (seq_holds {B = B} {a = a} {b = b} {us = us₁} {vs = us₂} af bg) e t =
-      let one : Moved keys f A B a (d, x) v before between × (middle ≡ us₂ ++ vs) = hf A B a us₁ (us₂ ++ vs) d af (e ∙ append_assoc us₁ us₂ vs) t in
-      let two : Moved keys g B C b (d, v) y between now × (rest ≡ vs) = hg B C b us₂ vs d bg one.1 one.0.answer_typed in
+  pub moved_seq : (f g : Network ℕ) (held middle : List Datum) (d : ℕ) (x v y : Datum) (before between now rest : List Datum) → MovedWhere keys f held (d, x) v before between middle → MovedWhere keys g middle (d, v) y between now rest → MovedWhere keys (seq f g) held (d, x) y before now rest
+  moved_seq f g held middle d x v y before between now rest hf hg A C from us vs (seq_holds {B = B} {a = a} {b = b} {us = us₁} {vs = us₂} af bg) e t =
+      let one : Moved keys f A B a (d, x) v before between × (middle ≡ us₂ ++ vs) = hf A B a us₁ (us₂ ++ vs) af (e ∙ append_assoc us₁ us₂ vs) t in
+      let two : Moved keys g B C b (d, v) y between now × (rest ≡ vs) = hg B C b us₂ vs bg one.1 one.0.answer_typed in
       (record {
         state = seq_state one.0.state two.0.state;
         held = one.0.held ++ two.0.held;
@@ -139,3 +139,26 @@ module _ (keys : List KeyTree) where
         answer_typed = two.0.answer_typed;
         added = two.0.added ∙ ap (λ ws. ws ++ two.0.held) one.0.added ∙ append_assoc before one.0.held two.0.held;
       }, two.1)
+
+  -- the same for a network that is one of these forms by an equation, as an arm of a match has it
+  pub arr_begun : (net : Network ℕ) (k : ℕ) (x y : Datum) (before : List Datum) → net ≡ arr k → Called k x y → BegunWhere keys net x y before before
+  arr_begun net k x y before n h = subst (λ m. BegunWhere keys m x y before before) (sym n) (begun_arr k x y before h)
+
+  pub i_pre_begun : (net : Network ℕ) (k : ℕ) (x y : Datum) (before now : List Datum) → net ≡ i_pre k → Called k unit y → now ≡ before ++ x ∷ [] → BegunWhere keys net x y before now
+  i_pre_begun net k x y before now n h e = subst (λ m. BegunWhere keys m x y before now) (sym n) (begun_i_pre k x y before now h e)
+
+  pub seq_begun : (net f g : Network ℕ) (x v y : Datum) (before between now : List Datum) → net ≡ seq f g → BegunWhere keys f x v before between → BegunWhere keys g v y between now → BegunWhere keys net x y before now
+  seq_begun net f g x v y before between now n hf hg = subst (λ m. BegunWhere keys m x y before now) (sym n) (begun_seq f g x v y before between now hf hg)
+
+  pub arr_moved : (net : Network ℕ) (k : ℕ) (held : List Datum) (d : ℕ) (x y : Datum) (before : List Datum) → net ≡ arr k → Called k x y → MovedWhere keys net held (d, x) y before before held
+  arr_moved net k held d x y before n h = subst (λ m. MovedWhere keys m held (d, x) y before before held) (sym n) (moved_arr k held d x y before h)
+
+  pub i_pre_moved : (net : Network ℕ) (k : ℕ) (held : List Datum) (d : ℕ) (x y : Datum) (before now rest : List Datum) → net ≡ i_pre k → IsFirst held y rest → now ≡ before ++ x ∷ [] → MovedWhere keys net held (d, x) y before now rest
+  i_pre_moved net k held d x y before now rest n f e = subst (λ m. MovedWhere keys m held (d, x) y before now rest) (sym n) (moved_i_pre k held d x y before now rest f e)
+
+  pub seq_moved : (net f g : Network ℕ) (held middle : List Datum) (d : ℕ) (x v y : Datum) (before between now rest : List Datum) → net ≡ seq f g → MovedWhere keys f held (d, x) v before between middle → MovedWhere keys g middle (d, v) y between now rest → MovedWhere keys net held (d, x) y before now rest
+  seq_moved net f g held middle d x v y before between now rest n hf hg = subst (λ m. MovedWhere keys m held (d, x) y before now rest) (sym n) (moved_seq f g held middle d x v y before between now rest hf hg)
+
+pub if_ok : {A E : Type 0} (r : Result A E) (P Q : A → Type 0) → ((x : A) → P x → Q x) → IfOk r P → IfOk r Q
+if_ok (Ok x) P Q f h = f x h
+if_ok (Err e) P Q f h = h

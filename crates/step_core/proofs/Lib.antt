@@ -17,3 +17,4 @@ pub mod EngineMeets
 pub mod Runners
 pub mod Ranks
 pub mod Advanced
+pub mod PushedOn

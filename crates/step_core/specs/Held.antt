@@ -44,9 +44,9 @@ abbrev pub BegunWhere : List KeyTree → Network ℕ → Datum → Datum → Lis
 BegunWhere keys rows x y before now = (A B : TypeTree) → RowsTyped keys rows A B → HasType x A → Begun keys rows A B x y before now
 
 -- what a step does from each state that holds the first of these values
-abbrev pub MovedWhere : List KeyTree → Network ℕ → List Datum → Datum → Datum → List Datum → List Datum → List Datum → Type 0
+abbrev pub MovedWhere : List KeyTree → Network ℕ → List Datum → ℕ × Datum → Datum → List Datum → List Datum → List Datum → Type 0
 MovedWhere keys rows held x y before now rest =
-    (A B : TypeTree) (from : State Expression) (us vs : List Datum) (d : ℕ) → Holds keys rows A B from us → held ≡ us ++ vs → HasType x A → Moved keys rows A B from (d, x) y before now × (rest ≡ vs)
+    (A B : TypeTree) (from : State Expression) (us vs : List Datum) → Holds keys rows A B from us → held ≡ us ++ vs → HasType x.1 A → Moved keys rows A B from x y before now × (rest ≡ vs)
 
 -- the first of some values, and the rest of them
 abbrev pub IsFirst : List Datum → Datum → List Datum → Type 0

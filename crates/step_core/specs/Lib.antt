@@ -15,3 +15,5 @@ pub mod RowTyping
 pub mod SeenRows
 pub mod Bound
 pub mod Held
+pub mod Running
+pub mod SeenRunner

@@ -32,4 +32,4 @@ RowsTyped keys rows A B = Typed (RowTyped keys) [] [] rows A B
 
 -- each row that the network names is there, and kept for the types at its place
 abbrev pub FitsRows : List KeyTree → Network ℕ → Type 0
-FitsRows keys rows = ∥ (A : TypeTree) × (B : TypeTree) × RowsTyped keys rows A B ∥₁
+FitsRows keys rows = ∥ ((A : TypeTree) × (B : TypeTree) × RowsTyped keys rows A B) ∥₁

@@ -38,7 +38,7 @@ pub(crate) fn start(
     }
 }
 
-/// The network's answer to a further sample, from the values in front of `held`, which its cells hold; and the rest of these.
+/// The network's answer to a further sample, `dt` after the one before, from the values in front of `held`, which its cells hold; and the rest of these.
 /// Adds to `next` what the cells hold after it.
 pub(crate) fn step<'a>(
     alloc: Global,
@@ -46,17 +46,18 @@ pub(crate) fn step<'a>(
     net: &Net<LeafId>,
     held: &'a [Sample],
     next: &mut Vec<Sample>,
+    dt: u64,
     sample: &Sample,
 ) -> Result<(Sample, &'a [Sample]), Memory>
     requires { FitsRows (rows_of table.now) (rows_in net.now) }
     ensures { IfOk result
-        (λ r. MovedWhere (rows_of table.now) (rows_in net.now) (map datum_of held.now) (datum_of sample.now) (datum_of r.0) (map datum_of next.old.items) (map datum_of next.new.items) (map datum_of r.1.now)) }
+        (λ r. MovedWhere (rows_of table.now) (rows_in net.now) (map datum_of held.now) (dt, datum_of sample.now) (datum_of r.0) (map datum_of next.old.items) (map datum_of next.new.items) (map datum_of r.1.now)) }
 {
     match net {
         Net::Arr(e) => Ok((table.call(*e, &[], sample)?, held)),
         Net::Seq(f, g) => {
-            let (between, rest) = step(alloc, table, f.get(), held, next, sample)?;
-            step(alloc, table, g.get(), rest, next, &between)
+            let (between, rest) = step(alloc, table, f.get(), held, next, dt, sample)?;
+            step(alloc, table, g.get(), rest, next, dt, &between)
         }
         Net::IPre(_) => {
             let (answer, rest) = first_held(alloc, held)?;

@@ -2,4 +2,8 @@
 #![tactic(auto)]
 
 mod advance;
+mod bound;
+mod runner;
 
+pub use bound::Bound;
+pub use runner::Runner;
