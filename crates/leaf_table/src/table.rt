@@ -56,6 +56,7 @@ impl LeafTable {
         ensures refused { (Contains (rows_of self.old) leaf.key → ⊥) → length (rows_of self.old) ≡ 4096 → IsErr result }
     {
         if let Some(id) = self.find(&leaf.key) {
+            drop(leaf);
             return Ok(id);
         }
         if self.rows.len() >= MAX_ROWS {
@@ -72,16 +73,20 @@ impl LeafTable {
         requires own { leaf.key ≡ key }
         requires fresh { Contains (rows_of self.old) key → ⊥ }
         requires room { length (rows_of self.old) < 4096 }
-        ensures row { IfOk result (λ id. id.0 ≡ length (rows_of self.old)) }
+        ensures row { IfOk result (λ id. slice_get (rows_of self.new) id.0 ≡ Some key) }
         ensures grown { OnOk result (rows_of self.new ≡ rows_of self.old ++ key ∷ []) }
         ensures unchanged { OnErr result (rows_of self.new ≡ rows_of self.old) }
         ensures returned { IfErr result (λ e. (e.0 ≡ leaf) × (e.1 ≡ TableFault.Memory)) }
     {
         let row = self.rows.len();
         match self.rows.insert(key, leaf) {
-            Ok(_) => Ok(LeafId(row)),
+            Ok(replaced) => {
+                drop(replaced);
+                Ok(LeafId(row))
+            }
             Err(failed) => {
-                let (_, leaf) = failed.value;
+                let (key, leaf) = failed.value;
+                drop(key);
                 Err((leaf, TableFault::Memory))
             }
         }
