@@ -2,16 +2,13 @@
 use Rattle.std.proofs.Common.{◌≡◌, ℕ, suc, ◌+◌, ◌<◌, List, [], ◌∷◌, ◌++◌, Option, Some, None, Result, Ok, Err, IfOk, length, slice_get, refl, sym, ap, ◌∙◌, subst, append_assoc, append-nil}
 use Rattle.std.proofs.Math.Logic.{∥∥₁_elim, ∥∥₁_map}
 use Rattle.std.proofs.Math.Bridge.{le_prop}
-use Rattle.std.specs.Coded.{Coded-set}
 use Rattle.std.proofs.lemmas.Option.{slice_get_within}
 use Rattle.sample_core.specs.Datum.{Datum, unit}
-use Rattle.sample_core.specs.DatumCode.{datum_code}
 use Rattle.sample_core.specs.TypeTree.{TypeTree, unit_ty}
-use Rattle.sample_core.specs.HasType.{HasType, unit_has, no_params}
+use Rattle.sample_core.specs.HasType.{HasType, TypedParams, unit_has, no_params}
 use Rattle.leaf_expr.specs.Expression.{Expression}
 use Rattle.leaf_expr.specs.ExpressionValue.{value_of}
 use Rattle.leaf_expr.specs.KeyTree.{KeyTree}
-use Rattle.leaf_table.specs.Computes.{Computes}
 use Rattle.net_syntax.specs.Network.{Network, arr, seq, i_pre}
 use Rattle.net_syntax.specs.Typing as T
 use Rattle.net_syntax.proofs.ExpressionTyped.{typed_value}
@@ -26,14 +23,14 @@ use Rattle.step_core.specs.Held.{Holds, arr_holds, seq_holds, i_pre_holds, Begun
 module _ (keys : List KeyTree) where
   -- what a call of row k promises of its answer y at x
   abbrev Called : ℕ → Datum → Datum → Type 0
-  Called k x y = (key : KeyTree) → slice_get keys k ≡ Some key → ∥ Computes key [] x y ∥₁
+  Called k x y = (key : KeyTree) → slice_get keys k ≡ Some key → TypedParams key.params [] → HasType x key.input → y ≡ value_of key.expr [] x
 
   there : (k : ℕ) {A B : TypeTree} → RowTyped keys k [] A B → k < length keys
   there k r = slice_get_within keys k _ r.is_row
 
   called_value : (k : ℕ) (x y : Datum) {A B : TypeTree} → Called k x y → RowTyped keys k [] A B → HasType x A → y ≡ value_of (row_expression keys k) [] x
   called_value k x y {A} h r t =
-      ∥∥₁_elim (h (record { expr = r.expr; params = []; input = A }) r.is_row) (Coded-set datum_code _ _) (λ c. c.value no_params t)
+      h (record { expr = r.expr; params = []; input = A }) r.is_row no_params t
       ∙ ap (λ o. value_of (expression_in o) [] x) (sym r.is_row)
 
   called_typed : (k : ℕ) (x y : Datum) {A B : TypeTree} → Called k x y → RowTyped keys k [] A B → HasType x A → HasType y B
