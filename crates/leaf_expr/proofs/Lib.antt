@@ -1,4 +1,6 @@
 pub mod Places
 pub mod SameDatum
+pub mod Soundness
+pub mod Exactness
+pub mod Uniqueness
 pub mod ShapeValue
-mod SameElements

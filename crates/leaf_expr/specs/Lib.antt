@@ -8,3 +8,8 @@ pub mod Shape
 pub mod SameByCode
 pub mod KeyTree
 pub mod Fed
+pub mod TypeLimits
+pub mod ExpressionLimits
+pub mod ExpressionCheck
+pub mod TypingLaws
+pub mod Gives

@@ -4,7 +4,7 @@ ghost use Rattle.std.specs.Prelude.{◌≡◌, ◌↔◌, IsTrue, IfOk};
 
 use crate::expr::Expr;
 use crate::feed::{feed_expr, feed_type};
-use crate::same::same_expr;
+use crate::equal::same_expr;
 use sample_core::{same_type, Memory, Ty};
 use std::alloc::Global;
 use std::hash::{Hash, Hasher};

@@ -1,18 +1,24 @@
 //! Expressions: the total functions that networks are built over.
 #![tactic(auto)]
 
+mod equal;
 mod evaluation;
 mod expr;
 mod feed;
 mod key;
+mod laws;
+mod limits;
 mod literal;
-mod same;
-mod shape;
 mod operations;
+mod shape;
+mod typing;
 
+pub use equal::same_expr;
 pub use evaluation::eval;
 pub use expr::{Expr, Part, Parts};
 pub use key::LeafKey;
+pub use laws::typing_laws;
+pub use limits::{expr_fits, type_fits};
 pub use literal::Literal;
-pub use same::same_expr;
 pub use shape::{shape_laws, shape_of, Shape};
+pub use typing::{ExprFault, type_of_expr};

@@ -6,7 +6,6 @@ ghost use Rattle.sample_core.specs.HasType.{HasType, TypedParams};
 ghost use Rattle.sample_core.specs.Seen.{datum_of};
 ghost use Rattle.leaf_expr.specs.ExpressionValue.{value_of};
 ghost use Rattle.leaf_expr.specs.KeyTree.{KeyTree};
-ghost use Rattle.leaf_table.specs.Computes.{Computes};
 
 use crate::fault::TableFault;
 use crate::leaf::Leaf;
@@ -107,7 +106,8 @@ impl LeafTable {
     pub fn call(&self, id: LeafId, params: &[Sample], x: &Sample) -> Result<Sample, Memory>
         requires { id.0 < length (rows_of self.now) }
         ensures { IfOk result (λ v. (key : KeyTree) → slice_get (rows_of self.now) id.0 ≡ Some key →
-            ∥ Computes key (map datum_of params.now) (datum_of x.now) (datum_of v) ∥₁) }
+            TypedParams key.params (map datum_of params.now) → HasType (datum_of x.now) key.input →
+            datum_of v ≡ value_of key.expr (map datum_of params.now) (datum_of x.now)) }
     {
         match self.rows.get_index(id.0) {
             Some((_, leaf)) => Ok(leaf.call(params, x)?),
