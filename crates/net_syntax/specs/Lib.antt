@@ -21,3 +21,4 @@ pub mod Examples
 pub mod TypeGiven
 pub mod Position
 pub mod Leaves
+pub mod SeenNeed

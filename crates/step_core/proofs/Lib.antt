@@ -18,3 +18,4 @@ pub mod Runners
 pub mod Ranks
 pub mod Advanced
 pub mod PushedOn
+pub mod Bindings

@@ -1,9 +1,7 @@
 -- A runner that takes a sample in stands for one sample more.
 use Rattle.std.proofs.Common.{◌≡◌, ℕ, suc, ◌+◌, ◌<◌, List, [], ◌∷◌, ◌++◌, length, refl, sym, ap, ◌∙◌, subst, arith, length-append}
-use Rattle.std.proofs.Math.Logic.{∥∥₁_elim, ∥∥₁_map}
-use Rattle.std.specs.Coded.{Coded-set, coded_list}
+use Rattle.std.proofs.Math.Logic.{∥∥₁_map}
 use Rattle.sample_core.specs.Datum.{Datum}
-use Rattle.sample_core.specs.DatumCode.{datum_code}
 use Rattle.sample_core.specs.TypeTree.{TypeTree}
 use Rattle.sample_core.specs.HasType.{HasType}
 use Rattle.leaf_expr.specs.Expression.{Expression}
@@ -32,15 +30,15 @@ later r held = record { input = r.input; keys = r.keys; rows = r.rows; held = he
 abbrev OneMore : Running → Timed → ℕ × Datum → Datum → List Datum → Type 0
 OneMore r p x y held = HoldsPast (later r held) (p ++ x ∷ []) × (stream_of (network_in r) (p ++ x ∷ []) ≡ stream_of (network_in r) p ++ y ∷ [])
 
-all_pushed : (r : Running) (p : Timed) (x : ℕ × Datum) (y : Datum) (held : List Datum) → StandsFor r p → (HoldsPast r p → OneMore r p x y held) → StandsFor (later r held) (p ++ x ∷ []) × (stream_of (network_in r) (p ++ x ∷ []) ≡ stream_of (network_in r) p ++ y ∷ [])
-all_pushed r p x y held s h = (record {
+all_pushed : (r : Running) (p : Timed) (x : ℕ × Datum) (y : Datum) (held : List Datum) → StandsFor r p → OneMore r p x y held → StandsFor (later r held) (p ++ x ∷ []) × (stream_of (network_in r) (p ++ x ∷ []) ≡ stream_of (network_in r) p ++ y ∷ [])
+all_pushed r p x y held s m = (record {
   counted = (let c : r.samples ≡ length p = s.counted in omega (arith, c, length-append p (x ∷ [])));
-  holds_past = ∥∥₁_map s.holds_past (λ k. (h k).0);
-}, ∥∥₁_elim s.holds_past (Coded-set (coded_list datum_code) _ _) (λ k. (h k).1))
+  holds_past = m.0;
+}, m.1)
 
 pub first_pushed : (r : Running) (d : ℕ) (x y : Datum) (held : List Datum) → r.samples ≡ 0 → HasType x r.input → BegunWhere r.keys r.rows x y [] held → Pushed r (d, x) y (later r held)
 first_pushed r d x y held none t begun (z ∷ p) s = absurd (let c : r.samples ≡ suc (length p) = s.counted in omega (arith, c, none))
-first_pushed r d x y held none t begun [] s = all_pushed r [] (d, x) y held s (λ k. one k)
+first_pushed r d x y held none t begun [] s = all_pushed r [] (d, x) y held s (one s.holds_past)
   where
     one : HoldsPast r [] → OneMore r [] (d, x) y held
     one (B, typed, nothing_held) =
@@ -51,7 +49,7 @@ first_pushed r d x y held none t begun [] s = all_pushed r [] (d, x) y held s (�
 
 pub next_pushed : (r : Running) (x : ℕ × Datum) (y : Datum) (held rest : List Datum) → 0 < r.samples → HasType x.1 r.input → MovedWhere r.keys r.rows r.held x y [] held rest → Pushed r x y (later r held)
 next_pushed r x y held rest some t moved [] s = absurd (let c : r.samples ≡ 0 = s.counted in omega (arith, c, some))
-next_pushed r x y held rest some t moved (z ∷ p) s = all_pushed r (z ∷ p) x y held s (λ k. one k)
+next_pushed r x y held rest some t moved (z ∷ p) s = all_pushed r (z ∷ p) x y held s (one s.holds_past)
   where
     one : HoldsPast r (z ∷ p) → OneMore r (z ∷ p) x y held
     one (B, a, holds, stands) =
@@ -61,12 +59,12 @@ next_pushed r x y held rest some t moved (z ∷ p) s = all_pushed r (z ∷ p) x 
           (R.pushed value_of (network_in r) {P = Stands value_of m.state} (z ∷ p) x y m.visits took).one_more)
 
 -- what is bound is a network of rows that are there
-pub fits_table : (keys : List KeyTree) (b : Binding) → FitsTable keys b → FitsRows keys b.rows
+pub fits_table : (keys : List KeyTree) (b : Binding) → ∥ FitsTable keys b ∥₁ → FitsRows keys b.rows
 fits_table keys b h = ∥∥₁_map h (λ t. (b.input, t.0, t.1))
 
 -- before its first sample
 pub new_stands : (r : Running) → r.samples ≡ 0 → r.held ≡ [] → FitsTable r.keys (record { input = r.input; rows = r.rows }) → StandsFor r []
-new_stands r none nothing h = record { counted = none; holds_past = ∥∥₁_map h (λ t. (t.0, t.1, nothing)) }
+new_stands r none nothing h = record { counted = none; holds_past = (h.0, h.1, nothing) }
 
 -- the same for a runner whose values are these by equations
 pub first_pushed_to : (r : Running) (rows : Network ℕ) (d n : ℕ) (x y y' : Datum) (held held' before : List Datum) → rows ≡ r.rows → held' ≡ held → n ≡ suc r.samples → y' ≡ y → before ≡ [] → r.samples ≡ 0 → HasType x r.input → BegunWhere r.keys rows x y before held → Pushed r (d, x) y' (record { input = r.input; keys = r.keys; rows = r.rows; held = held'; samples = n })

@@ -19,4 +19,4 @@ binding_code = code_by (TypeTree × Network ℕ) (coded× type_code (network_cod
 
 -- each row that the network names is there, and kept for the types at its place
 abbrev pub FitsTable : List KeyTree → Binding → Type 0
-FitsTable keys b = ∥ ((B : TypeTree) × RowsTyped keys b.rows b.input B) ∥₁
+FitsTable keys b = (B : TypeTree) × RowsTyped keys b.rows b.input B

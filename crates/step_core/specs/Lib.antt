@@ -17,3 +17,4 @@ pub mod Bound
 pub mod Held
 pub mod Running
 pub mod SeenRunner
+pub mod Found

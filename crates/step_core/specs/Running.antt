@@ -35,7 +35,7 @@ HoldsPast r (x ∷ p) = (B : TypeTree) × (a : State Expression) × Holds r.keys
 -- the running network got just these samples
 pub record StandsFor (r : Running) (p : Timed) : Type 0 where
   pub counted : r.samples ≡ length p
-  pub holds_past : ∥ HoldsPast r p ∥₁
+  pub holds_past : HoldsPast r p
 
 -- a sample x was taken in and y answered: whatever the samples so far were, the runner stands for them and x, and y is the next output of its network
 abbrev pub Pushed : Running → ℕ × Datum → Datum → Running → Type 0

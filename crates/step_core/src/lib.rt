@@ -2,8 +2,10 @@
 #![tactic(auto)]
 
 mod advance;
+mod binding;
 mod bound;
 mod runner;
 
+pub use binding::{BindFault, bind};
 pub use bound::Bound;
 pub use runner::Runner;

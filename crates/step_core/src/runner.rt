@@ -22,7 +22,7 @@ pub struct Runner<'a> {
     held: Vec<Sample>,
     next: Vec<Sample>,
     samples: u64,
-    ghost fits: { FitsTable (rows_of table.now) bound.now },
+    ghost fits: { ∥ FitsTable (rows_of table.now) bound.now ∥₁ },
 }
 
 impl<'a> Runner<'a> {
