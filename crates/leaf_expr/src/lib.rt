@@ -21,3 +21,6 @@ pub use limits::{expr_fits, type_fits};
 pub use literal::Literal;
 pub use shape::{Shape, shape_law, shape_of};
 pub use typing::{ExprFault, type_of_expr};
+
+#[cfg(test)]
+mod tests;
