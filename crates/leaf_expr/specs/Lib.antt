@@ -4,6 +4,10 @@ pub mod ExpressionValue
 pub mod ExpressionTyping
 pub mod Seen
 pub mod Falls
+pub mod Shape
+pub mod SameByCode
+pub mod KeyTree
+pub mod Fed
 pub mod TypeLimits
 pub mod ExpressionLimits
 pub mod ExpressionCheck
@@ -23,4 +27,3 @@ pub mod Lexeme
 pub mod Gives
 pub mod Form
 pub mod ReadText
-pub mod ShapeTable

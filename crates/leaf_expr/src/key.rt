@@ -1,46 +1,108 @@
-// What a stored leaf is found by.
+// What a stored closure is found by.
 
-ghost use Rattle.std.specs.Prelude.{◌≡◌, IfOk, map};
-ghost use Rattle.sample_core.specs.SeenType.{type_of};
-ghost use Rattle.leaf_expr.specs.Seen.{expression_of};
+ghost use Rattle.std.specs.Prelude.{◌≡◌, ◌↔◌, IsTrue, IfOk};
 
 use crate::expr::Expr;
-use sample_core::{Memory, Ty};
+use crate::feed::{feed_expr, feed_type};
+use crate::equal::same_expr;
+use sample_core::{same_type, Memory, Ty};
 use std::alloc::Global;
+use std::hash::{Hash, Hasher};
+use std::marker::Model;
 
-/// An expression with the types of its parameters and of its input.
+/// An expression and the types that it is used at. Contracts see it as the record of their trees.
 #[derive(Drop)]
 pub struct LeafKey {
     /// The expression.
     pub expr: Expr,
-    /// The types of the parameters, in order.
+    /// The types of the parameters in scope, the outermost first.
     pub params: Vec<Ty>,
     /// The type of the input.
     pub input: Ty,
 }
 
+impl Model for LeafKey {
+    ghost use Rattle.std.specs.Prelude.{map};
+    ghost use Rattle.sample_core.specs.SeenType.{type_of};
+    ghost use Rattle.leaf_expr.specs.KeyTree.{KeyTree, key_code};
+    ghost use Rattle.leaf_expr.specs.Seen.{expression_of};
+
+    ghost Value = { KeyTree };
+
+    ghost coded = { key_code };
+
+    ghost view = { λ k. record { expr = expression_of k.expr; params = map type_of k.params.items; input = type_of k.input } };
+}
+
 impl LeafKey {
-    /// A copy, whose parts are shared with it.
+    /// A copy, whose trees are shared with it.
     pub fn try_copy(&self, alloc: Global) -> Result<LeafKey, Memory>
-        ensures expr { IfOk result (λ k. k.expr ≡ self.now.expr) }
-        ensures params { IfOk result (λ k. k.params.items ≡ self.now.params.items) }
-        ensures input { IfOk result (λ k. k.input ≡ self.now.input) }
+        ensures { IfOk result (λ k. k ≡ self.now) }
     {
+        let mut params = Vec::with_capacity(alloc, self.params.len())?;
+        for ty in &self.params {
+            params.push(ty.try_copy(alloc)?)?;
+        }
         Ok(LeafKey {
             expr: self.expr.try_copy(alloc)?,
-            params: copies(alloc, &self.params)?,
+            params,
             input: self.input.try_copy(alloc)?,
         })
     }
+
+    /// Whether the two keys are equal.
+    fn same(&self, other: &LeafKey) -> bool
+        ensures { IsTrue result ↔ self.now ≡ other.now }
+    {
+        if !same_expr(&self.expr, &other.expr) || !same_type(&self.input, &other.input) {
+            return false;
+        }
+        if self.params.len() != other.params.len() {
+            return false;
+        }
+        for i in 0..self.params.len() {
+            if !same_type(&self.params[i], &other.params[i]) {
+                return false;
+            }
+        }
+        true
+    }
 }
 
-// Copies of the types, in order.
-fn copies(alloc: Global, types: &[Ty]) -> Result<Vec<Ty>, Memory>
-    ensures { IfOk result (λ v. v.items ≡ types.now) }
-{
-    let mut all = Vec::new(alloc);
-    for ty in types {
-        all.push(ty.try_copy(alloc)?)?;
+impl PartialEq for LeafKey {
+    ghost use Rattle.leaf_expr.specs.KeyTree.{key_code};
+    ghost use Rattle.leaf_expr.specs.SameByCode.{same_by, same_by_partial_laws};
+
+    ghost eq = { same_by key_code };
+
+    ghost laws = { same_by_partial_laws key_code };
+
+    fn eq(&self, other: &LeafKey) -> bool {
+        self.same(other)
     }
-    Ok(all)
+}
+
+impl Eq for LeafKey {
+    ghost use Rattle.leaf_expr.specs.KeyTree.{key_code};
+    ghost use Rattle.leaf_expr.specs.SameByCode.{same_by_laws};
+
+    ghost laws = { same_by_laws key_code };
+}
+
+impl Hash for LeafKey {
+    ghost use Rattle.leaf_expr.specs.Fed.{key_fed};
+    ghost use Rattle.leaf_expr.specs.KeyTree.{key_code};
+    ghost use Rattle.leaf_expr.specs.SameByCode.{same_by_respects};
+
+    ghost hash_input = { key_fed };
+
+    ghost respects_eq = { same_by_respects key_code key_fed };
+
+    fn hash<H: Hasher>(&self, state: &mut H) {
+        feed_expr(&self.expr, state);
+        for ty in &self.params {
+            feed_type(ty, state);
+        }
+        feed_type(&self.input, state);
+    }
 }

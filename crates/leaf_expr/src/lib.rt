@@ -5,6 +5,7 @@ mod equal;
 mod evaluation;
 mod expr;
 mod expr_reader;
+mod feed;
 mod form;
 mod key;
 mod laws;
@@ -29,7 +30,7 @@ pub use laws::typing_laws;
 pub use limits::{expr_fits, type_fits};
 pub use literal::Literal;
 pub use print::{print_expr, push_expr};
-pub use shape::{Shape, shape_law, shape_of};
+pub use shape::{Shape, shape_laws, shape_of};
 pub use text_fault::ExprTextFault;
 pub use text_laws::{
     grammar_rows, number_laws, printing_laws, reading_laws, sugar_laws, whole_text_laws,

@@ -23,3 +23,6 @@ pub mod Examples
 pub mod WithinLimits
 pub mod Position
 pub mod Place
+pub mod TypeGiven
+pub mod Leaves
+pub mod SeenNeed

@@ -3,12 +3,15 @@
 
 mod laws;
 mod measure;
+mod needs;
 mod net;
 mod position;
+mod type_given;
 mod typed_net;
 
 pub use laws::{output_examples, stream_laws, switching_laws, typing_laws, weight_examples};
 pub use measure::{MOST_HEIGHT, MOST_WEIGHT, height, weight};
+pub use needs::{LeafNeed, leaves};
 pub use net::{Net, Sub};
 pub use position::{Position, print_position, push_position};
 pub use typed_net::TypedNet;

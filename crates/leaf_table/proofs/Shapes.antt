@@ -1,0 +1,20 @@
+-- What the shape of a key's expression tells of the key's value.
+use Rattle.std.proofs.Common.{◌≡◌, ℤ, ◌+ℤ◌, ◌*ℤ◌, List, Some, ap, sym, ◌∙◌}
+use Rattle.std.proofs.lemmas.Int.{int_wrap-add_left}
+use Rattle.std.specs.Int.{int_wrap, w64}
+use Rattle.sample_core.specs.Datum.{Datum, number, whole}
+use Rattle.leaf_expr.specs.ExpressionValue.{wrapped}
+use Rattle.leaf_expr.specs.Shape.{shape, value_by_shape}
+use Rattle.leaf_expr.specs.KeyTree.{KeyTree}
+use Rattle.leaf_expr.specs.declared.shape.Shape.{Shape}
+use Rattle.leaf_expr.proofs.ShapeValue.{shape_values}
+use Rattle.leaf_table.specs.Computes.{Computes}
+
+-- a value that the shape's name and parts give is the value of each key of that shape
+pub by_shape : (s : Shape) (ps : List Datum) (x v : Datum) → value_by_shape s x ≡ Some v → (key : KeyTree) → shape key.expr ≡ s → Computes key ps x v
+by_shape s ps x v h key e = record { value = λ t u. sym (shape_values key.expr ps x v (ap (λ s. value_by_shape s x) e ∙ h)) }
+
+-- a sum of a product that was wrapped, wrapped
+pub affine_value : (a b n p s : ℤ) (x : Datum) → n ≡ whole x → p ≡ int_wrap w64 (a *ℤ n) → s ≡ int_wrap w64 (p +ℤ b) → Some (wrapped (a *ℤ whole x +ℤ b)) ≡ Some (number s)
+affine_value a b n p s x at product sum =
+    ap (λ z. Some (number z)) (sym (sum ∙ ap (λ z. int_wrap w64 (z +ℤ b)) product ∙ int_wrap-add_left w64 (a *ℤ n) b ∙ ap (λ z. int_wrap w64 (a *ℤ z +ℤ b)) at))

@@ -1,0 +1,134 @@
+// What the closures call: one function for each shape of expression.
+
+ghost use Rattle.std.specs.Prelude.{◌≡◌, IfOk, Some, map};
+ghost use Rattle.sample_core.specs.Seen.{datum_of};
+ghost use Rattle.leaf_expr.specs.Shape.{shape, value_by_shape};
+ghost use Rattle.leaf_expr.specs.declared.shape.Shape.TheVariants as S;
+ghost use Rattle.leaf_expr.specs.KeyTree.{KeyTree};
+ghost use Rattle.leaf_table.specs.Computes.{Computes};
+
+use crate::part::{child, copied, first, number, product, second, sum};
+use leaf_expr::{eval, LeafKey, Literal};
+use sample_core::{Memory, Sample};
+use std::alloc::{AllocError, Global};
+
+/// The input itself, for an expression of the shape `Identity`.
+pub fn run_identity(alloc: Global, params: &[Sample], x: &Sample) -> Result<Sample, AllocError>
+    ensures named { IfOk result (λ v. value_by_shape S.Identity (datum_of x.now) ≡ Some (datum_of v)) }
+    ensures fact { IfOk result
+        (λ v. (key : KeyTree) → shape key.expr ≡ S.Identity → Computes key (map datum_of params.now) (datum_of x.now) (datum_of v)) }
+{
+    let _ = params;
+    copied(alloc, x)
+}
+
+/// The literal, for an expression of the shape `Constant`.
+pub fn run_constant(
+    alloc: Global,
+    c: Literal,
+    params: &[Sample],
+    x: &Sample,
+) -> Result<Sample, AllocError>
+    ensures named { IfOk result (λ v. value_by_shape (S.Constant c) (datum_of x.now) ≡ Some (datum_of v)) }
+    ensures fact { IfOk result
+        (λ v. (key : KeyTree) → shape key.expr ≡ S.Constant c → Computes key (map datum_of params.now) (datum_of x.now) (datum_of v)) }
+{
+    let _ = alloc;
+    let _ = params;
+    let _ = x;
+    Ok(match c {
+        Literal::Unit => Sample::Unit,
+        Literal::Bool(b) => Sample::Bool(b),
+        Literal::Int(n) => Sample::Int(n),
+    })
+}
+
+/// The input times `a` and `b` more, modulo 2^64 and read as signed, for an expression of the shape `Affine`.
+pub fn run_affine(
+    alloc: Global,
+    a: i64,
+    b: i64,
+    params: &[Sample],
+    x: &Sample,
+) -> Result<Sample, AllocError>
+    ensures named { IfOk result (λ v. value_by_shape (S.Affine a b) (datum_of x.now) ≡ Some (datum_of v)) }
+    ensures fact { IfOk result
+        (λ v. (key : KeyTree) → shape key.expr ≡ S.Affine a b → Computes key (map datum_of params.now) (datum_of x.now) (datum_of v)) }
+{
+    let _ = alloc;
+    let _ = params;
+    Ok(Sample::Int(sum(product(a, number(x)), b)))
+}
+
+/// The input's parts the other way round, for an expression of the shape `Swap`.
+pub fn run_swap(alloc: Global, params: &[Sample], x: &Sample) -> Result<Sample, AllocError>
+    ensures named { IfOk result (λ v. value_by_shape S.Swap (datum_of x.now) ≡ Some (datum_of v)) }
+    ensures fact { IfOk result
+        (λ v. (key : KeyTree) → shape key.expr ≡ S.Swap → Computes key (map datum_of params.now) (datum_of x.now) (datum_of v)) }
+{
+    let _ = params;
+    let right = child(alloc, second(x))?;
+    let left = child(alloc, first(x))?;
+    Ok(Sample::Pair(right, left))
+}
+
+/// The input's first part, for an expression of the shape `Left`.
+pub fn run_left(alloc: Global, params: &[Sample], x: &Sample) -> Result<Sample, AllocError>
+    ensures named { IfOk result (λ v. value_by_shape S.Left (datum_of x.now) ≡ Some (datum_of v)) }
+    ensures fact { IfOk result
+        (λ v. (key : KeyTree) → shape key.expr ≡ S.Left → Computes key (map datum_of params.now) (datum_of x.now) (datum_of v)) }
+{
+    let _ = params;
+    copied(alloc, first(x))
+}
+
+/// The input's second part, for an expression of the shape `Right`.
+pub fn run_right(alloc: Global, params: &[Sample], x: &Sample) -> Result<Sample, AllocError>
+    ensures named { IfOk result (λ v. value_by_shape S.Right (datum_of x.now) ≡ Some (datum_of v)) }
+    ensures fact { IfOk result
+        (λ v. (key : KeyTree) → shape key.expr ≡ S.Right → Computes key (map datum_of params.now) (datum_of x.now) (datum_of v)) }
+{
+    let _ = params;
+    copied(alloc, second(x))
+}
+
+/// Whether the input is less than `k`, for an expression of the shape `Below`.
+pub fn run_below(
+    alloc: Global,
+    k: i64,
+    params: &[Sample],
+    x: &Sample,
+) -> Result<Sample, AllocError>
+    ensures named { IfOk result (λ v. value_by_shape (S.Below k) (datum_of x.now) ≡ Some (datum_of v)) }
+    ensures fact { IfOk result
+        (λ v. (key : KeyTree) → shape key.expr ≡ S.Below k → Computes key (map datum_of params.now) (datum_of x.now) (datum_of v)) }
+{
+    let _ = alloc;
+    let _ = params;
+    Ok(Sample::Bool(number(x) < k))
+}
+
+/// The event of the input, for an expression of the shape `Wrap`.
+pub fn run_wrap(alloc: Global, params: &[Sample], x: &Sample) -> Result<Sample, AllocError>
+    ensures named { IfOk result (λ v. value_by_shape S.Wrap (datum_of x.now) ≡ Some (datum_of v)) }
+    ensures fact { IfOk result
+        (λ v. (key : KeyTree) → shape key.expr ≡ S.Wrap → Computes key (map datum_of params.now) (datum_of x.now) (datum_of v)) }
+{
+    let _ = params;
+    Ok(Sample::Event(child(alloc, x)?))
+}
+
+/// The value of the key's expression, whatever its shape is.
+pub fn run_general(
+    alloc: Global,
+    key: &LeafKey,
+    params: &[Sample],
+    x: &Sample,
+) -> Result<Sample, AllocError>
+    ensures { IfOk result (λ v. Computes key.now (map datum_of params.now) (datum_of x.now) (datum_of v)) }
+{
+    match eval(alloc, &key.expr, params, x) {
+        Ok(value) => Ok(value),
+        Err(Memory) => Err(AllocError),
+    }
+}

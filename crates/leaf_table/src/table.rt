@@ -1,0 +1,117 @@
+// The table of stored closures.
+
+ghost use Rattle.std.specs.Prelude.{◌≡◌, ◌≤◌, ◌<◌, ◌++◌, ◌∷◌, ◌↔◌, [], length, IfOk, IfErr, IsOk, IsErr, OnOk, OnErr, IfSome, IfNone, All, Ok, Some, None, slice_get, Contains, map};
+ghost use Rattle.indexmap.specs.IndexMap.{index_map_len};
+ghost use Rattle.sample_core.specs.HasType.{HasType, TypedParams};
+ghost use Rattle.sample_core.specs.Seen.{datum_of};
+ghost use Rattle.leaf_expr.specs.ExpressionValue.{value_of};
+ghost use Rattle.leaf_expr.specs.KeyTree.{KeyTree};
+
+use crate::fault::TableFault;
+use crate::leaf::Leaf;
+use indexmap::IndexMap;
+use leaf_expr::LeafKey;
+use sample_core::{Memory, Sample};
+use std::alloc::Global;
+
+/// The most rows that a table has.
+pub const MAX_ROWS: usize = 4096;
+
+/// The number of a row, from 0.
+#[derive(Clone, Copy, PartialEq, Eq, Debug)]
+pub struct LeafId(pub usize);
+
+/// Stored closures by number and by key. Contracts see it as the list of its rows' keys.
+#[derive(Drop)]
+pub struct LeafTable {
+    alloc: Global,
+    rows: IndexMap<LeafKey, Leaf>,
+    ghost keyed: { ∥ All (λ e. e.1.key ≡ e.0) rows.entries ∥₁ },
+    ghost within: { index_map_len rows ≤ 4096 },
+}
+
+impl LeafTable {
+    ghost use Rattle.leaf_table.specs.Rows.{rows_of};
+
+    /// A table with no rows.
+    pub fn new(alloc: Global) -> LeafTable
+        ensures { rows_of result ≡ [] }
+    {
+        LeafTable {
+            alloc,
+            rows: IndexMap::new(alloc),
+        }
+    }
+
+    /// Adds the leaf as a new last row, or drops it where its key has a row already, and answers the row of the key.
+    /// `Full` where the key is new and all 4,096 rows are there. A leaf that is not taken comes back.
+    pub fn add(&mut self, leaf: Leaf) -> Result<LeafId, (Leaf, TableFault)>
+        ensures row { IfOk result (λ id. slice_get (rows_of self.new) id.0 ≡ Some leaf.key) }
+        ensures known { Contains (rows_of self.old) leaf.key → IsOk result × (rows_of self.new ≡ rows_of self.old) }
+        ensures grown { OnOk result ((Contains (rows_of self.old) leaf.key → ⊥) → rows_of self.new ≡ rows_of self.old ++ leaf.key ∷ []) }
+        ensures unchanged { OnErr result (rows_of self.new ≡ rows_of self.old) }
+        ensures returned { IfErr result (λ e. e.0 ≡ leaf) }
+        ensures full { IfErr result (λ e. (e.1 ≡ TableFault.Full) ↔ (length (rows_of self.old) ≡ 4096)) }
+        ensures refused { (Contains (rows_of self.old) leaf.key → ⊥) → length (rows_of self.old) ≡ 4096 → IsErr result }
+    {
+        if let Some(id) = self.find(&leaf.key) {
+            drop(leaf);
+            return Ok(id);
+        }
+        if self.rows.len() >= MAX_ROWS {
+            return Err((leaf, TableFault::Full));
+        }
+        match leaf.key.try_copy(self.alloc) {
+            Ok(key) => self.push(key, leaf),
+            Err(Memory) => Err((leaf, TableFault::Memory)),
+        }
+    }
+
+    /// Adds the leaf as a new last row. A leaf that is not taken comes back.
+    fn push(&mut self, key: LeafKey, leaf: Leaf) -> Result<LeafId, (Leaf, TableFault)>
+        requires own { leaf.key ≡ key }
+        requires fresh { Contains (rows_of self.old) key → ⊥ }
+        requires room { length (rows_of self.old) < 4096 }
+        ensures row { IfOk result (λ id. slice_get (rows_of self.new) id.0 ≡ Some key) }
+        ensures grown { OnOk result (rows_of self.new ≡ rows_of self.old ++ key ∷ []) }
+        ensures unchanged { OnErr result (rows_of self.new ≡ rows_of self.old) }
+        ensures returned { IfErr result (λ e. (e.0 ≡ leaf) × (e.1 ≡ TableFault.Memory)) }
+    {
+        let row = self.rows.len();
+        match self.rows.insert(key, leaf) {
+            Ok(replaced) => {
+                drop(replaced);
+                Ok(LeafId(row))
+            }
+            Err(failed) => {
+                let (key, leaf) = failed.value;
+                drop(key);
+                Err((leaf, TableFault::Memory))
+            }
+        }
+    }
+
+    /// The number of the row with this key.
+    pub fn find(&self, key: &LeafKey) -> Option<LeafId>
+        ensures found { IfSome result (λ id. slice_get (rows_of self.now) id.0 ≡ Some key.now) }
+        ensures missing { IfNone result (Contains (rows_of self.now) key.now → ⊥) }
+    {
+        match self.rows.get_index_of(key) {
+            Some(row) => Some(LeafId(row)),
+            None => None,
+        }
+    }
+
+    /// What the row's closure answers: at arguments of its key's types, the value of its key's expression.
+    pub fn call(&self, id: LeafId, params: &[Sample], x: &Sample) -> Result<Sample, Memory>
+        requires { id.0 < length (rows_of self.now) }
+        ensures { IfOk result (λ v. (key : KeyTree) → slice_get (rows_of self.now) id.0 ≡ Some key →
+            TypedParams key.params (map datum_of params.now) → HasType (datum_of x.now) key.input →
+            datum_of v ≡ value_of key.expr (map datum_of params.now) (datum_of x.now)) }
+    {
+        match self.rows.get_index(id.0) {
+            Some((_, leaf)) => Ok(leaf.call(params, x)?),
+            None => unreachable!(),
+        }
+    }
+}

@@ -1,0 +1,43 @@
+-- A network's expressions are those of its parts.
+use Rattle.std.proofs.Common.{◌≡◌, ℕ, List, [], ◌∷◌, ◌++◌, Result, Ok, Err, IfOk, refl, sym, ap, ◌∙◌, append_assoc, subst}
+use Rattle.sample_core.specs.TypeTree.{TypeTree, unit_ty}
+use Rattle.leaf_expr.specs.Expression.{Expression}
+use Rattle.leaf_expr.specs.ExpressionTyping.{ExpressionTyped}
+use Rattle.net_syntax.specs.Network.{Network, arr, seq, i_pre}
+use Rattle.net_syntax.specs.Typing as T
+use Rattle.net_syntax.specs.Stream.{NetTyped}
+use Rattle.net_syntax.specs.TypeGiven.{type_given}
+use Rattle.net_syntax.specs.Leaves.{Need, need_at, Leaves, arr_leaves, seq_leaves, i_pre_leaves, Adds}
+use Rattle.net_syntax.proofs.TypesGiven.{type_given-is}
+
+pub adds_arr : (Ps : List TypeTree) (at here : List ℕ) (net : Network Expression) (e : Expression) (A t : TypeTree) (before now : List Need) → net ≡ arr e → here ≡ at → t ≡ type_given Ps A e → now ≡ before ++ need_at here 0 e Ps A (type_given Ps A e) ∷ [] → Adds Ps at net A t before now
+adds_arr Ps at here net e A t before now form w g n = subst (λ m. Adds Ps at m A t before now) (sym form) go
+  where
+    go : Adds Ps at (arr e) A t before now
+    go Os B (T.arr_typed h) = (g ∙ type_given-is h, need_at at 0 e Ps A B ∷ [], arr_leaves h, n ∙ (λ i. before ++ need_at (w i) 0 e Ps A (type_given-is h i) ∷ []))
+
+pub adds_i_pre : (Ps : List TypeTree) (at here : List ℕ) (net : Network Expression) (e : Expression) (A t : TypeTree) (before now : List Need) → net ≡ i_pre e → here ≡ at → t ≡ A → now ≡ before ++ need_at here 0 e Ps unit_ty (type_given Ps unit_ty e) ∷ [] → Adds Ps at net A t before now
+adds_i_pre Ps at here net e A t before now form w s n = subst (λ m. Adds Ps at m A t before now) (sym form) go
+  where
+    go : Adds Ps at (i_pre e) A t before now
+    go Os B (T.i_pre_typed h) = (s, need_at at 0 e Ps unit_ty B ∷ [], i_pre_leaves h, n ∙ (λ i. before ++ need_at (w i) 0 e Ps unit_ty (type_given-is h i) ∷ []))
+
+pub adds_seq : (Ps : List TypeTree) (at at₁ at₂ : List ℕ) (net f g : Network Expression) (A t u : TypeTree) (before between now : List Need) → net ≡ seq f g → at₁ ≡ at ++ 0 ∷ [] → at₂ ≡ at ++ 1 ∷ [] → Adds Ps at₁ f A t before between → Adds Ps at₂ g t u between now → Adds Ps at net A u before now
+adds_seq Ps at at₁ at₂ net f g A t u before between now form a b ff gg = subst (λ m. Adds Ps at m A u before now) (sym form) (go (subst (λ p. Adds Ps p f A t before between) a ff) (subst (λ p. Adds Ps p g t u between now) b gg))
+  where
+    go : Adds Ps (at ++ 0 ∷ []) f A t before between → Adds Ps (at ++ 1 ∷ []) g t u between now → Adds Ps at (seq f g) A u before now
+    go hf hg Os C (T.seq_typed {B = B} tf tg) =
+        let one : (t ≡ B) × (ns : List Need) × Leaves Ps Os (at ++ 0 ∷ []) f A B ns × (between ≡ before ++ ns) = hf Os B tf in
+        let two : (u ≡ C) × (ns : List Need) × Leaves Ps Os (at ++ 1 ∷ []) g t C ns × (now ≡ between ++ ns) = hg Os C (subst (λ X. T.Typed ExpressionTyped Ps Os g X C) (sym one.0) tg) in
+        (two.0, one.1 ++ two.1, seq_leaves one.2 (subst (λ X. Leaves Ps Os (at ++ 1 ∷ []) g X C two.1) one.0 two.2), two.3 ∙ ap (λ ns. ns ++ two.1) one.3 ∙ append_assoc before one.1 two.1)
+
+-- of a whole network, with nothing in scope and nothing before
+pub whole_leaves : (Ps : List TypeTree) (at : List ℕ) (m net : Network Expression) (A' A B t : TypeTree) (before now : List Need) → Ps ≡ [] → at ≡ [] → m ≡ net → A' ≡ A → before ≡ [] → Adds Ps at m A' t before now → NetTyped [] [] net A B → Leaves [] [] [] net A B now
+whole_leaves Ps at m net A' A B t before now a b c d e adds typed =
+    let here : Adds [] [] net A t [] now = subst (λ o. Adds [] [] net A t o now) e (subst (λ o. Adds [] [] net o t before now) d (subst (λ o. Adds [] [] o A' t before now) c (subst (λ o. Adds [] o m A' t before now) b (subst (λ o. Adds o at m A' t before now) a adds)))) in
+    let all : (t ≡ B) × (ns : List Need) × Leaves [] [] [] net A B ns × (now ≡ ns) = here [] B typed in
+    subst (Leaves [] [] [] net A B) (sym all.3) all.2
+
+pub if_ok : {A E : Type 0} (r : Result A E) (P Q : A → Type 0) → ((x : A) → P x → Q x) → IfOk r P → IfOk r Q
+if_ok (Ok x) P Q f h = f x h
+if_ok (Err e) P Q f h = h

@@ -1,0 +1,25 @@
+use Rattle.std.proofs.Common.{rules, ◌≡◌, ◌++◌, ◌∷◌, [], IfOk, map, ap, sym, ◌∙◌, arith}
+use Rattle.std.proofs.lemmas.Grind.{common_steps}
+use Rattle.std.proofs.lemmas.List.{map_push}
+use Rattle.sample_core.specs.SeenType.{type_of}
+use Rattle.leaf_expr.specs.Seen.{expression_of}
+use Rattle.net_syntax.specs.Network.{seq, map_network}
+use Rattle.net_syntax.specs.Seen.{tree_of}
+use Rattle.net_syntax.specs.SeenNeed.{need_of}
+use Rattle.net_syntax.proofs.AddedLeaves.{adds_arr, adds_i_pre, adds_seq, if_ok}
+use Rattle.net_syntax.proofs.needs.+add_leaves.Goals as goal
+
+pub returns-in_ok-push-in-Arr-clause-added : goal.returns-in_ok-push-in-Arr-clause-added
+returns-in_ok-push-in-Arr-clause-added t c =
+    let added = ap (map need_of) c.in_ok-push-in-Arr.ensures.items ∙ map_push need_of _ _ ∙ ap (λ n. map need_of c.args.needs.now.items ++ n ∷ []) c.in_ok-first_need-in-Arr.ensures in
+    if_ok c.type_given.result _ _ (λ o h. adds_arr _ _ _ _ _ _ _ _ _ (ap tree_of c.in-Arr.is) c.deref.ensures.value h added) c.type_given.ensures
+
+pub returns-in_ok-output-in-Seq-clause-added : goal.returns-in_ok-output-in-Seq-clause-added
+returns-in_ok-output-in-Seq-clause-added t c =
+    let form = ap tree_of c.in-Seq.is ∙ (λ i. seq (map_network expression_of (sym c.get.ensures i)) (map_network expression_of (sym c.get-in-Seq.ensures i))) in
+    adds_seq _ _ _ _ _ _ _ _ _ _ _ _ _ form (grind (arith, common_steps)) (grind (arith, common_steps)) c.in_ok-between-in-Seq.ensures.added c.in_ok-output-in-Seq.ensures.added
+
+pub returns-in_ok-push-in-IPre-clause-added : goal.returns-in_ok-push-in-IPre-clause-added
+returns-in_ok-push-in-IPre-clause-added t c =
+    let added = ap (map need_of) c.in_ok-push-in-IPre.ensures.items ∙ map_push need_of _ _ ∙ ap (λ n. map need_of c.args.needs.now.items ++ n ∷ []) c.in_ok-first_need-in-IPre.ensures in
+    if_ok c.try_copy.result _ _ (λ o h. adds_i_pre _ _ _ _ _ _ _ _ _ (ap tree_of c.in-IPre.is) c.deref-in-IPre.ensures.value (ap type_of h) added) c.try_copy.ensures

@@ -1,0 +1,132 @@
+// The expressions of a network: what it needs stored closures for.
+
+ghost use Rattle.std.specs.Prelude.{◌≡◌, IfOk, OnOk, map, [], ◌∷◌, ◌++◌};
+ghost use Rattle.sample_core.specs.SeenType.{type_of};
+ghost use Rattle.leaf_expr.specs.Seen.{expression_of};
+ghost use Rattle.net_syntax.specs.Seen.{tree_of};
+ghost use Rattle.net_syntax.specs.SeenNeed.{need_of};
+ghost use Rattle.net_syntax.specs.TypeGiven.{type_given};
+ghost use Rattle.net_syntax.specs.Leaves.{need_at, LeavesOf, Adds};
+
+use crate::net::Net;
+use crate::position::Position;
+use crate::type_given::type_given;
+use crate::typed_net::TypedNet;
+use leaf_expr::{Expr, LeafKey};
+use sample_core::{Memory, Ty};
+use std::alloc::Global;
+
+/// An expression of a network: where it stands, and how a stored closure for it is found.
+#[derive(Drop)]
+pub struct LeafNeed {
+    /// Where the expression stands.
+    pub position: Position,
+    /// The expression, the types of the parameters in scope and the type of its input.
+    /// In a constant place the input is `Unit`.
+    pub key: LeafKey,
+    /// The expression's type.
+    pub output: Ty,
+}
+
+/// Every expression that is a child of a network, from the root on, children in written order.
+pub fn leaves(alloc: Global, net: &TypedNet) -> Result<Vec<LeafNeed>, Memory>
+    ensures { IfOk result (λ needs. LeavesOf net.now (map need_of needs.items)) }
+{
+    let mut needs = Vec::new(alloc);
+    let mut path = Vec::new(alloc);
+    let scope = Vec::new(alloc);
+    add_leaves(alloc, net.net(), &scope, net.input(), &mut path, &mut needs)?;
+    Ok(needs)
+}
+
+// Adds the expressions of the network that stands at the path, under parameters of the scope's types.
+// The answer is the network's output type.
+fn add_leaves(
+    alloc: Global,
+    net: &Net<Expr>,
+    scope: &[Ty],
+    input: &Ty,
+    path: &mut Vec<u32>,
+    needs: &mut Vec<LeafNeed>,
+) -> Result<Ty, Memory>
+    ensures path { OnOk result (path.new.items ≡ path.old.items) }
+    ensures added { IfOk result
+        (λ t. Adds (map type_of scope.now) path.old.items (tree_of net.now) (type_of input.now) (type_of t) (map need_of needs.old.items) (map need_of needs.new.items)) }
+{
+    match net {
+        Net::Arr(e) => {
+            needs.push(first_need(alloc, e, scope, input, path)?)?;
+            type_given(alloc, scope, input, e)
+        }
+        Net::Seq(f, g) => {
+            path.push(0)?;
+            let between = add_leaves(alloc, f.get(), scope, input, path, needs)?;
+            path.pop();
+            path.push(1)?;
+            let output = add_leaves(alloc, g.get(), scope, &between, path, needs)?;
+            path.pop();
+            Ok(output)
+        }
+        Net::IPre(c) => {
+            needs.push(first_need(alloc, c, scope, &Ty::Unit, path)?)?;
+            input.try_copy(alloc)
+        }
+    }
+}
+
+// What the expression needs that is the first child of the node at the path.
+fn first_need(
+    alloc: Global,
+    expr: &Expr,
+    scope: &[Ty],
+    input: &Ty,
+    path: &[u32],
+) -> Result<LeafNeed, Memory>
+    ensures { IfOk result
+        (λ n. need_of n ≡ need_at path.now 0 (expression_of expr.now) (map type_of scope.now) (type_of input.now) (type_given (map type_of scope.now) (type_of input.now) (expression_of expr.now))) }
+{
+    let key = key_under(alloc, expr, scope, input)?;
+    let position = first_child(alloc, path)?;
+    let output = type_given(alloc, scope, input, expr)?;
+    Ok(LeafNeed {
+        position,
+        key,
+        output,
+    })
+}
+
+// What a stored closure for the expression is found by, under parameters and an input of these types.
+fn key_under(alloc: Global, expr: &Expr, scope: &[Ty], input: &Ty) -> Result<LeafKey, Memory>
+    ensures { IfOk result
+        (λ k. k ≡ record { expr = expression_of expr.now; params = map type_of scope.now; input = type_of input.now }) }
+{
+    let params = copied_types(alloc, scope)?;
+    let input = input.try_copy(alloc)?;
+    let expr = expr.try_copy(alloc)?;
+    Ok(LeafKey {
+        expr,
+        params,
+        input,
+    })
+}
+
+// The position of the first child of the node at the path.
+fn first_child(alloc: Global, path: &[u32]) -> Result<Position, Memory>
+    ensures { IfOk result (λ p. p ≡ path.now ++ 0 ∷ []) }
+{
+    let mut numbers = Vec::with_capacity(alloc, path.len())?;
+    numbers.extend_from_slice(path)?;
+    numbers.push(0)?;
+    Ok(Position::new(numbers))
+}
+
+// The types, which share their parts with these.
+fn copied_types(alloc: Global, types: &[Ty]) -> Result<Vec<Ty>, Memory>
+    ensures { IfOk result (λ copies. map type_of copies.items ≡ map type_of types.now) }
+{
+    let mut copies = Vec::with_capacity(alloc, types.len())?;
+    for ty in types {
+        copies.push(ty.try_copy(alloc)?)?;
+    }
+    Ok(copies)
+}

@@ -1,0 +1,109 @@
+-- What binding finds, and what it makes.
+use Rattle.std.proofs.Common.{◌≡◌, ℕ, zero, suc, ◌+◌, ◌<◌, List, [], ◌∷◌, ◌++◌, Option, Some, None, slice_get, get_or, take, length, map, refl, sym, ap, ap₂, ◌∙◌, subst, arith, append_assoc, All, Contains, ◌⊎◌, inl, inr}
+use Rattle.std.proofs.lemmas.Option.{slice_get_within, get_or_from_slice_get}
+use Rattle.std.proofs.lemmas.List.Elements.{Contains-get_or}
+use Rattle.sample_core.specs.TypeTree.{TypeTree}
+use Rattle.leaf_expr.specs.Expression.{Expression}
+use Rattle.leaf_expr.specs.KeyTree.{KeyTree}
+use Rattle.net_syntax.specs.SeenNeed.{need_of}
+use Rattle.net_syntax.specs.Stream.{TypedNetwork}
+use Rattle.net_syntax.specs.declared.needs.LeafNeed.{LeafNeed}
+use Rattle.step_core.specs.declared.binding.BindFault.{BindFault}
+use Rattle.step_core.specs.declared.binding.BindFault.TheVariants as F
+use Rattle.net_syntax.specs.Leaves.{Need, Leaves, LeavesOf, arr_leaves, seq_leaves, i_pre_leaves}
+use Rattle.net_syntax.specs.Network.{Network, arr, seq, i_pre}
+use Rattle.net_syntax.specs.Typing.{arr_typed, seq_typed, i_pre_typed}
+use Rattle.step_core.specs.RowTyping.{RowsTyped, RowTyped, network_by, expression_in}
+use Rattle.step_core.specs.Found.{AllFound, FirstMissing, Misses, MissesIn, Names, RowsFor, IsFirstRow, Lowered}
+
+-- the rows of two lists of needs, one behind the other
+record Parted (keys : List KeyTree) (ms ns : List Need) (ks : List ℕ) : Type 0 where
+  one : List ℕ
+  two : List ℕ
+  first_rows : RowsFor keys ms one
+  second_rows : RowsFor keys ns two
+  both : ks ≡ one ++ two
+
+parted : (keys : List KeyTree) (ms ns : List Need) (ks : List ℕ) → RowsFor keys (ms ++ ns) ks → Parted keys ms ns ks
+parted keys [] ns ks h = record { one = []; two = ks; first_rows = tt; second_rows = h; both = refl }
+parted keys (m ∷ ms) ns [] h = absurd h
+parted keys (m ∷ ms) ns (k ∷ ks) h =
+    let r : Parted keys ms ns ks = parted keys ms ns ks h.1 in
+    record { one = k ∷ r.one; two = r.two; first_rows = (h.0, r.first_rows); second_rows = r.second_rows; both = ap (λ l. k ∷ l) r.both }
+
+pub lowered_arr : (e : Expression) (rows : List ℕ) (k : ℕ) (rest : List ℕ) → IsFirstRow rows k rest → Lowered (arr e) rows (arr k) rest
+lowered_arr e rows k rest f keys at A B ns [] js (arr_leaves h) r q = absurd r
+lowered_arr e rows k rest f keys at A B ns (j ∷ i ∷ ks) js (arr_leaves h) r q = absurd r.1
+lowered_arr e [] k rest f keys at A B ns (j ∷ []) js (arr_leaves h) r q = absurd (cc)
+lowered_arr e (i ∷ rows) k rest f keys at A B ns (j ∷ []) js (arr_leaves h) r q =
+    let same : k ≡ j = f.0 ∙ (let e : i ≡ j = cc in e) in
+    let row : slice_get keys k ≡ Some (record { expr = e; params = []; input = A }) = ap (slice_get keys) same ∙ r.0 in
+    (arr_typed (record { expr = e; is_row = row; is_typed = h }), ap (λ o. arr (expression_in o)) row, f.1 ∙ (let e : rows ≡ js = cc in e))
+
+pub lowered_i_pre : (e : Expression) (rows : List ℕ) (k : ℕ) (rest : List ℕ) → IsFirstRow rows k rest → Lowered (i_pre e) rows (i_pre k) rest
+lowered_i_pre e rows k rest f keys at A B ns [] js (i_pre_leaves h) r q = absurd r
+lowered_i_pre e rows k rest f keys at A B ns (j ∷ i ∷ ks) js (i_pre_leaves h) r q = absurd r.1
+lowered_i_pre e [] k rest f keys at A B ns (j ∷ []) js (i_pre_leaves h) r q = absurd (cc)
+lowered_i_pre e (i ∷ rows) k rest f keys at A B ns (j ∷ []) js (i_pre_leaves h) r q =
+    let same : k ≡ j = f.0 ∙ (let e : i ≡ j = cc in e) in
+    let row : slice_get keys k ≡ Some (record { expr = e; params = []; input = _ }) = ap (slice_get keys) same ∙ r.0 in
+    (i_pre_typed (record { expr = e; is_row = row; is_typed = h }), ap (λ o. i_pre (expression_in o)) row, f.1 ∙ (let e : rows ≡ js = cc in e))
+
+pub lowered_seq : (f g : Network Expression) (rows middle rest : List ℕ) (a b : Network ℕ) → Lowered f rows a middle → Lowered g middle b rest → Lowered (seq f g) rows (seq a b) rest
+lowered_seq f g rows middle rest a b hf hg keys at A C ns ks js (seq_leaves {B = B} {ms = ms} {ns = ns'} lf lg) r q =
+    let p : Parted keys ms ns' ks = parted keys ms ns' ks r in
+    let one = hf keys _ A B ms p.one (p.two ++ js) lf p.first_rows (q ∙ ap (λ l. l ++ js) p.both ∙ append_assoc p.one p.two js) in
+    let two = hg keys _ B C ns' p.two js lg p.second_rows one.2 in
+    (seq_typed one.0 two.0, ap₂ seq one.1 two.1, two.2)
+
+-- the same for a network that is one of these forms by an equation, as an arm of a match has it
+pub arr_lowered : (net : Network Expression) (e : Expression) (rows : List ℕ) (low : Network ℕ) (k : ℕ) (rest : List ℕ) → net ≡ arr e → low ≡ arr k → IsFirstRow rows k rest → Lowered net rows low rest
+arr_lowered net e rows low k rest n m h = subst (λ o. Lowered o rows low rest) (sym n) (subst (λ o. Lowered (arr e) rows o rest) (sym m) (lowered_arr e rows k rest h))
+
+pub i_pre_lowered : (net : Network Expression) (e : Expression) (rows : List ℕ) (low : Network ℕ) (k : ℕ) (rest : List ℕ) → net ≡ i_pre e → low ≡ i_pre k → IsFirstRow rows k rest → Lowered net rows low rest
+i_pre_lowered net e rows low k rest n m h = subst (λ o. Lowered o rows low rest) (sym n) (subst (λ o. Lowered (i_pre e) rows o rest) (sym m) (lowered_i_pre e rows k rest h))
+
+pub seq_lowered : (net f g : Network Expression) (rows middle rest : List ℕ) (low a b : Network ℕ) → net ≡ seq f g → low ≡ seq a b → Lowered f rows a middle → Lowered g middle b rest → Lowered net rows low rest
+seq_lowered net f g rows middle rest low a b n m hf hg = subst (λ o. Lowered o rows low rest) (sym n) (subst (λ o. Lowered (seq f g) rows o rest) (sym m) (lowered_seq f g rows middle rest a b hf hg))
+
+-- one need more is found
+rows_push : (keys : List KeyTree) (ns : List Need) (ks : List ℕ) (n : Need) (k : ℕ) → RowsFor keys ns ks → slice_get keys k ≡ Some n.key → RowsFor keys (ns ++ n ∷ []) (ks ++ k ∷ [])
+rows_push keys [] [] n k h e = (e, tt)
+rows_push keys [] (j ∷ ks) n k h e = absurd h
+rows_push keys (m ∷ ns) [] n k h e = absurd h
+rows_push keys (m ∷ ns) (j ∷ ks) n k h e = (h.0, rows_push keys ns ks n k h.1 e)
+
+pub rows_more : (keys : List KeyTree) (all : List LeafNeed) (i : ℕ) (d : LeafNeed) (ks now : List ℕ) (k : ℕ) → i < length all → RowsFor keys (map need_of (take i all)) ks → slice_get keys k ≡ Some (need_of (get_or all i d)).key → now ≡ ks ++ k ∷ [] → RowsFor keys (map need_of (take (i + 1) all)) now
+rows_more keys all i d ks now k l h e n =
+    let whole : map need_of (take (i + 1) all) ≡ map need_of (take i all) ++ need_of (get_or all i d) ∷ [] = taken all i d l in
+    subst (λ ms. RowsFor keys ms now) (sym whole) (subst (RowsFor keys (map need_of (take i all) ++ need_of (get_or all i d) ∷ [])) (sym n) (rows_push keys (map need_of (take i all)) ks (need_of (get_or all i d)) k h e))
+  where
+    taken : (all : List LeafNeed) (i : ℕ) (d : LeafNeed) → i < length all → map need_of (take (i + 1) all) ≡ map need_of (take i all) ++ need_of (get_or all i d) ∷ []
+    taken [] i d l = absurd (omega arith)
+    taken (a ∷ all) zero d l = refl
+    taken (a ∷ all) (suc i) d l = ap (λ ms. need_of a ∷ ms) (taken all i d (omega arith))
+
+-- a need that has a row
+has_row : (keys : List KeyTree) (k : ℕ) (key : KeyTree) → slice_get keys k ≡ Some key → Contains keys key
+has_row keys k key e = subst (Contains keys) (get_or_from_slice_get keys k key key e) (Contains-get_or keys k key (slice_get_within keys k key e))
+
+pub found_all : (keys : List KeyTree) (ns : List Need) (ks : List ℕ) → RowsFor keys ns ks → AllFound keys ns
+found_all keys [] ks h = tt
+found_all keys (n ∷ ns) [] h = absurd h
+found_all keys (n ∷ ns) (k ∷ ks) h = (has_row keys k n.key h.0, found_all keys ns ks h.1)
+
+-- the needs before it are found, this one is not
+pub missing_at : (keys : List KeyTree) (all : List LeafNeed) (i : ℕ) (d : LeafNeed) (ks : List ℕ) (f : BindFault) → i < length all → RowsFor keys (map need_of (take i all)) ks → (Contains keys (need_of (get_or all i d)).key → ⊥) → Names (need_of (get_or all i d)).position f → Misses keys (map need_of all) f
+missing_at keys all i d ks F.Memory l h no p = tt
+missing_at keys all i d ks (F.MissingLeaf q) l h no p = go all i d ks l h no p
+  where
+    go : (all : List LeafNeed) (i : ℕ) (d : LeafNeed) (ks : List ℕ) → i < length all → RowsFor keys (map need_of (take i all)) ks → (Contains keys (need_of (get_or all i d)).key → ⊥) → q ≡ (need_of (get_or all i d)).position → FirstMissing keys (map need_of all) q
+    go [] i d ks l h no p = absurd (omega arith)
+    go (a ∷ all) zero d ks l h no p = inl (no, p)
+    go (a ∷ all) (suc i) d [] l h no p = absurd h
+    go (a ∷ all) (suc i) d (k ∷ ks) l h no p = inr (has_row keys k (need_of a).key h.0, go all i d ks (omega arith) h.1 no p)
+
+-- a refusal of a network by what it needs
+pub misses_in : (keys : List KeyTree) (t : TypedNetwork) (ns : List Need) (f : BindFault) → LeavesOf t ns → Misses keys ns f → MissesIn keys t f
+misses_in keys t ns F.Memory l h = tt
+misses_in keys t ns (F.MissingLeaf p) l h = (ns, l, h)

@@ -1,0 +1,10 @@
+use Rattle.std.proofs.Common.{map, take}
+use Rattle.leaf_table.specs.Rows.{rows_of}
+use Rattle.net_syntax.specs.SeenNeed.{need_of}
+use Rattle.step_core.specs.Found.{RowsFor}
+use Rattle.step_core.specs.SeenRows.{row_number}
+use Rattle.step_core.proofs.binding.find_rows.Given as goal
+
+-- the needs so far have their rows
+abbrev pub invariant-loop-need : goal.invariant-loop-need
+invariant-loop-need g l = RowsFor (rows_of l.table) (map need_of (take l.need-index l.needs)) (map row_number l.rows.items)

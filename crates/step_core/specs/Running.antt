@@ -1,0 +1,42 @@
+-- What a running network is to every contract, and what it stands for.
+use Rattle.std.specs.Prelude.{◌≡◌, ℕ, suc, List, [], ◌∷◌, ◌++◌, length}
+use Rattle.sample_core.specs.Datum.{Datum}
+use Rattle.sample_core.specs.TypeTree.{TypeTree}
+use Rattle.leaf_expr.specs.Expression.{Expression}
+use Rattle.leaf_expr.specs.ExpressionValue.{value_of}
+use Rattle.leaf_expr.specs.KeyTree.{KeyTree}
+use Rattle.net_syntax.specs.Network.{Network}
+use Rattle.net_syntax.specs.Signal.{Timed}
+use Rattle.net_syntax.specs.Stream.{stream_of}
+use Rattle.step_core.specs.Setting.{course}
+use Rattle.step_core.specs.State.{State}
+use Rattle.step_core.specs.Stands.{Stands}
+use Rattle.step_core.specs.Run.{nowhere}
+use Rattle.step_core.specs.RowTyping.{RowsTyped, network_by}
+use Rattle.step_core.specs.Held.{Holds}
+
+-- the input type, the keys of the table's rows, the network over rows, the values that its cells hold, and how many samples it got
+pub record Running : Type 0 where
+  pub input : TypeTree
+  pub keys : List KeyTree
+  pub rows : Network ℕ
+  pub held : List Datum
+  pub samples : ℕ
+
+-- the network that runs
+abbrev pub network_in : Running → Network Expression
+network_in r = network_by r.keys r.rows
+
+-- Before the first sample nothing is held; after samples, what a state holds that stands for them.
+abbrev pub HoldsPast : Running → Timed → Type 0
+HoldsPast r [] = (B : TypeTree) × RowsTyped r.keys r.rows r.input B × (r.held ≡ [])
+HoldsPast r (x ∷ p) = (B : TypeTree) × (a : State Expression) × Holds r.keys r.rows r.input B a r.held × Stands value_of a (course value_of (network_in r) nowhere) (x ∷ p)
+
+-- the running network got just these samples
+pub record StandsFor (r : Running) (p : Timed) : Type 0 where
+  pub counted : r.samples ≡ length p
+  pub holds_past : HoldsPast r p
+
+-- a sample x was taken in and y answered: whatever the samples so far were, the runner stands for them and x, and y is the next output of its network
+abbrev pub Pushed : Running → ℕ × Datum → Datum → Running → Type 0
+Pushed r x y now = (p : Timed) → StandsFor r p → StandsFor now (p ++ x ∷ []) × (stream_of (network_in r) (p ++ x ∷ []) ≡ stream_of (network_in r) p ++ y ∷ [])

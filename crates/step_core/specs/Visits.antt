@@ -1,0 +1,90 @@
+-- How many nodes each sample visits.
+use Rattle.std.specs.Prelude.{ℕ, zero, suc, ◌+◌, List, [], ◌∷◌, ◌++◌, map, take, drop, length, flat_map, Option, Some, None}
+use Rattle.sample_core.specs.Datum.{Datum, unit, left, right}
+use Rattle.net_syntax.specs.Signal.{Timed, zip_with, with_values, paired, each_value, fed_back, first_event, pieces, step_of, routed, collected, frozen_all, resumed}
+use Rattle.net_syntax.specs.Network.{Network, Networks, arr, seq, first, par, loop_pre, i_pre, delay, hold, accum_by, after, repeatedly, time, integral, switch, d_switch, r_switch, k_switch, p_switch, old, no_members, and_member}
+use Rattle.net_syntax.specs.Meaning.{Context, with_param, with_olds, meaning, meanings}
+
+abbrev pub Counts : Type 0
+Counts = Timed → List ℕ
+
+abbrev pub ones : Counts
+ones xs = map (λ x. 1) xs
+
+abbrev pub zeros : Counts
+zeros xs = map (λ x. 0) xs
+
+abbrev pub added : List ℕ → List ℕ → List ℕ
+added ms ns = zip_with (λ m n. m + n) ms ns
+
+-- the node itself
+abbrev pub and_one : List ℕ → List ℕ
+and_one ns = map suc ns
+
+-- an old network's first resumed sample visits its `old` node too
+abbrev pub first_and_one : List ℕ → List ℕ
+first_and_one [] = []
+first_and_one (n ∷ ns) = suc n ∷ ns
+
+-- up to sample n as before; there both; then what took over alone
+abbrev pub both_at_first : List ℕ → List ℕ → List ℕ
+both_at_first (m ∷ ms) (n ∷ ns) = (m + n) ∷ ns
+both_at_first _ _ = []
+
+abbrev pub taken_over : Option (ℕ × Datum) → List ℕ → (ℕ → Datum → List ℕ) → List ℕ
+taken_over None ns go = ns
+taken_over (Some e) ns go = take e.0 ns ++ both_at_first (drop e.0 ns) (go e.0 e.1)
+
+abbrev pub resumed_counts : Counts → Timed → ℕ → Counts
+resumed_counts f p d [] = []
+resumed_counts f p d (x ∷ xs) = drop (length p) (f (p ++ (d, x.1) ∷ xs))
+
+abbrev pub frozen_counts : (Datum → Datum) → ℕ → List Counts → Timed → ℕ → List Counts
+frozen_counts r i [] p d = []
+frozen_counts r i (f ∷ fs) p d = resumed_counts f (routed r i p) d ∷ frozen_counts r (suc i) fs p d
+
+-- the sum over the members of what each has at the sample
+abbrev pub sum_of_routed : (Datum → Datum) → ℕ → List Counts → Counts
+sum_of_routed r i [] xs = zeros xs
+sum_of_routed r i (f ∷ fs) xs = added (f (routed r i xs)) (sum_of_routed r (suc i) fs xs)
+
+abbrev pub sum_of_all : List Counts → Counts
+sum_of_all [] xs = zeros xs
+sum_of_all (f ∷ fs) xs = added (f xs) (sum_of_all fs xs)
+
+abbrev pub counts_at : List Counts → ℕ → Counts
+counts_at [] k = zeros
+counts_at (f ∷ fs) zero = f
+counts_at (f ∷ fs) (suc k) = counts_at fs k
+
+abbrev mutual
+  pub visits : {L : Type 0} → (L → List Datum → Datum → Datum) → Network L → Context → List Counts → Counts
+  visits val (seq f g) E C = λ xs. and_one (added (visits val f E C xs) (visits val g E C (with_values xs (meaning val f E xs))))
+  visits val (first f) E C = λ xs. and_one (visits val f E C (each_value left xs))
+  visits val (par fs) E C = λ xs. and_one (sum_of_all (visits_all val fs E C) xs)
+  visits val (loop_pre c f) E C = λ xs. and_one (visits val f E C (paired xs (fed_back (val c E.params unit) (meaning val f E) xs (length xs))))
+  visits val (switch f t) E C = λ xs. taken_over (first_event (map right (meaning val f E xs))) (and_one (visits val f E C xs)) (λ n c. visits val t (with_param E c) C (drop n xs))
+  visits val (d_switch f t) E C = λ xs. taken_over (first_event (map right (meaning val f E xs))) (and_one (visits val f E C xs)) (λ n c. visits val t (with_param E c) C (drop n xs))
+  visits val (r_switch f t) E C = λ xs. and_one (visits val f E C (pieces xs).0 ++ flat_map (λ piece. visits val t (with_param E piece.0) C piece.1) (pieces xs).1)
+  visits val (k_switch f e t) E C = λ xs.
+      taken_over (first_event (meaning val e E (paired xs (meaning val f E xs))))
+      (and_one (added (visits val f E C xs) (visits val e E C (paired xs (meaning val f E xs)))))
+      (λ n c. visits val t (with_olds (with_param E c) (resumed (meaning val f E) (take n xs) (step_of (drop n xs)) ∷ [])) (C ++ resumed_counts (visits val f E C) (take n xs) (step_of (drop n xs)) ∷ []) (drop n xs))
+  visits val (p_switch r fs e t) E C = λ xs.
+      taken_over (first_event (meaning val e E (paired xs (collected (val r E.params) (meanings val fs E) xs))))
+      (and_one (added (sum_of_routed (val r E.params) 0 (visits_all val fs E C) xs) (visits val e E C (paired xs (collected (val r E.params) (meanings val fs E) xs)))))
+      (λ n c. visits val t (with_olds (with_param E c) (frozen_all (val r E.params) 0 (meanings val fs E) (take n xs) (step_of (drop n xs)))) (C ++ frozen_counts (val r E.params) 0 (visits_all val fs E C) (take n xs) (step_of (drop n xs))) (drop n xs))
+  visits val (old k) E C = λ xs. first_and_one (counts_at C k xs)
+  visits val (arr e) E C = ones
+  visits val (i_pre c) E C = ones
+  visits val (delay q c) E C = ones
+  visits val (hold c) E C = ones
+  visits val (accum_by g z) E C = ones
+  visits val (after q c) E C = ones
+  visits val (repeatedly q c) E C = ones
+  visits val time E C = ones
+  visits val integral E C = ones
+
+  pub visits_all : {L : Type 0} → (L → List Datum → Datum → Datum) → Networks L → Context → List Counts → List Counts
+  visits_all val no_members E C = []
+  visits_all val (and_member f fs) E C = visits val f E C ∷ visits_all val fs E C

@@ -1,0 +1,78 @@
+// One sample through a network of rows.
+
+ghost use Rattle.std.specs.Prelude.{IfOk, map};
+ghost use Rattle.sample_core.specs.Seen.{datum_of};
+ghost use Rattle.leaf_table.specs.Rows.{rows_of};
+ghost use Rattle.step_core.specs.SeenRows.{rows_in};
+ghost use Rattle.step_core.specs.Held.{BegunWhere, MovedWhere, IsFirst};
+ghost use Rattle.step_core.specs.RowTyping.{FitsRows};
+
+use leaf_table::{LeafId, LeafTable};
+use net_syntax::Net;
+use sample_core::{Memory, Sample};
+use std::alloc::Global;
+
+/// The network's answer to its first sample. Adds to `next` what its cells hold after it.
+pub(crate) fn start(
+    alloc: Global,
+    table: &LeafTable,
+    net: &Net<LeafId>,
+    next: &mut Vec<Sample>,
+    sample: &Sample,
+) -> Result<Sample, Memory>
+    requires { FitsRows (rows_of table.now) (rows_in net.now) }
+    ensures { IfOk result
+        (λ y. BegunWhere (rows_of table.now) (rows_in net.now) (datum_of sample.now) (datum_of y) (map datum_of next.old.items) (map datum_of next.new.items)) }
+{
+    match net {
+        Net::Arr(e) => table.call(*e, &[], sample),
+        Net::Seq(f, g) => {
+            let between = start(alloc, table, f.get(), next, sample)?;
+            start(alloc, table, g.get(), next, &between)
+        }
+        Net::IPre(c) => {
+            let answer = table.call(*c, &[], &Sample::Unit)?;
+            next.push(sample.try_copy(alloc)?)?;
+            Ok(answer)
+        }
+    }
+}
+
+/// The network's answer to a further sample, `dt` after the one before, from the values in front of `held`, which its cells hold; and the rest of these.
+/// Adds to `next` what the cells hold after it.
+pub(crate) fn step<'a>(
+    alloc: Global,
+    table: &LeafTable,
+    net: &Net<LeafId>,
+    held: &'a [Sample],
+    next: &mut Vec<Sample>,
+    dt: u64,
+    sample: &Sample,
+) -> Result<(Sample, &'a [Sample]), Memory>
+    requires { FitsRows (rows_of table.now) (rows_in net.now) }
+    ensures { IfOk result
+        (λ r. MovedWhere (rows_of table.now) (rows_in net.now) (map datum_of held.now) (dt, datum_of sample.now) (datum_of r.0) (map datum_of next.old.items) (map datum_of next.new.items) (map datum_of r.1.now)) }
+{
+    match net {
+        Net::Arr(e) => Ok((table.call(*e, &[], sample)?, held)),
+        Net::Seq(f, g) => {
+            let (between, rest) = step(alloc, table, f.get(), held, next, dt, sample)?;
+            step(alloc, table, g.get(), rest, next, dt, &between)
+        }
+        Net::IPre(_) => {
+            let (answer, rest) = first_held(alloc, held)?;
+            next.push(sample.try_copy(alloc)?)?;
+            Ok((answer, rest))
+        }
+    }
+}
+
+/// The value that is held first, and the rest.
+fn first_held<'a>(alloc: Global, held: &'a [Sample]) -> Result<(Sample, &'a [Sample]), Memory>
+    ensures { IfOk result (λ r. IsFirst (map datum_of held.now) (datum_of r.0) (map datum_of r.1.now)) }
+{
+    match held.split_first() {
+        Some((value, rest)) => Ok((value.try_copy(alloc)?, rest)),
+        None => Ok((Sample::Unit, held)),
+    }
+}

@@ -1,0 +1,142 @@
+// Binding a network to a table.
+
+ghost use Rattle.std.specs.Prelude.{◌≡◌, IfOk, IfErr, OnOk, map};
+ghost use Rattle.sample_core.specs.SeenType.{type_of};
+ghost use Rattle.leaf_table.specs.Rows.{rows_of};
+ghost use Rattle.net_syntax.specs.Seen.{tree_of};
+ghost use Rattle.net_syntax.specs.SeenNeed.{need_of};
+ghost use Rattle.step_core.specs.Bound.{FitsTable};
+ghost use Rattle.step_core.specs.RowTyping.{network_by};
+ghost use Rattle.step_core.specs.SeenRows.{row_number, rows_in};
+ghost use Rattle.step_core.specs.Found.{FindsAll, IsFirstRow, Lowered, Misses, MissesIn, Names, RowsFor};
+
+use crate::bound::Bound;
+use leaf_expr::Expr;
+use leaf_table::{LeafId, LeafTable};
+use net_syntax::{leaves, LeafNeed, Net, Position, Sub, TypedNet};
+use sample_core::Memory;
+use std::alloc::{AllocError, AllocFailed, Global};
+use thiserror::Error;
+
+/// Why a network is not bound to a table.
+#[derive(Debug, Drop, PartialEq, Eq, Error)]
+pub enum BindFault {
+    /// The table has no row for the expression at this position. It is the first such from the root on.
+    #[error("no row for an expression")]
+    MissingLeaf {
+        /// Where the expression stands.
+        position: Position,
+    },
+    /// A growth was refused.
+    #[error("memory")]
+    Memory,
+}
+
+impl From<Memory> for BindFault {
+    fn from(_: Memory) -> BindFault {
+        BindFault::Memory
+    }
+}
+
+impl From<AllocError> for BindFault {
+    fn from(_: AllocError) -> BindFault {
+        BindFault::Memory
+    }
+}
+
+impl<T: Drop> From<AllocFailed<T>> for BindFault {
+    fn from(_failed: AllocFailed<T>) -> BindFault {
+        BindFault::Memory
+    }
+}
+
+/// The network with a row of the table in the place of each expression.
+/// `MissingLeaf` where an expression has no row, at the first such from the root on.
+pub fn bind(alloc: Global, net: &TypedNet, table: &LeafTable) -> Result<Bound, BindFault>
+    ensures input { IfOk result (λ b. b.input ≡ net.now.input) }
+    ensures network { IfOk result (λ b. network_by (rows_of table.now) b.rows ≡ net.now.net) }
+    ensures fits { IfOk result (λ b. FitsTable (rows_of table.now) b) }
+    ensures found { OnOk result (FindsAll (rows_of table.now) net.now) }
+    ensures missing { IfErr result (λ fault. MissesIn (rows_of table.now) net.now fault) }
+{
+    let needs = leaves(alloc, net)?;
+    let rows = find_rows(alloc, table, &needs)?;
+    let (lowered, _) = lower(alloc, net.net(), &rows)?;
+    Ok(Bound {
+        input: net.input().try_copy(alloc)?,
+        net: lowered,
+    })
+}
+
+/// The row of each need in order.
+fn find_rows(
+    alloc: Global,
+    table: &LeafTable,
+    needs: &[LeafNeed],
+) -> Result<Vec<LeafId>, BindFault>
+    ensures found { IfOk result (λ rows. RowsFor (rows_of table.now) (map need_of needs.now) (map row_number rows.items)) }
+    ensures missing { IfErr result (Misses (rows_of table.now) (map need_of needs.now)) }
+{
+    let mut rows = Vec::with_capacity(alloc, needs.len())?;
+    for need in needs {
+        match table.find(&need.key) {
+            Some(row) => rows.push(row)?,
+            None => return Err(missing(alloc, &need.position)),
+        }
+    }
+    Ok(rows)
+}
+
+/// The refusal for an expression that has no row.
+fn missing(alloc: Global, position: &Position) -> BindFault
+    ensures { Names position.now result }
+{
+    match copied(alloc, position) {
+        Ok(position) => BindFault::MissingLeaf { position },
+        Err(Memory) => BindFault::Memory,
+    }
+}
+
+/// A copy of the position.
+fn copied(alloc: Global, position: &Position) -> Result<Position, Memory>
+    ensures { IfOk result (λ p. p ≡ position.now) }
+{
+    let mut path = Vec::with_capacity(alloc, position.path().len())?;
+    path.extend_from_slice(position.path())?;
+    Ok(Position::new(path))
+}
+
+/// The network with the first of these rows in the place of its expressions, and the rest of the rows.
+fn lower<'a>(
+    alloc: Global,
+    net: &Net<Expr>,
+    rows: &'a [LeafId],
+) -> Result<(Net<LeafId>, &'a [LeafId]), Memory>
+    ensures { IfOk result (λ r. Lowered (tree_of net.now) (map row_number rows.now) (rows_in r.0) (map row_number r.1.now)) }
+{
+    match net {
+        Net::Arr(_) => {
+            let (row, rest) = first_row(rows);
+            Ok((Net::Arr(row), rest))
+        }
+        Net::Seq(f, g) => {
+            let (first, rest) = lower(alloc, f.get(), rows)?;
+            let (second, rest) = lower(alloc, g.get(), rest)?;
+            Ok((Net::Seq(Sub::new(alloc, first)?, Sub::new(alloc, second)?), rest))
+        }
+        Net::IPre(_) => {
+            let (row, rest) = first_row(rows);
+            Ok((Net::IPre(row), rest))
+        }
+    }
+}
+
+/// The first row, and the rest.
+fn first_row(rows: &[LeafId]) -> (LeafId, &[LeafId])
+    ensures { IsFirstRow (map row_number rows.now) (row_number result.0) (map row_number result.1.now) }
+{
+    match rows.split_first() {
+        Some((row, rest)) => (*row, rest),
+        None => (LeafId(0), rows),
+    }
+}

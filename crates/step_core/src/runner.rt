@@ -1,0 +1,91 @@
+// Running a bound network, sample by sample.
+
+ghost use Rattle.std.specs.Prelude.{◌≡◌, ◌<◌, ◌≤◌, ◌+◌, ◌^◌, [], IfOk, OnOk, OnErr};
+ghost use Rattle.sample_core.specs.HasType.{HasType};
+ghost use Rattle.sample_core.specs.Seen.{datum_of};
+ghost use Rattle.leaf_table.specs.Rows.{rows_of};
+ghost use Rattle.step_core.specs.Bound.{FitsTable};
+
+use crate::advance;
+use crate::bound::Bound;
+use leaf_table::LeafTable;
+use sample_core::{Memory, Sample};
+use std::alloc::Global;
+use std::mem;
+
+/// A network that runs. It borrows what it runs, and holds what its cells keep from one sample to the next.
+#[derive(Drop)]
+pub struct Runner<'a> {
+    alloc: Global,
+    bound: &'a Bound,
+    table: &'a LeafTable,
+    held: Vec<Sample>,
+    next: Vec<Sample>,
+    samples: u64,
+    ghost fits: { ∥ FitsTable (rows_of table.now) bound.now ∥₁ },
+}
+
+impl<'a> Runner<'a> {
+    ghost use Rattle.step_core.specs.Running.{Running, network_in, StandsFor, Pushed};
+    ghost use Rattle.step_core.specs.SeenRunner.{running_of};
+    ghost use Rattle.step_core.specs.RowTyping.{network_by};
+
+    /// The network before its first sample, on the table that it was bound to, or on that table with more rows.
+    /// It takes no memory.
+    pub fn new(alloc: Global, bound: &'a Bound, table: &'a LeafTable) -> Runner<'a>
+        requires { FitsTable (rows_of table.now) bound.now }
+        ensures stands { StandsFor (running_of result) [] }
+        ensures input { (running_of result).input ≡ bound.now.input }
+        ensures network { network_in (running_of result) ≡ network_by (rows_of table.now) bound.now.rows }
+        ensures samples { (running_of result).samples ≡ 0 }
+    {
+        Runner {
+            alloc,
+            bound,
+            table,
+            held: Vec::new(alloc),
+            next: Vec::new(alloc),
+            samples: 0,
+        }
+    }
+
+    /// The network's answer to one sample more, of its input type, `step` after the sample before; a first sample's
+    /// step is ignored. After `Memory` the runner is as it was.
+    pub fn push(&mut self, step: u64, sample: &Sample) -> Result<Sample, Memory>
+        requires typed { HasType (datum_of sample.now) (running_of self.old).input }
+        requires later { 0 < (running_of self.old).samples → (1 ≤ step) × (step < 2 ^ 63) }
+        requires room { (running_of self.old).samples < 2 ^ 63 }
+        ensures pushed { IfOk result (λ y. Pushed (running_of self.old) (step, datum_of sample.now) (datum_of y) (running_of self.new)) }
+        ensures counted { OnOk result ((running_of self.new).samples ≡ (running_of self.old).samples + 1) }
+        ensures network { network_in (running_of self.new) ≡ network_in (running_of self.old) }
+        ensures input { (running_of self.new).input ≡ (running_of self.old).input }
+        ensures unchanged { OnErr result (running_of self.new ≡ running_of self.old) }
+    {
+        self.next.clear();
+        let net = self.bound.net();
+        let answer = if self.samples == 0 {
+            advance::start(self.alloc, self.table, net, &mut self.next, sample)?
+        } else {
+            let (answer, _) = advance::step(
+                self.alloc,
+                self.table,
+                net,
+                &self.held,
+                &mut self.next,
+                step,
+                sample,
+            )?;
+            answer
+        };
+        mem::swap(&mut self.held, &mut self.next);
+        self.samples += 1;
+        Ok(answer)
+    }
+
+    /// How many samples the network got.
+    pub fn samples(&self) -> u64
+        ensures { result ≡ (running_of self.now).samples }
+    {
+        self.samples
+    }
+}
