@@ -30,6 +30,7 @@ use Rattle.yampa_run.specs.declared.fault.StreamFault.TheVariants as S
 use Rattle.yampa_run.specs.declared.fault.RunFault.{RunFault}
 use Rattle.yampa_run.specs.declared.fault.RunFault.TheVariants as U
 use Rattle.yampa_run.proofs.Samples.{read_few, read_typed}
+use Rattle.sample_core.specs.ReadingLaws.{ReadingLaw}
 
 -- the samples p, and then what is held further
 abbrev pub then_held : Timed → Held → Held
@@ -68,8 +69,8 @@ spelled_lines-push [] v = refl
 spelled_lines-push (u ∷ vs) v = ap (λ ls. spelling u ++ (10 ∷ ls)) (spelled_lines-push vs v) ∙ sym (append_assoc (spelling u) (10 ∷ spelled_lines vs) (spelling v ++ 10 ∷ []))
 
 -- one line more
-pub goes_on : (keys : List KeyTree) (b : Binding) (text : List ℕ) (lines n : ℕ) (r r' : Running) (before before' : Option Datum) (rest line after out out' : List ℕ) → n ≡ suc lines → lines_of rest ≡ line ∷ lines_of after → Progress keys b text lines r before rest out → RunsLine r n line before out r' before' out' → Progress keys b text n r' before' after out'
-goes_on keys b text lines n r r' before before' rest line after out out' i e g l =
+pub goes_on : ReadingLaw → (keys : List KeyTree) (b : Binding) (text : List ℕ) (lines n : ℕ) (r r' : Running) (before before' : Option Datum) (rest line after out out' : List ℕ) → n ≡ suc lines → lines_of rest ≡ line ∷ lines_of after → Progress keys b text lines r before rest out → RunsLine r n line before out r' before' out' → Progress keys b text n r' before' after out'
+goes_on law keys b text lines n r r' before before' rest line after out out' i e g l =
     let net : Network Expression = network_by keys b.rows in
     let reads : line_read b.input n before line ≡ Ok l.x = subst (λ A. line_read A n before line ≡ Ok l.x) g.of_type l.reads in
     let read : line_read b.input (suc lines) before line ≡ Ok l.x = subst (λ m. line_read b.input m before line ≡ Ok l.x) i reads in
@@ -88,7 +89,7 @@ goes_on keys b text lines n r r' before before' rest line after out out' i e g l
       of_type = l.same_type ∙ g.of_type;
       of_network = l.same_network ∙ g.of_network;
       count = let k : length (g.p ++ l.x ∷ []) ≡ length g.p + length (l.x ∷ []) = length-append g.p (l.x ∷ []) in omega (arith, k, g.count, i);
-      value = subst (IsBefore b.input n) (sym l.keeps) (read_typed b.input n lines before line l.x g.value reads);
+      value = subst (IsBefore b.input n) (sym l.keeps) (read_typed law b.input n lines before line l.x g.value reads);
       wrote = l.writes ∙ ap (λ o. o ++ (spelling l.y ++ 10 ∷ [])) g.wrote ∙ sym (spelled_lines-push (stream_of net g.p) l.y) ∙ ap spelled_lines (sym grown);
       few = read_few b.input n before line l.x reads;
     }

@@ -9,10 +9,10 @@ use Rattle.std.proofs.lemmas.Str.Parse.{digits_value-take-le}
 use Rattle.sample_core.specs.Datum.{Datum}
 use Rattle.sample_core.specs.HasType.{HasType}
 use Rattle.sample_core.specs.Reading.{reading}
+use Rattle.sample_core.specs.ReadingLaws.{ReadingLaw}
 use Rattle.sample_core.specs.TypeTree.{TypeTree}
 use Rattle.sample_core.specs.declared.fault.ValueFault.{ValueFault}
 use Rattle.sample_core.specs.declared.fault.ValueFault.TheVariants as V
-use Rattle.sample_core.proofs.ReadingIs.{reading_law}
 use Rattle.step_core.specs.Running.{Running}
 use Rattle.yampa_run.specs.Course.{IsAt, IsBefore}
 use Rattle.yampa_run.specs.StepText.{behind, is_step, followed, step_at_front, step_if, stepped}
@@ -29,8 +29,8 @@ from_else false f r x h = h
 is_ok : {X E : Type 0} {x y : X} → ◌≡◌ {A = Result X E} (Ok x) (Ok y) → x ≡ y
 is_ok h = cc
 
-whole_typed : (A : TypeTree) (n : ℕ) (bs : List ℕ) (v : Datum) → whole_value A n bs ≡ Ok v → HasType v A
-whole_typed A n bs v e = go (reading A bs) refl e
+whole_typed : ReadingLaw → (A : TypeTree) (n : ℕ) (bs : List ℕ) (v : Datum) → whole_value A n bs ≡ Ok v → HasType v A
+whole_typed law A n bs v e = go (reading A bs) refl e
   where
     chosen : (b : Bool) (w : Datum) (taken : ℕ) → (if b then Ok w else Err (S.Value n (V.NotAValue taken))) ≡ Ok v → w ≡ v
     chosen true w taken h = is_ok h
@@ -38,7 +38,7 @@ whole_typed A n bs v e = go (reading A bs) refl e
 
     go : (r : Result (Datum × ℕ) ValueFault) → reading A bs ≡ r → if_whole n (length bs) r ≡ Ok v → HasType v A
     go (Err f) q h = absurd (cc)
-    go (Ok (w, taken)) q h = subst (λ u. HasType u A) (chosen (nat_eq taken (length bs)) w taken h) ((reading_law A bs w taken).0 q).1.typed
+    go (Ok (w, taken)) q h = subst (λ u. HasType u A) (chosen (nat_eq taken (length bs)) w taken h) ((law A bs w taken).0 q).1.typed
 
 with_step_from : (d : ℕ) (r : Result Datum StreamFault) (x : ℕ × Datum) → with_step d r ≡ Ok x → (r ≡ Ok x.1) × (x.0 ≡ d)
 with_step_from d (Ok v) x h =
@@ -46,31 +46,35 @@ with_step_from d (Ok v) x h =
     (ap (λ y. Ok y.1) e, sym (ap (λ y. y.0) e))
 with_step_from d (Err f) x h = absurd (cc)
 
-first_typed : (A : TypeTree) (n : ℕ) (line : List ℕ) (x : ℕ × Datum) → first_line A n line ≡ Ok x → HasType x.1 A
-first_typed A n line x h =
+first_typed : ReadingLaw → (A : TypeTree) (n : ℕ) (line : List ℕ) (x : ℕ × Datum) → first_line A n line ≡ Ok x → HasType x.1 A
+first_typed law A n line x h =
     let one : (if bytes_eq line (codes "=") then Err (S.NothingBefore n) else with_step 0 (whole_value A n line)) ≡ Ok x = from_else (is_some (behind 43 line)) _ _ x h in
     let two : with_step 0 (whole_value A n line) ≡ Ok x = from_else (bytes_eq line (codes "=")) _ _ x one in
-    whole_typed A n line x.1 (with_step_from 0 (whole_value A n line) x two).0
+    whole_typed law A n line x.1 (with_step_from 0 (whole_value A n line) x two).0
 
 -- behind its step, a later line has a value of the type; the step is the one in front
-later_typed : (A : TypeTree) (n : ℕ) (before : Datum) (o : Option (ℕ × List ℕ)) (x : ℕ × Datum) → HasType before A → later_line A n before o ≡ Ok x → HasType x.1 A × ((rest : List ℕ) × (o ≡ Some (x.0, rest)))
-later_typed A n before None x t h = absurd (cc)
-later_typed A n before (Some (d, rest)) x t h = go (bytes_eq rest (codes "=")) h
+later_typed : ReadingLaw → (A : TypeTree) (n : ℕ) (before : Datum) (o : Option (ℕ × List ℕ)) (x : ℕ × Datum) → HasType before A → later_line A n before o ≡ Ok x → HasType x.1 A × ((rest : List ℕ) × (o ≡ Some (x.0, rest)))
+later_typed law A n before None x t h = absurd (cc)
+later_typed law A n before (Some (d, rest)) x t h = go (bytes_eq rest (codes "=")) h
   where
-    go : (b : Bool) → (if b then Ok (d, before) else with_step d (whole_value A n rest)) ≡ Ok x → HasType x.1 A × ((more : List ℕ) × (Some (d, rest) ≡ Some (x.0, more)))
+    go : (b : Bool) → (if b then Ok (d, before) else with_step d (whole_value A n rest)) ≡ Ok x → HasType x.1 A × ((more : List ℕ) × ◌≡◌ {A = Option (ℕ × List ℕ)} (Some (d, rest)) (Some (x.0, more)))
     go true q =
         let e : (d, before) ≡ x = is_ok q in
-        (subst (λ y. HasType y.1 A) e t, rest, ap (λ y. Some (y.0, rest)) e)
+        (subst (λ y. HasType y.1 A) e t, (rest, ap (λ y. Some (y.0, rest)) e))
     go false q =
         let e : (whole_value A n rest ≡ Ok x.1) × (x.0 ≡ d) = with_step_from d (whole_value A n rest) x q in
-        (whole_typed A n rest x.1 e.0, rest, ap (λ m. Some (m, rest)) (sym e.1))
+        (whole_typed law A n rest x.1 e.0, (rest, ap (λ m. Some (m, rest)) (sym e.1)))
 
 first_of_while : (f : ℕ → Bool) (bs : List ℕ) (d : ℕ) (ds : List ℕ) → take_while f bs ≡ d ∷ ds → f d ≡ true
 first_of_while f [] d ds h = absurd (cc)
 first_of_while f (b ∷ bs) d ds h = go (f b) refl h
   where
-    go : (p : Bool) → f b ≡ p → (if p then b ∷ take_while f bs else []) ≡ d ∷ ds → f d ≡ true
-    go true q e = let same : b ≡ d = cc in ap f (sym same) ∙ q
+    go : (p : Bool) → f b ≡ p → take (if p then 1 + prefix_len f bs else 0) (b ∷ bs) ≡ d ∷ ds → f d ≡ true
+    go true q e =
+        let one : suc (prefix_len f bs) ≡ 1 + prefix_len f bs = omega arith in
+        let cells : b ∷ take (prefix_len f bs) bs ≡ d ∷ ds = ap (λ k. take k (b ∷ bs)) one ∙ e in
+        let same : b ≡ d = cc in
+        ap f (sym same) ∙ q
     go false q e = absurd (cc)
 
 -- digits that write a step write a number from 1 to 2^63 - 1
@@ -112,14 +116,14 @@ read_few A n before line x e = go (nat_lt 1000000 n) refl e
     go true q h = absurd (cc)
     go false q h = grind (arith, nat_tests)
 
-pub read_typed : (A : TypeTree) (n taken : ℕ) (before : Option Datum) (line : List ℕ) (x : ℕ × Datum) → IsBefore A taken before → line_read A n before line ≡ Ok x → HasType x.1 A
-read_typed A n taken None line x t h = first_typed A n line x (after_limits A n None line x h)
-read_typed A n taken (Some v) line x t h = (later_typed A n v (stepped line) x t (after_limits A n (Some v) line x h)).0
+pub read_typed : ReadingLaw → (A : TypeTree) (n taken : ℕ) (before : Option Datum) (line : List ℕ) (x : ℕ × Datum) → IsBefore A taken before → line_read A n before line ≡ Ok x → HasType x.1 A
+read_typed law A n taken None line x t h = first_typed law A n line x (after_limits A n None line x h)
+read_typed law A n taken (Some v) line x t h = (later_typed law A n v (stepped line) x t (after_limits A n (Some v) line x h)).0
 
-pub read_step : (A : TypeTree) (n taken : ℕ) (before : Option Datum) (line : List ℕ) (x : ℕ × Datum) → IsBefore A taken before → line_read A n before line ≡ Ok x → 0 < taken → (1 ≤ x.0) × (x.0 < 2 ^ 63)
-read_step A n taken None line x t h l = absurd (omega (arith, t))
-read_step A n taken (Some v) line x t h l =
-    let s : HasType x.1 A × ((rest : List ℕ) × (stepped line ≡ Some (x.0, rest))) = later_typed A n v (stepped line) x t (after_limits A n (Some v) line x h) in
+pub read_step : ReadingLaw → (A : TypeTree) (n taken : ℕ) (before : Option Datum) (line : List ℕ) (x : ℕ × Datum) → IsBefore A taken before → line_read A n before line ≡ Ok x → 0 < taken → (1 ≤ x.0) × (x.0 < 2 ^ 63)
+read_step law A n taken None line x t h l = absurd (omega (arith, t))
+read_step law A n taken (Some v) line x t h l =
+    let s : HasType x.1 A × ((rest : List ℕ) × (stepped line ≡ Some (x.0, rest))) = later_typed law A n v (stepped line) x t (after_limits A n (Some v) line x h) in
     stepped_range line (x.0, s.1.0) s.1.1
 
 -- a runner before a line may be pushed the line's sample
@@ -128,9 +132,9 @@ pub record Allowed (r : Running) (x : ℕ × Datum) : Type 0 where
   pub later : 0 < r.samples → (1 ≤ x.0) × (x.0 < 2 ^ 63)
   pub room : r.samples < 2 ^ 63
 
-pub allowed : (r : Running) (A : TypeTree) (n : ℕ) (before : Option Datum) (line : List ℕ) (x : ℕ × Datum) → IsAt r A n before → line_read A n before line ≡ Ok x → Allowed r x
-allowed r A n before line x a h = record {
-  typed = subst (λ B. HasType x.1 B) (sym a.of_type) (read_typed A n r.samples before line x a.value h);
-  later = read_step A n r.samples before line x a.value h;
+pub allowed : ReadingLaw → (r : Running) (A : TypeTree) (n : ℕ) (before : Option Datum) (line : List ℕ) (x : ℕ × Datum) → IsAt r A n before → line_read A n before line ≡ Ok x → Allowed r x
+allowed law r A n before line x a h = record {
+  typed = subst (λ B. HasType x.1 B) (sym a.of_type) (read_typed law A n r.samples before line x a.value h);
+  later = read_step law A n r.samples before line x a.value h;
   room = omega (arith, read_few A n before line x h, a.number);
 }

@@ -15,7 +15,7 @@ use crate::fault::{RunFault, RunReport, StreamFault};
 use crate::stream_text::read_line;
 use crate::text_lines::split_line;
 use leaf_table::LeafTable;
-use sample_core::{Sample, Ty, push_value};
+use sample_core::{Sample, Ty, push_value, reading_laws};
 use std::alloc::Global;
 use step_core::{Bound, Runner};
 
@@ -46,6 +46,8 @@ pub fn run_whole(
     ensures stopped { IfErr result (Stops (rows_of table.now) bound.now stream.now out.new.items) }
     ensures answered { IfErr result IsAnswered }
 {
+    // By these laws the sample that was read off a line is of the type.
+    reading_laws();
     let mut runner = Runner::new(alloc, bound, table);
     let mut course = Course {
         before: None,
@@ -90,6 +92,8 @@ fn run_line(
     ensures told { IfErr result (λ fault. Refuses fault (line_read (type_of ty.now) number (option_map datum_of course.old.before) line.now)) }
     ensures kept { OnErr result (out.new.items ≡ out.old.items) }
 {
+    // By these laws the sample is of the type.
+    reading_laws();
     let (step, sample) = read_line(alloc, ty, number, course.before.as_ref(), line)?;
     let answer = runner.push(step, &sample)?;
     course.text.clear();
