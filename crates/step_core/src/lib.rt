@@ -4,8 +4,10 @@
 mod advance;
 mod binding;
 mod bound;
+mod fault;
 mod runner;
 
-pub use binding::{BindFault, bind};
+pub use binding::bind;
 pub use bound::Bound;
+pub use fault::BindFault;
 pub use runner::Runner;
