@@ -11,7 +11,7 @@ use Rattle.leaf_expr.specs.ExpressionValue.{value_of}
 use Rattle.leaf_expr.specs.KeyTree.{KeyTree}
 use Rattle.net_syntax.specs.Network.{Network, arr, seq, i_pre}
 use Rattle.net_syntax.specs.Typing as T
-use Rattle.net_syntax.proofs.ExpressionTyped.{typed_value}
+use Rattle.leaf_expr.proofs.Soundness.{typed_value}
 use Rattle.step_core.specs.Cell.{previous}
 use Rattle.step_core.specs.State.{State, arr_state, seq_state, cell_state}
 use Rattle.step_core.specs.Engine as G
