@@ -7,7 +7,7 @@ use Rattle.leaf_expr.specs.Expression.{Expression}
 use Rattle.leaf_expr.specs.KeyTree.{KeyTree}
 use Rattle.net_syntax.specs.SeenNeed.{need_of}
 use Rattle.net_syntax.specs.Stream.{TypedNetwork}
-use Rattle.net_syntax.specs.declared.needs.LeafNeed.{LeafNeed}
+use Rattle.net_syntax.specs.declared.need.LeafNeed.{LeafNeed}
 use Rattle.step_core.specs.declared.fault.BindFault.{BindFault}
 use Rattle.step_core.specs.declared.fault.BindFault.TheVariants as F
 use Rattle.net_syntax.specs.Leaves.{Need, Leaves, LeavesOf, arr_leaves, seq_leaves, i_pre_leaves}
