@@ -67,6 +67,9 @@ typed_second Ps at net f g A t before now form h adds = ∥∥₁_map (subst (λ
         let one : (t ≡ B) × (ns : List Need) × Leaves Ps Os at f A B ns × (now ≡ before ++ ns) = adds Os B tf in
         (Os, C, subst (λ X. NetTyped Ps Os g X C) (sym one.0) tg)
 
+pub whole_typed : (Ps : List TypeTree) (m net : Network Expression) (A' A B : TypeTree) → Ps ≡ [] → m ≡ net → A' ≡ A → NetTyped [] [] net A B → IsTyped Ps m A'
+whole_typed Ps m net A' A B a c d typed = subst (λ o. IsTyped o m A') (sym a) (subst (λ o. IsTyped [] o A') (sym c) (subst (IsTyped [] net) (sym d) ∣ ([], B, typed) ∣₁))
+
 pub if_ok : {A E : Type 0} (r : Result A E) (P Q : A → Type 0) → ((x : A) → P x → Q x) → IfOk r P → IfOk r Q
 if_ok (Ok x) P Q f h = f x h
 if_ok (Err e) P Q f h = h

@@ -9,6 +9,7 @@ ghost use Rattle.net_syntax.specs.SeenNeed.{need_of};
 ghost use Rattle.net_syntax.specs.TypeGiven.{type_given};
 ghost use Rattle.net_syntax.specs.Leaves.{need_at, LeavesOf, Adds, IsTyped};
 
+use crate::need::LeafNeed;
 use crate::net::Net;
 use crate::position::Position;
 use crate::type_given::type_given;
@@ -16,19 +17,6 @@ use crate::typed_net::TypedNet;
 use leaf_expr::{Expr, LeafKey};
 use sample_core::{Memory, Ty};
 use std::alloc::Global;
-
-/// An expression of a network: where it stands, and how a stored closure for it is found. It is typed as it says.
-#[derive(Drop)]
-pub struct LeafNeed {
-    /// Where the expression stands.
-    pub position: Position,
-    /// The expression, the types of the parameters in scope and the type of its input.
-    /// In a constant place the input is `Unit`.
-    pub key: LeafKey,
-    /// The expression's type.
-    pub output: Ty,
-    ghost typed: { ∥ ExpressionTyped key.expr key.params key.input (type_of output) ∥₁ },
-}
 
 /// Every expression that is a child of a network, from the root on, children in written order.
 pub fn leaves(alloc: Global, net: &TypedNet) -> Result<Vec<LeafNeed>, Memory>

@@ -1,15 +1,28 @@
-// Filling a table. The closures are boxed in the caller's body, one for each shape of expression.
+//! Filling a table of stored closures. The closures are boxed in the caller's body, one for each shape of expression.
 
-/// The closure in a box, as the leaf of the key, or `Memory`: a part of `fill_row!`.
+pub use leaf_expr::{LeafKey, Shape, shape_of};
+pub use leaf_table::{
+    Leaf, TableFault, run_affine, run_below, run_constant, run_general, run_identity, run_left,
+    run_right, run_swap, run_wrap,
+};
+pub use sample_core::{Sample, Ty};
+
+/// The closure that calls a function on its parts and the arguments, boxed, as the leaf of a key; or `Memory`.
+/// A part of `fill_row!`.
 #[macro_export]
 macro_rules! boxed_leaf {
-    ($alloc:ident, $key:ident, $output:ident, $run:expr) => {
-        match Box::new($alloc, $run) {
-            Ok(run) => Ok($crate::Leaf::new($key, $output, run)),
+    ($alloc:ident, $key:ident, $output:ident, $run:ident $(, $part:expr)*) => {
+        match Box::new(
+            $alloc,
+            move |params: &[$crate::fill::Sample], x: &$crate::fill::Sample| {
+                $crate::fill::$run($alloc, $($part,)* params, x)
+            },
+        ) {
+            Ok(run) => Ok($crate::fill::Leaf::new($key, $output, run)),
             Err(_) => {
                 drop($key);
                 drop($output);
-                Err($crate::TableFault::Memory)
+                Err($crate::fill::TableFault::Memory)
             }
         }
     };
@@ -21,23 +34,29 @@ macro_rules! boxed_leaf {
 macro_rules! fill_row {
     ($alloc:expr, $table:expr, $key:expr, $output:expr) => {{
         let alloc: std::alloc::Global = $alloc;
-        let key: $crate::LeafKey = $key;
-        let output: $crate::Ty = $output;
-        let leaf = match $crate::shape_of(&key.expr) {
-            $crate::Shape::Identity => $crate::boxed_leaf!(alloc, key, output, move |params: &[$crate::Sample], x: &$crate::Sample| $crate::run_identity(alloc, params, x)),
-            $crate::Shape::Constant { c } => $crate::boxed_leaf!(alloc, key, output, move |params: &[$crate::Sample], x: &$crate::Sample| $crate::run_constant(alloc, c, params, x)),
-            $crate::Shape::Affine { a, b } => $crate::boxed_leaf!(alloc, key, output, move |params: &[$crate::Sample], x: &$crate::Sample| $crate::run_affine(alloc, a, b, params, x)),
-            $crate::Shape::Swap => $crate::boxed_leaf!(alloc, key, output, move |params: &[$crate::Sample], x: &$crate::Sample| $crate::run_swap(alloc, params, x)),
-            $crate::Shape::Left => $crate::boxed_leaf!(alloc, key, output, move |params: &[$crate::Sample], x: &$crate::Sample| $crate::run_left(alloc, params, x)),
-            $crate::Shape::Right => $crate::boxed_leaf!(alloc, key, output, move |params: &[$crate::Sample], x: &$crate::Sample| $crate::run_right(alloc, params, x)),
-            $crate::Shape::Below { k } => $crate::boxed_leaf!(alloc, key, output, move |params: &[$crate::Sample], x: &$crate::Sample| $crate::run_below(alloc, k, params, x)),
-            $crate::Shape::Wrap => $crate::boxed_leaf!(alloc, key, output, move |params: &[$crate::Sample], x: &$crate::Sample| $crate::run_wrap(alloc, params, x)),
-            $crate::Shape::General => match key.try_copy(alloc) {
-                Ok(own) => $crate::boxed_leaf!(alloc, key, output, move |params: &[$crate::Sample], x: &$crate::Sample| $crate::run_general(alloc, &own, params, x)),
+        let key: $crate::fill::LeafKey = $key;
+        let output: $crate::fill::Ty = $output;
+        let leaf = match $crate::fill::shape_of(&key.expr) {
+            $crate::fill::Shape::Identity => $crate::boxed_leaf!(alloc, key, output, run_identity),
+            $crate::fill::Shape::Constant { c } => {
+                $crate::boxed_leaf!(alloc, key, output, run_constant, c)
+            }
+            $crate::fill::Shape::Affine { a, b } => {
+                $crate::boxed_leaf!(alloc, key, output, run_affine, a, b)
+            }
+            $crate::fill::Shape::Swap => $crate::boxed_leaf!(alloc, key, output, run_swap),
+            $crate::fill::Shape::Left => $crate::boxed_leaf!(alloc, key, output, run_left),
+            $crate::fill::Shape::Right => $crate::boxed_leaf!(alloc, key, output, run_right),
+            $crate::fill::Shape::Below { k } => {
+                $crate::boxed_leaf!(alloc, key, output, run_below, k)
+            }
+            $crate::fill::Shape::Wrap => $crate::boxed_leaf!(alloc, key, output, run_wrap),
+            $crate::fill::Shape::General => match key.try_copy(alloc) {
+                Ok(own) => $crate::boxed_leaf!(alloc, key, output, run_general, &own),
                 Err(_) => {
                     drop(key);
                     drop(output);
-                    Err($crate::TableFault::Memory)
+                    Err($crate::fill::TableFault::Memory)
                 }
             },
         };
@@ -54,8 +73,8 @@ macro_rules! fill_row {
     }};
 }
 
-/// Adds a row for each need: `fill_table!(alloc, table, needs)` is a `Result<(), TableFault>`. A need has a `key` and an
-/// `output`, and the key's expression is of the output's type. It stops at the first need that the table doesn't take.
+/// Adds a row for each need of a network: `fill_table!(alloc, table, needs)`, with the needs as a slice or a borrowed
+/// vector, is a `Result<(), TableFault>`. It stops at the first need that the table doesn't take.
 #[macro_export]
 macro_rules! fill_table {
     ($alloc:expr, $table:expr, $needs:expr) => {{
@@ -70,7 +89,7 @@ macro_rules! fill_table {
                     }
                 }
                 _ => {
-                    filled = Err($crate::TableFault::Memory);
+                    filled = Err($crate::fill::TableFault::Memory);
                     break;
                 }
             }
