@@ -1,24 +1,23 @@
 -- What a start and a step of a network of rows do, form by form.
-use Rattle.std.proofs.Common.{◌≡◌, ℕ, suc, ◌+◌, ◌<◌, List, [], ◌∷◌, ◌++◌, Option, Some, None, Result, Ok, Err, IfOk, length, slice_get, refl, sym, ap, ◌∙◌, subst, append_assoc, append-nil}
+use Rattle.std.proofs.Common.{◌≡◌, ℕ, suc, ◌+◌, ◌<◌, List, [], ◌∷◌, ◌++◌, Some, Result, Ok, Err, IfOk, length, slice_get, refl, sym, ap, ◌∙◌, subst, append_assoc, append-nil}
 use Rattle.std.proofs.Math.Logic.{∥∥₁_elim, ∥∥₁_map}
 use Rattle.std.proofs.Math.Bridge.{le_prop}
 use Rattle.std.proofs.lemmas.Option.{slice_get_within}
 use Rattle.sample_core.specs.Datum.{Datum, unit}
-use Rattle.sample_core.specs.TypeTree.{TypeTree, unit_ty}
+use Rattle.sample_core.specs.TypeTree.{TypeTree}
 use Rattle.sample_core.specs.HasType.{HasType, TypedParams, unit_has, no_params}
-use Rattle.leaf_expr.specs.Expression.{Expression}
 use Rattle.leaf_expr.specs.ExpressionValue.{value_of}
 use Rattle.leaf_expr.specs.KeyTree.{KeyTree}
 use Rattle.net_syntax.specs.Network.{Network, arr, seq, i_pre}
 use Rattle.net_syntax.specs.Typing as T
 use Rattle.leaf_expr.proofs.Soundness.{typed_value}
 use Rattle.step_core.specs.Cell.{previous}
-use Rattle.step_core.specs.State.{State, arr_state, seq_state, cell_state}
+use Rattle.step_core.specs.State.{arr_state, seq_state, cell_state}
 use Rattle.step_core.specs.Engine as G
 use Rattle.step_core.specs.Engine.{Starts, Steps}
 use Rattle.step_core.specs.Run.{nothing}
-use Rattle.step_core.specs.RowTyping.{RowTyped, RowsTyped, FitsRows, row_expression, expression_in, network_by}
-use Rattle.step_core.specs.Held.{Holds, arr_holds, seq_holds, i_pre_holds, Begun, Moved, BegunWhere, MovedWhere, IsFirst}
+use Rattle.step_core.specs.RowTyping.{RowTyped, RowsTyped, FitsRows, row_expression, expression_in}
+use Rattle.step_core.specs.Held.{arr_holds, seq_holds, i_pre_holds, Begun, Moved, BegunWhere, MovedWhere, IsFirst}
 
 module _ (keys : List KeyTree) where
   -- what a call of row k promises of its answer y at x

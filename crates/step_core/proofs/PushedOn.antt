@@ -1,22 +1,19 @@
 -- A runner that takes a sample in stands for one sample more.
-use Rattle.std.proofs.Common.{◌≡◌, ℕ, suc, ◌+◌, ◌<◌, List, [], ◌∷◌, ◌++◌, length, refl, sym, ap, ◌∙◌, subst, arith, length-append}
+use Rattle.std.proofs.Common.{◌≡◌, ℕ, suc, ◌<◌, List, [], ◌∷◌, ◌++◌, length, sym, subst, arith, length-append}
 use Rattle.std.proofs.Math.Logic.{∥∥₁_map}
 use Rattle.sample_core.specs.Datum.{Datum}
-use Rattle.sample_core.specs.TypeTree.{TypeTree}
 use Rattle.sample_core.specs.HasType.{HasType}
-use Rattle.leaf_expr.specs.Expression.{Expression}
 use Rattle.leaf_expr.specs.ExpressionValue.{value_of}
 use Rattle.net_syntax.specs.Network.{Network}
 use Rattle.net_syntax.specs.Signal.{Timed}
 use Rattle.net_syntax.specs.Stream.{stream_of}
 use Rattle.step_core.specs.Course.{Took}
 use Rattle.step_core.specs.Setting.{course}
-use Rattle.step_core.specs.State.{State}
 use Rattle.step_core.specs.Stands.{Stands}
 use Rattle.step_core.specs.Run.{nowhere}
 use Rattle.leaf_expr.specs.KeyTree.{KeyTree}
 use Rattle.step_core.specs.Bound.{Binding, FitsTable}
-use Rattle.step_core.specs.RowTyping.{RowsTyped, FitsRows}
+use Rattle.step_core.specs.RowTyping.{FitsRows}
 use Rattle.step_core.specs.Held.{Holds, Begun, Moved, BegunWhere, MovedWhere}
 use Rattle.step_core.specs.Running.{Running, network_in, HoldsPast, StandsFor, Pushed}
 use Rattle.step_core.proofs.Runners as R

@@ -1,5 +1,5 @@
 -- Which expressions of a network have rows in a table, and the network with the rows in their place.
-use Rattle.std.specs.Prelude.{◌≡◌, ℕ, List, [], ◌∷◌, ◌++◌, All, Contains, Option, Some, slice_get, ◌⊎◌}
+use Rattle.std.specs.Prelude.{◌≡◌, ℕ, List, [], ◌∷◌, ◌++◌, All, Contains, Some, slice_get, ◌⊎◌}
 use Rattle.leaf_expr.specs.Expression.{Expression}
 use Rattle.leaf_expr.specs.KeyTree.{KeyTree}
 use Rattle.sample_core.specs.TypeTree.{TypeTree}
