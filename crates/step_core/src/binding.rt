@@ -1,7 +1,6 @@
 // Binding a network to a table.
 
 ghost use Rattle.std.specs.Prelude.{◌≡◌, IfOk, IfErr, OnOk, map};
-ghost use Rattle.sample_core.specs.SeenType.{type_of};
 ghost use Rattle.leaf_table.specs.Rows.{rows_of};
 ghost use Rattle.net_syntax.specs.Seen.{tree_of};
 ghost use Rattle.net_syntax.specs.SeenNeed.{need_of};
