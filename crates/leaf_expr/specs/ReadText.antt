@@ -39,6 +39,7 @@ RefusesText (V.TooDeep n) read = read ≡ Err (at (too_deep n))
 RefusesText V.TooLong read = read ≡ Err too_long
 RefusesText V.Memory read = Unit {0}
 
+-- the same of a whole text: what a call returned is what reading gives
 abbrev pub GivesText : {X Y : Type 0} → (X → Y) → Result X ExprTextFault → Result Y TextFault → Type 0
 GivesText view (Ok x) read = read ≡ Ok (view x)
 GivesText view (Err e) read = RefusesText e read

@@ -13,6 +13,7 @@ abbrev pub IsMet : StreamFault → Type 0
 IsMet S.Ended = ⊥
 IsMet _ = ⊤
 
+-- a fault that a run answers
 abbrev pub IsAnswered : RunFault → Type 0
 IsAnswered (U.Stream lines fault) = IsMet fault
 IsAnswered _ = ⊤
@@ -28,6 +29,7 @@ value_words n (V.OtherType at) = at_line n (codes "other type at " ++ decimal at
 value_words n (V.NumberRange at) = at_line n (codes "number range at " ++ decimal at)
 value_words n V.Memory = codes "memory"
 
+-- what is printed of a fault of the stream
 abbrev pub stream_words : StreamFault → List ℕ
 stream_words (S.Step n) = at_line n (codes "step")
 stream_words (S.Value n fault) = value_words n fault
@@ -50,6 +52,7 @@ abbrev pub value_status : ValueFault → ℕ
 value_status V.Memory = 3
 value_status _ = 1
 
+-- the exit status at a fault of the stream
 abbrev pub stream_status : StreamFault → ℕ
 stream_status S.ReadTurns = 3
 stream_status S.Read = 3
