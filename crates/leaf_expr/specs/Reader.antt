@@ -45,7 +45,7 @@ module _ (L : Language) (size : ℕ) where
   read_end room ((n, closing) ∷ ts) = Ok (suc n, ts)
   read_end room (y ∷ ts) = Err (unfit_token room y)
 
-  -- the end of a form that is x
+  -- the end of a form whose tree is x
   abbrev pub close : {T : Type 0} → ℕ → T → List Placed → Read T
   close room x ts = read_end room ts >>= (λ y. Ok (x, y.0, y.1))
 
@@ -68,12 +68,12 @@ module _ (L : Language) (size : ℕ) where
   read_parts reader room (place s qs) make ts = reader s ts >>= (λ x. read_parts reader room qs (make x.0) x.2)
   read_parts reader room (places s) make ts = read_all (reader s) (length ts) make ts
 
-  -- behind the word at n of a form
+  -- what is read behind the word at n of a form
   abbrev pub read_row : {R : Type 0} → ((q : L.Sort) → List Placed → Read (L.Tree q)) → ℕ → ℕ → Option (Row L.Sort L.Tree R) → List Placed → Read R
   read_row reader room n None ts = Err (syntax n)
   read_row reader room n (Some r) ts = read_parts reader room r.takes r.makes ts
 
-  -- behind the parenthesis of a form
+  -- what is read behind the parenthesis of a form
   abbrev pub read_form : ((q : L.Sort) → List Placed → Read (L.Tree q)) → ℕ → (s : L.Sort) → List Placed → Read (L.Tree s)
   read_form reader room s ts = read_head room ts >>= (λ h. read_row reader room h.0 (L.row_at s h.1) h.2)
 

@@ -15,7 +15,7 @@ pub data TextFault : Type 0 where
   too_long : TextFault
   at : Fault → TextFault
 
--- nothing follows
+-- the tree that was read, where no token follows it
 abbrev pub whole : {T : Type 0} → Read T → Result T TextFault
 whole (Ok (t, n, [])) = Ok t
 whole (Ok (t, n, x ∷ ts)) = Err (at (unfit_token 600 x))
