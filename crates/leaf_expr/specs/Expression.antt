@@ -3,7 +3,7 @@ use Rattle.std.specs.Prelude.{ℕ, suc, ◌+◌, ℤ, Bool, List, [], ◌∷◌}
 use Rattle.sample_core.specs.TypeTree.{TypeTree}
 
 mutual
-  -- a form each: what it does is its line in `value_of`
+  -- an expression: what each form does is its line in `value_of`
   pub data Expression : Type 0 where
     sample : Expression
     parameter : ℕ → Expression

@@ -35,7 +35,7 @@ abbrev mutual
   depths last = 0
   depths (more p ps) = max (depth p) (depths ps)
 
--- one space between tokens, none inside a parenthesis' edges
+-- the bytes of a part: one space between tokens, none inside a parenthesis' edges
 abbrev mutual
   pub spelling : Part → List ℕ
   spelling (atom w) = w
@@ -56,7 +56,7 @@ abbrev pub is_word : List ℕ → Bool
 is_word [] = false
 is_word (b ∷ bs) = is_word_byte b && all_word_bytes bs
 
--- each word of the part is one
+-- whether each word of the part is a word of texts
 abbrev mutual
   pub plain : Part → Bool
   plain (atom w) = is_word w

@@ -62,7 +62,7 @@ abbrev mutual
   expression_parts no_more = last
   expression_parts (and_then e es) = more (expression_part e) (expression_parts es)
 
--- the numbers are in their ranges
+-- the numbers of an expression are in the ranges of their places
 abbrev mutual
   pub InRange : Expression → Type 0
   InRange (parameter k) = k ≤ 65535

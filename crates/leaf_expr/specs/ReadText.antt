@@ -56,7 +56,7 @@ type_left text x = (type_of x.0, x.1, tokens_from x.1 text)
 abbrev pub expression_left : List ℕ → Expr × ℕ → Expression × ℕ × List Placed
 expression_left text x = (expression_of x.0, x.1, tokens_from x.1 text)
 
--- behind the parenthesis of a form, in the text from byte n on
+-- what is read behind the parenthesis of a form, in the text from byte n on
 abbrev pub form_at : (s : Sort) → List ℕ → ℕ → ℕ → Read (Tree s)
 form_at s text room n = read_form leaf (length text) (read leaf (length text) room) room s (tokens_from n text)
 

@@ -4,7 +4,7 @@ use Rattle.leaf_expr.specs.NumberPlace.{Reading, reads, misspelt, unfit}
 use Rattle.leaf_expr.specs.Token.{opening, closing, word, Placed}
 use Rattle.leaf_expr.specs.Language.{Language, Places, Maker, Row, no_place, place, places}
 
--- why no tree was read: a token that doesn't fit, a number that may not stand there, or a parenthesis too many; each with the place of its first byte, or the text's length
+-- why no tree was read: a token that doesn't fit, a number that doesn't, or a parenthesis too many; each by its place
 pub data Fault : Type 0 where
   syntax : ℕ → Fault
   number : ℕ → Fault

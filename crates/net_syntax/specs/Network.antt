@@ -2,7 +2,7 @@
 use Rattle.std.specs.Prelude.{ℕ, suc, ◌+◌, List, [], ◌∷◌}
 
 mutual
-  -- a form each: what it does is its line in `meaning`
+  -- a network over leaves L: what each form does is its line in `meaning`
   pub data Network (L : Type 0) : Type 0 where
     arr : L → Network L
     seq : Network L → Network L → Network L

@@ -18,11 +18,11 @@ abbrev pub IsAnswered : RunFault → Type 0
 IsAnswered (U.Stream lines fault) = IsMet fault
 IsAnswered _ = ⊤
 
--- what is wrong in line n of the stream
+-- what is printed of line n of the stream: its number, and what is wrong in it
 abbrev pub at_line : ℕ → List ℕ → List ℕ
 at_line n what = codes "stream: line " ++ decimal n ++ codes ": " ++ what
 
--- a faulty value in line n
+-- what is printed of a faulty value in line n
 abbrev pub value_words : ℕ → ValueFault → List ℕ
 value_words n (V.NotAValue at) = at_line n (codes "no value at " ++ decimal at)
 value_words n (V.OtherType at) = at_line n (codes "other type at " ++ decimal at)
@@ -47,7 +47,7 @@ line_of (U.Stream lines fault) = stream_words fault
 line_of (U.Write lines) = codes "output: cannot be written"
 line_of (U.Memory lines) = codes "memory"
 
--- a value is faulty in its text, or memory was short
+-- the exit status at a faulty value: 1 for its text, 3 for want of memory
 abbrev pub value_status : ValueFault → ℕ
 value_status V.Memory = 3
 value_status _ = 1
