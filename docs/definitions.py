@@ -25,24 +25,30 @@ def rows(path):
     lines = path.read_text().split("\n")
     for i, line in enumerate(lines):
         found = DEFINITION.match(line)
-        if not found or (line.startswith("  ") and is_field(lines, i)):
-            continue
-        last = i - 1 if not lines[i - 1].endswith("mutual") else i - 2
-        first = last
-        while first > 0 and lines[first].strip().startswith("--"):
-            first -= 1
-        words = " ".join(l.strip()[2:].strip() for l in lines[first + 1 : last + 1])
-        if words:
-            yield found.group(1), words.replace("|", "\\|")
+        if found and not is_field(lines, i):
+            words = comment_above(lines, i)
+            if words:
+                yield found.group(1), words.replace("|", "\\|")
+
+
+def comment_above(lines, i):
+    """The comment above line i, or above the `mutual` or `infixl` that leads it."""
+    last = i - 1
+    while re.search(r"^ *(abbrev )?mutual$|^ *infix", lines[last]):
+        last -= 1
+    first = last
+    while first >= 0 and lines[first].strip().startswith("--"):
+        first -= 1
+    return " ".join(l.strip()[2:].strip() for l in lines[first + 1 : last + 1])
 
 
 def is_field(lines, i):
-    """Whether line i, which is indented, is a field of a record, or a constructor."""
-    while lines[i].startswith(" ") or not lines[i]:
-        if re.match(r"^ *(abbrev |unfoldable )*pub (record|data) .* where$", lines[i]) and lines[i].startswith("  pub"):
-            return False
-        i -= 1
-    return "mutual" not in lines[i]
+    """Whether line i is a field of a record: the first line above it that is less indented begins a record."""
+    margin = len(lines[i]) - len(lines[i].lstrip())
+    for line in reversed(lines[:i]):
+        if line.strip() and len(line) - len(line.lstrip()) < margin:
+            return bool(re.match(r"^ *(abbrev |unfoldable )*pub record", line))
+    return False
 
 
 def files(crate):

@@ -3,6 +3,7 @@ use Rattle.std.specs.Prelude.{ℕ, suc, ◌+◌, ℤ, Bool, List, [], ◌∷◌}
 use Rattle.sample_core.specs.TypeTree.{TypeTree}
 
 mutual
+  -- an expression: what each form does is its line in `value_of`
   pub data Expression : Type 0 where
     sample : Expression
     parameter : ℕ → Expression
@@ -30,6 +31,7 @@ mutual
     nth : Expression → Expression → Expression → Expression
     len : Expression → Expression
 
+  -- the elements of a list expression, in order
   pub data Expressions : Type 0 where
     no_more : Expressions
     and_then : Expression → Expressions → Expressions
@@ -68,6 +70,7 @@ abbrev mutual
   expression_size (nth a b c) = suc (expression_size a + expression_size b + expression_size c)
   expression_size (len a) = suc (expression_size a)
 
+  -- the same of the elements of a list
   pub expressions_size : Expressions → ℕ
   expressions_size no_more = 0
   expressions_size (and_then e es) = suc (expression_size e + expressions_size es)

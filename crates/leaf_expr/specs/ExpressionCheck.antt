@@ -90,6 +90,7 @@ abbrev mutual
   type_walk Ps A (nth e i d) = on_ok (type_walk Ps A e) (λ L. on_ok (element_of L) (λ T. of_type (type_walk Ps A i) int_ty (of_type (type_walk Ps A d) T (limited T))))
   type_walk Ps A (len e) = on_ok (type_walk Ps A e) (λ L. on_ok (element_of L) (λ T. limited int_ty))
 
+  -- the elements of a list in order, each tested against the type given
   pub elements_walk : List TypeTree → TypeTree → TypeTree → Expressions → TypeAnswer
   elements_walk Ps A t no_more = limited (list_ty t)
   elements_walk Ps A t (and_then e es) = of_type (type_walk Ps A e) t (elements_walk Ps A t es)

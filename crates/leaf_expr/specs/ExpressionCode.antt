@@ -36,6 +36,7 @@ rest_of (gcons a b) = b
 rest_of _ = gnil
 
 abbrev mutual
+  -- an expression's code: the number of its form, and then its parts
   pub to_code : Expression → Gv
   to_code sample = node 0 gnil gnil gnil
   to_code (parameter k) = node 1 (gnum k) gnil gnil
@@ -63,11 +64,13 @@ abbrev mutual
   to_code (nth a b c) = node 23 (to_code a) (to_code b) (to_code c)
   to_code (len a) = node 24 (to_code a) gnil gnil
 
+  -- the code of the elements of a list
   pub to_codes : Expressions → Gv
   to_codes no_more = gnil
   to_codes (and_then e es) = gcons (to_code e) (to_codes es)
 
 mutual
+  -- expressions with one code are the same
   pub to_code_inj : (x y : Expression) → to_code x ≡ to_code y → x ≡ y
   to_code_inj sample sample e = refl
   to_code_inj (parameter k) (parameter k') e = ap parameter (ap num (ap part0 e))
@@ -96,10 +99,12 @@ mutual
   to_code_inj (len a) (len a') e = ap len (to_code_inj a a' (ap part0 e))
   to_code_inj _ _ e = absurd (omega (arith, ap tag_of e))
 
+  -- elements with one code are the same
   pub to_codes_inj : (x y : Expressions) → to_codes x ≡ to_codes y → x ≡ y
   to_codes_inj no_more no_more e = refl
   to_codes_inj (and_then x es) (and_then y fs) e = λ i. and_then (to_code_inj x y (ap head_of e) i) (to_codes_inj es fs (ap rest_of e) i)
   to_codes_inj _ _ e = cc
 
+-- expressions told apart by their codes
 abbrev pub expression_code : Coded Expression
 expression_code = coded_via itself to_code to_code_inj

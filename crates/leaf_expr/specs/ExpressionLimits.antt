@@ -34,6 +34,7 @@ abbrev mutual
   height_of (nth e i d) = suc (max (height_of e) (max (height_of i) (height_of d)))
   height_of (len e) = suc (height_of e)
 
+  -- the greatest height of the elements of a list; 0 where there are none
   pub heights_of : Expressions → ℕ
   heights_of no_more = 0
   heights_of (and_then e es) = max (height_of e) (heights_of es)
@@ -67,6 +68,7 @@ abbrev mutual
   nodes_in (nth e i d) = suc (nodes_in e + nodes_in i + nodes_in d)
   nodes_in (len e) = suc (nodes_in e)
 
+  -- how many expressions the elements of a list are made of
   pub nodes_in_all : Expressions → ℕ
   nodes_in_all no_more = 0
   nodes_in_all (and_then e es) = nodes_in e + nodes_in_all es
@@ -109,6 +111,7 @@ abbrev mutual
   Within {B = B} (nth_typed h k l) = Within h × Within k × Within l × TypeFits B
   Within {B = B} (len_typed h) = Within h × TypeFits B
 
+  -- the same of the elements of a list
   pub AllWithin : {es : Expressions} {Ps : List TypeTree} {A T : TypeTree} → ExpressionsTyped es Ps A T → Type 0
   AllWithin no_more_typed = Unit {0}
   AllWithin (and_then_typed h hs) = Within h × AllWithin hs

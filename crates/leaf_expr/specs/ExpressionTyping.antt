@@ -38,7 +38,7 @@ mutual
     nth_typed : {Ps : List TypeTree} {A T : TypeTree} {e i d : Expression} → ExpressionTyped e Ps A (list_ty T) → ExpressionTyped i Ps A int_ty → ExpressionTyped d Ps A T → ExpressionTyped (nth e i d) Ps A T
     len_typed : {Ps : List TypeTree} {A T : TypeTree} {e : Expression} → ExpressionTyped e Ps A (list_ty T) → ExpressionTyped (len e) Ps A int_ty
 
-  -- each of one type
+  -- each element has the one type
   pub data ExpressionsTyped : Expressions → List TypeTree → TypeTree → TypeTree → Type 0 where
     no_more_typed : {Ps : List TypeTree} {A T : TypeTree} → ExpressionsTyped no_more Ps A T
     and_then_typed : {Ps : List TypeTree} {A T : TypeTree} {e : Expression} {es : Expressions} → ExpressionTyped e Ps A T → ExpressionsTyped es Ps A T → ExpressionsTyped (and_then e es) Ps A T

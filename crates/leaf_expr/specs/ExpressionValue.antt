@@ -18,6 +18,7 @@ abbrev mutual
   same_datum (list as1) (list bs) = same_datums as1 bs
   same_datum _ _ = false
 
+  -- the same of the elements of two lists
   pub same_datums : Datums → Datums → Bool
   same_datums end end = true
   same_datums (more a as1) (more b bs) = same_datum a b && same_datums as1 bs
@@ -93,6 +94,7 @@ abbrev mutual
   value_of (nth e i d) ps x = element_at (value_of e ps x) (whole (value_of i ps x)) (value_of d ps x)
   value_of (len e) ps x = wrapped (pos (count_of (value_of e ps x)))
 
+  -- the values of the elements of a list, in order
   pub values_of : Expressions → List Datum → Datum → List Datum
   values_of no_more ps x = []
   values_of (and_then e es) ps x = value_of e ps x ∷ values_of es ps x

@@ -9,6 +9,7 @@ use Rattle.leaf_expr.specs.declared.expr.Expr.TheVariants as V
 use Rattle.leaf_expr.specs.declared.expr.Part.TheDeep.{deep-Expr}
 use Rattle.leaf_expr.specs.Seen.{expression_of}
 
+-- an expression's depth in the code is at most its size
 pub depth_le : (e : Expr) → max (deep-Expr e) 0 ≤ expression_size (expression_of e)
 depth_le V.Input = omega arith
 depth_le (V.Param k) = omega arith
@@ -36,6 +37,7 @@ depth_le (V.List t es) = omega arith
 depth_le (V.Nth a b c) = omega arith
 depth_le (V.Len a) = omega arith
 
+-- each element's depth in the code is at most the size of all elements
 pub depths_le : (es : List Expr) → most deep-Expr es ≤ expressions_size (expressions_of (map expression_of es))
 depths_le [] = omega arith
 depths_le (e ∷ es) = omega (arith, depth_le e, depths_le es)

@@ -6,7 +6,7 @@ use Rattle.sample_core.specs.TypeTree.{TypeTree, unit_ty, bool_ty, int_ty, pair_
 use Rattle.leaf_expr.specs.Expression.{Expression, Expressions, sample, parameter, unit_literal, truth_literal, number_literal, make_pair, fst, snd, then, neg, add, sub, mul, less, equal, negation, conjunction, disjunction, choice, none_of, make_event, on, make_list, nth, len, no_more, and_then}
 use Rattle.leaf_expr.specs.KeyTree.{KeyTree}
 
--- of a type
+-- what a hasher is fed at a type
 abbrev pub type_fed : TypeTree → fed.HashWrites
 type_fed unit_ty = fed.u8 0
 type_fed bool_ty = fed.u8 1
@@ -45,7 +45,7 @@ tag_of (nth a b c) = 24
 tag_of (len a) = 25
 
 abbrev mutual
-  -- of an expression
+  -- what a hasher is fed at an expression
   pub expression_fed : Expression → fed.HashWrites
   expression_fed sample = fed.u8 0
   expression_fed (parameter k) = fed.u8 1 ++ fed.u32 k
@@ -74,11 +74,11 @@ abbrev mutual
   expression_fed (nth a b c) = fed.u8 24 ++ (expression_fed a ++ (expression_fed b ++ expression_fed c))
   expression_fed (len a) = fed.u8 25 ++ expression_fed a
 
-  -- of the elements of a list
+  -- what a hasher is fed at the elements of a list
   pub expressions_fed : Expressions → fed.HashWrites
   expressions_fed no_more = []
   expressions_fed (and_then e es) = expression_fed e ++ expressions_fed es
 
--- of a key: its expression, and then its types
+-- what a hasher is fed at a key: its expression, and then its types
 abbrev pub key_fed : KeyTree → fed.HashWrites
 key_fed k = expression_fed k.expr ++ (flat_map type_fed k.params ++ type_fed k.input)

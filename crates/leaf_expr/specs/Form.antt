@@ -17,11 +17,13 @@ use Rattle.leaf_expr.specs.declared.form.Typed.TheVariants as Y
 use Rattle.leaf_expr.specs.declared.form.Form.{Form}
 use Rattle.leaf_expr.specs.declared.form.Form.TheVariants as F
 
+-- a form of types as its row of the grammar
 abbrev pub type_row : TypeForm → Row Sort Tree TypeTree
 type_row T.Pair = row (codes "Pair") (t (t no_place)) pair_ty
 type_row T.Event = row (codes "Event") (t no_place) event_ty
 type_row T.List = row (codes "List") (t no_place) list_ty
 
+-- the word of a form of one expression
 abbrev pub unary_name : Unary → List ℕ
 unary_name U.Fst = codes "fst"
 unary_name U.Snd = codes "snd"
@@ -39,6 +41,7 @@ unary_of U.Not = negation
 unary_of U.Event = make_event
 unary_of U.Len = len
 
+-- the word of a form of two expressions
 abbrev pub binary_name : Binary → List ℕ
 binary_name B.Pair = codes "pair"
 binary_name B.Then = codes "then"
@@ -64,6 +67,7 @@ binary_of B.And = conjunction
 binary_of B.Or = disjunction
 binary_of B.Merge = λ a b. on a b (make_event (snd sample))
 
+-- the word of a form of three expressions
 abbrev pub ternary_name : Ternary → List ℕ
 ternary_name R.If = codes "if"
 ternary_name R.On = codes "on"
@@ -75,6 +79,7 @@ ternary_of R.If = choice
 ternary_of R.On = on
 ternary_of R.Nth = nth
 
+-- the word of a form of a type and two expressions
 abbrev pub typed_name : Typed → List ℕ
 typed_name Y.Gate = codes "gate"
 typed_name Y.Tag = codes "tag"
@@ -86,18 +91,23 @@ typed_of Y.Gate = λ T a b. choice b a (none_of T)
 typed_of Y.Tag = λ T a c. on a (none_of T) (make_event ((then) (fst sample) c))
 typed_of Y.Attach = λ T a c. on a (none_of T) (make_event (make_pair (snd sample) ((then) (fst sample) c)))
 
+-- a form of one expression as its row of the grammar
 abbrev pub unary_row : Unary → Row Sort Tree Expression
 unary_row f = row (unary_name f) (e no_place) (unary_of f)
 
+-- a form of two expressions as its row of the grammar
 abbrev pub binary_row : Binary → Row Sort Tree Expression
 binary_row f = row (binary_name f) (e (e no_place)) (binary_of f)
 
+-- a form of three expressions as its row of the grammar
 abbrev pub ternary_row : Ternary → Row Sort Tree Expression
 ternary_row f = row (ternary_name f) (e (e (e no_place))) (ternary_of f)
 
+-- a form of a type and two expressions as its row of the grammar
 abbrev pub typed_row : Typed → Row Sort Tree Expression
 typed_row f = row (typed_name f) (t (e (e no_place))) (typed_of f)
 
+-- a form of expressions as its row of the grammar
 abbrev pub form_row : Form → Row Sort Tree Expression
 form_row F.Param = row (codes "p") (k no_place) parameter
 form_row F.NoEvent = row (codes "none") (t no_place) none_of

@@ -11,6 +11,7 @@ pub data Sort : Type 0 where
   expression_sort : Sort
   index_sort : Sort
 
+-- what is read at a place of each sort
 abbrev pub Tree : Sort → Type 0
 Tree type_sort = TypeTree
 Tree expression_sort = Expression
@@ -34,6 +35,7 @@ words type_sort = (codes "Unit", unit_ty) ∷ (codes "Bool", bool_ty) ∷ (codes
 words expression_sort = (codes "x", sample) ∷ (codes "unit", unit_literal) ∷ (codes "true", truth_literal true) ∷ (codes "false", truth_literal false) ∷ []
 words index_sort = []
 
+-- a row of the grammar: the word of a form, its parts, and the tree that they make
 abbrev pub row : {R : Type 0} → (w : List ℕ) → (ps : Places Sort) → Maker Tree ps R → Row Sort Tree R
 row w ps make = record { name = w; takes = ps; makes = make }
 
@@ -99,24 +101,30 @@ number_at type_sort w = unfit
 number_at expression_sort w = map_reading number_literal (integer_at w)
 number_at index_sort w = natural_at 0 65535 w
 
+-- what a word is by a table of words; where the table lacks it, what is given
 abbrev pub word_among : {T : Type 0} → List ℕ → List (List ℕ × T) → Reading T → Reading T
 word_among w [] r = r
 word_among w (x ∷ xs) r = if bytes_eq w x.0 then reads x.1 else word_among w xs r
 
+-- what a word is where a tree of the sort stands
 unfoldable pub word_at : (s : Sort) → List ℕ → Reading (Tree s)
 word_at s w = word_among w (words s) (number_at s w)
 
+-- the row of a table that a word begins
 abbrev pub row_among : {R : Type 0} → List ℕ → List (Row Sort Tree R) → Option (Row Sort Tree R)
 row_among w [] = None
 row_among w (x ∷ xs) = if bytes_eq w x.name then Some x else row_among w xs
 
+-- the form of the sort that a word begins
 unfoldable pub row_at : (s : Sort) → List ℕ → Option (Row Sort Tree (Tree s))
 row_at s w = row_among w (rows s)
 
+-- whether a tree of the sort may be a form, which begins with a parenthesis
 abbrev pub has_form : Sort → Bool
 has_form index_sort = false
 has_form _ = true
 
+-- whether a number may stand where a tree of the sort does
 abbrev pub takes_number : Sort → Bool
 takes_number type_sort = false
 takes_number _ = true

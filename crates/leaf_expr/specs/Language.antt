@@ -22,6 +22,7 @@ pub record Row (S : Type 0) (T : S → Type 0) (R : Type 0) : Type 0 where
   pub takes : Places S
   pub makes : Maker T takes R
 
+-- a language: its sorts, their trees, the words that are trees, and the forms
 pub record Language : Type 1 where
   pub Sort : Type 0
   pub Tree : Sort → Type 0
@@ -32,6 +33,7 @@ pub record Language : Type 1 where
   pub has_form : Sort → Bool
   pub takes_number : Sort → Bool
 
+-- the tree that a word is, where it is one
 abbrev pub read_word : {T : Type 0} → Reading T → Option T
 read_word (reads x) = Some x
 read_word _ = None

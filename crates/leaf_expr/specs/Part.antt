@@ -3,10 +3,12 @@ use Rattle.std.specs.Prelude.{ℕ, suc, ◌+◌, max, Bool, true, false, ◌&&�
 use Rattle.leaf_expr.specs.Token.{opening, closing, word, Placed, is_word_byte}
 
 mutual
+  -- a word, or a form: parentheses round a word and further parts
   pub data Part : Type 0 where
     atom : List ℕ → Part
     form : List ℕ → Parts → Part
 
+  -- the parts behind the word of a form, in order
   pub data Parts : Type 0 where
     last : Parts
     more : Part → Parts → Parts
@@ -28,11 +30,12 @@ abbrev mutual
   depth (atom w) = 0
   depth (form w ps) = suc (depths ps)
 
+  -- the same of the parts of a form: the greatest
   pub depths : Parts → ℕ
   depths last = 0
   depths (more p ps) = max (depth p) (depths ps)
 
--- one space between tokens, none inside a parenthesis' edges
+-- the bytes of a part: one space between tokens, none inside a parenthesis' edges
 abbrev mutual
   pub spelling : Part → List ℕ
   spelling (atom w) = w
@@ -43,20 +46,23 @@ abbrev mutual
   spellings last = []
   spellings (more p ps) = 32 ∷ spelling p ++ spellings ps
 
+-- whether all of the bytes may stand in a word
 abbrev pub all_word_bytes : List ℕ → Bool
 all_word_bytes [] = true
 all_word_bytes (b ∷ bs) = is_word_byte b && all_word_bytes bs
 
+-- whether the bytes are a word: at least one, and all of them may stand in it
 abbrev pub is_word : List ℕ → Bool
 is_word [] = false
 is_word (b ∷ bs) = is_word_byte b && all_word_bytes bs
 
--- each word of the part is one
+-- whether each word of the part is a word of texts
 abbrev mutual
   pub plain : Part → Bool
   plain (atom w) = is_word w
   plain (form w ps) = is_word w && all_plain ps
 
+  -- the same of the parts of a form
   pub all_plain : Parts → Bool
   all_plain last = true
   all_plain (more p ps) = plain p && all_plain ps

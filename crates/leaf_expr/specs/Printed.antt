@@ -18,6 +18,7 @@ two w p q = form w (more p (more q last))
 abbrev pub three : List ℕ → Part → Part → Part → Part
 three w p q r = form w (more p (more q (more r last)))
 
+-- the part that a type is printed as
 abbrev pub type_part : TypeTree → Part
 type_part unit_ty = atom (codes "Unit")
 type_part bool_ty = atom (codes "Bool")
@@ -27,6 +28,7 @@ type_part (event_ty a) = one (codes "Event") (type_part a)
 type_part (list_ty a) = one (codes "List") (type_part a)
 
 abbrev mutual
+  -- the part that an expression is printed as
   pub expression_part : Expression → Part
   expression_part sample = atom (codes "x")
   expression_part (parameter k) = one (codes "p") (atom (decimal k))
@@ -55,11 +57,12 @@ abbrev mutual
   expression_part (nth e i d) = three (codes "nth") (expression_part e) (expression_part i) (expression_part d)
   expression_part (len e) = one (codes "len") (expression_part e)
 
+  -- the parts that the elements of a list are printed as
   pub expression_parts : Expressions → Parts
   expression_parts no_more = last
   expression_parts (and_then e es) = more (expression_part e) (expression_parts es)
 
--- the numbers are in their ranges
+-- the numbers of an expression are in the ranges of their places
 abbrev mutual
   pub InRange : Expression → Type 0
   InRange (parameter k) = k ≤ 65535
@@ -85,6 +88,7 @@ abbrev mutual
   InRange (len e) = InRange e
   InRange _ = Unit {0}
 
+  -- the same of the elements of a list
   pub AllInRange : Expressions → Type 0
   AllInRange no_more = Unit {0}
   AllInRange (and_then e es) = InRange e × AllInRange es

@@ -61,14 +61,18 @@ module _ (L : Language) where
     too_short : e ≡ syntax size → ((t : L.Tree s) (n : ℕ) (rest : List Placed) → Begins L room s t ts n rest → ⊥) → Completes s ts → Stops size room s ts e
     at_token : (before : List Placed) (x : Placed) (after : List Placed) → ts ≡ before ++ x ∷ after → ((more : List Placed) (t : L.Tree s) (n : ℕ) (rest : List Placed) → Begins L room s t (before ++ x ∷ more) n rest → ⊥) → Completes s before → Misfit room s before x e → Stops size room s ts e
 
+  -- a tree that is read stands at the front of the tokens
   abbrev pub FoundLaw : Type 0
   FoundLaw = (size room : ℕ) (s : L.Sort) (ts : List Placed) (t : L.Tree s) (n : ℕ) (rest : List Placed) → read L size room s ts ≡ Ok (t, n, rest) → Begins L room s t ts n rest
 
+  -- a tree that stands at the front of the tokens is read
   abbrev pub OnlyLaw : Type 0
   OnlyLaw = (size room : ℕ) (s : L.Sort) (ts : List Placed) (t : L.Tree s) (n : ℕ) (rest : List Placed) → Begins L room s t ts n rest → read L size room s ts ≡ Ok (t, n, rest)
 
+  -- at most one tree of a sort stands at the front of the tokens
   abbrev pub OneReadingLaw : Type 0
   OneReadingLaw = (r q : ℕ) (s : L.Sort) (t u : L.Tree s) (ts : List Placed) (n m : ℕ) (rest more : List Placed) → Begins L r s t ts n rest → Begins L q s u ts m more → (t ≡ u) × (n ≡ m) × (rest ≡ more)
 
+  -- a fault that is answered is the first token that doesn't fit, or the end
   abbrev pub FaultLaw : Type 0
   FaultLaw = (size room : ℕ) (s : L.Sort) (ts : List Placed) (e : Fault) → read L size room s ts ≡ Err e → Stops size room s ts e

@@ -39,6 +39,7 @@ RefusesText (V.TooDeep n) read = read ≡ Err (at (too_deep n))
 RefusesText V.TooLong read = read ≡ Err too_long
 RefusesText V.Memory read = Unit {0}
 
+-- the same of a whole text: what a call returned is what reading gives
 abbrev pub GivesText : {X Y : Type 0} → (X → Y) → Result X ExprTextFault → Result Y TextFault → Type 0
 GivesText view (Ok x) read = read ≡ Ok (view x)
 GivesText view (Err e) read = RefusesText e read
@@ -55,7 +56,7 @@ type_left text x = (type_of x.0, x.1, tokens_from x.1 text)
 abbrev pub expression_left : List ℕ → Expr × ℕ → Expression × ℕ × List Placed
 expression_left text x = (expression_of x.0, x.1, tokens_from x.1 text)
 
--- behind the parenthesis of a form, in the text from byte n on
+-- what is read behind the parenthesis of a form, in the text from byte n on
 abbrev pub form_at : (s : Sort) → List ℕ → ℕ → ℕ → Read (Tree s)
 form_at s text room n = read_form leaf (length text) (read leaf (length text) room) room s (tokens_from n text)
 

@@ -4,12 +4,13 @@ use Rattle.leaf_expr.specs.NumberPlace.{Reading, reads, misspelt, unfit}
 use Rattle.leaf_expr.specs.Token.{opening, closing, word, Placed}
 use Rattle.leaf_expr.specs.Language.{Language, Places, Maker, Row, no_place, place, places}
 
--- the place of a token, or the text's length
+-- why no tree was read: a token that doesn't fit, a number that doesn't, or a parenthesis too many; each by its place
 pub data Fault : Type 0 where
   syntax : ℕ → Fault
   number : ℕ → Fault
   too_deep : ℕ → Fault
 
+-- the place of a fault
 abbrev pub fault_place : Fault → ℕ
 fault_place (syntax n) = n
 fault_place (number n) = n
@@ -19,6 +20,7 @@ fault_place (too_deep n) = n
 abbrev pub Read : Type 0 → Type 0
 Read T = Result (T × ℕ × List Placed) Fault
 
+-- the next step where the one before read something, and else its fault
 infixl 10 ◌>>=◌
 abbrev pub ◌>>=◌ : {A B : Type 0} → Result A Fault → (A → Result B Fault) → Result B Fault
 (Ok x) >>= g = g x
@@ -29,6 +31,7 @@ abbrev pub unfit_token : ℕ → Placed → Fault
 unfit_token zero (n, opening) = too_deep n
 unfit_token _ x = syntax x.0
 
+-- the word w at n, as it was found: its tree, the byte behind it and the tokens left, or why it is none
 abbrev pub word_read : {T : Type 0} → ℕ → List ℕ → List Placed → Reading T → Read T
 word_read n w ts (reads x) = Ok (x, n + length w, ts)
 word_read n w ts misspelt = Err (number n)
@@ -42,7 +45,7 @@ module _ (L : Language) (size : ℕ) where
   read_end room ((n, closing) ∷ ts) = Ok (suc n, ts)
   read_end room (y ∷ ts) = Err (unfit_token room y)
 
-  -- the end of a form that is x
+  -- the end of a form whose tree is x
   abbrev pub close : {T : Type 0} → ℕ → T → List Placed → Read T
   close room x ts = read_end room ts >>= (λ y. Ok (x, y.0, y.1))
 
@@ -59,17 +62,18 @@ module _ (L : Language) (size : ℕ) where
   read_all reader (suc n) make ((m, closing) ∷ ts) = Ok (make [], suc m, ts)
   read_all reader (suc n) make ts = reader ts >>= (λ x. read_all reader n (λ xs. make (x.0 ∷ xs)) x.2)
 
+  -- the parts that a form takes, each by the reader given, and its end
   abbrev pub read_parts : {R : Type 0} → ((s : L.Sort) → List Placed → Read (L.Tree s)) → ℕ → (qs : Places L.Sort) → Maker L.Tree qs R → List Placed → Read R
   read_parts reader room no_place x ts = close room x ts
   read_parts reader room (place s qs) make ts = reader s ts >>= (λ x. read_parts reader room qs (make x.0) x.2)
   read_parts reader room (places s) make ts = read_all (reader s) (length ts) make ts
 
-  -- behind the word at n of a form
+  -- what is read behind the word at n of a form
   abbrev pub read_row : {R : Type 0} → ((q : L.Sort) → List Placed → Read (L.Tree q)) → ℕ → ℕ → Option (Row L.Sort L.Tree R) → List Placed → Read R
   read_row reader room n None ts = Err (syntax n)
   read_row reader room n (Some r) ts = read_parts reader room r.takes r.makes ts
 
-  -- behind the parenthesis of a form
+  -- what is read behind the parenthesis of a form
   abbrev pub read_form : ((q : L.Sort) → List Placed → Read (L.Tree q)) → ℕ → (s : L.Sort) → List Placed → Read (L.Tree s)
   read_form reader room s ts = read_head room ts >>= (λ h. read_row reader room h.0 (L.row_at s h.1) h.2)
 

@@ -6,11 +6,13 @@ use Rattle.leaf_expr.specs.declared.literal.Literal.TheVariants as C
 use Rattle.leaf_expr.specs.declared.expr.Expr.{Expr}
 use Rattle.leaf_expr.specs.declared.expr.Expr.TheVariants as V
 
+-- the expression that a `Literal` is
 abbrev pub literal_of : Literal → Expression
 literal_of C.Unit = unit_literal
 literal_of (C.Bool p) = truth_literal p
 literal_of (C.Int n) = number_literal n
 
+-- the expression that an `Expr` is
 abbrev pub expression_of : Expr → Expression
 expression_of V.Input = sample
 expression_of (V.Param k) = parameter k

@@ -10,11 +10,12 @@ use Rattle.leaf_expr.specs.ReadLaws.{Completes, Misfit}
 use Rattle.leaf_expr.specs.Printed.{expression_part, type_part, InRange}
 use Rattle.leaf_expr.specs.Reader.{Fault, syntax, Read, unfit_token, read}
 
+-- why bytes are no text of one tree
 pub data TextFault : Type 0 where
   too_long : TextFault
   at : Fault → TextFault
 
--- nothing follows
+-- the tree that was read, where no token follows it
 abbrev pub whole : {T : Type 0} → Read T → Result T TextFault
 whole (Ok (t, n, [])) = Ok t
 whole (Ok (t, n, x ∷ ts)) = Err (at (unfit_token 600 x))
@@ -36,12 +37,15 @@ pub data NoText (s : Sort) (bs : List ℕ) (e : Fault) : Type 0 where
   fails : (before : List Placed) (x : Placed) (after : List Placed) → tokens bs ≡ before ++ x ∷ after → ((more : List Placed) (t : Tree s) (n : ℕ) → Begins leaf 600 s t (before ++ x ∷ more) n [] → ⊥) → Completes leaf s before → Misfit leaf 600 s before x e → NoText s bs e
   follows : (before : List Placed) (x : Placed) (after : List Placed) → tokens bs ≡ before ++ x ∷ after → ((more : List Placed) (t : Tree s) (n : ℕ) → Begins leaf 600 s t (before ++ x ∷ more) n [] → ⊥) → (t : Tree s) (n : ℕ) → Begins leaf 600 s t before n [] → e ≡ syntax x.0 → NoText s bs e
 
+-- the reader of whole texts answers exactly the texts of a tree
 abbrev pub ReadTextLaw : Type 0
 ReadTextLaw = (s : Sort) (bs : List ℕ) (t : Tree s) → (read_text s bs ≡ Ok t → IsText s bs t) × (IsText s bs t → read_text s bs ≡ Ok t)
 
+-- a text has one reading
 abbrev pub OneTextLaw : Type 0
 OneTextLaw = (s : Sort) (bs : List ℕ) (t u : Tree s) → IsText s bs t → IsText s bs u → t ≡ u
 
+-- a fault that is answered at a place tells why the text is no tree
 abbrev pub TextFaultLaw : Type 0
 TextFaultLaw = (s : Sort) (bs : List ℕ) (e : Fault) → read_text s bs ≡ Err (at e) → NoText s bs e
 
@@ -49,6 +53,7 @@ TextFaultLaw = (s : Sort) (bs : List ℕ) (e : Fault) → read_text s bs ≡ Err
 abbrev pub PrintedLaw : Type 0
 PrintedLaw = (e : Expression) (room n : ℕ) (bs : List ℕ) → InRange e → depth (expression_part e) ≤ room → begins_word bs ≡ false → (let end = n + length (spelling (expression_part e)) in Begins leaf room expression_sort e (tokens_in false n (spelling (expression_part e) ++ bs)) end (tokens_in false end bs))
 
+-- a printed type is read again before any bytes that do not go on its last word
 abbrev pub PrintedTypeLaw : Type 0
 PrintedTypeLaw = (t : TypeTree) (room n : ℕ) (bs : List ℕ) → depth (type_part t) ≤ room → begins_word bs ≡ false → (let end = n + length (spelling (type_part t)) in Begins leaf room type_sort t (tokens_in false n (spelling (type_part t) ++ bs)) end (tokens_in false end bs))
 

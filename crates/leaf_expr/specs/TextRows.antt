@@ -10,12 +10,15 @@ use Rattle.leaf_expr.specs.Printed.{one, two, three}
 use Rattle.leaf_expr.specs.Reader.{syntax, number, too_deep, read}
 use Rattle.leaf_expr.specs.Text.{at, read_text}
 
+-- the text is that type
 abbrev pub IsType : List ℕ → TypeTree → Type 0
 IsType bs t = read_text type_sort bs ≡ Ok t
 
+-- the text is that expression
 abbrev pub IsExpression : List ℕ → Expression → Type 0
 IsExpression bs e = read_text expression_sort bs ≡ Ok e
 
+-- each form of types
 abbrev pub TypeRows : Type 0
 TypeRows =
     IsType (codes "Unit") unit_ty
@@ -25,6 +28,7 @@ TypeRows =
     × IsType (codes "(Event Int)") (event_ty int_ty)
     × IsType (codes "(List Int)") (list_ty int_ty)
 
+-- each word, numbers, and a parameter
 abbrev pub WordRows : Type 0
 WordRows =
     IsExpression (codes "x") sample
@@ -35,6 +39,7 @@ WordRows =
     × IsExpression (codes "70") (number_literal (pos 70))
     × IsExpression (codes "(p 12)") (parameter 12)
 
+-- each form of one part, and no event of a type
 abbrev pub UnaryRows : Type 0
 UnaryRows =
     IsExpression (codes "(fst x)") (fst sample)
@@ -45,6 +50,7 @@ UnaryRows =
     × IsExpression (codes "(len x)") (len sample)
     × IsExpression (codes "(none Int)") (none_of int_ty)
 
+-- each form of two expressions
 abbrev pub BinaryRows : Type 0
 BinaryRows =
     IsExpression (codes "(pair x unit)") (make_pair sample unit_literal)
@@ -57,6 +63,7 @@ BinaryRows =
     × IsExpression (codes "(and x unit)") (conjunction sample unit_literal)
     × IsExpression (codes "(or x unit)") (disjunction sample unit_literal)
 
+-- each form of three expressions, and lists
 abbrev pub LongRows : Type 0
 LongRows =
     IsExpression (codes "(if true x unit)") (choice (truth_literal true) sample unit_literal)
@@ -65,10 +72,11 @@ LongRows =
     × IsExpression (codes "(list Int)") (make_list int_ty no_more)
     × IsExpression (codes "(list Int x unit)") (make_list int_ty (and_then sample (and_then unit_literal no_more)))
 
--- sugar: the written form means what the core form means that it stands for, whatever its parts
+-- sugar: `(lMerge a b)` means `(on a b (event (snd x)))`, whatever a and b are; so with the forms below
 abbrev pub MergeIs : Type 0
 MergeIs = (a b : Part) → meaning leaf expression_sort (two (codes "lMerge") a b) ≡ meaning leaf expression_sort (three (codes "on") a b (one (codes "event") (one (codes "snd") (atom (codes "x")))))
 
+-- `(gate T e b)` means `(if b e (none T))`
 abbrev pub GateIs : Type 0
 GateIs = (T a b : Part) → meaning leaf expression_sort (three (codes "gate") T a b) ≡ meaning leaf expression_sort (three (codes "if") b a (one (codes "none") T))
 
@@ -76,9 +84,11 @@ GateIs = (T a b : Part) → meaning leaf expression_sort (three (codes "gate") T
 abbrev pub at_sample : Part → Part
 at_sample c = two (codes "then") (one (codes "fst") (atom (codes "x"))) c
 
+-- `(tag T e c)` means `(on e (none T) (event (then (fst x) c)))`
 abbrev pub TagIs : Type 0
 TagIs = (T a c : Part) → meaning leaf expression_sort (three (codes "tag") T a c) ≡ meaning leaf expression_sort (three (codes "on") a (one (codes "none") T) (one (codes "event") (at_sample c)))
 
+-- `(attach T e c)` means `(on e (none T) (event (pair (snd x) (then (fst x) c))))`
 abbrev pub AttachIs : Type 0
 AttachIs = (T a c : Part) → meaning leaf expression_sort (three (codes "attach") T a c) ≡ meaning leaf expression_sort (three (codes "on") a (one (codes "none") T) (one (codes "event") (two (codes "pair") (one (codes "snd") (atom (codes "x"))) (at_sample c))))
 

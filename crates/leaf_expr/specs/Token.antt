@@ -1,11 +1,13 @@
 -- The tokens of a text, each with the place of its first byte.
 use Rattle.std.specs.Prelude.{ℕ, suc, Bool, true, false, ◌||◌, not, nat_eq, List, [], ◌∷◌, drop, if◌then◌else◌}
 
+-- a parenthesis, or a word
 pub data Token : Type 0 where
   opening : Token
   closing : Token
   word : List ℕ → Token
 
+-- a token and the place of its first byte
 abbrev pub Placed : Type 0
 Placed = ℕ × Token
 

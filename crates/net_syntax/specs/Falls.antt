@@ -7,6 +7,7 @@ use Rattle.net_syntax.specs.declared.net.Net.TheVariants as V
 use Rattle.net_syntax.specs.declared.net.Sub.TheDeep.{deep-Net}
 use Rattle.net_syntax.specs.Seen.{network_of}
 
+-- a network's depth in the code is at most its size
 pub depth_le : {L : Type 0} (n : Net L) → max (deep-Net L n) 0 ≤ network_size (network_of n)
 depth_le {L} (V.Arr e) = omega arith
 depth_le {L} (V.Seq f g) = omega arith

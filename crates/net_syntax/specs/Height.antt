@@ -14,7 +14,7 @@ greatest [] = 0
 greatest (n ∷ ns) = max n (greatest ns)
 
 abbrev mutual
-  -- hs: the heights of the frozen networks in scope
+  -- how many nodes stand in one another, at most; a resumed one stands over the frozen one, whose height is in hs
   pub height : {L : Type 0} → Network L → List ℕ → ℕ
   height (seq f g) hs = suc (max (height f hs) (height g hs))
   height (first f) hs = suc (height f hs)

@@ -2,7 +2,7 @@
 use Rattle.std.specs.Prelude.{ℕ, suc, ◌+◌, List, [], ◌∷◌}
 
 mutual
-  -- a form each: what it does is its line in `meaning`
+  -- a network over leaves L: what each form does is its line in `meaning`
   pub data Network (L : Type 0) : Type 0 where
     arr : L → Network L
     seq : Network L → Network L → Network L
@@ -57,6 +57,7 @@ abbrev mutual
   network_size integral = 0
   network_size (old k) = 0
 
+  -- the same of members
   pub networks_size : {L : Type 0} → Networks L → ℕ
   networks_size no_members = 0
   networks_size (and_member f fs) = suc (network_size f + networks_size fs)
@@ -84,6 +85,7 @@ abbrev mutual
   map_network h (p_switch r fs e t) = p_switch (h r) (map_networks h fs) (map_network h e) (map_network h t)
   map_network h (old k) = old k
 
+  -- the members with each leaf changed by h
   pub map_networks : {L M : Type 0} → (L → M) → Networks L → Networks M
   map_networks h no_members = no_members
   map_networks h (and_member f fs) = and_member (map_network h f) (map_networks h fs)

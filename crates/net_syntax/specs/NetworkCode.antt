@@ -40,6 +40,7 @@ rest_of _ = gnil
 
 module _ {L : Type 0} (c : Coded L) where
   abbrev mutual
+    -- a network's code: the number of its form, and then its parts
     pub to_code : Network L → Gv
     to_code (arr e) = node 0 (c.code e) gnil gnil gnil
     to_code (seq f g) = node 1 (to_code f) (to_code g) gnil gnil
@@ -61,11 +62,13 @@ module _ {L : Type 0} (c : Coded L) where
     to_code (p_switch r fs e t) = node 17 (c.code r) (to_codes fs) (to_code e) (to_code t)
     to_code (old k) = node 18 (gnum k) gnil gnil gnil
 
+    -- the code of members
     pub to_codes : Networks L → Gv
     to_codes no_members = gnil
     to_codes (and_member f fs) = gcons (to_code f) (to_codes fs)
 
   mutual
+    -- networks with one code are the same
     pub to_code_inj : (x y : Network L) → to_code x ≡ to_code y → x ≡ y
     to_code_inj (arr a) (arr b) e = ap arr (c.inj a b (ap part0 e))
     to_code_inj (seq f g) (seq f' g') e = λ i. seq (to_code_inj f f' (ap part0 e) i) (to_code_inj g g' (ap part1 e) i)
@@ -88,10 +91,12 @@ module _ {L : Type 0} (c : Coded L) where
     to_code_inj (old k) (old k') e = ap old (ap num (ap part0 e))
     to_code_inj _ _ e = absurd (omega (arith, ap tag_of e))
 
+    -- members with one code are the same
     pub to_codes_inj : (x y : Networks L) → to_codes x ≡ to_codes y → x ≡ y
     to_codes_inj no_members no_members e = refl
     to_codes_inj (and_member x fs) (and_member y gs) e = λ i. and_member (to_code_inj x y (ap head_of e) i) (to_codes_inj fs gs (ap rest_of e) i)
     to_codes_inj _ _ e = cc
 
+  -- networks told apart by their codes
   abbrev pub network_code : Coded (Network L)
   network_code = coded_via itself to_code to_code_inj

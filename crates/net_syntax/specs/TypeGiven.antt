@@ -20,7 +20,7 @@ abbrev pub right_type : TypeTree → TypeTree
 right_type (pair_ty A B) = B
 right_type A = A
 
--- under parameters of types Ps, at an input of type A
+-- the type of a typed expression, under parameters of types Ps, at an input of type A
 abbrev pub type_given : List TypeTree → TypeTree → Expression → TypeTree
 type_given Ps A sample = A
 type_given Ps A (parameter k) = type_at Ps k

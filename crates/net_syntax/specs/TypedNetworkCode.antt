@@ -9,6 +9,7 @@ use Rattle.net_syntax.specs.Network.{Network}
 use Rattle.net_syntax.specs.NetworkCode.{network_code}
 use Rattle.net_syntax.specs.Stream.{TypedNetwork}
 
+-- networks with their types, told apart by their codes
 abbrev pub typed_network_code : Coded TypedNetwork
 typed_network_code =
     code_by (TypeTree × (TypeTree × (Network Expression × (ℕ × ℕ)))) (coded× type_code (coded× type_code (coded× (network_code expression_code) (coded× coded_ℕ coded_ℕ))))

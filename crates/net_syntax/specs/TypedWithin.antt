@@ -27,7 +27,7 @@ mutual
     p_switch_within : {Ps : List TypeTree} {Os : List Arrow} {r : L} {fs : Networks L} {e t : Network L} {A B C D : TypeTree} → 1 ≤ members fs → members fs ≤ 64 → M (pair_ty A int_ty) → T r Ps (pair_ty A int_ty) D → AllWithin T M Ps Os fs D B → M (pair_ty A (list_ty B)) → TypedWithin T M Ps Os e (pair_ty A (list_ty B)) (event_ty C) → TypedWithin T M (Ps ++ C ∷ []) (Os ++ copies (members fs) (record { input = D; output = B })) t A (list_ty B) → TypedWithin T M Ps Os (p_switch r fs e t) A (list_ty B)
     old_within : {Ps : List TypeTree} {Os : List Arrow} {k : ℕ} {A B : TypeTree} → OldAt Os k (record { input = A; output = B }) → TypedWithin T M Ps Os (old k) A B
 
-  -- each member has the same types
+  -- the same of members, which all have the same types
   pub data AllWithin {L : Type 0} (T : LeafTyping L) (M : TypeTree → Type 0) : List TypeTree → List Arrow → Networks L → TypeTree → TypeTree → Type 0 where
     no_members_within : {Ps : List TypeTree} {Os : List Arrow} {A B : TypeTree} → AllWithin T M Ps Os no_members A B
     and_member_within : {Ps : List TypeTree} {Os : List Arrow} {f : Network L} {fs : Networks L} {A B : TypeTree} → TypedWithin T M Ps Os f A B → AllWithin T M Ps Os fs A B → AllWithin T M Ps Os (and_member f fs) A B

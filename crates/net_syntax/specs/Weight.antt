@@ -14,7 +14,7 @@ total [] = 0
 total (n ∷ ns) = n + total ns
 
 abbrev mutual
-  -- ws: the weights of the frozen networks in scope
+  -- how many nodes a network has; a resumed one has those of the frozen one too, whose weight is in ws
   pub weight : {L : Type 0} → Network L → List ℕ → ℕ
   weight (seq f g) ws = suc (weight f ws + weight g ws)
   weight (first f) ws = suc (weight f ws)

@@ -36,10 +36,12 @@ read_network size a = read networks size 600 network_sort a.2 >>= (λ g. at_end 
 abbrev pub read_body : ℕ → List Placed → Result (TypeTree × Network Expression) Fault
 read_body size ts = read leaf size 600 type_sort ts >>= read_network size
 
+-- a fault behind the header as a fault of the file
 abbrev pub body_fault : {T : Type 0} → Result T Fault → Result T FileFault
 body_fault (Ok x) = Ok x
 body_fault (Err e) = Err (at e)
 
+-- the type and the network behind the header, where there is one
 abbrev pub read_behind : ℕ → Option (List Placed) → Result (TypeTree × Network Expression) FileFault
 read_behind size None = Err header
 read_behind size (Some ts) = body_fault (read_body size ts)

@@ -14,19 +14,22 @@ use Rattle.net_text.specs.File.{FileFault, header, at, read_file}
 abbrev pub file_of : List ℕ → List ℕ
 file_of bs = codes "yampa 1 input Int " ++ bs
 
+-- the text is that network
 abbrev pub IsNetwork : List ℕ → Network Expression → Type 0
 IsNetwork bs f = read_file (file_of bs) ≡ Ok (int_ty, f)
 
+-- each form of networks
 abbrev pub NetworkRows : Type 0
 NetworkRows =
     IsNetwork (codes "(arr x)") (arr sample)
     × IsNetwork (codes "(iPre 0)") (i_pre (number_literal (pos 0)))
     × IsNetwork (codes "(>>> (arr x) (iPre unit))") (seq (arr sample) (i_pre unit_literal))
 
--- sugar: the written form means what the core form means that it stands for, whatever its part
+-- sugar: `identity` means `(arr x)`
 abbrev pub IdentityIs : Type 0
 IdentityIs = meaning networks network_sort (atom (codes "identity")) ≡ meaning networks network_sort (one (codes "arr") (atom (codes "x")))
 
+-- `(constant e)` means `(arr (then unit e))`
 abbrev pub ConstantIs : Type 0
 ConstantIs = (e : Part) → meaning networks network_sort (one (codes "constant") e) ≡ meaning networks network_sort (one (codes "arr") (two (codes "then") (atom (codes "unit")) e))
 

@@ -11,6 +11,7 @@ pub data NetSort : Type 0 where
   leaf_sort : Sort → NetSort
   network_sort : NetSort
 
+-- what is read at a place of each sort
 abbrev pub NetTree : NetSort → Type 0
 NetTree (leaf_sort s) = Tree s
 NetTree network_sort = Network Expression
@@ -43,9 +44,11 @@ carried_row {R = R} r = record { name = r.name; takes = carried r.takes; makes =
 unfoldable pub net_words : List (List ℕ × Network Expression)
 net_words = (codes "identity", arr sample) ∷ []
 
+-- a row of the grammar that makes a network
 abbrev pub NetRow : Type 0
 NetRow = Row NetSort NetTree (Network Expression)
 
+-- a row of the grammar: the word of a form, its parts, and the network that they make
 abbrev pub row : (w : List ℕ) → (ps : Places NetSort) → Maker NetTree ps (Network Expression) → NetRow
 row w ps make = record { name = w; takes = ps; makes = make }
 
@@ -58,6 +61,7 @@ net_rows =
     ∷ row (codes "constant") (e no_place) (λ c. arr ((then) unit_literal c))
     ∷ []
 
+-- the row of a table that a word begins
 abbrev pub net_row_among : List ℕ → List NetRow → Option NetRow
 net_row_among w [] = None
 net_row_among w (x ∷ xs) = if bytes_eq w x.name then Some x else net_row_among w xs
@@ -72,10 +76,12 @@ unfoldable pub net_row_at : (s : NetSort) → List ℕ → Option (Row NetSort N
 net_row_at (leaf_sort s) w = option_map carried_row (row_at s w)
 net_row_at network_sort w = net_row_among w net_rows
 
+-- whether a tree of the sort may be a form, which begins with a parenthesis
 abbrev pub net_has_form : NetSort → Bool
 net_has_form (leaf_sort s) = has_form s
 net_has_form network_sort = true
 
+-- whether a number may stand where a tree of the sort does
 abbrev pub net_takes_number : NetSort → Bool
 net_takes_number (leaf_sort s) = takes_number s
 net_takes_number network_sort = false

@@ -9,6 +9,7 @@ use Rattle.leaf_expr.specs.Printed.{one, two, three, expression_part, InRange}
 use Rattle.net_syntax.specs.Network.{Network, Networks, arr, seq, first, par, loop_pre, i_pre, delay, hold, accum_by, after, repeatedly, time, integral, switch, d_switch, r_switch, k_switch, p_switch, old, no_members, and_member}
 
 abbrev mutual
+  -- the part that a network is printed as
   pub network_part : Network Expression → Part
   network_part (arr e) = one (codes "arr") (expression_part e)
   network_part (i_pre e) = one (codes "iPre") (expression_part e)
@@ -30,6 +31,7 @@ abbrev mutual
   network_part (p_switch r fs e t) = form (codes "pSwitch") (more (expression_part r) (more (form (codes "col") (network_parts fs)) (more (network_part e) (more (network_part t) last))))
   network_part (old k) = one (codes "old") (atom (decimal k))
 
+  -- the parts that members are printed as
   pub network_parts : Networks Expression → Parts
   network_parts no_members = last
   network_parts (and_member f fs) = more (network_part f) (network_parts fs)

@@ -21,7 +21,7 @@ use Rattle.net_text.specs.declared.fault.NetTextFault.TheVariants as V
 abbrev pub network_at : List ℕ → ℕ → ℕ → Read (Network Expression)
 network_at text room n = read networks (length text) room network_sort (tokens_from n text)
 
--- behind the parenthesis of a form, in the text from byte n on
+-- what is read behind the parenthesis of a form, in the text from byte n on
 abbrev pub form_at : List ℕ → ℕ → ℕ → Read (Network Expression)
 form_at text room n = read_form networks (length text) (read networks (length text) room) room network_sort (tokens_from n text)
 
@@ -33,7 +33,7 @@ row_parts r text room n = read_parts networks (length text) (read networks (leng
 abbrev pub network_left : List ℕ → Net Expr × ℕ → Network Expression × ℕ × List Placed
 network_left text x = (tree_of x.0, x.1, tokens_from x.1 text)
 
--- a fault inside a file
+-- a fault of a tree as a fault of the file that it stands in
 abbrev pub in_file : ExprTextFault → NetTextFault
 in_file (E.Syntax n) = V.Syntax n
 in_file (E.Number n) = V.Number n

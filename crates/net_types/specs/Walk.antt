@@ -51,11 +51,11 @@ abbrev pub as_event : List ℕ → TypeTree → Result TypeTree TypeFault
 as_event P (event_ty A) = Ok A
 as_event P _ = Err (Fault.NotEvent P)
 
--- q is from low to high
+-- the test that q is from low to high
 abbrev pub between : List ℕ → ℕ → ℕ → ℕ → Result Unit TypeFault
 between P low high q = test (leb low q && leb q high) (Fault.Number P)
 
--- 1 to 64 members
+-- the test that there are 1 to 64 members
 abbrev pub counted : {L : Type 0} → List ℕ → Networks L → Result Unit TypeFault
 counted P fs = test (leb 1 (members fs) && leb (members fs) 64) (Fault.Members P)
 

@@ -2,6 +2,7 @@
 use Rattle.std.specs.Prelude.{ℕ, suc, ◌+◌, ℤ, pos, Bool, List, [], ◌∷◌}
 
 mutual
+  -- a value: what a sample holds
   pub data Datum : Type 0 where
     unit : Datum
     truth : Bool → Datum
@@ -52,6 +53,7 @@ abbrev mutual
   datum_size (event v) = suc (datum_size v)
   datum_size (list vs) = suc (datums_size vs)
 
+  -- the same of the elements of a list
   pub datums_size : Datums → ℕ
   datums_size end = 0
   datums_size (more v vs) = suc (datum_size v + datums_size vs)

@@ -8,6 +8,7 @@ use Rattle.sample_core.specs.declared.sample.Sample.TheVariants as V
 use Rattle.sample_core.specs.declared.sample.Child.TheDeep.{deep-Sample}
 use Rattle.sample_core.specs.Seen.{datum_of}
 
+-- a value's depth in the code is at most its size
 pub depth_le : (n : Sample) → max (deep-Sample n) 0 ≤ datum_size (datum_of n)
 depth_le V.Unit = omega arith
 depth_le (V.Bool b) = omega arith
@@ -17,6 +18,7 @@ depth_le V.NoEvent = omega arith
 depth_le (V.Event a) = omega arith
 depth_le (V.List vs) = omega arith
 
+-- each element's depth in the code is at most the size of all elements
 pub depths_le : (ks : List Sample) → most deep-Sample ks ≤ datums_size (of_elements (map datum_of ks))
 depths_le [] = omega arith
 depths_le (k ∷ ks) = omega (arith, depth_le k, depths_le ks)

@@ -5,7 +5,7 @@ use Rattle.sample_core.specs.Datum.{Datum, Datums, unit, truth, number, pair, no
 use Rattle.sample_core.specs.TypeTree.{TypeTree, unit_ty, bool_ty, int_ty, pair_ty, event_ty, list_ty}
 
 mutual
-  -- a number is one of 64 bits, signed; no event and the empty list are of every such type
+  -- a value is of a type: a number has 64 bits, signed; no event and the empty list are of every event and list type
   pub data HasType : Datum → TypeTree → Type 0 where
     unit_has : HasType unit unit_ty
     truth_has : {b : Bool} → HasType (truth b) bool_ty

@@ -42,12 +42,15 @@ behind_byte size b (c ∷ cs) = if nat_eq c b then Ok cs else Err (Fault.NotAVal
 unfoldable pub behind_head : ℕ → List ℕ → List ℕ → Result (List ℕ) ValueFault
 behind_head size name bs = if bytes_eq (form_word bs) name then Ok (after_form bs) else Err (wrong size bs)
 
+-- `unit` at the front, and what is behind it
 unfoldable pub unit_at : ℕ → List ℕ → Result (Datum × List ℕ) ValueFault
 unit_at size bs = if bytes_eq (word_of bs) (codes "unit") then Ok (unit, after_word bs) else Err (wrong size bs)
 
+-- `true` or `false` at the front, and what is behind it
 unfoldable pub truth_at : ℕ → List ℕ → Result (Datum × List ℕ) ValueFault
 truth_at size bs = if bytes_eq (word_of bs) (codes "true") then Ok (truth true, after_word bs) else (if bytes_eq (word_of bs) (codes "false") then Ok (truth false, after_word bs) else Err (wrong size bs))
 
+-- a number of 64 bits at the front, and what is behind it
 unfoldable pub number_at : ℕ → List ℕ → Result (Datum × List ℕ) ValueFault
 number_at size bs = if is_number (word_of bs) then (if is_in_64 (word_of bs) then Ok (number (number_of (word_of bs)), after_word bs) else Err (Fault.NumberRange (size - length bs))) else Err (wrong size bs)
 

@@ -3,6 +3,7 @@ use Rattle.sample_core.specs.Datum.{Datum, unit, truth, number, pair, no_event, 
 use Rattle.sample_core.specs.declared.sample.Sample.{Sample}
 use Rattle.sample_core.specs.declared.sample.Sample.TheVariants as V
 
+-- the value that a `Sample` is
 abbrev pub datum_of : Sample → Datum
 datum_of V.Unit = unit
 datum_of (V.Bool b) = truth b

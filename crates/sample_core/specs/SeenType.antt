@@ -3,6 +3,7 @@ use Rattle.sample_core.specs.TypeTree.{TypeTree, unit_ty, bool_ty, int_ty, pair_
 use Rattle.sample_core.specs.declared.ty.Ty.{Ty}
 use Rattle.sample_core.specs.declared.ty.Ty.TheVariants as V
 
+-- the type that a `Ty` is
 abbrev pub type_of : Ty → TypeTree
 type_of V.Unit = unit_ty
 type_of V.Bool = bool_ty

@@ -1,6 +1,7 @@
 -- Types of values as mathematical trees: what a `Ty` is to every contract.
 use Rattle.std.specs.Prelude.{ℕ, suc, ◌+◌}
 
+-- a type of values
 pub data TypeTree : Type 0 where
   unit_ty : TypeTree
   bool_ty : TypeTree

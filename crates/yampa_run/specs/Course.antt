@@ -16,7 +16,7 @@ use Rattle.yampa_run.specs.declared.fault.StreamFault.TheVariants as S
 use Rattle.yampa_run.specs.declared.fault.RunFault.{RunFault}
 use Rattle.yampa_run.specs.declared.fault.RunFault.TheVariants as U
 
--- a value before the first line there is none; later it is of the type
+-- the value of the line before: none before line 1, and later one of the type
 abbrev pub IsBefore : TypeTree → ℕ → Option Datum → Type 0
 IsBefore A taken None = taken ≡ 0
 IsBefore A taken (Some v) = HasType v A

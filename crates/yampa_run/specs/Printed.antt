@@ -13,21 +13,23 @@ abbrev pub IsMet : StreamFault → Type 0
 IsMet S.Ended = ⊥
 IsMet _ = ⊤
 
+-- a fault that a run answers
 abbrev pub IsAnswered : RunFault → Type 0
 IsAnswered (U.Stream lines fault) = IsMet fault
 IsAnswered _ = ⊤
 
--- what is wrong in line n of the stream
+-- what is printed of line n of the stream: its number, and what is wrong in it
 abbrev pub at_line : ℕ → List ℕ → List ℕ
 at_line n what = codes "stream: line " ++ decimal n ++ codes ": " ++ what
 
--- a faulty value in line n
+-- what is printed of a faulty value in line n
 abbrev pub value_words : ℕ → ValueFault → List ℕ
 value_words n (V.NotAValue at) = at_line n (codes "no value at " ++ decimal at)
 value_words n (V.OtherType at) = at_line n (codes "other type at " ++ decimal at)
 value_words n (V.NumberRange at) = at_line n (codes "number range at " ++ decimal at)
 value_words n V.Memory = codes "memory"
 
+-- what is printed of a fault of the stream
 abbrev pub stream_words : StreamFault → List ℕ
 stream_words (S.Step n) = at_line n (codes "step")
 stream_words (S.Value n fault) = value_words n fault
@@ -45,11 +47,12 @@ line_of (U.Stream lines fault) = stream_words fault
 line_of (U.Write lines) = codes "output: cannot be written"
 line_of (U.Memory lines) = codes "memory"
 
--- a value is faulty in its text, or memory was short
+-- the exit status at a faulty value: 1 for its text, 3 for want of memory
 abbrev pub value_status : ValueFault → ℕ
 value_status V.Memory = 3
 value_status _ = 1
 
+-- the exit status at a fault of the stream
 abbrev pub stream_status : StreamFault → ℕ
 stream_status S.ReadTurns = 3
 stream_status S.Read = 3

@@ -24,6 +24,7 @@ abbrev pub step_at_front : List ℕ → Option (ℕ × List ℕ)
 step_at_front bs =
     followed (is_step (take_while is_ascii_digit bs)) (digits_value 10 (take_while is_ascii_digit bs)) (behind 32 (drop (prefix_len is_ascii_digit bs) bs))
 
+-- the step at the front, and what stands behind it and a space, where there are bytes
 abbrev pub step_if : Option (List ℕ) → Option (ℕ × List ℕ)
 step_if None = None
 step_if (Some bs) = step_at_front bs

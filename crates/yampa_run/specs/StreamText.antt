@@ -25,6 +25,7 @@ abbrev pub with_step : ℕ → Result Datum StreamFault → Result (ℕ × Datum
 with_step d (Ok v) = Ok (d, v)
 with_step d (Err fault) = Err fault
 
+-- whether something is there
 abbrev pub is_some : {T : Type 0} → Option T → Bool
 is_some None = false
 is_some (Some t) = true
@@ -38,6 +39,7 @@ abbrev pub later_line : TypeTree → ℕ → Datum → Option (ℕ × List ℕ) 
 later_line A n before None = Err (S.Step n)
 later_line A n before (Some (d, rest)) = if bytes_eq rest (codes "=") then Ok (d, before) else with_step d (whole_value A n rest)
 
+-- line 1 where no value is before it, else a later line
 abbrev pub line_after : TypeTree → ℕ → Option Datum → List ℕ → Result (ℕ × Datum) StreamFault
 line_after A n None line = first_line A n line
 line_after A n (Some before) line = later_line A n before (stepped line)
@@ -51,6 +53,7 @@ pub record Held : Type 0 where
   pub taken : Timed
   pub fault : Option StreamFault
 
+-- a sample and what the rest holds behind it, or the fault alone
 abbrev pub and_on : Result (ℕ × Datum) StreamFault → (ℕ × Datum → Held) → Held
 and_on (Err fault) rest = record { taken = []; fault = Some fault }
 and_on (Ok x) rest = record { taken = x ∷ (rest x).taken; fault = (rest x).fault }
