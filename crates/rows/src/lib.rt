@@ -9,3 +9,5 @@ mod commands;
 mod refusals;
 #[cfg(test)]
 mod runs;
+#[cfg(test)]
+mod shelf;
