@@ -4,3 +4,4 @@ pub mod Kept
 pub mod Course
 mod Matches
 mod Parsed
+mod Networks
