@@ -10,3 +10,4 @@ pub mod Files
 pub mod CommandLine
 pub mod Refused
 pub mod Preparation
+pub mod CommandRows

@@ -3,6 +3,7 @@
 ghost use Rattle.std.specs.Prelude.{◌≡◌, IfOk, map, option_map, false};
 ghost use Rattle.clap.specs.Words.{app_of, kind_of, shape_of, subcommand_rows_of};
 ghost use Rattle.clap.specs.declared.builder.command.Command.TheViews.{out-Command};
+ghost use Rattle.yampa_run.specs.CommandRows.{AskedRows, HelpRows, NothingRows};
 ghost use Rattle.yampa_run.specs.CommandLine.{Answers, RepliesTo, asked_by, command_line, file_command, seen_request};
 
 use clap::error::{Error, ErrorKind};
@@ -97,3 +98,10 @@ pub fn parse<'a>(alloc: Global, words: &'a [&'a str]) -> Result<Request<'a>, Rep
         Err(error) => Err(reply_to(alloc, &error)?),
     }
 }
+
+/// Command lines, word for word, and what they ask for: a file's types or its run, help, or nothing that is there.
+pub fn command_rows()
+    ensures asked { AskedRows }
+    ensures help { HelpRows }
+    ensures nothing { NothingRows }
+{}

@@ -97,12 +97,7 @@ fn expression_line(
     }
 }
 
-fn place_line(
-    alloc: Global,
-    role: Role,
-    what: &str,
-    position: &Position,
-) -> Result<String, Memory>
+fn place_line(alloc: Global, role: Role, what: &str, position: &Position) -> Result<String, Memory>
     ensures { IfOk result (λ line. string_bytes line ≡ place_words role what.now position.now) }
 {
     let mut line = line_of(alloc, role, what)?;
