@@ -1,6 +1,6 @@
 -- What the matches of a command line ask for.
-use Rattle.std.proofs.Common.{◌≡◌, ◌∙◌, sym, ap, refl, ℕ, List, Option, Some, None, option_map, codes, bytes_eq, Bool, true, false}
-use Rattle.clap.specs.Words.{Row, found_of, first_of, first_value, rows_of, subcommand_rows_of, subcommand_name_of}
+use Rattle.std.proofs.Common.{◌≡◌, ◌∙◌, sym, ap, ℕ, List, Option, Some, None, option_map, codes}
+use Rattle.clap.specs.Words.{found_of, first_value, rows_of, subcommand_rows_of, subcommand_name_of}
 use Rattle.clap.specs.declared.parser.matches.ArgMatches.{ArgMatches}
 use Rattle.clap.specs.declared.parser.matches.ArgMatches.TheViews.{out-ArgMatches}
 use Rattle.clap.specs.Simple.{subcommand_rows}

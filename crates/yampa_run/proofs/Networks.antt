@@ -1,5 +1,5 @@
 -- What a file leads to, and a command line on it.
-use Rattle.std.proofs.Common.{◌≡◌, ◌≢◌, inl, inr, ℕ, List, Option, Some, Ok, Err}
+use Rattle.std.proofs.Common.{◌≡◌, ◌≢◌, inr, ℕ, List, Some, Ok, Err}
 use Rattle.sample_core.specs.TypeTree.{TypeTree}
 use Rattle.leaf_expr.specs.Expression.{Expression}
 use Rattle.net_syntax.specs.Network.{Network}
@@ -11,7 +11,7 @@ use Rattle.net_types.specs.Check.{check}
 use Rattle.net_types.specs.declared.fault.TypeFault.{TypeFault}
 use Rattle.net_types.specs.declared.fault.TypeFault.TheVariants as T
 use Rattle.yampa_run.specs.CommandLine.{Asked, asked}
-use Rattle.yampa_run.specs.Preparation.{HasNoNetwork, IsNetworkIn, IsRefusal, LacksNetwork, RefusesText, RefusesTypes, Told, by_text, by_types, file_of}
+use Rattle.yampa_run.specs.Preparation.{HasNoNetwork, IsNetworkIn, IsRefusal, RefusesText, RefusesTypes, Told, by_text, by_types, file_of}
 use Rattle.yampa_run.specs.declared.preparation.Refusal.{Refusal}
 use Rattle.yampa_run.specs.declared.preparation.Refusal.TheVariants as Refused
 

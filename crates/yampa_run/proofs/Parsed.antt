@@ -1,11 +1,11 @@
 -- What a parse of the program's command line answers.
-use Rattle.std.proofs.Common.{◌≡◌, ◌≢◌, ◌⊎◌, inl, inr, ◌∙◌, sym, ap, refl, ℕ, List, [], ◌∷◌, Option, Some, None, option_map, Bool, true, false, Ok, Err, Result}
+use Rattle.std.proofs.Common.{◌≡◌, ◌≢◌, ◌⊎◌, inl, inr, ◌∙◌, sym, ap, refl, ℕ, List, [], ◌∷◌, Option, None, true, Err}
 use Rattle.clap.specs.Words.{App, HasKind, HasMatchesOf, IsAmong, Kinds, fault_of, is_simple, is_simple_and_free, kind_of, subcommand_of, subcommand_rows_of}
 use Rattle.clap.specs.declared.error.Error.{Error}
 use Rattle.clap.specs.declared.error.kind.ErrorKind.{ErrorKind}
 use Rattle.clap.specs.declared.error.kind.ErrorKind.TheVariants as kind
 use Rattle.clap.specs.declared.parser.matches.ArgMatches.{ArgMatches}
-use Rattle.yampa_run.specs.CommandLine.{Answers, Asked, AsksHelp, AsksNothing, RepliesTo, asked, asked_by, command_line, unless_faulty}
+use Rattle.yampa_run.specs.CommandLine.{ReadsWords, Asked, AsksHelp, AsksNothing, RepliesTo, asked, asked_by, command_line, unless_faulty}
 use Rattle.yampa_run.specs.declared.command.Reply.{Reply}
 use Rattle.yampa_run.specs.declared.command.Reply.TheVariants as R
 
@@ -67,7 +67,7 @@ asks_nothing words k help memory (inl e) = absurd (memory e)
 asks_nothing words k help memory (inr h) = (refused k (fault_of command_line words) h _, only_help k (fault_of command_line words) h help)
 
 -- what is replied to a refusal
-pub replied : (a : App) (words : List (List ℕ)) (error : Error) → a ≡ command_line → (is_simple_and_free a ≡ true → HasKind (fault_of a words) error) → (reply : Reply) → RepliesTo (kind_of error) reply → Answers words (Err reply)
+pub replied : (a : App) (words : List (List ℕ)) (error : Error) → a ≡ command_line → (is_simple_and_free a ≡ true → HasKind (fault_of a words) error) → (reply : Reply) → RepliesTo (kind_of error) reply → ReadsWords words (Err reply)
 replied a words error e free (R.Help text) r = asks_help words (kind_of error) r (among a words error e free)
 replied a words error e free (R.Wrong text) r = asks_nothing words (kind_of error) r.0 r.1 (among a words error e free)
 replied a words error e free R.Memory r = tt

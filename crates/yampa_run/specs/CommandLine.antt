@@ -66,8 +66,8 @@ RepliesTo k (R.Wrong text) = (k ≢ kind.DisplayHelp) × (k ≢ kind.OutOfMemory
 RepliesTo k R.Memory = ⊤
 
 -- a request is what the words ask for; a reply is help that they ask for, or they ask for nothing that is there, or memory was short
-abbrev pub Answers : List (List ℕ) → Result Request Reply → Type 0
-Answers words (Ok request) = asked words ≡ Some (seen_request request)
-Answers words (Err (R.Help text)) = AsksHelp words
-Answers words (Err (R.Wrong text)) = AsksNothing words
-Answers words (Err R.Memory) = ⊤
+abbrev pub ReadsWords : List (List ℕ) → Result Request Reply → Type 0
+ReadsWords words (Ok request) = asked words ≡ Some (seen_request request)
+ReadsWords words (Err (R.Help text)) = AsksHelp words
+ReadsWords words (Err (R.Wrong text)) = AsksNothing words
+ReadsWords words (Err R.Memory) = ⊤

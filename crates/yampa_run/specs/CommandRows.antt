@@ -1,5 +1,5 @@
 -- Command lines, word for word, and what they ask for.
-use Rattle.std.specs.Prelude.{◌≡◌, List, [], ◌∷◌, Some, codes}
+use Rattle.std.specs.Prelude.{◌≡◌, [], ◌∷◌, Some, codes}
 use Rattle.yampa_run.specs.CommandLine.{AsksHelp, AsksNothing, asked, run_of, types_of}
 
 -- what is asked for

@@ -4,7 +4,7 @@ ghost use Rattle.std.specs.Prelude.{◌≡◌, IfOk, map, option_map, false};
 ghost use Rattle.clap.specs.Words.{app_of, kind_of, shape_of, subcommand_rows_of};
 ghost use Rattle.clap.specs.declared.builder.command.Command.TheViews.{out-Command};
 ghost use Rattle.yampa_run.specs.CommandRows.{AskedRows, HelpRows, NothingRows};
-ghost use Rattle.yampa_run.specs.CommandLine.{Answers, RepliesTo, asked_by, command_line, file_command, seen_request};
+ghost use Rattle.yampa_run.specs.CommandLine.{ReadsWords, RepliesTo, asked_by, command_line, file_command, seen_request};
 
 use clap::error::{Error, ErrorKind};
 use clap::{Arg, ArgAction, ArgMatches, Command};
@@ -88,7 +88,7 @@ fn reply_to(alloc: Global, error: &Error) -> Result<Reply, AllocError>
 /// Reads the words of a command line. The first is the program's name. Answers what they ask for; else help, where it
 /// is asked for, or what is wrong with them.
 pub fn parse<'a>(alloc: Global, words: &'a [&'a str]) -> Result<Request<'a>, Reply>
-    ensures { Answers (map (λ w. w.now) words.entry.now) result }
+    ensures { ReadsWords (map (λ w. w.now) words.entry.now) result }
 {
     match make_command(alloc)?.try_get_matches_from(words) {
         Ok(matches) => match request_of(&matches) {

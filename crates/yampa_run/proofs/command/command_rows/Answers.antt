@@ -1,4 +1,4 @@
-use Rattle.std.proofs.Common.{◌≡◌, refl, inl, inr, List, [], ◌∷◌, Some, None, codes}
+use Rattle.std.proofs.Common.{refl, inl}
 use Rattle.clap.proofs.OnLiterals.{clap_on_literals}
 use Rattle.yampa_run.specs.CommandLine.{asked, AsksHelp, AsksNothing}
 use Rattle.yampa_run.proofs.command.command_rows.Goals as goal

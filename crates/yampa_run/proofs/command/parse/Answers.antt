@@ -1,5 +1,4 @@
-use Rattle.std.proofs.Common.{rules, ◌≡◌, ◌∙◌, ap, sym, map, option_map, Some, None, List, ℕ, Bor}
-use Rattle.yampa_run.specs.CommandLine.{Answers, asked_by, seen_request}
+use Rattle.std.proofs.Common.{◌∙◌, sym, map}
 use Rattle.yampa_run.proofs.Parsed.{taken, nothing, replied}
 use Rattle.yampa_run.proofs.command.parse.Goals as goal
 

@@ -1,4 +1,4 @@
-use Rattle.std.proofs.Common.{rules, ◌≡◌, ◌∙◌, ap, sym, option_map, Some, None, List, ℕ}
+use Rattle.std.proofs.Common.{rules, ◌∙◌, ap, sym, option_map, Some, None, List, ℕ}
 use Rattle.yampa_run.specs.CommandLine.{asked_on, seen_request}
 use Rattle.yampa_run.proofs.Matches.{asks}
 use Rattle.yampa_run.proofs.command.request_of.Goals as goal
