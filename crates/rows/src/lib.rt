@@ -11,3 +11,5 @@ mod commands;
 mod refusals;
 #[cfg(test)]
 mod runs;
+#[cfg(test)]
+mod shelf;
