@@ -5,6 +5,7 @@ ghost use Rattle.leaf_table.specs.Rows.{rows_of};
 ghost use Rattle.step_core.specs.Bound.{FitsTable};
 ghost use Rattle.yampa_run.specs.Printed.{IsAnswered};
 
+use crate::scant_runs::pushes_are_refused_in_turn;
 use leaf_table::LeafTable;
 use net_syntax::{TypedNet, leaves};
 use net_text::read_net;
@@ -26,7 +27,7 @@ pub struct Run {
 /// Whether the run goes as it was worked out.
 pub fn goes_so(alloc: Global, run: &Run) -> bool {
     match network(alloc, run.net) {
-        Some(net) => writes_so(alloc, &net, run),
+        Some(net) => ends_well(alloc, &net, &Trial::Run(run)),
         None => false,
     }
 }
@@ -38,7 +39,16 @@ pub fn network(alloc: Global, text: &str) -> Option<TypedNet> {
     }
 }
 
-fn writes_so(alloc: Global, net: &TypedNet, run: &Run) -> bool {
+/// What is tried of a network that is bound to a table of its closures.
+pub enum Trial<'a> {
+    /// That the run goes as it was worked out.
+    Run(&'a Run),
+    /// That its pushes are refused memory at first, and answer in the end.
+    ScantMemory,
+}
+
+/// Whether the trial of the network ends well.
+pub fn ends_well(alloc: Global, net: &TypedNet, trial: &Trial<'_>) -> bool {
     let Ok(needs) = leaves(alloc, net) else {
         return false;
     };
@@ -47,12 +57,15 @@ fn writes_so(alloc: Global, net: &TypedNet, run: &Run) -> bool {
         return false;
     }
     match bind(alloc, net, &table) {
-        Ok(bound) => bound_writes_so(alloc, &bound, &table, run),
+        Ok(bound) => match trial {
+            Trial::Run(run) => writes_so(alloc, &bound, &table, run),
+            Trial::ScantMemory => pushes_are_refused_in_turn(alloc, &bound, &table),
+        },
         Err(_fault) => false,
     }
 }
 
-fn bound_writes_so(alloc: Global, bound: &Bound, table: &LeafTable, run: &Run) -> bool
+fn writes_so(alloc: Global, bound: &Bound, table: &LeafTable, run: &Run) -> bool
     requires { FitsTable (rows_of table.now) bound.now }
 {
     let mut out = Vec::new(alloc);

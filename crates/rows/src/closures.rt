@@ -1,12 +1,13 @@
 // Tables of stored closures.
 
 use crate::bench::{Run, goes_so, network};
+use crate::shelf::refuses;
 use leaf_table::{Leaf, LeafTable, run_general};
 use net_syntax::{LeafNeed, leaves};
 use sample_core::{Sample, same};
 use std::alloc::{AllocError, Global};
 use step_core::{BindFault, bind};
-use yampa_run::fill_table;
+use yampa_run::{fill_table, table_refusal};
 
 /// The most rows of a table.
 const MOST_ROWS: usize = 4096;
@@ -31,7 +32,8 @@ fn large_network(alloc: Global) -> Result<String, AllocError> {
     Ok(text)
 }
 
-/// Whether a table takes the first 4,096 of these needs, then the first of them once more, and then no new one.
+/// Whether a table takes the first 4,096 of these needs, then the first of them once more, and then no new one, which the
+/// program tells.
 fn fills_up(alloc: Global, needs: &[LeafNeed]) -> bool {
     if needs.len() != MOST_ROWS + 1 {
         return false;
@@ -43,7 +45,11 @@ fn fills_up(alloc: Global, needs: &[LeafNeed]) -> bool {
         (&needs[MOST_ROWS..], false),
     ];
     for (batch, taken) in batches {
-        if fill_table!(alloc, table, batch).is_ok() != taken {
+        let right = match fill_table!(alloc, table, batch) {
+            Ok(()) => taken,
+            Err(fault) => !taken && refuses(table_refusal(alloc, fault), 1, "table full"),
+        };
+        if !right {
             return false;
         }
     }

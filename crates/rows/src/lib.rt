@@ -2,6 +2,8 @@
 #![tactic(auto)]
 
 #[cfg(test)]
+mod ballast;
+#[cfg(test)]
 mod bench;
 #[cfg(test)]
 mod closures;
@@ -25,6 +27,8 @@ mod refusals;
 mod runs;
 #[cfg(test)]
 mod scant_memory;
+#[cfg(test)]
+mod scant_runs;
 #[cfg(test)]
 mod shapes;
 #[cfg(test)]

@@ -42,7 +42,8 @@ fn does(job: Job, line: &str) -> bool {
     }
 }
 
-fn refuses(refusal: Refusal, wanted_status: u8, wanted: &str) -> bool {
+/// Whether the refusal has that status and line.
+pub fn refuses(refusal: Refusal, wanted_status: u8, wanted: &str) -> bool {
     match refusal {
         Refusal::Line { status, line } => status == wanted_status && line.as_str() == wanted,
         Refusal::Memory => false,

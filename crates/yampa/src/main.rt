@@ -9,7 +9,7 @@ ghost use Rattle.yampa_run.specs.Printed.{IsAnswered};
 mod host;
 
 use host::HostFiles;
-use leaf_table::{LeafTable, TableFault};
+use leaf_table::LeafTable;
 use net_syntax::{TypedNet, leaves};
 use sample_core::Memory;
 use std::alloc::Global;
@@ -17,10 +17,9 @@ use std::env;
 use std::io::{self, ErrorKind, Read, Write};
 use std::process::ExitCode;
 use step_core::{BindFault, Bound, bind};
-use yampa_run::{Job, Refusal, RunFault, StreamFault, fault_line, fill_table, prepare, run_whole};
-
-/// The status of a program that refuses a file, a stream or a network of too many expressions.
-const REFUSED: u8 = 1;
+use yampa_run::{
+    Job, Refusal, RunFault, StreamFault, fault_line, fill_table, prepare, run_whole, table_refusal,
+};
 
 /// The status of a program that could not read, write or get memory.
 const BROKEN: u8 = 3;
@@ -32,8 +31,7 @@ fn main(rt: HostRuntime) -> ExitCode {
             Err(fault) => tell(&rt, &fault),
         },
         Ok(Job::Run(net)) => run(&rt, &net),
-        Err(Refusal::Line { status, line }) => complain(&rt, status, &line),
-        Err(Refusal::Memory) => complain(&rt, BROKEN, "memory"),
+        Err(refusal) => refuse(&rt, &refusal),
     };
     ExitCode::from(status)
 }
@@ -79,10 +77,8 @@ fn run(rt: &HostRuntime, net: &TypedNet) -> u8 {
         Err(Memory) => return complain(rt, BROKEN, "memory"),
     };
     let mut table = LeafTable::new(rt.alloc());
-    match fill_table!(rt.alloc(), table, &needs) {
-        Ok(()) => {}
-        Err(TableFault::Full) => return complain(rt, REFUSED, "table full"),
-        Err(TableFault::Memory) => return complain(rt, BROKEN, "memory"),
+    if let Err(fault) = fill_table!(rt.alloc(), table, &needs) {
+        return refuse(rt, &table_refusal(rt.alloc(), fault));
     }
     match bind(rt.alloc(), net, &table) {
         Ok(bound) => run_bound(rt, &bound, &table),
@@ -147,6 +143,14 @@ fn tell(rt: &HostRuntime, fault: &RunFault) -> u8
     match fault_line(rt.alloc(), fault) {
         Ok((status, line)) => complain(rt, status, &line),
         Err(Memory) => complain(rt, BROKEN, "memory"),
+    }
+}
+
+/// Prints why nothing is done. Answers the exit status.
+fn refuse(rt: &HostRuntime, refusal: &Refusal) -> u8 {
+    match refusal {
+        Refusal::Line { status, line } => complain(rt, *status, line),
+        Refusal::Memory => complain(rt, BROKEN, "memory"),
     }
 }
 

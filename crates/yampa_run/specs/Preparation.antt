@@ -13,6 +13,8 @@ use Rattle.net_text.specs.declared.fault.NetTextFault.TheVariants as V
 use Rattle.net_types.specs.Check.{check}
 use Rattle.net_types.specs.declared.fault.TypeFault.{TypeFault}
 use Rattle.net_types.specs.declared.fault.TypeFault.TheVariants as T
+use Rattle.leaf_table.specs.declared.fault.TableFault.{TableFault}
+use Rattle.leaf_table.specs.declared.fault.TableFault.TheVariants as A
 use Rattle.yampa_run.specs.CommandLine.{Asked, types_of, run_of, asked, AsksHelp, AsksNothing}
 use Rattle.yampa_run.specs.Refused.{text_words, type_words, unread_words}
 use Rattle.yampa_run.specs.declared.preparation.Job.{Job}
@@ -98,3 +100,9 @@ pub record LacksNetwork (told : Told) (words : List (List ℕ)) (refusal : Refus
 abbrev pub IsRefusal : Told → List (List ℕ) → Refusal → Type 0
 IsRefusal told words (Refused.Line status line) = ((status ≡ 2) × AsksNothing words) ⊎ LacksNetwork told words (Refused.Line status line)
 IsRefusal told words Refused.Memory = ⊤
+
+-- a refusal for a table that takes no more: its line with status 1 where it is full, or memory was short
+abbrev pub RefusesTable : TableFault → Refusal → Type 0
+RefusesTable A.Full (Refused.Line status line) = (status ≡ 1) × (string_bytes line ≡ codes "table full")
+RefusesTable A.Memory (Refused.Line status line) = ⊥
+RefusesTable fault Refused.Memory = ⊤

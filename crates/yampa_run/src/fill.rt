@@ -1,11 +1,26 @@
 //! Filling a table of stored closures. The closures are boxed in the caller's body, one for each shape of expression.
 
+ghost use Rattle.yampa_run.specs.Preparation.{RefusesTable};
+
+use crate::preparation::Refusal;
+use std::alloc::Global;
+
 pub use leaf_expr::{LeafKey, Shape, shape_of};
 pub use leaf_table::{
     Leaf, TableFault, run_affine, run_below, run_constant, run_general, run_identity, run_left,
     run_right, run_swap, run_wrap,
 };
 pub use sample_core::{Sample, Ty};
+
+/// The refusal of a network that has more expressions than a table has rows, or for want of memory.
+pub fn table_refusal(alloc: Global, fault: TableFault) -> Refusal
+    ensures { RefusesTable fault result }
+{
+    match (fault, String::from_str(alloc, "table full")) {
+        (TableFault::Full, Ok(line)) => Refusal::Line { status: 1, line },
+        _ => Refusal::Memory,
+    }
+}
 
 /// The closure that calls a function on its parts and the arguments, boxed, as the leaf of a key; or `Memory`.
 /// A part of `fill_row!`.

@@ -16,6 +16,7 @@ mod text_lines;
 pub use command::command_rows;
 pub use fault::{RunFault, RunReport, StreamFault};
 pub use files::{FileFault, Files};
+pub use fill::table_refusal;
 pub use preparation::{Job, Refusal, prepare};
 pub use printed::fault_line;
 pub use run::run_whole;
