@@ -6,13 +6,14 @@ ghost use Rattle.step_core.specs.Bound.{FitsTable};
 ghost use Rattle.yampa_run.specs.Printed.{IsAnswered};
 
 use crate::scant_runs::pushes_are_refused_in_turn;
-use leaf_table::LeafTable;
+use crate::shelf::refuses;
+use leaf_table::{LeafTable, TableFault};
 use net_syntax::{TypedNet, leaves};
 use net_text::read_net;
 use net_types::check_types;
 use std::alloc::Global;
 use step_core::{Bound, bind};
-use yampa_run::{RunFault, RunReport, fault_line, fill_table, run_whole};
+use yampa_run::{RunFault, RunReport, fault_line, fill_table, run_whole, table_refusal};
 
 /// A run that was worked out: a network file, a stream, what is written, and the exit status with the line that tells
 /// why the run ended early.
@@ -27,7 +28,7 @@ pub struct Run {
 /// Whether the run goes as it was worked out.
 pub fn goes_so(alloc: Global, run: &Run) -> bool {
     match network(alloc, run.net) {
-        Some(net) => ends_well(alloc, &net, &Trial::Run(run)),
+        Some(net) => ends_well(alloc, &net, Trial::Run(run)),
         None => false,
     }
 }
@@ -40,26 +41,41 @@ pub fn network(alloc: Global, text: &str) -> Option<TypedNet> {
 }
 
 /// What is tried of a network that is bound to a table of its closures.
+#[derive(Clone, Copy)]
 pub enum Trial<'a> {
     /// That the run goes as it was worked out.
     Run(&'a Run),
     /// That its pushes are refused memory at first, and answer in the end.
     ScantMemory,
+    /// That the table is full before each of its expressions has a row, and the program tells it.
+    FullTable,
 }
 
 /// Whether the trial of the network ends well.
-pub fn ends_well(alloc: Global, net: &TypedNet, trial: &Trial<'_>) -> bool {
+pub fn ends_well(alloc: Global, net: &TypedNet, trial: Trial<'_>) -> bool {
     let Ok(needs) = leaves(alloc, net) else {
         return false;
     };
     let mut table = LeafTable::new(alloc);
-    if fill_table!(alloc, table, &needs).is_err() {
-        return false;
+    match fill_table!(alloc, table, &needs) {
+        Ok(()) => binds_well(alloc, net, &table, trial),
+        Err(fault) => is_full(alloc, fault, trial),
     }
-    match bind(alloc, net, &table) {
+}
+
+fn is_full(alloc: Global, fault: TableFault, trial: Trial<'_>) -> bool {
+    match trial {
+        Trial::FullTable => refuses(table_refusal(alloc, fault), 1, "table full"),
+        _ => false,
+    }
+}
+
+fn binds_well(alloc: Global, net: &TypedNet, table: &LeafTable, trial: Trial<'_>) -> bool {
+    match bind(alloc, net, table) {
         Ok(bound) => match trial {
-            Trial::Run(run) => writes_so(alloc, &bound, &table, run),
-            Trial::ScantMemory => pushes_are_refused_in_turn(alloc, &bound, &table),
+            Trial::Run(run) => writes_so(alloc, &bound, table, run),
+            Trial::ScantMemory => pushes_are_refused_in_turn(alloc, &bound, table),
+            Trial::FullTable => false,
         },
         Err(_fault) => false,
     }

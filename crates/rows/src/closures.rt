@@ -1,13 +1,11 @@
 // Tables of stored closures.
 
-use crate::bench::{Run, goes_so, network};
-use crate::shelf::refuses;
-use leaf_table::{Leaf, LeafTable, run_general};
+use crate::bench::{Run, Trial, ends_well, goes_so, network};
+use leaf_table::{Leaf, LeafTable, TableFault, run_general};
 use net_syntax::{LeafNeed, leaves};
 use sample_core::{Sample, same};
 use std::alloc::{AllocError, Global};
 use step_core::{BindFault, bind};
-use yampa_run::{fill_table, table_refusal};
 
 /// The most rows of a table.
 const MOST_ROWS: usize = 4096;
@@ -32,22 +30,40 @@ fn large_network(alloc: Global) -> Result<String, AllocError> {
     Ok(text)
 }
 
-/// Whether a table takes the first 4,096 of these needs, then the first of them once more, and then no new one, which the
-/// program tells.
-fn fills_up(alloc: Global, needs: &[LeafNeed]) -> bool {
-    if needs.len() != MOST_ROWS + 1 {
-        return false;
+/// The need that is stored at this step: each of the first 4,096, then the first of them once more, then the last.
+fn at_step(step: usize) -> usize {
+    if step < MOST_ROWS {
+        step
+    } else if step == MOST_ROWS {
+        0
+    } else {
+        MOST_ROWS
     }
+}
+
+/// Whether a table takes a closure for each of 4,096 needs, for a key that is there too, and then for no new one.
+fn fills_up(alloc: Global, needs: &[LeafNeed]) -> bool {
     let mut table = LeafTable::new(alloc);
-    let batches = [
-        (&needs[..MOST_ROWS], true),
-        (&needs[..1], true),
-        (&needs[MOST_ROWS..], false),
-    ];
-    for (batch, taken) in batches {
-        let right = match fill_table!(alloc, table, batch) {
-            Ok(()) => taken,
-            Err(fault) => !taken && refuses(table_refusal(alloc, fault), 1, "table full"),
+    for step in 0..MOST_ROWS + 2 {
+        let Some(need) = needs.get(at_step(step)) else {
+            return false;
+        };
+        let (Ok(key), Ok(own), Ok(output)) = (
+            need.key.try_copy(alloc),
+            need.key.try_copy(alloc),
+            need.output.try_copy(alloc),
+        ) else {
+            return false;
+        };
+        let run = match Box::new(alloc, move |params: &[Sample], x: &Sample| {
+            run_general(alloc, &own, params, x)
+        }) {
+            Ok(run) => run,
+            Err(_) => return false,
+        };
+        let right = match table.add(Leaf::new(key, output, run)) {
+            Ok(_id) => step <= MOST_ROWS,
+            Err((_leaf, fault)) => step > MOST_ROWS && fault == TableFault::Full,
         };
         if !right {
             return false;
@@ -62,7 +78,7 @@ fn large_fills_up(alloc: Global) -> bool {
     };
     match network(alloc, text.as_str()) {
         Some(net) => match leaves(alloc, &net) {
-            Ok(needs) => fills_up(alloc, &needs),
+            Ok(needs) => needs.len() == MOST_ROWS + 1 && fills_up(alloc, &needs),
             Err(_memory) => false,
         },
         None => false,
@@ -72,6 +88,21 @@ fn large_fills_up(alloc: Global) -> bool {
 #[test]
 fn a_table_has_4096_rows(rt: HostRuntime) {
     assert!(rt; large_fills_up(rt.alloc()));
+}
+
+fn large_is_refused(alloc: Global) -> bool {
+    let Ok(text) = large_network(alloc) else {
+        return false;
+    };
+    match network(alloc, text.as_str()) {
+        Some(net) => ends_well(alloc, &net, Trial::FullTable),
+        None => false,
+    }
+}
+
+#[test]
+fn a_network_of_more_expressions_is_refused(rt: HostRuntime) {
+    assert!(rt; large_is_refused(rt.alloc()));
 }
 
 /// Whether the network, bound to an empty table, is refused at this position.

@@ -64,7 +64,7 @@ pub fn pushes_are_refused_in_turn(alloc: Global, bound: &Bound, table: &LeafTabl
 
 fn pairs_are_refused_in_turn(alloc: Global) -> bool {
     match network(alloc, PAIRS) {
-        Some(net) => ends_well(alloc, &net, &Trial::ScantMemory),
+        Some(net) => ends_well(alloc, &net, Trial::ScantMemory),
         None => false,
     }
 }
