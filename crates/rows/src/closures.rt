@@ -11,7 +11,8 @@ use yampa_run::fill_table;
 /// The most rows of a table.
 const MOST_ROWS: usize = 4096;
 
-/// Adds `2^depth` different expressions to the text of a network, the first of them with this number.
+/// Adds `2^depth` different expressions to the text of a network, the first of them with this
+/// number.
 fn push_tree(text: &mut String, number: u32, depth: u32) -> Result<(), AllocError> {
     if depth == 0 {
         return write!(text, "(arr (add x {number}))");
@@ -31,7 +32,8 @@ fn large_network(alloc: Global) -> Result<String, AllocError> {
     Ok(text)
 }
 
-/// Whether a table takes the first 4,096 of these needs, then the first of them once more, and then no new one.
+/// Whether a table takes the first 4,096 of these needs, then the first of them once more, and
+/// then no new one.
 fn fills_up(alloc: Global, needs: &[LeafNeed]) -> bool {
     if needs.len() != MOST_ROWS + 1 {
         return false;
@@ -86,7 +88,8 @@ fn names_the_first_expression_without_a_row(rt: HostRuntime) {
     assert!(rt; misses(rt.alloc(), text, &[0, 0]));
 }
 
-/// One network of one expression for each shape that has a closure of its own, and one for all others.
+/// One network of one expression for each shape that has a closure of its own, and one for all
+/// others.
 static SHAPES: [Run; 13] = [
     Run {
         net: "yampa 1 input Int (arr x)",

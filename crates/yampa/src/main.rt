@@ -1,4 +1,5 @@
-//! The program: hands the words, the files and the standard streams to `yampa_run`, and prints what it answers.
+//! The program: hands the words, the files and the standard streams to `yampa_run`, and prints
+//! what it answers.
 #![tactic(auto)]
 
 ghost use Rattle.std.specs.Prelude.{IfErr};

@@ -1,4 +1,8 @@
-//! Filling a table of stored closures. The closures are boxed in the caller's body, one for each shape of expression.
+//! Filling a table of stored closures. The closures are boxed in the caller's body, one for each
+//! shape of expression.
+//!
+//! The module is public for its macros alone: what they write in the caller's body names its
+//! items.
 
 pub use leaf_expr::{LeafKey, Shape, shape_of};
 pub use leaf_table::{
@@ -7,8 +11,8 @@ pub use leaf_table::{
 };
 pub use sample_core::{Sample, Ty};
 
-/// The closure that calls a function on its parts and the arguments, boxed, as the leaf of a key; or `Memory`.
-/// A part of `fill_row!`.
+/// The leaf of a key: the closure, boxed, that calls a function on its parts and the arguments.
+/// `Memory` where a growth was refused. A part of `fill_row!`.
 #[macro_export]
 macro_rules! boxed_leaf {
     ($alloc:ident, $key:ident, $output:ident, $run:ident $(, $part:expr)*) => {
@@ -28,8 +32,13 @@ macro_rules! boxed_leaf {
     };
 }
 
-/// Adds a row for a key, whose expression is of the output's type: `fill_row!(alloc, table, key, output)` is a
+/// Adds a row for a key, whose expression must be of the output's type:
+/// `fill_row!(alloc, table, key, output)`, with the table as a place, is a
 /// `Result<LeafId, TableFault>`. It matches the expression's shape and boxes one of nine closures.
+/// Where the key has a row already, it answers that row.
+///
+/// `Full`: the key is new, and the table has 4,096 rows. `Memory`: a growth was refused. The table
+/// is then as it was.
 #[macro_export]
 macro_rules! fill_row {
     ($alloc:expr, $table:expr, $key:expr, $output:expr) => {{
@@ -73,8 +82,12 @@ macro_rules! fill_row {
     }};
 }
 
-/// Adds a row for each need of a network: `fill_table!(alloc, table, needs)`, with the needs as a slice or a borrowed
-/// vector, is a `Result<(), TableFault>`. It stops at the first need that the table doesn't take.
+/// Adds a row for each need of a network: `fill_table!(alloc, table, needs)`, with the table as a
+/// place and the needs as a slice or a borrowed vector, is a `Result<(), TableFault>`. Needs of
+/// the same key share a row.
+///
+/// It stops at the first need that the table doesn't take; the rows of the needs before it stay.
+/// `Full`: the key is new, and the table has 4,096 rows. `Memory`: a growth was refused.
 #[macro_export]
 macro_rules! fill_table {
     ($alloc:expr, $table:expr, $needs:expr) => {{
