@@ -11,9 +11,7 @@ use net_text::read_net;
 use net_types::check_types;
 use std::alloc::Global;
 use step_core::{Bound, bind};
-use yampa_run::{
-    FileFault, Files, Job, Refusal, RunFault, RunReport, fault_line, fill_table, prepare, run_whole,
-};
+use yampa_run::{RunFault, RunReport, fault_line, fill_table, run_whole};
 
 /// A run that was worked out.
 pub struct Run {
@@ -76,51 +74,5 @@ fn ends_so(alloc: Global, ended: Result<RunReport, RunFault>, run: &Run) -> bool
             Ok((status, line)) => status == run.status && line.as_str() == run.line,
             Err(_memory) => false,
         },
-    }
-}
-
-/// One file, called `net`.
-#[derive(Drop)]
-struct OneFile<'a> {
-    bytes: &'a [u8],
-}
-
-impl Files for OneFile<'_> {
-    ghost use Rattle.std.specs.Prelude.{None};
-
-    ghost told = { λ files name. None };
-
-    fn read(&self, alloc: Global, name: &str) -> Result<Vec<u8>, FileFault> {
-        if name != "net" {
-            return Err(FileFault::Unread);
-        }
-        match self.bytes.to_vec(alloc) {
-            Ok(bytes) => Ok(bytes),
-            Err(_) => Err(FileFault::Memory),
-        }
-    }
-}
-
-/// Whether the command line on one file, called `net`, leads to a run (status 0, line `run`), to
-/// that text (status 0), or to a refusal with that status and line.
-pub fn leads_to(alloc: Global, words: &[&str], bytes: &[u8], status: u8, line: &str) -> bool {
-    let files = OneFile { bytes };
-    match prepare(alloc, words, &files) {
-        Ok(job) => status == 0 && does(job, line),
-        Err(refusal) => refuses(refusal, status, line),
-    }
-}
-
-fn does(job: Job, line: &str) -> bool {
-    match job {
-        Job::Print(text) => text.as_str() == line,
-        Job::Run(_net) => line == "run",
-    }
-}
-
-fn refuses(refusal: Refusal, wanted_status: u8, wanted: &str) -> bool {
-    match refusal {
-        Refusal::Line { status, line } => status == wanted_status && line.as_str() == wanted,
-        Refusal::Memory => false,
     }
 }

@@ -28,7 +28,10 @@ const BROKEN: u8 = 3;
 
 fn main(rt: HostRuntime) -> ExitCode {
     let status = match job(&rt) {
-        Ok(Job::Print(text)) => print(&rt, text.as_bytes()),
+        Ok(Job::Print(text)) => match print(&rt, text.as_bytes()) {
+            Ok(()) => 0,
+            Err(fault) => tell(&rt, &fault),
+        },
         Ok(Job::Run(net)) => run(&rt, &net),
         Err(Refusal::Line { status, line }) => complain(&rt, status, &line),
         Err(Refusal::Memory) => complain(&rt, BROKEN, "memory"),
@@ -99,12 +102,14 @@ fn run_bound(rt: &HostRuntime, bound: &Bound, table: &LeafTable) -> u8
         Err(fault) => return tell(rt, &fault),
     };
     let mut out = Vec::new(rt.alloc());
-    match run_whole(rt.alloc(), bound, table, &stream, &mut out) {
-        Ok(_) => print(rt, &out),
-        Err(fault) => match print(rt, &out) {
-            0 => tell(rt, &fault),
-            status => status,
+    let ended = run_whole(rt.alloc(), bound, table, &stream, &mut out);
+    // The lines before a fault are printed first.
+    match print(rt, &out) {
+        Ok(()) => match ended {
+            Ok(_) => 0,
+            Err(fault) => tell(rt, &fault),
         },
+        Err(fault) => tell(rt, &fault),
     }
 }
 
@@ -125,12 +130,14 @@ fn read_stream(rt: &HostRuntime) -> Result<Vec<u8>, RunFault>
     }
 }
 
-/// Prints the bytes on standard output. Answers the exit status.
-fn print(rt: &HostRuntime, bytes: &[u8]) -> u8 {
+/// Prints the bytes on standard output. How many lines a refused write printed isn't known, and isn't told.
+fn print(rt: &HostRuntime, bytes: &[u8]) -> Result<(), RunFault>
+    ensures { IfErr result IsAnswered }
+{
     let mut stdout = rt.stdout();
     match stdout.write_all(bytes).and_then(|()| stdout.flush()) {
-        Ok(()) => 0,
-        Err(_) => tell(rt, &RunFault::Write { lines: 0 }),
+        Ok(()) => Ok(()),
+        Err(_) => Err(RunFault::Write { lines: 0 }),
     }
 }
 

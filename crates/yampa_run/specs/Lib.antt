@@ -6,3 +6,7 @@ pub mod StreamText
 pub mod Output
 pub mod Course
 pub mod Files
+pub mod CommandLine
+pub mod Refused
+pub mod Preparation
+pub mod CommandRows

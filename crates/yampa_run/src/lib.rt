@@ -13,6 +13,7 @@ mod step_text;
 mod stream_text;
 mod text_lines;
 
+pub use command::command_rows;
 pub use fault::{RunFault, RunReport, StreamFault};
 pub use files::{FileFault, Files};
 pub use preparation::{Job, Refusal, prepare};

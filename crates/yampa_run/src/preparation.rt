@@ -1,5 +1,8 @@
 // From the words of a command line to what is to be done.
 
+ghost use Rattle.std.specs.Prelude.{◌≡◌, IfErr, IfOk, Some, map, string_bytes};
+ghost use Rattle.yampa_run.specs.Preparation.{HasNoNetwork, IsAsked, IsNetworkIn, IsNetworkOf, IsRefusal, RefusesText, RefusesTypes, types_lines};
+
 use crate::command::{Reply, Request, parse};
 use crate::files::{FileFault, Files};
 use crate::refused::{Role, text_line, type_line, unread_line};
@@ -7,7 +10,7 @@ use net_syntax::TypedNet;
 use net_text::{NetTextFault, read_net};
 use net_types::{TypeFault, check_types};
 use sample_core::{Memory, push_type};
-use std::alloc::{AllocError, Global};
+use std::alloc::Global;
 
 /// What is to be done.
 #[derive(Drop)]
@@ -28,20 +31,23 @@ pub enum Refusal {
 }
 
 impl From<Memory> for Refusal {
-    fn from(_: Memory) -> Refusal {
-        Refusal::Memory
-    }
-}
+    ghost use Rattle.std.specs.Prelude.{◌≡◌};
+    ghost use Rattle.yampa_run.specs.declared.preparation.Refusal.TheVariants as Refused;
 
-impl From<AllocError> for Refusal {
-    fn from(_: AllocError) -> Refusal {
+    ghost from_gives = { λ _ e. e ≡ Refused.Memory };
+
+    fn from(_: Memory) -> Refusal {
         Refusal::Memory
     }
 }
 
 /// Reads the words of a command line, of which the first is the program's name, and the files that they name.
 /// Answers the text that is to be printed or the network that is to be run; else the first refusal.
-pub fn prepare<F: Files>(alloc: Global, words: &[&str], files: &F) -> Result<Job, Refusal> {
+pub fn prepare<F: Files>(alloc: Global, words: &[&str], files: &F) -> Result<Job, Refusal>
+    // A network is run only where the words ask for a run of a file, and where its bytes are told, it is their typed network.
+    ensures asked { IfOk result (IsAsked (F.told files.now) (map (λ w. w.now) words.now)) }
+    ensures refused { IfErr result (IsRefusal (F.told files.now) (map (λ w. w.now) words.now)) }
+{
     match parse(alloc, words) {
         Ok(Request::Types { net }) => Ok(Job::Print(types(alloc, &load(alloc, net, files)?)?)),
         Ok(Request::Run { net }) => Ok(Job::Run(load(alloc, net, files)?)),
@@ -51,36 +57,66 @@ pub fn prepare<F: Files>(alloc: Global, words: &[&str], files: &F) -> Result<Job
     }
 }
 
-/// The network of a file with its types.
-fn load<F: Files>(alloc: Global, name: &str, files: &F) -> Result<TypedNet, Refusal> {
-    let bytes = match files.read(alloc, name) {
-        Ok(bytes) => bytes,
-        Err(FileFault::Memory) => return Err(Refusal::Memory),
-        Err(FileFault::Unread) => {
-            let line = unread_line(alloc, Role::Network)?;
-            return Err(Refusal::Line { status: 3, line });
-        }
-    };
-    let (input, net) = match read_net(alloc, &bytes) {
+/// The network of the file of that name, with its types.
+fn load<F: Files>(alloc: Global, name: &str, files: &F) -> Result<TypedNet, Refusal>
+    ensures network { IfOk result (IsNetworkOf (F.told files.now name.now)) }
+    ensures refused { IfErr result (HasNoNetwork (F.told files.now name.now)) }
+{
+    match files.read(alloc, name) {
+        Ok(bytes) => network_of(alloc, &bytes),
+        Err(FileFault::Memory) => Err(Refusal::Memory),
+        Err(FileFault::Unread) => Err(Refusal::Line {
+            status: 3,
+            line: unread_line(alloc, Role::Network)?,
+        }),
+    }
+}
+
+/// The network of a file with those bytes, with its types.
+fn network_of(alloc: Global, bytes: &[u8]) -> Result<TypedNet, Refusal>
+    ensures network { IfOk result (IsNetworkIn bytes.now) }
+    ensures refused { IfErr result (HasNoNetwork (Some bytes.now)) }
+{
+    let (input, net) = match read_net(alloc, bytes) {
         Ok(read) => read,
-        Err(NetTextFault::Memory) => return Err(Refusal::Memory),
-        Err(fault) => {
-            let line = text_line(alloc, Role::Network, &fault)?;
-            return Err(Refusal::Line { status: 1, line });
-        }
+        Err(fault) => return Err(text_refusal(alloc, &fault)?),
     };
     match check_types(alloc, input, net) {
         Ok(typed) => Ok(typed),
-        Err(TypeFault::Memory) => Err(Refusal::Memory),
-        Err(fault) => {
-            let line = type_line(alloc, Role::Network, &fault)?;
-            Err(Refusal::Line { status: 1, line })
-        }
+        Err(fault) => Err(type_refusal(alloc, &fault)?),
+    }
+}
+
+/// The refusal of a file for its text.
+fn text_refusal(alloc: Global, fault: &NetTextFault) -> Result<Refusal, Memory>
+    ensures { IfOk result (RefusesText fault.now) }
+{
+    match fault {
+        NetTextFault::Memory => Ok(Refusal::Memory),
+        fault => Ok(Refusal::Line {
+            status: 1,
+            line: text_line(alloc, Role::Network, fault)?,
+        }),
+    }
+}
+
+/// The refusal of a file for its network's types.
+fn type_refusal(alloc: Global, fault: &TypeFault) -> Result<Refusal, Memory>
+    ensures { IfOk result (RefusesTypes fault.now) }
+{
+    match fault {
+        TypeFault::Memory => Ok(Refusal::Memory),
+        fault => Ok(Refusal::Line {
+            status: 1,
+            line: type_line(alloc, Role::Network, fault)?,
+        }),
     }
 }
 
 /// The lines of the command `types`.
-fn types(alloc: Global, net: &TypedNet) -> Result<String, Memory> {
+fn types(alloc: Global, net: &TypedNet) -> Result<String, Memory>
+    ensures { IfOk result (λ text. string_bytes text ≡ types_lines net.now) }
+{
     let mut text = String::new(alloc);
     push_type(&mut text, net.input())?;
     text.push_str(" -> ")?;

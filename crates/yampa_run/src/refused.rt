@@ -1,5 +1,8 @@
 // What the program prints of a file that is refused.
 
+ghost use Rattle.std.specs.Prelude.{◌≡◌, codes, IfOk, string_bytes};
+ghost use Rattle.yampa_run.specs.Refused.{byte_words, expression_words, line_on, place_words, role_word, text_words, type_words, unread_words};
+
 use leaf_expr::ExprFault;
 use net_syntax::{Position, push_position};
 use net_text::NetTextFault;
@@ -16,25 +19,33 @@ pub enum Role {
 
 impl Role {
     /// The word that begins each line on the file.
-    fn word(self) -> &'static str {
+    fn word(self) -> &'static str
+        ensures { result.now ≡ role_word self }
+    {
         match self {
             Role::Network => "network",
         }
     }
 }
 
-fn line_of(alloc: Global, role: Role, what: &str) -> Result<String, Memory> {
+fn line_of(alloc: Global, role: Role, what: &str) -> Result<String, Memory>
+    ensures { IfOk result (λ line. string_bytes line ≡ line_on role what.now) }
+{
     let role = role.word();
     Ok(format!(in alloc; "{role}: {what}")?)
 }
 
 /// The line on a file that can't be read.
-pub fn unread_line(alloc: Global, role: Role) -> Result<String, Memory> {
+pub fn unread_line(alloc: Global, role: Role) -> Result<String, Memory>
+    ensures { IfOk result (λ line. string_bytes line ≡ unread_words role) }
+{
     line_of(alloc, role, "cannot be read")
 }
 
 /// The line on a file whose text is refused.
-pub fn text_line(alloc: Global, role: Role, fault: &NetTextFault) -> Result<String, Memory> {
+pub fn text_line(alloc: Global, role: Role, fault: &NetTextFault) -> Result<String, Memory>
+    ensures { IfOk result (λ line. string_bytes line ≡ text_words role fault.now) }
+{
     match fault {
         NetTextFault::Header => line_of(alloc, role, "header"),
         NetTextFault::Syntax { at } => byte_line(alloc, role, "syntax", *at),
@@ -45,23 +56,19 @@ pub fn text_line(alloc: Global, role: Role, fault: &NetTextFault) -> Result<Stri
     }
 }
 
-fn byte_line(alloc: Global, role: Role, what: &str, at: usize) -> Result<String, Memory> {
+fn byte_line(alloc: Global, role: Role, what: &str, at: usize) -> Result<String, Memory>
+    ensures { IfOk result (λ line. string_bytes line ≡ byte_words role what.now at) }
+{
     let role = role.word();
     Ok(format!(in alloc; "{role}: {what} at byte {at}")?)
 }
 
 /// The line on a network that has no types within the limits.
-pub fn type_line(alloc: Global, role: Role, fault: &TypeFault) -> Result<String, Memory> {
+pub fn type_line(alloc: Global, role: Role, fault: &TypeFault) -> Result<String, Memory>
+    ensures { IfOk result (λ line. string_bytes line ≡ type_words role fault.now) }
+{
     match fault {
-        TypeFault::Expr { position, fault } => {
-            let what = match fault {
-                ExprFault::Mismatch => "mismatch in ",
-                ExprFault::NoParam => "no parameter in ",
-                ExprFault::TooDeep => "expression too deep in ",
-                ExprFault::Memory => return Err(Memory),
-            };
-            place_line(alloc, role, what, position)
-        }
+        TypeFault::Expr { position, fault } => expression_line(alloc, role, position, fault),
         TypeFault::Joint { position } => place_line(alloc, role, "types differ at ", position),
         TypeFault::NoOld { position } => place_line(alloc, role, "no old at ", position),
         TypeFault::NotEvent { position } => place_line(alloc, role, "no event at ", position),
@@ -74,12 +81,25 @@ pub fn type_line(alloc: Global, role: Role, fault: &TypeFault) -> Result<String,
     }
 }
 
-fn place_line(
+fn expression_line(
     alloc: Global,
     role: Role,
-    what: &str,
     position: &Position,
-) -> Result<String, Memory> {
+    fault: &ExprFault,
+) -> Result<String, Memory>
+    ensures { IfOk result (λ line. string_bytes line ≡ expression_words role position.now fault.now) }
+{
+    match fault {
+        ExprFault::Mismatch => place_line(alloc, role, "mismatch in ", position),
+        ExprFault::NoParam => place_line(alloc, role, "no parameter in ", position),
+        ExprFault::TooDeep => place_line(alloc, role, "expression too deep in ", position),
+        ExprFault::Memory => Err(Memory),
+    }
+}
+
+fn place_line(alloc: Global, role: Role, what: &str, position: &Position) -> Result<String, Memory>
+    ensures { IfOk result (λ line. string_bytes line ≡ place_words role what.now position.now) }
+{
     let mut line = line_of(alloc, role, what)?;
     push_position(&mut line, position)?;
     Ok(line)

@@ -1,0 +1,100 @@
+-- What a command line leads to, by its words and by what is told of files.
+use Rattle.std.specs.Prelude.{◌≡◌, ◌≢◌, ◌⊎◌, ℕ, List, ◌++◌, Option, Some, None, Err, codes, string_bytes, ⊤}
+use Rattle.std.specs.Fmt.{decimal}
+use Rattle.sample_core.specs.TypeTree.{TypeTree}
+use Rattle.sample_core.specs.Spelling.{type_spelling}
+use Rattle.leaf_expr.specs.Expression.{Expression}
+use Rattle.net_syntax.specs.Network.{Network}
+use Rattle.net_syntax.specs.Stream.{TypedNetwork}
+use Rattle.net_syntax.specs.WithinLimits.{WithinLimits}
+use Rattle.net_text.specs.FileLaws.{IsFile, IsFileFault}
+use Rattle.net_text.specs.declared.fault.NetTextFault.{NetTextFault}
+use Rattle.net_text.specs.declared.fault.NetTextFault.TheVariants as V
+use Rattle.net_types.specs.Check.{check}
+use Rattle.net_types.specs.declared.fault.TypeFault.{TypeFault}
+use Rattle.net_types.specs.declared.fault.TypeFault.TheVariants as T
+use Rattle.yampa_run.specs.CommandLine.{Asked, types_of, run_of, asked, AsksHelp, AsksNothing}
+use Rattle.yampa_run.specs.Refused.{text_words, type_words, unread_words}
+use Rattle.yampa_run.specs.declared.preparation.Job.{Job}
+use Rattle.yampa_run.specs.declared.preparation.Job.TheVariants as J
+use Rattle.yampa_run.specs.declared.preparation.Refusal.{Refusal}
+use Rattle.yampa_run.specs.declared.preparation.Refusal.TheVariants as Refused
+use Rattle.yampa_run.specs.declared.refused.Role.TheVariants.{Network as the_network}
+
+-- what is told of files by their names: their bytes, or nothing
+abbrev pub Told : Type 0
+Told = List ℕ → Option (List ℕ)
+
+-- t is the typed network of the bytes: they are a network file of its input type and its tree, and it has its types, weight and height within the limits
+pub record IsNetworkIn (bytes : List ℕ) (t : TypedNetwork) : Type 0 where
+  pub file : IsFile bytes t.input t.net
+  pub typed : WithinLimits t
+
+-- t is the typed network of a file, where its bytes are told
+abbrev pub IsNetworkOf : Option (List ℕ) → TypedNetwork → Type 0
+IsNetworkOf None t = ⊤
+IsNetworkOf (Some bytes) t = IsNetworkIn bytes t
+
+-- the bytes are no network file, or one whose network has no types within the limits, and the line says why
+pub data IsRefusedWith (bytes line : List ℕ) : Type 0 where
+  by_text : (f : NetTextFault) → f ≢ V.Memory → IsFileFault bytes f → line ≡ text_words the_network f → IsRefusedWith bytes line
+  by_types : (A : TypeTree) (net : Network Expression) (f : TypeFault) → IsFile bytes A net → check A net ≡ Err f → line ≡ type_words the_network f → IsRefusedWith bytes line
+
+-- a file is refused with that line, where its bytes are told
+abbrev pub IsRefusedOf : Option (List ℕ) → List ℕ → Type 0
+IsRefusedOf None line = ⊤
+IsRefusedOf (Some bytes) line = IsRefusedWith bytes line
+
+-- why there is no network of a file: it wasn't read, with status 3; or it is refused, with status 1; or memory was short
+abbrev pub HasNoNetwork : Option (List ℕ) → Refusal → Type 0
+HasNoNetwork told (Refused.Line status line) = ((status ≡ 3) × (string_bytes line ≡ unread_words the_network)) ⊎ ((status ≡ 1) × IsRefusedOf told (string_bytes line))
+HasNoNetwork told Refused.Memory = ⊤
+
+-- a refusal for that fault of a text: its line with status 1, or memory was short
+abbrev pub RefusesText : NetTextFault → Refusal → Type 0
+RefusesText f (Refused.Line status line) = (f ≢ V.Memory) × (status ≡ 1) × (string_bytes line ≡ text_words the_network f)
+RefusesText f Refused.Memory = ⊤
+
+-- a refusal for that fault of types: its line with status 1, or memory was short
+abbrev pub RefusesTypes : TypeFault → Refusal → Type 0
+RefusesTypes f (Refused.Line status line) = (f ≢ T.Memory) × (status ≡ 1) × (string_bytes line ≡ type_words the_network f)
+RefusesTypes f Refused.Memory = ⊤
+
+-- the lines of the command `types`
+abbrev pub types_lines : TypedNetwork → List ℕ
+types_lines t = type_spelling t.input ++ (codes " -> " ++ (type_spelling t.output ++ (codes "\nweight " ++ (decimal t.weight ++ (codes "\nheight " ++ (decimal t.height ++ codes "\n"))))))
+
+-- the words ask for a run of a file, and t is its typed network
+pub record RunsNetwork (told : Told) (words : List (List ℕ)) (t : TypedNetwork) : Type 0 where
+  pub name : List ℕ
+  pub asks : asked words ≡ Some (run_of name)
+  pub network : IsNetworkOf (told name) t
+
+-- the words ask for the types of a file, and these are the lines on its typed network
+pub record PrintsTypes (told : Told) (words : List (List ℕ)) (text : List ℕ) : Type 0 where
+  pub name : List ℕ
+  pub asks : asked words ≡ Some (types_of name)
+  pub net : TypedNetwork
+  pub network : IsNetworkOf (told name) net
+  pub lines : text ≡ types_lines net
+
+-- what is to be done is what the words ask for: a run, or a text that is help or the lines on types
+abbrev pub IsAsked : Told → List (List ℕ) → Job → Type 0
+IsAsked told words (J.Run t) = RunsNetwork told words t
+IsAsked told words (J.Print text) = AsksHelp words ⊎ PrintsTypes told words (string_bytes text)
+
+-- the file that is asked of
+abbrev pub file_of : Asked → List ℕ
+file_of (types_of name) = name
+file_of (run_of name) = name
+
+-- the words ask something of a file that has no network
+pub record LacksNetwork (told : Told) (words : List (List ℕ)) (refusal : Refusal) : Type 0 where
+  pub what : Asked
+  pub asks : asked words ≡ Some what
+  pub lacks : HasNoNetwork (told (file_of what)) refusal
+
+-- why nothing is done: the words ask for nothing that is there, with status 2; or their file has no network; or memory was short
+abbrev pub IsRefusal : Told → List (List ℕ) → Refusal → Type 0
+IsRefusal told words (Refused.Line status line) = ((status ≡ 2) × AsksNothing words) ⊎ LacksNetwork told words (Refused.Line status line)
+IsRefusal told words Refused.Memory = ⊤
