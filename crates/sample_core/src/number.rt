@@ -1,4 +1,4 @@
-// Numbers in their one spelling.
+//! Numbers in their one spelling.
 
 ghost use Rattle.std.specs.Prelude.{◌≡◌, IsTrue, Some, None, if◌then◌else◌};
 ghost use Rattle.sample_core.specs.Number.{digits_part, is_number, is_number_word as number_word, is_in_64, number_of};

@@ -66,7 +66,8 @@ pub enum RunFault {
     /// The stream has a fault, or a read of it failed.
     #[error("after {lines} lines: stream: {fault}")]
     Stream { lines: u64, fault: StreamFault },
-    /// A write of the output failed.
+    /// A write of the output failed. Where it isn't known how many lines were written, `lines` is
+    /// 0.
     #[error("after {lines} lines: a write failed")]
     Write { lines: u64 },
     /// A growth was refused.
