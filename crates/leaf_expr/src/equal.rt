@@ -8,7 +8,7 @@ use crate::expr::{Expr, Part, Parts};
 use crate::literal::Literal;
 use sample_core::same_type;
 
-/// Whether the two expressions are equal.
+/// Whether the two expressions are equal, all their parts and types included. It takes no memory.
 #[cycle(same)]
 pub fn same_expr(a: &Expr, b: &Expr) -> bool
     ensures { IsTrue result ↔ (expression_of a.now ≡ expression_of b.now) }
@@ -47,7 +47,7 @@ pub fn same_expr(a: &Expr, b: &Expr) -> bool
     }
 }
 
-// Whether two parts are equal.
+/// Whether two parts are equal.
 #[cycle(same)]
 fn same_part(a: &Part, b: &Part) -> bool
     ensures { IsTrue result ↔ (a.now ≡ b.now) }
@@ -55,7 +55,7 @@ fn same_part(a: &Part, b: &Part) -> bool
     same_expr(a.get(), b.get())
 }
 
-// Whether the elements of two list expressions are equal.
+/// Whether the elements of two list expressions are equal.
 #[cycle(same)]
 fn same_parts(all: &Parts, others: &Parts) -> bool
     ensures { IsTrue result ↔ (expressions_of all.now ≡ expressions_of others.now) }
@@ -73,7 +73,7 @@ fn same_parts(all: &Parts, others: &Parts) -> bool
     true
 }
 
-// Whether two literals are equal.
+/// Whether two literals are equal.
 fn same_literal(a: Literal, b: Literal) -> bool
     ensures { IsTrue result ↔ (literal_of a ≡ literal_of b) }
 {

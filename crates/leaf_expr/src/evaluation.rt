@@ -15,7 +15,14 @@ use crate::operations::{
 use sample_core::{Child, Memory, Sample, Samples};
 use std::alloc::Global;
 
-/// The value of the expression under the parameters, at the input x.
+/// The value of the expression at the input `x`, where `params[k]` is the value of parameter k.
+/// Sums, differences, products, negatives and lengths are taken modulo 2^64 and read as signed.
+/// `Memory` where a growth was refused.
+///
+/// Nothing is asked of the expression. Where it is ill typed, a default stands in the place of
+/// what is missing: 0 for a number and for a length, `false` for a truth, `unit` for a parameter,
+/// the value itself for a part of a pair, and the `d` of `on` and `nth` for what an event or a
+/// list would give.
 #[cycle(eval)]
 pub fn eval(alloc: Global, expr: &Expr, params: &[Sample], x: &Sample) -> Result<Sample, Memory>
     ensures { IfOk result (λ s. datum_of s ≡ value_of (expression_of expr.now) (map datum_of params.now) (datum_of x.now)) }
@@ -103,7 +110,7 @@ pub fn eval(alloc: Global, expr: &Expr, params: &[Sample], x: &Sample) -> Result
     }
 }
 
-// The number that a part has as its value; 0 where that is no number.
+/// The number that a part has as its value; 0 where that is no number.
 #[cycle(eval)]
 fn eval_number(alloc: Global, part: &Part, params: &[Sample], x: &Sample) -> Result<i64, Memory>
     ensures { IfOk result (λ n. n ≡ whole (value_of part.now (map datum_of params.now) (datum_of x.now))) }
@@ -112,7 +119,7 @@ fn eval_number(alloc: Global, part: &Part, params: &[Sample], x: &Sample) -> Res
     Ok(number(&value))
 }
 
-// Whether a part has `true` as its value.
+/// Whether a part has `true` as its value.
 #[cycle(eval)]
 fn eval_truth(alloc: Global, part: &Part, params: &[Sample], x: &Sample) -> Result<bool, Memory>
     ensures { IfOk result (λ b. b ≡ is_true (value_of part.now (map datum_of params.now) (datum_of x.now))) }
@@ -121,7 +128,7 @@ fn eval_truth(alloc: Global, part: &Part, params: &[Sample], x: &Sample) -> Resu
     Ok(truth(&value))
 }
 
-// The values of the elements of a list expression, in order.
+/// The values of the elements of a list expression, in order.
 #[cycle(eval)]
 fn eval_elements(
     alloc: Global,

@@ -9,55 +9,56 @@ use std::alloc::Global;
 use std::marker::Model;
 use std::rc::Rc;
 
-/// An expression: a total function of an input and of parameters.
+/// An expression: a total function of an input and of parameters. Copies of it share its parts.
+/// Numbers are taken modulo 2^64 and read as signed.
 #[cycle(expr)]
 #[derive(Drop)]
 pub enum Expr {
     /// `x`, the input.
     Input,
-    /// `(p k)`, parameter k, from 0.
+    /// `(p k)`: parameter k, counted from 0.
     Param(u32),
     /// A literal.
     Literal(Literal),
-    /// `(pair a b)`.
+    /// `(pair a b)`: the pair of the two.
     Pair(Part, Part),
-    /// `(fst e)`.
+    /// `(fst e)`: the first part of a pair.
     Fst(Part),
-    /// `(snd e)`.
+    /// `(snd e)`: the second part of a pair.
     Snd(Part),
     /// `(then f g)`: g at the value of f.
     Then(Part, Part),
-    /// `(neg a)`.
+    /// `(neg a)`: the negative of a.
     Neg(Part),
-    /// `(add a b)`.
+    /// `(add a b)`: the sum.
     Add(Part, Part),
-    /// `(sub a b)`.
+    /// `(sub a b)`: a minus b.
     Sub(Part, Part),
-    /// `(mul a b)`.
+    /// `(mul a b)`: the product.
     Mul(Part, Part),
-    /// `(less a b)`.
+    /// `(less a b)`: whether the number a is below b.
     Less(Part, Part),
-    /// `(equal a b)`.
+    /// `(equal a b)`: whether the two values are the same.
     Equal(Part, Part),
-    /// `(not a)`.
+    /// `(not a)`: whether a isn't true.
     Not(Part),
-    /// `(and a b)`.
+    /// `(and a b)`: whether both are true.
     And(Part, Part),
-    /// `(or a b)`.
+    /// `(or a b)`: whether one or both are true.
     Or(Part, Part),
     /// `(if c a b)`: a where c is true, else b.
     If(Part, Part, Part),
-    /// `(none T)`.
+    /// `(none T)`: no event, among events that carry a T.
     NoEvent(Ty),
-    /// `(event e)`.
+    /// `(event e)`: an event that carries e.
     Event(Part),
     /// `(on e d b)`: with an event v of e, b at the pair of the input and v; else d.
     On(Part, Part, Part),
-    /// `(list T e1 .. en)`.
+    /// `(list T e1 .. en)`: the list of these, each a T.
     List(Ty, Parts),
-    /// `(nth e i d)`: the element of e at i, from 0; d outside.
+    /// `(nth e i d)`: the element of the list e at i, counted from 0; d outside.
     Nth(Part, Part, Part),
-    /// `(len e)`.
+    /// `(len e)`: how many elements the list e has.
     Len(Part),
 }
 
@@ -117,7 +118,8 @@ impl Model for Parts {
 }
 
 impl Expr {
-    /// A copy, whose parts are shared with it.
+    /// A copy, whose parts are shared with it. It takes no memory; `Memory` only where a count of
+    /// references is full.
     pub fn try_copy(&self, alloc: Global) -> Result<Expr, Memory>
         ensures { IfOk result (λ e. e ≡ self.now) }
     {
@@ -150,7 +152,7 @@ impl Expr {
 }
 
 impl Part {
-    /// The expression as a part of another.
+    /// The expression as a part of another. `Memory` where a growth was refused.
     pub fn new(alloc: Global, expr: Expr) -> Result<Part, Memory>
         ensures { IfOk result (λ p. p ≡ expression_of expr) }
     {
@@ -165,7 +167,8 @@ impl Part {
         &self.inner
     }
 
-    /// The same expression, shared.
+    /// The same expression, shared. It takes no memory; `Memory` only where a count of references
+    /// is full.
     pub fn try_copy(&self) -> Result<Part, Memory>
         ensures { IfOk result (λ p. p ≡ self.now) }
     {
@@ -175,7 +178,8 @@ impl Part {
 }
 
 impl Parts {
-    /// The expressions as the elements of a list expression.
+    /// The expressions as the elements of a list expression, in order. `Memory` where a growth was
+    /// refused.
     pub fn new(alloc: Global, all: Vec<Expr>) -> Result<Parts, Memory>
         ensures { IfOk result (λ es. es ≡ map expression_of all.items) }
     {
@@ -190,7 +194,8 @@ impl Parts {
         self.all.as_slice()
     }
 
-    /// The same elements, shared.
+    /// The same elements, shared. It takes no memory; `Memory` only where a count of references is
+    /// full.
     pub fn try_copy(&self) -> Result<Parts, Memory>
         ensures { IfOk result (λ es. es ≡ self.now) }
     {

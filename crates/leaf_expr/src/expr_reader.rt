@@ -21,10 +21,10 @@ use crate::word::{WordFault, expr_word, index_word};
 use sample_core::Ty;
 use std::alloc::Global;
 
-/// How many bytes a text may have.
+/// The most bytes that a text may have.
 pub const MAX_LENGTH: usize = 1_048_576;
 
-/// The number of a parameter, at or after byte `at`.
+/// The number of a parameter, at or after byte `at`, and the byte behind it.
 fn read_index(text: &[u8], at: usize, room: usize) -> Result<(u32, usize), ExprTextFault>
     ensures { Gives (λ x. (x.0, x.1, tokens_from x.1 text.now)) result (tree_at index_sort text.now room at) }
 {
@@ -41,7 +41,8 @@ fn read_index(text: &[u8], at: usize, room: usize) -> Result<(u32, usize), ExprT
     }
 }
 
-/// The expression at or after byte `at`, with room for so many more parentheses, and the byte behind it.
+/// The expression at or after byte `at`, with room for so many more parentheses, and the byte
+/// behind it.
 #[cycle(read_expression)]
 #[tactic(auto, using(crate::proofs::ReadSteps::opened))]
 fn read_expression(
@@ -253,7 +254,8 @@ fn items(
     }
 }
 
-/// A type from a place on, with so many parentheses open before it.
+/// What `read_type_at` answers. It stands apart, since the other clauses of that contract follow
+/// from its exact one.
 fn type_at(
     alloc: Global,
     text: &[u8],
@@ -265,7 +267,8 @@ fn type_at(
     read_type(alloc, text, at, MAX_OPEN.saturating_sub(depth))
 }
 
-/// An expression from a place on, with so many parentheses open before it.
+/// What `read_expr_at` answers. It stands apart, since the other clauses of that contract follow
+/// from its exact one.
 fn expr_at(
     alloc: Global,
     text: &[u8],
@@ -277,7 +280,8 @@ fn expr_at(
     read_expression(alloc, text, at, MAX_OPEN.saturating_sub(depth))
 }
 
-/// A whole text.
+/// What `read_expr` answers. It stands apart, since the other clauses of that contract follow from
+/// its exact one.
 fn whole_expr(alloc: Global, text: &[u8]) -> Result<Expr, ExprTextFault>
     ensures { GivesText expression_of result (read_text expression_sort text.now) }
 {
@@ -293,9 +297,14 @@ fn whole_expr(alloc: Global, text: &[u8]) -> Result<Expr, ExprTextFault>
     }
 }
 
-/// Reads the one type whose tokens begin at or after byte `at` of the text as it stands from that byte on, with
-/// `depth` parentheses open before it, and gives the byte behind it. Anything may follow. The first token that
-/// doesn't fit is answered: `TooDeep` at the 601st parenthesis open at once, else `Syntax`.
+/// Reads the one type that begins with the first token at or after byte `at`, counted from 0, of
+/// the text as it stands from that byte on. `depth` parentheses are open before it; more than 600
+/// count as 600. Answers the type and the byte behind it. Anything may follow.
+///
+/// A refusal is the first token that doesn't fit, by its first byte. `TooDeep`: a parenthesis that
+/// would be the 601st open at once, also where none fits. `Syntax`: any other, or the text's
+/// length where it ends too early. `Memory`: a growth was refused. `Number` and `TooLong` don't
+/// come.
 pub fn read_type_at(
     alloc: Global,
     text: &[u8],
@@ -314,9 +323,16 @@ pub fn read_type_at(
     type_at(alloc, text, at, depth)
 }
 
-/// Reads the one expression whose tokens begin at or after byte `at` of the text as it stands from that byte on,
-/// with `depth` parentheses open before it, and gives the byte behind it. Anything may follow. Sugar is expanded.
-/// The first token that doesn't fit is answered.
+/// Reads the one expression that begins with the first token at or after byte `at`, counted from
+/// 0, of the text as it stands from that byte on. `depth` parentheses are open before it; more
+/// than 600 count as 600. Answers the expression, with sugar expanded, and the byte behind it.
+/// Anything may follow.
+///
+/// A refusal is the first token that doesn't fit, by its first byte. `TooDeep`: a parenthesis that
+/// would be the 601st open at once, also where none fits. `Number`: where a number may stand, a
+/// number word that is badly spelt or out of range: 64 bits for a literal, 0 to 65,535 for the
+/// number of a parameter. `Syntax`: any other, or the text's length where it ends too early.
+/// `Memory`: a growth was refused. `TooLong` doesn't come.
 pub fn read_expr_at(
     alloc: Global,
     text: &[u8],
@@ -335,8 +351,15 @@ pub fn read_expr_at(
     expr_at(alloc, text, at, depth)
 }
 
-/// Reads a text that is one expression and nothing else, of at most 1,048,576 bytes. Sugar is expanded. The first
-/// token that doesn't fit is answered.
+/// Reads a text that is one expression and nothing else. Answers the expression, with sugar
+/// expanded.
+///
+/// `TooLong`: the text has more than 1,048,576 bytes, whatever they are. Else a refusal is the
+/// first token that doesn't fit, by its first byte, counted from 0. `TooDeep`: a parenthesis that
+/// would be the 601st open at once, also where none fits. `Number`: where a number may stand, a
+/// number word that is badly spelt or out of range: 64 bits for a literal, 0 to 65,535 for the
+/// number of a parameter. `Syntax`: any other, among them one behind the expression, or the text's
+/// length where it ends too early. `Memory`: a growth was refused.
 pub fn read_expr(alloc: Global, text: &[u8]) -> Result<Expr, ExprTextFault>
     // What is read is what the text says.
     ensures found { IfOk result (λ e. IsText expression_sort text.now (expression_of e)) }

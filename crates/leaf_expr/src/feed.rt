@@ -11,7 +11,7 @@ use crate::literal::Literal;
 use sample_core::Ty;
 use std::hash::Hasher;
 
-/// Feeds the type's forms to the hasher, each before its parts.
+/// Feeds the type's forms to the hasher, a byte each, a form before its parts.
 pub fn feed_type<H: Hasher>(ty: &Ty, state: &mut H)
     ensures { state.new ≡ fold H.write state.old (type_fed (type_of ty.now)) }
 {
@@ -76,7 +76,8 @@ macro_rules! feed_parts {
     }};
 }
 
-/// Feeds the expression's forms to the hasher, each before its parts.
+/// Feeds the expression's forms to the hasher, a byte each, a form before its parts. A parameter's
+/// number and a literal's number follow their form, and a byte ends each list.
 #[cycle(feed)]
 pub fn feed_expr<H: Hasher>(expr: &Expr, state: &mut H)
     ensures { state.new ≡ fold H.write state.old (expression_fed (expression_of expr.now)) }

@@ -96,8 +96,8 @@ fn mapped(alloc: Global, ty: Ty, a: Part, value: Part) -> Result<Expr, Memory>
 impl Typed {
     ghost use Rattle.leaf_expr.specs.Form.{typed_of};
 
-    /// The form with that type and those expressions: `(gate T e b)` is `(if b e (none T))`, `(tag T e c)` is
-    /// `(on e (none T) (event (then (fst x) c)))`, and `(attach T e c)` is
+    /// The form with that type and those expressions: `(gate T e b)` is `(if b e (none T))`,
+    /// `(tag T e c)` is `(on e (none T) (event (then (fst x) c)))`, and `(attach T e c)` is
     /// `(on e (none T) (event (pair (snd x) (then (fst x) c))))`.
     pub(crate) fn of(self, alloc: Global, ty: Ty, a: Part, b: Part) -> Result<Expr, Memory>
         ensures { IfOk result (λ e. expression_of e ≡ typed_of self (type_of ty) a b) }

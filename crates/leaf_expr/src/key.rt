@@ -10,12 +10,14 @@ use std::alloc::Global;
 use std::hash::{Hash, Hasher};
 use std::marker::Model;
 
-/// An expression and the types that it is used at. Contracts see it as the record of their trees.
+/// What a stored closure is found by: an expression and the types that it is used at. Two keys are
+/// equal where the expressions and all types are. Contracts see a key as the record of their
+/// trees.
 #[derive(Drop)]
 pub struct LeafKey {
     /// The expression.
     pub expr: Expr,
-    /// The types of the parameters in scope, the outermost first.
+    /// The types of the parameters in scope, the outermost first; parameter k has the one at k.
     pub params: Vec<Ty>,
     /// The type of the input.
     pub input: Ty,
@@ -35,7 +37,7 @@ impl Model for LeafKey {
 }
 
 impl LeafKey {
-    /// A copy, whose trees are shared with it.
+    /// A copy, whose trees are shared with it. `Memory` where a growth was refused.
     pub fn try_copy(&self, alloc: Global) -> Result<LeafKey, Memory>
         ensures { IfOk result (λ k. k ≡ self.now) }
     {

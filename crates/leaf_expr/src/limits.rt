@@ -22,22 +22,24 @@ const EXPR_HEIGHT: u32 = 256;
 /// How many expressions an expression may be made of, itself counted.
 const EXPR_NODES: u32 = 100_000;
 
-/// Whether the type is within the limits: depth 32 and 256 nodes.
+/// Whether the type is within the limits: depth 32 and 256 nodes, where `Int` has depth 1 and one
+/// node. It takes no memory.
 pub fn type_fits(ty: &Ty) -> bool
     ensures { result ≡ type_fits (type_of ty.now) }
 {
     type_nodes_left(ty, TYPE_DEPTH, TYPE_NODES).is_some()
 }
 
-/// Whether the expression is within the limits: height 256 and 100,000 nodes.
+/// Whether the expression is within the limits: height 256 and 100,000 nodes, where `x` has height
+/// 1 and one node, and types count nothing. It takes no memory.
 pub fn expr_fits(expr: &Expr) -> bool
     ensures { result ≡ expression_fits (expression_of expr.now) }
 {
     nodes_left(expr, EXPR_HEIGHT, EXPR_NODES).is_some()
 }
 
-// How many of `nodes` are left after those of the type, whose depth is at most `depth`; `None`
-// where it is deeper, or has more. It stops at the first type too many.
+/// How many of `nodes` are left after those of the type, whose depth is at most `depth`; `None`
+/// where it is deeper, or has more. It stops at the first type too many.
 fn type_nodes_left(ty: &Ty, depth: u32, nodes: u32) -> Option<u32>
     ensures { MatchOption result (depth_of (type_of ty.now) ≤ depth → nodes_of (type_of ty.now) ≤ nodes → ⊥) (λ left. (depth_of (type_of ty.now) ≤ depth) × (nodes_of (type_of ty.now) + left ≡ nodes)) }
 {
@@ -53,8 +55,8 @@ fn type_nodes_left(ty: &Ty, depth: u32, nodes: u32) -> Option<u32>
     }
 }
 
-// How many of `nodes` are left after those of the expression, whose height is at most `height`;
-// `None` where it is taller, or has more. It stops at the first expression too many.
+/// How many of `nodes` are left after those of the expression, whose height is at most `height`;
+/// `None` where it is taller, or has more. It stops at the first expression too many.
 #[cycle(left)]
 fn nodes_left(expr: &Expr, height: u32, nodes: u32) -> Option<u32>
     ensures { MatchOption result (height_of (expression_of expr.now) ≤ height → nodes_in (expression_of expr.now) ≤ nodes → ⊥) (λ left. (height_of (expression_of expr.now) ≤ height) × (nodes_in (expression_of expr.now) + left ≡ nodes)) }
@@ -81,7 +83,7 @@ fn nodes_left(expr: &Expr, height: u32, nodes: u32) -> Option<u32>
     }
 }
 
-// The same of two parts.
+/// The same of two parts.
 #[cycle(left)]
 fn nodes_left_of_two(a: &Part, b: &Part, height: u32, nodes: u32) -> Option<u32>
     ensures { MatchOption result (max (height_of a.now) (height_of b.now) ≤ height → nodes_in a.now + nodes_in b.now ≤ nodes → ⊥) (λ left. (max (height_of a.now) (height_of b.now) ≤ height) × (nodes_in a.now + nodes_in b.now + left ≡ nodes)) }
@@ -90,7 +92,7 @@ fn nodes_left_of_two(a: &Part, b: &Part, height: u32, nodes: u32) -> Option<u32>
     nodes_left(b.get(), height, nodes)
 }
 
-// The same of three parts.
+/// The same of three parts.
 #[cycle(left)]
 fn nodes_left_of_three(a: &Part, b: &Part, c: &Part, height: u32, nodes: u32) -> Option<u32>
     ensures { MatchOption result (max (height_of a.now) (max (height_of b.now) (height_of c.now)) ≤ height → nodes_in a.now + nodes_in b.now + nodes_in c.now ≤ nodes → ⊥) (λ left. (max (height_of a.now) (max (height_of b.now) (height_of c.now)) ≤ height) × (nodes_in a.now + nodes_in b.now + nodes_in c.now + left ≡ nodes)) }
@@ -99,7 +101,7 @@ fn nodes_left_of_three(a: &Part, b: &Part, c: &Part, height: u32, nodes: u32) ->
     nodes_left(c.get(), height, nodes)
 }
 
-// The same of the elements of a list expression.
+/// The same of the elements of a list expression.
 #[cycle(left)]
 fn nodes_left_of_all(all: &Parts, height: u32, nodes: u32) -> Option<u32>
     ensures { MatchOption result (heights_of (expressions_of all.now) ≤ height → nodes_in_all (expressions_of all.now) ≤ nodes → ⊥) (λ left. (heights_of (expressions_of all.now) ≤ height) × (nodes_in_all (expressions_of all.now) + left ≡ nodes)) }

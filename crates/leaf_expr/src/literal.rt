@@ -7,6 +7,6 @@ pub enum Literal {
     Unit,
     /// `true` or `false`.
     Bool(bool),
-    /// A number.
+    /// A signed number of 64 bits.
     Int(i64),
 }

@@ -32,7 +32,7 @@ pub fn number(value: &Sample) -> i64
     }
 }
 
-/// The number below 0 as far as this one is above, modulo 2^64 and read as signed.
+/// The number's negative, modulo 2^64, read as signed.
 pub fn negated(n: i64) -> Sample
     ensures { datum_of result ≡ wrapped (neg_ℤ n) }
 {

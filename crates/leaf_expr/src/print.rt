@@ -1,4 +1,5 @@
-// The one printed form of expressions: core forms, one space between tokens, none inside a parenthesis' edges.
+// The one printed form of expressions: core forms, one space between tokens, none inside a
+// parenthesis' edges.
 
 ghost use Rattle.std.specs.Prelude.{◌≡◌, ◌++◌, ◌∷◌, [], IfOk, OnOk, string_bytes};
 ghost use Rattle.sample_core.specs.SeenType.{type_of};
@@ -13,8 +14,9 @@ use itoa::Buffer;
 use sample_core::{Memory, Ty, push_type};
 use std::alloc::Global;
 
-/// The expression's one printed form. Where its numbers and its depth are within the limits of texts, it is read
-/// back to the same expression.
+/// The expression's one printed form, as a new text. Where its numbers and its depth are within
+/// the limits of texts, it is read back to the same expression. `Memory` where a growth was
+/// refused.
 pub fn print_expr(alloc: Global, expr: &Expr) -> Result<String, Memory>
     ensures { IfOk result (λ text. string_bytes text ≡ spelling (expression_part (expression_of expr.now))) }
 {
@@ -23,7 +25,8 @@ pub fn print_expr(alloc: Global, expr: &Expr) -> Result<String, Memory>
     Ok(text)
 }
 
-/// Adds the expression's one printed form to the text.
+/// Adds the expression's one printed form to the end of the text. `Memory` where a growth was
+/// refused; the text may then end with a part of it.
 #[cycle(push_expr)]
 pub fn push_expr(text: &mut String, expr: &Expr) -> Result<(), Memory>
     ensures { OnOk result (string_bytes text.new ≡ string_bytes text.old ++ spelling (expression_part (expression_of expr.now))) }

@@ -17,7 +17,8 @@ pub enum Shape {
         /// The literal.
         c: Literal,
     },
-    /// `(add x b)` with a = 1, `(mul x a)` with b = 0, or `(add (mul x a) b)`, a and b literals.
+    /// `(add x b)` with a = 1, `(mul x a)` with b = 0, or `(add (mul x a) b)`, a and b number
+    /// literals.
     Affine {
         /// What the input is multiplied by.
         a: i64,
@@ -30,7 +31,7 @@ pub enum Shape {
     Left,
     /// `(snd x)`.
     Right,
-    /// `(less x k)`, k a literal.
+    /// `(less x k)`, k a number literal.
     Below {
         /// What the input is compared with.
         k: i64,
@@ -41,7 +42,7 @@ pub enum Shape {
     General,
 }
 
-/// The expression's shape. It takes no memory.
+/// The expression's shape; `General` where no other fits. It takes no memory.
 pub fn shape_of(expr: &Expr) -> Shape
     ensures { result ≡ shape (expression_of expr.now) }
 {

@@ -6,8 +6,9 @@ ghost use Rattle.leaf_expr.specs.ReadLaws.{FoundLaw, OnlyLaw, OneReadingLaw, Fau
 ghost use Rattle.leaf_expr.specs.Text.{ReadTextLaw, OneTextLaw, TextFaultLaw, PrintedLaw, PrintedTypeLaw, PrintedTextLaw};
 ghost use Rattle.leaf_expr.specs.TextRows.{TypeRows, WordRows, UnaryRows, BinaryRows, LongRows, MergeIs, GateIs, TagIs, AttachIs, FaultRows};
 
-/// Reading at the front of tokens: what is read is in the grammar, what is in the grammar is read whatever
-/// follows, there is one reading, and a fault is the first token that doesn't fit, by its place and kind.
+/// Reading at the front of tokens: what is read is in the grammar, what is in the grammar is read
+/// whatever follows, there is one reading, and a fault is the first token that doesn't fit, by its
+/// place and kind.
 pub fn reading_laws()
     ensures found { FoundLaw leaf }
     ensures only { OnlyLaw leaf }

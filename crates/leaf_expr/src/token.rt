@@ -55,7 +55,7 @@ fn word_end(text: &[u8], start: usize) -> usize
     text.len()
 }
 
-/// The first token of a text from some byte on, or its end.
+/// The first token of a text from some byte on, or its end. Bytes are counted from 0.
 #[derive(Clone, Copy)]
 pub enum Lexeme {
     /// No token follows.
@@ -64,11 +64,12 @@ pub enum Lexeme {
     Open(usize),
     /// A `)` at that byte.
     Close(usize),
-    /// A word from the first byte up to the second.
+    /// A word, from the first byte up to and without the second.
     Word(usize, usize),
 }
 
-/// The first token at or after byte `at`, as the text stands from that byte on.
+/// The first token at or after byte `at`, as the text stands from that byte on. `End` also where
+/// the text has no such byte.
 pub fn lexeme_at(text: &[u8], at: usize) -> Lexeme
     ensures { IsLexeme text.now at result }
 {
@@ -87,8 +88,9 @@ pub fn lexeme_at(text: &[u8], at: usize) -> Lexeme
     }
 }
 
-/// Start and end of the first token at or after byte `at`, as the text stands from that byte on: a parenthesis, or
-/// a longest run of bytes of a word. `None` where no token follows.
+/// The first byte of the first token at or after byte `at`, and the byte behind it, as the text
+/// stands from `at` on; a token is a parenthesis, or a longest run of bytes of a word. `None`
+/// where no token follows.
 pub fn token_at(text: &[u8], at: usize) -> Option<(usize, usize)>
     ensures token { MatchOption result (tokens_from at text.now ≡ []) (λ p. tokens_from at text.now ≡ (p.0, token_of (slice_range text.now p.0 p.1)) ∷ tokens_from p.1 text.now) }
     ensures within { IfSome result (λ p. (at ≤ p.0) × (p.0 < p.1) × (p.1 ≤ length text.now)) }

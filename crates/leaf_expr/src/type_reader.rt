@@ -14,11 +14,15 @@ use crate::word::type_word;
 use sample_core::{Ty, TyChild};
 use std::alloc::Global;
 
-/// How many parentheses may be open at once.
+/// The most parentheses that may be open at once.
 pub const MAX_OPEN: usize = 600;
 
+/// The end of a form: the byte behind its `)`, which must be the first token at or after byte
+/// `at`. `room` is how many more parentheses may be opened.
+///
+/// `TooDeep` at a `(` where there is no room; `Syntax` at any other token, or at the text's length
+/// where none follows. Bytes are counted from 0.
 #[tactic(auto, using(crate::proofs::ReadSteps::unfit_open, crate::proofs::ReadSteps::closed))]
-/// The end of a form: the byte behind its `)`.
 pub fn form_end(text: &[u8], at: usize, room: usize) -> Result<usize, ExprTextFault>
     ensures { Gives (λ n. (n, tokens_from n text.now)) result (read_end leaf (length text.now) room (tokens_from at text.now)) }
 {
@@ -31,8 +35,12 @@ pub fn form_end(text: &[u8], at: usize, room: usize) -> Result<usize, ExprTextFa
     }
 }
 
+/// The word that a form begins with, which must be the first token at or after byte `at`: its
+/// first byte and the byte behind it. `room` is how many more parentheses may be opened.
+///
+/// `TooDeep` at a `(` where there is no room; `Syntax` at any other token, or at the text's length
+/// where none follows. Bytes are counted from 0.
 #[tactic(auto, using(crate::proofs::ReadSteps::unfit_open))]
-/// The word of a form: where it begins and ends.
 pub fn form_head(text: &[u8], at: usize, room: usize) -> Result<(usize, usize), ExprTextFault>
     ensures head { Gives (λ x. (x.0, slice_range text.now x.0 x.1, tokens_from x.1 text.now)) result (read_head leaf (length text.now) room (tokens_from at text.now)) }
     ensures within { IfOk result (λ x. (x.0 < x.1) × (x.1 ≤ length text.now)) }

@@ -21,10 +21,11 @@ pub enum ExprFault {
     /// A type is not as wanted.
     #[error("a type is not as wanted")]
     Mismatch,
-    /// There is no such parameter.
+    /// There is no parameter of that number.
     #[error("there is no such parameter")]
     NoParam,
-    /// The expression is too tall or too large, or a type too deep or too large.
+    /// The expression's height is over 256, or it has more than 100,000 nodes; or a type has a
+    /// depth over 32, or more than 256 nodes.
     #[error("too deep or too large")]
     TooDeep,
     /// A growth was refused.
@@ -43,10 +44,14 @@ impl From<Memory> for ExprFault {
     }
 }
 
-/// The type of the expression, under the types of the parameters and of the input.
+/// The type of the expression, under the types of the parameters and of the input; parameter k has
+/// the type `params[k]`. Else the first fault.
 ///
-/// Its height and size are tested first, then each part in written order against what is wanted of
-/// it and against the parts before it, and each type that arises against its limits.
+/// The height and the size of the expression are tested first: `TooDeep` over height 256 or
+/// 100,000 nodes. Then each part in written order, against what is wanted of it and against the
+/// parts before it: `NoParam` where there is no parameter of a number, `Mismatch` where a type is
+/// not as wanted, and `TooDeep` where a type that arises has a depth over 32 or more than 256
+/// nodes. `Memory` where a growth was refused.
 pub fn type_of_expr(alloc: Global, params: &[Ty], input: &Ty, expr: &Expr) -> Result<Ty, ExprFault>
     ensures { Gives result (type_answer (map type_of params.now) (type_of input.now) (expression_of expr.now)) }
 {
@@ -56,7 +61,7 @@ pub fn type_of_expr(alloc: Global, params: &[Ty], input: &Ty, expr: &Expr) -> Re
     walk(alloc, params, input, expr)
 }
 
-// The type of an expression, whose height and size are not tested.
+/// The type of an expression, whose height and size are not tested.
 #[cycle(walk)]
 fn walk(alloc: Global, params: &[Ty], input: &Ty, expr: &Expr) -> Result<Ty, ExprFault>
     ensures { Gives result (type_walk (map type_of params.now) (type_of input.now) (expression_of expr.now)) }
@@ -151,7 +156,7 @@ fn walk(alloc: Global, params: &[Ty], input: &Ty, expr: &Expr) -> Result<Ty, Exp
     }
 }
 
-// The type of a part, of which one type is wanted.
+/// The type of a part, of which one type is wanted.
 #[cycle(walk)]
 fn walk_wanted(
     alloc: Global,
@@ -166,7 +171,7 @@ fn walk_wanted(
     matching(found, ty)
 }
 
-// The type of a list of elements that are wanted to be of one type.
+/// The type of a list of elements that are wanted to be of one type.
 #[cycle(walk)]
 fn walk_elements(
     alloc: Global,
@@ -184,7 +189,7 @@ fn walk_elements(
     limited(list_type(alloc, element.try_copy(alloc)?)?)
 }
 
-// The type that was found, where it is the one that is wanted.
+/// The type that was found, where it is the one that is wanted.
 fn matching(found: Ty, ty: &Ty) -> Result<Ty, ExprFault>
     ensures { Gives result (wanted (Ok (type_of found)) (type_of ty.now)) }
 {
@@ -194,7 +199,7 @@ fn matching(found: Ty, ty: &Ty) -> Result<Ty, ExprFault>
     Ok(found)
 }
 
-// The type, where it is within the limits.
+/// The type, where it is within the limits.
 fn limited(ty: Ty) -> Result<Ty, ExprFault>
     ensures { Gives result (limited (type_of ty)) }
 {
@@ -204,7 +209,7 @@ fn limited(ty: Ty) -> Result<Ty, ExprFault>
     Ok(ty)
 }
 
-// The type of a literal.
+/// The type of a literal.
 fn literal_type(literal: Literal) -> Ty
     ensures { (Ps : List TypeTree) (A : TypeTree) → type_walk Ps A (literal_of literal) ≡ limited (type_of result) }
 {
@@ -215,7 +220,7 @@ fn literal_type(literal: Literal) -> Ty
     }
 }
 
-// The type of parameter k.
+/// The type of parameter k.
 fn param_type(alloc: Global, params: &[Ty], k: u32) -> Result<Ty, ExprFault>
     ensures { Gives result (type_of_param (map type_of params.now) k) }
 {
@@ -225,28 +230,28 @@ fn param_type(alloc: Global, params: &[Ty], k: u32) -> Result<Ty, ExprFault>
     }
 }
 
-// The type of pairs of the two types.
+/// The type of pairs of the two types.
 fn pair_type(alloc: Global, first: Ty, second: Ty) -> Result<Ty, Memory>
     ensures { IfOk result (λ t. type_of t ≡ pair_ty (type_of first) (type_of second)) }
 {
     Ok(Ty::Pair(TyChild::new(alloc, first)?, TyChild::new(alloc, second)?))
 }
 
-// The type of events that carry the type.
+/// The type of events that carry the type.
 fn event_type(alloc: Global, carried: Ty) -> Result<Ty, Memory>
     ensures { IfOk result (λ t. type_of t ≡ event_ty (type_of carried)) }
 {
     Ok(Ty::Event(TyChild::new(alloc, carried)?))
 }
 
-// The type of lists of the type.
+/// The type of lists of the type.
 fn list_type(alloc: Global, element: Ty) -> Result<Ty, Memory>
     ensures { IfOk result (λ t. type_of t ≡ list_ty (type_of element)) }
 {
     Ok(Ty::List(TyChild::new(alloc, element)?))
 }
 
-// The type of a pair's first part.
+/// The type of a pair's first part.
 fn first_type(alloc: Global, ty: &Ty) -> Result<Ty, ExprFault>
     ensures { Gives result (first_of (type_of ty.now)) }
 {
@@ -256,7 +261,7 @@ fn first_type(alloc: Global, ty: &Ty) -> Result<Ty, ExprFault>
     }
 }
 
-// The type of a pair's second part.
+/// The type of a pair's second part.
 fn second_type(alloc: Global, ty: &Ty) -> Result<Ty, ExprFault>
     ensures { Gives result (second_of (type_of ty.now)) }
 {
@@ -266,7 +271,7 @@ fn second_type(alloc: Global, ty: &Ty) -> Result<Ty, ExprFault>
     }
 }
 
-// The type of what an event carries.
+/// The type of what an event carries.
 fn carried_type(alloc: Global, ty: &Ty) -> Result<Ty, ExprFault>
     ensures { Gives result (carried_of (type_of ty.now)) }
 {
@@ -276,7 +281,7 @@ fn carried_type(alloc: Global, ty: &Ty) -> Result<Ty, ExprFault>
     }
 }
 
-// The type of a list's elements.
+/// The type of a list's elements.
 fn element_type(alloc: Global, ty: &Ty) -> Result<Ty, ExprFault>
     ensures { Gives result (element_of (type_of ty.now)) }
 {

@@ -10,7 +10,8 @@ use leaf_expr::LeafKey;
 use sample_core::{Sample, Ty};
 use std::alloc::AllocError;
 
-/// A closure of the parameters' values and the input.
+/// A closure of the parameters' values, parameter 0 first, and the input. `AllocError` where a
+/// growth was refused.
 pub type Run = Box<dyn Fn(&[Sample], &Sample) -> Result<Sample, AllocError>>;
 
 /// A closure that computes the expression of its key at arguments of the key's types.
@@ -27,8 +28,9 @@ pub struct Leaf {
 }
 
 impl Leaf {
-    /// The closure as the leaf of a key. The expression is of the output's type, and what the closure answers at
-    /// arguments of the key's types is the expression's value.
+    /// The closure as the leaf of a key. The expression must be of the output's type, the closure
+    /// callable at all arguments, and what it answers at arguments of the key's types the
+    /// expression's value.
     pub fn new(key: LeafKey, output: Ty, run: Run) -> Leaf
         requires typed { ∥ ExpressionTyped key.expr key.params key.input (type_of output) ∥₁ }
         requires callable { Run.IsAlwaysCallable run }
@@ -39,7 +41,8 @@ impl Leaf {
         Leaf { key, output, run }
     }
 
-    /// What the closure answers. At arguments of the key's types it is the value of the key's expression.
+    /// What the closure answers. At arguments of the key's types it is the value of the key's
+    /// expression. `AllocError` where a growth was refused.
     pub(crate) fn call(&self, params: &[Sample], x: &Sample) -> Result<Sample, AllocError>
         ensures { IfOk result (λ v. ∥ Computes self.now.key (map datum_of params.now) (datum_of x.now) (datum_of v) ∥₁) }
     {

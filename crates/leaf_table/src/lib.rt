@@ -1,4 +1,5 @@
-//! Stored closures: each computes one expression, and is found by the expression and the types that it is used at.
+//! Stored closures: each computes one expression, and is found by the expression and the types
+//! that it is used at.
 #![tactic(auto)]
 
 mod fault;

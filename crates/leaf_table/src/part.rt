@@ -32,7 +32,7 @@ pub fn sum(m: i64, n: i64) -> i64
     m.wrapping_add(n)
 }
 
-/// The first part of a pair; a value that is no pair itself.
+/// The first part of a pair; another value itself.
 pub fn first(value: &Sample) -> &Sample
     ensures { datum_of result.now ≡ left (datum_of value.now) }
 {
@@ -42,7 +42,7 @@ pub fn first(value: &Sample) -> &Sample
     }
 }
 
-/// The second part of a pair; a value that is no pair itself.
+/// The second part of a pair; another value itself.
 pub fn second(value: &Sample) -> &Sample
     ensures { datum_of result.now ≡ right (datum_of value.now) }
 {
@@ -52,7 +52,8 @@ pub fn second(value: &Sample) -> &Sample
     }
 }
 
-/// A copy of the value.
+/// A copy of the value, whose parts are shared with it. `AllocError` only where a count of
+/// references is full.
 pub fn copied(alloc: Global, value: &Sample) -> Result<Sample, AllocError>
     ensures { IfOk result (λ s. s ≡ value.now) }
 {
@@ -62,7 +63,7 @@ pub fn copied(alloc: Global, value: &Sample) -> Result<Sample, AllocError>
     }
 }
 
-/// A copy of the value, as a part of another.
+/// A copy of the value, as a part of another. `AllocError` where a growth was refused.
 pub fn child(alloc: Global, value: &Sample) -> Result<Child, AllocError>
     ensures { IfOk result (λ c. c ≡ datum_of value.now) }
 {

@@ -1,4 +1,5 @@
-// What the closures call: one function for each shape of expression.
+// What the closures call: one function for each shape of expression. Each takes the values of the
+// parameters and the input `x`; only the one for any expression looks at the parameters.
 
 ghost use Rattle.std.specs.Prelude.{◌≡◌, IfOk, Some, map};
 ghost use Rattle.sample_core.specs.Seen.{datum_of};
@@ -12,7 +13,8 @@ use leaf_expr::{eval, LeafKey, Literal};
 use sample_core::{Memory, Sample};
 use std::alloc::{AllocError, Global};
 
-/// The input itself, for an expression of the shape `Identity`.
+/// The input itself, for an expression of the shape `Identity`. `AllocError` only where a count of
+/// references is full.
 pub fn run_identity(alloc: Global, params: &[Sample], x: &Sample) -> Result<Sample, AllocError>
     ensures named { IfOk result (λ v. value_by_shape S.Identity (datum_of x.now) ≡ Some (datum_of v)) }
     ensures fact { IfOk result
@@ -22,7 +24,8 @@ pub fn run_identity(alloc: Global, params: &[Sample], x: &Sample) -> Result<Samp
     copied(alloc, x)
 }
 
-/// The literal, for an expression of the shape `Constant`.
+/// The literal `c`, for an expression of the shape `Constant`. It takes no memory and refuses
+/// nothing.
 pub fn run_constant(
     alloc: Global,
     c: Literal,
@@ -43,7 +46,8 @@ pub fn run_constant(
     })
 }
 
-/// The input times `a` and `b` more, modulo 2^64 and read as signed, for an expression of the shape `Affine`.
+/// The input times `a` and `b` more, modulo 2^64 and read as signed, for an expression of the
+/// shape `Affine`. An input that is no number counts as 0. It takes no memory and refuses nothing.
 pub fn run_affine(
     alloc: Global,
     a: i64,
@@ -60,7 +64,8 @@ pub fn run_affine(
     Ok(Sample::Int(sum(product(a, number(x)), b)))
 }
 
-/// The input's parts the other way round, for an expression of the shape `Swap`.
+/// The input's parts the other way round, for an expression of the shape `Swap`. Each part of an
+/// input that is no pair is the input itself. `AllocError` where a growth was refused.
 pub fn run_swap(alloc: Global, params: &[Sample], x: &Sample) -> Result<Sample, AllocError>
     ensures named { IfOk result (λ v. value_by_shape S.Swap (datum_of x.now) ≡ Some (datum_of v)) }
     ensures fact { IfOk result
@@ -72,7 +77,8 @@ pub fn run_swap(alloc: Global, params: &[Sample], x: &Sample) -> Result<Sample, 
     Ok(Sample::Pair(right, left))
 }
 
-/// The input's first part, for an expression of the shape `Left`.
+/// The input's first part, for an expression of the shape `Left`; another input than a pair
+/// itself. `AllocError` only where a count of references is full.
 pub fn run_left(alloc: Global, params: &[Sample], x: &Sample) -> Result<Sample, AllocError>
     ensures named { IfOk result (λ v. value_by_shape S.Left (datum_of x.now) ≡ Some (datum_of v)) }
     ensures fact { IfOk result
@@ -82,7 +88,8 @@ pub fn run_left(alloc: Global, params: &[Sample], x: &Sample) -> Result<Sample, 
     copied(alloc, first(x))
 }
 
-/// The input's second part, for an expression of the shape `Right`.
+/// The input's second part, for an expression of the shape `Right`; another input than a pair
+/// itself. `AllocError` only where a count of references is full.
 pub fn run_right(alloc: Global, params: &[Sample], x: &Sample) -> Result<Sample, AllocError>
     ensures named { IfOk result (λ v. value_by_shape S.Right (datum_of x.now) ≡ Some (datum_of v)) }
     ensures fact { IfOk result
@@ -92,7 +99,8 @@ pub fn run_right(alloc: Global, params: &[Sample], x: &Sample) -> Result<Sample,
     copied(alloc, second(x))
 }
 
-/// Whether the input is less than `k`, for an expression of the shape `Below`.
+/// Whether the input is less than `k`, for an expression of the shape `Below`. An input that is no
+/// number counts as 0. It takes no memory and refuses nothing.
 pub fn run_below(
     alloc: Global,
     k: i64,
@@ -108,7 +116,8 @@ pub fn run_below(
     Ok(Sample::Bool(number(x) < k))
 }
 
-/// The event of the input, for an expression of the shape `Wrap`.
+/// An event that carries the input, for an expression of the shape `Wrap`. `AllocError` where a
+/// growth was refused.
 pub fn run_wrap(alloc: Global, params: &[Sample], x: &Sample) -> Result<Sample, AllocError>
     ensures named { IfOk result (λ v. value_by_shape S.Wrap (datum_of x.now) ≡ Some (datum_of v)) }
     ensures fact { IfOk result
@@ -118,7 +127,8 @@ pub fn run_wrap(alloc: Global, params: &[Sample], x: &Sample) -> Result<Sample, 
     Ok(Sample::Event(child(alloc, x)?))
 }
 
-/// The value of the key's expression, whatever its shape is.
+/// The value of the key's expression at the input, whatever its shape is, where `params[k]` is the
+/// value of parameter k. `AllocError` where a growth was refused.
 pub fn run_general(
     alloc: Global,
     key: &LeafKey,

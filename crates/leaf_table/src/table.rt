@@ -17,11 +17,12 @@ use std::alloc::Global;
 /// The most rows that a table has.
 pub const MAX_ROWS: usize = 4096;
 
-/// The number of a row, from 0.
+/// The number of a row of a table, counted from 0.
 #[derive(Clone, Copy, PartialEq, Eq, Debug)]
 pub struct LeafId(pub usize);
 
-/// Stored closures by number and by key. Contracts see it as the list of its rows' keys.
+/// Stored closures by row and by key: at most 4,096 rows, no two with the same key. Contracts see
+/// a table as the list of its rows' keys.
 #[derive(Drop)]
 pub struct LeafTable {
     alloc: Global,
@@ -33,7 +34,7 @@ pub struct LeafTable {
 impl LeafTable {
     ghost use Rattle.leaf_table.specs.Rows.{rows_of};
 
-    /// A table with no rows.
+    /// A table with no rows. It takes no memory.
     pub fn new(alloc: Global) -> LeafTable
         ensures { rows_of result ≡ [] }
     {
@@ -43,8 +44,11 @@ impl LeafTable {
         }
     }
 
-    /// Adds the leaf as a new last row, or drops it where its key has a row already, and answers the row of the key.
-    /// `Full` where the key is new and all 4,096 rows are there. A leaf that is not taken comes back.
+    /// Adds the leaf as a new last row, or drops it where its key has a row already. Answers the
+    /// row of the key.
+    ///
+    /// A refusal gives the leaf back, and the table is as it was. `Full`: the key is new, and the
+    /// table has 4,096 rows. `Memory`: a growth was refused.
     pub fn add(&mut self, leaf: Leaf) -> Result<LeafId, (Leaf, TableFault)>
         ensures row { IfOk result (λ id. slice_get (rows_of self.new) id.0 ≡ Some leaf.key) }
         ensures known { Contains (rows_of self.old) leaf.key → IsOk result × (rows_of self.new ≡ rows_of self.old) }
@@ -67,7 +71,8 @@ impl LeafTable {
         }
     }
 
-    /// Adds the leaf as a new last row. A leaf that is not taken comes back.
+    /// Adds the leaf, whose key is new, as a new last row. A leaf that is not taken, for want of
+    /// memory, comes back.
     fn push(&mut self, key: LeafKey, leaf: Leaf) -> Result<LeafId, (Leaf, TableFault)>
         requires own { leaf.key ≡ key }
         requires fresh { Contains (rows_of self.old) key → ⊥ }
@@ -91,7 +96,7 @@ impl LeafTable {
         }
     }
 
-    /// The number of the row with this key.
+    /// The row with this key; `None` where no row has it. It takes no memory.
     pub fn find(&self, key: &LeafKey) -> Option<LeafId>
         ensures found { IfSome result (λ id. slice_get (rows_of self.now) id.0 ≡ Some key.now) }
         ensures missing { IfNone result (Contains (rows_of self.now) key.now → ⊥) }
@@ -102,7 +107,9 @@ impl LeafTable {
         }
     }
 
-    /// What the row's closure answers: at arguments of its key's types, the value of its key's expression.
+    /// What the row's closure answers to the parameters' values, parameter 0 first, and the input
+    /// `x`. At arguments of its key's types that is the value of its key's expression. The row
+    /// must be there. `Memory` where the closure was refused a growth.
     pub fn call(&self, id: LeafId, params: &[Sample], x: &Sample) -> Result<Sample, Memory>
         requires { id.0 < length (rows_of self.now) }
         ensures { IfOk result (λ v. (key : KeyTree) → slice_get (rows_of self.now) id.0 ≡ Some key →

@@ -47,14 +47,16 @@ ghost use Rattle.net_syntax.specs.Examples.{
   TooHeavy,
 };
 
-/// A network puts out one value for each sample, doesn't look ahead, and doesn't see the first step.
+/// A network puts out one value for each sample, doesn't look ahead, and doesn't see the first
+/// step.
 pub fn stream_laws()
     ensures length { LengthLaw }
     ensures causal { CausalLaw }
     ensures retimed { RetimeLaw }
 {}
 
-/// A typed network puts out typed values, the same ones in alike environments, and it has one output type.
+/// A typed network puts out typed values, the same ones in alike environments, and it has one
+/// output type.
 pub fn typing_laws()
     ensures typed { TypedOutputsLaw }
     ensures alike { AlikeLaw }

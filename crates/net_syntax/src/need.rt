@@ -7,10 +7,11 @@ use crate::position::Position;
 use leaf_expr::LeafKey;
 use sample_core::Ty;
 
-/// An expression of a network: where it stands, and how a stored closure for it is found. It is typed as it says.
+/// An expression of a network: where it stands, by what a stored closure for it is found, and its
+/// type. Under the key's types it has that type.
 #[derive(Drop)]
 pub struct LeafNeed {
-    /// Where the expression stands.
+    /// Where the expression stands, from the root of the network.
     pub position: Position,
     /// The expression, the types of the parameters in scope and the type of its input.
     /// In a constant place the input is `Unit`.

@@ -9,7 +9,7 @@ use std::alloc::Global;
 use std::marker::Model;
 use std::rc::Rc;
 
-/// A network, over leaves L.
+/// A network, over leaves L: expressions, or what stands for them. Copies of it share its parts.
 #[cycle(net)]
 #[derive(Drop)]
 pub enum Net<L> {
@@ -48,7 +48,7 @@ impl<L> Model for Sub<L> {
 }
 
 impl<L> Sub<L> {
-    /// The network as a part of another.
+    /// The network as a part of another. `Memory` where a growth was refused.
     pub fn new(alloc: Global, net: Net<L>) -> Result<Sub<L>, Memory>
     where
         L: Drop,
@@ -65,7 +65,8 @@ impl<L> Sub<L> {
         &self.inner
     }
 
-    /// The same network, shared.
+    /// The same network, shared. It takes no memory; `Memory` only where a count of references is
+    /// full.
     pub fn try_copy(&self) -> Result<Sub<L>, Memory>
     where
         L: Drop,
@@ -77,7 +78,8 @@ impl<L> Sub<L> {
 }
 
 impl Net<Expr> {
-    /// A copy, whose parts are shared with it.
+    /// A copy, whose parts are shared with it. It takes no memory; `Memory` only where a count of
+    /// references is full.
     pub fn try_copy(&self, alloc: Global) -> Result<Net<Expr>, Memory>
         ensures { IfOk result (λ n. n ≡ self.now) }
     {

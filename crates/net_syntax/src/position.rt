@@ -27,14 +27,15 @@ impl Model for Position {
 }
 
 impl Position {
-    /// The position to which these child numbers lead.
+    /// The position to which these child numbers lead, counted from 0, from the root on; the root
+    /// itself has none.
     pub fn new(path: Vec<u32>) -> Position
         ensures { result ≡ path.items }
     {
         Position { path }
     }
 
-    /// The child numbers from the root.
+    /// The child numbers, counted from 0, from the root on.
     pub fn path(&self) -> &[u32]
         ensures { result.now ≡ self.now }
     {
@@ -56,7 +57,8 @@ impl Eq for Position {
     ghost laws = { nat_list_eq_equiv };
 }
 
-/// The position as it is printed: `(at 0 1)`, and `(at)` for the root.
+/// The position as it is printed, as a new text: `(at 0 1)`, and `(at)` for the root. `Memory`
+/// where a growth was refused.
 pub fn print_position(alloc: Global, position: &Position) -> Result<String, Memory>
     ensures { IfOk result (λ text. string_bytes text ≡ position_spelling position.now) }
 {
@@ -65,7 +67,8 @@ pub fn print_position(alloc: Global, position: &Position) -> Result<String, Memo
     Ok(text)
 }
 
-/// Adds the position, as it is printed, to the text.
+/// Adds the position, as it is printed, to the end of the text. `Memory` where a growth was
+/// refused; the text may then end with a part of it.
 pub fn push_position(text: &mut String, position: &Position) -> Result<(), Memory>
     ensures { OnOk result (string_bytes text.new ≡ string_bytes text.old ++ position_spelling position.now) }
 {

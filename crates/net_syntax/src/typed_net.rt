@@ -11,8 +11,8 @@ use leaf_expr::Expr;
 use sample_core::Ty;
 use std::marker::Model;
 
-/// A network within the limits that has an input type and an output type, with no parameters and no frozen networks
-/// in scope. It keeps its weight and its height too.
+/// A network within the limits that has an input type and an output type, with no parameters and
+/// no frozen networks in scope. It keeps its weight and its height too.
 #[derive(Drop)]
 pub struct TypedNet {
     input: Ty,
@@ -40,7 +40,8 @@ impl Model for TypedNet {
 }
 
 impl TypedNet {
-    /// The network with its types, its weight and its height, which it must have, all within the limits.
+    /// The network with its types, its weight and its height. It must have these, all within the
+    /// limits.
     pub fn new(input: Ty, output: Ty, net: Net<Expr>, weight: u32, height: u32) -> TypedNet
         requires { WithinLimits (record { input = type_of input; output = type_of output; net = tree_of net; weight = weight; height = height }) }
         ensures { result ≡ record { input = type_of input; output = type_of output; net = tree_of net; weight = weight; height = height } }
@@ -54,14 +55,14 @@ impl TypedNet {
         }
     }
 
-    /// The type of what the network gets.
+    /// The type of each sample that the network gets.
     pub fn input(&self) -> &Ty
         ensures { type_of result.now ≡ self.now.input }
     {
         &self.input
     }
 
-    /// The type of what the network puts out.
+    /// The type of each sample that the network puts out.
     pub fn output(&self) -> &Ty
         ensures { type_of result.now ≡ self.now.output }
     {
@@ -77,14 +78,16 @@ impl TypedNet {
         &self.net
     }
 
-    /// How many nodes the network has, where each resumed network counts as its own.
+    /// How many nodes the network has, at most 1,000,000; a resumed network counts 1 more than the
+    /// one that was frozen.
     pub fn weight(&self) -> u32
         ensures { result ≡ self.now.weight }
     {
         self.weight
     }
 
-    /// How many nodes stand in one another, at most.
+    /// How many nodes stand in one another, at most 256; a resumed network stands over the one
+    /// that was frozen.
     pub fn height(&self) -> u32
         ensures { result ≡ self.now.height }
     {

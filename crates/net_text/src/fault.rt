@@ -5,23 +5,24 @@ ghost use Rattle.std.specs.Prelude.{◌≡◌};
 use leaf_expr::ExprTextFault;
 use thiserror::Error;
 
-/// Why a text is no network file. Each place is that of the first token that doesn't fit, counted in bytes from the
-/// start of the text, or the text's length where it ends too early.
+/// Why a text is no network file. Each `at` is the first byte of the first token that doesn't fit,
+/// counted from 0, or the text's length where it ends too early.
 #[derive(Debug, Drop, PartialEq, Eq, Error)]
 pub enum NetTextFault {
-    /// The first tokens aren't `yampa 1 input`.
+    /// The first three tokens aren't `yampa`, `1`, `input`.
     #[error("header")]
     Header,
-    /// A token that doesn't fit, or no further token.
+    /// A token that doesn't fit and is none of the next two, or no further token.
     #[error("byte {at}: syntax")]
     Syntax { at: usize },
-    /// A number word that is badly spelt or out of range, where a number may stand.
+    /// Where a number may stand, a number word that is badly spelt or out of range: 64 bits for a
+    /// literal, 0 to 65,535 for the number of a parameter.
     #[error("byte {at}: number")]
     Number { at: usize },
-    /// The 601st parenthesis open at once.
+    /// A parenthesis that would be the 601st open at once, also where none fits.
     #[error("byte {at}: nesting")]
     TooDeep { at: usize },
-    /// The text has more than 1,048,576 bytes.
+    /// The text has more than 1,048,576 bytes, whatever they are.
     #[error("too long")]
     TooLong,
     /// A growth was refused.

@@ -5,9 +5,10 @@ ghost use Rattle.net_text.specs.Grammar.{networks};
 ghost use Rattle.net_text.specs.FileLaws.{ReadFileLaw, OneFileLaw, LeafMeaningLaw, PrintedFileLaw};
 ghost use Rattle.net_text.specs.FileRows.{NetworkRows, IdentityIs, ConstantIs, FileFaultRows};
 
-/// Reading a network, or what stands inside one, at the front of tokens: what is read is in the grammar, what is in
-/// the grammar is read whatever follows, there is one reading, and a fault is the first token that doesn't fit, by
-/// its place and kind. Types and expressions inside networks are those that they are by themselves.
+/// Reading a network, or what stands inside one, at the front of tokens: what is read is in the
+/// grammar, what is in the grammar is read whatever follows, there is one reading, and a fault is
+/// the first token that doesn't fit, by its place and kind. Types and expressions inside networks
+/// are those that they are by themselves.
 pub fn reading_laws()
     ensures found { FoundLaw networks }
     ensures only { OnlyLaw networks }
@@ -16,7 +17,8 @@ pub fn reading_laws()
     ensures leaves { LeafMeaningLaw }
 {}
 
-/// Reading a whole file: what is read is a network file, a network file is read, and it has one reading.
+/// Reading a whole file: what is read is a network file, a network file is read, and it has one
+/// reading.
 pub fn file_laws()
     ensures files { ReadFileLaw }
     ensures one_file { OneFileLaw }
@@ -27,7 +29,8 @@ pub fn printing_laws()
     ensures { PrintedFileLaw }
 {}
 
-/// Each form of networks, read once, refusals by place and kind, and each sugar as the core form that it stands for.
+/// Each form of networks, read once, refusals by place and kind, and each sugar as the core form
+/// that it stands for.
 pub fn grammar_rows()
     ensures networks { NetworkRows }
     ensures faults { FileFaultRows }

@@ -25,10 +25,16 @@ use net_syntax::{Net, Sub};
 use sample_core::Ty;
 use std::alloc::Global;
 
-/// Reads a network file, `yampa 1 input TYPE NET`: the type of the input, and the network. Sugar is expanded. A file
-/// of more than 1,048,576 bytes is `TooLong`; else the first token that doesn't fit is answered: `Header` where it is
-/// one of the first three, `TooDeep` at the 601st parenthesis open at once, `Number` at a number word that is badly
-/// spelt or out of range where a number may stand, and `Syntax` at any other.
+/// Reads a network file, `yampa 1 input TYPE NET`. Answers the type of the input, and the network,
+/// with sugar expanded.
+///
+/// `TooLong`: the text has more than 1,048,576 bytes, whatever they are. Else a refusal is the
+/// first token that doesn't fit, by its first byte, counted from 0. `Header`: it is one of the
+/// first three, or they aren't all there. `TooDeep`: a parenthesis that would be the 601st open at
+/// once, also where none fits. `Number`: where a number may stand, a number word that is badly
+/// spelt or out of range: 64 bits for a literal, 0 to 65,535 for the number of a parameter.
+/// `Syntax`: any other, among them one behind the network, or the text's length where it ends too
+/// early. `Memory`: a growth was refused.
 pub fn read_net(alloc: Global, text: &[u8]) -> Result<(Ty, Net<Expr>), NetTextFault>
     // What is read is what the file says.
     ensures found { IfOk result (λ x. IsFile text.now (type_of x.0) (tree_of x.1)) }
@@ -42,7 +48,8 @@ pub fn read_net(alloc: Global, text: &[u8]) -> Result<(Ty, Net<Expr>), NetTextFa
     file(alloc, text)
 }
 
-/// A whole network file.
+/// What `read_net` answers. It stands apart, since the other clauses of that contract follow from
+/// its exact one.
 fn file(alloc: Global, text: &[u8]) -> Result<(Ty, Net<Expr>), NetTextFault>
     ensures { GivesFile result (read_file text.now) }
 {
@@ -94,7 +101,8 @@ fn word_end(text: &[u8], at: usize, word: &str) -> Option<usize>
     }
 }
 
-/// The network at or after byte `at`, with room for so many more parentheses, and the byte behind it.
+/// The network at or after byte `at`, with room for so many more parentheses, and the byte behind
+/// it.
 #[cycle(network)]
 #[tactic(auto, using(crate::proofs::ReadSteps::opened))]
 fn network_at(
@@ -209,7 +217,8 @@ fn leaf_form_at(
     Ok((net, end))
 }
 
-/// The expression at or after byte `at`, with room for so many more parentheses, and the byte behind it.
+/// The expression at or after byte `at`, with room for so many more parentheses, and the byte
+/// behind it.
 fn expr_at(
     alloc: Global,
     text: &[u8],

@@ -11,11 +11,14 @@ use net_syntax::{MOST_HEIGHT, MOST_WEIGHT, Net, TypedNet, height, weight};
 use sample_core::Ty;
 use std::alloc::Global;
 
-/// The network with its types, its weight and its height, where it has types at this input type and is within the
-/// limits; else the first fault.
+/// The network with its input type, its output type, its weight and its height; else the first
+/// fault.
 ///
-/// The input type's limits are tested first; then each node, its tests in written order, with each type that it makes;
-/// then the height, and last the weight.
+/// The input type is tested first: `TooDeep` over depth 32 or 256 nodes. Then each node, its parts
+/// in written order: `Expr` at an expression that is refused, and `Joint` at an `iPre` whose first
+/// output has another type than its input. Then the height: `TooDeep` over 256. Last the weight:
+/// `TooHeavy` over 1,000,000. `Memory` where a growth was refused. The forms that are there lead
+/// to no other fault.
 pub fn check_types(alloc: Global, input: Ty, net: Net<Expr>) -> Result<TypedNet, TypeFault>
     ensures { Gives (λ typed. typed) result (check (type_of input) (tree_of net)) }
 {

@@ -8,49 +8,51 @@ use sample_core::Memory;
 use std::alloc::{AllocError, AllocFailed};
 use thiserror::Error;
 
-/// Why a network has no types within the limits. A position is that of the node or the expression which is refused.
+/// Why a network has no types within the limits. A position is that of the node or of the
+/// expression that is refused.
 #[derive(Debug, Drop, PartialEq, Eq, Error)]
 pub enum TypeFault {
-    /// The expression is refused.
+    /// The expression is refused, for that fault, which isn't `Memory`.
     #[error("an expression is refused: {fault}")]
     Expr {
         position: Position,
         fault: ExprFault,
     },
-    /// A type differs from the one that is wanted.
+    /// A type of the node's parts differs from the one that is wanted.
     #[error("types differ")]
     Joint {
         position: Position,
     },
-    /// No frozen network has that level.
+    /// No frozen network has the node's level.
     #[error("no frozen network has that level")]
     NoOld {
         position: Position,
     },
-    /// An event type is wanted.
+    /// The node wants an event type.
     #[error("an event type is wanted")]
     NotEvent {
         position: Position,
     },
-    /// A pair type is wanted.
+    /// The node wants a pair type.
     #[error("a pair type is wanted")]
     NotPair {
         position: Position,
     },
-    /// There are no members, or more than 64.
+    /// The node has no members, or more than 64.
     #[error("no members, or more than 64")]
     Members {
         position: Position,
     },
-    /// A number is outside the range of its place.
+    /// A number of the node is outside the range of its place.
     #[error("a number is out of range")]
     Number {
         position: Position,
     },
-    /// The input type, a type that a node makes, or the network's height is over its limit.
+    /// The input type or a type that a node makes has a depth over 32 or more than 256 nodes, or
+    /// the network's height is over 256.
     #[error("too deep")]
     TooDeep,
-    /// The network's weight is over its limit.
+    /// The network's weight is over 1,000,000.
     #[error("too heavy")]
     TooHeavy,
     /// A growth was refused.

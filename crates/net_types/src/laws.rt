@@ -2,8 +2,8 @@
 
 ghost use Rattle.net_types.specs.TypingLaws.{WalkLaw, CheckLaw, FaultLaw};
 
-/// The walk answers a type exactly where the network has it within the limits, and the check exactly what is within
-/// all limits; each fault stands at a part of the network that can have it.
+/// The walk answers a type exactly where the network has it within the limits, and the check
+/// exactly what is within all limits; each fault stands at a part of the network that can have it.
 pub fn typing_laws()
     ensures walk { WalkLaw }
     ensures check { CheckLaw }

@@ -1,5 +1,5 @@
-//! The type checker of networks: a type, a weight and a height for each network within the limits, and else the
-//! first fault with its position.
+//! The type checker of networks: a type, a weight and a height for each network within the limits,
+//! and else the first fault with its position.
 #![tactic(auto)]
 
 mod check;

@@ -15,13 +15,17 @@ use std::alloc::Global;
 use step_core::{Bound, bind};
 use yampa_run::{RunFault, RunReport, fault_line, fill_table, run_whole, table_refusal};
 
-/// A run that was worked out: a network file, a stream, what is written, and the exit status with the line that tells
-/// why the run ended early.
+/// A run that was worked out.
 pub struct Run {
+    /// The text of the network file.
     pub net: &'static str,
+    /// The text of the stream.
     pub stream: &'static str,
+    /// All that is written, a line for each sample before the first faulty line.
     pub output: &'static str,
+    /// The exit status; 0 where the run meets its stream's end.
     pub status: u8,
+    /// The line that tells why the run ended early, without its line feed; empty with status 0.
     pub line: &'static str,
 }
 
@@ -33,6 +37,7 @@ pub fn goes_so(alloc: Global, run: &Run) -> bool {
     }
 }
 
+/// The network of a file's text with its types; `None` where the text or its types are refused.
 pub fn network(alloc: Global, text: &str) -> Option<TypedNet> {
     match read_net(alloc, text.as_bytes()) {
         Ok((input, net)) => check_types(alloc, input, net).ok(),

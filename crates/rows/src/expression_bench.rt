@@ -121,7 +121,8 @@ pub fn with_many(
     Ok(text)
 }
 
-/// The text in which so many forms that begin with `form` stand in one another, with `inside` in the middle.
+/// The text in which so many forms that begin with `form` stand in one another, with `inside` in
+/// the middle.
 pub fn nested(alloc: Global, form: &str, times: u32, inside: &str) -> Result<String, Memory> {
     let opened = with_many(alloc, "", form, times, inside)?;
     with_many(alloc, opened.as_str(), ")", times, "")

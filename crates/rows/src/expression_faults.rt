@@ -71,7 +71,8 @@ static AT_THE_GREATEST_DEPTH: [(&str, Option<ExprFault>); 7] = [
     ("(on (none Int) 1 1)", Some(ExprFault::TooDeep)),
 ];
 
-/// At an input that is a number; the pair of the value with itself, seven times over, has a type of 255 nodes.
+/// At an input that is a number; the pair of the value with itself, seven times over, has a type
+/// of 255 nodes.
 static TYPES_BY_SIZE: [(&str, Option<ExprFault>); 3] = [
     (
         "(then (pair x x) (then (pair x x) (then (pair x x) (then (pair x x) (then (pair x x) (then (pair x x) (then (pair x x) (event x))))))))",
@@ -87,7 +88,8 @@ static TYPES_BY_SIZE: [(&str, Option<ExprFault>); 3] = [
     ),
 ];
 
-/// Whether the typing of the expression is refused so at that input; with `None`, whether it has a type.
+/// Whether the typing of the expression is refused so at that input; with `None`, whether it has a
+/// type.
 fn answers(alloc: Global, input: &Ty, expr: &Expr, fault: &Option<ExprFault>) -> bool {
     match typing(alloc, input, expr) {
         Ok(_ty) => fault.is_none(),
@@ -141,7 +143,8 @@ fn answers_nested(
     }
 }
 
-/// The same of an expression that names the type in which `Event` stands so many times round a number.
+/// The same of an expression that names the type in which `Event` stands so many times round a
+/// number.
 fn answers_naming(
     alloc: Global,
     times: u32,
@@ -189,8 +192,9 @@ fn types_by_their_size(rt: HostRuntime) {
     }
 }
 
-/// How many times `Event` stands round a number in a type, what is before it and behind it, and the answer. The type
-/// that a form names is tested before the form's parts, and the form's own type after them.
+/// How many times `Event` stands round a number in a type, what is before it and behind it, and
+/// the answer. The type that a form names is tested before the form's parts, and the form's own
+/// type after them.
 static NAMED_TYPES: [(u32, &str, &str, Option<ExprFault>); 6] = [
     (30, "(none ", ")", None),
     (31, "(none ", ")", Some(ExprFault::TooDeep)),
@@ -210,8 +214,8 @@ fn named_types(rt: HostRuntime) {
     }
 }
 
-/// A form, how many times it stands round an expression, and the answer. Height 256 is allowed; the height is tested
-/// before all else.
+/// A form, how many times it stands round an expression, and the answer. Height 256 is allowed;
+/// the height is tested before all else.
 static HEIGHTS: [(&str, u32, &str, Option<ExprFault>); 5] = [
     ("(neg ", 255, "x", None),
     ("(neg ", 256, "x", Some(ExprFault::TooDeep)),

@@ -1,4 +1,5 @@
-// Texts of expressions and types: what is read, what is printed, what is refused and at which byte.
+// Texts of expressions and types: what is read, what is printed, what is refused and at which
+// byte.
 
 use crate::expression_bench::{expr_in, is_expr, is_type, nested, with_many};
 use leaf_expr::{ExprTextFault, read_expr, read_expr_at, read_type_at, token_at};
@@ -37,7 +38,8 @@ static CORE_FORMS: [&str; 29] = [
     "(nth (list Int x) (len x) 1)",
 ];
 
-/// Texts, and what is printed of them: short forms are expanded, white space and comments part tokens.
+/// Texts, and what is printed of them: short forms are expanded, white space and comments part
+/// tokens.
 static PRINTED_FORMS: [(&str, &str); 9] = [
     ("(lMerge x (fst x))", "(on x (fst x) (event (snd x)))"),
     ("(gate Int 1 true)", "(if true 1 (none Int))"),
@@ -155,7 +157,8 @@ fn refuses_nested(alloc: Global, times: u32, inside: &str, fault: &ExprTextFault
     }
 }
 
-/// How many forms are open, what follows, and the refusal: at the 601st parenthesis, also where none fits.
+/// How many forms are open, what follows, and the refusal: at the 601st parenthesis, also where
+/// none fits.
 static OPENED: [(u32, &str, ExprTextFault); 6] = [
     (600, "", ExprTextFault::Syntax { at: 3000 }),
     (600, "01", ExprTextFault::Number { at: 3000 }),
@@ -198,7 +201,8 @@ fn texts_by_their_length(rt: HostRuntime) {
     assert!(rt; is_too_long(rt.alloc(), ")", 1_048_576));
 }
 
-/// Whether the expression from that byte on, with so many parentheses open, is printed so and ends there.
+/// Whether the expression from that byte on, with so many parentheses open, is printed so and ends
+/// there.
 fn reads_expr_at(alloc: Global, text: &str, at: usize, depth: usize, read: (&str, usize)) -> bool {
     match read_expr_at(alloc, text.as_bytes(), at, depth) {
         Ok((expr, end)) => is_expr(alloc, &expr, read.0) && end == read.1,
@@ -214,7 +218,8 @@ fn reads_type_at(alloc: Global, text: &str, at: usize, depth: usize, read: (&str
     }
 }
 
-/// A text, a byte in it, how many parentheses are open, and what is read from there with the byte behind it.
+/// A text, a byte in it, how many parentheses are open, and what is read from there with the byte
+/// behind it.
 static EXPRESSIONS_AT: [(&str, usize, usize, (&str, usize)); 7] = [
     ("(add x 1))", 0, 1, ("(add x 1)", 9)),
     ("(arr (add x 1))", 5, 1, ("(add x 1)", 14)),

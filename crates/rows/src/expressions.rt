@@ -5,8 +5,8 @@ use leaf_expr::Expr;
 use sample_core::Ty;
 use std::alloc::Global;
 
-/// The input's type and value, an expression in core forms, and its type and value. Parameter 0 is the number 10, and
-/// parameter 1 is `true`.
+/// The input's type and value, an expression in core forms, and its type and value. Parameter 0 is
+/// the number 10, and parameter 1 is `true`.
 type Row = (
     (&'static str, &'static str),
     &'static str,

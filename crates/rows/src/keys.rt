@@ -4,7 +4,8 @@ use crate::expression_bench::{expr_in, type_in};
 use leaf_expr::LeafKey;
 use std::alloc::Global;
 
-/// The key of the expression `(add x 1)` at an input that is a number, under that many parameters that are numbers.
+/// The key of the expression `(add x 1)` at an input that is a number, under that many parameters
+/// that are numbers.
 fn key_under(alloc: Global, params: u32) -> Option<LeafKey> {
     let mut types = Vec::new(alloc);
     for _ in 0..params {

@@ -126,8 +126,8 @@ fn answers_with(alloc: Global, call: Call, trees: &Trees, spare: usize) -> Answe
     }
 }
 
-/// How many answers were want of memory, with more and more bytes left; `None` where one was neither that nor the
-/// one with ample memory, or where the last was not that one.
+/// How many answers were want of memory, with more and more bytes left; `None` where one was
+/// neither that nor the one with ample memory, or where the last was not that one.
 fn refusals(alloc: Global, call: Call, trees: &Trees) -> Option<u32> {
     let mut refused = 0u32;
     let mut last = Answer::Other;

@@ -25,8 +25,8 @@ impl Files for OneFile<'_> {
     }
 }
 
-/// Whether the command line on one file, called `net`, leads to a run (status 0, line `run`), to that text (status 0),
-/// or to a refusal with that status and line.
+/// Whether the command line on one file, called `net`, leads to a run (status 0, line `run`), to
+/// that text (status 0), or to a refusal with that status and line.
 pub fn leads_to(alloc: Global, words: &[&str], bytes: &[u8], status: u8, line: &str) -> bool {
     let files = OneFile { bytes };
     match prepare(alloc, words, &files) {
@@ -50,8 +50,8 @@ pub fn refuses(refusal: Refusal, wanted_status: u8, wanted: &str) -> bool {
     }
 }
 
-/// The status that the command line on one file, called `net`, leads to where nothing is run: 0 for a text that is
-/// printed. None for a run, and where memory is short.
+/// The status that the command line on one file, called `net`, leads to where nothing is run: 0
+/// for a text that is printed. None for a run, and where memory is short.
 pub fn status_of(alloc: Global, words: &[&str], bytes: &[u8]) -> Option<u8> {
     let files = OneFile { bytes };
     match prepare(alloc, words, &files) {

@@ -91,7 +91,8 @@ fn are_equal(alloc: Global, a: &str, b: &str) -> bool {
     }
 }
 
-/// Whether 600 parentheses in one another, the most that may be open, are read and printed, but have no type.
+/// Whether 600 parentheses in one another, the most that may be open, are read and printed, but
+/// have no type.
 fn deepest_is_read(alloc: Global) -> bool {
     match nested(alloc, "(then x ", 600, "x") {
         Ok(text) => {
@@ -114,7 +115,8 @@ fn six_hundred_parentheses(rt: HostRuntime) {
     assert!(rt; deepest_is_read(rt.alloc()));
 }
 
-/// Whether the value is read as one of the type, is equal to itself read again, and is printed again.
+/// Whether the value is read as one of the type, is equal to itself read again, and is printed
+/// again.
 fn is_read(alloc: Global, ty: &Ty, text: &str) -> bool {
     match value_in(alloc, ty, text) {
         Some(sample) => {
@@ -145,7 +147,8 @@ fn is_read_at(alloc: Global, ty: Result<String, Memory>, text: Result<String, Me
     }
 }
 
-/// Pairs of a list of 1,000 numbers and a further pair, 30 times, round a number: a type of depth 32.
+/// Pairs of a list of 1,000 numbers and a further pair, 30 times, round a number: a type of depth
+/// 32.
 fn lists_in_pairs(alloc: Global) -> Result<String, Memory> {
     let part = with_many(alloc, "(pair (list", " 7", 1_000, ") ")?;
     nested(alloc, part.as_str(), 30, "7")

@@ -9,7 +9,8 @@ const TYPE: &str = "(Pair (List (Event Int)) (Pair Bool Unit))";
 
 const VALUE: &str = "(pair (list (event 5) none (event -7)) (pair true unit))";
 
-/// What stands where a value of the type is wanted, and the fault with its byte. Faults are told from the left.
+/// What stands where a value of the type is wanted, and the fault with its byte. Faults are told
+/// from the left.
 static FAULTS: [(&str, ValueFault); 24] = [
     ("(pair (list (event 05)", ValueFault::NotAValue { at: 19 }),
     (

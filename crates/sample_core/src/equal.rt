@@ -7,7 +7,7 @@ ghost use Rattle.sample_core.specs.SeenType.{type_of};
 use crate::sample::Sample;
 use crate::ty::Ty;
 
-/// Whether the two values are equal.
+/// Whether the two values are equal, all their parts included. It takes no memory.
 pub fn same(a: &Sample, b: &Sample) -> bool
     ensures { IsTrue result ↔ (datum_of a.now ≡ datum_of b.now) }
 {
@@ -36,7 +36,7 @@ pub fn same(a: &Sample, b: &Sample) -> bool
     }
 }
 
-/// Whether the two types are equal.
+/// Whether the two types are equal, all their parts included. It takes no memory.
 pub fn same_type(a: &Ty, b: &Ty) -> bool
     ensures { IsTrue result ↔ (type_of a.now ≡ type_of b.now) }
 {

@@ -6,16 +6,17 @@ use crate::memory::Memory;
 use std::alloc::{AllocError, AllocFailed};
 use thiserror::Error;
 
-/// Why no value of the type was read. Each place is counted in bytes from the start of the text.
+/// Why no value of the type was read. Each `at` is a byte of the text, counted from 0.
 #[derive(Debug, Drop, PartialEq, Eq, Error)]
 pub enum ValueFault {
-    /// Where a value must stand none begins, of whatever type; or a space or a `)` is missing.
+    /// Where a value must stand none begins, of whatever type; or inside a value a space or a `)`
+    /// is missing.
     #[error("byte {at}: not a value")]
     NotAValue { at: usize },
-    /// A value of another type begins.
+    /// Where a value must stand one of another type begins.
     #[error("byte {at}: a value of another type")]
     OtherType { at: usize },
-    /// The number is outside 64 bits.
+    /// A number is wanted, and the one that begins there is outside 64 bits.
     #[error("byte {at}: the number is out of range")]
     NumberRange { at: usize },
     /// A growth was refused.

@@ -2,7 +2,7 @@
 
 use std::alloc::{AllocError, AllocFailed};
 
-/// A growth was refused.
+/// Want of memory: a growth was refused, or a count of references is full.
 #[derive(Clone, Copy, PartialEq, Eq, Debug)]
 pub struct Memory;
 

@@ -1,4 +1,4 @@
-// Numbers in their one spelling.
+//! Numbers in their one spelling.
 
 ghost use Rattle.std.specs.Prelude.{◌≡◌, IsTrue, Some, None, if◌then◌else◌};
 ghost use Rattle.sample_core.specs.Number.{digits_part, is_number, is_number_word as number_word, is_in_64, number_of};
@@ -26,7 +26,7 @@ fn without_minus(word: &[u8]) -> &[u8]
     }
 }
 
-/// Whether the word is an optional `-` and digits, at least one.
+/// Whether the word is an optional `-` and digits, at least one: a number, maybe badly spelt.
 pub fn is_number_word(word: &[u8]) -> bool
     ensures { result ≡ number_word word.now }
 {
@@ -34,7 +34,8 @@ pub fn is_number_word(word: &[u8]) -> bool
     !digits.is_empty() && are_digits(digits)
 }
 
-/// Whether the word is a number: `0`, or an optional `-`, a digit 1 to 9 and further digits.
+/// Whether the word is a number in its one spelling, of whatever size: `0`, or an optional `-`, a
+/// digit 1 to 9 and further digits.
 pub fn is_number_spelling(word: &[u8]) -> bool
     ensures { result ≡ is_number word.now }
 {
@@ -45,7 +46,8 @@ pub fn is_number_spelling(word: &[u8]) -> bool
     }
 }
 
-/// The number that the word spells, where it has 64 bits.
+/// The number that the word spells; `None` where it is outside 64 bits. The word must be a number
+/// in its one spelling.
 pub fn number(word: &[u8]) -> Option<i64>
     requires { IsTrue (is_number word.now) }
     ensures { result ≡ (if is_in_64 word.now then Some (number_of word.now) else None) }

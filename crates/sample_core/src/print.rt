@@ -11,7 +11,7 @@ use crate::ty::Ty;
 use itoa::Buffer;
 use std::alloc::Global;
 
-/// The value's one spelling.
+/// The value's one spelling, as a new text. `Memory` where a growth was refused.
 pub fn print_value(alloc: Global, sample: &Sample) -> Result<String, Memory>
     ensures { IfOk result (λ text. string_bytes text ≡ spelling (datum_of sample.now)) }
 {
@@ -20,7 +20,7 @@ pub fn print_value(alloc: Global, sample: &Sample) -> Result<String, Memory>
     Ok(text)
 }
 
-/// The type's one spelling.
+/// The type's one spelling, as a new text. `Memory` where a growth was refused.
 pub fn print_type(alloc: Global, ty: &Ty) -> Result<String, Memory>
     ensures { IfOk result (λ text. string_bytes text ≡ type_spelling (type_of ty.now)) }
 {
@@ -29,7 +29,8 @@ pub fn print_type(alloc: Global, ty: &Ty) -> Result<String, Memory>
     Ok(text)
 }
 
-/// Adds the value's one spelling to the text.
+/// Adds the value's one spelling to the end of the text. `Memory` where a growth was refused; the
+/// text may then end with a part of it.
 pub fn push_value(text: &mut String, sample: &Sample) -> Result<(), Memory>
     ensures { OnOk result (string_bytes text.new ≡ string_bytes text.old ++ spelling (datum_of sample.now)) }
 {
@@ -63,7 +64,8 @@ pub fn push_value(text: &mut String, sample: &Sample) -> Result<(), Memory>
     Ok(())
 }
 
-/// Adds the type's one spelling to the text.
+/// Adds the type's one spelling to the end of the text. `Memory` where a growth was refused; the
+/// text may then end with a part of it.
 pub fn push_type(text: &mut String, ty: &Ty) -> Result<(), Memory>
     ensures { OnOk result (string_bytes text.new ≡ string_bytes text.old ++ type_spelling (type_of ty.now)) }
 {

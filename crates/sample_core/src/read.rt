@@ -15,8 +15,13 @@ use crate::ty::Ty;
 use crate::words::{is_word, split_form, split_word};
 use std::alloc::Global;
 
-/// Reads one value of the type at the front of the text, and how many bytes it takes. Bytes may follow it, but none that
-/// goes on its last word. Refused with the leftmost fault, or for want of memory.
+/// Reads one value of the type at the front of the text. Answers the value and how many bytes it
+/// takes. Bytes may follow it, but none that goes on its last word: no letter, digit or `-`.
+///
+/// A refusal is the leftmost fault, and its place is a byte of the text, counted from 0.
+/// `NotAValue`: where a value must stand none of any type begins, or inside a value a space or a
+/// `)` is missing. `OtherType`: a value of another type begins. `NumberRange`: a number is wanted,
+/// and the one that stands there is outside 64 bits. `Memory`: a growth was refused.
 pub fn read_value(alloc: Global, text: &[u8], ty: &Ty) -> Result<(Sample, usize), ValueFault>
     // What is read is spelled in front.
     ensures found { IfOk result (λ x. (x.1 ≡ length (spelling (datum_of x.0))) × SpellsValue (datum_of x.0) (type_of ty.now) text.now (drop x.1 text.now)) }
@@ -29,7 +34,8 @@ pub fn read_value(alloc: Global, text: &[u8], ty: &Ty) -> Result<(Sample, usize)
     front(alloc, text, ty)
 }
 
-/// The value at the front of the text, and how many bytes it takes.
+/// What `read_value` answers. It stands apart, since the other clauses of that contract follow
+/// from its exact one.
 #[tactic(auto, unfolding(crate::specs::Reading::reading))]
 fn front(alloc: Global, text: &[u8], ty: &Ty) -> Result<(Sample, usize), ValueFault>
     ensures exact { Gives (λ x. (datum_of x.0, x.1)) result (reading (type_of ty.now) text.now) }
@@ -205,7 +211,8 @@ fn value<'t>(
     }
 }
 
-/// Elements of the type, each behind a space, as long as a space stands there; and what is behind them.
+/// Elements of the type, each behind a space, as long as a space stands there; and what is behind
+/// them.
 #[cycle(value)]
 fn elements<'t>(
     alloc: Global,

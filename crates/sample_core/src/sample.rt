@@ -8,7 +8,7 @@ use std::alloc::Global;
 use std::marker::Model;
 use std::rc::Rc;
 
-/// A value.
+/// A value. Copies of it share its parts.
 #[cycle(sample)]
 #[derive(Drop)]
 pub enum Sample {
@@ -16,15 +16,15 @@ pub enum Sample {
     Unit,
     /// `true` or `false`.
     Bool(bool),
-    /// A number.
+    /// A signed number of 64 bits.
     Int(i64),
     /// `(pair v w)`.
     Pair(Child, Child),
-    /// `none`.
+    /// `none`, no event.
     NoEvent,
-    /// `(event v)`.
+    /// `(event v)`, an event that carries v.
     Event(Child),
-    /// `(list v1 .. vn)`.
+    /// `(list v1 .. vn)`, of any length.
     List(Samples),
 }
 
@@ -84,7 +84,7 @@ impl Model for Samples {
 }
 
 impl Child {
-    /// The value as a part of another.
+    /// The value as a part of another. `Memory` where a growth was refused.
     pub fn new(alloc: Global, sample: Sample) -> Result<Child, Memory>
         ensures { IfOk result (λ c. c ≡ datum_of sample) }
     {
@@ -99,7 +99,8 @@ impl Child {
         &self.inner
     }
 
-    /// The same value, shared.
+    /// The same value, shared. It takes no memory; `Memory` only where a count of references is
+    /// full.
     pub fn try_copy(&self) -> Result<Child, Memory>
         ensures { IfOk result (λ c. c ≡ self.now) }
     {
@@ -109,7 +110,7 @@ impl Child {
 }
 
 impl Samples {
-    /// The values as the elements of a list value.
+    /// The values as the elements of a list value, in order. `Memory` where a growth was refused.
     pub fn new(alloc: Global, all: Vec<Sample>) -> Result<Samples, Memory>
         ensures { IfOk result (λ vs. vs ≡ map datum_of all.items) }
     {
@@ -124,7 +125,8 @@ impl Samples {
         self.all.as_slice()
     }
 
-    /// The same elements, shared.
+    /// The same elements, shared. It takes no memory; `Memory` only where a count of references is
+    /// full.
     pub fn try_copy(&self) -> Result<Samples, Memory>
         ensures { IfOk result (λ vs. vs ≡ self.now) }
     {
@@ -134,7 +136,8 @@ impl Samples {
 }
 
 impl Sample {
-    /// A copy, whose parts are shared with it.
+    /// A copy, whose parts are shared with it. It takes no memory; `Memory` only where a count of
+    /// references is full.
     pub fn try_copy(&self, _alloc: Global) -> Result<Sample, Memory>
         ensures { IfOk result (λ s. s ≡ self.now) }
     {

@@ -8,7 +8,7 @@ use std::alloc::Global;
 use std::marker::Model;
 use std::rc::Rc;
 
-/// A type of values.
+/// A type of values. Copies of it share its parts.
 #[cycle(ty)]
 #[derive(Drop)]
 pub enum Ty {
@@ -53,7 +53,7 @@ impl Model for TyChild {
 }
 
 impl TyChild {
-    /// The type as a part of another.
+    /// The type as a part of another. `Memory` where a growth was refused.
     pub fn new(alloc: Global, ty: Ty) -> Result<TyChild, Memory>
         ensures { IfOk result (λ c. c ≡ type_of ty) }
     {
@@ -68,7 +68,8 @@ impl TyChild {
         &self.inner
     }
 
-    /// The same type, shared.
+    /// The same type, shared. It takes no memory; `Memory` only where a count of references is
+    /// full.
     pub fn try_copy(&self) -> Result<TyChild, Memory>
         ensures { IfOk result (λ c. c ≡ self.now) }
     {
@@ -78,7 +79,8 @@ impl TyChild {
 }
 
 impl Ty {
-    /// A copy, whose parts are shared with it.
+    /// A copy, whose parts are shared with it. It takes no memory; `Memory` only where a count of
+    /// references is full.
     pub fn try_copy(&self, _alloc: Global) -> Result<Ty, Memory>
         ensures { IfOk result (λ t. t ≡ self.now) }
     {

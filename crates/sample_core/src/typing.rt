@@ -8,7 +8,8 @@ ghost use Rattle.sample_core.specs.SeenType.{type_of};
 use crate::sample::Sample;
 use crate::ty::Ty;
 
-/// Whether the value is of the type.
+/// Whether the value is of the type, all its parts included. `none` is of every event type, and
+/// the empty list of every list type. It takes no memory.
 #[tactic(auto, using(crate::proofs::HasTypeCases::pair_is, crate::proofs::HasTypeCases::event_is, crate::specs::HasType::unit_has, crate::specs::HasType::truth_has, crate::specs::HasType::number_has, crate::specs::HasType::none_has))]
 pub fn has_type(sample: &Sample, ty: &Ty) -> bool
     ensures { IsTrue result ↔ HasType (datum_of sample.now) (type_of ty.now) }

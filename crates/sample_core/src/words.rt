@@ -24,7 +24,8 @@ pub(crate) fn split_word(text: &[u8]) -> (&[u8], &[u8])
     text.split_at(text.len())
 }
 
-/// The word directly behind a `(` at the front, and what is behind that word; an empty word where there is no `(`.
+/// The word directly behind a `(` at the front, and what is behind that word; an empty word where
+/// there is no `(`.
 pub(crate) fn split_form(text: &[u8]) -> (&[u8], &[u8])
     ensures word { result.0.now ≡ form_word text.now }
     ensures after { result.1.now ≡ after_form text.now }

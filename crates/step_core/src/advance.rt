@@ -12,7 +12,8 @@ use net_syntax::Net;
 use sample_core::{Memory, Sample};
 use std::alloc::Global;
 
-/// The network's answer to its first sample. Adds to `next` what its cells hold after it.
+/// The network's answer to its first sample. Adds to `next` what its cells hold after it. `Memory`
+/// where a growth was refused.
 pub(crate) fn start(
     alloc: Global,
     table: &LeafTable,
@@ -38,8 +39,9 @@ pub(crate) fn start(
     }
 }
 
-/// The network's answer to a further sample, `dt` after the one before, from the values in front of `held`, which its cells hold; and the rest of these.
-/// Adds to `next` what the cells hold after it.
+/// The network's answer to a further sample, `dt` after the one before, and what stands in `held`
+/// behind the values of its cells. The cells hold the values in front of `held` before the sample;
+/// what they hold after it is added to `next`. `Memory` where a growth was refused.
 pub(crate) fn step<'a>(
     alloc: Global,
     table: &LeafTable,

@@ -9,7 +9,7 @@ use net_syntax::Net;
 use sample_core::Ty;
 use std::marker::Model;
 
-/// A network whose expressions are rows of a table, with its input type.
+/// A network whose expressions are rows of a table, with its input type. `bind` makes it.
 #[derive(Drop)]
 pub struct Bound {
     pub(crate) input: Ty,
@@ -30,7 +30,7 @@ impl Model for Bound {
 }
 
 impl Bound {
-    /// The network's input type.
+    /// The type of each sample that the network gets.
     pub fn input(&self) -> &Ty
         ensures { type_of result.now ≡ self.now.input }
     {

@@ -10,7 +10,7 @@ use thiserror::Error;
 /// Why a network is not bound to a table.
 #[derive(Debug, Drop, PartialEq, Eq, Error)]
 pub enum BindFault {
-    /// The table has no row for the expression at this position. It is the first such from the root on.
+    /// The table has no row for the expression at this position, the first such in preorder.
     #[error("no row for an expression")]
     MissingLeaf {
         /// Where the expression stands.

@@ -13,7 +13,8 @@ use sample_core::{Memory, Sample};
 use std::alloc::Global;
 use std::mem;
 
-/// A network that runs. It borrows what it runs, and holds what its cells keep from one sample to the next.
+/// A network that runs. It borrows the network and the table, and holds what the network's cells
+/// keep from one sample to the next.
 #[derive(Drop)]
 pub struct Runner<'a> {
     alloc: Global,
@@ -30,8 +31,8 @@ impl<'a> Runner<'a> {
     ghost use Rattle.step_core.specs.SeenRunner.{running_of};
     ghost use Rattle.step_core.specs.RowTyping.{network_by};
 
-    /// The network before its first sample, on the table that it was bound to, or on that table with more rows.
-    /// It takes no memory.
+    /// The network before its first sample, on the table that it was bound to, or on that table
+    /// with more rows. It takes no memory.
     pub fn new(alloc: Global, bound: &'a Bound, table: &'a LeafTable) -> Runner<'a>
         requires { FitsTable (rows_of table.now) bound.now }
         ensures stands { StandsFor (running_of result) [] }
@@ -49,8 +50,11 @@ impl<'a> Runner<'a> {
         }
     }
 
-    /// The network's answer to one sample more, of its input type, `step` after the sample before; a first sample's
-    /// step is ignored. After `Memory` the runner is as it was.
+    /// The network's answer to one sample more. The sample must be of the network's input type.
+    /// `step` is the time since the sample before, from 1 to 2^63 - 1; a first sample's step is
+    /// ignored. There must be fewer than 2^63 samples before.
+    ///
+    /// `Memory` where a growth was refused; the runner is then as it was before the call.
     pub fn push(&mut self, step: u64, sample: &Sample) -> Result<Sample, Memory>
         requires typed { HasType (datum_of sample.now) (running_of self.old).input }
         requires later { 0 < (running_of self.old).samples → (1 ≤ step) × (step < 2 ^ 63) }
@@ -82,7 +86,7 @@ impl<'a> Runner<'a> {
         Ok(answer)
     }
 
-    /// How many samples the network got.
+    /// How many samples the network has answered. One that was refused isn't counted.
     pub fn samples(&self) -> u64
         ensures { result ≡ (running_of self.now).samples }
     {

@@ -16,6 +16,7 @@ pub struct HostFiles<'a, R> {
 }
 
 impl<'a, R> HostFiles<'a, R> {
+    /// The host's files, as the runtime reaches them. Nothing is opened yet.
     pub fn new(rt: &'a R) -> HostFiles<'a, R> {
         HostFiles { rt }
     }

@@ -1,4 +1,5 @@
-//! The program: hands the words, the files and the standard streams to `yampa_run`, and prints what it answers.
+//! The program: hands the words, the files and the standard streams to `yampa_run`, and prints
+//! what it answers.
 #![tactic(auto)]
 
 ghost use Rattle.std.specs.Prelude.{IfErr};
@@ -70,7 +71,8 @@ fn unread_words(alloc: Global, error: &io::Error) -> Refusal {
     }
 }
 
-/// Stores a closure for each expression of the network, and runs it on standard input. Answers the exit status.
+/// Stores a closure for each expression of the network, and runs it on standard input. Answers the
+/// exit status.
 fn run(rt: &HostRuntime, net: &TypedNet) -> u8 {
     let needs = match leaves(rt.alloc(), net) {
         Ok(needs) => needs,
@@ -88,7 +90,8 @@ fn run(rt: &HostRuntime, net: &TypedNet) -> u8 {
     }
 }
 
-/// Runs the network on standard input, and prints the lines of its answers. Answers the exit status.
+/// Runs the network on standard input, and prints the lines of its answers. Answers the exit
+/// status.
 fn run_bound(rt: &HostRuntime, bound: &Bound, table: &LeafTable) -> u8
     requires { FitsTable (rows_of table.now) bound.now }
 {
@@ -125,7 +128,8 @@ fn read_stream(rt: &HostRuntime) -> Result<Vec<u8>, RunFault>
     }
 }
 
-/// Prints the bytes on standard output. How many lines a refused write printed isn't known, and isn't told.
+/// Prints the bytes on standard output. How many lines a refused write printed isn't known, and
+/// isn't told.
 fn print(rt: &HostRuntime, bytes: &[u8]) -> Result<(), RunFault>
     ensures { IfErr result IsAnswered }
 {

@@ -1,4 +1,4 @@
-// Why a run ended early, and what the program says of it.
+// Why a run ended early, and what a run did that met its stream's end.
 
 use sample_core::{Memory, ValueFault};
 use std::alloc::AllocError;
@@ -7,16 +7,18 @@ use thiserror::Error;
 /// What is wrong with a stream. Lines are counted from 1.
 #[derive(Debug, Drop, PartialEq, Eq, Error)]
 pub enum StreamFault {
-    /// Line 1 begins with `+`; or a later line doesn't begin with `+`, a step in range and a space.
+    /// Line 1 begins with `+`; or a later line doesn't begin with `+`, a step and a space, where a
+    /// step is digits, the first of them not 0, and at most 2^63 - 1.
     #[error("line {line}: step")]
     Step { line: u64 },
-    /// A value is faulty. Places are counted from the value's first byte.
+    /// The line's value is faulty. The place in the fault is counted in bytes, from 0 at the
+    /// value's first. The fault isn't `Memory`.
     #[error("line {line}: {fault}")]
     Value { line: u64, fault: ValueFault },
-    /// Line 1 is `=`.
+    /// Line 1 is `=` and nothing else, and there is no value to repeat.
     #[error("line {line}: nothing before")]
     NothingBefore { line: u64 },
-    /// A line has more than 65,536 bytes.
+    /// A line has more than 65,536 bytes before its line feed.
     #[error("line {line}: too long")]
     LineTooLong { line: u64 },
     /// There is a line 1,000,001.
@@ -31,7 +33,7 @@ pub enum StreamFault {
     /// A growth was refused.
     #[error("out of memory")]
     Memory,
-    /// An earlier call answered a fault.
+    /// An earlier call answered a fault. No run answers it.
     #[error("ended")]
     Ended,
 }
@@ -58,13 +60,14 @@ impl From<AllocError> for StreamFault {
     }
 }
 
-/// Why a run ended early. `lines` is the number of lines wholly written.
+/// Why a run ended early. `lines` is the number of lines of output that were wholly written.
 #[derive(Debug, Drop, PartialEq, Eq, Error)]
 pub enum RunFault {
-    /// The stream has a fault.
+    /// The stream has a fault, or a read of it failed.
     #[error("after {lines} lines: stream: {fault}")]
     Stream { lines: u64, fault: StreamFault },
-    /// A write failed.
+    /// A write of the output failed. Where it isn't known how many lines were written, `lines` is
+    /// 0.
     #[error("after {lines} lines: a write failed")]
     Write { lines: u64 },
     /// A growth was refused.
@@ -75,6 +78,6 @@ pub enum RunFault {
 /// What a run did that met its stream's end.
 #[derive(Clone, Copy, Debug, PartialEq, Eq)]
 pub struct RunReport {
-    /// The lines written, one for each sample.
+    /// The lines of output that were written, one for each sample.
     pub lines: u64,
 }

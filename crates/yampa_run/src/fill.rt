@@ -1,4 +1,8 @@
-//! Filling a table of stored closures. The closures are boxed in the caller's body, one for each shape of expression.
+//! Filling a table of stored closures. The closures are boxed in the caller's body, one for each
+//! shape of expression.
+//!
+//! The module is public for its macros alone: what they write in the caller's body names its
+//! items.
 
 ghost use Rattle.yampa_run.specs.Preparation.{RefusesTable};
 
@@ -12,7 +16,8 @@ pub use leaf_table::{
 };
 pub use sample_core::{Sample, Ty};
 
-/// The refusal of a network that has more expressions than a table has rows, or for want of memory.
+/// The refusal of a network whose expressions a table doesn't take: status 1 and the line `table full` where it has all
+/// its rows, or `Memory`.
 pub fn table_refusal(alloc: Global, fault: TableFault) -> Refusal
     ensures { RefusesTable fault result }
 {
@@ -22,8 +27,8 @@ pub fn table_refusal(alloc: Global, fault: TableFault) -> Refusal
     }
 }
 
-/// The closure that calls a function on its parts and the arguments, boxed, as the leaf of a key; or `Memory`.
-/// A part of `fill_row!`.
+/// The leaf of a key: the closure, boxed, that calls a function on its parts and the arguments.
+/// `Memory` where a growth was refused. A part of `fill_row!`.
 #[macro_export]
 macro_rules! boxed_leaf {
     ($alloc:ident, $key:ident, $output:ident, $run:ident $(, $part:expr)*) => {
@@ -43,8 +48,13 @@ macro_rules! boxed_leaf {
     };
 }
 
-/// Adds a row for a key, whose expression is of the output's type: `fill_row!(alloc, table, key, output)` is a
+/// Adds a row for a key, whose expression must be of the output's type:
+/// `fill_row!(alloc, table, key, output)`, with the table as a place, is a
 /// `Result<LeafId, TableFault>`. It matches the expression's shape and boxes one of nine closures.
+/// Where the key has a row already, it answers that row.
+///
+/// `Full`: the key is new, and the table has 4,096 rows. `Memory`: a growth was refused. The table
+/// is then as it was.
 #[macro_export]
 macro_rules! fill_row {
     ($alloc:expr, $table:expr, $key:expr, $output:expr) => {{
@@ -88,8 +98,12 @@ macro_rules! fill_row {
     }};
 }
 
-/// Adds a row for each need of a network: `fill_table!(alloc, table, needs)`, with the needs as a slice or a borrowed
-/// vector, is a `Result<(), TableFault>`. It stops at the first need that the table doesn't take.
+/// Adds a row for each need of a network: `fill_table!(alloc, table, needs)`, with the table as a
+/// place and the needs as a slice or a borrowed vector, is a `Result<(), TableFault>`. Needs of
+/// the same key share a row.
+///
+/// It stops at the first need that the table doesn't take; the rows of the needs before it stay.
+/// `Full`: the key is new, and the table has 4,096 rows. `Memory`: a growth was refused.
 #[macro_export]
 macro_rules! fill_table {
     ($alloc:expr, $table:expr, $needs:expr) => {{

@@ -9,8 +9,9 @@ use itoa::Buffer;
 use sample_core::{Memory, ValueFault};
 use std::alloc::Global;
 
-/// The exit status of a run that ended early, and the line that tells why, without a line feed.
-/// The fault is one that a run answers: none says that its stream was used past an earlier fault.
+/// The exit status of a run that ended early, and the line that tells why, without a line feed: 1
+/// for what is wrong with the stream's text, 3 for reading, writing and memory. The fault must be
+/// one that a run answers, so not `Ended`. `Memory` where a growth was refused.
 pub fn fault_line(alloc: Global, fault: &RunFault) -> Result<(u8, String), Memory>
     requires { IsAnswered fault.now }
     ensures status { IfOk result (λ r. r.0 ≡ status_of fault.now) }

@@ -28,9 +28,13 @@ struct Course {
     text: String,
 }
 
-/// Runs the network, on the table that it was bound to or that table with more rows, on the text of a stream, and adds a
-/// line for each sample to `out`, which is empty. The lines are the spellings of the values that the network puts out.
-/// A faulty line ends the run; the lines before it are written.
+/// Runs the network on the text of a stream, over the table that it was bound to or that table
+/// with more rows. Adds a line for each sample to `out`, which must be empty: the spelling of what
+/// the network puts out, and a line feed. The report counts the lines.
+///
+/// A refusal counts the lines before it; these are in `out`, each whole. `Stream`: the first line,
+/// counted from 1, that is no sample is refused, as `TooManySamples`, `LineTooLong`, `Step`,
+/// `NothingBefore` or `Value`. `Memory`: a growth was refused. `Write` doesn't come.
 pub fn run_whole(
     alloc: Global,
     bound: &Bound,

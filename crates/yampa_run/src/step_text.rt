@@ -11,7 +11,7 @@ ghost use Rattle.yampa_run.specs.SeenStream.{seen_step};
 /// The greatest step, 2^63 - 1.
 const MOST: u64 = 0x7fff_ffff_ffff_ffff;
 
-/// What stands behind the byte, where it stands first.
+/// What stands behind the byte, where it stands first; else `None`.
 pub fn strip(byte: u8, text: &[u8]) -> Option<&[u8]>
     ensures { option_copied result ≡ behind byte text.now }
 {
@@ -29,7 +29,8 @@ fn digits_len(text: &[u8]) -> usize
     text.iter().take_while(|b| b.is_ascii_digit()).count()
 }
 
-/// The step that the digits write.
+/// The step that the digits write; `None` where there are none, the first is 0, or it is over the
+/// greatest.
 fn step_value(digits: &[u8]) -> Option<u64>
     requires { (k : ℕ) → k < length digits.now → is_ascii_digit (slice_index digits.now k) ≡ true }
     ensures { result ≡ (if is_step digits.now then Some (digits_value 10 digits.now) else None) }
@@ -45,7 +46,8 @@ fn step_value(digits: &[u8]) -> Option<u64>
     if value <= MOST { Some(value) } else { None }
 }
 
-/// The step of a line that begins with `+`, a step and a space, and what stands behind these.
+/// The step of a line that begins with `+`, a step and a space, and what stands behind these;
+/// `None` where it doesn't.
 pub fn split_step(line: &[u8]) -> Option<(u64, &[u8])>
     ensures { seen_step result ≡ stepped line.now }
 {

@@ -18,8 +18,14 @@ const MOST_SAMPLES: u64 = 1_000_000;
 /// The most bytes of a line, without its line feed.
 const MOST_BYTES: usize = 65_536;
 
-/// The sample of a line, with the step that precedes it: lines are numbered from 1, and `before` is the value of the line
-/// before. The first sample's step is 0. Answers what is wrong with the line, or `Memory`.
+/// The sample of a line, which has a value of the type, with the step that precedes it. Lines are
+/// numbered from 1, and `before` is the value of the line before; it is `None` for line 1, whose
+/// step is 0.
+///
+/// Refusals in order. `TooManySamples`: the number is over 1,000,000. `LineTooLong`: more than
+/// 65,536 bytes. `Step`: line 1 begins with `+`, or a later line doesn't begin with `+`, a step
+/// and a space. `NothingBefore`: line 1 is `=`. `Value`: the value is faulty, by its bytes counted
+/// from 0. `Memory`: a growth was refused.
 pub fn read_line(
     alloc: Global,
     ty: &Ty,

@@ -20,7 +20,8 @@ fn line_feed_at(text: &[u8]) -> Option<usize>
     None
 }
 
-/// The first line of a text that isn't empty, without its line feed, and what stands behind it.
+/// The first line of a text that isn't empty, without its line feed, and what stands behind it:
+/// nothing where there is no line feed.
 pub fn split_line(text: &[u8]) -> (&[u8], &[u8])
     requires { 0 < length text.now }
     ensures lines { lines_of text.now ≡ result.0.now ∷ lines_of result.1.now }
