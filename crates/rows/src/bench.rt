@@ -70,7 +70,7 @@ pub fn ends_well(alloc: Global, net: &TypedNet, trial: Trial<'_>) -> bool {
 
 fn is_full(alloc: Global, fault: TableFault, trial: Trial<'_>) -> bool {
     match trial {
-        Trial::FullTable => refuses(table_refusal(alloc, fault), 1, "table full"),
+        Trial::FullTable => refuses(&table_refusal(alloc, fault), 1, "table full"),
         _ => false,
     }
 }

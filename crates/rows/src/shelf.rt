@@ -30,12 +30,12 @@ impl Files for OneFile<'_> {
 pub fn leads_to(alloc: Global, words: &[&str], bytes: &[u8], status: u8, line: &str) -> bool {
     let files = OneFile { bytes };
     match prepare(alloc, words, &files) {
-        Ok(job) => status == 0 && does(job, line),
-        Err(refusal) => refuses(refusal, status, line),
+        Ok(job) => status == 0 && does(&job, line),
+        Err(refusal) => refuses(&refusal, status, line),
     }
 }
 
-fn does(job: Job, line: &str) -> bool {
+fn does(job: &Job, line: &str) -> bool {
     match job {
         Job::Print(text) => text.as_str() == line,
         Job::Run(_net) => line == "run",
@@ -43,9 +43,9 @@ fn does(job: Job, line: &str) -> bool {
 }
 
 /// Whether the refusal has that status and line.
-pub fn refuses(refusal: Refusal, wanted_status: u8, wanted: &str) -> bool {
+pub fn refuses(refusal: &Refusal, wanted_status: u8, wanted: &str) -> bool {
     match refusal {
-        Refusal::Line { status, line } => status == wanted_status && line.as_str() == wanted,
+        Refusal::Line { status, line } => *status == wanted_status && line.as_str() == wanted,
         Refusal::Memory => false,
     }
 }
