@@ -2,18 +2,15 @@
 #![tactic(auto)]
 
 mod fault;
-mod fill;
 mod leaf;
 mod part;
 mod run;
 mod table;
 
 pub use fault::TableFault;
-pub use leaf_expr::{shape_of, LeafKey, Shape};
 pub use leaf::{Leaf, Run};
 pub use run::{
     run_affine, run_below, run_constant, run_general, run_identity, run_left, run_right, run_swap,
     run_wrap,
 };
-pub use sample_core::{Sample, Ty};
 pub use table::{LeafId, LeafTable};

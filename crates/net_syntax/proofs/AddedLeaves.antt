@@ -1,13 +1,15 @@
 -- A network's expressions are those of its parts.
 use Rattle.std.proofs.Common.{◌≡◌, ℕ, List, [], ◌∷◌, ◌++◌, Result, Ok, Err, IfOk, refl, sym, ap, ◌∙◌, append_assoc, subst}
+use Rattle.std.proofs.Math.Logic.{∥∥₁_map}
 use Rattle.sample_core.specs.TypeTree.{TypeTree, unit_ty}
 use Rattle.leaf_expr.specs.Expression.{Expression}
 use Rattle.leaf_expr.specs.ExpressionTyping.{ExpressionTyped}
 use Rattle.net_syntax.specs.Network.{Network, arr, seq, i_pre}
 use Rattle.net_syntax.specs.Typing as T
+use Rattle.net_syntax.specs.Typing.{Arrow}
 use Rattle.net_syntax.specs.Stream.{NetTyped}
 use Rattle.net_syntax.specs.TypeGiven.{type_given}
-use Rattle.net_syntax.specs.Leaves.{Need, need_at, Leaves, arr_leaves, seq_leaves, i_pre_leaves, Adds}
+use Rattle.net_syntax.specs.Leaves.{Need, need_at, Leaves, arr_leaves, seq_leaves, i_pre_leaves, Adds, IsTyped}
 use Rattle.net_syntax.proofs.TypesGiven.{type_given-is}
 
 pub adds_arr : (Ps : List TypeTree) (at here : List ℕ) (net : Network Expression) (e : Expression) (A t : TypeTree) (before now : List Need) → net ≡ arr e → here ≡ at → t ≡ type_given Ps A e → now ≡ before ++ need_at here 0 e Ps A (type_given Ps A e) ∷ [] → Adds Ps at net A t before now
@@ -37,6 +39,36 @@ whole_leaves Ps at m net A' A B t before now a b c d e adds typed =
     let here : Adds [] [] net A t [] now = subst (λ o. Adds [] [] net A t o now) e (subst (λ o. Adds [] [] net o t before now) d (subst (λ o. Adds [] [] o A' t before now) c (subst (λ o. Adds [] o m A' t before now) b (subst (λ o. Adds o at m A' t before now) a adds)))) in
     let all : (t ≡ B) × (ns : List Need) × Leaves [] [] [] net A B ns × (now ≡ ns) = here [] B typed in
     subst (Leaves [] [] [] net A B) (sym all.3) all.2
+
+-- the parts of a typed network are typed
+pub typed_arr : (Ps : List TypeTree) (net : Network Expression) (e : Expression) (A : TypeTree) → net ≡ arr e → IsTyped Ps net A → ∥ ExpressionTyped e Ps A (type_given Ps A e) ∥₁
+typed_arr Ps net e A form h = ∥∥₁_map (subst (λ m. IsTyped Ps m A) form h) (λ t. part t.2)
+  where
+    part : {Os : List Arrow} {B : TypeTree} → NetTyped Ps Os (arr e) A B → ExpressionTyped e Ps A (type_given Ps A e)
+    part (T.arr_typed h) = subst (ExpressionTyped e Ps A) (sym (type_given-is h)) h
+
+pub typed_i_pre : (Ps : List TypeTree) (net : Network Expression) (e : Expression) (A : TypeTree) → net ≡ i_pre e → IsTyped Ps net A → ∥ ExpressionTyped e Ps unit_ty (type_given Ps unit_ty e) ∥₁
+typed_i_pre Ps net e A form h = ∥∥₁_map (subst (λ m. IsTyped Ps m A) form h) (λ t. part t.2)
+  where
+    part : {Os : List Arrow} {B : TypeTree} → NetTyped Ps Os (i_pre e) A B → ExpressionTyped e Ps unit_ty (type_given Ps unit_ty e)
+    part (T.i_pre_typed h) = subst (ExpressionTyped e Ps unit_ty) (sym (type_given-is h)) h
+
+pub typed_first : (Ps : List TypeTree) (net f g : Network Expression) (A : TypeTree) → net ≡ seq f g → IsTyped Ps net A → IsTyped Ps f A
+typed_first Ps net f g A form h = ∥∥₁_map (subst (λ m. IsTyped Ps m A) form h) (λ t. part t.2)
+  where
+    part : {Os : List Arrow} {C : TypeTree} → NetTyped Ps Os (seq f g) A C → (Os : List Arrow) × (B : TypeTree) × NetTyped Ps Os f A B
+    part {Os = Os} (T.seq_typed {B = B} tf tg) = (Os, B, tf)
+
+pub typed_second : (Ps : List TypeTree) (at : List ℕ) (net f g : Network Expression) (A t : TypeTree) (before now : List Need) → net ≡ seq f g → IsTyped Ps net A → Adds Ps at f A t before now → IsTyped Ps g t
+typed_second Ps at net f g A t before now form h adds = ∥∥₁_map (subst (λ m. IsTyped Ps m A) form h) (λ t. part t.2)
+  where
+    part : {Os : List Arrow} {C : TypeTree} → NetTyped Ps Os (seq f g) A C → (Os : List Arrow) × (B : TypeTree) × NetTyped Ps Os g t B
+    part {Os = Os} {C = C} (T.seq_typed {B = B} tf tg) =
+        let one : (t ≡ B) × (ns : List Need) × Leaves Ps Os at f A B ns × (now ≡ before ++ ns) = adds Os B tf in
+        (Os, C, subst (λ X. NetTyped Ps Os g X C) (sym one.0) tg)
+
+pub whole_typed : (Ps : List TypeTree) (m net : Network Expression) (A' A B : TypeTree) → Ps ≡ [] → m ≡ net → A' ≡ A → NetTyped [] [] net A B → IsTyped Ps m A'
+whole_typed Ps m net A' A B a c d typed = subst (λ o. IsTyped o m A') (sym a) (subst (λ o. IsTyped [] o A') (sym c) (subst (IsTyped [] net) (sym d) ∣ ([], B, typed) ∣₁))
 
 pub if_ok : {A E : Type 0} (r : Result A E) (P Q : A → Type 0) → ((x : A) → P x → Q x) → IfOk r P → IfOk r Q
 if_ok (Ok x) P Q f h = f x h

@@ -38,7 +38,7 @@ module _ (f e : Signal) (t : Datum → Timed → ℕ → Signal) (sf : IsSignal 
   pub answer_before : (p : Timed) (x : ℕ × Datum) → first_event (e (p ++ x ∷ [])) ≡ None → answer (switched f e t) p x ≡ answer f p x
   answer_before p x i = ap (last_or unit) (switched-none f e t (p ++ x ∷ []) i)
 
-  event_seen : (p : Timed) (x : ℕ × Datum) (c : Datum) (rest : Timed) → first_event (e p) ≡ None → answer e p x ≡ event c → first_event (e (p ++ x ∷ rest)) ≡ Some (length p, c)
+  pub event_seen : (p : Timed) (x : ℕ × Datum) (c : Datum) (rest : Timed) → first_event (e p) ≡ None → answer e p x ≡ event c → first_event (e (p ++ x ∷ rest)) ≡ Some (length p, c)
   event_seen p x c rest i a =
       let q : Timed = p ++ x ∷ [] in
       let ws : List Datum = drop (length q) (e (q ++ rest)) in

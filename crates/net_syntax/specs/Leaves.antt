@@ -53,3 +53,7 @@ LeavesOf t ns = Leaves [] [] [] t.net t.input t.output ns
 -- of a network that is typed, t is the output type, and its expressions were added behind others
 abbrev pub Adds : List TypeTree → List ℕ → Network Expression → TypeTree → TypeTree → List Need → List Need → Type 0
 Adds Ps at net A t before now = (Os : List Arrow) (B : TypeTree) → NetTyped Ps Os net A B → (t ≡ B) × (ns : List Need) × Leaves Ps Os at net A B ns × (now ≡ before ++ ns)
+
+-- under parameters of types Ps, the network has an output type at inputs of type A
+abbrev pub IsTyped : List TypeTree → Network Expression → TypeTree → Type 0
+IsTyped Ps net A = ∥ ((Os : List Arrow) × (B : TypeTree) × NetTyped Ps Os net A B) ∥₁

@@ -3,6 +3,7 @@
 
 mod laws;
 mod measure;
+mod need;
 mod needs;
 mod net;
 mod position;
@@ -11,7 +12,8 @@ mod typed_net;
 
 pub use laws::{output_examples, stream_laws, switching_laws, typing_laws, weight_examples};
 pub use measure::{MOST_HEIGHT, MOST_WEIGHT, height, weight};
-pub use needs::{LeafNeed, leaves};
+pub use need::LeafNeed;
+pub use needs::leaves;
 pub use net::{Net, Sub};
 pub use position::{Position, print_position, push_position};
 pub use typed_net::TypedNet;

@@ -3,11 +3,13 @@
 ghost use Rattle.std.specs.Prelude.{◌≡◌, IfOk, OnOk, map, [], ◌∷◌, ◌++◌};
 ghost use Rattle.sample_core.specs.SeenType.{type_of};
 ghost use Rattle.leaf_expr.specs.Seen.{expression_of};
+ghost use Rattle.leaf_expr.specs.ExpressionTyping.{ExpressionTyped};
 ghost use Rattle.net_syntax.specs.Seen.{tree_of};
 ghost use Rattle.net_syntax.specs.SeenNeed.{need_of};
 ghost use Rattle.net_syntax.specs.TypeGiven.{type_given};
-ghost use Rattle.net_syntax.specs.Leaves.{need_at, LeavesOf, Adds};
+ghost use Rattle.net_syntax.specs.Leaves.{need_at, LeavesOf, Adds, IsTyped};
 
+use crate::need::LeafNeed;
 use crate::net::Net;
 use crate::position::Position;
 use crate::type_given::type_given;
@@ -15,18 +17,6 @@ use crate::typed_net::TypedNet;
 use leaf_expr::{Expr, LeafKey};
 use sample_core::{Memory, Ty};
 use std::alloc::Global;
-
-/// An expression of a network: where it stands, and how a stored closure for it is found.
-#[derive(Drop)]
-pub struct LeafNeed {
-    /// Where the expression stands.
-    pub position: Position,
-    /// The expression, the types of the parameters in scope and the type of its input.
-    /// In a constant place the input is `Unit`.
-    pub key: LeafKey,
-    /// The expression's type.
-    pub output: Ty,
-}
 
 /// Every expression that is a child of a network, from the root on, children in written order.
 pub fn leaves(alloc: Global, net: &TypedNet) -> Result<Vec<LeafNeed>, Memory>
@@ -49,6 +39,7 @@ fn add_leaves(
     path: &mut Vec<u32>,
     needs: &mut Vec<LeafNeed>,
 ) -> Result<Ty, Memory>
+    requires { IsTyped (map type_of scope.now) (tree_of net.now) (type_of input.now) }
     ensures path { OnOk result (path.new.items ≡ path.old.items) }
     ensures added { IfOk result
         (λ t. Adds (map type_of scope.now) path.old.items (tree_of net.now) (type_of input.now) (type_of t) (map need_of needs.old.items) (map need_of needs.new.items)) }
@@ -82,6 +73,7 @@ fn first_need(
     input: &Ty,
     path: &[u32],
 ) -> Result<LeafNeed, Memory>
+    requires { ∥ ExpressionTyped (expression_of expr.now) (map type_of scope.now) (type_of input.now) (type_given (map type_of scope.now) (type_of input.now) (expression_of expr.now)) ∥₁ }
     ensures { IfOk result
         (λ n. need_of n ≡ need_at path.now 0 (expression_of expr.now) (map type_of scope.now) (type_of input.now) (type_given (map type_of scope.now) (type_of input.now) (expression_of expr.now))) }
 {

@@ -1,14 +1,18 @@
 // What the rows are run on.
 
 ghost use Rattle.std.specs.Prelude.{IfErr};
+ghost use Rattle.leaf_table.specs.Rows.{rows_of};
+ghost use Rattle.step_core.specs.Bound.{FitsTable};
 ghost use Rattle.yampa_run.specs.Printed.{IsAnswered};
 
-use net_syntax::TypedNet;
+use leaf_table::LeafTable;
+use net_syntax::{TypedNet, leaves};
 use net_text::read_net;
 use net_types::check_types;
 use std::alloc::Global;
+use step_core::{Bound, bind};
 use yampa_run::{
-    FileFault, Files, Job, Refusal, RunFault, RunReport, fault_line, prepare, run_whole,
+    FileFault, Files, Job, Refusal, RunFault, RunReport, fault_line, fill_table, prepare, run_whole,
 };
 
 /// A run that was worked out: a network file, a stream, what is written, and the exit status with the line that tells
@@ -29,7 +33,7 @@ pub fn goes_so(alloc: Global, run: &Run) -> bool {
     }
 }
 
-fn network(alloc: Global, text: &str) -> Option<TypedNet> {
+pub fn network(alloc: Global, text: &str) -> Option<TypedNet> {
     match read_net(alloc, text.as_bytes()) {
         Ok((input, net)) => check_types(alloc, input, net).ok(),
         Err(_fault) => None,
@@ -37,8 +41,24 @@ fn network(alloc: Global, text: &str) -> Option<TypedNet> {
 }
 
 fn writes_so(alloc: Global, net: &TypedNet, run: &Run) -> bool {
+    let Ok(needs) = leaves(alloc, net) else {
+        return false;
+    };
+    let mut table = LeafTable::new(alloc);
+    if fill_table!(alloc, table, &needs).is_err() {
+        return false;
+    }
+    match bind(alloc, net, &table) {
+        Ok(bound) => bound_writes_so(alloc, &bound, &table, run),
+        Err(_fault) => false,
+    }
+}
+
+fn bound_writes_so(alloc: Global, bound: &Bound, table: &LeafTable, run: &Run) -> bool
+    requires { FitsTable (rows_of table.now) bound.now }
+{
     let mut out = Vec::new(alloc);
-    let ended = run_whole(alloc, net, run.stream.as_bytes(), &mut out);
+    let ended = run_whole(alloc, bound, table, run.stream.as_bytes(), &mut out);
     ends_so(alloc, ended, run) && out.as_slice() == run.output.as_bytes()
 }
 

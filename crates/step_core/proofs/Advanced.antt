@@ -1,24 +1,23 @@
 -- What a start and a step of a network of rows do, form by form.
-use Rattle.std.proofs.Common.{◌≡◌, ℕ, suc, ◌+◌, ◌<◌, List, [], ◌∷◌, ◌++◌, Option, Some, None, Result, Ok, Err, IfOk, length, slice_get, refl, sym, ap, ◌∙◌, subst, append_assoc, append-nil}
+use Rattle.std.proofs.Common.{◌≡◌, ℕ, suc, ◌+◌, ◌<◌, List, [], ◌∷◌, ◌++◌, Some, Result, Ok, Err, IfOk, length, slice_get, refl, sym, ap, ◌∙◌, subst, append_assoc, append-nil}
 use Rattle.std.proofs.Math.Logic.{∥∥₁_elim, ∥∥₁_map}
 use Rattle.std.proofs.Math.Bridge.{le_prop}
 use Rattle.std.proofs.lemmas.Option.{slice_get_within}
 use Rattle.sample_core.specs.Datum.{Datum, unit}
-use Rattle.sample_core.specs.TypeTree.{TypeTree, unit_ty}
+use Rattle.sample_core.specs.TypeTree.{TypeTree}
 use Rattle.sample_core.specs.HasType.{HasType, TypedParams, unit_has, no_params}
-use Rattle.leaf_expr.specs.Expression.{Expression}
 use Rattle.leaf_expr.specs.ExpressionValue.{value_of}
 use Rattle.leaf_expr.specs.KeyTree.{KeyTree}
 use Rattle.net_syntax.specs.Network.{Network, arr, seq, i_pre}
 use Rattle.net_syntax.specs.Typing as T
-use Rattle.net_syntax.proofs.ExpressionTyped.{typed_value}
+use Rattle.leaf_expr.proofs.Soundness.{typed_value}
 use Rattle.step_core.specs.Cell.{previous}
-use Rattle.step_core.specs.State.{State, arr_state, seq_state, cell_state}
+use Rattle.step_core.specs.State.{arr_state, seq_state, cell_state}
 use Rattle.step_core.specs.Engine as G
 use Rattle.step_core.specs.Engine.{Starts, Steps}
 use Rattle.step_core.specs.Run.{nothing}
-use Rattle.step_core.specs.RowTyping.{RowTyped, RowsTyped, FitsRows, row_expression, expression_in, network_by}
-use Rattle.step_core.specs.Held.{Holds, arr_holds, seq_holds, i_pre_holds, Begun, Moved, BegunWhere, MovedWhere, IsFirst}
+use Rattle.step_core.specs.RowTyping.{RowTyped, RowsTyped, FitsRows, row_expression, expression_in}
+use Rattle.step_core.specs.Held.{arr_holds, seq_holds, i_pre_holds, Begun, Moved, BegunWhere, MovedWhere, IsFirst}
 
 module _ (keys : List KeyTree) where
   -- what a call of row k promises of its answer y at x
@@ -98,44 +97,51 @@ module _ (keys : List KeyTree) where
       }
 
   pub moved_arr : (k : ℕ) (held : List Datum) (d : ℕ) (x y : Datum) (before : List Datum) → Called k x y → MovedWhere keys (arr k) held (d, x) y before before held
-  moved_arr k held d x y before h A B from us vs (arr_holds r) e t = (record {
-    state = arr_state (row_expression keys k) [];
-    held = [];
-    visits = 1;
-    steps = subst (λ v. Steps value_of (arr_state (row_expression keys k) []) (d, x) (arr_state (row_expression keys k) []) v 1) (sym (called_value k x y h r t)) G.step_arr;
-    holds = arr_holds r;
-    answer_typed = called_typed k x y h r t;
-    added = sym (append-nil before);
-  }, e)
+  moved_arr k held d x y before h A B from us vs (arr_holds r) e t = (
+    record {
+      state = arr_state (row_expression keys k) [];
+      held = [];
+      visits = 1;
+      steps = subst (λ v. Steps value_of (arr_state (row_expression keys k) []) (d, x) (arr_state (row_expression keys k) []) v 1) (sym (called_value k x y h r t)) G.step_arr;
+      holds = arr_holds r;
+      answer_typed = called_typed k x y h r t;
+      added = sym (append-nil before);
+    },
+    e,
+  )
 
   pub moved_i_pre : (k : ℕ) (held : List Datum) (d : ℕ) (x y : Datum) (before now rest : List Datum) → IsFirst held y rest → now ≡ before ++ x ∷ [] → MovedWhere keys (i_pre k) held (d, x) y before now rest
   moved_i_pre k [] d x y before now rest f n A B from us vs (i_pre_holds h) e t = absurd (cc)
   moved_i_pre k (u ∷ held) d x y before now rest f n A B from us vs (i_pre_holds {v = v} h) e t =
       let same : u ≡ v = cc in
-      let left : held ≡ vs = cc in
-      (record {
-        state = cell_state (previous x);
-        held = x ∷ [];
-        visits = 1;
-        steps = subst (λ w. Steps value_of (cell_state (previous v)) (d, x) (cell_state (previous x)) w 1) (sym (f.0 ∙ same)) (G.step_cell refl);
-        holds = i_pre_holds t;
-        answer_typed = subst (λ w. HasType w A) (sym (f.0 ∙ same)) h;
-        added = n;
-      }, f.1 ∙ left)
+      let left : held ≡ vs = cc in (
+        record {
+          state = cell_state (previous x);
+          held = x ∷ [];
+          visits = 1;
+          steps = subst (λ w. Steps value_of (cell_state (previous v)) (d, x) (cell_state (previous x)) w 1) (sym (f.0 ∙ same)) (G.step_cell refl);
+          holds = i_pre_holds t;
+          answer_typed = subst (λ w. HasType w A) (sym (f.0 ∙ same)) h;
+          added = n;
+        },
+        f.1 ∙ left,
+      )
 
   pub moved_seq : (f g : Network ℕ) (held middle : List Datum) (d : ℕ) (x v y : Datum) (before between now rest : List Datum) → MovedWhere keys f held (d, x) v before between middle → MovedWhere keys g middle (d, v) y between now rest → MovedWhere keys (seq f g) held (d, x) y before now rest
   moved_seq f g held middle d x v y before between now rest hf hg A C from us vs (seq_holds {B = B} {a = a} {b = b} {us = us₁} {vs = us₂} af bg) e t =
       let one : Moved keys f A B a (d, x) v before between × (middle ≡ us₂ ++ vs) = hf A B a us₁ (us₂ ++ vs) af (e ∙ append_assoc us₁ us₂ vs) t in
-      let two : Moved keys g B C b (d, v) y between now × (rest ≡ vs) = hg B C b us₂ vs bg one.1 one.0.answer_typed in
-      (record {
-        state = seq_state one.0.state two.0.state;
-        held = one.0.held ++ two.0.held;
-        visits = suc (one.0.visits + two.0.visits);
-        steps = G.step_seq one.0.steps two.0.steps;
-        holds = seq_holds one.0.holds two.0.holds;
-        answer_typed = two.0.answer_typed;
-        added = two.0.added ∙ ap (λ ws. ws ++ two.0.held) one.0.added ∙ append_assoc before one.0.held two.0.held;
-      }, two.1)
+      let two : Moved keys g B C b (d, v) y between now × (rest ≡ vs) = hg B C b us₂ vs bg one.1 one.0.answer_typed in (
+        record {
+          state = seq_state one.0.state two.0.state;
+          held = one.0.held ++ two.0.held;
+          visits = suc (one.0.visits + two.0.visits);
+          steps = G.step_seq one.0.steps two.0.steps;
+          holds = seq_holds one.0.holds two.0.holds;
+          answer_typed = two.0.answer_typed;
+          added = two.0.added ∙ ap (λ ws. ws ++ two.0.held) one.0.added ∙ append_assoc before one.0.held two.0.held;
+        },
+        two.1,
+      )
 
   -- the same for a network that is one of these forms by an equation, as an arm of a match has it
   pub arr_begun : (net : Network ℕ) (k : ℕ) (x y : Datum) (before : List Datum) → net ≡ arr k → Called k x y → BegunWhere keys net x y before before

@@ -1,19 +1,18 @@
 -- What binding finds, and what it makes.
-use Rattle.std.proofs.Common.{◌≡◌, ℕ, zero, suc, ◌+◌, ◌<◌, List, [], ◌∷◌, ◌++◌, Option, Some, None, slice_get, get_or, take, length, map, refl, sym, ap, ap₂, ◌∙◌, subst, arith, append_assoc, All, Contains, ◌⊎◌, inl, inr}
+use Rattle.std.proofs.Common.{◌≡◌, ℕ, zero, suc, ◌+◌, ◌<◌, List, [], ◌∷◌, ◌++◌, Some, slice_get, get_or, take, length, map, refl, sym, ap, ap₂, ◌∙◌, subst, arith, append_assoc, append-nil, add-one, Contains, inl, inr}
 use Rattle.std.proofs.lemmas.Option.{slice_get_within, get_or_from_slice_get}
-use Rattle.std.proofs.lemmas.List.Elements.{Contains-get_or}
-use Rattle.sample_core.specs.TypeTree.{TypeTree}
+use Rattle.std.proofs.lemmas.List.Elements.{All-cons, All-nil, Contains-get_or}
 use Rattle.leaf_expr.specs.Expression.{Expression}
 use Rattle.leaf_expr.specs.KeyTree.{KeyTree}
 use Rattle.net_syntax.specs.SeenNeed.{need_of}
 use Rattle.net_syntax.specs.Stream.{TypedNetwork}
-use Rattle.net_syntax.specs.declared.needs.LeafNeed.{LeafNeed}
-use Rattle.step_core.specs.declared.binding.BindFault.{BindFault}
-use Rattle.step_core.specs.declared.binding.BindFault.TheVariants as F
-use Rattle.net_syntax.specs.Leaves.{Need, Leaves, LeavesOf, arr_leaves, seq_leaves, i_pre_leaves}
+use Rattle.net_syntax.specs.declared.need.LeafNeed.{LeafNeed}
+use Rattle.step_core.specs.declared.fault.BindFault.{BindFault}
+use Rattle.step_core.specs.declared.fault.BindFault.TheVariants as F
+use Rattle.net_syntax.specs.Leaves.{Need, LeavesOf, arr_leaves, seq_leaves, i_pre_leaves}
 use Rattle.net_syntax.specs.Network.{Network, arr, seq, i_pre}
 use Rattle.net_syntax.specs.Typing.{arr_typed, seq_typed, i_pre_typed}
-use Rattle.step_core.specs.RowTyping.{RowsTyped, RowTyped, network_by, expression_in}
+use Rattle.step_core.specs.RowTyping.{RowsTyped, network_by, expression_in}
 use Rattle.step_core.specs.Found.{AllFound, FirstMissing, Misses, MissesIn, Names, RowsFor, IsFirstRow, Lowered}
 
 -- the rows of two lists of needs, one behind the other
@@ -73,35 +72,44 @@ rows_push keys [] (j ∷ ks) n k h e = absurd h
 rows_push keys (m ∷ ns) [] n k h e = absurd h
 rows_push keys (m ∷ ns) (j ∷ ks) n k h e = (h.0, rows_push keys ns ks n k h.1 e)
 
-pub rows_more : (keys : List KeyTree) (all : List LeafNeed) (i : ℕ) (d : LeafNeed) (ks now : List ℕ) (k : ℕ) → i < length all → RowsFor keys (map need_of (take i all)) ks → slice_get keys k ≡ Some (need_of (get_or all i d)).key → now ≡ ks ++ k ∷ [] → RowsFor keys (map need_of (take (i + 1) all)) now
-rows_more keys all i d ks now k l h e n =
-    let whole : map need_of (take (i + 1) all) ≡ map need_of (take i all) ++ need_of (get_or all i d) ∷ [] = taken all i d l in
-    subst (λ ms. RowsFor keys ms now) (sym whole) (subst (RowsFor keys (map need_of (take i all) ++ need_of (get_or all i d) ∷ [])) (sym n) (rows_push keys (map need_of (take i all)) ks (need_of (get_or all i d)) k h e))
-  where
-    taken : (all : List LeafNeed) (i : ℕ) (d : LeafNeed) → i < length all → map need_of (take (i + 1) all) ≡ map need_of (take i all) ++ need_of (get_or all i d) ∷ []
-    taken [] i d l = absurd (omega arith)
-    taken (a ∷ all) zero d l = refl
-    taken (a ∷ all) (suc i) d l = ap (λ ms. need_of a ∷ ms) (taken all i d (omega arith))
+-- the needs up to the one at an index, and that one
+taken : (all : List LeafNeed) (i : ℕ) (x : LeafNeed) → i < length all → map need_of (take (suc i) all) ≡ map need_of (take i all) ++ need_of (get_or all i x) ∷ []
+taken [] i x l = absurd (omega arith)
+taken (a ∷ all) zero x l = refl
+taken (a ∷ all) (suc i) x l = ap (λ ms. need_of a ∷ ms) (taken all i x (omega arith))
+
+pub rows_more : (keys : List KeyTree) (all : List LeafNeed) (i : ℕ) (x : LeafNeed) (ks now : List ℕ) (k : ℕ) → x ≡ get_or all i x → i < length all → RowsFor keys (map need_of (take i all)) ks → slice_get keys k ≡ Some (need_of x).key → now ≡ ks ++ k ∷ [] → RowsFor keys (map need_of (take (i + 1) all)) now
+rows_more keys all i x ks now k is l h e n =
+    let pushed : RowsFor keys (map need_of (take i all) ++ need_of (get_or all i x) ∷ []) (ks ++ k ∷ []) = rows_push keys (map need_of (take i all)) ks (need_of (get_or all i x)) k h (e ∙ ap (λ (m : LeafNeed). Some (need_of m).key) is) in
+    let whole : map need_of (take (i + 1) all) ≡ map need_of (take i all) ++ need_of (get_or all i x) ∷ [] = ap (λ m. map need_of (take m all)) (add-one i) ∙ taken all i x l in
+    subst (λ ms. RowsFor keys ms now) (sym whole) (subst (RowsFor keys (map need_of (take i all) ++ need_of (get_or all i x) ∷ [])) (sym n) pushed)
 
 -- a need that has a row
 has_row : (keys : List KeyTree) (k : ℕ) (key : KeyTree) → slice_get keys k ≡ Some key → Contains keys key
 has_row keys k key e = subst (Contains keys) (get_or_from_slice_get keys k key key e) (Contains-get_or keys k key (slice_get_within keys k key e))
 
 pub found_all : (keys : List KeyTree) (ns : List Need) (ks : List ℕ) → RowsFor keys ns ks → AllFound keys ns
-found_all keys [] ks h = tt
+found_all keys [] ks h = All-nil (λ (n : Need). Contains keys n.key)
 found_all keys (n ∷ ns) [] h = absurd h
-found_all keys (n ∷ ns) (k ∷ ks) h = (has_row keys k n.key h.0, found_all keys ns ks h.1)
+found_all keys (n ∷ ns) (k ∷ ks) h = All-cons (λ (m : Need). Contains keys m.key) n ns (has_row keys k n.key h.0) (found_all keys ns ks h.1)
 
 -- the needs before it are found, this one is not
-pub missing_at : (keys : List KeyTree) (all : List LeafNeed) (i : ℕ) (d : LeafNeed) (ks : List ℕ) (f : BindFault) → i < length all → RowsFor keys (map need_of (take i all)) ks → (Contains keys (need_of (get_or all i d)).key → ⊥) → Names (need_of (get_or all i d)).position f → Misses keys (map need_of all) f
-missing_at keys all i d ks F.Memory l h no p = tt
-missing_at keys all i d ks (F.MissingLeaf q) l h no p = go all i d ks l h no p
-  where
-    go : (all : List LeafNeed) (i : ℕ) (d : LeafNeed) (ks : List ℕ) → i < length all → RowsFor keys (map need_of (take i all)) ks → (Contains keys (need_of (get_or all i d)).key → ⊥) → q ≡ (need_of (get_or all i d)).position → FirstMissing keys (map need_of all) q
-    go [] i d ks l h no p = absurd (omega arith)
-    go (a ∷ all) zero d ks l h no p = inl (no, p)
-    go (a ∷ all) (suc i) d [] l h no p = absurd h
-    go (a ∷ all) (suc i) d (k ∷ ks) l h no p = inr (has_row keys k (need_of a).key h.0, go all i d ks (omega arith) h.1 no p)
+first_missing : (keys : List KeyTree) (all : List LeafNeed) (i : ℕ) (d : LeafNeed) (ks at : List ℕ) → i < length all → RowsFor keys (map need_of (take i all)) ks → (Contains keys (need_of (get_or all i d)).key → ⊥) → at ≡ (need_of (get_or all i d)).position → FirstMissing keys (map need_of all) at
+first_missing keys [] i d ks at l h lacks e = absurd (omega arith)
+first_missing keys (a ∷ all) zero d ks at l h lacks e = inl (lacks, e)
+first_missing keys (a ∷ all) (suc i) d [] at l h lacks e = absurd h
+first_missing keys (a ∷ all) (suc i) d (k ∷ ks) at l h lacks e = inr (has_row keys k (need_of a).key h.0, first_missing keys all i d ks at (omega arith) h.1 lacks e)
+
+pub missing_at : (keys : List KeyTree) (all : List LeafNeed) (i : ℕ) (x : LeafNeed) (ks : List ℕ) (fault : BindFault) → x ≡ get_or all i x → i < length all → RowsFor keys (map need_of (take i all)) ks → (Contains keys (need_of x).key → ⊥) → Names (need_of x).position fault → Misses keys (map need_of all) fault
+missing_at keys all i x ks F.Memory is l h lacks names = tt
+missing_at keys all i x ks (F.MissingLeaf at) is l h lacks names = first_missing keys all i x ks at l h (subst (λ (m : LeafNeed). Contains keys (need_of m).key → ⊥) is lacks) (names ∙ ap (λ (m : LeafNeed). (need_of m).position) is)
+
+-- what was found and put in is bound
+pub bound_network : (keys : List KeyTree) (t : TypedNetwork) (net : Network Expression) (ms ns : List Need) (ks rows rest : List ℕ) (low : Network ℕ) → net ≡ t.net → ms ≡ ns → rows ≡ ks → LeavesOf t ns → RowsFor keys ms ks → Lowered net rows low rest → RowsTyped keys low t.input t.output × (network_by keys low ≡ t.net)
+bound_network keys t net ms ns ks rows rest low n m r l found lowered =
+    let here : Lowered t.net ks low rest = subst (λ o. Lowered o ks low rest) n (subst (λ o. Lowered net o low rest) r lowered) in
+    let all = here keys [] t.input t.output ns ks [] l (subst (λ o. RowsFor keys o ks) m found) (sym (append-nil ks)) in
+    (all.0, all.1)
 
 -- a refusal of a network by what it needs
 pub misses_in : (keys : List KeyTree) (t : TypedNetwork) (ns : List Need) (f : BindFault) → LeavesOf t ns → Misses keys ns f → MissesIn keys t f

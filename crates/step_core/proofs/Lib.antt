@@ -19,3 +19,4 @@ pub mod Ranks
 pub mod Advanced
 pub mod PushedOn
 pub mod Bindings
+pub mod GrownTables

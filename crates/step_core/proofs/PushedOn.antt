@@ -1,22 +1,19 @@
 -- A runner that takes a sample in stands for one sample more.
-use Rattle.std.proofs.Common.{◌≡◌, ℕ, suc, ◌+◌, ◌<◌, List, [], ◌∷◌, ◌++◌, length, refl, sym, ap, ◌∙◌, subst, arith, length-append}
+use Rattle.std.proofs.Common.{◌≡◌, ℕ, suc, ◌<◌, List, [], ◌∷◌, ◌++◌, length, sym, subst, arith, length-append}
 use Rattle.std.proofs.Math.Logic.{∥∥₁_map}
 use Rattle.sample_core.specs.Datum.{Datum}
-use Rattle.sample_core.specs.TypeTree.{TypeTree}
 use Rattle.sample_core.specs.HasType.{HasType}
-use Rattle.leaf_expr.specs.Expression.{Expression}
 use Rattle.leaf_expr.specs.ExpressionValue.{value_of}
 use Rattle.net_syntax.specs.Network.{Network}
 use Rattle.net_syntax.specs.Signal.{Timed}
 use Rattle.net_syntax.specs.Stream.{stream_of}
 use Rattle.step_core.specs.Course.{Took}
 use Rattle.step_core.specs.Setting.{course}
-use Rattle.step_core.specs.State.{State}
 use Rattle.step_core.specs.Stands.{Stands}
 use Rattle.step_core.specs.Run.{nowhere}
 use Rattle.leaf_expr.specs.KeyTree.{KeyTree}
 use Rattle.step_core.specs.Bound.{Binding, FitsTable}
-use Rattle.step_core.specs.RowTyping.{RowsTyped, FitsRows}
+use Rattle.step_core.specs.RowTyping.{FitsRows}
 use Rattle.step_core.specs.Held.{Holds, Begun, Moved, BegunWhere, MovedWhere}
 use Rattle.step_core.specs.Running.{Running, network_in, HoldsPast, StandsFor, Pushed}
 use Rattle.step_core.proofs.Runners as R
@@ -31,10 +28,13 @@ abbrev OneMore : Running → Timed → ℕ × Datum → Datum → List Datum →
 OneMore r p x y held = HoldsPast (later r held) (p ++ x ∷ []) × (stream_of (network_in r) (p ++ x ∷ []) ≡ stream_of (network_in r) p ++ y ∷ [])
 
 all_pushed : (r : Running) (p : Timed) (x : ℕ × Datum) (y : Datum) (held : List Datum) → StandsFor r p → OneMore r p x y held → StandsFor (later r held) (p ++ x ∷ []) × (stream_of (network_in r) (p ++ x ∷ []) ≡ stream_of (network_in r) p ++ y ∷ [])
-all_pushed r p x y held s m = (record {
-  counted = (let c : r.samples ≡ length p = s.counted in omega (arith, c, length-append p (x ∷ [])));
-  holds_past = m.0;
-}, m.1)
+all_pushed r p x y held s m = (
+  record {
+    counted = (let c : r.samples ≡ length p = s.counted in omega (arith, c, length-append p (x ∷ [])));
+    holds_past = m.0;
+  },
+  m.1,
+)
 
 pub first_pushed : (r : Running) (d : ℕ) (x y : Datum) (held : List Datum) → r.samples ≡ 0 → HasType x r.input → BegunWhere r.keys r.rows x y [] held → Pushed r (d, x) y (later r held)
 first_pushed r d x y held none t begun (z ∷ p) s = absurd (let c : r.samples ≡ suc (length p) = s.counted in omega (arith, c, none))
@@ -43,9 +43,10 @@ first_pushed r d x y held none t begun [] s = all_pushed r [] (d, x) y held s (o
     one : HoldsPast r [] → OneMore r [] (d, x) y held
     one (B, typed, nothing_held) =
         let b : Begun r.keys r.rows r.input B x y [] held = begun r.input B typed t in
-        let took : Took (Stands value_of b.state) (course value_of (network_in r) nowhere) [] (d, x) y b.visits = R.first_push value_of (network_in r) b.starts d in
-        ((B, b.state, subst (Holds r.keys r.rows r.input B b.state) (sym b.added) b.holds, took.stands),
-          (R.pushed value_of (network_in r) {P = Stands value_of b.state} [] (d, x) y b.visits took).one_more)
+        let took : Took (Stands value_of b.state) (course value_of (network_in r) nowhere) [] (d, x) y b.visits = R.first_push value_of (network_in r) b.starts d in (
+          (B, b.state, subst (Holds r.keys r.rows r.input B b.state) (sym b.added) b.holds, took.stands),
+          (R.pushed value_of (network_in r) {P = Stands value_of b.state} [] (d, x) y b.visits took).one_more,
+        )
 
 pub next_pushed : (r : Running) (x : ℕ × Datum) (y : Datum) (held rest : List Datum) → 0 < r.samples → HasType x.1 r.input → MovedWhere r.keys r.rows r.held x y [] held rest → Pushed r x y (later r held)
 next_pushed r x y held rest some t moved [] s = absurd (let c : r.samples ≡ 0 = s.counted in omega (arith, c, some))
@@ -54,9 +55,10 @@ next_pushed r x y held rest some t moved (z ∷ p) s = all_pushed r (z ∷ p) x 
     one : HoldsPast r (z ∷ p) → OneMore r (z ∷ p) x y held
     one (B, a, holds, stands) =
         let m : Moved r.keys r.rows r.input B a x y [] held = (moved r.input B a r.held [] holds (sym (append-nil r.held)) t).0 in
-        let took : Took (Stands value_of m.state) (course value_of (network_in r) nowhere) (z ∷ p) x y m.visits = R.next_push value_of (network_in r) m.steps (z ∷ p) stands in
-        ((B, m.state, subst (Holds r.keys r.rows r.input B m.state) (sym m.added) m.holds, took.stands),
-          (R.pushed value_of (network_in r) {P = Stands value_of m.state} (z ∷ p) x y m.visits took).one_more)
+        let took : Took (Stands value_of m.state) (course value_of (network_in r) nowhere) (z ∷ p) x y m.visits = R.next_push value_of (network_in r) m.steps (z ∷ p) stands in (
+          (B, m.state, subst (Holds r.keys r.rows r.input B m.state) (sym m.added) m.holds, took.stands),
+          (R.pushed value_of (network_in r) {P = Stands value_of m.state} (z ∷ p) x y m.visits took).one_more,
+        )
 
 -- what is bound is a network of rows that are there
 pub fits_table : (keys : List KeyTree) (b : Binding) → ∥ FitsTable keys b ∥₁ → FitsRows keys b.rows

@@ -4,6 +4,7 @@ use Rattle.std.specs.Int.{int_wrap, w64}
 use Rattle.sample_core.specs.Datum.{Datum, number, event, no_event, whole}
 use Rattle.net_syntax.specs.Signal.{Timed, values, times, time_at, last_or, previous_of, held, delayed, reached, repeated, clock, integrated, latest_by}
 
+-- what a cell keeps from one sample to the next
 pub data Cell : Type 0 where
   -- `iPre`: the value before
   previous : Datum → Cell
@@ -21,18 +22,21 @@ pub data Cell : Type 0 where
   -- `integral`: the sum, and the value before
   summing : ℤ → ℤ → Cell
 
--- those that are due in d leave the queue, the last of them is out
+-- d less is left to each
 abbrev pub count_down : ℕ → List (ℕ × Datum) → List (ℕ × Datum)
 count_down d [] = []
 count_down d (i ∷ is) = (i.0 - d, i.1) ∷ count_down d is
 
+-- those that are due in d leave the queue, the last of them is out: what is out then, and what still waits
 abbrev pub due : ℕ → Datum → List (ℕ × Datum) → Datum × List (ℕ × Datum)
 due d out [] = (out, [])
 due d out (i ∷ is) = if nat_le i.0 d then due d i.1 is else (out, count_down d (i ∷ is))
 
+-- the queue after the new value v has joined it, and what is out
 abbrev pub queued : ℕ → Datum → Datum × List (ℕ × Datum) → Cell × Datum
 queued q v r = (queue q r.0 (r.1 ++ (q, v) ∷ []), r.0)
 
+-- the start of `after`: over at once where q is 0
 abbrev pub after_cell : ℕ → Datum → Cell × Datum
 after_cell q c = if nat_le q 0 then (over, event c) else (waiting q c, no_event)
 

@@ -7,6 +7,7 @@ use Rattle.step_core.specs.IsCount.{IsCount}
 use Rattle.net_syntax.specs.Answer.{answer}
 use Rattle.step_core.specs.Visits.{Counts}
 
+-- what a network puts out, and how many nodes each of its samples visits
 pub record Course : Type 0 where
   pub signal : Signal
   pub counts : Counts
@@ -15,6 +16,7 @@ pub record Course : Type 0 where
 abbrev pub tally : Counts → Timed → ℕ × Datum → ℕ
 tally v p x = last_or 0 (v (p ++ x ∷ []))
 
+-- the signal answers each sample by the samples so far, and the counts are bounded
 pub record IsCourse (c : Course) : Type 0 where
   pub is_signal : IsSignal c.signal
   pub heaviest : ℕ

@@ -111,6 +111,7 @@ mutual
         StepsEach val (route_by (val r (params_of s))) 0 as' x bs vs m → Steps val b (x.0, pair x.1 (list (of_elements vs))) b' w n → event_in w ≡ Some c →
         Starts val t (push_olds (push_param s c) (all_paused as' x.0)) x.1 o y k → Steps val (p_switch_state r as' b t s) x o y (suc (m + n) + k)
 
+  -- the members from i on step, each on what it gets
   pub data StepsEach {L : Type 0} (val : L → List Datum → Datum → Datum) : (ℕ → Datum → Datum) → ℕ → States L → ℕ × Datum → States L → List Datum → ℕ → Type 0 where
     step_none : {h : ℕ → Datum → Datum} {i : ℕ} {x : ℕ × Datum} → StepsEach val h i no_state x no_state [] 0
     step_also : {h : ℕ → Datum → Datum} {i : ℕ} {a a' : State L} {as' bs : States L} {x : ℕ × Datum} {y : Datum} {ys : List Datum} {m n : ℕ} →

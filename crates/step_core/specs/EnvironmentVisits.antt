@@ -7,11 +7,13 @@ use Rattle.net_syntax.specs.Environment.{Environment, context_of, closed, param,
 use Rattle.step_core.specs.Visits.{Counts, visits, resumed_counts}
 use Rattle.net_syntax.specs.Weight.{weight}
 
+-- the counts of the frozen networks in scope, each resumed with the step that it was frozen with
 abbrev pub counts_of : {L : Type 0} → (L → List Datum → Datum → Datum) → Environment L → List Counts
 counts_of val closed = []
 counts_of val (param E c) = counts_of val E
 counts_of val (frozen E net E' p d) = counts_of val E ++ resumed_counts (visits val net (context_of val E') (counts_of val E')) p d ∷ []
 
+-- the weights of the frozen networks in scope
 abbrev pub weights_of : {L : Type 0} → Environment L → List ℕ
 weights_of closed = []
 weights_of (param E c) = weights_of E

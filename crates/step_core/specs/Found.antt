@@ -1,5 +1,5 @@
 -- Which expressions of a network have rows in a table, and the network with the rows in their place.
-use Rattle.std.specs.Prelude.{◌≡◌, ℕ, List, [], ◌∷◌, ◌++◌, All, Contains, Option, Some, slice_get, ◌⊎◌}
+use Rattle.std.specs.Prelude.{◌≡◌, ℕ, List, [], ◌∷◌, ◌++◌, All, Contains, Some, slice_get, ◌⊎◌}
 use Rattle.leaf_expr.specs.Expression.{Expression}
 use Rattle.leaf_expr.specs.KeyTree.{KeyTree}
 use Rattle.sample_core.specs.TypeTree.{TypeTree}
@@ -7,8 +7,8 @@ use Rattle.net_syntax.specs.Leaves.{Need, Leaves, LeavesOf}
 use Rattle.net_syntax.specs.Stream.{TypedNetwork}
 use Rattle.net_syntax.specs.Network.{Network}
 use Rattle.step_core.specs.RowTyping.{RowsTyped, network_by}
-use Rattle.step_core.specs.declared.binding.BindFault.{BindFault}
-use Rattle.step_core.specs.declared.binding.BindFault.TheVariants as F
+use Rattle.step_core.specs.declared.fault.BindFault.{BindFault}
+use Rattle.step_core.specs.declared.fault.BindFault.TheVariants as F
 
 -- each need has a row
 abbrev pub AllFound : List KeyTree → List Need → Type 0

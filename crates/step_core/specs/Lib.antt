@@ -18,3 +18,4 @@ pub mod Held
 pub mod Running
 pub mod SeenRunner
 pub mod Found
+pub mod GrownTable

@@ -5,7 +5,7 @@ use Rattle.leaf_expr.specs.Expression.{Expression, sample}
 use Rattle.leaf_expr.specs.ExpressionTyping.{ExpressionTyped}
 use Rattle.leaf_expr.specs.KeyTree.{KeyTree}
 use Rattle.net_syntax.specs.Network.{Network, map_network}
-use Rattle.net_syntax.specs.Typing.{LeafTyping, Typed}
+use Rattle.net_syntax.specs.Typing.{Typed}
 
 -- the expression of a key, `x` where there is no key
 abbrev pub expression_in : Option KeyTree → Expression

@@ -7,9 +7,11 @@ use Rattle.step_core.specs.Setting.{Setting}
 use Rattle.step_core.specs.State.{State, Scope, scope, no_frozen}
 use Rattle.step_core.specs.Engine.{Starts, Steps}
 
+-- nothing in scope
 abbrev pub nowhere : Setting
 nowhere = record { params = []; olds = [] }
 
+-- the scope with no parameters and no frozen networks
 abbrev pub nothing : {L : Type 0} → Scope L
 nothing = scope [] no_frozen
 

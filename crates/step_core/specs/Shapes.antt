@@ -10,6 +10,7 @@ use Rattle.step_core.specs.Cell.{Cell, Keeps}
 pub record ArrShape (h : Datum → Datum) (c : Course) (q : Timed) : Type 0 where
   pub same : c ≡ map_course h
 
+-- `>>>`: b runs on what f put out
 pub record SeqShape (A B : Course → Timed → Type 0) (c : Course) (q : Timed) : Type 0 where
   pub f : Course
   pub g : Course
@@ -19,18 +20,20 @@ pub record SeqShape (A B : Course → Timed → Type 0) (c : Course) (q : Timed)
   pub second_part : B g (with_values q (f.signal q))
   pub same : c ≡ seq_course f g
 
+-- `first`: the part runs on the left components
 pub record FirstShape (A : Course → Timed → Type 0) (c : Course) (q : Timed) : Type 0 where
   pub f : Course
   pub is_f : IsCourse f
   pub first_part : A f (each_value left q)
   pub same : c ≡ first_course f
 
+-- `parB`: the members run on the same samples
 pub record ParShape (M : List Course → Timed → Type 0) (c : Course) (q : Timed) : Type 0 where
   pub cs : List Course
   pub members : M cs q
   pub same : c ≡ par_course cs
 
--- v is fed back next
+-- `loopPre`: v is fed back next
 pub record LoopShape (v : Datum) (A : Course → Timed → Type 0) (c : Course) (q : Timed) : Type 0 where
   pub z : Datum
   pub f : Course
@@ -39,6 +42,7 @@ pub record LoopShape (v : Datum) (A : Course → Timed → Type 0) (c : Course) 
   pub first_part : A f (paired q (fed_back z f.signal q (length q)))
   pub same : c ≡ loop_course z f
 
+-- a cell: it keeps what its formula needs of the past
 pub record CellShape (k : Cell) (c : Course) (q : Timed) : Type 0 where
   pub h : Timed → Datum
   pub first_sample : ℕ × Datum
@@ -47,11 +51,13 @@ pub record CellShape (k : Cell) (c : Course) (q : Timed) : Type 0 where
   pub same_past : q ≡ first_sample ∷ further
   pub same : c ≡ past_course h
 
+-- `accumBy`: acc is the accumulator so far
 pub record AccumShape (g : Datum → Datum) (acc : Datum) (c : Course) (q : Timed) : Type 0 where
   pub z : Datum
   pub so_far : acc ≡ accumulated g z (values q)
   pub same : c ≡ past_course (accumulation g z)
 
+-- `switch` before its first event
 pub record SwitchShape (A : Course → Timed → Type 0) (t : Datum → Course) (c : Course) (q : Timed) : Type 0 where
   pub f : Course
   pub is_f : IsCourse f
@@ -59,6 +65,7 @@ pub record SwitchShape (A : Course → Timed → Type 0) (t : Datum → Course) 
   pub first_part : A f q
   pub same : c ≡ switch_course f t
 
+-- `dSwitch` before its first event
 pub record DSwitchShape (A : Course → Timed → Type 0) (t : Datum → Course) (c : Course) (q : Timed) : Type 0 where
   pub f : Course
   pub is_f : IsCourse f
@@ -78,6 +85,7 @@ pub record RSwitchShape (A : Course → Timed → Type 0) (t : Datum → Course)
   pub first_part : A f (each_value left q)
   pub same : c ≡ r_switch_course f t
 
+-- `kSwitch` before the first event of e
 pub record KSwitchShape (A B : Course → Timed → Type 0) (t : Datum → Course → Course) (c : Course) (q : Timed) : Type 0 where
   pub f : Course
   pub e : Course
@@ -88,6 +96,7 @@ pub record KSwitchShape (A B : Course → Timed → Type 0) (t : Datum → Cours
   pub second_part : B e (paired q (f.signal q))
   pub same : c ≡ k_switch_course f e t
 
+-- `pSwitch` before the first event of e
 pub record PSwitchShape (r : Datum → Datum) (M : List Course → Timed → Type 0) (B : Course → Timed → Type 0) (t : Datum → List Course → Course) (c : Course) (q : Timed) : Type 0 where
   pub cs : List Course
   pub e : Course

@@ -31,15 +31,18 @@ abbrev mutual
   Shapes val (and_state a as') h i [] p = ⊥
   Shapes val (and_state a as') h i (c ∷ cs) p = IsCourse c × Via (Shape val a) c (each_value (h i) p) × Shapes val as' h (suc i) cs p
 
+  -- the scope has the setting's parameters, and its frozen networks stand for the setting's courses
   pub Denotes : {L : Type 0} → (L → List Datum → Datum → Datum) → Scope L → Setting → Type 0
   Denotes val (scope ps fs) S = (ps ≡ S.params) × AllDenote val fs S.olds
 
+  -- each frozen network stands for its course
   pub AllDenote : {L : Type 0} → (L → List Datum → Datum → Datum) → Frozens L → List Course → Type 0
   AllDenote val no_frozen [] = Unit {0}
   AllDenote val no_frozen (o ∷ os) = ⊥
   AllDenote val (and_frozen f fs) [] = ⊥
   AllDenote val (and_frozen f fs) (o ∷ os) = IsCourse o × FrozenDenotes val f o × AllDenote val fs os
 
+  -- a frozen network stands for a resumed course: one that never started with no past, a paused state with the past that it stands for
   pub FrozenDenotes : {L : Type 0} → (L → List Datum → Datum → Datum) → Frozen L → Course → Type 0
   FrozenDenotes val (unstarted net s) o = (S : Setting) × (d : ℕ) × Denotes val s S × (o ≡ resumed_course (course val net S) [] d)
   FrozenDenotes val (paused a d) o = (c : Course) × (q : Timed) × IsCourse c × Via (Shape val a) c q × (o ≡ resumed_course c q d)

@@ -5,6 +5,7 @@ use Rattle.net_syntax.specs.Network.{Network, Networks, no_members, and_member}
 use Rattle.step_core.specs.Cell.{Cell}
 
 mutual
+  -- the state of a network that runs, a node of the state for a node of the network
   pub data State (L : Type 0) : Type 0 where
     arr_state : L → List Datum → State L
     seq_state : State L → State L → State L
@@ -21,6 +22,7 @@ mutual
     k_switch_state : State L → State L → Network L → Scope L → State L
     p_switch_state : L → States L → State L → Network L → Scope L → State L
 
+  -- the states of members
   pub data States (L : Type 0) : Type 0 where
     no_state : States L
     and_state : State L → States L → States L
@@ -29,35 +31,44 @@ mutual
   pub data Scope (L : Type 0) : Type 0 where
     scope : List Datum → Frozens L → Scope L
 
+  -- frozen networks, from the outermost on
   pub data Frozens (L : Type 0) : Type 0 where
     no_frozen : Frozens L
     and_frozen : Frozen L → Frozens L → Frozens L
 
+  -- a network frozen before it started, or a state with the step that it was frozen with
   pub data Frozen (L : Type 0) : Type 0 where
     unstarted : Network L → Scope L → Frozen L
     paused : State L → ℕ → Frozen L
 
+-- the parameters in scope
 abbrev pub params_of : {L : Type 0} → Scope L → List Datum
 params_of (scope ps fs) = ps
 
+-- the frozen networks in scope
 abbrev pub frozens_of : {L : Type 0} → Scope L → Frozens L
 frozens_of (scope ps fs) = fs
 
+-- some frozen networks behind others
 abbrev pub append_frozens : {L : Type 0} → Frozens L → Frozens L → Frozens L
 append_frozens no_frozen gs = gs
 append_frozens (and_frozen f fs) gs = and_frozen f (append_frozens fs gs)
 
+-- frozen network k
 abbrev pub frozen_at : {L : Type 0} → Frozens L → ℕ → Option (Frozen L)
 frozen_at no_frozen k = None
 frozen_at (and_frozen f fs) zero = Some f
 frozen_at (and_frozen f fs) (suc k) = frozen_at fs k
 
+-- the scope with one parameter more
 abbrev pub push_param : {L : Type 0} → Scope L → Datum → Scope L
 push_param (scope ps fs) c = scope (ps ++ c ∷ []) fs
 
+-- the scope with these frozen networks more
 abbrev pub push_olds : {L : Type 0} → Scope L → Frozens L → Scope L
 push_olds (scope ps fs) gs = scope ps (append_frozens fs gs)
 
+-- the scope with one frozen network more
 abbrev pub push_old : {L : Type 0} → Scope L → Frozen L → Scope L
 push_old s f = push_olds s (and_frozen f no_frozen)
 

@@ -5,15 +5,19 @@ use Rattle.net_syntax.specs.Signal.{Timed, zip_with, with_values, paired, each_v
 use Rattle.net_syntax.specs.Network.{Network, Networks, arr, seq, first, par, loop_pre, i_pre, delay, hold, accum_by, after, repeatedly, time, integral, switch, d_switch, r_switch, k_switch, p_switch, old, no_members, and_member}
 use Rattle.net_syntax.specs.Meaning.{Context, with_param, with_olds, meaning, meanings}
 
+-- how many nodes each sample visits, for each timed list
 abbrev pub Counts : Type 0
 Counts = Timed → List ℕ
 
+-- one node a sample
 abbrev pub ones : Counts
 ones xs = map (λ x. 1) xs
 
+-- no node at any sample
 abbrev pub zeros : Counts
 zeros xs = map (λ x. 0) xs
 
+-- two counts added sample by sample
 abbrev pub added : List ℕ → List ℕ → List ℕ
 added ms ns = zip_with (λ m n. m + n) ms ns
 
@@ -31,14 +35,17 @@ abbrev pub both_at_first : List ℕ → List ℕ → List ℕ
 both_at_first (m ∷ ms) (n ∷ ns) = (m + n) ∷ ns
 both_at_first _ _ = []
 
+-- up to the first event the counts so far; at it the counts of what takes over too, and then these alone
 abbrev pub taken_over : Option (ℕ × Datum) → List ℕ → (ℕ → Datum → List ℕ) → List ℕ
 taken_over None ns go = ns
 taken_over (Some e) ns go = take e.0 ns ++ both_at_first (drop e.0 ns) (go e.0 e.1)
 
+-- the counts of a network with past p, resumed with step d
 abbrev pub resumed_counts : Counts → Timed → ℕ → Counts
 resumed_counts f p d [] = []
 resumed_counts f p d (x ∷ xs) = drop (length p) (f (p ++ (d, x.1) ∷ xs))
 
+-- the counts of the members from i on, resumed with step d, each with the past that was routed to it
 abbrev pub frozen_counts : (Datum → Datum) → ℕ → List Counts → Timed → ℕ → List Counts
 frozen_counts r i [] p d = []
 frozen_counts r i (f ∷ fs) p d = resumed_counts f (routed r i p) d ∷ frozen_counts r (suc i) fs p d
@@ -48,16 +55,19 @@ abbrev pub sum_of_routed : (Datum → Datum) → ℕ → List Counts → Counts
 sum_of_routed r i [] xs = zeros xs
 sum_of_routed r i (f ∷ fs) xs = added (f (routed r i xs)) (sum_of_routed r (suc i) fs xs)
 
+-- the sum over the members, which all get the same samples
 abbrev pub sum_of_all : List Counts → Counts
 sum_of_all [] xs = zeros xs
 sum_of_all (f ∷ fs) xs = added (f xs) (sum_of_all fs xs)
 
+-- the counts of frozen network k
 abbrev pub counts_at : List Counts → ℕ → Counts
 counts_at [] k = zeros
 counts_at (f ∷ fs) zero = f
 counts_at (f ∷ fs) (suc k) = counts_at fs k
 
 abbrev mutual
+  -- the visits of each sample by a network: itself, and those of its parts that see the sample
   pub visits : {L : Type 0} → (L → List Datum → Datum → Datum) → Network L → Context → List Counts → Counts
   visits val (seq f g) E C = λ xs. and_one (added (visits val f E C xs) (visits val g E C (with_values xs (meaning val f E xs))))
   visits val (first f) E C = λ xs. and_one (visits val f E C (each_value left xs))
@@ -85,6 +95,7 @@ abbrev mutual
   visits val time E C = ones
   visits val integral E C = ones
 
+  -- the visits of each member
   pub visits_all : {L : Type 0} → (L → List Datum → Datum → Datum) → Networks L → Context → List Counts → List Counts
   visits_all val no_members E C = []
   visits_all val (and_member f fs) E C = visits val f E C ∷ visits_all val fs E C

@@ -1,7 +1,6 @@
 // Binding a network to a table.
 
 ghost use Rattle.std.specs.Prelude.{◌≡◌, IfOk, IfErr, OnOk, map};
-ghost use Rattle.sample_core.specs.SeenType.{type_of};
 ghost use Rattle.leaf_table.specs.Rows.{rows_of};
 ghost use Rattle.net_syntax.specs.Seen.{tree_of};
 ghost use Rattle.net_syntax.specs.SeenNeed.{need_of};
@@ -11,44 +10,12 @@ ghost use Rattle.step_core.specs.SeenRows.{row_number, rows_in};
 ghost use Rattle.step_core.specs.Found.{FindsAll, IsFirstRow, Lowered, Misses, MissesIn, Names, RowsFor};
 
 use crate::bound::Bound;
+use crate::fault::BindFault;
 use leaf_expr::Expr;
 use leaf_table::{LeafId, LeafTable};
-use net_syntax::{leaves, LeafNeed, Net, Position, Sub, TypedNet};
+use net_syntax::{LeafNeed, Net, Position, Sub, TypedNet, leaves};
 use sample_core::Memory;
-use std::alloc::{AllocError, AllocFailed, Global};
-use thiserror::Error;
-
-/// Why a network is not bound to a table.
-#[derive(Debug, Drop, PartialEq, Eq, Error)]
-pub enum BindFault {
-    /// The table has no row for the expression at this position. It is the first such from the root on.
-    #[error("no row for an expression")]
-    MissingLeaf {
-        /// Where the expression stands.
-        position: Position,
-    },
-    /// A growth was refused.
-    #[error("memory")]
-    Memory,
-}
-
-impl From<Memory> for BindFault {
-    fn from(_: Memory) -> BindFault {
-        BindFault::Memory
-    }
-}
-
-impl From<AllocError> for BindFault {
-    fn from(_: AllocError) -> BindFault {
-        BindFault::Memory
-    }
-}
-
-impl<T: Drop> From<AllocFailed<T>> for BindFault {
-    fn from(_failed: AllocFailed<T>) -> BindFault {
-        BindFault::Memory
-    }
-}
+use std::alloc::{AllocError, Global};
 
 /// The network with a row of the table in the place of each expression.
 /// `MissingLeaf` where an expression has no row, at the first such from the root on.
@@ -69,11 +36,7 @@ pub fn bind(alloc: Global, net: &TypedNet, table: &LeafTable) -> Result<Bound, B
 }
 
 /// The row of each need in order.
-fn find_rows(
-    alloc: Global,
-    table: &LeafTable,
-    needs: &[LeafNeed],
-) -> Result<Vec<LeafId>, BindFault>
+fn find_rows(alloc: Global, table: &LeafTable, needs: &[LeafNeed]) -> Result<Vec<LeafId>, BindFault>
     ensures found { IfOk result (λ rows. RowsFor (rows_of table.now) (map need_of needs.now) (map row_number rows.items)) }
     ensures missing { IfErr result (Misses (rows_of table.now) (map need_of needs.now)) }
 {
@@ -91,19 +54,12 @@ fn find_rows(
 fn missing(alloc: Global, position: &Position) -> BindFault
     ensures { Names position.now result }
 {
-    match copied(alloc, position) {
-        Ok(position) => BindFault::MissingLeaf { position },
-        Err(Memory) => BindFault::Memory,
+    match position.path().to_vec(alloc) {
+        Ok(path) => BindFault::MissingLeaf {
+            position: Position::new(path),
+        },
+        Err(AllocError) => BindFault::Memory,
     }
-}
-
-/// A copy of the position.
-fn copied(alloc: Global, position: &Position) -> Result<Position, Memory>
-    ensures { IfOk result (λ p. p ≡ position.now) }
-{
-    let mut path = Vec::with_capacity(alloc, position.path().len())?;
-    path.extend_from_slice(position.path())?;
-    Ok(Position::new(path))
 }
 
 /// The network with the first of these rows in the place of its expressions, and the rest of the rows.
@@ -122,7 +78,8 @@ fn lower<'a>(
         Net::Seq(f, g) => {
             let (first, rest) = lower(alloc, f.get(), rows)?;
             let (second, rest) = lower(alloc, g.get(), rest)?;
-            Ok((Net::Seq(Sub::new(alloc, first)?, Sub::new(alloc, second)?), rest))
+            let lowered = Net::Seq(Sub::new(alloc, first)?, Sub::new(alloc, second)?);
+            Ok((lowered, rest))
         }
         Net::IPre(_) => {
             let (row, rest) = first_row(rows);

@@ -4,8 +4,12 @@
 mod advance;
 mod binding;
 mod bound;
+mod fault;
+mod laws;
 mod runner;
 
-pub use binding::{BindFault, bind};
+pub use binding::bind;
 pub use bound::Bound;
+pub use fault::BindFault;
+pub use laws::binding_laws;
 pub use runner::Runner;

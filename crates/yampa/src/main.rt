@@ -2,18 +2,25 @@
 #![tactic(auto)]
 
 ghost use Rattle.std.specs.Prelude.{IfErr};
+ghost use Rattle.leaf_table.specs.Rows.{rows_of};
+ghost use Rattle.step_core.specs.Bound.{FitsTable};
 ghost use Rattle.yampa_run.specs.Printed.{IsAnswered};
 
 mod host;
 
 use host::HostFiles;
-use net_syntax::TypedNet;
+use leaf_table::{LeafTable, TableFault};
+use net_syntax::{TypedNet, leaves};
 use sample_core::Memory;
 use std::alloc::Global;
 use std::env;
 use std::io::{self, ErrorKind, Read, Write};
 use std::process::ExitCode;
-use yampa_run::{Job, Refusal, RunFault, StreamFault, fault_line, prepare, run_whole};
+use step_core::{BindFault, Bound, bind};
+use yampa_run::{Job, Refusal, RunFault, StreamFault, fault_line, fill_table, prepare, run_whole};
+
+/// The status of a program that refuses a file, a stream or a network of too many expressions.
+const REFUSED: u8 = 1;
 
 /// The status of a program that could not read, write or get memory.
 const BROKEN: u8 = 3;
@@ -62,14 +69,36 @@ fn unread_words(alloc: Global, error: &io::Error) -> Refusal {
     }
 }
 
-/// Runs the network on standard input, and prints the lines of its answers. Answers the exit status.
+/// Stores a closure for each expression of the network, and runs it on standard input. Answers the exit status.
 fn run(rt: &HostRuntime, net: &TypedNet) -> u8 {
+    let needs = match leaves(rt.alloc(), net) {
+        Ok(needs) => needs,
+        Err(Memory) => return complain(rt, BROKEN, "memory"),
+    };
+    let mut table = LeafTable::new(rt.alloc());
+    match fill_table!(rt.alloc(), table, &needs) {
+        Ok(()) => {}
+        Err(TableFault::Full) => return complain(rt, REFUSED, "table full"),
+        Err(TableFault::Memory) => return complain(rt, BROKEN, "memory"),
+    }
+    match bind(rt.alloc(), net, &table) {
+        Ok(bound) => run_bound(rt, &bound, &table),
+        Err(BindFault::Memory) => complain(rt, BROKEN, "memory"),
+        // The table was filled with a row for each expression, so this doesn't come.
+        Err(BindFault::MissingLeaf { position: _ }) => complain(rt, BROKEN, "no row"),
+    }
+}
+
+/// Runs the network on standard input, and prints the lines of its answers. Answers the exit status.
+fn run_bound(rt: &HostRuntime, bound: &Bound, table: &LeafTable) -> u8
+    requires { FitsTable (rows_of table.now) bound.now }
+{
     let stream = match read_stream(rt) {
         Ok(stream) => stream,
         Err(fault) => return tell(rt, &fault),
     };
     let mut out = Vec::new(rt.alloc());
-    match run_whole(rt.alloc(), net, &stream, &mut out) {
+    match run_whole(rt.alloc(), bound, table, &stream, &mut out) {
         Ok(_) => print(rt, &out),
         Err(fault) => match print(rt, &out) {
             0 => tell(rt, &fault),

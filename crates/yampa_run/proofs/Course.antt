@@ -1,7 +1,6 @@
 -- A run, line by line.
 use Rattle.std.proofs.Common.{◌≡◌, ◌≤◌, ◌<◌, ◌+◌, ℕ, zero, suc, Bool, true, false, List, [], ◌∷◌, ◌++◌, length, take, Option, Some, None, Result, Ok, Err, refl, sym, ap, ◌∙◌, subst, arith, append_assoc, append-nil, length-append, nat_lt, nat_eq, if◌then◌else◌}
 use Rattle.std.specs.Prelude.{bytes_eq, codes, ⊤}
-use Rattle.std.proofs.lemmas.Bool.Decides.{nat_tests}
 use Rattle.std.proofs.lemmas.List.{take_at}
 use Rattle.sample_core.specs.Datum.{Datum}
 use Rattle.sample_core.specs.Reading.{reading}
@@ -11,79 +10,88 @@ use Rattle.sample_core.specs.Spelling.{spelling}
 use Rattle.sample_core.specs.TypeTree.{TypeTree}
 use Rattle.leaf_expr.specs.Expression.{Expression}
 use Rattle.leaf_expr.specs.ExpressionValue.{value_of}
+use Rattle.leaf_expr.specs.KeyTree.{KeyTree}
 use Rattle.net_syntax.specs.Environment.{closed}
 use Rattle.net_syntax.specs.Network.{Network}
 use Rattle.net_syntax.specs.Signal.{Timed}
-use Rattle.net_syntax.specs.Stream.{TypedNetwork, stream_of}
+use Rattle.net_syntax.specs.Stream.{stream_of}
 use Rattle.net_syntax.proofs.Meanings.{outputs-take}
-use Rattle.yampa_run.proofs.Kept.{kept_nil}
-use Rattle.yampa_run.specs.Course.{RunsLine, IsOfText, Stops, ended_by}
-use Rattle.yampa_run.specs.Kept.{kept, Answers, Steps}
+use Rattle.step_core.specs.Bound.{Binding}
+use Rattle.step_core.specs.RowTyping.{network_by}
+use Rattle.step_core.specs.Running.{Running, StandsFor, Pushed, network_in}
+use Rattle.yampa_run.specs.Course.{IsAt, IsBefore, RunsLine, IsOfText, Stops, ended_by}
 use Rattle.yampa_run.specs.Output.{spelled_lines}
 use Rattle.yampa_run.specs.StepText.{behind, stepped}
-use Rattle.yampa_run.specs.Printed.{IsAnswered}
-use Rattle.yampa_run.specs.StreamText.{Held, Refuses, and_on, held_from, if_whole, is_some, later_line, line_after, line_read, samples, with_step}
+use Rattle.yampa_run.specs.StreamText.{Held, and_on, held_from, if_whole, is_some, later_line, line_after, line_read, samples, with_step, Refuses}
 use Rattle.yampa_run.specs.TextLines.{lines_of}
+use Rattle.yampa_run.specs.Printed.{IsAnswered}
 use Rattle.yampa_run.specs.declared.fault.StreamFault.{StreamFault}
 use Rattle.yampa_run.specs.declared.fault.StreamFault.TheVariants as S
 use Rattle.yampa_run.specs.declared.fault.RunFault.{RunFault}
 use Rattle.yampa_run.specs.declared.fault.RunFault.TheVariants as U
-
--- what a step that writes into an empty list holds then
-pub steps_answer : (net net₁ : Network Expression) (held held₁ old now now' rest : List Datum) (x y : Datum) → net₁ ≡ net → held₁ ≡ held → old ≡ [] → now' ≡ now → Steps net₁ held₁ x y old now rest → Answers net held x y now' rest
-steps_answer net net₁ held held₁ old now now' rest x y a b e w h =
-    let same : h.0 ≡ now' = sym (w ∙ h.1 ∙ ap (λ o. o ++ h.0) e) in
-    subst (λ m. Answers m held x y now' rest) a (subst (λ k. Answers net₁ k x y now' rest) b (subst (λ n. Answers net₁ held₁ x y n rest) same h.2))
+use Rattle.yampa_run.proofs.Samples.{read_few, read_typed}
+use Rattle.sample_core.specs.ReadingLaws.{ReadingLaw}
 
 -- the samples p, and then what is held further
 abbrev pub then_held : Timed → Held → Held
 then_held p h = record { taken = p ++ h.taken; fault = h.fault }
 
--- So far: the samples p were taken, their lines are written, and what is held is what is kept of them.
-pub record Progress (t : TypedNetwork) (text : List ℕ) (lines : ℕ) (before : Option Datum) (held : List Datum) (rest : List ℕ) (out : List ℕ) : Type 0 where
+-- So far: the samples p were taken, the runner stands for them, and their lines are written.
+pub record Progress (keys : List KeyTree) (b : Binding) (text : List ℕ) (lines : ℕ) (r : Running) (before : Option Datum) (rest out : List ℕ) : Type 0 where
   pub p : Timed
-  pub told : samples t.input text ≡ then_held p (held_from t.input (suc lines) before (lines_of rest))
-  pub keeps : held ≡ kept t.net p
+  pub told : samples b.input text ≡ then_held p (held_from b.input (suc lines) before (lines_of rest))
+  pub stands : StandsFor r p
+  pub of_type : r.input ≡ b.input
+  pub of_network : network_in r ≡ network_by keys b.rows
   pub count : length p ≡ lines
-  pub wrote : out ≡ spelled_lines (stream_of t.net p)
+  pub value : IsBefore b.input lines before
+  pub wrote : out ≡ spelled_lines (stream_of (network_by keys b.rows) p)
   pub few : lines ≤ 1000000
 
 no_output : (net : Network Expression) → stream_of net [] ≡ []
 no_output net = outputs-take value_of net closed 0 []
 
-pub begins : (t : TypedNetwork) (text out : List ℕ) (kept_then : List Datum) → kept_then ≡ [] → out ≡ [] → Progress t text 0 None kept_then text out
-begins t text out kept_then k e = record { p = []; told = refl; keeps = k ∙ sym (kept_nil t.net); count = refl; wrote = e ∙ ap spelled_lines (sym (no_output t.net)); few = omega arith }
+pub begins : (keys : List KeyTree) (b : Binding) (text out : List ℕ) (r : Running) → StandsFor r [] → r.input ≡ b.input → network_in r ≡ network_by keys b.rows → out ≡ [] → Progress keys b text 0 r None text out
+begins keys b text out r s i n e = record { p = []; told = refl; stands = s; of_type = i; of_network = n; count = refl; value = refl; wrote = e ∙ ap spelled_lines (sym (no_output (network_by keys b.rows))); few = omega arith }
+
+-- before line n the runner is where the line's sample is pushed
+pub is_at : (keys : List KeyTree) (b : Binding) (text : List ℕ) (lines n : ℕ) (r : Running) (A : TypeTree) (before : Option Datum) (rest out : List ℕ) → n ≡ suc lines → A ≡ b.input → Progress keys b text lines r before rest out → IsAt r A n before
+is_at keys b text lines n r A before rest out i t g =
+    let taken : r.samples ≡ lines = g.stands.counted ∙ g.count in
+    record {
+      of_type = g.of_type ∙ sym t;
+      number = i ∙ ap suc (sym taken);
+      value = subst (λ B. IsBefore B r.samples before) (sym t) (subst (λ m. IsBefore b.input m before) (sym taken) g.value);
+    }
 
 spelled_lines-push : (vs : List Datum) (v : Datum) → spelled_lines (vs ++ v ∷ []) ≡ spelled_lines vs ++ (spelling v ++ 10 ∷ [])
 spelled_lines-push [] v = refl
 spelled_lines-push (u ∷ vs) v = ap (λ ls. spelling u ++ (10 ∷ ls)) (spelled_lines-push vs v) ∙ sym (append_assoc (spelling u) (10 ∷ spelled_lines vs) (spelling v ++ 10 ∷ []))
 
--- a line that is read is one of the first 1,000,000
-read_few : (A : TypeTree) (n : ℕ) (before : Option Datum) (line : List ℕ) (x : ℕ × Datum) → line_read A n before line ≡ Ok x → n ≤ 1000000
-read_few A n before line x e = go (nat_lt 1000000 n) refl e
-  where
-    go : (b : Bool) → nat_lt 1000000 n ≡ b → (if b then Err (S.TooManySamples n) else (if nat_lt 65536 (length line) then Err (S.LineTooLong n) else line_after A n before line)) ≡ Ok x → n ≤ 1000000
-    go true q h = absurd (cc)
-    go false q h = grind (arith, nat_tests)
-
 -- one line more
-pub goes_on : (t : TypedNetwork) (text : List ℕ) (lines n : ℕ) (before before' : Option Datum) (held held' : List Datum) (rest line after out out' : List ℕ) → n ≡ suc lines → lines_of rest ≡ line ∷ lines_of after → Progress t text lines before held rest out → RunsLine t n line before held out before' held' out' → Progress t text n before' held' after out'
-goes_on t text lines n before before' held held' rest line after out out' i e g r =
-    let read : line_read t.input (suc lines) before line ≡ Ok r.x = subst (λ m. line_read t.input m before line ≡ Ok r.x) i r.reads in
-    let next : (stream_of t.net (g.p ++ (r.x.0, r.x.1) ∷ []) ≡ stream_of t.net g.p ++ r.y ∷ []) × (held' ≡ kept t.net (g.p ++ (r.x.0, r.x.1) ∷ [])) × (r.left ≡ []) = r.answers g.p r.x.0 [] (g.keeps ∙ sym (append-nil (kept t.net g.p))) (λ q. refl) in
-    let later : Option Datum → ℕ → Held = λ b m. held_from t.input (suc m) b (lines_of after) in
+pub goes_on : ReadingLaw → (keys : List KeyTree) (b : Binding) (text : List ℕ) (lines n : ℕ) (r r' : Running) (before before' : Option Datum) (rest line after out out' : List ℕ) → n ≡ suc lines → lines_of rest ≡ line ∷ lines_of after → Progress keys b text lines r before rest out → RunsLine r n line before out r' before' out' → Progress keys b text n r' before' after out'
+goes_on law keys b text lines n r r' before before' rest line after out out' i e g l =
+    let net : Network Expression = network_by keys b.rows in
+    let reads : line_read b.input n before line ≡ Ok l.x = subst (λ A. line_read A n before line ≡ Ok l.x) g.of_type l.reads in
+    let read : line_read b.input (suc lines) before line ≡ Ok l.x = subst (λ m. line_read b.input m before line ≡ Ok l.x) i reads in
+    let next : StandsFor r' (g.p ++ l.x ∷ []) × (stream_of (network_in r) (g.p ++ l.x ∷ []) ≡ stream_of (network_in r) g.p ++ l.y ∷ []) = l.pushes g.p g.stands in
+    let grown : stream_of net (g.p ++ l.x ∷ []) ≡ stream_of net g.p ++ l.y ∷ [] = subst (λ m. stream_of m (g.p ++ l.x ∷ []) ≡ stream_of m g.p ++ l.y ∷ []) g.of_network next.1 in
+    let later : Option Datum → ℕ → Held = λ v m. held_from b.input (suc m) v (lines_of after) in
     record {
-      p = g.p ++ r.x ∷ [];
+      p = g.p ++ l.x ∷ [];
       told = g.told
-          ∙ ap (λ ls. then_held g.p (held_from t.input (suc lines) before ls)) e
+          ∙ ap (λ ls. then_held g.p (held_from b.input (suc lines) before ls)) e
           ∙ ap (λ a. then_held g.p (and_on a (λ x. later (Some x.1) (suc lines)))) read
-          ∙ ap (λ ys. record { taken = ys; fault = (later (Some r.x.1) (suc lines)).fault }) (sym (append_assoc g.p (r.x ∷ []) (later (Some r.x.1) (suc lines)).taken))
-          ∙ ap (λ b. then_held (g.p ++ r.x ∷ []) (later b (suc lines))) (sym r.keeps)
-          ∙ ap (λ m. then_held (g.p ++ r.x ∷ []) (later before' m)) (sym i);
-      keeps = next.1;
-      count = let l : length (g.p ++ r.x ∷ []) ≡ length g.p + length (r.x ∷ []) = length-append g.p (r.x ∷ []) in omega (arith, l, g.count, i);
-      wrote = r.writes ∙ ap (λ o. o ++ (spelling r.y ++ 10 ∷ [])) g.wrote ∙ sym (spelled_lines-push (stream_of t.net g.p) r.y) ∙ ap spelled_lines (sym next.0);
-      few = read_few t.input n before line r.x r.reads;
+          ∙ ap (λ ys. record { taken = ys; fault = (later (Some l.x.1) (suc lines)).fault }) (sym (append_assoc g.p (l.x ∷ []) (later (Some l.x.1) (suc lines)).taken))
+          ∙ ap (λ v. then_held (g.p ++ l.x ∷ []) (later v (suc lines))) (sym l.keeps)
+          ∙ ap (λ m. then_held (g.p ++ l.x ∷ []) (later before' m)) (sym i);
+      stands = next.0;
+      of_type = l.same_type ∙ g.of_type;
+      of_network = l.same_network ∙ g.of_network;
+      count = let k : length (g.p ++ l.x ∷ []) ≡ length g.p + length (l.x ∷ []) = length-append g.p (l.x ∷ []) in omega (arith, k, g.count, i);
+      value = subst (IsBefore b.input n) (sym l.keeps) (read_typed law b.input n lines before line l.x g.value reads);
+      wrote = l.writes ∙ ap (λ o. o ++ (spelling l.y ++ 10 ∷ [])) g.wrote ∙ sym (spelled_lines-push (stream_of net g.p) l.y) ∙ ap spelled_lines (sym grown);
+      few = read_few b.input n before line l.x reads;
     }
 
 -- whether a result, if it is a fault, is one that a line's text can have
@@ -115,47 +123,47 @@ read_of_text : (A : TypeTree) (n : ℕ) (before : Option Datum) (line : List ℕ
 read_of_text A n before line = either (nat_lt 1000000 n) _ _ tt (either (nat_lt 65536 (length line)) _ _ tt (after_of_text A n before line))
 
 -- a faulty line ends it
-faulty : (t : TypedNetwork) (text : List ℕ) (lines n : ℕ) (before : Option Datum) (held : List Datum) (rest line after out out' : List ℕ) (fault : StreamFault) → n ≡ suc lines → lines_of rest ≡ line ∷ lines_of after → Progress t text lines before held rest out → out' ≡ out → line_read t.input n before line ≡ Err fault → Stops t text out' (U.Stream lines fault)
-faulty t text lines n before held rest line after out out' fault i e g o r =
-    let bad : line_read t.input (suc lines) before line ≡ Err fault = subst (λ k. line_read t.input k before line ≡ Err fault) i r in
-    let all : samples t.input text ≡ record { taken = g.p; fault = Some fault } =
+faulty : (keys : List KeyTree) (b : Binding) (text : List ℕ) (lines n : ℕ) (r : Running) (before : Option Datum) (rest line after out out' : List ℕ) (fault : StreamFault) → n ≡ suc lines → lines_of rest ≡ line ∷ lines_of after → Progress keys b text lines r before rest out → out' ≡ out → line_read b.input n before line ≡ Err fault → Stops keys b text out' (U.Stream lines fault)
+faulty keys b text lines n r before rest line after out out' fault i e g o h =
+    let bad : line_read b.input (suc lines) before line ≡ Err fault = subst (λ k. line_read b.input k before line ≡ Err fault) i h in
+    let all : samples b.input text ≡ record { taken = g.p; fault = Some fault } =
     g.told
-    ∙ ap (λ ls. then_held g.p (held_from t.input (suc lines) before ls)) e
-    ∙ ap (λ a. then_held g.p (and_on a (λ x. held_from t.input (suc (suc lines)) (Some x.1) (lines_of after)))) bad
+    ∙ ap (λ ls. then_held g.p (held_from b.input (suc lines) before ls)) e
+    ∙ ap (λ a. then_held g.p (and_on a (λ x. held_from b.input (suc (suc lines)) (Some x.1) (lines_of after)))) bad
     ∙ ap (λ p. record { taken = p; fault = Some fault }) (append-nil g.p) in
-    (o ∙ g.wrote ∙ ap (λ h. spelled_lines (stream_of t.net h.taken)) (sym all), ap (λ h. h.fault) all, subst OfText bad (read_of_text t.input (suc lines) before line), sym g.count ∙ ap (λ h. length h.taken) (sym all))
+    (o ∙ g.wrote ∙ ap (λ k. spelled_lines (stream_of (network_by keys b.rows) k.taken)) (sym all), ap (λ k. k.fault) all, subst OfText bad (read_of_text b.input (suc lines) before line), sym g.count ∙ ap (λ k. length k.taken) (sym all))
 
 -- want of memory ends it
-short : (t : TypedNetwork) (text : List ℕ) (lines : ℕ) (before : Option Datum) (held : List Datum) (rest out out' : List ℕ) → Progress t text lines before held rest out → out' ≡ out → Stops t text out' (U.Memory lines)
-short t text lines before held rest out out' g o =
-    let more : Timed = (held_from t.input (suc lines) before (lines_of rest)).taken in
-    let all : (samples t.input text).taken ≡ g.p ++ more = ap (λ h. h.taken) g.told in
+short : (keys : List KeyTree) (b : Binding) (text : List ℕ) (lines : ℕ) (r : Running) (before : Option Datum) (rest out out' : List ℕ) → Progress keys b text lines r before rest out → out' ≡ out → Stops keys b text out' (U.Memory lines)
+short keys b text lines r before rest out out' g o =
+    let more : Timed = (held_from b.input (suc lines) before (lines_of rest)).taken in
+    let all : (samples b.input text).taken ≡ g.p ++ more = ap (λ h. h.taken) g.told in
     let front : take lines (g.p ++ more) ≡ g.p = take_at g.p more lines g.count in (
-      o ∙ g.wrote ∙ ap spelled_lines (ap (stream_of t.net) (sym front) ∙ outputs-take value_of t.net closed lines (g.p ++ more) ∙ ap (λ xs. take lines (stream_of t.net xs)) (sym all)),
-      let l : length (samples t.input text).taken ≡ length (g.p ++ more) = ap length all in omega (arith, l, length-append g.p more, g.count),
+      o ∙ g.wrote ∙ ap spelled_lines (ap (stream_of (network_by keys b.rows)) (sym front) ∙ outputs-take value_of (network_by keys b.rows) closed lines (g.p ++ more) ∙ ap (λ xs. take lines (stream_of (network_by keys b.rows) xs)) (sym all)),
+      let l : length (samples b.input text).taken ≡ length (g.p ++ more) = ap length all in omega (arith, l, length-append g.p more, g.count),
     )
 
-pub stops : (t : TypedNetwork) (text : List ℕ) (lines n : ℕ) (before : Option Datum) (held : List Datum) (rest line after out out' : List ℕ) (fault : StreamFault) → n ≡ suc lines → lines_of rest ≡ line ∷ lines_of after → Progress t text lines before held rest out → out' ≡ out → Refuses fault (line_read t.input n before line) → Stops t text out' (ended_by lines fault)
-stops t text lines n before held rest line after out out' (S.Step k) i e g o r = faulty t text lines n before held rest line after out out' (S.Step k) i e g o r
-stops t text lines n before held rest line after out out' (S.Value k v) i e g o r = faulty t text lines n before held rest line after out out' (S.Value k v) i e g o r
-stops t text lines n before held rest line after out out' (S.NothingBefore k) i e g o r = faulty t text lines n before held rest line after out out' (S.NothingBefore k) i e g o r
-stops t text lines n before held rest line after out out' (S.LineTooLong k) i e g o r = faulty t text lines n before held rest line after out out' (S.LineTooLong k) i e g o r
-stops t text lines n before held rest line after out out' (S.TooManySamples k) i e g o r = faulty t text lines n before held rest line after out out' (S.TooManySamples k) i e g o r
-stops t text lines n before held rest line after out out' S.ReadTurns i e g o r = faulty t text lines n before held rest line after out out' S.ReadTurns i e g o r
-stops t text lines n before held rest line after out out' S.Read i e g o r = faulty t text lines n before held rest line after out out' S.Read i e g o r
-stops t text lines n before held rest line after out out' S.Memory i e g o r = short t text lines before held rest out out' g o
-stops t text lines n before held rest line after out out' S.Ended i e g o r = faulty t text lines n before held rest line after out out' S.Ended i e g o r
+pub stops : (keys : List KeyTree) (b : Binding) (text : List ℕ) (lines n : ℕ) (r : Running) (before : Option Datum) (rest line after out out' : List ℕ) (fault : StreamFault) → n ≡ suc lines → lines_of rest ≡ line ∷ lines_of after → Progress keys b text lines r before rest out → out' ≡ out → Refuses fault (line_read b.input n before line) → Stops keys b text out' (ended_by lines fault)
+stops keys b text lines n r before rest line after out out' (S.Step k) i e g o h = faulty keys b text lines n r before rest line after out out' (S.Step k) i e g o h
+stops keys b text lines n r before rest line after out out' (S.Value k v) i e g o h = faulty keys b text lines n r before rest line after out out' (S.Value k v) i e g o h
+stops keys b text lines n r before rest line after out out' (S.NothingBefore k) i e g o h = faulty keys b text lines n r before rest line after out out' (S.NothingBefore k) i e g o h
+stops keys b text lines n r before rest line after out out' (S.LineTooLong k) i e g o h = faulty keys b text lines n r before rest line after out out' (S.LineTooLong k) i e g o h
+stops keys b text lines n r before rest line after out out' (S.TooManySamples k) i e g o h = faulty keys b text lines n r before rest line after out out' (S.TooManySamples k) i e g o h
+stops keys b text lines n r before rest line after out out' S.ReadTurns i e g o h = faulty keys b text lines n r before rest line after out out' S.ReadTurns i e g o h
+stops keys b text lines n r before rest line after out out' S.Read i e g o h = faulty keys b text lines n r before rest line after out out' S.Read i e g o h
+stops keys b text lines n r before rest line after out out' S.Memory i e g o h = short keys b text lines r before rest out out' g o
+stops keys b text lines n r before rest line after out out' S.Ended i e g o h = faulty keys b text lines n r before rest line after out out' S.Ended i e g o h
 
 -- what a run ends with is told by the program
-pub answered : (t : TypedNetwork) (text out : List ℕ) (fault : RunFault) → Stops t text out fault → IsAnswered fault
-answered t text out (U.Stream lines (S.Step n)) h = tt
-answered t text out (U.Stream lines (S.Value n v)) h = tt
-answered t text out (U.Stream lines (S.NothingBefore n)) h = tt
-answered t text out (U.Stream lines (S.LineTooLong n)) h = tt
-answered t text out (U.Stream lines (S.TooManySamples n)) h = tt
-answered t text out (U.Stream lines S.ReadTurns) h = tt
-answered t text out (U.Stream lines S.Read) h = tt
-answered t text out (U.Stream lines S.Memory) h = tt
-answered t text out (U.Stream lines S.Ended) h = h.2
-answered t text out (U.Write lines) h = tt
-answered t text out (U.Memory lines) h = tt
+pub answered : (keys : List KeyTree) (b : Binding) (text out : List ℕ) (fault : RunFault) → Stops keys b text out fault → IsAnswered fault
+answered keys b text out (U.Stream lines (S.Step n)) h = tt
+answered keys b text out (U.Stream lines (S.Value n v)) h = tt
+answered keys b text out (U.Stream lines (S.NothingBefore n)) h = tt
+answered keys b text out (U.Stream lines (S.LineTooLong n)) h = tt
+answered keys b text out (U.Stream lines (S.TooManySamples n)) h = tt
+answered keys b text out (U.Stream lines S.ReadTurns) h = tt
+answered keys b text out (U.Stream lines S.Read) h = tt
+answered keys b text out (U.Stream lines S.Memory) h = tt
+answered keys b text out (U.Stream lines S.Ended) h = h.2
+answered keys b text out (U.Write lines) h = tt
+answered keys b text out (U.Memory lines) h = tt

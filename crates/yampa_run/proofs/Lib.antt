@@ -1,4 +1,4 @@
 pub mod Lines
 pub mod Steps
-pub mod Kept
+pub mod Samples
 pub mod Course

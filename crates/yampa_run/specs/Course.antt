@@ -1,27 +1,41 @@
 -- How a run goes on by a line, and how it ends.
-use Rattle.std.specs.Prelude.{◌≡◌, ◌≤◌, ℕ, List, [], ◌∷◌, ◌++◌, length, take, Option, None, Some, Ok, ⊤}
+use Rattle.std.specs.Prelude.{◌≡◌, ◌≤◌, ℕ, suc, List, ◌∷◌, [], ◌++◌, length, take, Option, None, Some, Ok, ⊤}
 use Rattle.sample_core.specs.Datum.{Datum}
+use Rattle.sample_core.specs.HasType.{HasType}
 use Rattle.sample_core.specs.Spelling.{spelling}
 use Rattle.sample_core.specs.TypeTree.{TypeTree}
-use Rattle.leaf_expr.specs.Expression.{Expression}
-use Rattle.net_syntax.specs.Network.{Network}
-use Rattle.net_syntax.specs.Stream.{TypedNetwork, stream_of}
-use Rattle.yampa_run.specs.Kept.{Answers}
+use Rattle.leaf_expr.specs.KeyTree.{KeyTree}
+use Rattle.net_syntax.specs.Stream.{stream_of}
+use Rattle.step_core.specs.Bound.{Binding}
+use Rattle.step_core.specs.RowTyping.{network_by}
+use Rattle.step_core.specs.Running.{Running, Pushed, network_in}
 use Rattle.yampa_run.specs.Output.{Output, output_of, spelled_lines}
-use Rattle.yampa_run.specs.StreamText.{Held, line_read, samples}
+use Rattle.yampa_run.specs.StreamText.{line_read, samples}
 use Rattle.yampa_run.specs.declared.fault.StreamFault.{StreamFault}
 use Rattle.yampa_run.specs.declared.fault.StreamFault.TheVariants as S
 use Rattle.yampa_run.specs.declared.fault.RunFault.{RunFault}
 use Rattle.yampa_run.specs.declared.fault.RunFault.TheVariants as U
 
--- Line n holds the sample x, the network answers y, and y's line is written: what was held and written, and what is.
-pub record RunsLine (t : TypedNetwork) (n : ℕ) (line : List ℕ) (before : Option Datum) (held : List Datum) (out : List ℕ) (before' : Option Datum) (held' : List Datum) (out' : List ℕ) : Type 0 where
+-- a value before the first line there is none; later it is of the type
+abbrev pub IsBefore : TypeTree → ℕ → Option Datum → Type 0
+IsBefore A taken None = taken ≡ 0
+IsBefore A taken (Some v) = HasType v A
+
+-- a runner of inputs of type A stands before line n, the value of the line before being given
+pub record IsAt (r : Running) (A : TypeTree) (n : ℕ) (before : Option Datum) : Type 0 where
+  pub of_type : r.input ≡ A
+  pub number : n ≡ suc r.samples
+  pub value : IsBefore A r.samples before
+
+-- Line n holds the sample x, the network answers y, and y's line is written: the runner, the value before and what is written, before the line and behind it.
+pub record RunsLine (r : Running) (n : ℕ) (line : List ℕ) (before : Option Datum) (out : List ℕ) (r' : Running) (before' : Option Datum) (out' : List ℕ) : Type 0 where
   pub x : ℕ × Datum
   pub y : Datum
-  pub left : List Datum
-  pub reads : line_read t.input n before line ≡ Ok x
+  pub reads : line_read r.input n before line ≡ Ok x
   pub keeps : before' ≡ Some x.1
-  pub answers : Answers t.net held x.1 y held' left
+  pub pushes : Pushed r x y r'
+  pub same_type : r'.input ≡ r.input
+  pub same_network : network_in r' ≡ network_in r
   pub writes : out' ≡ out ++ (spelling y ++ 10 ∷ [])
 
 -- want of memory ends a run as such, another fault of the stream as the stream's
@@ -37,17 +51,17 @@ IsOfText S.Memory = ⊥
 IsOfText S.Ended = ⊥
 IsOfText _ = ⊤
 
--- what a run of a typed network on a text writes
-abbrev pub run_of : TypedNetwork → List ℕ → Output
-run_of t text = output_of t.input t.net text
+-- what a run of a network, bound to a table with these keys, writes on a text
+abbrev pub run_of : List KeyTree → Binding → List ℕ → Output
+run_of keys b text = output_of b.input (network_by keys b.rows) text
 
--- the samples that a run of it takes
-abbrev pub taken_by : TypedNetwork → List ℕ → ℕ
-taken_by t text = length (samples t.input text).taken
+-- how many samples a run of it takes
+abbrev pub taken_by : Binding → List ℕ → ℕ
+taken_by b text = length (samples b.input text).taken
 
 -- With all of its lines written, a run tells the stream's fault. Where memory is short, it has written some of its lines.
 -- Nothing else ends it early.
-abbrev pub Stops : TypedNetwork → List ℕ → List ℕ → RunFault → Type 0
-Stops t text out (U.Stream lines fault) = (out ≡ (run_of t text).bytes) × ((run_of t text).fault ≡ Some fault) × IsOfText fault × (lines ≡ taken_by t text)
-Stops t text out (U.Write lines) = ⊥
-Stops t text out (U.Memory lines) = (out ≡ spelled_lines (take lines (stream_of t.net (samples t.input text).taken))) × (lines ≤ taken_by t text)
+abbrev pub Stops : List KeyTree → Binding → List ℕ → List ℕ → RunFault → Type 0
+Stops keys b text out (U.Stream lines fault) = (out ≡ (run_of keys b text).bytes) × ((run_of keys b text).fault ≡ Some fault) × IsOfText fault × (lines ≡ taken_by b text)
+Stops keys b text out (U.Write lines) = ⊥
+Stops keys b text out (U.Memory lines) = (out ≡ spelled_lines (take lines (stream_of (network_by keys b.rows) (samples b.input text).taken))) × (lines ≤ taken_by b text)

@@ -4,12 +4,12 @@
 mod command;
 mod fault;
 mod files;
+pub mod fill;
 mod preparation;
 mod printed;
 mod refused;
 mod run;
 mod step_text;
-mod stepper;
 mod stream_text;
 mod text_lines;
 

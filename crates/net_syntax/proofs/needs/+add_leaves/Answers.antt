@@ -6,7 +6,7 @@ use Rattle.leaf_expr.specs.Seen.{expression_of}
 use Rattle.net_syntax.specs.Network.{seq, map_network}
 use Rattle.net_syntax.specs.Seen.{tree_of}
 use Rattle.net_syntax.specs.SeenNeed.{need_of}
-use Rattle.net_syntax.proofs.AddedLeaves.{adds_arr, adds_i_pre, adds_seq, if_ok}
+use Rattle.net_syntax.proofs.AddedLeaves.{adds_arr, adds_i_pre, adds_seq, if_ok, typed_arr, typed_i_pre, typed_first, typed_second}
 use Rattle.net_syntax.proofs.needs.+add_leaves.Goals as goal
 
 pub returns-in_ok-push-in-Arr-clause-added : goal.returns-in_ok-push-in-Arr-clause-added
@@ -23,3 +23,19 @@ pub returns-in_ok-push-in-IPre-clause-added : goal.returns-in_ok-push-in-IPre-cl
 returns-in_ok-push-in-IPre-clause-added t c =
     let added = ap (map need_of) c.in_ok-push-in-IPre.ensures.items ∙ map_push need_of _ _ ∙ ap (λ n. map need_of c.args.needs.now.items ++ n ∷ []) c.in_ok-first_need-in-IPre.ensures in
     if_ok c.try_copy.result _ _ (λ o h. adds_i_pre _ _ _ _ _ _ _ _ _ (ap tree_of c.in-IPre.is) c.deref-in-IPre.ensures.value (ap type_of h) added) c.try_copy.ensures
+
+pub first_need-requires : goal.first_need-requires
+first_need-requires t c = typed_arr _ _ _ _ (ap tree_of c.in-Arr.is) c.requires
+
+pub first_need-requires-in-IPre : goal.first_need-requires-in-IPre
+first_need-requires-in-IPre t c = typed_i_pre _ _ _ _ (ap tree_of c.in-IPre.is) c.requires
+
+pub add_leaves-requires : goal.add_leaves-requires
+add_leaves-requires t c =
+    let form = ap tree_of c.in-Seq.is ∙ (λ i. seq (map_network expression_of (sym c.get.ensures i)) (map_network expression_of c.in-Seq.g)) in
+    (search rules, typed_first _ _ _ _ _ form c.requires)
+
+pub add_leaves-requires-in-Seq : goal.add_leaves-requires-in-Seq
+add_leaves-requires-in-Seq t c =
+    let form = ap tree_of c.in-Seq.is ∙ (λ i. seq (map_network expression_of (sym c.get.ensures i)) (map_network expression_of (sym c.get-in-Seq.ensures i))) in
+    (search rules, typed_second _ _ _ _ _ _ _ _ _ form c.requires c.in_ok-between-in-Seq.ensures.added)

@@ -1,12 +1,10 @@
-use Rattle.std.proofs.Common.{rules, ◌≡◌, ◌++◌, ◌∷◌, [], Result, Ok, Err, IfOk, map, ap, sym, ◌∙◌, arith, subst}
+use Rattle.std.proofs.Common.{rules, ◌≡◌, ◌++◌, ◌∷◌, [], map, ap, sym, ◌∙◌, arith, subst}
 use Rattle.std.proofs.lemmas.Grind.{common_steps}
 use Rattle.std.proofs.lemmas.List.{map_push}
 use Rattle.sample_core.specs.Seen.{datum_of}
-use Rattle.leaf_table.specs.Rows.{rows_of}
 use Rattle.net_syntax.specs.Network.{seq, map_network}
 use Rattle.step_core.specs.SeenRows.{row_number, rows_in}
 use Rattle.step_core.specs.RowTyping.{FitsRows}
-use Rattle.step_core.specs.Held.{BegunWhere}
 use Rattle.step_core.proofs.Advanced.{fits_arr, fits_i_pre, fits_first, fits_second, arr_begun, i_pre_begun, seq_begun, if_ok}
 use Rattle.step_core.proofs.advance.+start.Goals as goal
 

@@ -18,9 +18,9 @@ step-requires g c = subst (FitsRows _) (sym c.net-net.ensures) (fits_table _ _ c
 
 pub returns-clause-pushed : goal.returns-clause-pushed
 returns-clause-pushed g c =
-  let swapped = ap (λ (v : Vec Sample Global). map datum_of v.items) c.swap.ensures.x_after in
-  let empty = ap (map datum_of) c.clear.ensures.items in
-  elim c.if-self-eq0.branch [
-    then-self-eq0+in_ok-answer w ↦ first_pushed_to _ _ _ _ _ _ _ _ _ _ c.net-net.ensures (swapped ∙ ap (λ s. map datum_of s.1.1.1.1.1.0.items) w.self-is) (add-one c.args.self.now.samples) (ap datum_of w.answer-is) empty w.if-self-eq0.true c.requires.typed w.in_ok-answer.ensures
-    | else-self-eq0+in_ok-answer-2 w ↦ next_pushed_to _ _ _ _ _ _ _ _ _ _ _ c.net-net.ensures (swapped ∙ ap (λ s. map datum_of s.1.1.1.1.1.0.items) w.self-is) (add-one c.args.self.now.samples) (ap datum_of w.answer-is) empty (ap (map datum_of) w.deref.ensures.value) (positive _ w.if-self-eq0.false) c.requires.typed w.in_ok-answer-2.ensures
-  ]
+    let swapped = ap (λ (v : Vec Sample Global). map datum_of v.items) c.swap.ensures.x_after in
+    let empty = ap (map datum_of) c.clear.ensures.items in
+    elim c.if-self-eq0.branch [
+      | then-self-eq0+in_ok-answer w ↦ first_pushed_to _ _ _ _ _ _ _ _ _ _ c.net-net.ensures (swapped ∙ ap (λ s. map datum_of s.1.1.1.1.1.0.items) w.self-is) (add-one c.args.self.now.samples) (ap datum_of w.answer-is) empty w.if-self-eq0.true c.requires.typed w.in_ok-answer.ensures
+      | else-self-eq0+in_ok-answer-2 w ↦ next_pushed_to _ _ _ _ _ _ _ _ _ _ _ c.net-net.ensures (swapped ∙ ap (λ s. map datum_of s.1.1.1.1.1.0.items) w.self-is) (add-one c.args.self.now.samples) (ap datum_of w.answer-is) empty (ap (map datum_of) w.deref.ensures.value) (positive _ w.if-self-eq0.false) c.requires.typed w.in_ok-answer-2.ensures
+    ]

@@ -1,0 +1,21 @@
+// What a network needs a stored closure for.
+
+ghost use Rattle.sample_core.specs.SeenType.{type_of};
+ghost use Rattle.leaf_expr.specs.ExpressionTyping.{ExpressionTyped};
+
+use crate::position::Position;
+use leaf_expr::LeafKey;
+use sample_core::Ty;
+
+/// An expression of a network: where it stands, and how a stored closure for it is found. It is typed as it says.
+#[derive(Drop)]
+pub struct LeafNeed {
+    /// Where the expression stands.
+    pub position: Position,
+    /// The expression, the types of the parameters in scope and the type of its input.
+    /// In a constant place the input is `Unit`.
+    pub key: LeafKey,
+    /// The expression's type.
+    pub output: Ty,
+    ghost typed: { ∥ ExpressionTyped key.expr key.params key.input (type_of output) ∥₁ },
+}

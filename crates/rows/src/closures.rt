@@ -1,0 +1,230 @@
+// Tables of stored closures.
+
+use crate::bench::{Run, goes_so, network};
+use leaf_table::{Leaf, LeafTable, run_general};
+use net_syntax::{LeafNeed, leaves};
+use sample_core::{Sample, same};
+use std::alloc::{AllocError, Global};
+use step_core::{BindFault, bind};
+use yampa_run::fill_table;
+
+/// The most rows of a table.
+const MOST_ROWS: usize = 4096;
+
+/// Adds `2^depth` different expressions to the text of a network, the first of them with this number.
+fn push_tree(text: &mut String, number: u32, depth: u32) -> Result<(), AllocError> {
+    if depth == 0 {
+        return write!(text, "(arr (add x {number}))");
+    }
+    text.push_str("(>>> ")?;
+    push_tree(text, number.wrapping_mul(2), depth - 1)?;
+    text.push_str(" ")?;
+    push_tree(text, number.wrapping_mul(2).wrapping_add(1), depth - 1)?;
+    text.push_str(")")
+}
+
+/// A network of one expression more than a table has rows.
+fn large_network(alloc: Global) -> Result<String, AllocError> {
+    let mut text = String::from_str(alloc, "yampa 1 input Int (>>> ")?;
+    push_tree(&mut text, 0, 12)?;
+    text.push_str(" (arr (add x 4096)))")?;
+    Ok(text)
+}
+
+/// Whether a table takes the first 4,096 of these needs, then the first of them once more, and then no new one.
+fn fills_up(alloc: Global, needs: &[LeafNeed]) -> bool {
+    if needs.len() != MOST_ROWS + 1 {
+        return false;
+    }
+    let mut table = LeafTable::new(alloc);
+    let batches = [
+        (&needs[..MOST_ROWS], true),
+        (&needs[..1], true),
+        (&needs[MOST_ROWS..], false),
+    ];
+    for (batch, taken) in batches {
+        if fill_table!(alloc, table, batch).is_ok() != taken {
+            return false;
+        }
+    }
+    true
+}
+
+fn large_fills_up(alloc: Global) -> bool {
+    let Ok(text) = large_network(alloc) else {
+        return false;
+    };
+    match network(alloc, text.as_str()) {
+        Some(net) => match leaves(alloc, &net) {
+            Ok(needs) => fills_up(alloc, &needs),
+            Err(_memory) => false,
+        },
+        None => false,
+    }
+}
+
+#[test]
+fn a_table_has_4096_rows(rt: HostRuntime) {
+    assert!(rt; large_fills_up(rt.alloc()));
+}
+
+/// Whether the network, bound to an empty table, is refused at this position.
+fn misses(alloc: Global, text: &str, path: &[u32]) -> bool {
+    match network(alloc, text) {
+        Some(net) => match bind(alloc, &net, &LeafTable::new(alloc)) {
+            Ok(_bound) => false,
+            Err(BindFault::MissingLeaf { position }) => position.path() == path,
+            Err(BindFault::Memory) => false,
+        },
+        None => false,
+    }
+}
+
+#[test]
+fn names_the_first_expression_without_a_row(rt: HostRuntime) {
+    let text = "yampa 1 input Int (>>> (arr (add x 1)) (iPre 0))";
+    assert!(rt; misses(rt.alloc(), text, &[0, 0]));
+}
+
+/// One network of one expression for each shape that has a closure of its own, and one for all others.
+static SHAPES: [Run; 13] = [
+    Run {
+        net: "yampa 1 input Int (arr x)",
+        stream: "5\n+1 -6",
+        output: "5\n-6\n",
+        status: 0,
+        line: "",
+    },
+    Run {
+        net: "yampa 1 input Int (arr 7)",
+        stream: "5\n+1 6",
+        output: "7\n7\n",
+        status: 0,
+        line: "",
+    },
+    Run {
+        net: "yampa 1 input Int (arr true)",
+        stream: "5",
+        output: "true\n",
+        status: 0,
+        line: "",
+    },
+    Run {
+        net: "yampa 1 input Int (arr unit)",
+        stream: "5",
+        output: "unit\n",
+        status: 0,
+        line: "",
+    },
+    Run {
+        net: "yampa 1 input Int (arr (add x 1))",
+        stream: "5\n+1 9223372036854775807",
+        output: "6\n-9223372036854775808\n",
+        status: 0,
+        line: "",
+    },
+    Run {
+        net: "yampa 1 input Int (arr (mul x 3))",
+        stream: "5\n+1 -9223372036854775808",
+        output: "15\n-9223372036854775808\n",
+        status: 0,
+        line: "",
+    },
+    Run {
+        net: "yampa 1 input Int (arr (add (mul x 2) 5))",
+        stream: "-1\n+1 9223372036854775807",
+        output: "3\n3\n",
+        status: 0,
+        line: "",
+    },
+    Run {
+        net: "yampa 1 input (Pair Int Bool) (arr (pair (snd x) (fst x)))",
+        stream: "(pair 1 true)",
+        output: "(pair true 1)\n",
+        status: 0,
+        line: "",
+    },
+    Run {
+        net: "yampa 1 input (Pair Int Int) (arr (fst x))",
+        stream: "(pair 1 2)",
+        output: "1\n",
+        status: 0,
+        line: "",
+    },
+    Run {
+        net: "yampa 1 input (Pair Int Int) (arr (snd x))",
+        stream: "(pair 1 2)",
+        output: "2\n",
+        status: 0,
+        line: "",
+    },
+    Run {
+        net: "yampa 1 input Int (arr (less x 6))",
+        stream: "5\n+1 6",
+        output: "true\nfalse\n",
+        status: 0,
+        line: "",
+    },
+    Run {
+        net: "yampa 1 input Int (arr (event x))",
+        stream: "5",
+        output: "(event 5)\n",
+        status: 0,
+        line: "",
+    },
+    Run {
+        net: "yampa 1 input Int (arr (neg x))",
+        stream: "5",
+        output: "-5\n",
+        status: 0,
+        line: "",
+    },
+];
+
+#[test]
+fn each_shape_of_expression_has_a_closure(rt: HostRuntime) {
+    for run in &SHAPES {
+        assert!(rt; goes_so(rt.alloc(), run), "{}", run.net);
+    }
+}
+
+/// Whether the closure for any expression, stored for this need, answers 6 on 5.
+fn answers_six(alloc: Global, need: &LeafNeed) -> bool {
+    let (Ok(key), Ok(own), Ok(output)) = (
+        need.key.try_copy(alloc),
+        need.key.try_copy(alloc),
+        need.output.try_copy(alloc),
+    ) else {
+        return false;
+    };
+    let run = match Box::new(alloc, move |params: &[Sample], x: &Sample| {
+        run_general(alloc, &own, params, x)
+    }) {
+        Ok(run) => run,
+        Err(_) => return false,
+    };
+    let mut table = LeafTable::new(alloc);
+    match table.add(Leaf::new(key, output, run)) {
+        Ok(id) => match table.call(id, &[], &Sample::Int(5)) {
+            Ok(answer) => same(&answer, &Sample::Int(6)),
+            Err(_memory) => false,
+        },
+        Err(_refused) => false,
+    }
+}
+
+fn general_answers_six(alloc: Global, text: &str) -> bool {
+    match network(alloc, text) {
+        Some(net) => match leaves(alloc, &net) {
+            Ok(needs) => needs.len() == 1 && answers_six(alloc, &needs[0]),
+            Err(_memory) => false,
+        },
+        None => false,
+    }
+}
+
+#[test]
+fn the_closure_for_any_expression_serves_each(rt: HostRuntime) {
+    let text = "yampa 1 input Int (arr (add x 1))";
+    assert!(rt; general_answers_six(rt.alloc(), text));
+}

@@ -1,0 +1,23 @@
+use Rattle.std.proofs.Common.{◌≡◌, map, ap, sym, subst, ◌∙◌}
+use Rattle.sample_core.specs.SeenType.{type_of}
+use Rattle.leaf_table.specs.Rows.{rows_of}
+use Rattle.net_syntax.specs.SeenNeed.{need_of}
+use Rattle.step_core.specs.RowTyping.{RowsTyped}
+use Rattle.step_core.specs.SeenRows.{row_number, rows_in}
+use Rattle.step_core.proofs.Bindings.{bound_network, found_all}
+use Rattle.step_core.specs.Found.{RowsFor}
+use Rattle.step_core.proofs.binding.bind.Goals as goal
+
+pub returns-clause-network : goal.returns-clause-network
+returns-clause-network g c =
+    (bound_network _ c.args.net.now _ _ _ _ _ _ _ c.net.ensures.net (ap (map need_of) c.deref.ensures.value) (ap (map row_number) c.deref-2.ensures.value) c.in_ok-needs.ensures c.in_ok-rows.ensures.found c.in_ok-lowered.ensures).1
+
+pub returns-clause-fits : goal.returns-clause-fits
+returns-clause-fits g c =
+    let same : type_of c.in_ok-try_copy.field-0 ≡ c.args.net.now.input = ap type_of c.in_ok-try_copy.ensures ∙ c.input.ensures in
+    let typed = (bound_network _ c.args.net.now _ _ _ _ _ _ _ c.net.ensures.net (ap (map need_of) c.deref.ensures.value) (ap (map row_number) c.deref-2.ensures.value) c.in_ok-needs.ensures c.in_ok-rows.ensures.found c.in_ok-lowered.ensures).0 in
+    (c.args.net.now.output, subst (λ A. RowsTyped (rows_of c.args.table.now) (rows_in c.in_ok-lowered.lowered) A c.args.net.now.output) (sym same) typed)
+
+pub returns-clause-found : goal.returns-clause-found
+returns-clause-found g c =
+    (map need_of c.in_ok-needs.needs.items, c.in_ok-needs.ensures, found_all _ _ _ (subst (λ ns. RowsFor (rows_of c.args.table.now) ns (map row_number c.in_ok-rows.rows.items)) (ap (map need_of) c.deref.ensures.value) c.in_ok-rows.ensures.found))

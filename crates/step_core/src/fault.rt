@@ -1,0 +1,52 @@
+// Why a network was not bound.
+
+ghost use Rattle.std.specs.Prelude.{◌≡◌};
+
+use net_syntax::Position;
+use sample_core::Memory;
+use std::alloc::{AllocError, AllocFailed};
+use thiserror::Error;
+
+/// Why a network is not bound to a table.
+#[derive(Debug, Drop, PartialEq, Eq, Error)]
+pub enum BindFault {
+    /// The table has no row for the expression at this position. It is the first such from the root on.
+    #[error("no row for an expression")]
+    MissingLeaf {
+        /// Where the expression stands.
+        position: Position,
+    },
+    /// A growth was refused.
+    #[error("out of memory")]
+    Memory,
+}
+
+impl From<Memory> for BindFault {
+    ghost use Rattle.step_core.specs.declared.fault.BindFault.TheVariants as Fault;
+
+    ghost from_gives = { λ _ e. e ≡ Fault.Memory };
+
+    fn from(_: Memory) -> BindFault {
+        BindFault::Memory
+    }
+}
+
+impl From<AllocError> for BindFault {
+    ghost use Rattle.step_core.specs.declared.fault.BindFault.TheVariants as Fault;
+
+    ghost from_gives = { λ _ e. e ≡ Fault.Memory };
+
+    fn from(_: AllocError) -> BindFault {
+        BindFault::Memory
+    }
+}
+
+impl<T: Drop> From<AllocFailed<T>> for BindFault {
+    ghost use Rattle.step_core.specs.declared.fault.BindFault.TheVariants as Fault;
+
+    ghost from_gives = { λ _ e. e ≡ Fault.Memory };
+
+    fn from(_failed: AllocFailed<T>) -> BindFault {
+        BindFault::Memory
+    }
+}
