@@ -4,6 +4,8 @@
 #[cfg(test)]
 mod bench;
 #[cfg(test)]
+mod built;
+#[cfg(test)]
 mod closures;
 #[cfg(test)]
 mod commands;
@@ -29,5 +31,7 @@ mod scant_memory;
 mod shapes;
 #[cfg(test)]
 mod sizes;
+#[cfg(test)]
+mod tokens;
 #[cfg(test)]
 mod values;
