@@ -2,10 +2,10 @@
 
 ghost use Rattle.std.specs.Prelude.{◌≡◌, ◌↔◌, IsTrue, IfOk};
 
+use crate::equal::same_expr;
 use crate::expr::Expr;
 use crate::feed::{feed_expr, feed_type};
-use crate::equal::same_expr;
-use sample_core::{same_type, Memory, Ty};
+use sample_core::{Memory, Ty, same_type};
 use std::alloc::Global;
 use std::hash::{Hash, Hasher};
 use std::marker::Model;

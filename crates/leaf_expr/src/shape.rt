@@ -91,5 +91,4 @@ pub fn shape_of(expr: &Expr) -> Shape
 /// Each shape but `General` tells its expression's value, by its name and its parts.
 pub fn shape_laws()
     ensures { ShapeValueLaw }
-{
-}
+{}

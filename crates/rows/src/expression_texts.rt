@@ -2,7 +2,7 @@
 // byte.
 
 use crate::expression_bench::{expr_in, is_expr, is_type, nested, with_many};
-use leaf_expr::{ExprTextFault, read_expr, read_expr_at, read_type_at, token_at};
+use leaf_expr::{ExprTextFault, read_expr, read_expr_at, read_type_at};
 use std::alloc::Global;
 
 /// Texts that are printed as they were read.
@@ -337,24 +337,4 @@ fn reads_lists(alloc: Global, times: u32) -> bool {
 fn types_in_types(rt: HostRuntime) {
     assert!(rt; reads_lists(rt.alloc(), 600));
     assert!(rt; !reads_lists(rt.alloc(), 601));
-}
-
-/// From that byte on, where the first token begins and ends.
-static TOKENS: [(usize, Option<(usize, usize)>); 9] = [
-    (0, Some((1, 2))),
-    (2, Some((2, 4))),
-    (3, Some((3, 4))),
-    (4, Some((8, 9))),
-    (5, Some((5, 6))),
-    (8, Some((8, 9))),
-    (9, Some((10, 12))),
-    (12, None),
-    (100, None),
-];
-
-#[test]
-fn tokens(rt: HostRuntime) {
-    for (at, token) in &TOKENS {
-        assert_eq!(rt; token_at(b" (ab;c)\n)\r-5", *at), *token, "{at}");
-    }
 }

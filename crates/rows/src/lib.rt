@@ -6,6 +6,8 @@ mod ballast;
 #[cfg(test)]
 mod bench;
 #[cfg(test)]
+mod built;
+#[cfg(test)]
 mod closures;
 #[cfg(test)]
 mod commands;
@@ -35,5 +37,7 @@ mod shapes;
 mod shelf;
 #[cfg(test)]
 mod sizes;
+#[cfg(test)]
+mod tokens;
 #[cfg(test)]
 mod values;

@@ -4,7 +4,7 @@ use crate::expression_bench::{
     expr_in, has_type_so, has_value_so, is_expr, is_value, nested, type_in, typing, value_in,
     with_many,
 };
-use leaf_expr::{Expr, ExprFault, expr_fits, same_expr};
+use leaf_expr::{Expr, ExprFault, expr_fits, same_expr, type_fits};
 use sample_core::{Memory, Sample, Ty, has_type, same};
 use std::alloc::Global;
 
@@ -170,4 +170,21 @@ fn lists_in_lists(alloc: Global) -> Result<String, Memory> {
 fn long_lists_in_deep_lists(rt: HostRuntime) {
     let ty = nested(rt.alloc(), "(List ", 31, "Int");
     assert!(rt; is_read_at(rt.alloc(), ty, lists_in_lists(rt.alloc())));
+}
+
+/// Whether the type in which `List` stands so many times round a number is within the limits.
+fn lists_fit(alloc: Global, times: u32) -> Option<bool> {
+    match nested(alloc, "(List ", times, "Int") {
+        Ok(text) => match type_in(alloc, text.as_str()) {
+            Some(ty) => Some(type_fits(&ty)),
+            None => None,
+        },
+        Err(_memory) => None,
+    }
+}
+
+#[test]
+fn depths_of_types(rt: HostRuntime) {
+    assert_eq!(rt; lists_fit(rt.alloc(), 31), Some(true));
+    assert_eq!(rt; lists_fit(rt.alloc(), 32), Some(false));
 }
