@@ -11,7 +11,12 @@ use std::alloc::Global;
 
 /// The type of an expression that has one, under parameters and an input of these types.
 /// It tests nothing: of another expression it answers some type.
-pub(crate) fn type_given(alloc: Global, params: &[Ty], input: &Ty, expr: &Expr) -> Result<Ty, Memory>
+pub(crate) fn type_given(
+    alloc: Global,
+    params: &[Ty],
+    input: &Ty,
+    expr: &Expr,
+) -> Result<Ty, Memory>
     ensures { IfOk result (λ t. type_of t ≡ type_given (map type_of params.now) (type_of input.now) (expression_of expr.now)) }
 {
     match expr {
@@ -29,8 +34,11 @@ pub(crate) fn type_given(alloc: Global, params: &[Ty], input: &Ty, expr: &Expr) 
             let between = type_given(alloc, params, input, f.get())?;
             type_given(alloc, params, &between, g.get())
         }
-        Expr::Neg(_) | Expr::Add(_, _) | Expr::Sub(_, _) | Expr::Mul(_, _) | Expr::Len(_) => Ok(Ty::Int),
-        Expr::Less(_, _) | Expr::Equal(_, _) | Expr::Not(_) | Expr::And(_, _) | Expr::Or(_, _) => Ok(Ty::Bool),
+        Expr::Neg(_) | Expr::Add(_, _) | Expr::Sub(_, _) | Expr::Mul(_, _) | Expr::Len(_) => Ok(
+            Ty::Int,
+        ),
+        Expr::Less(_, _) | Expr::Equal(_, _) | Expr::Not(_) | Expr::And(_, _) | Expr::Or(_, _) =>
+            Ok(Ty::Bool),
         Expr::If(_, a, _) => type_given(alloc, params, input, a.get()),
         Expr::NoEvent(carried) => Ok(Ty::Event(TyChild::new(alloc, carried.try_copy(alloc)?)?)),
         Expr::Event(e) => {

@@ -7,14 +7,13 @@
 ghost use Rattle.yampa_run.specs.Preparation.{RefusesTable};
 
 use crate::preparation::Refusal;
-use std::alloc::Global;
-
 pub use leaf_expr::{LeafKey, Shape, shape_of};
 pub use leaf_table::{
     Leaf, TableFault, run_affine, run_below, run_constant, run_general, run_identity, run_left,
     run_right, run_swap, run_wrap,
 };
 pub use sample_core::{Sample, Ty};
+use std::alloc::Global;
 
 /// The refusal of a network whose expressions a table doesn't take: status 1 and the line `table full` where it has all
 /// its rows, or `Memory`.

@@ -61,7 +61,15 @@ pub fn run_whole(
     let mut rest = stream;
     while !rest.is_empty() {
         let (line, after) = split_line(rest);
-        match run_line(alloc, bound.input(), lines + 1, line, &mut runner, &mut course, out) {
+        match run_line(
+            alloc,
+            bound.input(),
+            lines + 1,
+            line,
+            &mut runner,
+            &mut course,
+            out,
+        ) {
             Ok(()) => {}
             Err(fault) => return Err(ended(lines, fault)),
         }
