@@ -1,6 +1,6 @@
 // The expressions of a network: what it needs stored closures for.
 
-ghost use Rattle.std.specs.Prelude.{◌≡◌, IfOk, OnOk, Ok, map, [], ◌∷◌, ◌++◌};
+ghost use Rattle.std.specs.Prelude.{◌≡◌, IfOk, OnOk, Ok, map};
 ghost use Rattle.sample_core.specs.SeenType.{type_of};
 ghost use Rattle.leaf_expr.specs.Seen.{expression_of};
 ghost use Rattle.leaf_expr.specs.ExpressionCheck.{type_answer};
@@ -80,7 +80,7 @@ fn first_need(
         (λ n. type_answer (map type_of scope.now) (type_of input.now) (expression_of expr.now) ≡ Ok (type_of n.output)) }
 {
     let key = key_under(alloc, expr, scope, input)?;
-    let position = first_child(alloc, path)?;
+    let position = Position::of_child(alloc, path, 0)?;
     let output = checked_type(alloc, expr, scope, input)?;
     Ok(LeafNeed {
         position,
@@ -117,16 +117,6 @@ fn key_under(alloc: Global, expr: &Expr, scope: &[Ty], input: &Ty) -> Result<Lea
         params,
         input,
     })
-}
-
-// The position of the first child of the node at the path.
-fn first_child(alloc: Global, path: &[u32]) -> Result<Position, Memory>
-    ensures { IfOk result (λ p. p ≡ path.now ++ 0 ∷ []) }
-{
-    let mut numbers = Vec::with_capacity(alloc, path.len())?;
-    numbers.extend_from_slice(path)?;
-    numbers.push(0)?;
-    Ok(Position::new(numbers))
 }
 
 // The types, which share their parts with these.
