@@ -8,7 +8,7 @@ ghost use Rattle.leaf_expr.specs.KeyTree.{KeyTree};
 ghost use Rattle.leaf_table.specs.Computes.{Computes};
 
 use crate::part::{child, copied, first, number, product, second, sum};
-use leaf_expr::{eval, LeafKey, Literal};
+use leaf_expr::{LeafKey, Literal, eval};
 use sample_core::{Memory, Sample};
 use std::alloc::{AllocError, Global};
 
@@ -93,12 +93,7 @@ pub fn run_right(alloc: Global, params: &[Sample], x: &Sample) -> Result<Sample,
 }
 
 /// Whether the input is less than `k`, for an expression of the shape `Below`.
-pub fn run_below(
-    alloc: Global,
-    k: i64,
-    params: &[Sample],
-    x: &Sample,
-) -> Result<Sample, AllocError>
+pub fn run_below(alloc: Global, k: i64, params: &[Sample], x: &Sample) -> Result<Sample, AllocError>
     ensures named { IfOk result (λ v. value_by_shape (S.Below k) (datum_of x.now) ≡ Some (datum_of v)) }
     ensures fact { IfOk result
         (λ v. (key : KeyTree) → shape key.expr ≡ S.Below k → Computes key (map datum_of params.now) (datum_of x.now) (datum_of v)) }

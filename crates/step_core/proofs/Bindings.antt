@@ -13,7 +13,7 @@ use Rattle.net_syntax.specs.Leaves.{Need, LeavesOf, arr_leaves, seq_leaves, i_pr
 use Rattle.net_syntax.specs.Network.{Network, arr, seq, i_pre}
 use Rattle.net_syntax.specs.Typing.{arr_typed, seq_typed, i_pre_typed}
 use Rattle.step_core.specs.RowTyping.{RowsTyped, network_by, expression_in}
-use Rattle.step_core.specs.Found.{AllFound, FirstMissing, Misses, MissesIn, Names, RowsFor, IsFirstRow, Lowered}
+use Rattle.step_core.specs.Found.{AllFound, FirstMissing, Misses, Names, RowsFor, IsFirstRow, Lowered}
 
 -- the rows of two lists of needs, one behind the other
 record Parted (keys : List KeyTree) (ms ns : List Need) (ks : List ℕ) : Type 0 where
@@ -110,8 +110,3 @@ bound_network keys t net ms ns ks rows rest low n m r l found lowered =
     let here : Lowered t.net ks low rest = subst (λ o. Lowered o ks low rest) n (subst (λ o. Lowered net o low rest) r lowered) in
     let all = here keys [] t.input t.output ns ks [] l (subst (λ o. RowsFor keys o ks) m found) (sym (append-nil ks)) in
     (all.0, all.1)
-
--- a refusal of a network by what it needs
-pub misses_in : (keys : List KeyTree) (t : TypedNetwork) (ns : List Need) (f : BindFault) → LeavesOf t ns → Misses keys ns f → MissesIn keys t f
-misses_in keys t ns F.Memory l h = tt
-misses_in keys t ns (F.MissingLeaf p) l h = (ns, l, h)

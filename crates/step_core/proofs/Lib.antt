@@ -20,3 +20,4 @@ pub mod Advanced
 pub mod PushedOn
 pub mod Bindings
 pub mod GrownTables
+pub mod OneList

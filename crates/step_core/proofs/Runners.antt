@@ -1,4 +1,4 @@
--- Runs put out the meaning, and visit what is counted, at most the weight.
+-- What a push answers is the next output of the meaning; what it visits is counted, and at most the weight.
 use Rattle.std.proofs.Common.{◌≡◌, ℕ, ◌≤◌, List, [], ◌∷◌, ◌++◌, refl, sym, ap, ◌∙◌, arith}
 use Rattle.sample_core.specs.Datum.{Datum}
 use Rattle.net_syntax.specs.Signal.{Timed, last_or}
@@ -12,8 +12,8 @@ use Rattle.step_core.specs.Setting.{course}
 use Rattle.step_core.specs.State.{State}
 use Rattle.step_core.specs.Stands.{Stands}
 use Rattle.step_core.specs.Engine.{Starts, Steps}
-use Rattle.step_core.specs.Run.{nowhere, nothing, Runs, run_start, run_step}
-use Rattle.net_syntax.proofs.Steps.{signal-push, signal-nil}
+use Rattle.step_core.specs.Run.{nowhere, nothing}
+use Rattle.net_syntax.proofs.Steps.{signal-push}
 use Rattle.step_core.proofs.EnvironmentBounds.{IsCount-visited}
 use Rattle.step_core.proofs.MemberCourses.{no_course}
 use Rattle.step_core.proofs.Settings.{IsCourse-course}
@@ -46,20 +46,3 @@ module _ {L : Type 0} (val : L → List Datum → Datum → Datum) (net : Networ
         counted = e;
         bounded = omega arith;
       }
-
-  -- after each run
-  pub record Ran (p : Timed) (a : State L) (ys : List Datum) : Type 0 where
-    pub stands : Stands val a (course val net nowhere) p
-    pub put_out : ys ≡ outputs val net closed p
-
-  pub runs : {p : Timed} {a : State L} {ys : List Datum} → Runs val net p a ys → Ran p a ys
-  runs (run_start {d = d} {x = x} {a = a} {y = y} {n = n} k) =
-      let t : Took (Stands val a) (course val net nowhere) [] (d, x) y n = first_push k d in
-      let c : IsCourse (course val net nowhere) = IsCourse-course val net nowhere no_course in
-      let r : Pushed [] (d, x) y n = pushed {P = Stands val a} [] (d, x) y n t in
-      record { stands = t.stands; put_out = sym (r.one_more ∙ ap (λ vs. vs ++ y ∷ []) (signal-nil (course val net nowhere).signal c.is_signal)) }
-  runs (run_step {p = p} {x = x} {a = a} {b = b} {ys = ys} {y = y} {n = n} before k) =
-      let ran : Ran p a ys = runs before in
-      let t : Took (Stands val b) (course val net nowhere) p x y n = next_push k p ran.stands in
-      let r : Pushed p x y n = pushed {P = Stands val b} p x y n t in
-      record { stands = t.stands; put_out = ap (λ vs. vs ++ y ∷ []) ran.put_out ∙ sym r.one_more }

@@ -10,7 +10,7 @@ use Rattle.net_syntax.specs.Weight.{weight}
 use Rattle.step_core.specs.Course.{Course, IsCourse}
 use Rattle.step_core.specs.Courses.{signals_of, counts_of_all, route_by, resumed_course, resumed_courses, par_course, k_switch_course, p_switch_course}
 use Rattle.step_core.specs.Setting.{Setting, context_in, and_param, and_olds, course, courses}
-use Rattle.step_core.specs.State.{States, Scope, Frozens, Frozen, no_state, and_state, scope, no_frozen, and_frozen, params_of, append_frozens, frozen_at, push_param, push_olds, all_unstarted, all_paused}
+use Rattle.step_core.specs.State.{States, Scope, Frozens, Frozen, no_state, and_state, scope, no_frozen, and_frozen, append_frozens, frozen_at, push_param, push_olds, all_unstarted, all_paused}
 use Rattle.step_core.specs.Stands.{Shapes, Denotes, AllDenote, FrozenDenotes}
 use Rattle.net_syntax.proofs.Meanings.{IsSignal-meaning}
 use Rattle.step_core.proofs.VisitBounds.{IsCount-visits}
@@ -55,9 +55,6 @@ module _ {L : Type 0} (val : L → List Datum → Datum → Datum) where
 
   pub Denotes-courses : (s : Scope L) (S : Setting) → Denotes val s S → AllCourses S.olds
   Denotes-courses (scope ps fs) S d = AllDenote-courses fs S.olds d.1
-
-  pub Denotes-params : (s : Scope L) (S : Setting) → Denotes val s S → params_of s ≡ S.params
-  Denotes-params (scope ps fs) S d = d.0
 
   pub Denotes-push_param : (s : Scope L) (S : Setting) (c : Datum) → Denotes val s S → Denotes val (push_param s c) (and_param S c)
   Denotes-push_param (scope ps fs) S c d = (ap (λ vs. vs ++ c ∷ []) d.0, d.1)

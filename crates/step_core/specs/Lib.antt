@@ -19,3 +19,4 @@ pub mod Running
 pub mod SeenRunner
 pub mod Found
 pub mod GrownTable
+pub mod OneList

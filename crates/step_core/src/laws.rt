@@ -1,8 +1,11 @@
 // Laws of binding: each function is a law, and does nothing.
 
 ghost use Rattle.step_core.specs.GrownTable.{GrownTableLaw};
+ghost use Rattle.step_core.specs.OneList.{OneListLaw};
 
-/// What is bound to a table fits that table with more rows, and is the same network there.
+/// What is bound to a table fits that table with more rows, and is the same network there. A typed network has one list
+/// of expressions.
 pub fn binding_laws()
-    ensures { GrownTableLaw }
+    ensures grown { GrownTableLaw }
+    ensures expressions { OneListLaw }
 {}
