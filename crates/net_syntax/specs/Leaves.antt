@@ -3,10 +3,12 @@ use Rattle.std.specs.Prelude.{◌≡◌, ℕ, suc, List, [], ◌∷◌, ◌++◌
 use Rattle.sample_core.specs.TypeTree.{TypeTree, unit_ty, int_ty, pair_ty, event_ty, list_ty}
 use Rattle.leaf_expr.specs.Expression.{Expression}
 use Rattle.leaf_expr.specs.ExpressionTyping.{ExpressionTyped}
+use Rattle.leaf_expr.specs.ExpressionLimits.{FullyChecked}
 use Rattle.leaf_expr.specs.KeyTree.{KeyTree}
 use Rattle.net_syntax.specs.Network.{Network, Networks, arr, seq, first, par, loop_pre, i_pre, delay, hold, accum_by, after, repeatedly, time, integral, switch, d_switch, r_switch, k_switch, p_switch, old, no_members, and_member}
 use Rattle.net_syntax.specs.Typing.{Arrow, OldAt, copies, members}
 use Rattle.net_syntax.specs.Stream.{TypedNetwork, NetTyped}
+use Rattle.net_syntax.specs.NetworkLimits.{NetTypedWithin}
 
 -- an expression of a network: its position, what a stored closure for it is found by, and its type
 pub record Need : Type 0 where
@@ -54,6 +56,10 @@ LeavesOf t ns = Leaves [] [] [] t.net t.input t.output ns
 abbrev pub Adds : List TypeTree → List ℕ → Network Expression → TypeTree → TypeTree → List Need → List Need → Type 0
 Adds Ps at net A t before now = (Os : List Arrow) (B : TypeTree) → NetTyped Ps Os net A B → (t ≡ B) × (ns : List Need) × Leaves Ps Os at net A B ns × (now ≡ before ++ ns)
 
--- under parameters of types Ps, the network has an output type at inputs of type A
+-- under parameters of types Ps, at inputs of type A, the network has an output type within the limits
 abbrev pub IsTyped : List TypeTree → Network Expression → TypeTree → Type 0
-IsTyped Ps net A = ∥ ((Os : List Arrow) × (B : TypeTree) × NetTyped Ps Os net A B) ∥₁
+IsTyped Ps net A = ∥ ((Os : List Arrow) × (B : TypeTree) × NetTypedWithin Ps Os net A B) ∥₁
+
+-- the same of an expression
+abbrev pub IsChecked : List TypeTree → Expression → TypeTree → Type 0
+IsChecked Ps e A = ∥ ((B : TypeTree) × FullyChecked e Ps A B) ∥₁

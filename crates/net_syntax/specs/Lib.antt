@@ -23,6 +23,5 @@ pub mod Examples
 pub mod WithinLimits
 pub mod Position
 pub mod Place
-pub mod TypeGiven
 pub mod Leaves
 pub mod SeenNeed

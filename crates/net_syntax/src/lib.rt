@@ -7,7 +7,6 @@ mod need;
 mod needs;
 mod net;
 mod position;
-mod type_given;
 mod typed_net;
 
 pub use laws::{output_examples, stream_laws, switching_laws, typing_laws, weight_examples};

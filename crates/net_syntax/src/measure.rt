@@ -1,6 +1,6 @@
 // How heavy and how high a network is.
 
-ghost use Rattle.std.specs.Prelude.{◌≡◌, min, suc, [], IfOk};
+ghost use Rattle.std.specs.Prelude.{◌≡◌, ◌+◌, ◌<◌, min, suc, [], IfOk, MatchOption};
 ghost use Rattle.net_syntax.specs.Height.{height as height_of};
 ghost use Rattle.net_syntax.specs.Seen.{tree_of};
 ghost use Rattle.net_syntax.specs.Weight.{weight as weight_of};
@@ -20,7 +20,10 @@ pub const MOST_HEIGHT: u32 = 256;
 pub fn weight(_alloc: Global, net: &Net<Expr>) -> Result<u32, Memory>
     ensures { IfOk result (λ w. w ≡ min (weight_of (tree_of net.now) []) (suc MOST_WEIGHT)) }
 {
-    Ok(bounded_weight(net))
+    Ok(match weight_left(net, MOST_WEIGHT) {
+        Some(left) => MOST_WEIGHT - left,
+        None => MOST_WEIGHT + 1,
+    })
 }
 
 /// The network's height; one more than the greatest that is allowed where it is more.
@@ -30,17 +33,15 @@ pub fn height(_alloc: Global, net: &Net<Expr>) -> Result<u32, Memory>
     Ok(bounded_height(net))
 }
 
-/// The network's weight, at most one more than the greatest that is allowed.
-fn bounded_weight(net: &Net<Expr>) -> u32
-    ensures { result ≡ min (weight_of (tree_of net.now) []) (suc MOST_WEIGHT) }
+/// How much of `most` is left after the network's weight; `None` where it weighs more.
+/// It stops at the first node too many.
+fn weight_left(net: &Net<Expr>, most: u32) -> Option<u32>
+    ensures { MatchOption result (most < weight_of (tree_of net.now) []) (λ left. weight_of (tree_of net.now) [] + left ≡ most) }
 {
+    let rest = most.checked_sub(1)?;
     match net {
-        Net::Arr(_) => 1,
-        Net::Seq(f, g) => {
-            let parts = bounded_weight(f.get()) + bounded_weight(g.get());
-            (1 + parts).min(MOST_WEIGHT + 1)
-        }
-        Net::IPre(_) => 1,
+        Net::Arr(_) | Net::IPre(_) => Some(rest),
+        Net::Seq(f, g) => weight_left(g.get(), weight_left(f.get(), rest)?),
     }
 }
 

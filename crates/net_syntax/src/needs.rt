@@ -1,20 +1,18 @@
 // The expressions of a network: what it needs stored closures for.
 
-ghost use Rattle.std.specs.Prelude.{◌≡◌, IfOk, OnOk, map, [], ◌∷◌, ◌++◌};
+ghost use Rattle.std.specs.Prelude.{◌≡◌, IfOk, OnOk, Ok, map};
 ghost use Rattle.sample_core.specs.SeenType.{type_of};
 ghost use Rattle.leaf_expr.specs.Seen.{expression_of};
-ghost use Rattle.leaf_expr.specs.ExpressionTyping.{ExpressionTyped};
+ghost use Rattle.leaf_expr.specs.ExpressionCheck.{type_answer};
 ghost use Rattle.net_syntax.specs.Seen.{tree_of};
 ghost use Rattle.net_syntax.specs.SeenNeed.{need_of};
-ghost use Rattle.net_syntax.specs.TypeGiven.{type_given};
-ghost use Rattle.net_syntax.specs.Leaves.{need_at, LeavesOf, Adds, IsTyped};
+ghost use Rattle.net_syntax.specs.Leaves.{need_at, LeavesOf, Adds, IsTyped, IsChecked};
 
 use crate::need::LeafNeed;
 use crate::net::Net;
 use crate::position::Position;
-use crate::type_given::type_given;
 use crate::typed_net::TypedNet;
-use leaf_expr::{Expr, LeafKey};
+use leaf_expr::{Expr, ExprFault, LeafKey, type_of_expr};
 use sample_core::{Memory, Ty};
 use std::alloc::Global;
 
@@ -46,8 +44,10 @@ fn add_leaves(
 {
     match net {
         Net::Arr(e) => {
-            needs.push(first_need(alloc, e, scope, input, path)?)?;
-            type_given(alloc, scope, input, e)
+            let need = first_need(alloc, e, scope, input, path)?;
+            let output = need.output.try_copy(alloc)?;
+            needs.push(need)?;
+            Ok(output)
         }
         Net::Seq(f, g) => {
             path.push(0)?;
@@ -73,18 +73,35 @@ fn first_need(
     input: &Ty,
     path: &[u32],
 ) -> Result<LeafNeed, Memory>
-    requires { ∥ ExpressionTyped (expression_of expr.now) (map type_of scope.now) (type_of input.now) (type_given (map type_of scope.now) (type_of input.now) (expression_of expr.now)) ∥₁ }
-    ensures { IfOk result
-        (λ n. need_of n ≡ need_at path.now 0 (expression_of expr.now) (map type_of scope.now) (type_of input.now) (type_given (map type_of scope.now) (type_of input.now) (expression_of expr.now))) }
+    requires { IsChecked (map type_of scope.now) (expression_of expr.now) (type_of input.now) }
+    ensures need { IfOk result
+        (λ n. need_of n ≡ need_at path.now 0 (expression_of expr.now) (map type_of scope.now) (type_of input.now) (type_of n.output)) }
+    ensures output { IfOk result
+        (λ n. type_answer (map type_of scope.now) (type_of input.now) (expression_of expr.now) ≡ Ok (type_of n.output)) }
 {
     let key = key_under(alloc, expr, scope, input)?;
-    let position = first_child(alloc, path)?;
-    let output = type_given(alloc, scope, input, expr)?;
+    let position = Position::of_child(alloc, path, 0)?;
+    let output = checked_type(alloc, expr, scope, input)?;
     Ok(LeafNeed {
         position,
         key,
         output,
     })
+}
+
+// The type of an expression that has one within the limits.
+fn checked_type(alloc: Global, expr: &Expr, scope: &[Ty], input: &Ty) -> Result<Ty, Memory>
+    requires { IsChecked (map type_of scope.now) (expression_of expr.now) (type_of input.now) }
+    ensures { IfOk result
+        (λ t. type_answer (map type_of scope.now) (type_of input.now) (expression_of expr.now) ≡ Ok (type_of t)) }
+{
+    match type_of_expr(alloc, scope, input, expr) {
+        Ok(output) => Ok(output),
+        Err(fault) => match fault {
+            ExprFault::Memory => Err(Memory),
+            _ => unreachable!(),
+        },
+    }
 }
 
 // What a stored closure for the expression is found by, under parameters and an input of these types.
@@ -100,16 +117,6 @@ fn key_under(alloc: Global, expr: &Expr, scope: &[Ty], input: &Ty) -> Result<Lea
         params,
         input,
     })
-}
-
-// The position of the first child of the node at the path.
-fn first_child(alloc: Global, path: &[u32]) -> Result<Position, Memory>
-    ensures { IfOk result (λ p. p ≡ path.now ++ 0 ∷ []) }
-{
-    let mut numbers = Vec::with_capacity(alloc, path.len())?;
-    numbers.extend_from_slice(path)?;
-    numbers.push(0)?;
-    Ok(Position::new(numbers))
 }
 
 // The types, which share their parts with these.

@@ -1,6 +1,6 @@
 // Positions of networks and expressions inside a network.
 
-ghost use Rattle.std.specs.Prelude.{◌≡◌, ◌++◌, nat_eq, IfOk, OnOk, string_bytes};
+ghost use Rattle.std.specs.Prelude.{◌≡◌, [], ◌∷◌, ◌++◌, nat_eq, IfOk, OnOk, string_bytes};
 ghost use lib.Pointwise.{pointwise};
 ghost use Rattle.std.specs.Cmp.{partial_equiv_from_equiv};
 ghost use Rattle.std.proofs.lemmas.Cmp.{nat_list_eq_equiv};
@@ -33,6 +33,30 @@ impl Position {
         ensures { result ≡ path.items }
     {
         Position { path }
+    }
+
+    /// The position of the node at the path. `Memory` where a growth was refused.
+    pub fn of_node(alloc: Global, path: &[u32]) -> Result<Position, Memory>
+        ensures { IfOk result (λ p. p ≡ path.now) }
+    {
+        Ok(Position::new(path.to_vec(alloc)?))
+    }
+
+    /// The position of child k, from 0, of the node at the path. `Memory` where a growth was refused.
+    pub fn of_child(alloc: Global, path: &[u32], k: u32) -> Result<Position, Memory>
+        ensures { IfOk result (λ p. p ≡ path.now ++ k ∷ []) }
+    {
+        let mut numbers = Vec::with_capacity(alloc, path.len() + 1)?;
+        numbers.extend_from_slice(path)?;
+        numbers.push(k)?;
+        Ok(Position::new(numbers))
+    }
+
+    /// A copy. `Memory` where a growth was refused.
+    pub fn try_copy(&self, alloc: Global) -> Result<Position, Memory>
+        ensures { IfOk result (λ p. p ≡ self.now) }
+    {
+        Position::of_node(alloc, &self.path)
     }
 
     /// The child numbers, counted from 0, from the root on.

@@ -1,6 +1,6 @@
 // The walk over a network: its output type, or the first fault.
 
-ghost use Rattle.std.specs.Prelude.{◌≡◌, ◌++◌, [], ◌∷◌, IfOk, OnOk};
+ghost use Rattle.std.specs.Prelude.{◌≡◌, [], OnOk};
 ghost use Rattle.sample_core.specs.SeenType.{type_of};
 ghost use Rattle.leaf_expr.specs.Seen.{expression_of};
 ghost use Rattle.leaf_expr.specs.ExpressionCheck.{type_answer};
@@ -11,7 +11,7 @@ ghost use Rattle.net_types.specs.Check.{net_walk, Gives};
 use crate::fault::TypeFault;
 use leaf_expr::{Expr, ExprFault, type_of_expr};
 use net_syntax::{Net, Position};
-use sample_core::{Memory, Ty, same_type};
+use sample_core::{Ty, same_type};
 use std::alloc::Global;
 
 /// The output type of the network at the path under an input of this type, with nothing in scope. After an answer the
@@ -51,7 +51,7 @@ fn leaf_type(alloc: Global, path: &[u32], input: &Ty, leaf: &Expr) -> Result<Ty,
         Ok(ty) => Ok(ty),
         Err(ExprFault::Memory) => Err(TypeFault::Memory),
         Err(fault) => {
-            let position = child_position(alloc, path, 0)?;
+            let position = Position::of_child(alloc, path, 0)?;
             Err(TypeFault::Expr { position, fault })
         }
     }
@@ -64,15 +64,6 @@ fn same_at(alloc: Global, path: &[u32], wanted: &Ty, ty: Ty) -> Result<Ty, TypeF
     if same_type(wanted, &ty) {
         return Ok(ty);
     }
-    let position = Position::new(path.to_vec(alloc)?);
+    let position = Position::of_node(alloc, path)?;
     Err(TypeFault::Joint { position })
-}
-
-/// The position of a child of the node at the path.
-fn child_position(alloc: Global, path: &[u32], child: u32) -> Result<Position, Memory>
-    ensures { IfOk result (λ position. position ≡ path.now ↓ child) }
-{
-    let mut all = path.to_vec(alloc)?;
-    all.push(child)?;
-    Ok(Position::new(all))
 }

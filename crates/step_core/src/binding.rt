@@ -15,7 +15,7 @@ use leaf_expr::Expr;
 use leaf_table::{LeafId, LeafTable};
 use net_syntax::{LeafNeed, Net, Position, Sub, TypedNet, leaves};
 use sample_core::Memory;
-use std::alloc::{AllocError, Global};
+use std::alloc::Global;
 
 /// The network with a row of the table in the place of each expression.
 /// `MissingLeaf` where an expression has no row, at the first such from the root on.
@@ -54,11 +54,9 @@ fn find_rows(alloc: Global, table: &LeafTable, needs: &[LeafNeed]) -> Result<Vec
 fn missing(alloc: Global, position: &Position) -> BindFault
     ensures { Names position.now result }
 {
-    match position.path().to_vec(alloc) {
-        Ok(path) => BindFault::MissingLeaf {
-            position: Position::new(path),
-        },
-        Err(AllocError) => BindFault::Memory,
+    match position.try_copy(alloc) {
+        Ok(position) => BindFault::MissingLeaf { position },
+        Err(Memory) => BindFault::Memory,
     }
 }
 

@@ -1,4 +1,4 @@
-use Rattle.std.proofs.Common.{rules, ◌≡◌, ◌++◌, ◌∷◌, [], IfOk, map, ap, sym, ◌∙◌, arith}
+use Rattle.std.proofs.Common.{rules, ◌++◌, ◌∷◌, [], map, ap, sym, ◌∙◌, arith}
 use Rattle.std.proofs.lemmas.Grind.{common_steps}
 use Rattle.std.proofs.lemmas.List.{map_push}
 use Rattle.sample_core.specs.SeenType.{type_of}
@@ -11,8 +11,9 @@ use Rattle.net_syntax.proofs.needs.+add_leaves.Goals as goal
 
 pub returns-in_ok-push-in-Arr-clause-added : goal.returns-in_ok-push-in-Arr-clause-added
 returns-in_ok-push-in-Arr-clause-added t c =
-    let added = ap (map need_of) c.in_ok-push-in-Arr.ensures.items ∙ map_push need_of _ _ ∙ ap (λ n. map need_of c.args.needs.now.items ++ n ∷ []) c.in_ok-first_need-in-Arr.ensures in
-    if_ok c.type_given.result _ _ (λ o h. adds_arr _ _ _ _ _ _ _ _ _ (ap tree_of c.in-Arr.is) c.deref.ensures.value h added) c.type_given.ensures
+    let copied = ap type_of c.in_ok-output-in-Arr.ensures in
+    let added = ap (map need_of) c.in_ok-push-in-Arr.ensures.items ∙ map_push need_of _ _ ∙ ap (λ n. map need_of c.args.needs.now.items ++ n ∷ []) c.in_ok-need-in-Arr.ensures.need in
+    adds_arr _ _ _ _ _ _ _ _ _ _ (ap tree_of c.in-Arr.is) c.deref.ensures.value c.in_ok-need-in-Arr.ensures.output copied added
 
 pub returns-in_ok-output-in-Seq-clause-added : goal.returns-in_ok-output-in-Seq-clause-added
 returns-in_ok-output-in-Seq-clause-added t c =
@@ -21,8 +22,8 @@ returns-in_ok-output-in-Seq-clause-added t c =
 
 pub returns-in_ok-push-in-IPre-clause-added : goal.returns-in_ok-push-in-IPre-clause-added
 returns-in_ok-push-in-IPre-clause-added t c =
-    let added = ap (map need_of) c.in_ok-push-in-IPre.ensures.items ∙ map_push need_of _ _ ∙ ap (λ n. map need_of c.args.needs.now.items ++ n ∷ []) c.in_ok-first_need-in-IPre.ensures in
-    if_ok c.try_copy.result _ _ (λ o h. adds_i_pre _ _ _ _ _ _ _ _ _ (ap tree_of c.in-IPre.is) c.deref-in-IPre.ensures.value (ap type_of h) added) c.try_copy.ensures
+    let added = ap (map need_of) c.in_ok-push-in-IPre.ensures.items ∙ map_push need_of _ _ ∙ ap (λ n. map need_of c.args.needs.now.items ++ n ∷ []) c.in_ok-first_need-in-IPre.ensures.need in
+    if_ok c.try_copy-in-IPre.result _ _ (λ o h. adds_i_pre _ _ _ _ _ _ _ _ _ _ (ap tree_of c.in-IPre.is) c.deref-in-IPre.ensures.value c.in_ok-first_need-in-IPre.ensures.output (ap type_of h) added) c.try_copy-in-IPre.ensures
 
 pub first_need-requires : goal.first_need-requires
 first_need-requires t c = typed_arr _ _ _ _ (ap tree_of c.in-Arr.is) c.requires

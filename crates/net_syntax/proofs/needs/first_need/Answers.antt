@@ -1,4 +1,5 @@
+use Rattle.net_syntax.proofs.AddedLeaves.{answered_key}
 use Rattle.net_syntax.proofs.needs.first_need.Goals as goal
 
-pub returns : goal.returns
-returns c = λ i. record { position = c.in_ok-position.ensures i; key = c.in_ok-key.ensures i; output = c.in_ok-output.ensures i }
+pub invariant_of-result : goal.invariant_of-result
+invariant_of-result c = record { typed = answered_key _ _ _ _ _ c.in_ok-key.ensures c.in_ok-output.ensures }
