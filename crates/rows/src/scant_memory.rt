@@ -131,8 +131,8 @@ fn answers_with(alloc: Global, call: Call, trees: &Trees, spare: usize) -> Answe
 fn refusals(alloc: Global, call: Call, trees: &Trees) -> Option<u32> {
     let mut refused = 0u32;
     let mut last = Answer::Other;
-    for step in 0..16usize {
-        last = answers_with(alloc, call, trees, step * 3_000);
+    for step in 0..6usize {
+        last = answers_with(alloc, call, trees, step * 9_000);
         match last {
             Answer::Ample => {}
             Answer::Refused => refused = refused.saturating_add(1),
@@ -150,7 +150,7 @@ fn refusals(alloc: Global, call: Call, trees: &Trees) -> Option<u32> {
 fn is_refused_in_turn(alloc: Global, call: Call) -> bool {
     match read_trees(alloc) {
         Some(trees) => match refusals(alloc, call, &trees) {
-            Some(refused) => refused > 3,
+            Some(refused) => refused > 1,
             None => false,
         },
         None => false,

@@ -67,7 +67,7 @@ fn one_node_too_many(rt: HostRuntime) {
     assert!(rt; is_one_too_many(rt.alloc()));
 }
 
-/// Whether a list of elements of height 254, under `len`, is worked out: height 256, 99,712 nodes.
+/// Whether a list of elements of height 254, under `len`, is worked out: height 256, 99,570 nodes.
 fn tall_is_counted(alloc: Global) -> bool {
     match nested(alloc, "(neg ", 253, "x") {
         Ok(text) => is_counted(alloc, text.as_str(), 392, "392"),
