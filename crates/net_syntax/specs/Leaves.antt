@@ -60,6 +60,6 @@ Adds Ps at net A t before now = (Os : List Arrow) (B : TypeTree) → NetTyped Ps
 abbrev pub IsTyped : List TypeTree → Network Expression → TypeTree → Type 0
 IsTyped Ps net A = ∥ ((Os : List Arrow) × (B : TypeTree) × NetTypedWithin Ps Os net A B) ∥₁
 
--- the same of an expression
+-- under parameters of types Ps, at inputs of type A, the expression has a type within the limits
 abbrev pub IsChecked : List TypeTree → Expression → TypeTree → Type 0
 IsChecked Ps e A = ∥ ((B : TypeTree) × FullyChecked e Ps A B) ∥₁
