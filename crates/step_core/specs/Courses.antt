@@ -37,7 +37,7 @@ loop_course c f = record { signal = feedback c f.signal; counts = λ xs. and_one
 abbrev pub par_course : List Course → Course
 par_course cs = record { signal = in_parallel (signals_of cs); counts = λ xs. and_one (sum_of_all (counts_of_all cs) xs) }
 
--- a switch: c to the first event of e, and what takes over
+-- a switch: f up to the first event of e, and what takes over
 abbrev pub switched_course : Course → Signal → (Datum → Timed → ℕ → Course) → Course
 switched_course f e t = record {
   signal = switched f.signal e (λ c p d. (t c p d).signal);
@@ -77,7 +77,7 @@ resumed_course c p d = record { signal = resumed c.signal p d; counts = resumed_
 abbrev pub k_switch_course : Course → Course → (Datum → Course → Course) → Course
 k_switch_course f e t = switched_course (watched_course f e) (watching f.signal e.signal) (λ c p d. t c (resumed_course f p d))
 
--- what member i gets
+-- each member gets the input itself
 abbrev pub every : ℕ → Datum → Datum
 every i a = a
 

@@ -6,11 +6,13 @@ use Rattle.step_core.specs.Course.{Course, IsCourse}
 use Rattle.step_core.specs.Courses.{map_course, past_course, seq_course, first_course, loop_course, par_course, switch_course, d_switch_course, r_switch_course, k_switch_course, p_switch_course, signals_of}
 use Rattle.step_core.specs.Cell.{Cell, Keeps}
 
--- A and B are what the parts stand for, the record what the whole does: c, after q.
+-- In each record A and B are what the parts stand for; the whole has the course c after the past q.
+
+-- `arr`: each value by itself
 pub record ArrShape (h : Datum → Datum) (c : Course) (q : Timed) : Type 0 where
   pub same : c ≡ map_course h
 
--- `>>>`: b runs on what f put out
+-- `>>>`: the second part runs on what the first put out
 pub record SeqShape (A B : Course → Timed → Type 0) (c : Course) (q : Timed) : Type 0 where
   pub f : Course
   pub g : Course
@@ -77,7 +79,7 @@ pub record DSwitchShape (A : Course → Timed → Type 0) (t : Datum → Course)
 pub record Uncut (q : Timed) : Type 0 where
   pub one_piece : (rest : Timed) → pieces (q ++ rest) ≡ (each_value left q ++ (pieces rest).0, (pieces rest).1)
 
--- what runs now is the switch's f, after an event too
+-- `rSwitch`: what runs now counts as its f, after an event too
 pub record RSwitchShape (A : Course → Timed → Type 0) (t : Datum → Course) (c : Course) (q : Timed) : Type 0 where
   pub f : Course
   pub is_f : IsCourse f

@@ -77,7 +77,7 @@ abbrev pub all_unstarted : {L : Type 0} → Networks L → Scope L → Frozens L
 all_unstarted no_members s = no_frozen
 all_unstarted (and_member f fs) s = and_frozen (unstarted f s) (all_unstarted fs s)
 
--- as they were, with the step of the sample that they do not see
+-- the members of a switch, paused as they were, with the step of the sample that they do not see
 abbrev pub all_paused : {L : Type 0} → States L → ℕ → Frozens L
 all_paused no_state d = no_frozen
 all_paused (and_state a as') d = and_frozen (paused a d) (all_paused as' d)

@@ -21,7 +21,7 @@ zeros xs = map (λ x. 0) xs
 abbrev pub added : List ℕ → List ℕ → List ℕ
 added ms ns = zip_with (λ m n. m + n) ms ns
 
--- the node itself
+-- each count, and one for the node itself
 abbrev pub and_one : List ℕ → List ℕ
 and_one ns = map suc ns
 
