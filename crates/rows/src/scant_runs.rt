@@ -5,19 +5,25 @@ ghost use Rattle.step_core.specs.Bound.{FitsTable};
 
 use crate::ballast::{Answer, judged, take_all};
 use crate::bench::{Trial, ends_well, network};
-use crate::expression_bench::is_value;
+use crate::expression_bench::{is_value, with_many};
 use leaf_table::{Leaf, LeafTable, TableFault, run_general};
 use net_syntax::{LeafNeed, leaves};
 use sample_core::{Memory, Sample, has_type};
 use std::alloc::Global;
 use step_core::{Bound, Runner};
 
-/// A network whose answers take memory.
-const PAIRS: &str = "yampa 1 input Int (>>> (arr (pair x x)) (iPre (pair 0 0)))";
+/// How many events the answers hold, each of which takes memory, and how many expressions are stored.
+const MANY: u32 = 100;
 
 /// What the first push answers where so many bytes are left to it. Where it is want of memory, the same push with ample
 /// memory and the push after it answer as if nothing had been refused.
-fn push_answers(alloc: Global, bound: &Bound, table: &LeafTable, spare: usize) -> Answer
+fn push_answers(
+    alloc: Global,
+    bound: &Bound,
+    table: &LeafTable,
+    events: &str,
+    spare: usize,
+) -> Answer
     requires { FitsTable (rows_of table.now) bound.now }
 {
     let sample = Sample::Int(5);
@@ -31,10 +37,10 @@ fn push_answers(alloc: Global, bound: &Bound, table: &LeafTable, spare: usize) -
     let found = runner.push(0, &sample);
     drop(ballast);
     match found {
-        Ok(answer) => judged(is_value(alloc, &answer, "(pair 0 0)")),
+        Ok(answer) => judged(is_value(alloc, &answer, "(list)")),
         Err(Memory) => match (runner.push(0, &sample), runner.push(1, &sample)) {
             (Ok(first), Ok(second)) => {
-                if is_value(alloc, &first, "(pair 0 0)") && is_value(alloc, &second, "(pair 5 5)") {
+                if is_value(alloc, &first, "(list)") && is_value(alloc, &second, events) {
                     Answer::Refused
                 } else {
                     Answer::Other
@@ -45,25 +51,33 @@ fn push_answers(alloc: Global, bound: &Bound, table: &LeafTable, spare: usize) -
     }
 }
 
-/// Whether pushes of the network of pairs are refused memory at first, and answer in the end.
+/// Whether pushes of the network of many events are refused memory at first, and answer in the end.
 pub fn pushes_are_refused_in_turn(alloc: Global, bound: &Bound, table: &LeafTable) -> bool
     requires { FitsTable (rows_of table.now) bound.now }
 {
+    let Ok(events) = with_many(alloc, "(list", " (event 5)", MANY, ")") else {
+        return false;
+    };
     let mut refused = 0u32;
     let mut last = Answer::Other;
-    for step in 0..32usize {
-        last = push_answers(alloc, bound, table, step * 16);
+    for step in 0..16usize {
+        last = push_answers(alloc, bound, table, events.as_str(), step * 3_000);
         match last {
             Answer::Ample => {}
             Answer::Refused => refused = refused.saturating_add(1),
             Answer::Other => return false,
         }
     }
-    last == Answer::Ample && refused > 3
+    last == Answer::Ample && refused > 1
 }
 
-fn pairs_are_refused_in_turn(alloc: Global) -> bool {
-    match network(alloc, PAIRS) {
+fn events_are_refused_in_turn(alloc: Global) -> bool {
+    let front = "yampa 1 input Int (>>> (arr (list (Event Int)";
+    let back = ")) (iPre (list (Event Int))))";
+    let Ok(text) = with_many(alloc, front, " (event x)", MANY, back) else {
+        return false;
+    };
+    match network(alloc, text.as_str()) {
         Some(net) => ends_well(alloc, &net, Trial::ScantMemory),
         None => false,
     }
@@ -71,11 +85,11 @@ fn pairs_are_refused_in_turn(alloc: Global) -> bool {
 
 #[test]
 fn pushing_a_sample(rt: HostRuntime) {
-    assert!(rt; pairs_are_refused_in_turn(rt.alloc()));
+    assert!(rt; events_are_refused_in_turn(rt.alloc()));
 }
 
-/// What the table answers to the leaf where so many bytes are left to it. A leaf that came back is taken when it is added
-/// again with ample memory.
+/// What a new table answers to the leaf where so many bytes are left to it. A leaf that came back is taken when it is
+/// added again with ample memory.
 fn add_answers(alloc: Global, leaf: Leaf, spare: usize) -> Answer {
     let Ok(ballast) = take_all(alloc, spare) else {
         return Answer::Other;
@@ -110,28 +124,16 @@ fn need_answers(alloc: Global, need: &LeafNeed, spare: usize) -> Answer {
     }
 }
 
-/// Whether adding the first need is refused memory at first, and the table takes it in the end.
-fn need_is_refused_in_turn(alloc: Global, needs: &[LeafNeed]) -> bool {
-    let Some(need) = needs.first() else {
-        return false;
-    };
-    let mut refused = 0u32;
-    let mut last = Answer::Other;
-    for step in 0..32usize {
-        last = need_answers(alloc, need, step * 64);
-        match last {
-            Answer::Ample => {}
-            Answer::Refused => refused = refused.saturating_add(1),
-            Answer::Other => return false,
-        }
-    }
-    last == Answer::Ample && refused > 1
+/// Whether adding the need is refused memory with none left, and the table takes it with enough.
+fn need_is_refused_in_turn(alloc: Global, need: &LeafNeed) -> bool {
+    need_answers(alloc, need, 0) == Answer::Refused
+        && need_answers(alloc, need, 100_000) == Answer::Ample
 }
 
 fn table_is_refused_in_turn(alloc: Global) -> bool {
-    match network(alloc, PAIRS) {
+    match network(alloc, "yampa 1 input Int (arr (neg x))") {
         Some(net) => match leaves(alloc, &net) {
-            Ok(needs) => need_is_refused_in_turn(alloc, &needs),
+            Ok(needs) => needs.len() == 1 && need_is_refused_in_turn(alloc, &needs[0]),
             Err(Memory) => false,
         },
         None => false,
