@@ -2,7 +2,7 @@
 
 use crate::bench::{Run, Trial, ends_well, goes_so, network};
 use leaf_table::{Leaf, LeafTable, TableFault, run_general};
-use net_syntax::{LeafNeed, leaves};
+use net_syntax::{LeafNeed, TypedNet, leaves};
 use sample_core::{Sample, same};
 use std::alloc::{AllocError, Global};
 use step_core::{BindFault, bind};
@@ -105,14 +105,24 @@ fn a_network_of_more_expressions_is_refused(rt: HostRuntime) {
     assert!(rt; large_is_refused(rt.alloc()));
 }
 
-/// Whether the network, bound to an empty table, is refused at this position.
-fn misses(alloc: Global, text: &str, path: &[u32]) -> bool {
+/// Whether the network, bound to the table, is refused at this position.
+fn misses_in(alloc: Global, net: &TypedNet, table: &LeafTable, path: &[u32]) -> bool {
+    match bind(alloc, net, table) {
+        Ok(_bound) => false,
+        Err(BindFault::MissingLeaf { position }) => position.path() == path,
+        Err(BindFault::Memory) => false,
+    }
+}
+
+/// The same of an empty table.
+fn misses(alloc: Global, net: &TypedNet, path: &[u32]) -> bool {
+    let table = LeafTable::new(alloc);
+    misses_in(alloc, net, &table, path)
+}
+
+fn misses_all(alloc: Global, text: &str, path: &[u32]) -> bool {
     match network(alloc, text) {
-        Some(net) => match bind(alloc, &net, &LeafTable::new(alloc)) {
-            Ok(_bound) => false,
-            Err(BindFault::MissingLeaf { position }) => position.path() == path,
-            Err(BindFault::Memory) => false,
-        },
+        Some(net) => misses(alloc, &net, path),
         None => false,
     }
 }
@@ -120,7 +130,7 @@ fn misses(alloc: Global, text: &str, path: &[u32]) -> bool {
 #[test]
 fn names_the_first_expression_without_a_row(rt: HostRuntime) {
     let text = "yampa 1 input Int (>>> (arr (add x 1)) (iPre 0))";
-    assert!(rt; misses(rt.alloc(), text, &[0, 0]));
+    assert!(rt; misses_all(rt.alloc(), text, &[0, 0]));
 }
 
 /// One network of one expression for each shape that has a closure of its own, and one for all others.
