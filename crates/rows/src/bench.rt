@@ -54,6 +54,8 @@ pub enum Trial<'a> {
     ScantMemory,
     /// That the table is full before each of its expressions has a row, and the program tells it.
     FullTable,
+    /// That each of its expressions has a row.
+    Rows,
 }
 
 /// Whether the trial of the network ends well.
@@ -81,6 +83,7 @@ fn binds_well(alloc: Global, net: &TypedNet, table: &LeafTable, trial: Trial<'_>
             Trial::Run(run) => writes_so(alloc, &bound, table, run),
             Trial::ScantMemory => pushes_are_refused_in_turn(alloc, &bound, table),
             Trial::FullTable => false,
+            Trial::Rows => true,
         },
         Err(_fault) => false,
     }

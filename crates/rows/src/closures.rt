@@ -1,14 +1,11 @@
 // Tables of stored closures.
 
 use crate::bench::{Run, Trial, ends_well, goes_so, network};
-use leaf_table::{Leaf, LeafTable, TableFault, run_general};
+use leaf_table::{Leaf, LeafTable, run_general};
 use net_syntax::{LeafNeed, TypedNet, leaves};
 use sample_core::{Sample, same};
 use std::alloc::{AllocError, Global};
 use step_core::{BindFault, bind};
-
-/// The most rows of a table.
-const MOST_ROWS: usize = 4096;
 
 /// Adds `2^depth` different expressions to the text of a network, the first of them with this number.
 fn push_tree(text: &mut String, number: u32, depth: u32) -> Result<(), AllocError> {
@@ -22,87 +19,37 @@ fn push_tree(text: &mut String, number: u32, depth: u32) -> Result<(), AllocErro
     text.push_str(")")
 }
 
-/// A network of one expression more than a table has rows.
-fn large_network(alloc: Global) -> Result<String, AllocError> {
+/// A network of 4,096 different expressions, as many as a table has rows, and of one more.
+fn large_network(alloc: Global, one_more: &str) -> Result<String, AllocError> {
     let mut text = String::from_str(alloc, "yampa 1 input Int (>>> ")?;
     push_tree(&mut text, 0, 12)?;
-    text.push_str(" (arr (add x 4096)))")?;
+    text.push_str(" ")?;
+    text.push_str(one_more)?;
+    text.push_str(")")?;
     Ok(text)
 }
 
-/// The need that is stored at this step: each of the first 4,096, then the first of them once more, then the last.
-fn at_step(step: usize) -> usize {
-    if step < MOST_ROWS {
-        step
-    } else if step == MOST_ROWS {
-        0
-    } else {
-        MOST_ROWS
-    }
-}
-
-/// Whether a table takes a closure for each of 4,096 needs, for a key that is there too, and then for no new one.
-fn fills_up(alloc: Global, needs: &[LeafNeed]) -> bool {
-    let mut table = LeafTable::new(alloc);
-    for step in 0..MOST_ROWS + 2 {
-        let Some(need) = needs.get(at_step(step)) else {
-            return false;
-        };
-        let (Ok(key), Ok(own), Ok(output)) = (
-            need.key.try_copy(alloc),
-            need.key.try_copy(alloc),
-            need.output.try_copy(alloc),
-        ) else {
-            return false;
-        };
-        let run = match Box::new(alloc, move |params: &[Sample], x: &Sample| {
-            run_general(alloc, &own, params, x)
-        }) {
-            Ok(run) => run,
-            Err(_) => return false,
-        };
-        let right = match table.add(Leaf::new(key, output, run)) {
-            Ok(_id) => step <= MOST_ROWS,
-            Err((_leaf, fault)) => step > MOST_ROWS && fault == TableFault::Full,
-        };
-        if !right {
-            return false;
-        }
-    }
-    true
-}
-
-fn large_fills_up(alloc: Global) -> bool {
-    let Ok(text) = large_network(alloc) else {
+/// Whether the trial of a network of 4,096 different expressions and one more ends well.
+fn large_ends_well(alloc: Global, one_more: &str, trial: Trial<'_>) -> bool {
+    let Ok(text) = large_network(alloc, one_more) else {
         return false;
     };
     match network(alloc, text.as_str()) {
-        Some(net) => match leaves(alloc, &net) {
-            Ok(needs) => needs.len() == MOST_ROWS + 1 && fills_up(alloc, &needs),
-            Err(_memory) => false,
-        },
+        Some(net) => ends_well(alloc, &net, trial),
         None => false,
     }
 }
 
 #[test]
 fn a_table_has_4096_rows(rt: HostRuntime) {
-    assert!(rt; large_fills_up(rt.alloc()));
-}
-
-fn large_is_refused(alloc: Global) -> bool {
-    let Ok(text) = large_network(alloc) else {
-        return false;
-    };
-    match network(alloc, text.as_str()) {
-        Some(net) => ends_well(alloc, &net, Trial::FullTable),
-        None => false,
-    }
+    let new = "(arr (add x 4096))";
+    assert!(rt; large_ends_well(rt.alloc(), new, Trial::FullTable));
 }
 
 #[test]
-fn a_network_of_more_expressions_is_refused(rt: HostRuntime) {
-    assert!(rt; large_is_refused(rt.alloc()));
+fn a_full_table_still_answers_for_a_key_that_is_there(rt: HostRuntime) {
+    let known = "(arr (add x 0))";
+    assert!(rt; large_ends_well(rt.alloc(), known, Trial::Rows));
 }
 
 /// Whether the network, bound to the table, is refused at this position.
