@@ -1,8 +1,9 @@
 // Tables of stored closures.
 
 use crate::bench::{Run, Trial, ends_well, goes_so, network};
-use leaf_table::{Leaf, LeafTable, run_general};
-use net_syntax::{LeafNeed, TypedNet, leaves};
+use leaf_expr::LeafKey;
+use leaf_table::{LeafTable, run_affine, run_general};
+use net_syntax::{TypedNet, leaves};
 use sample_core::{Sample, same};
 use std::alloc::{AllocError, Global};
 use step_core::{BindFault, bind};
@@ -182,35 +183,24 @@ fn each_shape_of_expression_has_a_closure(rt: HostRuntime) {
     }
 }
 
-/// Whether the closure for any expression, stored for this need, answers 6 on 5.
-fn answers_six(alloc: Global, need: &LeafNeed) -> bool {
-    let (Ok(key), Ok(own), Ok(output)) = (
-        need.key.try_copy(alloc),
-        need.key.try_copy(alloc),
-        need.output.try_copy(alloc),
-    ) else {
-        return false;
-    };
-    let run = match Box::new(alloc, move |params: &[Sample], x: &Sample| {
-        run_general(alloc, &own, params, x)
-    }) {
-        Ok(run) => run,
-        Err(_) => return false,
-    };
-    let mut table = LeafTable::new(alloc);
-    match table.add(Leaf::new(key, output, run)) {
-        Ok(id) => match table.call(id, &[], &Sample::Int(5)) {
-            Ok(answer) => same(&answer, &Sample::Int(6)),
-            Err(_memory) => false,
-        },
-        Err(_refused) => false,
+/// Whether what the closures for `(add x 1)` call, that for its shape and that for any expression, answers 6 on 5.
+fn both_answer_six(alloc: Global, key: &LeafKey) -> bool {
+    let x = Sample::Int(5);
+    match (
+        run_affine(alloc, 1, 1, &[], &x),
+        run_general(alloc, key, &[], &x),
+    ) {
+        (Ok(affine), Ok(general)) => {
+            same(&affine, &Sample::Int(6)) && same(&general, &Sample::Int(6))
+        }
+        _ => false,
     }
 }
 
-fn general_answers_six(alloc: Global, text: &str) -> bool {
+fn needs_answer_six(alloc: Global, text: &str) -> bool {
     match network(alloc, text) {
         Some(net) => match leaves(alloc, &net) {
-            Ok(needs) => needs.len() == 1 && answers_six(alloc, &needs[0]),
+            Ok(needs) => needs.len() == 1 && both_answer_six(alloc, &needs[0].key),
             Err(_memory) => false,
         },
         None => false,
@@ -220,5 +210,5 @@ fn general_answers_six(alloc: Global, text: &str) -> bool {
 #[test]
 fn the_closure_for_any_expression_serves_each(rt: HostRuntime) {
     let text = "yampa 1 input Int (arr (add x 1))";
-    assert!(rt; general_answers_six(rt.alloc(), text));
+    assert!(rt; needs_answer_six(rt.alloc(), text));
 }

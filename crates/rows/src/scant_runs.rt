@@ -6,13 +6,13 @@ ghost use Rattle.step_core.specs.Bound.{FitsTable};
 use crate::ballast::{Answer, judged, take_all};
 use crate::bench::{Trial, ends_well, network};
 use crate::expression_bench::{is_value, with_many};
-use leaf_table::{Leaf, LeafTable, TableFault, run_general};
-use net_syntax::{LeafNeed, leaves};
+use leaf_table::LeafTable;
+use net_syntax::TypedNet;
 use sample_core::{Memory, Sample, has_type};
 use std::alloc::Global;
 use step_core::{Bound, Runner};
 
-/// How many events the answers hold, each of which takes memory, and how many expressions are stored.
+/// How many events the answers hold, each of which takes memory.
 const MANY: u32 = 100;
 
 /// What the first push answers where so many bytes are left to it. Where it is want of memory, the same push with ample
@@ -88,59 +88,40 @@ fn pushing_a_sample(rt: HostRuntime) {
     assert!(rt; events_are_refused_in_turn(rt.alloc()));
 }
 
-/// What a new table answers to the leaf where so many bytes are left to it. A leaf that came back is taken when it is
-/// added again with ample memory.
-fn add_answers(alloc: Global, leaf: Leaf, spare: usize) -> Answer {
+/// Whether a table takes a closure for each expression of the network where so many bytes are left.
+fn fills_with(alloc: Global, net: &TypedNet, spare: usize) -> bool {
     let Ok(ballast) = take_all(alloc, spare) else {
-        return Answer::Other;
+        return false;
     };
-    let mut table = LeafTable::new(alloc);
-    let added = table.add(leaf);
+    let filled = ends_well(alloc, net, Trial::Rows);
     drop(ballast);
-    match added {
-        Ok(_id) => Answer::Ample,
-        Err((leaf, TableFault::Memory)) => match table.add(leaf) {
-            Ok(_id) => Answer::Refused,
-            Err(_refused) => Answer::Other,
-        },
-        Err((_leaf, TableFault::Full)) => Answer::Other,
-    }
+    filled
 }
 
-/// The same of the closure for any expression, stored for this need.
-fn need_answers(alloc: Global, need: &LeafNeed, spare: usize) -> Answer {
-    let (Ok(key), Ok(own), Ok(output)) = (
-        need.key.try_copy(alloc),
-        need.key.try_copy(alloc),
-        need.output.try_copy(alloc),
-    ) else {
-        return Answer::Other;
-    };
-    match Box::new(alloc, move |params: &[Sample], x: &Sample| {
-        run_general(alloc, &own, params, x)
-    }) {
-        Ok(run) => add_answers(alloc, Leaf::new(key, output, run), spare),
-        Err(_) => Answer::Other,
+/// Whether filling a table is refused memory at first, goes well with ample memory after each refusal, and comes to its
+/// end where enough is left.
+fn filling_is_refused_in_turn(alloc: Global, net: &TypedNet) -> bool {
+    let mut refused = 0u32;
+    for step in 0..8usize {
+        if !fills_with(alloc, net, step * 400) {
+            refused = refused.saturating_add(1);
+        }
+        if !ends_well(alloc, net, Trial::Rows) {
+            return false;
+        }
     }
-}
-
-/// Whether adding the need is refused memory with none left, and the table takes it with enough.
-fn need_is_refused_in_turn(alloc: Global, need: &LeafNeed) -> bool {
-    need_answers(alloc, need, 0) == Answer::Refused
-        && need_answers(alloc, need, 100_000) == Answer::Ample
+    refused > 1 && fills_with(alloc, net, 1_000_000)
 }
 
 fn table_is_refused_in_turn(alloc: Global) -> bool {
-    match network(alloc, "yampa 1 input Int (arr (neg x))") {
-        Some(net) => match leaves(alloc, &net) {
-            Ok(needs) => needs.len() == 1 && need_is_refused_in_turn(alloc, &needs[0]),
-            Err(Memory) => false,
-        },
+    let text = "yampa 1 input Int (>>> (arr (neg x)) (>>> (arr (add x 1)) (iPre (mul 2 3))))";
+    match network(alloc, text) {
+        Some(net) => filling_is_refused_in_turn(alloc, &net),
         None => false,
     }
 }
 
 #[test]
-fn adding_a_leaf(rt: HostRuntime) {
+fn filling_a_table(rt: HostRuntime) {
     assert!(rt; table_is_refused_in_turn(rt.alloc()));
 }
