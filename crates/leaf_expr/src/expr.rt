@@ -123,32 +123,119 @@ impl Expr {
     pub fn try_copy(&self, alloc: Global) -> Result<Expr, Memory>
         ensures { IfOk result (λ e. e ≡ self.now) }
     {
-        Ok(match self {
-            Expr::Input => Expr::Input,
-            Expr::Param(k) => Expr::Param(*k),
-            Expr::Literal(literal) => Expr::Literal(*literal),
-            Expr::Pair(a, b) => Expr::Pair(a.try_copy()?, b.try_copy()?),
-            Expr::Fst(e) => Expr::Fst(e.try_copy()?),
-            Expr::Snd(e) => Expr::Snd(e.try_copy()?),
-            Expr::Then(f, g) => Expr::Then(f.try_copy()?, g.try_copy()?),
-            Expr::Neg(a) => Expr::Neg(a.try_copy()?),
-            Expr::Add(a, b) => Expr::Add(a.try_copy()?, b.try_copy()?),
-            Expr::Sub(a, b) => Expr::Sub(a.try_copy()?, b.try_copy()?),
-            Expr::Mul(a, b) => Expr::Mul(a.try_copy()?, b.try_copy()?),
-            Expr::Less(a, b) => Expr::Less(a.try_copy()?, b.try_copy()?),
-            Expr::Equal(a, b) => Expr::Equal(a.try_copy()?, b.try_copy()?),
-            Expr::Not(a) => Expr::Not(a.try_copy()?),
-            Expr::And(a, b) => Expr::And(a.try_copy()?, b.try_copy()?),
-            Expr::Or(a, b) => Expr::Or(a.try_copy()?, b.try_copy()?),
-            Expr::If(c, a, b) => Expr::If(c.try_copy()?, a.try_copy()?, b.try_copy()?),
-            Expr::NoEvent(carried) => Expr::NoEvent(carried.try_copy(alloc)?),
-            Expr::Event(e) => Expr::Event(e.try_copy()?),
-            Expr::On(e, d, b) => Expr::On(e.try_copy()?, d.try_copy()?, b.try_copy()?),
-            Expr::List(element, all) => Expr::List(element.try_copy(alloc)?, all.try_copy()?),
-            Expr::Nth(e, i, d) => Expr::Nth(e.try_copy()?, i.try_copy()?, d.try_copy()?),
-            Expr::Len(e) => Expr::Len(e.try_copy()?),
-        })
+        match self {
+            Expr::Input => Ok(Expr::Input),
+            Expr::Param(k) => Ok(Expr::Param(*k)),
+            Expr::Literal(literal) => Ok(Expr::Literal(*literal)),
+            Expr::Pair(a, b) => {
+                let (a, b) = copy_two(a, b)?;
+                Ok(Expr::Pair(a, b))
+            }
+            Expr::Fst(e) => {
+                let e = e.try_copy()?;
+                Ok(Expr::Fst(e))
+            }
+            Expr::Snd(e) => {
+                let e = e.try_copy()?;
+                Ok(Expr::Snd(e))
+            }
+            Expr::Then(a, b) => {
+                let (a, b) = copy_two(a, b)?;
+                Ok(Expr::Then(a, b))
+            }
+            Expr::Neg(e) => {
+                let e = e.try_copy()?;
+                Ok(Expr::Neg(e))
+            }
+            Expr::Add(a, b) => {
+                let (a, b) = copy_two(a, b)?;
+                Ok(Expr::Add(a, b))
+            }
+            Expr::Sub(a, b) => {
+                let (a, b) = copy_two(a, b)?;
+                Ok(Expr::Sub(a, b))
+            }
+            Expr::Mul(a, b) => {
+                let (a, b) = copy_two(a, b)?;
+                Ok(Expr::Mul(a, b))
+            }
+            Expr::Less(a, b) => {
+                let (a, b) = copy_two(a, b)?;
+                Ok(Expr::Less(a, b))
+            }
+            Expr::Equal(a, b) => {
+                let (a, b) = copy_two(a, b)?;
+                Ok(Expr::Equal(a, b))
+            }
+            Expr::Not(e) => {
+                let e = e.try_copy()?;
+                Ok(Expr::Not(e))
+            }
+            Expr::And(a, b) => {
+                let (a, b) = copy_two(a, b)?;
+                Ok(Expr::And(a, b))
+            }
+            Expr::Or(a, b) => {
+                let (a, b) = copy_two(a, b)?;
+                Ok(Expr::Or(a, b))
+            }
+            Expr::If(a, b, c) => {
+                let (a, b, c) = copy_three(a, b, c)?;
+                Ok(Expr::If(a, b, c))
+            }
+            Expr::NoEvent(carried) => {
+                let carried = carried.try_copy(alloc)?;
+                Ok(Expr::NoEvent(carried))
+            }
+            Expr::Event(e) => {
+                let e = e.try_copy()?;
+                Ok(Expr::Event(e))
+            }
+            Expr::On(a, b, c) => {
+                let (a, b, c) = copy_three(a, b, c)?;
+                Ok(Expr::On(a, b, c))
+            }
+            Expr::List(element, all) => {
+                let (element, all) = copy_list(alloc, element, all)?;
+                Ok(Expr::List(element, all))
+            }
+            Expr::Nth(a, b, c) => {
+                let (a, b, c) = copy_three(a, b, c)?;
+                Ok(Expr::Nth(a, b, c))
+            }
+            Expr::Len(e) => {
+                let e = e.try_copy()?;
+                Ok(Expr::Len(e))
+            }
+        }
     }
+}
+
+/// Copies of two parts.
+fn copy_two(a: &Part, b: &Part) -> Result<(Part, Part), Memory>
+    ensures { IfOk result (λ p. (p.0 ≡ a.now) × (p.1 ≡ b.now)) }
+{
+    let a = a.try_copy()?;
+    let b = b.try_copy()?;
+    Ok((a, b))
+}
+
+/// Copies of three parts.
+fn copy_three(a: &Part, b: &Part, c: &Part) -> Result<(Part, Part, Part), Memory>
+    ensures { IfOk result (λ p. (p.0 ≡ a.now) × (p.1 ≡ b.now) × (p.2 ≡ c.now)) }
+{
+    let (a, b) = copy_two(a, b)?;
+    let c = c.try_copy()?;
+    Ok((a, b, c))
+}
+
+/// Copies of the type and the elements of a list expression.
+fn copy_list(alloc: Global, element: &Ty, all: &Parts) -> Result<(Ty, Parts), Memory>
+    ensures { IfOk result (λ p. (p.0 ≡ element.now) × (p.1 ≡ all.now)) }
+{
+    let element = element.try_copy(alloc)?;
+    let all = all.try_copy()?;
+    Ok((element, all))
 }
 
 impl Part {

@@ -15,7 +15,7 @@ ghost use Rattle.leaf_expr.specs.Token.{Placed, closing, tokens_from};
 use crate::expr::{Expr, Part, Parts};
 use crate::form::{Binary, Form, Ternary, Typed, Unary, form_named};
 use crate::text_fault::ExprTextFault;
-use crate::token::{Lexeme, lexeme_at};
+use crate::token::{Lexeme, lexeme_at, token_at};
 use crate::type_reader::{MAX_OPEN, form_end, form_head, read_type};
 use crate::word::{WordFault, expr_word, index_word};
 use sample_core::Ty;
@@ -289,11 +289,9 @@ fn whole_expr(alloc: Global, text: &[u8]) -> Result<Expr, ExprTextFault>
         return Err(ExprTextFault::TooLong);
     }
     let (expr, end) = read_expression(alloc, text, 0, MAX_OPEN)?;
-    match lexeme_at(text, end) {
-        Lexeme::End => Ok(expr),
-        Lexeme::Open(start) => Err(ExprTextFault::Syntax { at: start }),
-        Lexeme::Close(start) => Err(ExprTextFault::Syntax { at: start }),
-        Lexeme::Word(start, _) => Err(ExprTextFault::Syntax { at: start }),
+    match token_at(text, end) {
+        None => Ok(expr),
+        Some((start, _)) => Err(ExprTextFault::Syntax { at: start }),
     }
 }
 

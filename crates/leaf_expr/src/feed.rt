@@ -1,12 +1,13 @@
 // What a hasher is fed at a type and at an expression.
 
-ghost use Rattle.std.specs.Prelude.{◌≡◌, fold};
+ghost use Rattle.std.specs.Prelude.{◌≡◌, ◌++◌, fold};
+ghost use Rattle.std.specs.Hash.{u8};
 ghost use Rattle.sample_core.specs.SeenType.{type_of};
 ghost use Rattle.leaf_expr.specs.Seen.{expression_of, literal_of};
 ghost use Rattle.leaf_expr.specs.Expression.{expressions_of};
 ghost use Rattle.leaf_expr.specs.Fed.{tag_of, type_fed, expression_fed, expressions_fed};
 
-use crate::expr::{Expr, Parts};
+use crate::expr::{Expr, Part, Parts};
 use crate::literal::Literal;
 use sample_core::Ty;
 use std::hash::Hasher;
@@ -69,13 +70,6 @@ fn tag(expr: &Expr) -> u8
     }
 }
 
-/// Feeds the parts to the hasher, one after another.
-macro_rules! feed_parts {
-    ($state:expr; $($part:expr),+) => {{
-        $(feed_expr($part.get(), $state);)+
-    }};
-}
-
 /// Feeds the expression's forms to the hasher, a byte each, a form before its parts. A parameter's
 /// number and a literal's number follow their form, and a byte ends each list.
 #[cycle(feed)]
@@ -87,31 +81,55 @@ pub fn feed_expr<H: Hasher>(expr: &Expr, state: &mut H)
         Expr::Input | Expr::Literal(Literal::Unit | Literal::Bool(_)) => {}
         Expr::Param(k) => state.write_u32(*k),
         Expr::Literal(Literal::Int(n)) => state.write_i64(*n),
-        Expr::Pair(a, b) => feed_parts!(state; a, b),
-        Expr::Fst(e) => feed_parts!(state; e),
-        Expr::Snd(e) => feed_parts!(state; e),
-        Expr::Then(f, g) => feed_parts!(state; f, g),
-        Expr::Neg(a) => feed_parts!(state; a),
-        Expr::Add(a, b) => feed_parts!(state; a, b),
-        Expr::Sub(a, b) => feed_parts!(state; a, b),
-        Expr::Mul(a, b) => feed_parts!(state; a, b),
-        Expr::Less(a, b) => feed_parts!(state; a, b),
-        Expr::Equal(a, b) => feed_parts!(state; a, b),
-        Expr::Not(a) => feed_parts!(state; a),
-        Expr::And(a, b) => feed_parts!(state; a, b),
-        Expr::Or(a, b) => feed_parts!(state; a, b),
-        Expr::If(c, a, b) => feed_parts!(state; c, a, b),
+        Expr::Pair(a, b) => feed_two(a, b, state),
+        Expr::Fst(e) => feed_expr(e.get(), state),
+        Expr::Snd(e) => feed_expr(e.get(), state),
+        Expr::Then(f, g) => feed_two(f, g, state),
+        Expr::Neg(a) => feed_expr(a.get(), state),
+        Expr::Add(a, b) => feed_two(a, b, state),
+        Expr::Sub(a, b) => feed_two(a, b, state),
+        Expr::Mul(a, b) => feed_two(a, b, state),
+        Expr::Less(a, b) => feed_two(a, b, state),
+        Expr::Equal(a, b) => feed_two(a, b, state),
+        Expr::Not(a) => feed_expr(a.get(), state),
+        Expr::And(a, b) => feed_two(a, b, state),
+        Expr::Or(a, b) => feed_two(a, b, state),
+        Expr::If(c, a, b) => feed_three(c, a, b, state),
         Expr::NoEvent(t) => feed_type(t, state),
-        Expr::Event(e) => feed_parts!(state; e),
-        Expr::On(e, d, b) => feed_parts!(state; e, d, b),
-        Expr::List(t, all) => {
-            feed_type(t, state);
-            feed_all(all, state);
-            state.write_u8(26);
-        }
-        Expr::Nth(e, i, d) => feed_parts!(state; e, i, d),
-        Expr::Len(e) => feed_parts!(state; e),
+        Expr::Event(e) => feed_expr(e.get(), state),
+        Expr::On(e, d, b) => feed_three(e, d, b, state),
+        Expr::List(t, all) => feed_list(t, all, state),
+        Expr::Nth(e, i, d) => feed_three(e, i, d, state),
+        Expr::Len(e) => feed_expr(e.get(), state),
     }
+}
+
+/// Feeds two parts to the hasher, one after the other.
+#[cycle(feed)]
+fn feed_two<H: Hasher>(a: &Part, b: &Part, state: &mut H)
+    ensures { state.new ≡ fold H.write state.old (expression_fed a.now ++ expression_fed b.now) }
+{
+    feed_expr(a.get(), state);
+    feed_expr(b.get(), state);
+}
+
+/// Feeds three parts to the hasher, one after another.
+#[cycle(feed)]
+fn feed_three<H: Hasher>(a: &Part, b: &Part, c: &Part, state: &mut H)
+    ensures { state.new ≡ fold H.write state.old (expression_fed a.now ++ (expression_fed b.now ++ expression_fed c.now)) }
+{
+    feed_expr(a.get(), state);
+    feed_two(b, c, state);
+}
+
+/// Feeds the type and the elements of a list expression to the hasher, and the byte behind them.
+#[cycle(feed)]
+fn feed_list<H: Hasher>(t: &Ty, all: &Parts, state: &mut H)
+    ensures { state.new ≡ fold H.write state.old (type_fed (type_of t.now) ++ (expressions_fed (expressions_of all.now) ++ u8 26)) }
+{
+    feed_type(t, state);
+    feed_all(all, state);
+    state.write_u8(26);
 }
 
 /// Feeds the elements of a list expression to the hasher, one after another.

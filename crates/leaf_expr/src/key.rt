@@ -41,14 +41,13 @@ impl LeafKey {
     pub fn try_copy(&self, alloc: Global) -> Result<LeafKey, Memory>
         ensures { IfOk result (λ k. k ≡ self.now) }
     {
-        let mut params = Vec::with_capacity(alloc, self.params.len())?;
-        for ty in &self.params {
-            params.push(ty.try_copy(alloc)?)?;
-        }
+        let params = copy_types(alloc, &self.params)?;
+        let input = self.input.try_copy(alloc)?;
+        let expr = self.expr.try_copy(alloc)?;
         Ok(LeafKey {
-            expr: self.expr.try_copy(alloc)?,
+            expr,
             params,
-            input: self.input.try_copy(alloc)?,
+            input,
         })
     }
 
@@ -69,6 +68,18 @@ impl LeafKey {
         }
         true
     }
+}
+
+/// Copies of the types, in order.
+fn copy_types(alloc: Global, types: &[Ty]) -> Result<Vec<Ty>, Memory>
+    ensures { IfOk result (λ copies. copies.items ≡ types.now) }
+{
+    let mut copies = Vec::with_capacity(alloc, types.len())?;
+    for ty in types {
+        let copy = ty.try_copy(alloc)?;
+        copies.push(copy)?;
+    }
+    Ok(copies)
 }
 
 impl PartialEq for LeafKey {

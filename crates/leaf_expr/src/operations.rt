@@ -1,14 +1,14 @@
 // What the forms of expressions do with the values of their parts.
 
-ghost use Rattle.std.specs.Prelude.{◌≡◌, IfOk, pos, neg_ℤ, ◌+ℤ◌, ◌-ℤ◌, ◌*ℤ◌, map, []};
+ghost use Rattle.std.specs.Prelude.{◌≡◌, IfOk, MatchOption, pos, neg_ℤ, ◌+ℤ◌, ◌-ℤ◌, ◌*ℤ◌, map, []};
 ghost use Rattle.std.specs.Int.{int_wrap, w64};
-ghost use Rattle.sample_core.specs.Datum.{whole, left, right, unit};
+ghost use Rattle.sample_core.specs.Datum.{Datum, event, whole, left, right, unit};
 ghost use Rattle.sample_core.specs.Seen.{datum_of};
 ghost use Rattle.leaf_expr.specs.Seen.{literal_of};
-ghost use Rattle.leaf_expr.specs.ExpressionValue.{value_of, wrapped, is_true, element_at, count_of, param_at, same_datum};
+ghost use Rattle.leaf_expr.specs.ExpressionValue.{value_of, wrapped, is_true, on_event, element_at, count_of, param_at, same_datum};
 
 use crate::literal::Literal;
-use sample_core::{Memory, Sample, same};
+use sample_core::{Child, Memory, Sample, same};
 use std::alloc::Global;
 
 /// The value that a literal writes out.
@@ -84,6 +84,16 @@ pub fn second(alloc: Global, value: Sample) -> Result<Sample, Memory>
     match value {
         Sample::Pair(_, b) => b.get().try_copy(alloc),
         other => Ok(other),
+    }
+}
+
+/// What an event carries; `None` of another value.
+pub fn carried(value: Sample) -> Option<Child>
+    ensures { MatchOption result ((d : Datum) (b : Datum → Datum) → on_event (datum_of value) d b ≡ d) (λ c. datum_of value ≡ event c) }
+{
+    match value {
+        Sample::Event(carried) => Some(carried),
+        _ => None,
     }
 }
 

@@ -8,7 +8,7 @@ ghost use Rattle.yampa_run.specs.Printed.{IsAnswered};
 use crate::scant_runs::pushes_are_refused_in_turn;
 use crate::shelf::refuses;
 use leaf_table::{LeafTable, TableFault};
-use net_syntax::{TypedNet, leaves};
+use net_syntax::{LeafNeed, TypedNet, leaves};
 use net_text::read_net;
 use net_types::check_types;
 use std::alloc::Global;
@@ -38,9 +38,15 @@ pub fn goes_so(alloc: Global, run: &Run) -> bool {
 }
 
 /// The network of a file's text with its types; `None` where the text or its types are refused.
-pub fn network(alloc: Global, text: &str) -> Option<TypedNet> {
+pub fn network(alloc: Global, text: &str) -> Option<Box<TypedNet>> {
     match read_net(alloc, text.as_bytes()) {
-        Ok((input, net)) => check_types(alloc, input, net).ok(),
+        Ok((input, net)) => match check_types(alloc, input, net) {
+            Ok(net) => Box::new(alloc, net).ok(),
+            Err(fault) => {
+                drop(fault);
+                None
+            }
+        },
         Err(_fault) => None,
     }
 }
@@ -60,32 +66,58 @@ pub enum Trial<'a> {
 
 /// Whether the trial of the network ends well.
 pub fn ends_well(alloc: Global, net: &TypedNet, trial: Trial<'_>) -> bool {
-    let Ok(needs) = leaves(alloc, net) else {
-        return false;
-    };
+    match leaves(alloc, net) {
+        Ok(needs) => filled_ends_well(alloc, net, &needs, trial),
+        Err(_memory) => false,
+    }
+}
+
+/// Stores a closure for each of the network's needs. Whether the trial then ends well.
+fn filled_ends_well(alloc: Global, net: &TypedNet, needs: &[LeafNeed], trial: Trial<'_>) -> bool {
     let mut table = LeafTable::new(alloc);
-    match fill_table!(alloc, table, &needs) {
+    let filled = fill_table!(alloc, table, needs);
+    let well = match filled {
         Ok(()) => binds_well(alloc, net, &table, trial),
         Err(fault) => is_full(alloc, fault, trial),
-    }
+    };
+    drop(table);
+    well
 }
 
 fn is_full(alloc: Global, fault: TableFault, trial: Trial<'_>) -> bool {
     match trial {
-        Trial::FullTable => refuses(&table_refusal(alloc, fault), 1, "table full"),
+        Trial::FullTable => {
+            let refusal = table_refusal(alloc, fault);
+            let right = refuses(&refusal, 1, "table full");
+            drop(refusal);
+            right
+        }
         _ => false,
     }
 }
 
 fn binds_well(alloc: Global, net: &TypedNet, table: &LeafTable, trial: Trial<'_>) -> bool {
     match bind(alloc, net, table) {
-        Ok(bound) => match trial {
-            Trial::Run(run) => writes_so(alloc, &bound, table, run),
-            Trial::ScantMemory => pushes_are_refused_in_turn(alloc, &bound, table),
-            Trial::FullTable => false,
-            Trial::Rows => true,
-        },
-        Err(_fault) => false,
+        Ok(bound) => {
+            let well = goes_well(alloc, &bound, table, trial);
+            drop(bound);
+            well
+        }
+        Err(fault) => {
+            drop(fault);
+            false
+        }
+    }
+}
+
+fn goes_well(alloc: Global, bound: &Bound, table: &LeafTable, trial: Trial<'_>) -> bool
+    requires { FitsTable (rows_of table.now) bound.now }
+{
+    match trial {
+        Trial::Run(run) => writes_so(alloc, bound, table, run),
+        Trial::ScantMemory => pushes_are_refused_in_turn(alloc, bound, table),
+        Trial::FullTable => false,
+        Trial::Rows => true,
     }
 }
 
@@ -102,9 +134,15 @@ fn ends_so(alloc: Global, ended: Result<RunReport, RunFault>, run: &Run) -> bool
 {
     match ended {
         Ok(_report) => run.status == 0,
-        Err(fault) => match fault_line(alloc, &fault) {
-            Ok((status, line)) => status == run.status && line.as_str() == run.line,
-            Err(_memory) => false,
-        },
+        Err(fault) => tells_so(alloc, &fault, run),
+    }
+}
+
+fn tells_so(alloc: Global, fault: &RunFault, run: &Run) -> bool
+    requires { IsAnswered fault.now }
+{
+    match fault_line(alloc, fault) {
+        Ok((status, line)) => status == run.status && line.as_str() == run.line,
+        Err(_memory) => false,
     }
 }

@@ -4,17 +4,17 @@ use leaf_expr::{Expr, Part, Parts, push_expr};
 use sample_core::Ty;
 use std::alloc::Global;
 
-fn negation(alloc: Global) -> Option<Expr> {
+fn negation(alloc: Global) -> Option<Box<Expr>> {
     let part = Part::new(alloc, Expr::Input).ok()?;
-    Some(Expr::Neg(part))
+    Box::new(alloc, Expr::Neg(part)).ok()
 }
 
-fn list(alloc: Global) -> Option<Expr> {
+fn list(alloc: Global) -> Option<Box<Expr>> {
     let mut all = Vec::new(alloc);
     all.push(Expr::Input).ok()?;
     all.push(Expr::Param(7)).ok()?;
     let parts = Parts::new(alloc, all).ok()?;
-    Some(Expr::List(Ty::Int, parts))
+    Box::new(alloc, Expr::List(Ty::Int, parts)).ok()
 }
 
 /// Whether the text, and the expression behind it, are this.
@@ -23,7 +23,7 @@ fn is_pushed(alloc: Global, text: &str, expr: &Expr, wanted: &str) -> bool {
     whole.push_str(text).is_ok() && push_expr(&mut whole, expr).is_ok() && whole.as_str() == wanted
 }
 
-fn is_so(alloc: Global, expr: Option<Expr>, wanted: &str) -> bool {
+fn is_so(alloc: Global, expr: Option<Box<Expr>>, wanted: &str) -> bool {
     match expr {
         Some(expr) => is_pushed(alloc, "arr ", &expr, wanted),
         None => false,

@@ -4,7 +4,7 @@ use crate::bench::{Run, Trial, ends_well, goes_so, network};
 use leaf_expr::LeafKey;
 use leaf_table::{LeafTable, run_affine, run_general};
 use net_syntax::{TypedNet, leaves};
-use sample_core::{Sample, same};
+use sample_core::Sample;
 use std::alloc::{AllocError, Global};
 use step_core::{BindFault, bind};
 
@@ -55,11 +55,14 @@ fn a_full_table_still_answers_for_a_key_that_is_there(rt: HostRuntime) {
 
 /// Whether the network, bound to the table, is refused at this position.
 fn misses_in(alloc: Global, net: &TypedNet, table: &LeafTable, path: &[u32]) -> bool {
-    match bind(alloc, net, table) {
-        Ok(_bound) => false,
+    let found = bind(alloc, net, table);
+    let misses = match &found {
+        Ok(_) => false,
         Err(BindFault::MissingLeaf { position }) => position.path() == path,
         Err(BindFault::Memory) => false,
-    }
+    };
+    drop(found);
+    misses
 }
 
 /// The same of an empty table.
@@ -186,15 +189,17 @@ fn each_shape_of_expression_has_a_closure(rt: HostRuntime) {
 /// Whether what the closures for `(add x 1)` call, that for its shape and that for any expression, answers 6 on 5.
 fn both_answer_six(alloc: Global, key: &LeafKey) -> bool {
     let x = Sample::Int(5);
-    match (
-        run_affine(alloc, 1, 1, &[], &x),
-        run_general(alloc, key, &[], &x),
-    ) {
-        (Ok(affine), Ok(general)) => {
-            same(&affine, &Sample::Int(6)) && same(&general, &Sample::Int(6))
-        }
-        _ => false,
-    }
+    let affine = run_affine(alloc, 1, 1, &[], &x);
+    let general = run_general(alloc, key, &[], &x);
+    drop(x);
+    let both = is_six(&affine) && is_six(&general);
+    drop(affine);
+    drop(general);
+    both
+}
+
+fn is_six(found: &Result<Sample, AllocError>) -> bool {
+    matches!(found, Ok(Sample::Int(6)))
 }
 
 fn needs_answer_six(alloc: Global, text: &str) -> bool {

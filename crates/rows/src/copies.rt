@@ -8,7 +8,11 @@ use std::alloc::Global;
 /// Whether the value's copy is the value.
 fn sample_is_copied(alloc: Global, sample: &Sample, text: &str) -> bool {
     match sample.try_copy(alloc) {
-        Ok(copy) => same(&copy, sample) && is_value(alloc, &copy, text),
+        Ok(copy) => {
+            let right = same(&copy, sample) && is_value(alloc, &copy, text);
+            drop(copy);
+            right
+        }
         Err(_memory) => false,
     }
 }
@@ -90,7 +94,11 @@ fn type_parts_are_copied(ty: &Ty) -> bool {
 fn type_is_copied(alloc: Global, ty: &Ty, text: &str) -> bool {
     match ty.try_copy(alloc) {
         Ok(copy) => {
-            same_type(&copy, ty) && is_type(alloc, &copy, text) && type_parts_are_copied(ty)
+            let right = same_type(&copy, ty)
+                && is_type(alloc, &copy, text)
+                && type_parts_are_copied(ty);
+            drop(copy);
+            right
         }
         Err(_memory) => false,
     }
@@ -140,7 +148,11 @@ fn items_are_copied(all: &Parts) -> bool {
 
 fn expr_is_copied(alloc: Global, expr: &Expr, text: &str) -> bool {
     match expr.try_copy(alloc) {
-        Ok(copy) => same_expr(&copy, expr) && is_expr(alloc, &copy, text),
+        Ok(copy) => {
+            let right = same_expr(&copy, expr) && is_expr(alloc, &copy, text);
+            drop(copy);
+            right
+        }
         Err(_memory) => false,
     }
 }

@@ -7,26 +7,28 @@ use std::alloc::Global;
 /// The type and the value of each parameter that the rows have.
 static PARAMS: [(&str, &str); 2] = [("Int", "10"), ("Bool", "true")];
 
+// What is read is boxed: a function that lets a tree go is then proved in seconds.
+
 /// The type that the text spells.
-pub fn type_in(alloc: Global, text: &str) -> Option<Ty> {
+pub fn type_in(alloc: Global, text: &str) -> Option<Box<Ty>> {
     match read_type_at(alloc, text.as_bytes(), 0, 0) {
-        Ok((ty, _end)) => Some(ty),
+        Ok((ty, _end)) => Box::new(alloc, ty).ok(),
         Err(_fault) => None,
     }
 }
 
 /// The value of the type that the text spells.
-pub fn value_in(alloc: Global, ty: &Ty, text: &str) -> Option<Sample> {
+pub fn value_in(alloc: Global, ty: &Ty, text: &str) -> Option<Box<Sample>> {
     match read_value(alloc, text.as_bytes(), ty) {
-        Ok((sample, _end)) => Some(sample),
+        Ok((sample, _end)) => Box::new(alloc, sample).ok(),
         Err(_fault) => None,
     }
 }
 
 /// The expression that the text spells.
-pub fn expr_in(alloc: Global, text: &str) -> Option<Expr> {
+pub fn expr_in(alloc: Global, text: &str) -> Option<Box<Expr>> {
     match read_expr(alloc, text.as_bytes()) {
-        Ok(expr) => Some(expr),
+        Ok(expr) => Box::new(alloc, expr).ok(),
         Err(_fault) => None,
     }
 }
@@ -57,13 +59,13 @@ pub fn is_expr(alloc: Global, expr: &Expr, text: &str) -> bool {
 fn param_types(alloc: Global) -> Option<Vec<Ty>> {
     let mut types = Vec::new(alloc);
     for (ty, _value) in &PARAMS {
-        types.push(type_in(alloc, ty)?).ok()?;
+        types.push(Box::into_inner(type_in(alloc, ty)?)).ok()?;
     }
     Some(types)
 }
 
 /// The value of the type, both given as texts.
-fn typed_value(alloc: Global, ty: &str, text: &str) -> Option<Sample> {
+fn typed_value(alloc: Global, ty: &str, text: &str) -> Option<Box<Sample>> {
     let ty = type_in(alloc, ty)?;
     value_in(alloc, &ty, text)
 }
@@ -72,7 +74,9 @@ fn typed_value(alloc: Global, ty: &str, text: &str) -> Option<Sample> {
 fn param_values(alloc: Global) -> Option<Vec<Sample>> {
     let mut values = Vec::new(alloc);
     for (ty, value) in &PARAMS {
-        values.push(typed_value(alloc, ty, value)?).ok()?;
+        values
+            .push(Box::into_inner(typed_value(alloc, ty, value)?))
+            .ok()?;
     }
     Some(values)
 }
@@ -88,7 +92,11 @@ pub fn typing(alloc: Global, input: &Ty, expr: &Expr) -> Result<Ty, ExprFault> {
 /// Whether the expression has that type, spelt so, at an input of that type.
 pub fn has_type_so(alloc: Global, input: &Ty, expr: &Expr, text: &str) -> bool {
     match typing(alloc, input, expr) {
-        Ok(ty) => is_type(alloc, &ty, text),
+        Ok(ty) => {
+            let right = is_type(alloc, &ty, text);
+            drop(ty);
+            right
+        }
         Err(_fault) => false,
     }
 }
@@ -97,7 +105,11 @@ pub fn has_type_so(alloc: Global, input: &Ty, expr: &Expr, text: &str) -> bool {
 pub fn has_value_so(alloc: Global, expr: &Expr, input: &Sample, text: &str) -> bool {
     match param_values(alloc) {
         Some(values) => match eval(alloc, expr, &values, input) {
-            Ok(value) => is_value(alloc, &value, text),
+            Ok(value) => {
+                let right = is_value(alloc, &value, text);
+                drop(value);
+                right
+            }
             Err(_memory) => false,
         },
         None => false,

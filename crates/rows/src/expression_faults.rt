@@ -92,7 +92,10 @@ static TYPES_BY_SIZE: [(&str, Option<ExprFault>); 3] = [
 /// type.
 fn answers(alloc: Global, input: &Ty, expr: &Expr, fault: &Option<ExprFault>) -> bool {
     match typing(alloc, input, expr) {
-        Ok(_ty) => fault.is_none(),
+        Ok(ty) => {
+            drop(ty);
+            fault.is_none()
+        }
         Err(found) => match fault {
             Some(fault) => found == *fault,
             None => false,
@@ -110,7 +113,10 @@ fn answers_text(alloc: Global, input: &Ty, text: &str, fault: &Option<ExprFault>
 
 /// The same at an input that is a number.
 fn answers_at_number(alloc: Global, text: &str, fault: &Option<ExprFault>) -> bool {
-    answers_text(alloc, &Ty::Int, text, fault)
+    let input = Ty::Int;
+    let right = answers_text(alloc, &input, text, fault);
+    drop(input);
+    right
 }
 
 /// The same at an input that is an event of an event and so on, of depth 32.
@@ -122,7 +128,7 @@ fn answers_at_depth(alloc: Global, text: &str, fault: &Option<ExprFault>) -> boo
 }
 
 /// The event of an event and so on of a number, of depth 32.
-fn deep_type(alloc: Global) -> Option<Ty> {
+fn deep_type(alloc: Global) -> Option<Box<Ty>> {
     match nested(alloc, "(Event ", 31, "Int") {
         Ok(text) => type_in(alloc, text.as_str()),
         Err(_memory) => None,
@@ -234,11 +240,25 @@ fn heights(rt: HostRuntime) {
     }
 }
 
+/// Whether the expression has no type where no parameter is in scope.
+fn has_no_parameter(alloc: Global, input: &Ty, expr: &Expr) -> bool {
+    match type_of_expr(alloc, &[], input, expr) {
+        Ok(ty) => {
+            drop(ty);
+            false
+        }
+        Err(fault) => fault == ExprFault::NoParam,
+    }
+}
+
+fn parameter_is_missing(alloc: Global, text: &str) -> bool {
+    match (type_in(alloc, "Int"), expr_in(alloc, text)) {
+        (Some(input), Some(expr)) => has_no_parameter(alloc, &input, &expr),
+        _ => false,
+    }
+}
+
 #[test]
 fn no_parameter_is_in_scope(rt: HostRuntime) {
-    let found = match type_of_expr(rt.alloc(), &[], &Ty::Int, &Expr::Param(0)) {
-        Ok(_ty) => false,
-        Err(fault) => fault == ExprFault::NoParam,
-    };
-    assert!(rt; found);
+    assert!(rt; parameter_is_missing(rt.alloc(), "(p 0)"));
 }

@@ -113,8 +113,15 @@ fn prints(alloc: Global, text: &str, printed: &str) -> bool {
 
 /// Whether the text is refused so.
 fn refuses(alloc: Global, text: &str, fault: &ExprTextFault) -> bool {
-    match read_expr(alloc, text.as_bytes()) {
-        Ok(_expr) => false,
+    refuses_bytes(alloc, text.as_bytes(), fault)
+}
+
+fn refuses_bytes(alloc: Global, bytes: &[u8], fault: &ExprTextFault) -> bool {
+    match read_expr(alloc, bytes) {
+        Ok(expr) => {
+            drop(expr);
+            false
+        }
         Err(found) => found == *fault,
     }
 }
@@ -142,11 +149,8 @@ fn texts_are_refused(rt: HostRuntime) {
 
 #[test]
 fn bytes_that_are_no_text_are_a_word(rt: HostRuntime) {
-    let found = match read_expr(rt.alloc(), b"(add x \x00\x0b\x0c\xff 1)") {
-        Ok(_expr) => false,
-        Err(fault) => fault == ExprTextFault::Syntax { at: 7 },
-    };
-    assert!(rt; found);
+    let fault = ExprTextFault::Syntax { at: 7 };
+    assert!(rt; refuses_bytes(rt.alloc(), b"(add x \x00\x0b\x0c\xff 1)", &fault));
 }
 
 /// Whether so many forms that stand in one another, with that inside, are refused so.
@@ -205,7 +209,11 @@ fn texts_by_their_length(rt: HostRuntime) {
 /// there.
 fn reads_expr_at(alloc: Global, text: &str, at: usize, depth: usize, read: (&str, usize)) -> bool {
     match read_expr_at(alloc, text.as_bytes(), at, depth) {
-        Ok((expr, end)) => is_expr(alloc, &expr, read.0) && end == read.1,
+        Ok((expr, end)) => {
+            let right = is_expr(alloc, &expr, read.0) && end == read.1;
+            drop(expr);
+            right
+        }
         Err(_fault) => false,
     }
 }
@@ -213,7 +221,11 @@ fn reads_expr_at(alloc: Global, text: &str, at: usize, depth: usize, read: (&str
 /// The same of a type.
 fn reads_type_at(alloc: Global, text: &str, at: usize, depth: usize, read: (&str, usize)) -> bool {
     match read_type_at(alloc, text.as_bytes(), at, depth) {
-        Ok((ty, end)) => is_type(alloc, &ty, read.0) && end == read.1,
+        Ok((ty, end)) => {
+            let right = is_type(alloc, &ty, read.0) && end == read.1;
+            drop(ty);
+            right
+        }
         Err(_fault) => false,
     }
 }
@@ -268,7 +280,10 @@ fn refuses_expr_at(
     fault: &ExprTextFault,
 ) -> bool {
     match read_expr_at(alloc, text.as_bytes(), at, depth) {
-        Ok(_read) => false,
+        Ok((read, _end)) => {
+            drop(read);
+            false
+        }
         Err(found) => found == *fault,
     }
 }
@@ -282,7 +297,10 @@ fn refuses_type_at(
     fault: &ExprTextFault,
 ) -> bool {
     match read_type_at(alloc, text.as_bytes(), at, depth) {
-        Ok(_read) => false,
+        Ok((read, _end)) => {
+            drop(read);
+            false
+        }
         Err(found) => found == *fault,
     }
 }

@@ -1,27 +1,33 @@
 // Copies of the keys of stored closures.
 
-use crate::expression_bench::{expr_in, type_in};
+use crate::expression_bench::expr_in;
 use leaf_expr::LeafKey;
+use sample_core::Ty;
 use std::alloc::Global;
 
 /// The key of the expression `(add x 1)` at an input that is a number, under that many parameters
 /// that are numbers.
-fn key_under(alloc: Global, params: u32) -> Option<LeafKey> {
+fn key_under(alloc: Global, params: u32) -> Option<Box<LeafKey>> {
     let mut types = Vec::new(alloc);
     for _ in 0..params {
-        types.push(type_in(alloc, "Int")?).ok()?;
+        types.push(Ty::Int).ok()?;
     }
-    Some(LeafKey {
-        expr: expr_in(alloc, "(add x 1)")?,
+    let key = LeafKey {
+        expr: Box::into_inner(expr_in(alloc, "(add x 1)")?),
         params: types,
-        input: type_in(alloc, "Int")?,
-    })
+        input: Ty::Int,
+    };
+    Box::new(alloc, key).ok()
 }
 
 /// Whether the copy of a key is equal to it.
 fn copy_is_equal(alloc: Global, key: &LeafKey) -> bool {
     match key.try_copy(alloc) {
-        Ok(copy) => copy == *key,
+        Ok(copy) => {
+            let equal = copy == *key;
+            drop(copy);
+            equal
+        }
         Err(_memory) => false,
     }
 }

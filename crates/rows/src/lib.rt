@@ -38,6 +38,8 @@ mod shelf;
 #[cfg(test)]
 mod sizes;
 #[cfg(test)]
+mod spellings;
+#[cfg(test)]
 mod tokens;
 #[cfg(test)]
 mod values;

@@ -9,9 +9,9 @@ use std::alloc::Global;
 /// What the calls are given, with the spelling of the value and of the expression.
 #[derive(Drop)]
 struct Trees {
-    ty: Ty,
-    sample: Sample,
-    expr: Expr,
+    ty: Box<Ty>,
+    sample: Box<Sample>,
+    expr: Box<Expr>,
     value_text: String,
     expr_text: String,
 }
@@ -45,14 +45,22 @@ enum Call {
 
 fn value_answered(alloc: Global, found: Result<Sample, Memory>, text: &str) -> Answer {
     match found {
-        Ok(sample) => judged(is_value(alloc, &sample, text)),
+        Ok(sample) => {
+            let answer = judged(is_value(alloc, &sample, text));
+            drop(sample);
+            answer
+        }
         Err(Memory) => Answer::Refused,
     }
 }
 
 fn expression_answered(alloc: Global, found: Result<Expr, Memory>, text: &str) -> Answer {
     match found {
-        Ok(expr) => judged(is_expr(alloc, &expr, text)),
+        Ok(expr) => {
+            let answer = judged(is_expr(alloc, &expr, text));
+            drop(expr);
+            answer
+        }
         Err(Memory) => Answer::Refused,
     }
 }
@@ -63,7 +71,11 @@ fn reading_answered(
     text: &str,
 ) -> Answer {
     match found {
-        Ok((sample, length)) => judged(length == text.len() && is_value(alloc, &sample, text)),
+        Ok((sample, length)) => {
+            let answer = judged(length == text.len() && is_value(alloc, &sample, text));
+            drop(sample);
+            answer
+        }
         Err(fault) => {
             if fault == ValueFault::Memory {
                 Answer::Refused
@@ -76,7 +88,11 @@ fn reading_answered(
 
 fn text_answered(alloc: Global, found: Result<Expr, ExprTextFault>, text: &str) -> Answer {
     match found {
-        Ok(expr) => judged(is_expr(alloc, &expr, text)),
+        Ok(expr) => {
+            let answer = judged(is_expr(alloc, &expr, text));
+            drop(expr);
+            answer
+        }
         Err(fault) => {
             if fault == ExprTextFault::Memory {
                 Answer::Refused
@@ -106,8 +122,10 @@ fn answers(alloc: Global, call: Call, trees: &Trees, ballast: Ballast) -> Answer
             expression_answered(alloc, found, trees.expr_text.as_str())
         }
         Call::Eval => {
-            let found = eval(alloc, &trees.expr, &[], &Sample::Unit);
+            let input = Sample::Unit;
+            let found = eval(alloc, &trees.expr, &[], &input);
             drop(ballast);
+            drop(input);
             value_answered(alloc, found, trees.value_text.as_str())
         }
         Call::ReadExpression => {

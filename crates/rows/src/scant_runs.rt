@@ -27,28 +27,57 @@ fn push_answers(
     requires { FitsTable (rows_of table.now) bound.now }
 {
     let sample = Sample::Int(5);
-    if !has_type(&sample, bound.input()) {
+    let answer = push_twice(alloc, bound, table, events, spare, &sample);
+    drop(sample);
+    answer
+}
+
+fn push_twice(
+    alloc: Global,
+    bound: &Bound,
+    table: &LeafTable,
+    events: &str,
+    spare: usize,
+    sample: &Sample,
+) -> Answer
+    requires { FitsTable (rows_of table.now) bound.now }
+{
+    if !has_type(sample, bound.input()) {
         return Answer::Other;
     }
     let Ok(ballast) = take_all(alloc, spare) else {
         return Answer::Other;
     };
     let mut runner = Runner::new(alloc, bound, table);
-    let found = runner.push(0, &sample);
+    let found = runner.push(0, sample);
     drop(ballast);
     match found {
-        Ok(answer) => judged(is_value(alloc, &answer, "(list)")),
-        Err(Memory) => match (runner.push(0, &sample), runner.push(1, &sample)) {
-            (Ok(first), Ok(second)) => {
-                if is_value(alloc, &first, "(list)") && is_value(alloc, &second, events) {
-                    Answer::Refused
-                } else {
-                    Answer::Other
+        Ok(answer) => judged(is_answer(alloc, answer, "(list)")),
+        Err(Memory) => match runner.push(0, sample) {
+            Ok(first) => {
+                if !is_answer(alloc, first, "(list)") {
+                    return Answer::Other;
+                }
+                match runner.push(1, sample) {
+                    Ok(second) => {
+                        if is_answer(alloc, second, events) {
+                            Answer::Refused
+                        } else {
+                            Answer::Other
+                        }
+                    }
+                    Err(Memory) => Answer::Other,
                 }
             }
-            _ => Answer::Other,
+            Err(Memory) => Answer::Other,
         },
     }
+}
+
+fn is_answer(alloc: Global, answer: Sample, text: &str) -> bool {
+    let right = is_value(alloc, &answer, text);
+    drop(answer);
+    right
 }
 
 /// Whether pushes of the network of many events are refused memory at first, and answer in the end.

@@ -29,10 +29,13 @@ impl Files for OneFile<'_> {
 /// that text (status 0), or to a refusal with that status and line.
 pub fn leads_to(alloc: Global, words: &[&str], bytes: &[u8], status: u8, line: &str) -> bool {
     let files = OneFile { bytes };
-    match prepare(alloc, words, &files) {
-        Ok(job) => status == 0 && does(&job, line),
-        Err(refusal) => refuses(&refusal, status, line),
-    }
+    let found = prepare(alloc, words, &files);
+    let right = match &found {
+        Ok(job) => status == 0 && does(job, line),
+        Err(refusal) => refuses(refusal, status, line),
+    };
+    drop(found);
+    right
 }
 
 fn does(job: &Job, line: &str) -> bool {
@@ -54,15 +57,13 @@ pub fn refuses(refusal: &Refusal, wanted_status: u8, wanted: &str) -> bool {
 /// for a text that is printed. None for a run, and where memory is short.
 pub fn status_of(alloc: Global, words: &[&str], bytes: &[u8]) -> Option<u8> {
     let files = OneFile { bytes };
-    match prepare(alloc, words, &files) {
-        Ok(Job::Print(_text)) => Some(0),
-        Ok(Job::Run(_net)) => None,
-        Err(
-            Refusal::Line {
-                status,
-                line: _line,
-            },
-        ) => Some(status),
+    let found = prepare(alloc, words, &files);
+    let status = match &found {
+        Ok(Job::Print(_)) => Some(0),
+        Ok(Job::Run(_)) => None,
+        Err(Refusal::Line { status, .. }) => Some(*status),
         Err(Refusal::Memory) => None,
-    }
+    };
+    drop(found);
+    status
 }

@@ -11,7 +11,10 @@ use std::alloc::Global;
 /// Whether typing answers that the expression is too large, at an input that is a number.
 fn is_too_deep(alloc: Global, expr: &Expr) -> bool {
     match typing(alloc, &Ty::Int, expr) {
-        Ok(_ty) => false,
+        Ok(ty) => {
+            drop(ty);
+            false
+        }
         Err(fault) => fault == ExprFault::TooDeep,
     }
 }

@@ -86,7 +86,10 @@ static FAULTS: [(&str, ValueFault); 24] = [
 /// Whether the text is refused so where a value of the type is wanted.
 fn refuses(alloc: Global, ty: &Ty, text: &str, fault: &ValueFault) -> bool {
     match read_value(alloc, text.as_bytes(), ty) {
-        Ok(_read) => false,
+        Ok((sample, _length)) => {
+            drop(sample);
+            false
+        }
         Err(found) => found == *fault,
     }
 }
@@ -113,7 +116,11 @@ fn reads_before(alloc: Global, back: &str) -> bool {
 fn reads_value(alloc: Global, ty: &Ty, text: &str) -> bool {
     match read_value(alloc, text.as_bytes(), ty) {
         Ok((sample, length)) => {
-            length == VALUE.len() && has_type(&sample, ty) && is_value(alloc, &sample, VALUE)
+            let right = length == VALUE.len()
+                && has_type(&sample, ty)
+                && is_value(alloc, &sample, VALUE);
+            drop(sample);
+            right
         }
         Err(_fault) => false,
     }

@@ -74,6 +74,10 @@ value_at size (pair_ty A B) bs = behind_head size (codes "pair") bs >>= (λ cs. 
 value_at size (event_ty A) bs = if bytes_eq (word_of bs) (codes "none") then Ok (no_event, after_word bs) else (behind_head size (codes "event") bs >>= (λ cs. behind_byte size 32 cs >>= (λ ds. value_at size A ds >>= (λ v. behind_byte size 41 v.1 >>= (λ rest. Ok (event v.0, rest))))))
 value_at size (list_ty A) bs = behind_head size (codes "list") bs >>= (λ cs. elements_at (value_at size A) (length cs) cs >>= (λ vs. behind_byte size 41 vs.1 >>= (λ rest. Ok (list (of_elements vs.0), rest))))
 
+-- a space, and behind it the value of the type, and what is behind that
+abbrev pub part_at : ℕ → TypeTree → List ℕ → Result (Datum × List ℕ) ValueFault
+part_at size A bs = behind_byte size 32 bs >>= value_at size A
+
 -- the value of the type at the front of the bytes, and how many bytes it takes
 unfoldable pub reading : TypeTree → List ℕ → Result (Datum × ℕ) ValueFault
 reading A bs = value_at (length bs) A bs >>= (λ x. Ok (x.0, length bs - length x.1))

@@ -1,13 +1,15 @@
 // When two values, or two types, are the same.
 
 ghost use Rattle.std.specs.Prelude.{◌≡◌, ◌↔◌, IsTrue};
+ghost use Rattle.sample_core.specs.Datum.{of_elements};
 ghost use Rattle.sample_core.specs.Seen.{datum_of};
 ghost use Rattle.sample_core.specs.SeenType.{type_of};
 
-use crate::sample::Sample;
+use crate::sample::{Child, Sample, Samples};
 use crate::ty::Ty;
 
 /// Whether the two values are equal, all their parts included. It takes no memory.
+#[cycle(same)]
 pub fn same(a: &Sample, b: &Sample) -> bool
     ensures { IsTrue result ↔ (datum_of a.now ≡ datum_of b.now) }
 {
@@ -15,25 +17,38 @@ pub fn same(a: &Sample, b: &Sample) -> bool
         (Sample::Unit, Sample::Unit) => true,
         (Sample::Bool(x), Sample::Bool(y)) => x == y,
         (Sample::Int(x), Sample::Int(y)) => x == y,
-        (Sample::Pair(v, w), Sample::Pair(x, y)) => same(v.get(), x.get())
-            && same(w.get(), y.get()),
+        (Sample::Pair(v, w), Sample::Pair(x, y)) => same_pair(v, w, x, y),
         (Sample::NoEvent, Sample::NoEvent) => true,
         (Sample::Event(v), Sample::Event(x)) => same(v.get(), x.get()),
-        (Sample::List(vs), Sample::List(xs)) => {
-            let vs = vs.as_slice();
-            let xs = xs.as_slice();
-            if vs.len() != xs.len() {
-                return false;
-            }
-            for i in 0..vs.len() {
-                if !same(&vs[i], &xs[i]) {
-                    return false;
-                }
-            }
-            true
-        }
+        (Sample::List(vs), Sample::List(xs)) => same_elements(vs, xs),
         _ => false,
     }
+}
+
+/// Whether the parts of two pairs are equal.
+#[cycle(same)]
+fn same_pair(v: &Child, w: &Child, x: &Child, y: &Child) -> bool
+    ensures { IsTrue result ↔ ((v.now ≡ x.now) × (w.now ≡ y.now)) }
+{
+    same(v.get(), x.get()) && same(w.get(), y.get())
+}
+
+/// Whether the elements of two lists are equal.
+#[cycle(same)]
+fn same_elements(vs: &Samples, xs: &Samples) -> bool
+    ensures { IsTrue result ↔ (of_elements vs.now ≡ of_elements xs.now) }
+{
+    let vs = vs.as_slice();
+    let xs = xs.as_slice();
+    if vs.len() != xs.len() {
+        return false;
+    }
+    for i in 0..vs.len() {
+        if !same(&vs[i], &xs[i]) {
+            return false;
+        }
+    }
+    true
 }
 
 /// Whether the two types are equal, all their parts included. It takes no memory.

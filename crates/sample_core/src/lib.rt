@@ -22,6 +22,3 @@ pub use read::read_value;
 pub use sample::{Child, Sample, Samples};
 pub use ty::{Ty, TyChild};
 pub use typing::has_type;
-
-#[cfg(test)]
-mod tests;

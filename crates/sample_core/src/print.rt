@@ -1,13 +1,15 @@
 // The one spelling of values and of types.
 
-ghost use Rattle.std.specs.Prelude.{◌≡◌, ◌++◌, IfOk, OnOk, string_bytes};
+ghost use Rattle.std.specs.Prelude.{◌≡◌, ◌++◌, IfOk, OnOk, codes, string_bytes};
+ghost use Rattle.sample_core.specs.Datum.{pair, event, list, of_elements};
+ghost use Rattle.sample_core.specs.TypeTree.{pair_ty};
 ghost use Rattle.sample_core.specs.Seen.{datum_of};
 ghost use Rattle.sample_core.specs.SeenType.{type_of};
 ghost use Rattle.sample_core.specs.Spelling.{spelling, type_spelling};
 
 use crate::memory::Memory;
-use crate::sample::Sample;
-use crate::ty::Ty;
+use crate::sample::{Child, Sample, Samples};
+use crate::ty::{Ty, TyChild};
 use itoa::Buffer;
 use std::alloc::Global;
 
@@ -31,65 +33,103 @@ pub fn print_type(alloc: Global, ty: &Ty) -> Result<String, Memory>
 
 /// Adds the value's one spelling to the end of the text. `Memory` where a growth was refused; the
 /// text may then end with a part of it.
+#[cycle(push_value)]
 pub fn push_value(text: &mut String, sample: &Sample) -> Result<(), Memory>
     ensures { OnOk result (string_bytes text.new ≡ string_bytes text.old ++ spelling (datum_of sample.now)) }
 {
     match sample {
-        Sample::Unit => text.push_str("unit")?,
-        Sample::Bool(true) => text.push_str("true")?,
-        Sample::Bool(false) => text.push_str("false")?,
-        Sample::Int(n) => text.push_str(Buffer::new().format(*n))?,
-        Sample::Pair(v, w) => {
-            text.push_str("(pair ")?;
-            push_value(text, v.get())?;
-            text.push_str(" ")?;
-            push_value(text, w.get())?;
-            text.push_str(")")?;
-        }
-        Sample::NoEvent => text.push_str("none")?,
-        Sample::Event(v) => {
-            text.push_str("(event ")?;
-            push_value(text, v.get())?;
-            text.push_str(")")?;
-        }
-        Sample::List(all) => {
-            text.push_str("(list")?;
-            for v in all.as_slice() {
-                text.push_str(" ")?;
-                push_value(text, v)?;
-            }
-            text.push_str(")")?;
-        }
+        Sample::Unit => push_word(text, "unit"),
+        Sample::Bool(true) => push_word(text, "true"),
+        Sample::Bool(false) => push_word(text, "false"),
+        Sample::Int(n) => push_word(text, Buffer::new().format(*n)),
+        Sample::Pair(v, w) => push_pair(text, v, w),
+        Sample::NoEvent => push_word(text, "none"),
+        Sample::Event(v) => push_event(text, v),
+        Sample::List(all) => push_list(text, all),
     }
+}
+
+/// Adds a word to the end of the text.
+fn push_word(text: &mut String, word: &str) -> Result<(), Memory>
+    ensures { OnOk result (string_bytes text.new ≡ string_bytes text.old ++ word.now) }
+{
+    text.push_str(word)?;
     Ok(())
+}
+
+/// A pair.
+#[cycle(push_value)]
+fn push_pair(text: &mut String, v: &Child, w: &Child) -> Result<(), Memory>
+    ensures { OnOk result (string_bytes text.new ≡ string_bytes text.old ++ spelling (pair v.now w.now)) }
+{
+    push_word(text, "(pair ")?;
+    push_value(text, v.get())?;
+    push_word(text, " ")?;
+    push_value(text, w.get())?;
+    push_word(text, ")")
+}
+
+/// An event.
+#[cycle(push_value)]
+fn push_event(text: &mut String, v: &Child) -> Result<(), Memory>
+    ensures { OnOk result (string_bytes text.new ≡ string_bytes text.old ++ spelling (event v.now)) }
+{
+    push_word(text, "(event ")?;
+    push_value(text, v.get())?;
+    push_word(text, ")")
+}
+
+/// A list.
+#[cycle(push_value)]
+fn push_list(text: &mut String, all: &Samples) -> Result<(), Memory>
+    ensures { OnOk result (string_bytes text.new ≡ string_bytes text.old ++ spelling (list (of_elements all.now))) }
+{
+    push_word(text, "(list")?;
+    for v in all.as_slice() {
+        push_word(text, " ")?;
+        push_value(text, v)?;
+    }
+    push_word(text, ")")
 }
 
 /// Adds the type's one spelling to the end of the text. `Memory` where a growth was refused; the
 /// text may then end with a part of it.
+#[cycle(push_type)]
 pub fn push_type(text: &mut String, ty: &Ty) -> Result<(), Memory>
     ensures { OnOk result (string_bytes text.new ≡ string_bytes text.old ++ type_spelling (type_of ty.now)) }
 {
     match ty {
-        Ty::Unit => text.push_str("Unit")?,
-        Ty::Bool => text.push_str("Bool")?,
-        Ty::Int => text.push_str("Int")?,
-        Ty::Pair(a, b) => {
-            text.push_str("(Pair ")?;
-            push_type(text, a.get())?;
-            text.push_str(" ")?;
-            push_type(text, b.get())?;
-            text.push_str(")")?;
-        }
+        Ty::Unit => push_word(text, "Unit"),
+        Ty::Bool => push_word(text, "Bool"),
+        Ty::Int => push_word(text, "Int"),
+        Ty::Pair(a, b) => push_pair_type(text, a, b),
         Ty::Event(a) => {
-            text.push_str("(Event ")?;
-            push_type(text, a.get())?;
-            text.push_str(")")?;
+            push_word(text, "(Event ")?;
+            push_type_end(text, a)
         }
         Ty::List(a) => {
-            text.push_str("(List ")?;
-            push_type(text, a.get())?;
-            text.push_str(")")?;
+            push_word(text, "(List ")?;
+            push_type_end(text, a)
         }
     }
-    Ok(())
+}
+
+/// A type of pairs.
+#[cycle(push_type)]
+fn push_pair_type(text: &mut String, a: &TyChild, b: &TyChild) -> Result<(), Memory>
+    ensures { OnOk result (string_bytes text.new ≡ string_bytes text.old ++ type_spelling (pair_ty a.now b.now)) }
+{
+    push_word(text, "(Pair ")?;
+    push_type(text, a.get())?;
+    push_word(text, " ")?;
+    push_type_end(text, b)
+}
+
+/// The last type inside another.
+#[cycle(push_type)]
+fn push_type_end(text: &mut String, a: &TyChild) -> Result<(), Memory>
+    ensures { OnOk result (string_bytes text.new ≡ string_bytes text.old ++ (type_spelling a.now ++ codes ")")) }
+{
+    push_type(text, a.get())?;
+    push_word(text, ")")
 }

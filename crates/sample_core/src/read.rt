@@ -1,17 +1,18 @@
 // Reading one value off the front of a text.
 
 ghost use Rattle.std.specs.Prelude.{◌≡◌, ◌-◌, ◌≤◌, ◌∷◌, false, MatchOption, length, drop, map, IfOk, IfErr};
-ghost use Rattle.sample_core.specs.Reading.{Gives, begins_value, begins_with, wrong, behind_byte, behind_head, unit_at, truth_at, number_at, elements_at, value_at, reading};
+ghost use Rattle.sample_core.specs.Reading.{Gives, begins_value, begins_with, wrong, behind_byte, behind_head, unit_at, truth_at, number_at, elements_at, part_at, value_at, reading};
 ghost use Rattle.sample_core.specs.Faults.{FaultOf};
 ghost use Rattle.sample_core.specs.Seen.{datum_of};
 ghost use Rattle.sample_core.specs.SeenType.{type_of};
+ghost use Rattle.sample_core.specs.TypeTree.{pair_ty, event_ty, list_ty};
 ghost use Rattle.sample_core.specs.Spelled.{SpellsValue};
 ghost use Rattle.sample_core.specs.Spelling.{spelling};
 
 use crate::fault::ValueFault;
 use crate::number::{is_number_spelling, number};
 use crate::sample::{Child, Sample, Samples};
-use crate::ty::Ty;
+use crate::ty::{Ty, TyChild};
 use crate::words::{is_word, split_form, split_word};
 use std::alloc::Global;
 
@@ -181,34 +182,86 @@ fn value<'t>(
         Ty::Unit => unit(size, text),
         Ty::Bool => truth(size, text),
         Ty::Int => integer(size, text),
-        Ty::Pair(a, b) => {
-            let rest = after_head(size, text, "pair")?;
-            let rest = after_byte(size, rest, b' ')?;
-            let (first, rest) = value(alloc, size, rest, a.get())?;
-            let rest = after_byte(size, rest, b' ')?;
-            let (second, rest) = value(alloc, size, rest, b.get())?;
-            let rest = after_byte(size, rest, b')')?;
-            let pair = Sample::Pair(Child::new(alloc, first)?, Child::new(alloc, second)?);
-            Ok((pair, rest))
-        }
-        Ty::Event(a) => {
-            let (word, rest) = split_word(text);
-            if is_word(word, "none") {
-                return Ok((Sample::NoEvent, rest));
-            }
-            let rest = after_head(size, text, "event")?;
-            let rest = after_byte(size, rest, b' ')?;
-            let (inner, rest) = value(alloc, size, rest, a.get())?;
-            let rest = after_byte(size, rest, b')')?;
-            Ok((Sample::Event(Child::new(alloc, inner)?), rest))
-        }
-        Ty::List(a) => {
-            let rest = after_head(size, text, "list")?;
-            let (all, rest) = elements(alloc, size, rest, a.get())?;
-            let rest = after_byte(size, rest, b')')?;
-            Ok((Sample::List(Samples::new(alloc, all)?), rest))
-        }
+        Ty::Pair(a, b) => pair(alloc, size, text, a, b),
+        Ty::Event(a) => event(alloc, size, text, a),
+        Ty::List(a) => list(alloc, size, text, a),
     }
+}
+
+/// A pair of values of the types.
+#[cycle(value)]
+#[tactic(auto, unfolding(crate::specs::Reading::value_at))]
+fn pair<'t>(
+    alloc: Global,
+    size: usize,
+    text: &'t [u8],
+    a: &TyChild,
+    b: &TyChild,
+) -> Result<(Sample, &'t [u8]), ValueFault>
+    ensures exact { Gives (λ x. (datum_of x.0, x.1.now)) result (value_at size (pair_ty a.now b.now) text.now) }
+    ensures shorter { IfOk result (λ x. length x.1.now ≤ length text.now) }
+{
+    let rest = after_head(size, text, "pair")?;
+    let (first, rest) = part(alloc, size, rest, a)?;
+    let (second, rest) = part(alloc, size, rest, b)?;
+    let rest = after_byte(size, rest, b')')?;
+    Ok((Sample::Pair(first, second), rest))
+}
+
+/// An event of the type, or none.
+#[cycle(value)]
+#[tactic(auto, unfolding(crate::specs::Reading::value_at))]
+fn event<'t>(
+    alloc: Global,
+    size: usize,
+    text: &'t [u8],
+    ty: &TyChild,
+) -> Result<(Sample, &'t [u8]), ValueFault>
+    ensures exact { Gives (λ x. (datum_of x.0, x.1.now)) result (value_at size (event_ty ty.now) text.now) }
+    ensures shorter { IfOk result (λ x. length x.1.now ≤ length text.now) }
+{
+    let (word, rest) = split_word(text);
+    if is_word(word, "none") {
+        return Ok((Sample::NoEvent, rest));
+    }
+    let rest = after_head(size, text, "event")?;
+    let (inner, rest) = part(alloc, size, rest, ty)?;
+    let rest = after_byte(size, rest, b')')?;
+    Ok((Sample::Event(inner), rest))
+}
+
+/// A list of values of the type.
+#[cycle(value)]
+#[tactic(auto, unfolding(crate::specs::Reading::value_at))]
+fn list<'t>(
+    alloc: Global,
+    size: usize,
+    text: &'t [u8],
+    ty: &TyChild,
+) -> Result<(Sample, &'t [u8]), ValueFault>
+    ensures exact { Gives (λ x. (datum_of x.0, x.1.now)) result (value_at size (list_ty ty.now) text.now) }
+    ensures shorter { IfOk result (λ x. length x.1.now ≤ length text.now) }
+{
+    let rest = after_head(size, text, "list")?;
+    let (all, rest) = elements(alloc, size, rest, ty.get())?;
+    let rest = after_byte(size, rest, b')')?;
+    Ok((Sample::List(Samples::new(alloc, all)?), rest))
+}
+
+/// A space and a value of the type, as a part of another.
+#[cycle(value)]
+fn part<'t>(
+    alloc: Global,
+    size: usize,
+    text: &'t [u8],
+    ty: &TyChild,
+) -> Result<(Child, &'t [u8]), ValueFault>
+    ensures exact { Gives (λ x. (x.0, x.1.now)) result (part_at size ty.now text.now) }
+    ensures shorter { IfOk result (λ x. length x.1.now ≤ length text.now) }
+{
+    let rest = after_byte(size, text, b' ')?;
+    let (inner, rest) = value(alloc, size, rest, ty.get())?;
+    Ok((Child::new(alloc, inner)?, rest))
 }
 
 /// Elements of the type, each behind a space, as long as a space stands there; and what is behind

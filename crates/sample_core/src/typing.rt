@@ -1,16 +1,18 @@
 // Which values are of which type.
 
 ghost use Rattle.std.specs.Prelude.{◌↔◌, IsTrue};
-ghost use Rattle.sample_core.specs.HasType.{HasType};
+ghost use Rattle.sample_core.specs.Datum.{of_elements};
+ghost use Rattle.sample_core.specs.HasType.{HasType, HaveType};
 ghost use Rattle.sample_core.specs.Seen.{datum_of};
 ghost use Rattle.sample_core.specs.SeenType.{type_of};
 
-use crate::sample::Sample;
-use crate::ty::Ty;
+use crate::sample::{Child, Sample, Samples};
+use crate::ty::{Ty, TyChild};
 
 /// Whether the value is of the type, all its parts included. `none` is of every event type, and
 /// the empty list of every list type. It takes no memory.
-#[tactic(auto, using(crate::proofs::HasTypeCases::pair_is, crate::proofs::HasTypeCases::event_is, crate::specs::HasType::unit_has, crate::specs::HasType::truth_has, crate::specs::HasType::number_has, crate::specs::HasType::none_has))]
+#[cycle(has_type)]
+#[tactic(auto, using(crate::proofs::HasTypeCases::pair_is, crate::proofs::HasTypeCases::event_is, crate::proofs::HasTypeCases::list_is, crate::specs::HasType::unit_has, crate::specs::HasType::truth_has, crate::specs::HasType::number_has, crate::specs::HasType::none_has))]
 pub fn has_type(sample: &Sample, ty: &Ty) -> bool
     ensures { IsTrue result ↔ HasType (datum_of sample.now) (type_of ty.now) }
 {
@@ -22,18 +24,31 @@ pub fn has_type(sample: &Sample, ty: &Ty) -> bool
             let _in_range = *n;
             true
         }
-        (Sample::Pair(v, w), Ty::Pair(a, b)) => has_type(v.get(), a.get())
-            && has_type(w.get(), b.get()),
+        (Sample::Pair(v, w), Ty::Pair(a, b)) => have_types(v, w, a, b),
         (Sample::NoEvent, Ty::Event(_)) => true,
         (Sample::Event(v), Ty::Event(a)) => has_type(v.get(), a.get()),
-        (Sample::List(all), Ty::List(a)) => {
-            for v in all.as_slice() {
-                if !has_type(v, a.get()) {
-                    return false;
-                }
-            }
-            true
-        }
+        (Sample::List(all), Ty::List(a)) => have_type(all, a),
         _ => false,
     }
+}
+
+/// Whether two values are each of its type.
+#[cycle(has_type)]
+fn have_types(v: &Child, w: &Child, a: &TyChild, b: &TyChild) -> bool
+    ensures { IsTrue result ↔ (HasType v.now a.now × HasType w.now b.now) }
+{
+    has_type(v.get(), a.get()) && has_type(w.get(), b.get())
+}
+
+/// Whether each element is of the type.
+#[cycle(has_type)]
+fn have_type(all: &Samples, a: &TyChild) -> bool
+    ensures { IsTrue result ↔ HaveType (of_elements all.now) a.now }
+{
+    for v in all.as_slice() {
+        if !has_type(v, a.get()) {
+            return false;
+        }
+    }
+    true
 }

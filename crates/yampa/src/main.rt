@@ -10,8 +10,8 @@ ghost use Rattle.yampa_run.specs.Printed.{IsAnswered};
 mod host;
 
 use host::HostFiles;
-use leaf_table::LeafTable;
-use net_syntax::{TypedNet, leaves};
+use leaf_table::{LeafTable, TableFault};
+use net_syntax::{LeafNeed, TypedNet, leaves};
 use sample_core::Memory;
 use std::alloc::Global;
 use std::env;
@@ -26,15 +26,24 @@ use yampa_run::{
 const BROKEN: u8 = 3;
 
 fn main(rt: HostRuntime) -> ExitCode {
-    let status = match job(&rt) {
-        Ok(Job::Print(text)) => match print(&rt, text.as_bytes()) {
-            Ok(()) => 0,
-            Err(fault) => tell(&rt, &fault),
-        },
-        Ok(Job::Run(net)) => run(&rt, &net),
-        Err(refusal) => refuse(&rt, &refusal),
+    let asked = job(&rt);
+    let status = match &asked {
+        Ok(job) => perform(&rt, job),
+        Err(refusal) => refuse(&rt, refusal),
     };
+    drop(asked);
     ExitCode::from(status)
+}
+
+/// Does what is to be done. Answers the exit status.
+fn perform(rt: &HostRuntime, job: &Job) -> u8 {
+    match job {
+        Job::Print(text) => match print(rt, text.as_bytes()) {
+            Ok(()) => 0,
+            Err(fault) => tell(rt, &fault),
+        },
+        Job::Run(net) => run(rt, net),
+    }
 }
 
 /// What the command line asks for.
@@ -71,19 +80,43 @@ fn unread_words(alloc: Global, error: &io::Error) -> Refusal {
     }
 }
 
-/// Stores a closure for each expression of the network, and runs it on standard input. Answers the
-/// exit status.
+/// Runs the network on standard input. Answers the exit status.
 fn run(rt: &HostRuntime, net: &TypedNet) -> u8 {
-    let needs = match leaves(rt.alloc(), net) {
-        Ok(needs) => needs,
-        Err(Memory) => return complain(rt, BROKEN, "memory"),
-    };
-    let mut table = LeafTable::new(rt.alloc());
-    if let Err(fault) = fill_table!(rt.alloc(), table, &needs) {
-        return refuse(rt, &table_refusal(rt.alloc(), fault));
+    match leaves(rt.alloc(), net) {
+        Ok(needs) => run_filled(rt, net, &needs),
+        Err(Memory) => complain(rt, BROKEN, "memory"),
     }
-    match bind(rt.alloc(), net, &table) {
-        Ok(bound) => run_bound(rt, &bound, &table),
+}
+
+/// Stores a closure for each of the network's needs, and runs it on standard input. Answers the
+/// exit status.
+fn run_filled(rt: &HostRuntime, net: &TypedNet, needs: &[LeafNeed]) -> u8 {
+    let mut table = LeafTable::new(rt.alloc());
+    let filled = fill_table!(rt.alloc(), table, needs);
+    let status = match filled {
+        Ok(()) => run_on(rt, net, &table),
+        Err(fault) => refuse_table(rt, fault),
+    };
+    drop(table);
+    status
+}
+
+/// Prints why the table doesn't take the network. Answers the exit status.
+fn refuse_table(rt: &HostRuntime, fault: TableFault) -> u8 {
+    let refusal = table_refusal(rt.alloc(), fault);
+    let status = refuse(rt, &refusal);
+    drop(refusal);
+    status
+}
+
+/// Runs the network on standard input, over a table of its closures. Answers the exit status.
+fn run_on(rt: &HostRuntime, net: &TypedNet, table: &LeafTable) -> u8 {
+    match bind(rt.alloc(), net, table) {
+        Ok(bound) => {
+            let status = run_bound(rt, &bound, table);
+            drop(bound);
+            status
+        }
         Err(BindFault::Memory) => complain(rt, BROKEN, "memory"),
         // The table was filled with a row for each expression, so this doesn't come.
         Err(BindFault::MissingLeaf { position: _ }) => complain(rt, BROKEN, "no row"),

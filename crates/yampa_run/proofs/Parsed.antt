@@ -5,7 +5,7 @@ use Rattle.clap.specs.declared.error.Error.{Error}
 use Rattle.clap.specs.declared.error.kind.ErrorKind.{ErrorKind}
 use Rattle.clap.specs.declared.error.kind.ErrorKind.TheVariants as kind
 use Rattle.clap.specs.declared.parser.matches.ArgMatches.{ArgMatches}
-use Rattle.yampa_run.specs.CommandLine.{ReadsWords, Asked, AsksHelp, AsksNothing, RepliesTo, asked, asked_by, command_line, unless_faulty}
+use Rattle.yampa_run.specs.CommandLine.{ReadsWords, Asked, AsksHelp, AsksNothing, IsNothing, RepliesTo, asked, asked_by, command_line, unless_faulty}
 use Rattle.yampa_run.specs.declared.command.Reply.{Reply}
 use Rattle.yampa_run.specs.declared.command.Reply.TheVariants as R
 
@@ -71,3 +71,9 @@ pub replied : (a : App) (words : List (List ℕ)) (error : Error) → a ≡ comm
 replied a words error e free (R.Help text) r = asks_help words (kind_of error) r (among a words error e free)
 replied a words error e free (R.Wrong text) r = asks_nothing words (kind_of error) r.0 r.1 (among a words error e free)
 replied a words error e free R.Memory r = tt
+
+-- what is replied to words that ask for nothing that is there
+pub told_nothing : (words : List (List ℕ)) → AsksNothing words → (reply : Reply) → IsNothing reply → ReadsWords words (Err reply)
+told_nothing words n (R.Help text) h = absurd h
+told_nothing words n (R.Wrong text) h = n
+told_nothing words n R.Memory h = tt

@@ -65,6 +65,12 @@ RepliesTo k (R.Help text) = k ≡ kind.DisplayHelp
 RepliesTo k (R.Wrong text) = (k ≢ kind.DisplayHelp) × (k ≢ kind.OutOfMemory)
 RepliesTo k R.Memory = ⊤
 
+-- the reply to words that ask for nothing that is there
+abbrev pub IsNothing : Reply → Type 0
+IsNothing (R.Help text) = ⊥
+IsNothing (R.Wrong text) = ⊤
+IsNothing R.Memory = ⊤
+
 -- a request is what the words ask for; a reply is help that they ask for, or they ask for nothing that is there, or memory was short
 abbrev pub ReadsWords : List (List ℕ) → Result Request Reply → Type 0
 ReadsWords words (Ok request) = asked words ≡ Some (seen_request request)

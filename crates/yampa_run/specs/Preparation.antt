@@ -66,6 +66,12 @@ RefusesTypes f Refused.Memory = ⊤
 abbrev pub types_lines : TypedNetwork → List ℕ
 types_lines t = type_spelling t.input ++ (codes " -> " ++ (type_spelling t.output ++ (codes "\nweight " ++ (decimal t.weight ++ (codes "\nheight " ++ (decimal t.height ++ codes "\n"))))))
 
+-- the lines are those on the typed network of a file, where its bytes are told
+pub record TellsTypes (told : Option (List ℕ)) (text : List ℕ) : Type 0 where
+  pub net : TypedNetwork
+  pub network : IsNetworkOf told net
+  pub lines : text ≡ types_lines net
+
 -- the words ask for a run of a file, and t is its typed network
 pub record RunsNetwork (told : Told) (words : List (List ℕ)) (t : TypedNetwork) : Type 0 where
   pub name : List ℕ

@@ -1,10 +1,10 @@
 // The command line.
 
 ghost use Rattle.std.specs.Prelude.{◌≡◌, IfOk, map, option_map, false};
-ghost use Rattle.clap.specs.Words.{app_of, kind_of, shape_of, subcommand_rows_of};
+ghost use Rattle.clap.specs.Words.{app_of, kind_of, shape_of, subcommand_rows_of, with_subcommand};
 ghost use Rattle.clap.specs.declared.builder.command.Command.TheViews.{out-Command};
 ghost use Rattle.yampa_run.specs.CommandRows.{AskedRows, HelpRows, NothingRows};
-ghost use Rattle.yampa_run.specs.CommandLine.{ReadsWords, RepliesTo, asked_by, command_line, file_command, seen_request};
+ghost use Rattle.yampa_run.specs.CommandLine.{IsNothing, ReadsWords, RepliesTo, asked_by, command_line, file_command, seen_request};
 
 use clap::error::{Error, ErrorKind};
 use clap::{Arg, ArgAction, ArgMatches, Command};
@@ -49,16 +49,30 @@ fn on_network<'a>(alloc: Global, name: &'a str) -> Result<Command<'a>, AllocErro
     Command::new(alloc, name).arg(net)
 }
 
+/// The command with one more subcommand, which has that name and takes a network file.
+fn with_network<'a>(
+    alloc: Global,
+    command: Command<'a>,
+    name: &'a str,
+) -> Result<Command<'a>, AllocError>
+    ensures app { IfOk result (λ c. app_of c ≡ with_subcommand (app_of command.entry) (file_command name.entry.now)) }
+{
+    match on_network(alloc, name) {
+        Ok(subcommand) => command.subcommand(subcommand),
+        Err(refused) => {
+            drop(command);
+            Err(refused)
+        }
+    }
+}
+
 /// The program's command line.
 fn make_command<'a>(alloc: Global) -> Result<Command<'a>, AllocError>
     ensures { IfOk result (λ c. app_of c ≡ command_line) }
 {
-    let types = on_network(alloc, "types")?;
-    let run = on_network(alloc, "run")?;
-    Command::new(alloc, "yampa")
-        .subcommand_required(true)
-        .subcommand(types)?
-        .subcommand(run)
+    let command = Command::new(alloc, "yampa").subcommand_required(true);
+    let command = with_network(alloc, command, "types")?;
+    with_network(alloc, command, "run")
 }
 
 /// What the matches ask for.
@@ -75,13 +89,14 @@ fn request_of<'a>(matches: &ArgMatches<'a>) -> Option<Request<'a>>
 }
 
 /// What is answered to words that are refused.
-fn reply_to(alloc: Global, error: &Error) -> Result<Reply, AllocError>
-    ensures { IfOk result (RepliesTo (kind_of error.now)) }
+fn reply_to(alloc: Global, error: &Error) -> Reply
+    ensures { RepliesTo (kind_of error.now) result }
 {
-    match error.kind() {
-        ErrorKind::DisplayHelp => Ok(Reply::Help(format!(in alloc; "{error}")?)),
-        ErrorKind::OutOfMemory => Ok(Reply::Memory),
-        _ => Ok(Reply::Wrong(format!(in alloc; "{error}")?)),
+    match (error.kind(), format!(in alloc; "{error}")) {
+        (ErrorKind::DisplayHelp, Ok(text)) => Reply::Help(text),
+        (ErrorKind::OutOfMemory, _) => Reply::Memory,
+        (_, Ok(text)) => Reply::Wrong(text),
+        (_, Err(_)) => Reply::Memory,
     }
 }
 
@@ -91,11 +106,29 @@ pub fn parse<'a>(alloc: Global, words: &'a [&'a str]) -> Result<Request<'a>, Rep
     ensures { ReadsWords (map (λ w. w.now) words.entry.now) result }
 {
     match make_command(alloc)?.try_get_matches_from(words) {
-        Ok(matches) => match request_of(&matches) {
-            Some(request) => Ok(request),
-            None => Err(Reply::Wrong(String::from_str(alloc, "no such command")?)),
-        },
-        Err(error) => Err(reply_to(alloc, &error)?),
+        Ok(matches) => {
+            let request = request_of(&matches);
+            drop(matches);
+            match request {
+                Some(request) => Ok(request),
+                None => Err(no_such_command(alloc)),
+            }
+        }
+        Err(error) => {
+            let reply = reply_to(alloc, &error);
+            drop(error);
+            Err(reply)
+        }
+    }
+}
+
+/// What is answered to words that ask for nothing that is there.
+fn no_such_command(alloc: Global) -> Reply
+    ensures { IsNothing result }
+{
+    match String::from_str(alloc, "no such command") {
+        Ok(line) => Reply::Wrong(line),
+        Err(_) => Reply::Memory,
     }
 }
 

@@ -4,15 +4,21 @@
 //! The module is public for its macros alone: what they write in the caller's body names its
 //! items.
 
+ghost use Rattle.std.specs.Prelude.{◌≡◌, Ok, OnErr, map};
+ghost use Rattle.sample_core.specs.Seen.{datum_of};
+ghost use Rattle.leaf_table.specs.Computes.{Computes};
+ghost use Rattle.leaf_table.specs.Rows.{rows_of};
 ghost use Rattle.yampa_run.specs.Preparation.{RefusesTable};
 
 use crate::preparation::Refusal;
-pub use leaf_expr::{LeafKey, Shape, shape_of};
+pub use leaf_expr::{Shape, shape_of};
+use leaf_table::{Leaf, LeafTable, Run};
 pub use leaf_table::{
-    Leaf, TableFault, run_affine, run_below, run_constant, run_general, run_identity, run_left,
+    TableFault, run_affine, run_below, run_constant, run_general, run_identity, run_left,
     run_right, run_swap, run_wrap,
 };
-pub use sample_core::{Sample, Ty};
+use net_syntax::LeafNeed;
+pub use sample_core::Sample;
 use std::alloc::Global;
 
 /// The refusal of a network whose expressions a table doesn't take: status 1 and the line `table full` where it has all
@@ -26,100 +32,97 @@ pub fn table_refusal(alloc: Global, fault: TableFault) -> Refusal
     }
 }
 
-/// The leaf of a key: the closure, boxed, that calls a function on its parts and the arguments.
-/// `Memory` where a growth was refused. A part of `fill_row!`.
+/// Adds a row for a need: the closure under the need's key. Where the key has a row already, that
+/// row stays. A part of `fill_table!`, which boxes the closure.
+///
+/// `Full`: the key is new, and the table has 4,096 rows. `Memory`: a growth was refused. The table
+/// is then as it was.
+pub fn add_row(
+    alloc: Global,
+    table: &mut LeafTable,
+    need: &LeafNeed,
+    run: Run,
+) -> Result<(), TableFault>
+    requires callable { Run.IsAlwaysCallable run }
+    requires computes { (ps : _) (x : _) (v : _) → Run.post run ps x (Ok v) → Computes need.now.key (map datum_of ps.now) (datum_of x.now) (datum_of v) }
+    ensures { OnErr result (rows_of table.new ≡ rows_of table.old) }
+{
+    // What is let go here is dropped by calls: where a scope ends, its drop is written out in
+    // place, and proved there.
+    let Ok(key) = need.key.try_copy(alloc) else {
+        return Err(TableFault::Memory);
+    };
+    match need.output.try_copy(alloc) {
+        Ok(output) => match table.add(Leaf::new(key, output, run)) {
+            Ok(_) => Ok(()),
+            Err((leaf, fault)) => {
+                drop(leaf);
+                Err(fault)
+            }
+        },
+        Err(_) => {
+            drop(key);
+            Err(TableFault::Memory)
+        }
+    }
+}
+
+/// Adds a row for a need, whose closure calls a function on its parts and the arguments. A part of
+/// `fill_table!`.
 #[macro_export]
-macro_rules! boxed_leaf {
-    ($alloc:ident, $key:ident, $output:ident, $run:ident $(, $part:expr)*) => {
+macro_rules! stored_row {
+    ($alloc:ident, $table:expr, $need:ident, $run:ident $(, $part:expr)*) => {
         match Box::new(
             $alloc,
             move |params: &[$crate::fill::Sample], x: &$crate::fill::Sample| {
                 $crate::fill::$run($alloc, $($part,)* params, x)
             },
         ) {
-            Ok(run) => Ok($crate::fill::Leaf::new($key, $output, run)),
-            Err(_) => {
-                drop($key);
-                drop($output);
-                Err($crate::fill::TableFault::Memory)
-            }
+            Ok(run) => $crate::fill::add_row($alloc, &mut $table, $need, run),
+            Err(_) => Err($crate::fill::TableFault::Memory),
         }
     };
 }
 
-/// Adds a row for a key, whose expression must be of the output's type:
-/// `fill_row!(alloc, table, key, output)`, with the table as a place, is a
-/// `Result<LeafId, TableFault>`. It matches the expression's shape and boxes one of nine closures.
-/// Where the key has a row already, it answers that row.
-///
-/// `Full`: the key is new, and the table has 4,096 rows. `Memory`: a growth was refused. The table
-/// is then as it was.
-#[macro_export]
-macro_rules! fill_row {
-    ($alloc:expr, $table:expr, $key:expr, $output:expr) => {{
-        let alloc: std::alloc::Global = $alloc;
-        let key: $crate::fill::LeafKey = $key;
-        let output: $crate::fill::Ty = $output;
-        let leaf = match $crate::fill::shape_of(&key.expr) {
-            $crate::fill::Shape::Identity => $crate::boxed_leaf!(alloc, key, output, run_identity),
-            $crate::fill::Shape::Constant { c } => {
-                $crate::boxed_leaf!(alloc, key, output, run_constant, c)
-            }
-            $crate::fill::Shape::Affine { a, b } => {
-                $crate::boxed_leaf!(alloc, key, output, run_affine, a, b)
-            }
-            $crate::fill::Shape::Swap => $crate::boxed_leaf!(alloc, key, output, run_swap),
-            $crate::fill::Shape::Left => $crate::boxed_leaf!(alloc, key, output, run_left),
-            $crate::fill::Shape::Right => $crate::boxed_leaf!(alloc, key, output, run_right),
-            $crate::fill::Shape::Below { k } => {
-                $crate::boxed_leaf!(alloc, key, output, run_below, k)
-            }
-            $crate::fill::Shape::Wrap => $crate::boxed_leaf!(alloc, key, output, run_wrap),
-            $crate::fill::Shape::General => match key.try_copy(alloc) {
-                Ok(own) => $crate::boxed_leaf!(alloc, key, output, run_general, &own),
-                Err(_) => {
-                    drop(key);
-                    drop(output);
-                    Err($crate::fill::TableFault::Memory)
-                }
-            },
-        };
-        match leaf {
-            Ok(leaf) => match $table.add(leaf) {
-                Ok(id) => Ok(id),
-                Err((leaf, fault)) => {
-                    drop(leaf);
-                    Err(fault)
-                }
-            },
-            Err(fault) => Err(fault),
-        }
-    }};
-}
-
 /// Adds a row for each need of a network: `fill_table!(alloc, table, needs)`, with the table as a
-/// place and the needs as a slice or a borrowed vector, is a `Result<(), TableFault>`. Needs of
-/// the same key share a row.
+/// place and the needs as a slice or a borrowed vector, is a `Result<(), TableFault>`. It matches
+/// the shape of each need's expression and boxes one of nine closures. Needs of the same key share
+/// a row.
 ///
 /// It stops at the first need that the table doesn't take; the rows of the needs before it stay.
 /// `Full`: the key is new, and the table has 4,096 rows. `Memory`: a growth was refused.
+///
+/// It is dear to prove: use it in a function that does little else.
 #[macro_export]
 macro_rules! fill_table {
     ($alloc:expr, $table:expr, $needs:expr) => {{
         let alloc: std::alloc::Global = $alloc;
         let mut filled = Ok(());
         for need in $needs {
-            match (need.key.try_copy(alloc), need.output.try_copy(alloc)) {
-                (Ok(key), Ok(output)) => {
-                    if let Err(fault) = $crate::fill_row!(alloc, $table, key, output) {
-                        filled = Err(fault);
-                        break;
-                    }
+            filled = match $crate::fill::shape_of(&need.key.expr) {
+                $crate::fill::Shape::Identity => {
+                    $crate::stored_row!(alloc, $table, need, run_identity)
                 }
-                _ => {
-                    filled = Err($crate::fill::TableFault::Memory);
-                    break;
+                $crate::fill::Shape::Constant { c } => {
+                    $crate::stored_row!(alloc, $table, need, run_constant, c)
                 }
+                $crate::fill::Shape::Affine { a, b } => {
+                    $crate::stored_row!(alloc, $table, need, run_affine, a, b)
+                }
+                $crate::fill::Shape::Swap => $crate::stored_row!(alloc, $table, need, run_swap),
+                $crate::fill::Shape::Left => $crate::stored_row!(alloc, $table, need, run_left),
+                $crate::fill::Shape::Right => $crate::stored_row!(alloc, $table, need, run_right),
+                $crate::fill::Shape::Below { k } => {
+                    $crate::stored_row!(alloc, $table, need, run_below, k)
+                }
+                $crate::fill::Shape::Wrap => $crate::stored_row!(alloc, $table, need, run_wrap),
+                $crate::fill::Shape::General => match need.key.try_copy(alloc) {
+                    Ok(own) => $crate::stored_row!(alloc, $table, need, run_general, &own),
+                    Err(_) => Err($crate::fill::TableFault::Memory),
+                },
+            };
+            if filled.is_err() {
+                break;
             }
         }
         filled

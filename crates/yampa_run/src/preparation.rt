@@ -1,7 +1,8 @@
 // From the words of a command line to what is to be done.
 
-ghost use Rattle.std.specs.Prelude.{◌≡◌, IfErr, IfOk, Some, map, string_bytes};
-ghost use Rattle.yampa_run.specs.Preparation.{HasNoNetwork, IsAsked, IsNetworkIn, IsNetworkOf, IsRefusal, RefusesText, RefusesTypes, types_lines};
+ghost use Rattle.std.specs.Prelude.{◌≡◌, ℕ, List, Err, IfErr, IfOk, Some, map, string_bytes};
+ghost use Rattle.yampa_run.specs.CommandLine.{ReadsWords, asked, seen_request};
+ghost use Rattle.yampa_run.specs.Preparation.{HasNoNetwork, IsAsked, IsNetworkIn, IsNetworkOf, IsRefusal, RefusesText, RefusesTypes, TellsTypes, Told, types_lines};
 
 use crate::command::{Reply, Request, parse};
 use crate::files::{FileFault, Files};
@@ -49,11 +50,52 @@ pub fn prepare<F: Files>(alloc: Global, words: &[&str], files: &F) -> Result<Job
     ensures refused { IfErr result (IsRefusal (F.told files.now) (map (λ w. w.now) words.now)) }
 {
     match parse(alloc, words) {
-        Ok(Request::Types { net }) => Ok(Job::Print(types(alloc, &load(alloc, net, files)?)?)),
-        Ok(Request::Run { net }) => Ok(Job::Run(load(alloc, net, files)?)),
-        Err(Reply::Help(text)) => Ok(Job::Print(text)),
-        Err(Reply::Wrong(line)) => Err(Refusal::Line { status: 2, line }),
-        Err(Reply::Memory) => Err(Refusal::Memory),
+        Ok(request) => job_of(alloc, request, files),
+        Err(reply) => told_by(reply),
+    }
+}
+
+/// What a request asks for.
+fn job_of<F: Files>(alloc: Global, request: Request<'_>, files: &F) -> Result<Job, Refusal>
+    ensures asked { IfOk result (λ job. (words : List (List ℕ)) → asked words ≡ Some (seen_request request.entry) → IsAsked (F.told files.now) words job) }
+    ensures refused { IfErr result (λ e. (words : List (List ℕ)) → asked words ≡ Some (seen_request request.entry) → IsRefusal (F.told files.now) words e) }
+{
+    match request {
+        Request::Types { net } => match types_of(alloc, net, files) {
+            Ok(text) => Ok(Job::Print(text)),
+            Err(refusal) => Err(refusal),
+        },
+        Request::Run { net } => match load(alloc, net, files) {
+            Ok(net) => Ok(Job::Run(net)),
+            Err(refusal) => Err(refusal),
+        },
+    }
+}
+
+/// What a reply to the words leads to.
+fn told_by(reply: Reply) -> Result<Job, Refusal>
+    ensures asked { IfOk result (λ job. (told : Told) (words : List (List ℕ)) → ReadsWords words (Err reply) → IsAsked told words job) }
+    ensures refused { IfErr result (λ e. (told : Told) (words : List (List ℕ)) → ReadsWords words (Err reply) → IsRefusal told words e) }
+{
+    match reply {
+        Reply::Help(text) => Ok(Job::Print(text)),
+        Reply::Wrong(line) => Err(Refusal::Line { status: 2, line }),
+        Reply::Memory => Err(Refusal::Memory),
+    }
+}
+
+/// The lines of the command `types` on the file of that name.
+fn types_of<F: Files>(alloc: Global, name: &str, files: &F) -> Result<String, Refusal>
+    ensures lines { IfOk result (λ text. TellsTypes (F.told files.now name.now) (string_bytes text)) }
+    ensures refused { IfErr result (HasNoNetwork (F.told files.now name.now)) }
+{
+    match load(alloc, name, files) {
+        Ok(net) => {
+            let text = types(alloc, &net);
+            drop(net);
+            Ok(text?)
+        }
+        Err(refusal) => Err(refusal),
     }
 }
 
@@ -83,7 +125,11 @@ fn network_of(alloc: Global, bytes: &[u8]) -> Result<TypedNet, Refusal>
     };
     match check_types(alloc, input, net) {
         Ok(typed) => Ok(typed),
-        Err(fault) => Err(type_refusal(alloc, &fault)?),
+        Err(fault) => {
+            let refusal = type_refusal(alloc, &fault);
+            drop(fault);
+            Err(refusal?)
+        }
     }
 }
 

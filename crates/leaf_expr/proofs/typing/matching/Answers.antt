@@ -7,10 +7,10 @@ use Rattle.leaf_expr.specs.declared.typing.ExprFault.TheVariants.{Mismatch}
 use Rattle.leaf_expr.proofs.Exactness.{as_same_tree}
 use Rattle.leaf_expr.proofs.typing.matching.Goals as goal
 
-pub returns-then-not-same_type : goal.returns-then-not-same_type
-returns-then-not-same_type c =
-    let e : c.same_type.result ≡ same_tree (type_of c.args.found) (type_of c.args.ty.now) = as_same_tree _ _ _ c.same_type.ensures in
-    λ h. ap (λ b. tested b Mismatch (Ok (type_of c.args.found))) (sym e ∙ c.if-not-same_type.true)
+pub returns-then-same_type : goal.returns-then-same_type
+returns-then-same_type c = grind (arith, common_steps, as_same_tree c.same_type.result (type_of c.args.found) (type_of c.args.ty.now) c.same_type.ensures)
 
 pub returns : goal.returns
-returns c = grind (arith, common_steps, as_same_tree c.same_type.result (type_of c.args.found) (type_of c.args.ty.now) c.same_type.ensures)
+returns c =
+    let e : c.same_type.result ≡ same_tree (type_of c.args.found) (type_of c.args.ty.now) = as_same_tree _ _ _ c.same_type.ensures in
+    λ h. ap (λ b. tested b Mismatch (Ok (type_of c.args.found))) (sym e ∙ c.if-same_type.false)

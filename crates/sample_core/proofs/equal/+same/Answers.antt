@@ -3,13 +3,12 @@ use Rattle.std.proofs.lemmas.Grind.{common_steps}
 use Rattle.sample_core.proofs.Elements.{element_smaller, same_length}
 use Rattle.sample_core.proofs.equal.+same.Goals as goal
 
-pub returns-then-vs-xs : goal.returns-then-vs-xs
-returns-then-vs-xs t c =
+pub same_elements-returns-then-vs-xs : goal.same_elements-returns-then-vs-xs
+same_elements-returns-then-vs-xs t c =
     let e = same_length c.as_slice-vs.result.now c.as_slice-xs.result.now in
     grind (arith, common_steps, e)
 
-pub same-requires-in-loop-i : goal.same-requires-in-loop-i
-same-requires-in-loop-i t c =
+pub same_elements-same-requires : goal.same_elements-same-requires
+same_elements-same-requires t c =
     let e = element_smaller c.as_slice-vs.result.now c.loop-i.i c.index-vs-i.result (omega arith) in
-    let k = element_smaller c.as_slice-xs.result.now c.loop-i.i c.index-xs-i.result (omega arith) in
-    grind (arith, common_steps, e, k)
+    grind (arith, common_steps, e)

@@ -7,10 +7,22 @@ use Rattle.sample_core.proofs.ReadSteps.{with_front}
 use Rattle.sample_core.proofs.read.+value.Given as goal
 
 abbrev pub decreases-value : goal.decreases-value
-decreases-value l = 2 * type_size (type_of l.ty.now)
+decreases-value l = 3 * type_size (type_of l.ty.now)
+
+abbrev pub decreases-pair : goal.decreases-pair
+decreases-pair l = 3 * (type_size l.a.now + type_size l.b.now) + 2
+
+abbrev pub decreases-event : goal.decreases-event
+decreases-event l = 3 * type_size l.ty.now + 2
+
+abbrev pub decreases-list : goal.decreases-list
+decreases-list l = 3 * type_size l.ty.now + 2
+
+abbrev pub decreases-part : goal.decreases-part
+decreases-part l = 3 * type_size l.ty.now + 1
 
 abbrev pub decreases-elements : goal.decreases-elements
-decreases-elements l = 2 * type_size (type_of l.ty.now) + 1
+decreases-elements l = 3 * type_size (type_of l.ty.now) + 1
 
 abbrev pub decreases-elements-loop-element : goal.decreases-elements-loop-element
 decreases-elements-loop-element l = length l.rest

@@ -9,7 +9,7 @@ pub returns-in-Ok-check_types-clause-network : goal.returns-in-Ok-check_types-cl
 returns-in-Ok-check_types-clause-network c =
     network_in c.args.bytes.now _ _ c.in-Ok-check_types.typed c.in-Ok.ensures.found c.in-Ok-check_types.ensures
 
-pub returns-in_ok-type_refusal-in-Err-check_types-clause-refused :
-    goal.returns-in_ok-type_refusal-in-Err-check_types-clause-refused
-returns-in_ok-type_refusal-in-Err-check_types-clause-refused c =
-    types_refused c.args.bytes.now _ _ c.in-Err-check_types.fault c.in-Ok.ensures.found c.in-Err-check_types.ensures c.in_ok-type_refusal-in-Err-check_types.field-0 c.in_ok-type_refusal-in-Err-check_types.ensures
+pub returns-in_ok-refusal-in-Err-check_types-clause-refused :
+    goal.returns-in_ok-refusal-in-Err-check_types-clause-refused
+returns-in_ok-refusal-in-Err-check_types-clause-refused c =
+    types_refused c.args.bytes.now _ _ c.in-Err-check_types.fault c.in-Ok.ensures.found c.in-Err-check_types.ensures c.in_ok-refusal-in-Err-check_types.field-0 c.in_ok-refusal-in-Err-check_types.ensures

@@ -1,6 +1,9 @@
 // Texts, places and worked values, by the rules of the notation; what no clause says.
 
-use super::*;
+use sample_core::{
+    Child, Sample, Samples, Ty, TyChild, ValueFault, has_type, print_type, print_value, push_type,
+    push_value, read_value, same, same_type,
+};
 use std::alloc::Global;
 use std::test::Fail;
 
