@@ -1,7 +1,7 @@
 -- The forms of expressions, group by group.
 use Rattle.std.proofs.Common.{◌≡◌, ℕ, Bool, true, false, if◌then◌else◌, List, [], ◌∷◌, ◌++◌, Some, None, refl, ◌∙◌}
 use Rattle.std.specs.Prelude.{bytes_eq}
-use Rattle.leaf_expr.specs.Expression.{Expression}
+use Rattle.leaf_core.specs.Expression.{Expression}
 use Rattle.leaf_expr.specs.Language.{Row}
 use Rattle.leaf_expr.specs.Grammar.{Sort, Tree, expression_sort, row_at, rows, row_among, other_rows, unary_rows, binary_rows, ternary_rows, typed_rows}
 

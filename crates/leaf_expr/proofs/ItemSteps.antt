@@ -3,7 +3,7 @@ use Rattle.std.proofs.Common.{◌≡◌, ℕ, zero, suc, ◌<◌, ◌≤◌, fal
 use Rattle.std.proofs.lemmas.List.{append-nil}
 use Rattle.sample_core.specs.TypeTree.{TypeTree}
 use Rattle.leaf_expr.specs.Token.{opening, closing, word, Placed}
-use Rattle.leaf_expr.specs.Expression.{Expression, make_list, expressions_of}
+use Rattle.leaf_core.specs.Expression.{Expression, make_list, expressions_of}
 use Rattle.leaf_expr.specs.Language.{place, places}
 use Rattle.leaf_expr.specs.Grammar.{leaf, type_sort, expression_sort}
 use Rattle.leaf_expr.specs.Reader.{Fault, syntax, number, too_deep, Read, ◌>>=◌, read, read_all, read_parts}

@@ -4,9 +4,9 @@ use Rattle.std.proofs.lemmas.List.{append-nil}
 use Rattle.std.specs.Prelude.{codes}
 use Rattle.sample_core.specs.TypeTree.{TypeTree, unit_ty, bool_ty, int_ty, pair_ty, event_ty, list_ty}
 use Rattle.sample_core.specs.Spelling.{type_spelling}
-use Rattle.leaf_expr.specs.Expression.{expression_size, expressions_size, expressions_of}
-use Rattle.leaf_expr.specs.Seen.{expression_of}
-use Rattle.leaf_expr.specs.declared.expr.Expr.{Expr}
+use Rattle.leaf_core.specs.Expression.{expression_size, expressions_size, expressions_of}
+use Rattle.leaf_core.specs.Seen.{expression_of}
+use Rattle.leaf_core.specs.declared.expr.Expr.{Expr}
 use Rattle.leaf_expr.specs.Part.{spelling}
 use Rattle.leaf_expr.specs.Printed.{type_part}
 

@@ -6,7 +6,7 @@ use Rattle.sample_core.specs.Number.{is_number_word}
 use Rattle.leaf_expr.specs.NumberPlace.{Reading, reads, misspelt, unfit, map_reading, integer_at}
 use Rattle.leaf_expr.specs.Token.{opening, closing, word}
 use Rattle.leaf_expr.specs.Part.{atom, form, last, more, atom_spells, form_spells, last_spells, more_spells}
-use Rattle.leaf_expr.specs.Expression.{sample, fst, number_literal}
+use Rattle.leaf_core.specs.Expression.{sample, fst, number_literal}
 use Rattle.leaf_expr.specs.Grammar.{leaf, Sort, type_sort, expression_sort, index_sort, words, rows, word_at, row_at, word_among, number_at, has_form, takes_number}
 use Rattle.leaf_expr.specs.ReadLaws.{Completes}
 use Rattle.leaf_expr.proofs.Proper.{Proper}

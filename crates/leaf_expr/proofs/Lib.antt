@@ -1,8 +1,3 @@
-pub mod Places
-pub mod SameDatum
-pub mod Soundness
-pub mod Exactness
-pub mod Uniqueness
 pub mod ReadFound
 pub mod Proper
 pub mod ReadOnly
@@ -22,5 +17,4 @@ pub mod WordSteps
 pub mod ItemSteps
 pub mod IndexSteps
 pub mod Joined
-pub mod ShapeValue
 pub mod Answered

@@ -2,7 +2,7 @@
 use Rattle.std.proofs.Common.{◌≡◌, ℕ, ◌≤◌, true, false, nat_eq, List, [], ◌∷◌, refl, ap, ◌∙◌, arith, Some, ℤ, w64, FitsSigned}
 use Rattle.std.specs.Fmt.{decimal, signed_decimal}
 use Rattle.sample_core.specs.TypeTree.{TypeTree, unit_ty, bool_ty, int_ty, pair_ty, event_ty, list_ty}
-use Rattle.leaf_expr.specs.Expression.{Expression, Expressions, sample, parameter, unit_literal, truth_literal, number_literal, make_pair, fst, snd, then, neg, add, sub, mul, less, equal, negation, conjunction, disjunction, choice, none_of, make_event, on, make_list, nth, len, no_more, and_then, expressions_of}
+use Rattle.leaf_core.specs.Expression.{Expression, Expressions, sample, parameter, unit_literal, truth_literal, number_literal, make_pair, fst, snd, then, neg, add, sub, mul, less, equal, negation, conjunction, disjunction, choice, none_of, make_event, on, make_list, nth, len, no_more, and_then, expressions_of}
 use Rattle.leaf_expr.specs.Part.{atom, plain, all_plain}
 use Rattle.leaf_expr.specs.NumberPlace.{Reading, reads, map_reading}
 use Rattle.leaf_expr.specs.Language.{meaning, made, read_word, places}

@@ -2,7 +2,7 @@
 use Rattle.std.proofs.Common.{◌≡◌, ◌≢◌, ℕ, zero, suc, ◌+◌, ◌-◌, true, List, ◌∷◌, refl, ap, ◌∙◌, sym, arith, Ok, Err, Some, None}
 use Rattle.leaf_expr.specs.Token.{opening, closing, Placed}
 use Rattle.sample_core.specs.TypeTree.{TypeTree}
-use Rattle.leaf_expr.specs.Expression.{Expression, parameter, none_of}
+use Rattle.leaf_core.specs.Expression.{Expression, parameter, none_of}
 use Rattle.leaf_expr.specs.Language.{Row, no_place, place}
 use Rattle.leaf_expr.specs.Grammar.{leaf, Sort, Tree, type_sort, expression_sort, index_sort, has_form, row_at}
 use Rattle.leaf_expr.specs.Reader.{syntax, too_deep, unfit_token, ◌>>=◌, read, read_form, read_head, read_row, read_parts, read_end}

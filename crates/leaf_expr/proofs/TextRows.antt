@@ -2,7 +2,7 @@
 use Rattle.std.proofs.Common.{◌≡◌, refl, Option, Some, None}
 use Rattle.std.specs.Prelude.{option_and_then}
 use Rattle.sample_core.specs.TypeTree.{TypeTree}
-use Rattle.leaf_expr.specs.Expression.{Expression, sample, make_pair, fst, snd, then, choice, none_of, make_event, on}
+use Rattle.leaf_core.specs.Expression.{Expression, sample, make_pair, fst, snd, then, choice, none_of, make_event, on}
 use Rattle.leaf_expr.specs.Language.{meaning}
 use Rattle.leaf_expr.specs.Grammar.{leaf, type_sort, expression_sort, word_at, row_at, words, rows}
 use Rattle.leaf_expr.specs.TextRows.{TypeRows, WordRows, UnaryRows, BinaryRows, LongRows, FaultRows, MergeIs, GateIs, TagIs, AttachIs}

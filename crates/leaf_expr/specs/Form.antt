@@ -1,7 +1,7 @@
 -- The code's forms as rows of the grammar.
 use Rattle.std.specs.Prelude.{ℕ, List, codes}
 use Rattle.sample_core.specs.TypeTree.{TypeTree, pair_ty, event_ty, list_ty}
-use Rattle.leaf_expr.specs.Expression.{Expression, sample, parameter, make_pair, fst, snd, then, neg, add, sub, mul, less, equal, negation, conjunction, disjunction, choice, none_of, make_event, on, make_list, nth, len, expressions_of}
+use Rattle.leaf_core.specs.Expression.{Expression, sample, parameter, make_pair, fst, snd, then, neg, add, sub, mul, less, equal, negation, conjunction, disjunction, choice, none_of, make_event, on, make_list, nth, len, expressions_of}
 use Rattle.leaf_expr.specs.Language.{Row, no_place, places}
 use Rattle.leaf_expr.specs.Grammar.{Sort, Tree, expression_sort, row, t, e, k}
 use Rattle.leaf_expr.specs.declared.form.TypeForm.{TypeForm}

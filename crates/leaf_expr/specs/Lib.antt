@@ -1,17 +1,3 @@
-pub mod Expression
-pub mod ExpressionCode
-pub mod ExpressionValue
-pub mod ExpressionTyping
-pub mod Seen
-pub mod Falls
-pub mod Shape
-pub mod SameByCode
-pub mod KeyTree
-pub mod Fed
-pub mod TypeLimits
-pub mod ExpressionLimits
-pub mod ExpressionCheck
-pub mod TypingLaws
 pub mod NumberPlace
 pub mod Token
 pub mod Part
@@ -24,6 +10,5 @@ pub mod Text
 pub mod TextRows
 pub mod NumberLaws
 pub mod Lexeme
-pub mod Gives
 pub mod Form
 pub mod ReadText

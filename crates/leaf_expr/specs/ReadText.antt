@@ -3,9 +3,9 @@ use Rattle.std.specs.Prelude.{◌≡◌, ◌<◌, ℕ, Bool, true, false, List, 
 use Rattle.sample_core.specs.TypeTree.{TypeTree}
 use Rattle.sample_core.specs.SeenType.{type_of}
 use Rattle.sample_core.specs.declared.ty.Ty.{Ty}
-use Rattle.leaf_expr.specs.Expression.{Expression}
-use Rattle.leaf_expr.specs.Seen.{expression_of}
-use Rattle.leaf_expr.specs.declared.expr.Expr.{Expr}
+use Rattle.leaf_core.specs.Expression.{Expression}
+use Rattle.leaf_core.specs.Seen.{expression_of}
+use Rattle.leaf_core.specs.declared.expr.Expr.{Expr}
 use Rattle.leaf_expr.specs.Token.{Placed, closing, tokens_from}
 use Rattle.leaf_expr.specs.NumberPlace.{Reading, reads, misspelt, unfit}
 use Rattle.leaf_expr.specs.declared.word.WordFault.{WordFault}

@@ -3,16 +3,16 @@
 ghost use Rattle.std.specs.Prelude.{◌≡◌, ℕ, ◌-◌, ◌<◌, ◌∷◌, false, List, MatchOption, IfSome, IfOk, IfErr};
 ghost use Rattle.sample_core.specs.SeenType.{type_of};
 ghost use Rattle.sample_core.specs.TypeTree.{TypeTree};
-ghost use Rattle.leaf_expr.specs.Expression.{Expression};
+ghost use Rattle.leaf_core.specs.Expression.{Expression};
 ghost use Rattle.leaf_expr.specs.Form.{form_row, unary_row, binary_row, ternary_row, typed_row};
 ghost use Rattle.leaf_expr.specs.Grammar.{leaf, expression_sort, index_sort, type_sort};
 ghost use Rattle.leaf_expr.specs.Language.{Begins};
 ghost use Rattle.leaf_expr.specs.ReadText.{Gives, GivesText, tree_at, form_at, row_parts, expression_left, type_left, items_at, items_left, begins_closing, IsFault, IsTextFault};
-ghost use Rattle.leaf_expr.specs.Seen.{expression_of};
+ghost use Rattle.leaf_core.specs.Seen.{expression_of};
 ghost use Rattle.leaf_expr.specs.Text.{read_text, IsText};
 ghost use Rattle.leaf_expr.specs.Token.{Placed, closing, tokens_from};
 
-use crate::expr::{Expr, Part, Parts};
+use leaf_core::{Expr, Part, Parts};
 use crate::form::{Binary, Form, Ternary, Typed, Unary, form_named};
 use crate::text_fault::ExprTextFault;
 use crate::token::{Lexeme, lexeme_at, token_at};

@@ -2,12 +2,12 @@
 
 ghost use Rattle.std.specs.Prelude.{◌≡◌, IfOk, option_map, bytes_eq};
 ghost use Rattle.sample_core.specs.SeenType.{type_of};
-ghost use Rattle.leaf_expr.specs.Expression.{sample, fst, then, none_of, make_event, on};
-ghost use Rattle.leaf_expr.specs.Seen.{expression_of};
+ghost use Rattle.leaf_core.specs.Expression.{sample, fst, then, none_of, make_event, on};
+ghost use Rattle.leaf_core.specs.Seen.{expression_of};
 ghost use Rattle.leaf_expr.specs.Form.{form_row, unary_row, binary_row, ternary_row, typed_row, type_row};
 ghost use Rattle.leaf_expr.specs.Grammar.{type_sort, expression_sort, row_at, row_among, other_rows, unary_rows, binary_rows, ternary_rows, typed_rows};
 
-use crate::expr::{Expr, Part};
+use leaf_core::{Expr, Part};
 use sample_core::{Memory, Ty};
 use std::alloc::Global;
 

@@ -3,13 +3,13 @@
 
 ghost use Rattle.std.specs.Prelude.{◌≡◌, ◌++◌, ◌∷◌, [], IfOk, OnOk, string_bytes};
 ghost use Rattle.sample_core.specs.SeenType.{type_of};
-ghost use Rattle.leaf_expr.specs.Expression.{parameter, none_of, make_list, expressions_of};
+ghost use Rattle.leaf_core.specs.Expression.{parameter, none_of, make_list, expressions_of};
 ghost use Rattle.leaf_expr.specs.Part.{spelling};
 ghost use Rattle.leaf_expr.specs.Printed.{expression_part, type_part, one, two, three};
-ghost use Rattle.leaf_expr.specs.Seen.{expression_of, literal_of};
+ghost use Rattle.leaf_core.specs.Seen.{expression_of, literal_of};
 
-use crate::expr::{Expr, Part, Parts};
-use crate::literal::Literal;
+use leaf_core::{Expr, Part, Parts};
+use leaf_core::Literal;
 use itoa::Buffer;
 use sample_core::{Memory, Ty, push_type};
 use std::alloc::Global;

@@ -5,11 +5,11 @@ ghost use Rattle.sample_core.specs.SeenType.{type_of};
 ghost use Rattle.leaf_expr.specs.Grammar.{word_at, type_sort, expression_sort, index_sort};
 ghost use Rattle.leaf_expr.specs.NumberPlace.{integer_at, index};
 ghost use Rattle.leaf_expr.specs.ReadText.{fit, found_word};
-ghost use Rattle.leaf_expr.specs.Seen.{expression_of};
+ghost use Rattle.leaf_core.specs.Seen.{expression_of};
 
-use crate::expr::Expr;
+use leaf_core::Expr;
 use crate::form::is_word;
-use crate::literal::Literal;
+use leaf_core::Literal;
 use sample_core::Ty;
 use sample_core::number::{is_number_spelling, is_number_word, number};
 

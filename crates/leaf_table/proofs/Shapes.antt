@@ -3,11 +3,11 @@ use Rattle.std.proofs.Common.{◌≡◌, ℤ, ◌+ℤ◌, ◌*ℤ◌, List, Some
 use Rattle.std.proofs.lemmas.Int.{int_wrap-add_left}
 use Rattle.std.specs.Int.{int_wrap, w64}
 use Rattle.sample_core.specs.Datum.{Datum, number, whole}
-use Rattle.leaf_expr.specs.ExpressionValue.{wrapped}
-use Rattle.leaf_expr.specs.Shape.{shape, value_by_shape}
-use Rattle.leaf_expr.specs.KeyTree.{KeyTree}
-use Rattle.leaf_expr.specs.declared.shape.Shape.{Shape}
-use Rattle.leaf_expr.proofs.ShapeValue.{shape_values}
+use Rattle.leaf_core.specs.ExpressionValue.{wrapped}
+use Rattle.leaf_core.specs.Shape.{shape, value_by_shape}
+use Rattle.leaf_core.specs.KeyTree.{KeyTree}
+use Rattle.leaf_core.specs.declared.shape.Shape.{Shape}
+use Rattle.leaf_core.proofs.ShapeValue.{shape_values}
 use Rattle.leaf_table.specs.Computes.{Computes}
 
 -- a value that the shape's name and parts give is the value of each key of that shape

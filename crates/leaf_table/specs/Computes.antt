@@ -2,8 +2,8 @@
 use Rattle.std.specs.Prelude.{◌≡◌, List}
 use Rattle.sample_core.specs.Datum.{Datum}
 use Rattle.sample_core.specs.HasType.{HasType, TypedParams}
-use Rattle.leaf_expr.specs.ExpressionValue.{value_of}
-use Rattle.leaf_expr.specs.KeyTree.{KeyTree}
+use Rattle.leaf_core.specs.ExpressionValue.{value_of}
+use Rattle.leaf_core.specs.KeyTree.{KeyTree}
 
 -- v is the value of the key's expression at these arguments, where they are of the key's types
 pub record Computes (key : KeyTree) (ps : List Datum) (x v : Datum) : Type 0 where

@@ -3,10 +3,10 @@
 ghost use Rattle.std.specs.Prelude.{◌≡◌, IfOk, Ok, map};
 ghost use Rattle.sample_core.specs.Seen.{datum_of};
 ghost use Rattle.sample_core.specs.SeenType.{type_of};
-ghost use Rattle.leaf_expr.specs.ExpressionTyping.{ExpressionTyped};
+ghost use Rattle.leaf_core.specs.ExpressionTyping.{ExpressionTyped};
 ghost use Rattle.leaf_table.specs.Computes.{Computes};
 
-use leaf_expr::LeafKey;
+use leaf_core::LeafKey;
 use sample_core::{Sample, Ty};
 use std::alloc::AllocError;
 

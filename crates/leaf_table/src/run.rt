@@ -3,13 +3,13 @@
 
 ghost use Rattle.std.specs.Prelude.{◌≡◌, IfOk, Some, map};
 ghost use Rattle.sample_core.specs.Seen.{datum_of};
-ghost use Rattle.leaf_expr.specs.Shape.{shape, value_by_shape};
-ghost use Rattle.leaf_expr.specs.declared.shape.Shape.TheVariants as S;
-ghost use Rattle.leaf_expr.specs.KeyTree.{KeyTree};
+ghost use Rattle.leaf_core.specs.Shape.{shape, value_by_shape};
+ghost use Rattle.leaf_core.specs.declared.shape.Shape.TheVariants as S;
+ghost use Rattle.leaf_core.specs.KeyTree.{KeyTree};
 ghost use Rattle.leaf_table.specs.Computes.{Computes};
 
 use crate::part::{child, copied, first, number, product, second, sum};
-use leaf_expr::{LeafKey, Literal, eval};
+use leaf_core::{LeafKey, Literal, eval};
 use sample_core::{Memory, Sample};
 use std::alloc::{AllocError, Global};
 

@@ -4,13 +4,13 @@ ghost use Rattle.std.specs.Prelude.{◌≡◌, ◌≤◌, ◌<◌, ◌++◌, ◌
 ghost use Rattle.indexmap.specs.IndexMap.{index_map_len};
 ghost use Rattle.sample_core.specs.HasType.{HasType, TypedParams};
 ghost use Rattle.sample_core.specs.Seen.{datum_of};
-ghost use Rattle.leaf_expr.specs.ExpressionValue.{value_of};
-ghost use Rattle.leaf_expr.specs.KeyTree.{KeyTree};
+ghost use Rattle.leaf_core.specs.ExpressionValue.{value_of};
+ghost use Rattle.leaf_core.specs.KeyTree.{KeyTree};
 
 use crate::fault::TableFault;
 use crate::leaf::Leaf;
 use indexmap::IndexMap;
-use leaf_expr::LeafKey;
+use leaf_core::LeafKey;
 use sample_core::{Memory, Sample};
 use std::alloc::Global;
 

@@ -2,14 +2,14 @@
 use Rattle.std.proofs.Common.{◌≡◌, ℕ, List, [], ◌∷◌, ◌++◌, Result, Ok, Err, IfOk, sym, ap, ◌∙◌, append_assoc, subst}
 use Rattle.std.proofs.Math.Logic.{∥∥₁_elim, ∥∥₁_map}
 use Rattle.sample_core.specs.TypeTree.{TypeTree, unit_ty}
-use Rattle.leaf_expr.specs.Expression.{Expression}
-use Rattle.leaf_expr.specs.ExpressionTyping.{ExpressionTyped}
-use Rattle.leaf_expr.specs.KeyTree.{KeyTree}
-use Rattle.leaf_expr.specs.ExpressionCheck.{TypeAnswer, type_answer}
-use Rattle.leaf_expr.specs.ExpressionLimits.{FullyChecked}
-use Rattle.leaf_expr.specs.declared.typing.ExprFault.{ExprFault}
-use Rattle.leaf_expr.proofs.Exactness.{type_answer-exact}
-use Rattle.leaf_expr.proofs.Uniqueness.{one_type}
+use Rattle.leaf_core.specs.Expression.{Expression}
+use Rattle.leaf_core.specs.ExpressionTyping.{ExpressionTyped}
+use Rattle.leaf_core.specs.KeyTree.{KeyTree}
+use Rattle.leaf_core.specs.ExpressionCheck.{TypeAnswer, type_answer}
+use Rattle.leaf_core.specs.ExpressionLimits.{FullyChecked}
+use Rattle.leaf_core.specs.declared.typing.ExprFault.{ExprFault}
+use Rattle.leaf_core.proofs.Exactness.{type_answer-exact}
+use Rattle.leaf_core.proofs.Uniqueness.{one_type}
 use Rattle.net_syntax.specs.Network.{Network, arr, seq, i_pre}
 use Rattle.net_syntax.specs.Typing as T
 use Rattle.net_syntax.specs.Typing.{Arrow}

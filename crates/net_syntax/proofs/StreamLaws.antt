@@ -1,9 +1,9 @@
 -- Networks of expressions: typed outputs, equal ones in alike environments, and one output type.
 use Rattle.std.proofs.Common.{◌≡◌, List, sym}
 use Rattle.sample_core.specs.TypeTree.{TypeTree}
-use Rattle.leaf_expr.specs.Expression.{Expression}
-use Rattle.leaf_expr.specs.ExpressionValue.{value_of}
-use Rattle.leaf_expr.specs.ExpressionTyping.{ExpressionTyped}
+use Rattle.leaf_core.specs.Expression.{Expression}
+use Rattle.leaf_core.specs.ExpressionValue.{value_of}
+use Rattle.leaf_core.specs.ExpressionTyping.{ExpressionTyped}
 use Rattle.net_syntax.specs.Signal.{Timed}
 use Rattle.net_syntax.specs.Network.{Network}
 use Rattle.net_syntax.specs.Environment.{Environment, context_of}
@@ -11,8 +11,8 @@ use Rattle.net_syntax.specs.Typing.{Arrow, TypedValues, TypedSamples}
 use Rattle.net_syntax.specs.Stream.{outputs_of, NetTyped}
 use Rattle.net_syntax.specs.Same.{SameNet}
 use Rattle.net_syntax.specs.Alike.{EnvironmentTyped, SameOutputs}
-use Rattle.leaf_expr.proofs.Soundness.{typed_value}
-use Rattle.leaf_expr.proofs.Uniqueness.{one_type}
+use Rattle.leaf_core.proofs.Soundness.{typed_value}
+use Rattle.leaf_core.proofs.Uniqueness.{one_type}
 use Rattle.net_syntax.proofs.SameNets.{same-typed}
 use Rattle.net_syntax.specs.NetworkLimits.{NetTypedWithin}
 use Rattle.net_syntax.proofs.Unique.{unique}

@@ -2,8 +2,8 @@
 use Rattle.std.proofs.Common.{◌≡◌, ℕ, zero, suc, ◌<◌, List, [], ◌∷◌, ◌++◌, length, take, drop, refl, sym, ap, ◌∙◌, arith, append-nil, append_assoc}
 use mathlib.Core.Path.{fun_ext}
 use Rattle.sample_core.specs.Datum.{Datum}
-use Rattle.leaf_expr.specs.Expression.{Expression}
-use Rattle.leaf_expr.specs.ExpressionValue.{value_of}
+use Rattle.leaf_core.specs.Expression.{Expression}
+use Rattle.leaf_core.specs.ExpressionValue.{value_of}
 use Rattle.net_syntax.specs.Signal.{Timed, Signal, paired, first_event, cut_at, step_of, routed, resumed, frozen_all}
 use Rattle.net_syntax.specs.Network.{Networks, no_members, and_member}
 use Rattle.net_syntax.specs.Meaning.{old_at, with_olds, meaning, meanings}

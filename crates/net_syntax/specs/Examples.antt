@@ -2,7 +2,7 @@
 use Rattle.std.specs.Prelude.{◌≡◌, ℕ, zero, suc, ◌<◌, pos, negsuc, true, false, List, [], ◌∷◌}
 use Rattle.sample_core.specs.Datum.{Datum, unit, truth, number, pair, no_event, event, list, of_elements}
 use Rattle.sample_core.specs.TypeTree.{unit_ty, int_ty}
-use Rattle.leaf_expr.specs.Expression.{Expression, sample, parameter, unit_literal, truth_literal, number_literal, make_pair, fst, snd, neg, add, less, equal, negation, conjunction, choice, none_of, make_event}
+use Rattle.leaf_core.specs.Expression.{Expression, sample, parameter, unit_literal, truth_literal, number_literal, make_pair, fst, snd, neg, add, less, equal, negation, conjunction, choice, none_of, make_event}
 use Rattle.net_syntax.specs.Signal.{Timed}
 use Rattle.net_syntax.specs.Network.{Network, arr, seq, first, par, loop_pre, i_pre, delay, hold, accum_by, after, repeatedly, time, integral, switch, d_switch, r_switch, k_switch, p_switch, old, networks_of}
 use Rattle.net_syntax.specs.Weight.{weight}

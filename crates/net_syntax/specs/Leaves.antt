@@ -1,10 +1,10 @@
 -- The expressions that are children of a network, from the root on, each with where it stands and its types.
 use Rattle.std.specs.Prelude.{◌≡◌, ℕ, suc, List, [], ◌∷◌, ◌++◌}
 use Rattle.sample_core.specs.TypeTree.{TypeTree, unit_ty, int_ty, pair_ty, event_ty, list_ty}
-use Rattle.leaf_expr.specs.Expression.{Expression}
-use Rattle.leaf_expr.specs.ExpressionTyping.{ExpressionTyped}
-use Rattle.leaf_expr.specs.ExpressionLimits.{FullyChecked}
-use Rattle.leaf_expr.specs.KeyTree.{KeyTree}
+use Rattle.leaf_core.specs.Expression.{Expression}
+use Rattle.leaf_core.specs.ExpressionTyping.{ExpressionTyped}
+use Rattle.leaf_core.specs.ExpressionLimits.{FullyChecked}
+use Rattle.leaf_core.specs.KeyTree.{KeyTree}
 use Rattle.net_syntax.specs.Network.{Network, Networks, arr, seq, first, par, loop_pre, i_pre, delay, hold, accum_by, after, repeatedly, time, integral, switch, d_switch, r_switch, k_switch, p_switch, old, no_members, and_member}
 use Rattle.net_syntax.specs.Typing.{Arrow, OldAt, copies, members}
 use Rattle.net_syntax.specs.Stream.{TypedNetwork, NetTyped}

@@ -1,9 +1,9 @@
 -- Networks within the limits.
 use Rattle.std.specs.Prelude.{◌≤◌, List, []}
 use Rattle.sample_core.specs.TypeTree.{TypeTree}
-use Rattle.leaf_expr.specs.Expression.{Expression}
-use Rattle.leaf_expr.specs.TypeLimits.{TypeFits}
-use Rattle.leaf_expr.specs.ExpressionLimits.{FullyChecked}
+use Rattle.leaf_core.specs.Expression.{Expression}
+use Rattle.leaf_core.specs.TypeLimits.{TypeFits}
+use Rattle.leaf_core.specs.ExpressionLimits.{FullyChecked}
 use Rattle.net_syntax.specs.Network.{Network}
 use Rattle.net_syntax.specs.Typing.{Arrow}
 use Rattle.net_syntax.specs.TypedWithin.{TypedWithin}

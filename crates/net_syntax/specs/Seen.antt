@@ -1,7 +1,7 @@
 -- What the code's networks are as trees.
-use Rattle.leaf_expr.specs.Expression.{Expression}
-use Rattle.leaf_expr.specs.Seen.{expression_of}
-use Rattle.leaf_expr.specs.declared.expr.Expr.{Expr}
+use Rattle.leaf_core.specs.Expression.{Expression}
+use Rattle.leaf_core.specs.Seen.{expression_of}
+use Rattle.leaf_core.specs.declared.expr.Expr.{Expr}
 use Rattle.net_syntax.specs.Network.{Network, arr, seq, i_pre, map_network}
 use Rattle.net_syntax.specs.declared.net.Net.{Net}
 use Rattle.net_syntax.specs.declared.net.Net.TheVariants as V

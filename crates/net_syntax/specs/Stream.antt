@@ -2,9 +2,9 @@
 use Rattle.std.specs.Prelude.{ℕ, List, []}
 use Rattle.sample_core.specs.Datum.{Datum}
 use Rattle.sample_core.specs.TypeTree.{TypeTree}
-use Rattle.leaf_expr.specs.Expression.{Expression}
-use Rattle.leaf_expr.specs.ExpressionValue.{value_of}
-use Rattle.leaf_expr.specs.ExpressionTyping.{ExpressionTyped}
+use Rattle.leaf_core.specs.Expression.{Expression}
+use Rattle.leaf_core.specs.ExpressionValue.{value_of}
+use Rattle.leaf_core.specs.ExpressionTyping.{ExpressionTyped}
 use Rattle.net_syntax.specs.Signal.{Timed}
 use Rattle.net_syntax.specs.Network.{Network}
 use Rattle.net_syntax.specs.Environment.{Environment, closed, outputs}

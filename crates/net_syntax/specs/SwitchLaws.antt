@@ -1,8 +1,8 @@
 -- What the switches put out, said with environments: what takes over runs in the environment with the event's value, and with what was frozen.
 use Rattle.std.specs.Prelude.{◌≡◌, ℕ, suc, ◌<◌, List, ◌++◌, length, take, drop, map, flat_map}
 use Rattle.sample_core.specs.Datum.{Datum, left, right}
-use Rattle.leaf_expr.specs.Expression.{Expression}
-use Rattle.leaf_expr.specs.ExpressionValue.{value_of}
+use Rattle.leaf_core.specs.Expression.{Expression}
+use Rattle.leaf_core.specs.ExpressionValue.{value_of}
 use Rattle.net_syntax.specs.Signal.{Timed, paired, first_event, cut_at, step_of, pieces, routed, collected, resumed}
 use Rattle.net_syntax.specs.Network.{Network, Networks, switch, d_switch, r_switch, k_switch, p_switch, old, no_members, and_member}
 use Rattle.net_syntax.specs.Meaning.{meanings}

@@ -6,7 +6,7 @@ ghost use Rattle.net_syntax.specs.Seen.{tree_of};
 ghost use Rattle.net_syntax.specs.Weight.{weight as weight_of};
 
 use crate::net::Net;
-use leaf_expr::Expr;
+use leaf_core::Expr;
 use sample_core::Memory;
 use std::alloc::Global;
 

@@ -1,10 +1,10 @@
 // What a network needs a stored closure for.
 
 ghost use Rattle.sample_core.specs.SeenType.{type_of};
-ghost use Rattle.leaf_expr.specs.ExpressionTyping.{ExpressionTyped};
+ghost use Rattle.leaf_core.specs.ExpressionTyping.{ExpressionTyped};
 
 use crate::position::Position;
-use leaf_expr::LeafKey;
+use leaf_core::LeafKey;
 use sample_core::Ty;
 
 /// An expression of a network: where it stands, by what a stored closure for it is found, and its

@@ -2,8 +2,8 @@
 
 ghost use Rattle.std.specs.Prelude.{◌≡◌, IfOk, OnOk, Ok, map};
 ghost use Rattle.sample_core.specs.SeenType.{type_of};
-ghost use Rattle.leaf_expr.specs.Seen.{expression_of};
-ghost use Rattle.leaf_expr.specs.ExpressionCheck.{type_answer};
+ghost use Rattle.leaf_core.specs.Seen.{expression_of};
+ghost use Rattle.leaf_core.specs.ExpressionCheck.{type_answer};
 ghost use Rattle.net_syntax.specs.Seen.{tree_of};
 ghost use Rattle.net_syntax.specs.SeenNeed.{need_of};
 ghost use Rattle.net_syntax.specs.Leaves.{need_at, LeavesOf, Adds, IsTyped, IsChecked};
@@ -12,7 +12,7 @@ use crate::need::LeafNeed;
 use crate::net::Net;
 use crate::position::Position;
 use crate::typed_net::TypedNet;
-use leaf_expr::{Expr, ExprFault, LeafKey, type_of_expr};
+use leaf_core::{Expr, ExprFault, LeafKey, type_of_expr};
 use sample_core::{Memory, Ty};
 use std::alloc::Global;
 

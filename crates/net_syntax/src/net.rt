@@ -3,7 +3,7 @@
 ghost use Rattle.std.specs.Prelude.{◌≡◌, IfOk};
 ghost use Rattle.net_syntax.specs.Seen.{network_of};
 
-use leaf_expr::Expr;
+use leaf_core::Expr;
 use sample_core::Memory;
 use std::alloc::Global;
 use std::marker::Model;

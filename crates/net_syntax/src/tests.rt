@@ -3,7 +3,7 @@
 use crate::measure::weight;
 use crate::net::{Net, Sub};
 use crate::position::{Position, print_position};
-use leaf_expr::{Expr, Literal, Part};
+use leaf_core::{Expr, Literal, Part};
 use sample_core::Memory;
 use std::alloc::Global;
 

@@ -7,7 +7,7 @@ ghost use Rattle.net_syntax.specs.Stream.{HoldsTypes};
 ghost use Rattle.net_syntax.specs.WithinLimits.{WithinLimits};
 
 use crate::net::Net;
-use leaf_expr::Expr;
+use leaf_core::Expr;
 use sample_core::Ty;
 use std::marker::Model;
 

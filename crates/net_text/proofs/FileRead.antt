@@ -6,8 +6,8 @@ use Rattle.std.proofs.lemmas.Slice.Eq.{bytes_eq-Decides}
 use Rattle.sample_core.specs.TypeTree.{TypeTree}
 use Rattle.sample_core.specs.SeenType.{type_of}
 use Rattle.sample_core.specs.declared.ty.Ty.{Ty}
-use Rattle.leaf_expr.specs.Expression.{Expression}
-use Rattle.leaf_expr.specs.declared.expr.Expr.{Expr}
+use Rattle.leaf_core.specs.Expression.{Expression}
+use Rattle.leaf_core.specs.declared.expr.Expr.{Expr}
 use Rattle.leaf_expr.specs.Token.{opening, closing, word, Placed, tokens}
 use Rattle.leaf_expr.specs.Language.{Begins}
 use Rattle.leaf_expr.specs.Grammar.{leaf, type_sort}

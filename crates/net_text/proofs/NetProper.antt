@@ -5,7 +5,7 @@ use Rattle.sample_core.specs.Number.{is_number_word}
 use Rattle.leaf_expr.specs.NumberPlace.{Reading, reads, misspelt, unfit}
 use Rattle.leaf_expr.specs.Token.{opening, closing, word, Placed}
 use Rattle.leaf_expr.specs.Part.{atom, form, last, more, atom_spells, form_spells, last_spells, more_spells}
-use Rattle.leaf_expr.specs.Expression.{sample}
+use Rattle.leaf_core.specs.Expression.{sample}
 use Rattle.leaf_expr.specs.Grammar.{leaf, Sort, word_at, row_at, words, rows}
 use Rattle.leaf_expr.specs.ReadLaws.{Completes}
 use Rattle.leaf_expr.proofs.Proper.{Proper}

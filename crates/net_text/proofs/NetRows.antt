@@ -1,7 +1,7 @@
 -- Each form of networks, read once, and the sugar.
 use Rattle.std.proofs.Common.{refl, Option, Some, None, ◌≡◌}
 use Rattle.std.specs.Prelude.{option_and_then}
-use Rattle.leaf_expr.specs.Expression.{Expression, unit_literal, then}
+use Rattle.leaf_core.specs.Expression.{Expression, unit_literal, then}
 use Rattle.leaf_expr.specs.Language.{meaning}
 use Rattle.leaf_expr.specs.Grammar.{expression_sort, word_at, row_at, words, rows}
 use Rattle.net_syntax.specs.Network.{arr}

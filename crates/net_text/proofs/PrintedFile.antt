@@ -3,7 +3,7 @@ use Rattle.std.proofs.Common.{◌≡◌, ℕ, suc, ◌+◌, ◌≤◌, true, fal
 use Rattle.std.specs.Prelude.{codes}
 use Rattle.sample_core.specs.TypeTree.{TypeTree}
 use Rattle.sample_core.specs.Spelling.{type_spelling}
-use Rattle.leaf_expr.specs.Expression.{Expression}
+use Rattle.leaf_core.specs.Expression.{Expression}
 use Rattle.leaf_expr.specs.Token.{Placed, word, tokens, tokens_in, begins_word}
 use Rattle.leaf_expr.specs.Part.{plain, depth, spelling}
 use Rattle.leaf_expr.specs.Language.{Begins, meaning}

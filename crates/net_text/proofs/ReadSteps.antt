@@ -1,7 +1,7 @@
 -- Steps of reading networks, as the code takes them.
 use Rattle.std.proofs.Common.{◌≡◌, ◌≢◌, ℕ, zero, suc, ◌+◌, ◌-◌, ◌≤◌, List, ◌∷◌, refl, sym, ap, subst, ◌∙◌, arith, Result, Ok, Err, Some, None}
 use Rattle.leaf_expr.specs.Token.{opening, Placed}
-use Rattle.leaf_expr.specs.Expression.{Expression}
+use Rattle.leaf_core.specs.Expression.{Expression}
 use Rattle.leaf_expr.specs.Language.{no_place}
 use Rattle.leaf_expr.specs.Grammar.{leaf, expression_sort}
 use Rattle.leaf_expr.specs.Reader.{Fault, syntax, ◌>>=◌, read, read_form, read_head, read_row, read_parts, read_end}

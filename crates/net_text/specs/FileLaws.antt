@@ -1,7 +1,7 @@
 -- What reading a network file answers, said by the grammar alone.
 use Rattle.std.specs.Prelude.{◌≡◌, ℕ, ◌≤◌, ◌<◌, List, [], ◌∷◌, length, codes, Ok}
 use Rattle.sample_core.specs.TypeTree.{TypeTree}
-use Rattle.leaf_expr.specs.Expression.{Expression}
+use Rattle.leaf_core.specs.Expression.{Expression}
 use Rattle.leaf_expr.specs.Token.{Placed, word, tokens}
 use Rattle.leaf_expr.specs.Part.{Part, depth, spelling}
 use Rattle.leaf_expr.specs.Language.{Begins, meaning}

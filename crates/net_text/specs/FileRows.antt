@@ -1,7 +1,7 @@
 -- Each form of networks, read once, and the sugar in terms of the core forms.
 use Rattle.std.specs.Prelude.{◌≡◌, ℕ, List, ◌++◌, pos, Ok, Err, codes}
 use Rattle.sample_core.specs.TypeTree.{int_ty}
-use Rattle.leaf_expr.specs.Expression.{Expression, sample, unit_literal, number_literal}
+use Rattle.leaf_core.specs.Expression.{Expression, sample, unit_literal, number_literal}
 use Rattle.leaf_expr.specs.Part.{Part, atom}
 use Rattle.leaf_expr.specs.Language.{meaning}
 use Rattle.leaf_expr.specs.Printed.{one, two}

@@ -1,6 +1,6 @@
 -- The code's forms as rows of the grammar.
 use Rattle.std.specs.Prelude.{ℕ, List, codes}
-use Rattle.leaf_expr.specs.Expression.{Expression, unit_literal, then}
+use Rattle.leaf_core.specs.Expression.{Expression, unit_literal, then}
 use Rattle.leaf_expr.specs.Language.{no_place}
 use Rattle.net_syntax.specs.Network.{Network, arr, seq, i_pre}
 use Rattle.net_text.specs.Grammar.{NetRow, row, e, f}

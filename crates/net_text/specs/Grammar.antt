@@ -1,7 +1,7 @@
 -- The grammar of networks, on top of that of types and expressions: a table of words, and a table of forms.
 use Rattle.std.specs.Prelude.{ℕ, true, false, Bool, List, [], ◌∷◌, Option, Some, None, option_map, bytes_eq, codes, if◌then◌else◌}
 use Rattle.leaf_expr.specs.NumberPlace.{Reading, unfit}
-use Rattle.leaf_expr.specs.Expression.{Expression, sample, unit_literal, then}
+use Rattle.leaf_core.specs.Expression.{Expression, sample, unit_literal, then}
 use Rattle.leaf_expr.specs.Language.{Language, Places, Maker, Row, no_place, place, places}
 use Rattle.leaf_expr.specs.Grammar.{Sort, Tree, expression_sort, word_at, row_at, has_form, takes_number, word_among}
 use Rattle.net_syntax.specs.Network.{Network, arr, seq, i_pre}

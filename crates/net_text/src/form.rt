@@ -1,7 +1,7 @@
 // The forms of networks, by the word that each begins with.
 
 ghost use Rattle.std.specs.Prelude.{◌≡◌, IfOk, option_map, bytes_eq};
-ghost use Rattle.leaf_expr.specs.Seen.{expression_of};
+ghost use Rattle.leaf_core.specs.Seen.{expression_of};
 ghost use Rattle.net_syntax.specs.Seen.{tree_of};
 ghost use Rattle.net_text.specs.Form.{form_row, leaf_form_of};
 ghost use Rattle.net_text.specs.Grammar.{net_row_at, net_word_at, network_sort};

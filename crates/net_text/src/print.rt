@@ -4,7 +4,7 @@ ghost use Rattle.std.specs.Prelude.{◌≡◌, ◌++◌, IfOk, OnOk, string_byte
 ghost use Rattle.sample_core.specs.SeenType.{type_of};
 ghost use Rattle.leaf_expr.specs.Part.{spelling};
 ghost use Rattle.leaf_expr.specs.Printed.{one, two, expression_part};
-ghost use Rattle.leaf_expr.specs.Seen.{expression_of};
+ghost use Rattle.leaf_core.specs.Seen.{expression_of};
 ghost use Rattle.net_syntax.specs.Network.{map_network};
 ghost use Rattle.net_syntax.specs.Seen.{tree_of};
 ghost use Rattle.net_text.specs.Printed.{network_part, file_spelling};

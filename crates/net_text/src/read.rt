@@ -3,9 +3,9 @@
 ghost use Rattle.std.specs.Prelude.{◌≡◌, ◌≤◌, length, option_map, IfOk, IfErr};
 ghost use Rattle.leaf_expr.specs.Grammar.{expression_sort};
 ghost use Rattle.leaf_expr.specs.ReadText.{Gives, tree_at, expression_left};
-ghost use Rattle.leaf_expr.specs.Seen.{expression_of};
+ghost use Rattle.leaf_core.specs.Seen.{expression_of};
 ghost use Rattle.leaf_expr.specs.Token.{tokens, tokens_from};
-ghost use Rattle.leaf_expr.specs.Expression.{Expression};
+ghost use Rattle.leaf_core.specs.Expression.{Expression};
 ghost use Rattle.sample_core.specs.TypeTree.{TypeTree};
 ghost use Rattle.net_syntax.specs.Network.{Network, map_network};
 ghost use Rattle.net_syntax.specs.Seen.{tree_of};

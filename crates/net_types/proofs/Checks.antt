@@ -1,11 +1,11 @@
 -- The walk and the check answer exactly the networks within the limits.
 use Rattle.std.proofs.Common.{◌≡◌, ◌∙◌, ℕ, true, min, arith, leb, [], Ok, refl, ◌≤◌, sym, le-leb, leb-true}
 use Rattle.sample_core.specs.TypeTree.{TypeTree}
-use Rattle.leaf_expr.specs.Expression.{Expression}
-use Rattle.leaf_expr.specs.TypeLimits.{type_fits}
-use Rattle.leaf_expr.specs.ExpressionCheck.{type_answer}
-use Rattle.leaf_expr.specs.ExpressionLimits.{FullyChecked}
-use Rattle.leaf_expr.proofs.Exactness.{type_answer-exact}
+use Rattle.leaf_core.specs.Expression.{Expression}
+use Rattle.leaf_core.specs.TypeLimits.{type_fits}
+use Rattle.leaf_core.specs.ExpressionCheck.{type_answer}
+use Rattle.leaf_core.specs.ExpressionLimits.{FullyChecked}
+use Rattle.leaf_core.proofs.Exactness.{type_answer-exact}
 use Rattle.net_syntax.specs.Network.{Network}
 use Rattle.net_syntax.specs.Height.{height}
 use Rattle.net_syntax.specs.Weight.{weight}

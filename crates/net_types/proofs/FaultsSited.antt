@@ -1,10 +1,10 @@
 -- Each fault of the walk stands at a position of the network: an expression's at an expression, the others at a network.
 use Rattle.std.proofs.Common.{◌≡◌, ◌∙◌, ℕ, zero, suc, ◌^◌, Bool, true, false, leb, ◌&&◌, List, [], ◌∷◌, ◌++◌, Option, Some, option_map, Result, Ok, Err, refl, sym, ap, subst, append_assoc, append-nil}
 use Rattle.sample_core.specs.TypeTree.{TypeTree, unit_ty, int_ty, pair_ty, event_ty, list_ty}
-use Rattle.leaf_expr.specs.TypeLimits.{type_fits, same_tree}
-use Rattle.leaf_expr.specs.Expression.{Expression}
-use Rattle.leaf_expr.specs.ExpressionCheck.{type_answer}
-use Rattle.leaf_expr.specs.declared.typing.ExprFault.{ExprFault}
+use Rattle.leaf_core.specs.TypeLimits.{type_fits, same_tree}
+use Rattle.leaf_core.specs.Expression.{Expression}
+use Rattle.leaf_core.specs.ExpressionCheck.{type_answer}
+use Rattle.leaf_core.specs.declared.typing.ExprFault.{ExprFault}
 use Rattle.net_syntax.specs.Network.{Network, Networks, arr, seq, first, par, loop_pre, i_pre, delay, hold, accum_by, after, repeatedly, time, integral, switch, d_switch, r_switch, k_switch, p_switch, old, no_members, and_member}
 use Rattle.net_syntax.specs.Typing.{Arrow, copies, members}
 use Rattle.net_syntax.specs.Height.{height}

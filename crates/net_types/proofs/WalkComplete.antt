@@ -3,7 +3,7 @@ use Rattle.std.proofs.Common.{◌≡◌, ℕ, suc, List, [], ◌∷◌, ◌++◌
 use Rattle.net_syntax.specs.Network.{Network, Networks, no_members, and_member}
 use Rattle.sample_core.specs.TypeTree.{TypeTree, unit_ty, int_ty, pair_ty, event_ty, list_ty}
 use Rattle.net_syntax.specs.Typing.{Arrow, LeafTyping, copies, members}
-use Rattle.leaf_expr.specs.TypeLimits.{TypeFits}
+use Rattle.leaf_core.specs.TypeLimits.{TypeFits}
 use Rattle.net_types.specs.Walk.{LeafChecker, ◌↓◌, all_same, one_output, placed, leaf, walk, walk_all}
 use Rattle.net_syntax.specs.TypedWithin.{TypedWithin, AllWithin, arr_within, seq_within, first_within, par_within, loop_within, i_pre_within, delay_within, hold_within, accum_within, after_within, repeatedly_within, time_within, integral_within, switch_within, d_switch_within, r_switch_within, k_switch_within, p_switch_within, old_within, no_members_within, and_member_within}
 use Rattle.net_types.proofs.WalkTests.{goes_on, within_passes, same_passes, between_passes, counted_passes, frozen_passes, IsExact}

@@ -3,8 +3,8 @@ use Rattle.std.proofs.Common.{◌≡◌, ◌∙◌, ℕ, suc, List, [], ◌∷�
 use Rattle.net_syntax.specs.Network.{Network, Networks, arr, seq, first, par, loop_pre, i_pre, delay, hold, accum_by, after, repeatedly, time, integral, switch, d_switch, r_switch, k_switch, p_switch, old, no_members, and_member}
 use Rattle.sample_core.specs.TypeTree.{TypeTree, unit_ty, int_ty, pair_ty, event_ty, list_ty}
 use Rattle.net_syntax.specs.Typing.{Arrow, LeafTyping, copies, members}
-use Rattle.leaf_expr.specs.TypeLimits.{TypeFits}
-use Rattle.leaf_expr.specs.declared.typing.ExprFault.{ExprFault}
+use Rattle.leaf_core.specs.TypeLimits.{TypeFits}
+use Rattle.leaf_core.specs.declared.typing.ExprFault.{ExprFault}
 use Rattle.net_types.specs.Walk.{LeafChecker, ◌↓◌, within, same, all_same, one_output, placed, leaf, walk, walk_all}
 use Rattle.net_syntax.specs.TypedWithin.{TypedWithin, AllWithin, arr_within, seq_within, first_within, par_within, loop_within, i_pre_within, delay_within, hold_within, accum_within, after_within, repeatedly_within, time_within, integral_within, switch_within, d_switch_within, r_switch_within, k_switch_within, p_switch_within, old_within, no_members_within, and_member_within}
 use Rattle.net_types.proofs.WalkTests.{Holds, ok_holds, err_holds, next, weaker, within_tells, same_tells, pair_tells, event_tells, between_tells, counted_tells, frozen_tells, IsExact}

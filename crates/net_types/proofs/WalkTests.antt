@@ -3,11 +3,11 @@ use Rattle.std.proofs.Common.{◌≡◌, ◌∙◌, ℕ, zero, suc, ◌≤◌, B
 use Rattle.net_syntax.specs.Network.{Networks}
 use Rattle.sample_core.specs.TypeTree.{TypeTree, pair_ty, event_ty}
 use Rattle.net_syntax.specs.Typing.{Arrow, OldAt, old_here, old_after, members, LeafTyping}
-use Rattle.leaf_expr.specs.TypeLimits.{depth_of, nodes_of, TypeFits, type_fits, same_tree}
+use Rattle.leaf_core.specs.TypeLimits.{depth_of, nodes_of, TypeFits, type_fits, same_tree}
 use Rattle.net_types.specs.declared.fault.TypeFault.{TypeFault}
 use Rattle.net_types.specs.declared.fault.TypeFault.TheVariants as Fault
 use Rattle.net_types.specs.Walk.{LeafChecker, ◌>>=◌, ◌>>◌, test, within, same, as_pair, as_event, between, counted, frozen}
-use Rattle.leaf_expr.proofs.Exactness.{same_tree-true, same_tree-refl}
+use Rattle.leaf_core.proofs.Exactness.{same_tree-true, same_tree-refl}
 
 -- the checker finds a leaf's type, and answers no other
 abbrev pub IsExact : {L : Type 0} → LeafChecker L → LeafTyping L → Type 0

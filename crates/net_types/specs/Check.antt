@@ -1,8 +1,8 @@
 -- The check of a whole network.
 use Rattle.std.specs.Prelude.{◌≡◌, ◌≢◌, ℕ, leb, List, [], Result, Ok, Err, MatchResult}
 use Rattle.sample_core.specs.TypeTree.{TypeTree}
-use Rattle.leaf_expr.specs.Expression.{Expression}
-use Rattle.leaf_expr.specs.ExpressionCheck.{type_answer}
+use Rattle.leaf_core.specs.Expression.{Expression}
+use Rattle.leaf_core.specs.ExpressionCheck.{type_answer}
 use Rattle.net_syntax.specs.Network.{Network}
 use Rattle.net_syntax.specs.Weight.{weight}
 use Rattle.net_syntax.specs.Height.{height}

@@ -1,7 +1,7 @@
 -- What is to hold of the walk and of the check.
 use Rattle.std.specs.Prelude.{◌≡◌, ◌↔◌, ℕ, List, [], Ok, Err}
 use Rattle.sample_core.specs.TypeTree.{TypeTree}
-use Rattle.leaf_expr.specs.Expression.{Expression}
+use Rattle.leaf_core.specs.Expression.{Expression}
 use Rattle.net_syntax.specs.Network.{Network}
 use Rattle.net_syntax.specs.Typing.{Arrow}
 use Rattle.net_syntax.specs.Stream.{TypedNetwork}

@@ -1,8 +1,8 @@
 -- The walk of the type checker: each node's tests in their order, and the first that fails.
 use Rattle.std.specs.Prelude.{ℕ, zero, suc, Bool, true, false, ◌&&◌, leb, List, [], ◌∷◌, ◌++◌, ◌^◌, Result, Ok, Err}
 use Rattle.sample_core.specs.TypeTree.{TypeTree, unit_ty, int_ty, pair_ty, event_ty, list_ty}
-use Rattle.leaf_expr.specs.TypeLimits.{type_fits, same_tree}
-use Rattle.leaf_expr.specs.declared.typing.ExprFault.{ExprFault}
+use Rattle.leaf_core.specs.TypeLimits.{type_fits, same_tree}
+use Rattle.leaf_core.specs.declared.typing.ExprFault.{ExprFault}
 use Rattle.net_syntax.specs.Network.{Network, Networks, arr, seq, first, par, loop_pre, i_pre, delay, hold, accum_by, after, repeatedly, time, integral, switch, d_switch, r_switch, k_switch, p_switch, old, no_members, and_member}
 use Rattle.net_syntax.specs.Typing.{Arrow, copies, members}
 use Rattle.net_types.specs.declared.fault.TypeFault.{TypeFault}

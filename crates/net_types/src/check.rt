@@ -6,7 +6,7 @@ ghost use Rattle.net_types.specs.Check.{check, Gives};
 
 use crate::fault::TypeFault;
 use crate::walk::walk;
-use leaf_expr::{Expr, type_fits};
+use leaf_core::{Expr, type_fits};
 use net_syntax::{MOST_HEIGHT, MOST_WEIGHT, Net, TypedNet, height, weight};
 use sample_core::Ty;
 use std::alloc::Global;

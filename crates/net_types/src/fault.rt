@@ -2,7 +2,7 @@
 
 ghost use Rattle.std.specs.Prelude.{◌≡◌};
 
-use leaf_expr::ExprFault;
+use leaf_core::ExprFault;
 use net_syntax::Position;
 use sample_core::Memory;
 use std::alloc::{AllocError, AllocFailed};

@@ -2,7 +2,7 @@
 
 use crate::check::check_types;
 use crate::fault::TypeFault;
-use leaf_expr::{Expr, ExprFault, Literal, Part};
+use leaf_core::{Expr, ExprFault, Literal, Part};
 use net_syntax::{Net, Sub};
 use sample_core::{Memory, Ty, TyChild};
 use std::alloc::Global;

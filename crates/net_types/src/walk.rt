@@ -2,14 +2,14 @@
 
 ghost use Rattle.std.specs.Prelude.{◌≡◌, [], OnOk};
 ghost use Rattle.sample_core.specs.SeenType.{type_of};
-ghost use Rattle.leaf_expr.specs.Seen.{expression_of};
-ghost use Rattle.leaf_expr.specs.ExpressionCheck.{type_answer};
+ghost use Rattle.leaf_core.specs.Seen.{expression_of};
+ghost use Rattle.leaf_core.specs.ExpressionCheck.{type_answer};
 ghost use Rattle.net_syntax.specs.Seen.{tree_of};
 ghost use Rattle.net_types.specs.Walk.{◌↓◌, placed, same};
 ghost use Rattle.net_types.specs.Check.{net_walk, Gives};
 
 use crate::fault::TypeFault;
-use leaf_expr::{Expr, ExprFault, type_of_expr};
+use leaf_core::{Expr, ExprFault, type_of_expr};
 use net_syntax::{Net, Position};
 use sample_core::{Ty, same_type};
 use std::alloc::Global;

@@ -6,11 +6,11 @@ use Rattle.std.proofs.lemmas.Option.{slice_get_within}
 use Rattle.sample_core.specs.Datum.{Datum, unit}
 use Rattle.sample_core.specs.TypeTree.{TypeTree}
 use Rattle.sample_core.specs.HasType.{HasType, TypedParams, unit_has, no_params}
-use Rattle.leaf_expr.specs.ExpressionValue.{value_of}
-use Rattle.leaf_expr.specs.KeyTree.{KeyTree}
+use Rattle.leaf_core.specs.ExpressionValue.{value_of}
+use Rattle.leaf_core.specs.KeyTree.{KeyTree}
 use Rattle.net_syntax.specs.Network.{Network, arr, seq, i_pre}
 use Rattle.net_syntax.specs.Typing as T
-use Rattle.leaf_expr.proofs.Soundness.{typed_value}
+use Rattle.leaf_core.proofs.Soundness.{typed_value}
 use Rattle.step_core.specs.Cell.{previous}
 use Rattle.step_core.specs.State.{arr_state, seq_state, cell_state}
 use Rattle.step_core.specs.Engine as G

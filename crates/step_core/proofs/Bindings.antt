@@ -2,8 +2,8 @@
 use Rattle.std.proofs.Common.{◌≡◌, ℕ, zero, suc, ◌+◌, ◌<◌, List, [], ◌∷◌, ◌++◌, Some, slice_get, get_or, take, length, map, refl, sym, ap, ap₂, ◌∙◌, subst, arith, append_assoc, append-nil, add-one, Contains, inl, inr}
 use Rattle.std.proofs.lemmas.Option.{slice_get_within, get_or_from_slice_get}
 use Rattle.std.proofs.lemmas.List.Elements.{All-cons, All-nil, Contains-get_or}
-use Rattle.leaf_expr.specs.Expression.{Expression}
-use Rattle.leaf_expr.specs.KeyTree.{KeyTree}
+use Rattle.leaf_core.specs.Expression.{Expression}
+use Rattle.leaf_core.specs.KeyTree.{KeyTree}
 use Rattle.net_syntax.specs.SeenNeed.{need_of}
 use Rattle.net_syntax.specs.Stream.{TypedNetwork}
 use Rattle.net_syntax.specs.declared.need.LeafNeed.{LeafNeed}

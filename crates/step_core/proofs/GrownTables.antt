@@ -1,7 +1,7 @@
 -- What is bound to a table stays bound to it when it grows.
 use Rattle.std.proofs.Common.{◌≡◌, ℕ, zero, suc, List, [], ◌∷◌, ◌++◌, Some, slice_get, refl, sym, ap, ◌∙◌}
 use Rattle.sample_core.specs.TypeTree.{TypeTree}
-use Rattle.leaf_expr.specs.KeyTree.{KeyTree}
+use Rattle.leaf_core.specs.KeyTree.{KeyTree}
 use Rattle.net_syntax.specs.Network.{Network, Networks, map_networks, arr, seq, first, par, loop_pre, i_pre, delay, hold, accum_by, after, repeatedly, switch, d_switch, r_switch, k_switch, p_switch, and_member}
 use Rattle.net_syntax.specs.Typing as T
 use Rattle.net_syntax.specs.Typing.{Arrow, Typed, AllTyped}

@@ -1,14 +1,14 @@
 -- A typed network has one list of expressions.
 use Rattle.std.proofs.Common.{◌≡◌, ℕ, suc, ◌≤◌, List, [], ◌∷◌, ◌++◌, refl, sym, ap, ap₂, ◌∙◌, subst, arith}
 use Rattle.sample_core.specs.TypeTree.{TypeTree, unit_ty, int_ty, pair_ty, event_ty, list_ty}
-use Rattle.leaf_expr.specs.Expression.{Expression}
-use Rattle.leaf_expr.proofs.Uniqueness.{one_type}
+use Rattle.leaf_core.specs.Expression.{Expression}
+use Rattle.leaf_core.proofs.Uniqueness.{one_type}
 use Rattle.net_syntax.specs.Network.{Network, Networks}
 use Rattle.net_syntax.specs.Typing as T
 use Rattle.net_syntax.specs.Typing.{Arrow, OldAt, old_here, old_after, copies, members, AllTyped}
 use Rattle.net_syntax.specs.Stream.{NetTyped}
 use Rattle.net_syntax.specs.Leaves.{Need, need_at, Leaves, arr_leaves, seq_leaves, first_leaves, par_leaves, loop_leaves, i_pre_leaves, delay_leaves, hold_leaves, accum_leaves, after_leaves, repeatedly_leaves, time_leaves, integral_leaves, switch_leaves, d_switch_leaves, r_switch_leaves, k_switch_leaves, p_switch_leaves, old_leaves, MemberLeaves, no_member_leaves, and_member_leaves}
-use Rattle.leaf_expr.specs.ExpressionTyping.{ExpressionTyped}
+use Rattle.leaf_core.specs.ExpressionTyping.{ExpressionTyped}
 use Rattle.step_core.specs.OneList.{OneListLaw}
 
 one_old : (Os : List Arrow) (k : ℕ) (o q : Arrow) → OldAt Os k o → OldAt Os k q → o ≡ q

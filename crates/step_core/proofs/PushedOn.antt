@@ -3,7 +3,7 @@ use Rattle.std.proofs.Common.{◌≡◌, ℕ, suc, ◌<◌, List, [], ◌∷◌,
 use Rattle.std.proofs.Math.Logic.{∥∥₁_map}
 use Rattle.sample_core.specs.Datum.{Datum}
 use Rattle.sample_core.specs.HasType.{HasType}
-use Rattle.leaf_expr.specs.ExpressionValue.{value_of}
+use Rattle.leaf_core.specs.ExpressionValue.{value_of}
 use Rattle.net_syntax.specs.Network.{Network}
 use Rattle.net_syntax.specs.Signal.{Timed}
 use Rattle.net_syntax.specs.Stream.{stream_of}
@@ -11,7 +11,7 @@ use Rattle.step_core.specs.Course.{Took}
 use Rattle.step_core.specs.Setting.{course}
 use Rattle.step_core.specs.Stands.{Stands}
 use Rattle.step_core.specs.Run.{nowhere}
-use Rattle.leaf_expr.specs.KeyTree.{KeyTree}
+use Rattle.leaf_core.specs.KeyTree.{KeyTree}
 use Rattle.step_core.specs.Bound.{Binding, FitsTable}
 use Rattle.step_core.specs.RowTyping.{FitsRows}
 use Rattle.step_core.specs.Held.{Holds, Begun, Moved, BegunWhere, MovedWhere}

@@ -3,7 +3,7 @@ use Rattle.std.specs.Prelude.{ℕ, List, refl}
 use Rattle.std.specs.Coded.{Coded, code_by, coded×, coded_ℕ}
 use Rattle.sample_core.specs.TypeTree.{TypeTree}
 use Rattle.sample_core.specs.TypeCode.{type_code}
-use Rattle.leaf_expr.specs.KeyTree.{KeyTree}
+use Rattle.leaf_core.specs.KeyTree.{KeyTree}
 use Rattle.net_syntax.specs.Network.{Network}
 use Rattle.net_syntax.specs.NetworkCode.{network_code}
 use Rattle.step_core.specs.RowTyping.{RowsTyped}

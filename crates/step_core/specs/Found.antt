@@ -1,7 +1,7 @@
 -- Which expressions of a network have rows in a table, and the network with the rows in their place.
 use Rattle.std.specs.Prelude.{◌≡◌, ℕ, List, [], ◌∷◌, ◌++◌, All, Contains, Some, slice_get, ◌⊎◌}
-use Rattle.leaf_expr.specs.Expression.{Expression}
-use Rattle.leaf_expr.specs.KeyTree.{KeyTree}
+use Rattle.leaf_core.specs.Expression.{Expression}
+use Rattle.leaf_core.specs.KeyTree.{KeyTree}
 use Rattle.sample_core.specs.TypeTree.{TypeTree}
 use Rattle.net_syntax.specs.Leaves.{Need, Leaves, LeavesOf}
 use Rattle.net_syntax.specs.Stream.{TypedNetwork}

@@ -1,6 +1,6 @@
 -- What a table's further rows change of what is bound to it: nothing.
 use Rattle.std.specs.Prelude.{◌≡◌, List, ◌++◌}
-use Rattle.leaf_expr.specs.KeyTree.{KeyTree}
+use Rattle.leaf_core.specs.KeyTree.{KeyTree}
 use Rattle.step_core.specs.Bound.{Binding, FitsTable}
 use Rattle.step_core.specs.RowTyping.{network_by}
 

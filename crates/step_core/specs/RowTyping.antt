@@ -1,9 +1,9 @@
 -- Networks over the rows of a table of stored closures, which contracts see as the list of the rows' keys.
 use Rattle.std.specs.Prelude.{◌≡◌, ℕ, List, [], Option, Some, None, slice_get}
 use Rattle.sample_core.specs.TypeTree.{TypeTree}
-use Rattle.leaf_expr.specs.Expression.{Expression, sample}
-use Rattle.leaf_expr.specs.ExpressionTyping.{ExpressionTyped}
-use Rattle.leaf_expr.specs.KeyTree.{KeyTree}
+use Rattle.leaf_core.specs.Expression.{Expression, sample}
+use Rattle.leaf_core.specs.ExpressionTyping.{ExpressionTyped}
+use Rattle.leaf_core.specs.KeyTree.{KeyTree}
 use Rattle.net_syntax.specs.Network.{Network, map_network}
 use Rattle.net_syntax.specs.Typing.{Typed}
 

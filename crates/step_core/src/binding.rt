@@ -11,7 +11,7 @@ ghost use Rattle.step_core.specs.Found.{FindsAll, IsFirstRow, Lowered, Misses, M
 
 use crate::bound::Bound;
 use crate::fault::BindFault;
-use leaf_expr::Expr;
+use leaf_core::Expr;
 use leaf_table::{LeafId, LeafTable};
 use net_syntax::{LeafNeed, Net, Position, Sub, TypedNet, leaves};
 use sample_core::Memory;

@@ -1,7 +1,7 @@
 -- What a file leads to, and a command line on it.
 use Rattle.std.proofs.Common.{◌≡◌, ◌≢◌, inr, ℕ, List, Some, Ok, Err}
 use Rattle.sample_core.specs.TypeTree.{TypeTree}
-use Rattle.leaf_expr.specs.Expression.{Expression}
+use Rattle.leaf_core.specs.Expression.{Expression}
 use Rattle.net_syntax.specs.Network.{Network}
 use Rattle.net_syntax.specs.Stream.{TypedNetwork}
 use Rattle.net_text.specs.FileLaws.{IsFile, IsFileFault}

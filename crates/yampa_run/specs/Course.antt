@@ -4,7 +4,7 @@ use Rattle.sample_core.specs.Datum.{Datum}
 use Rattle.sample_core.specs.HasType.{HasType}
 use Rattle.sample_core.specs.Spelling.{spelling}
 use Rattle.sample_core.specs.TypeTree.{TypeTree}
-use Rattle.leaf_expr.specs.KeyTree.{KeyTree}
+use Rattle.leaf_core.specs.KeyTree.{KeyTree}
 use Rattle.net_syntax.specs.Stream.{stream_of}
 use Rattle.step_core.specs.Bound.{Binding}
 use Rattle.step_core.specs.RowTyping.{network_by}

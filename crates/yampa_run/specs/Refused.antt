@@ -1,8 +1,8 @@
 -- What the program prints of a file that is refused.
 use Rattle.std.specs.Prelude.{ℕ, List, ◌++◌, codes}
 use Rattle.std.specs.Fmt.{decimal}
-use Rattle.leaf_expr.specs.declared.typing.ExprFault.{ExprFault}
-use Rattle.leaf_expr.specs.declared.typing.ExprFault.TheVariants as X
+use Rattle.leaf_core.specs.declared.typing.ExprFault.{ExprFault}
+use Rattle.leaf_core.specs.declared.typing.ExprFault.TheVariants as X
 use Rattle.net_syntax.specs.Position.{position_spelling}
 use Rattle.net_text.specs.declared.fault.NetTextFault.{NetTextFault}
 use Rattle.net_text.specs.declared.fault.NetTextFault.TheVariants as V

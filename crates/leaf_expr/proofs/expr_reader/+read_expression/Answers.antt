@@ -1,11 +1,11 @@
 use Rattle.std.proofs.Common.{◌≡◌, ◌∷◌, ◌++◌, [], length, map, ◌∙◌, ap, sym, subst, arith, rules, Ok}
 use Rattle.sample_core.specs.SeenType.{type_of}
-use Rattle.leaf_expr.specs.Expression.{make_list, expressions_of}
+use Rattle.leaf_core.specs.Expression.{make_list, expressions_of}
 use Rattle.std.proofs.lemmas.Grind.{common_steps}
 use Rattle.leaf_expr.specs.Form.{form_row}
 use Rattle.leaf_expr.specs.Grammar.{leaf, expression_sort}
 use Rattle.leaf_expr.specs.ReadText.{Gives, row_parts, expression_left}
-use Rattle.leaf_expr.specs.Seen.{expression_of}
+use Rattle.leaf_core.specs.Seen.{expression_of}
 use Rattle.leaf_expr.specs.Token.{tokens_from}
 use Rattle.leaf_expr.proofs.ItemSteps.{done, more, list_parts, list_refuses}
 use Rattle.leaf_expr.proofs.ReadCounts.{read_shortens}

@@ -1,8 +1,8 @@
 use Rattle.std.proofs.Common.{◌≡◌, ◌+◌, ◌*◌, ◌++◌, string_bytes, drop, map}
-use Rattle.leaf_expr.specs.Expression.{expression_size, expressions_size, expressions_of}
+use Rattle.leaf_core.specs.Expression.{expression_size, expressions_size, expressions_of}
 use Rattle.leaf_expr.specs.Part.{spellings}
 use Rattle.leaf_expr.specs.Printed.{expression_parts}
-use Rattle.leaf_expr.specs.Seen.{expression_of}
+use Rattle.leaf_core.specs.Seen.{expression_of}
 use Rattle.leaf_expr.proofs.print.+push_expr.Given as goal
 
 abbrev pub decreases-push_expr : goal.decreases-push_expr

@@ -1,4 +1,4 @@
-use Rattle.leaf_expr.specs.ExpressionValue.{value_of}
+use Rattle.leaf_core.specs.ExpressionValue.{value_of}
 use Rattle.net_syntax.proofs.Meanings.{length-outputs, outputs-take, outputs-retime}
 use Rattle.net_syntax.proofs.laws.stream_laws.Goals as goal
 

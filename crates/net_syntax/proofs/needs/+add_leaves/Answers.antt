@@ -2,7 +2,7 @@ use Rattle.std.proofs.Common.{rules, ◌++◌, ◌∷◌, [], map, ap, sym, ◌�
 use Rattle.std.proofs.lemmas.Grind.{common_steps}
 use Rattle.std.proofs.lemmas.List.{map_push}
 use Rattle.sample_core.specs.SeenType.{type_of}
-use Rattle.leaf_expr.specs.Seen.{expression_of}
+use Rattle.leaf_core.specs.Seen.{expression_of}
 use Rattle.net_syntax.specs.Network.{seq, map_network}
 use Rattle.net_syntax.specs.Seen.{tree_of}
 use Rattle.net_syntax.specs.SeenNeed.{need_of}

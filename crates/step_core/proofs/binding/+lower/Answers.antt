@@ -1,5 +1,5 @@
 use Rattle.std.proofs.Common.{refl, ap, sym, ◌∙◌}
-use Rattle.leaf_expr.specs.Seen.{expression_of}
+use Rattle.leaf_core.specs.Seen.{expression_of}
 use Rattle.net_syntax.specs.Network.{seq, map_network}
 use Rattle.net_syntax.specs.Seen.{tree_of}
 use Rattle.step_core.specs.SeenRows.{row_number}

@@ -1,0 +1,75 @@
+-- What stands at a place of a list, and how many there are.
+use Rattle.std.proofs.Common.{◌≡◌, ℕ, zero, suc, ◌<◌, ◌≤◌, ℤ, pos, List, [], ◌∷◌, length, get_or, Ok, Err, map, refl, ap, subst, sym, ◌∙◌, arith}
+use Rattle.sample_core.specs.Datum.{Datum, unit, list, elements, of_elements}
+use Rattle.sample_core.specs.Seen.{datum_of}
+use Rattle.sample_core.specs.declared.sample.Sample.{Sample}
+use Rattle.leaf_core.specs.Expression.{Expression, Expressions, no_more, and_then, expressions_of, expression_size, expressions_size}
+use Rattle.leaf_core.specs.Seen.{expression_of}
+use Rattle.leaf_core.specs.declared.expr.Expr.{Expr}
+use Rattle.sample_core.specs.SeenType.{type_of}
+use Rattle.sample_core.specs.declared.ty.Ty.{Ty}
+use Rattle.leaf_core.specs.ExpressionCheck.{type_of_param}
+use Rattle.leaf_core.specs.declared.typing.ExprFault.TheVariants.{NoParam}
+use Rattle.leaf_core.specs.ExpressionValue.{nth_of, element_at, param_at}
+
+pub param_found : (ps : List Sample) (k : ℕ) (s : Sample) → k < length ps → param_at (map datum_of ps) k ≡ datum_of (get_or ps k s)
+param_found [] k s h = absurd (omega arith)
+param_found (p ∷ ps) zero s h = refl
+param_found (p ∷ ps) (suc k) s h = param_found ps k s (omega arith)
+
+pub param_missing : (ps : List Sample) (k : ℕ) → length ps ≤ k → param_at (map datum_of ps) k ≡ unit
+param_missing [] k h = refl
+param_missing (p ∷ ps) zero h = absurd (omega arith)
+param_missing (p ∷ ps) (suc k) h = param_missing ps k (omega arith)
+
+pub type_found : (Ps : List Ty) (k : ℕ) (T : Ty) → k < length Ps → type_of_param (map type_of Ps) k ≡ Ok (type_of (get_or Ps k T))
+type_found [] k T h = absurd (omega arith)
+type_found (P ∷ Ps) zero T h = refl
+type_found (P ∷ Ps) (suc k) T h = type_found Ps k T (omega arith)
+
+pub type_missing : (Ps : List Ty) (k : ℕ) → length Ps ≤ k → type_of_param (map type_of Ps) k ≡ Err NoParam
+type_missing [] k h = refl
+type_missing (P ∷ Ps) zero h = absurd (omega arith)
+type_missing (P ∷ Ps) (suc k) h = type_missing Ps k (omega arith)
+
+nth_found : (all : List Sample) (n : ℕ) (d : Datum) (s : Sample) → n < length all → nth_of (of_elements (map datum_of all)) n d ≡ datum_of (get_or all n s)
+nth_found [] n d s h = absurd (omega arith)
+nth_found (p ∷ ps) zero d s h = refl
+nth_found (p ∷ ps) (suc k) d s h = nth_found ps k d s (omega arith)
+
+nth_missing : (all : List Sample) (n : ℕ) (d : Datum) → length all ≤ n → nth_of (of_elements (map datum_of all)) n d ≡ d
+nth_missing [] n d h = refl
+nth_missing (p ∷ ps) zero d h = absurd (omega arith)
+nth_missing (p ∷ ps) (suc k) d h = nth_missing ps k d (omega arith)
+
+pub element_found : (all : List Sample) (at : ℤ) (n : ℕ) (d : Datum) (s : Sample) → at ≡ pos n → n < length all → element_at (list (of_elements (map datum_of all))) at d ≡ datum_of (get_or all n s)
+element_found all at n d s e h = ap (λ t. element_at (list (of_elements (map datum_of all))) t d) e ∙ nth_found all n d s h
+
+pub element_missing : (all : List Sample) (at : ℤ) (n : ℕ) (d : Datum) → at ≡ pos n → length all ≤ n → element_at (list (of_elements (map datum_of all))) at d ≡ d
+element_missing all at n d e h = ap (λ t. element_at (list (of_elements (map datum_of all))) t d) e ∙ nth_missing all n d h
+
+pub elements_of_elements : (vs : List Datum) → elements (of_elements vs) ≡ vs
+elements_of_elements [] = refl
+elements_of_elements (v ∷ vs) = ap (λ t. v ∷ t) (elements_of_elements vs)
+
+element_falls : (all : List Expr) (i : ℕ) (e : Expr) → i < length all → expression_size (expression_of (get_or all i e)) < expressions_size (expressions_of (map expression_of all))
+element_falls [] i e h = absurd (omega arith)
+element_falls (x ∷ xs) zero e h = omega arith
+element_falls (x ∷ xs) (suc i) e h = omega (arith, element_falls xs i e (omega arith))
+
+-- an element of a list expression is smaller than the elements
+pub element_smaller : (all : List Expr) (es : List Expression) (i : ℕ) (e : Expr) → i < length all → e ≡ get_or all i e → map expression_of all ≡ es → expression_size (expression_of e) < expressions_size (expressions_of es)
+element_smaller all es i e h q p =
+    subst (λ t. expression_size (expression_of t) < expressions_size (expressions_of es)) (sym q) (subst (λ t. expression_size (expression_of (get_or all i e)) < expressions_size (expressions_of t)) p (element_falls all i e h))
+
+abbrev count : Expressions → ℕ
+count no_more = 0
+count (and_then e es) = suc (count es)
+
+count_of_all : (es : List Expression) → count (expressions_of es) ≡ length es
+count_of_all [] = refl
+count_of_all (e ∷ es) = ap suc (count_of_all es)
+
+-- equal elements are equally many
+pub same_length : (es fs : List Expression) → expressions_of es ≡ expressions_of fs → length es ≡ length fs
+same_length es fs e = sym (count_of_all es) ∙ ap count e ∙ count_of_all fs

@@ -1,0 +1,24 @@
+use Rattle.std.proofs.Common.{◌≡◌, ◌+◌, ◌*◌, fold, drop, map}
+use Rattle.leaf_core.specs.Seen.{expression_of}
+use Rattle.leaf_core.specs.Expression.{expressions_of, expression_size, expressions_size}
+use Rattle.leaf_core.specs.Fed.{expressions_fed}
+use Rattle.leaf_core.proofs.feed.+feed.Given as goal
+
+abbrev pub invariant-feed_all-loop-e : goal.invariant-feed_all-loop-e
+invariant-feed_all-loop-e g l =
+    fold g.H.Hasher.write l.state (expressions_fed (expressions_of (map expression_of (drop l.e-index l.e-items)))) ≡ fold g.H.Hasher.write l.initial.state (expressions_fed (expressions_of (map expression_of l.e-items)))
+
+abbrev pub decreases-feed_expr : goal.decreases-feed_expr
+decreases-feed_expr g l = 4 * expression_size (expression_of l.expr.now)
+
+abbrev pub decreases-feed_two : goal.decreases-feed_two
+decreases-feed_two g l = 4 * (expression_size l.a.now + expression_size l.b.now) + 2
+
+abbrev pub decreases-feed_three : goal.decreases-feed_three
+decreases-feed_three g l = 4 * (expression_size l.a.now + expression_size l.b.now + expression_size l.c.now) + 3
+
+abbrev pub decreases-feed_list : goal.decreases-feed_list
+decreases-feed_list g l = 4 * expressions_size (expressions_of l.all.now) + 2
+
+abbrev pub decreases-feed_all : goal.decreases-feed_all
+decreases-feed_all g l = 4 * expressions_size (expressions_of l.all.now) + 1

@@ -1,0 +1,100 @@
+-- What an expression's value is.
+use Rattle.std.specs.Prelude.{ℕ, zero, suc, ℤ, pos, neg_ℤ, ◌+ℤ◌, ◌-ℤ◌, ◌*ℤ◌, int_lt, Bool, true, false, not, ◌&&◌, ◌||◌, List, [], ◌∷◌, length}
+use Rattle.std.specs.Int.{int_wrap, w64}
+use Rattle.std.specs.Ordering.{int_eq}
+use Rattle.std.specs.Bool.{beq}
+use Rattle.sample_core.specs.Datum.{Datum, Datums, unit, truth, number, pair, no_event, event, list, end, more, left, right, whole, elements, of_elements}
+use Rattle.leaf_core.specs.Expression.{Expression, Expressions, sample, parameter, unit_literal, truth_literal, number_literal, make_pair, fst, snd, then, neg, add, sub, mul, less, equal, negation, conjunction, disjunction, choice, none_of, make_event, on, make_list, nth, len, no_more, and_then}
+
+-- whether two values are the same
+abbrev mutual
+  pub same_datum : Datum → Datum → Bool
+  same_datum unit unit = true
+  same_datum (truth a) (truth b) = beq a b
+  same_datum (number m) (number n) = int_eq m n
+  same_datum (pair a b) (pair c d) = same_datum a c && same_datum b d
+  same_datum no_event no_event = true
+  same_datum (event a) (event b) = same_datum a b
+  same_datum (list as1) (list bs) = same_datums as1 bs
+  same_datum _ _ = false
+
+  -- the same of the elements of two lists
+  pub same_datums : Datums → Datums → Bool
+  same_datums end end = true
+  same_datums (more a as1) (more b bs) = same_datum a b && same_datums as1 bs
+  same_datums _ _ = false
+
+-- whether a value is `true`
+abbrev pub is_true : Datum → Bool
+is_true (truth b) = b
+is_true _ = false
+
+-- the first value where the test holds, else the second
+abbrev pub chosen : Bool → Datum → Datum → Datum
+chosen true v w = v
+chosen false v w = w
+
+-- a number modulo 2^64, read as signed
+abbrev pub wrapped : ℤ → Datum
+wrapped z = number (int_wrap w64 z)
+
+-- the element at a place, from 0; d outside
+abbrev pub nth_of : Datums → ℕ → Datum → Datum
+nth_of end n d = d
+nth_of (more v vs) zero d = v
+nth_of (more v vs) (suc n) d = nth_of vs n d
+
+-- the same of a list value and a signed place; d also where the value is no list
+abbrev pub element_at : Datum → ℤ → Datum → Datum
+element_at (list vs) (pos n) d = nth_of vs n d
+element_at _ _ d = d
+
+-- how many elements a list value has; 0 where it is no list
+abbrev pub count_of : Datum → ℕ
+count_of (list vs) = length (elements vs)
+count_of _ = 0
+
+-- parameter k, from 0; `unit` where there is none
+abbrev pub param_at : List Datum → ℕ → Datum
+param_at [] k = unit
+param_at (v ∷ vs) zero = v
+param_at (v ∷ vs) (suc k) = param_at vs k
+
+-- with an event v, b at the pair of the input and v; else d
+abbrev pub on_event : Datum → Datum → (Datum → Datum) → Datum
+on_event (event v) d b = b v
+on_event _ d b = d
+
+-- the value under parameters ps at the input x; a default where it is ill typed
+abbrev mutual
+  pub value_of : Expression → List Datum → Datum → Datum
+  value_of sample ps x = x
+  value_of (parameter k) ps x = param_at ps k
+  value_of unit_literal ps x = unit
+  value_of (truth_literal b) ps x = truth b
+  value_of (number_literal n) ps x = number n
+  value_of (make_pair a b) ps x = pair (value_of a ps x) (value_of b ps x)
+  value_of (fst e) ps x = left (value_of e ps x)
+  value_of (snd e) ps x = right (value_of e ps x)
+  value_of (then f g) ps x = value_of g ps (value_of f ps x)
+  value_of (neg a) ps x = wrapped (neg_ℤ (whole (value_of a ps x)))
+  value_of (add a b) ps x = wrapped (whole (value_of a ps x) +ℤ whole (value_of b ps x))
+  value_of (sub a b) ps x = wrapped (whole (value_of a ps x) -ℤ whole (value_of b ps x))
+  value_of (mul a b) ps x = wrapped (whole (value_of a ps x) *ℤ whole (value_of b ps x))
+  value_of (less a b) ps x = truth (int_lt (whole (value_of a ps x)) (whole (value_of b ps x)))
+  value_of (equal a b) ps x = truth (same_datum (value_of a ps x) (value_of b ps x))
+  value_of (negation a) ps x = truth (not (is_true (value_of a ps x)))
+  value_of (conjunction a b) ps x = truth (is_true (value_of a ps x) && is_true (value_of b ps x))
+  value_of (disjunction a b) ps x = truth (is_true (value_of a ps x) || is_true (value_of b ps x))
+  value_of (choice c a b) ps x = chosen (is_true (value_of c ps x)) (value_of a ps x) (value_of b ps x)
+  value_of (none_of t) ps x = no_event
+  value_of (make_event e) ps x = event (value_of e ps x)
+  value_of (on e d b) ps x = on_event (value_of e ps x) (value_of d ps x) (λ v. value_of b ps (pair x v))
+  value_of (make_list t es) ps x = list (of_elements (values_of es ps x))
+  value_of (nth e i d) ps x = element_at (value_of e ps x) (whole (value_of i ps x)) (value_of d ps x)
+  value_of (len e) ps x = wrapped (pos (count_of (value_of e ps x)))
+
+  -- the values of the elements of a list, in order
+  pub values_of : Expressions → List Datum → Datum → List Datum
+  values_of no_more ps x = []
+  values_of (and_then e es) ps x = value_of e ps x ∷ values_of es ps x

@@ -1,0 +1,15 @@
+pub mod Expression
+pub mod ExpressionCode
+pub mod ExpressionValue
+pub mod ExpressionTyping
+pub mod Seen
+pub mod Falls
+pub mod Shape
+pub mod SameByCode
+pub mod KeyTree
+pub mod Fed
+pub mod TypeLimits
+pub mod ExpressionLimits
+pub mod ExpressionCheck
+pub mod TypingLaws
+pub mod Gives

@@ -1,0 +1,324 @@
+// The value of an expression.
+
+ghost use Rattle.std.specs.Prelude.{◌≡◌, ◌&&◌, ◌||◌, IfOk, map, pos};
+ghost use Rattle.sample_core.specs.Datum.{whole, truth, pair, left, right};
+ghost use Rattle.sample_core.specs.Seen.{datum_of};
+ghost use Rattle.leaf_core.specs.Expression.{expressions_of, on};
+ghost use Rattle.leaf_core.specs.Seen.{expression_of};
+ghost use Rattle.leaf_core.specs.ExpressionValue.{value_of, values_of, is_true, same_datum, chosen, element_at, count_of, wrapped};
+
+use crate::expr::{Expr, Part, Parts};
+use crate::operations::{
+    carried, count, difference, element, equal, first, literal_value, negated, number, param,
+    product, second, sum, truth,
+};
+use sample_core::{Child, Memory, Sample, Samples};
+use std::alloc::Global;
+
+/// The value of the expression at the input `x`, where `params[k]` is the value of parameter k.
+/// Sums, differences, products, negatives and lengths are taken modulo 2^64 and read as signed.
+/// `Memory` where a growth was refused.
+///
+/// Nothing is asked of the expression. Where it is ill typed, a default stands in the place of
+/// what is missing: 0 for a number and for a length, `false` for a truth, `unit` for a parameter,
+/// the value itself for a part of a pair, and the `d` of `on` and `nth` for what an event or a
+/// list would give.
+#[cycle(eval)]
+pub fn eval(alloc: Global, expr: &Expr, params: &[Sample], x: &Sample) -> Result<Sample, Memory>
+    ensures { IfOk result (λ s. datum_of s ≡ value_of (expression_of expr.now) (map datum_of params.now) (datum_of x.now)) }
+{
+    match expr {
+        Expr::Input => x.try_copy(alloc),
+        Expr::Param(k) => param(alloc, params, *k),
+        Expr::Literal(literal) => Ok(literal_value(*literal)),
+        Expr::Pair(a, b) => eval_pair(alloc, a, b, params, x),
+        Expr::Fst(e) => eval_first(alloc, e, params, x),
+        Expr::Snd(e) => eval_second(alloc, e, params, x),
+        Expr::Then(f, g) => eval_then(alloc, f, g, params, x),
+        Expr::Neg(a) => {
+            let a = eval_number(alloc, a, params, x)?;
+            Ok(negated(a))
+        }
+        Expr::Add(a, b) => {
+            let (a, b) = eval_numbers(alloc, a, b, params, x)?;
+            Ok(sum(a, b))
+        }
+        Expr::Sub(a, b) => {
+            let (a, b) = eval_numbers(alloc, a, b, params, x)?;
+            Ok(difference(a, b))
+        }
+        Expr::Mul(a, b) => {
+            let (a, b) = eval_numbers(alloc, a, b, params, x)?;
+            Ok(product(a, b))
+        }
+        Expr::Less(a, b) => {
+            let (a, b) = eval_numbers(alloc, a, b, params, x)?;
+            Ok(Sample::Bool(a < b))
+        }
+        Expr::Equal(a, b) => eval_equal(alloc, a, b, params, x),
+        Expr::Not(a) => {
+            let a = eval_truth(alloc, a, params, x)?;
+            Ok(Sample::Bool(!a))
+        }
+        Expr::And(a, b) => eval_and(alloc, a, b, params, x),
+        Expr::Or(a, b) => eval_or(alloc, a, b, params, x),
+        Expr::If(c, a, b) => eval_if(alloc, c, a, b, params, x),
+        Expr::NoEvent(_) => Ok(Sample::NoEvent),
+        Expr::Event(e) => {
+            let carried = eval_child(alloc, e, params, x)?;
+            Ok(Sample::Event(carried))
+        }
+        Expr::On(e, d, b) => eval_on(alloc, e, d, b, params, x),
+        Expr::List(_, elements) => {
+            let elements = eval_elements(alloc, elements, params, x)?;
+            Ok(Sample::List(elements))
+        }
+        Expr::Nth(e, i, d) => eval_nth(alloc, e, i, d, params, x),
+        Expr::Len(e) => eval_len(alloc, e, params, x),
+    }
+}
+
+/// The value of a pair.
+#[cycle(eval)]
+fn eval_pair(
+    alloc: Global,
+    a: &Part,
+    b: &Part,
+    params: &[Sample],
+    x: &Sample,
+) -> Result<Sample, Memory>
+    ensures { IfOk result (λ s. datum_of s ≡ pair (value_of a.now (map datum_of params.now) (datum_of x.now)) (value_of b.now (map datum_of params.now) (datum_of x.now))) }
+{
+    let a = eval_child(alloc, a, params, x)?;
+    let b = eval_child(alloc, b, params, x)?;
+    Ok(Sample::Pair(a, b))
+}
+
+/// The first part of a value.
+#[cycle(eval)]
+fn eval_first(alloc: Global, e: &Part, params: &[Sample], x: &Sample) -> Result<Sample, Memory>
+    ensures { IfOk result (λ s. datum_of s ≡ left (value_of e.now (map datum_of params.now) (datum_of x.now))) }
+{
+    let pair = eval(alloc, e.get(), params, x)?;
+    first(alloc, pair)
+}
+
+/// The second part of a value.
+#[cycle(eval)]
+fn eval_second(alloc: Global, e: &Part, params: &[Sample], x: &Sample) -> Result<Sample, Memory>
+    ensures { IfOk result (λ s. datum_of s ≡ right (value_of e.now (map datum_of params.now) (datum_of x.now))) }
+{
+    let pair = eval(alloc, e.get(), params, x)?;
+    second(alloc, pair)
+}
+
+/// The value of one expression at that of another.
+#[cycle(eval)]
+fn eval_then(
+    alloc: Global,
+    f: &Part,
+    g: &Part,
+    params: &[Sample],
+    x: &Sample,
+) -> Result<Sample, Memory>
+    ensures { IfOk result (λ s. datum_of s ≡ value_of g.now (map datum_of params.now) (value_of f.now (map datum_of params.now) (datum_of x.now))) }
+{
+    let between = eval(alloc, f.get(), params, x)?;
+    eval(alloc, g.get(), params, &between)
+}
+
+/// Whether two values are the same.
+#[cycle(eval)]
+fn eval_equal(
+    alloc: Global,
+    a: &Part,
+    b: &Part,
+    params: &[Sample],
+    x: &Sample,
+) -> Result<Sample, Memory>
+    ensures { IfOk result (λ s. datum_of s ≡ truth (same_datum (value_of a.now (map datum_of params.now) (datum_of x.now)) (value_of b.now (map datum_of params.now) (datum_of x.now)))) }
+{
+    let a = eval(alloc, a.get(), params, x)?;
+    let b = eval(alloc, b.get(), params, x)?;
+    Ok(Sample::Bool(equal(&a, &b)))
+}
+
+/// Whether both are true.
+#[cycle(eval)]
+fn eval_and(
+    alloc: Global,
+    a: &Part,
+    b: &Part,
+    params: &[Sample],
+    x: &Sample,
+) -> Result<Sample, Memory>
+    ensures { IfOk result (λ s. datum_of s ≡ truth (is_true (value_of a.now (map datum_of params.now) (datum_of x.now)) && is_true (value_of b.now (map datum_of params.now) (datum_of x.now)))) }
+{
+    let a = eval_truth(alloc, a, params, x)?;
+    let b = eval_truth(alloc, b, params, x)?;
+    Ok(Sample::Bool(a && b))
+}
+
+/// Whether one or both are true.
+#[cycle(eval)]
+fn eval_or(
+    alloc: Global,
+    a: &Part,
+    b: &Part,
+    params: &[Sample],
+    x: &Sample,
+) -> Result<Sample, Memory>
+    ensures { IfOk result (λ s. datum_of s ≡ truth (is_true (value_of a.now (map datum_of params.now) (datum_of x.now)) || is_true (value_of b.now (map datum_of params.now) (datum_of x.now)))) }
+{
+    let a = eval_truth(alloc, a, params, x)?;
+    let b = eval_truth(alloc, b, params, x)?;
+    Ok(Sample::Bool(a || b))
+}
+
+/// The value of one of two expressions.
+#[cycle(eval)]
+fn eval_if(
+    alloc: Global,
+    c: &Part,
+    a: &Part,
+    b: &Part,
+    params: &[Sample],
+    x: &Sample,
+) -> Result<Sample, Memory>
+    ensures { IfOk result (λ s. datum_of s ≡ chosen (is_true (value_of c.now (map datum_of params.now) (datum_of x.now))) (value_of a.now (map datum_of params.now) (datum_of x.now)) (value_of b.now (map datum_of params.now) (datum_of x.now))) }
+{
+    if eval_truth(alloc, c, params, x)? {
+        eval(alloc, a.get(), params, x)
+    } else {
+        eval(alloc, b.get(), params, x)
+    }
+}
+
+/// The value on an event, or else another.
+#[cycle(eval)]
+fn eval_on(
+    alloc: Global,
+    e: &Part,
+    d: &Part,
+    b: &Part,
+    params: &[Sample],
+    x: &Sample,
+) -> Result<Sample, Memory>
+    ensures { IfOk result (λ s. datum_of s ≡ value_of (on e.now d.now b.now) (map datum_of params.now) (datum_of x.now)) }
+{
+    let event = eval(alloc, e.get(), params, x)?;
+    match carried(event) {
+        Some(carried) => eval_body(alloc, b, carried, params, x),
+        None => eval(alloc, d.get(), params, x),
+    }
+}
+
+/// The value on an event that carries the value.
+#[cycle(eval)]
+fn eval_body(
+    alloc: Global,
+    b: &Part,
+    carried: Child,
+    params: &[Sample],
+    x: &Sample,
+) -> Result<Sample, Memory>
+    ensures { IfOk result (λ s. datum_of s ≡ value_of b.now (map datum_of params.now) (pair (datum_of x.now) carried)) }
+{
+    let input = copied_child(alloc, x)?;
+    eval(alloc, b.get(), params, &Sample::Pair(input, carried))
+}
+
+/// A copy of the value, as a part of another.
+fn copied_child(alloc: Global, x: &Sample) -> Result<Child, Memory>
+    ensures { IfOk result (λ c. c ≡ datum_of x.now) }
+{
+    let copy = x.try_copy(alloc)?;
+    Child::new(alloc, copy)
+}
+
+/// The value of an element of a list.
+#[cycle(eval)]
+fn eval_nth(
+    alloc: Global,
+    e: &Part,
+    i: &Part,
+    d: &Part,
+    params: &[Sample],
+    x: &Sample,
+) -> Result<Sample, Memory>
+    ensures { IfOk result (λ s. datum_of s ≡ element_at (value_of e.now (map datum_of params.now) (datum_of x.now)) (whole (value_of i.now (map datum_of params.now) (datum_of x.now))) (value_of d.now (map datum_of params.now) (datum_of x.now))) }
+{
+    let list = eval(alloc, e.get(), params, x)?;
+    let at = eval_number(alloc, i, params, x)?;
+    let default = eval(alloc, d.get(), params, x)?;
+    element(alloc, &list, at, default)
+}
+
+/// The value of a length.
+#[cycle(eval)]
+fn eval_len(alloc: Global, e: &Part, params: &[Sample], x: &Sample) -> Result<Sample, Memory>
+    ensures { IfOk result (λ s. datum_of s ≡ wrapped (pos (count_of (value_of e.now (map datum_of params.now) (datum_of x.now))))) }
+{
+    let list = eval(alloc, e.get(), params, x)?;
+    Ok(Sample::Int(count(&list)))
+}
+
+/// The value of a part, as a part of another.
+#[cycle(eval)]
+fn eval_child(alloc: Global, part: &Part, params: &[Sample], x: &Sample) -> Result<Child, Memory>
+    ensures { IfOk result (λ c. c ≡ value_of part.now (map datum_of params.now) (datum_of x.now)) }
+{
+    let value = eval(alloc, part.get(), params, x)?;
+    Child::new(alloc, value)
+}
+
+/// The numbers that two parts have as their values; 0 where one is no number.
+#[cycle(eval)]
+fn eval_numbers(
+    alloc: Global,
+    a: &Part,
+    b: &Part,
+    params: &[Sample],
+    x: &Sample,
+) -> Result<(i64, i64), Memory>
+    ensures { IfOk result (λ n. (n.0 ≡ whole (value_of a.now (map datum_of params.now) (datum_of x.now))) × (n.1 ≡ whole (value_of b.now (map datum_of params.now) (datum_of x.now)))) }
+{
+    let a = eval_number(alloc, a, params, x)?;
+    let b = eval_number(alloc, b, params, x)?;
+    Ok((a, b))
+}
+
+/// The number that a part has as its value; 0 where that is no number.
+#[cycle(eval)]
+fn eval_number(alloc: Global, part: &Part, params: &[Sample], x: &Sample) -> Result<i64, Memory>
+    ensures { IfOk result (λ n. n ≡ whole (value_of part.now (map datum_of params.now) (datum_of x.now))) }
+{
+    let value = eval(alloc, part.get(), params, x)?;
+    Ok(number(&value))
+}
+
+/// Whether a part has `true` as its value.
+#[cycle(eval)]
+fn eval_truth(alloc: Global, part: &Part, params: &[Sample], x: &Sample) -> Result<bool, Memory>
+    ensures { IfOk result (λ b. b ≡ is_true (value_of part.now (map datum_of params.now) (datum_of x.now))) }
+{
+    let value = eval(alloc, part.get(), params, x)?;
+    Ok(truth(&value))
+}
+
+/// The values of the elements of a list expression, in order.
+#[cycle(eval)]
+fn eval_elements(
+    alloc: Global,
+    elements: &Parts,
+    params: &[Sample],
+    x: &Sample,
+) -> Result<Samples, Memory>
+    ensures { IfOk result (λ vs. vs ≡ values_of (expressions_of elements.now) (map datum_of params.now) (datum_of x.now)) }
+{
+    let mut values = Vec::new(alloc);
+    for element in elements.as_slice() {
+        values.push(eval(alloc, element, params, x)?)?;
+    }
+    Samples::new(alloc, values)
+}

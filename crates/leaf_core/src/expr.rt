@@ -1,0 +1,292 @@
+// Expressions as trees.
+
+ghost use Rattle.std.specs.Prelude.{◌≡◌, IfOk, map};
+ghost use Rattle.leaf_core.specs.Seen.{expression_of};
+
+use crate::literal::Literal;
+use sample_core::{Memory, Ty};
+use std::alloc::Global;
+use std::marker::Model;
+use std::rc::Rc;
+
+/// An expression: a total function of an input and of parameters. Copies of it share its parts.
+/// Numbers are taken modulo 2^64 and read as signed.
+#[cycle(expr)]
+#[derive(Drop)]
+pub enum Expr {
+    /// `x`, the input.
+    Input,
+    /// `(p k)`: parameter k, counted from 0.
+    Param(u32),
+    /// A literal.
+    Literal(Literal),
+    /// `(pair a b)`: the pair of the two.
+    Pair(Part, Part),
+    /// `(fst e)`: the first part of a pair.
+    Fst(Part),
+    /// `(snd e)`: the second part of a pair.
+    Snd(Part),
+    /// `(then f g)`: g at the value of f.
+    Then(Part, Part),
+    /// `(neg a)`: the negative of a.
+    Neg(Part),
+    /// `(add a b)`: the sum.
+    Add(Part, Part),
+    /// `(sub a b)`: a minus b.
+    Sub(Part, Part),
+    /// `(mul a b)`: the product.
+    Mul(Part, Part),
+    /// `(less a b)`: whether the number a is below b.
+    Less(Part, Part),
+    /// `(equal a b)`: whether the two values are the same.
+    Equal(Part, Part),
+    /// `(not a)`: whether a isn't true.
+    Not(Part),
+    /// `(and a b)`: whether both are true.
+    And(Part, Part),
+    /// `(or a b)`: whether one or both are true.
+    Or(Part, Part),
+    /// `(if c a b)`: a where c is true, else b.
+    If(Part, Part, Part),
+    /// `(none T)`: no event, among events that carry a T.
+    NoEvent(Ty),
+    /// `(event e)`: an event that carries e.
+    Event(Part),
+    /// `(on e d b)`: with an event v of e, b at the pair of the input and v; else d.
+    On(Part, Part, Part),
+    /// `(list T e1 .. en)`: the list of these, each a T.
+    List(Ty, Parts),
+    /// `(nth e i d)`: the element of the list e at i, counted from 0; d outside.
+    Nth(Part, Part, Part),
+    /// `(len e)`: how many elements the list e has.
+    Len(Part),
+}
+
+/// An expression inside an expression. Contracts see it as the expression's tree; copies share it.
+#[cycle(expr)]
+#[derive(Drop)]
+pub struct Part {
+    inner: Rc<Expr>,
+}
+
+/// The elements of a list expression. Contracts see them as a list of trees; copies share them.
+#[cycle(expr)]
+#[derive(Drop)]
+pub struct Parts {
+    all: Rc<Vec<Expr>>,
+}
+
+impl Model for Part {
+    ghost use Rattle.leaf_core.specs.Expression.{Expression, expression_size};
+    ghost use Rattle.leaf_core.specs.ExpressionCode.{expression_code};
+
+    ghost Value = { Expression };
+
+    ghost coded = { expression_code };
+
+    ghost use Rattle.leaf_core.specs.Seen.{expression_of};
+
+    ghost view = { λ a. expression_of a.inner.value };
+
+    ghost size = { expression_size };
+
+    ghost use Rattle.leaf_core.specs.Falls.{depth_le};
+
+    ghost size_decreases = { λ a h. depth_le a.inner.value };
+}
+
+impl Model for Parts {
+    ghost use Rattle.std.specs.Prelude.{List, map};
+    ghost use Rattle.std.specs.Coded.{coded_list};
+    ghost use Rattle.leaf_core.specs.Expression.{Expression, expressions_of, expressions_size};
+    ghost use Rattle.leaf_core.specs.ExpressionCode.{expression_code};
+
+    ghost Value = { List Expression };
+
+    ghost coded = { coded_list expression_code };
+
+    ghost use Rattle.leaf_core.specs.Seen.{expression_of};
+
+    ghost view = { λ a. map expression_of a.all.value.items };
+
+    ghost size = { λ es. expressions_size (expressions_of es) };
+
+    ghost use Rattle.leaf_core.specs.Falls.{depths_le};
+    ghost use Rattle.std.proofs.Common.{arith};
+
+    ghost size_decreases = { λ a h. Prim.omega (arith, depths_le a.all.value.items) };
+}
+
+impl Expr {
+    /// A copy, whose parts are shared with it. It takes no memory; `Memory` only where a count of
+    /// references is full.
+    pub fn try_copy(&self, alloc: Global) -> Result<Expr, Memory>
+        ensures { IfOk result (λ e. e ≡ self.now) }
+    {
+        match self {
+            Expr::Input => Ok(Expr::Input),
+            Expr::Param(k) => Ok(Expr::Param(*k)),
+            Expr::Literal(literal) => Ok(Expr::Literal(*literal)),
+            Expr::Pair(a, b) => {
+                let (a, b) = copy_two(a, b)?;
+                Ok(Expr::Pair(a, b))
+            }
+            Expr::Fst(e) => {
+                let e = e.try_copy()?;
+                Ok(Expr::Fst(e))
+            }
+            Expr::Snd(e) => {
+                let e = e.try_copy()?;
+                Ok(Expr::Snd(e))
+            }
+            Expr::Then(a, b) => {
+                let (a, b) = copy_two(a, b)?;
+                Ok(Expr::Then(a, b))
+            }
+            Expr::Neg(e) => {
+                let e = e.try_copy()?;
+                Ok(Expr::Neg(e))
+            }
+            Expr::Add(a, b) => {
+                let (a, b) = copy_two(a, b)?;
+                Ok(Expr::Add(a, b))
+            }
+            Expr::Sub(a, b) => {
+                let (a, b) = copy_two(a, b)?;
+                Ok(Expr::Sub(a, b))
+            }
+            Expr::Mul(a, b) => {
+                let (a, b) = copy_two(a, b)?;
+                Ok(Expr::Mul(a, b))
+            }
+            Expr::Less(a, b) => {
+                let (a, b) = copy_two(a, b)?;
+                Ok(Expr::Less(a, b))
+            }
+            Expr::Equal(a, b) => {
+                let (a, b) = copy_two(a, b)?;
+                Ok(Expr::Equal(a, b))
+            }
+            Expr::Not(e) => {
+                let e = e.try_copy()?;
+                Ok(Expr::Not(e))
+            }
+            Expr::And(a, b) => {
+                let (a, b) = copy_two(a, b)?;
+                Ok(Expr::And(a, b))
+            }
+            Expr::Or(a, b) => {
+                let (a, b) = copy_two(a, b)?;
+                Ok(Expr::Or(a, b))
+            }
+            Expr::If(a, b, c) => {
+                let (a, b, c) = copy_three(a, b, c)?;
+                Ok(Expr::If(a, b, c))
+            }
+            Expr::NoEvent(carried) => {
+                let carried = carried.try_copy(alloc)?;
+                Ok(Expr::NoEvent(carried))
+            }
+            Expr::Event(e) => {
+                let e = e.try_copy()?;
+                Ok(Expr::Event(e))
+            }
+            Expr::On(a, b, c) => {
+                let (a, b, c) = copy_three(a, b, c)?;
+                Ok(Expr::On(a, b, c))
+            }
+            Expr::List(element, all) => {
+                let (element, all) = copy_list(alloc, element, all)?;
+                Ok(Expr::List(element, all))
+            }
+            Expr::Nth(a, b, c) => {
+                let (a, b, c) = copy_three(a, b, c)?;
+                Ok(Expr::Nth(a, b, c))
+            }
+            Expr::Len(e) => {
+                let e = e.try_copy()?;
+                Ok(Expr::Len(e))
+            }
+        }
+    }
+}
+
+/// Copies of two parts.
+fn copy_two(a: &Part, b: &Part) -> Result<(Part, Part), Memory>
+    ensures { IfOk result (λ p. (p.0 ≡ a.now) × (p.1 ≡ b.now)) }
+{
+    let a = a.try_copy()?;
+    let b = b.try_copy()?;
+    Ok((a, b))
+}
+
+/// Copies of three parts.
+fn copy_three(a: &Part, b: &Part, c: &Part) -> Result<(Part, Part, Part), Memory>
+    ensures { IfOk result (λ p. (p.0 ≡ a.now) × (p.1 ≡ b.now) × (p.2 ≡ c.now)) }
+{
+    let (a, b) = copy_two(a, b)?;
+    let c = c.try_copy()?;
+    Ok((a, b, c))
+}
+
+/// Copies of the type and the elements of a list expression.
+fn copy_list(alloc: Global, element: &Ty, all: &Parts) -> Result<(Ty, Parts), Memory>
+    ensures { IfOk result (λ p. (p.0 ≡ element.now) × (p.1 ≡ all.now)) }
+{
+    let element = element.try_copy(alloc)?;
+    let all = all.try_copy()?;
+    Ok((element, all))
+}
+
+impl Part {
+    /// The expression as a part of another. `Memory` where a growth was refused.
+    pub fn new(alloc: Global, expr: Expr) -> Result<Part, Memory>
+        ensures { IfOk result (λ p. p ≡ expression_of expr) }
+    {
+        let inner = Rc::new(alloc, expr)?;
+        Ok(Part { inner })
+    }
+
+    /// The expression itself.
+    pub fn get(&self) -> &Expr
+        ensures { expression_of result.now ≡ self.now }
+    {
+        &self.inner
+    }
+
+    /// The same expression, shared. It takes no memory; `Memory` only where a count of references
+    /// is full.
+    pub fn try_copy(&self) -> Result<Part, Memory>
+        ensures { IfOk result (λ p. p ≡ self.now) }
+    {
+        let inner = self.inner.clone()?;
+        Ok(Part { inner })
+    }
+}
+
+impl Parts {
+    /// The expressions as the elements of a list expression, in order. `Memory` where a growth was
+    /// refused.
+    pub fn new(alloc: Global, all: Vec<Expr>) -> Result<Parts, Memory>
+        ensures { IfOk result (λ es. es ≡ map expression_of all.items) }
+    {
+        let all = Rc::new(alloc, all)?;
+        Ok(Parts { all })
+    }
+
+    /// The elements in order.
+    pub fn as_slice(&self) -> &[Expr]
+        ensures { map expression_of result.now ≡ self.now }
+    {
+        self.all.as_slice()
+    }
+
+    /// The same elements, shared. It takes no memory; `Memory` only where a count of references is
+    /// full.
+    pub fn try_copy(&self) -> Result<Parts, Memory>
+        ensures { IfOk result (λ es. es ≡ self.now) }
+    {
+        let all = self.all.clone()?;
+        Ok(Parts { all })
+    }
+}

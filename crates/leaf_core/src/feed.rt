@@ -1,0 +1,143 @@
+// What a hasher is fed at a type and at an expression.
+
+ghost use Rattle.std.specs.Prelude.{◌≡◌, ◌++◌, fold};
+ghost use Rattle.std.specs.Hash.{u8};
+ghost use Rattle.sample_core.specs.SeenType.{type_of};
+ghost use Rattle.leaf_core.specs.Seen.{expression_of, literal_of};
+ghost use Rattle.leaf_core.specs.Expression.{expressions_of};
+ghost use Rattle.leaf_core.specs.Fed.{tag_of, type_fed, expression_fed, expressions_fed};
+
+use crate::expr::{Expr, Part, Parts};
+use crate::literal::Literal;
+use sample_core::Ty;
+use std::hash::Hasher;
+
+/// Feeds the type's forms to the hasher, a byte each, a form before its parts.
+pub fn feed_type<H: Hasher>(ty: &Ty, state: &mut H)
+    ensures { state.new ≡ fold H.write state.old (type_fed (type_of ty.now)) }
+{
+    match ty {
+        Ty::Unit => state.write_u8(0),
+        Ty::Bool => state.write_u8(1),
+        Ty::Int => state.write_u8(2),
+        Ty::Pair(a, b) => {
+            state.write_u8(3);
+            feed_type(a.get(), state);
+            feed_type(b.get(), state);
+        }
+        Ty::Event(a) => {
+            state.write_u8(4);
+            feed_type(a.get(), state);
+        }
+        Ty::List(a) => {
+            state.write_u8(5);
+            feed_type(a.get(), state);
+        }
+    }
+}
+
+/// The number of the expression's form.
+fn tag(expr: &Expr) -> u8
+    ensures { result ≡ tag_of (expression_of expr.now) }
+{
+    match expr {
+        Expr::Input => 0,
+        Expr::Param(_) => 1,
+        Expr::Literal(Literal::Unit) => 2,
+        Expr::Literal(Literal::Bool(false)) => 3,
+        Expr::Literal(Literal::Bool(true)) => 4,
+        Expr::Literal(Literal::Int(_)) => 5,
+        Expr::Pair(..) => 6,
+        Expr::Fst(_) => 7,
+        Expr::Snd(_) => 8,
+        Expr::Then(..) => 9,
+        Expr::Neg(_) => 10,
+        Expr::Add(..) => 11,
+        Expr::Sub(..) => 12,
+        Expr::Mul(..) => 13,
+        Expr::Less(..) => 14,
+        Expr::Equal(..) => 15,
+        Expr::Not(_) => 16,
+        Expr::And(..) => 17,
+        Expr::Or(..) => 18,
+        Expr::If(..) => 19,
+        Expr::NoEvent(_) => 20,
+        Expr::Event(_) => 21,
+        Expr::On(..) => 22,
+        Expr::List(..) => 23,
+        Expr::Nth(..) => 24,
+        Expr::Len(_) => 25,
+    }
+}
+
+/// Feeds the expression's forms to the hasher, a byte each, a form before its parts. A parameter's
+/// number and a literal's number follow their form, and a byte ends each list.
+#[cycle(feed)]
+pub fn feed_expr<H: Hasher>(expr: &Expr, state: &mut H)
+    ensures { state.new ≡ fold H.write state.old (expression_fed (expression_of expr.now)) }
+{
+    state.write_u8(tag(expr));
+    match expr {
+        Expr::Input | Expr::Literal(Literal::Unit | Literal::Bool(_)) => {}
+        Expr::Param(k) => state.write_u32(*k),
+        Expr::Literal(Literal::Int(n)) => state.write_i64(*n),
+        Expr::Pair(a, b) => feed_two(a, b, state),
+        Expr::Fst(e) => feed_expr(e.get(), state),
+        Expr::Snd(e) => feed_expr(e.get(), state),
+        Expr::Then(f, g) => feed_two(f, g, state),
+        Expr::Neg(a) => feed_expr(a.get(), state),
+        Expr::Add(a, b) => feed_two(a, b, state),
+        Expr::Sub(a, b) => feed_two(a, b, state),
+        Expr::Mul(a, b) => feed_two(a, b, state),
+        Expr::Less(a, b) => feed_two(a, b, state),
+        Expr::Equal(a, b) => feed_two(a, b, state),
+        Expr::Not(a) => feed_expr(a.get(), state),
+        Expr::And(a, b) => feed_two(a, b, state),
+        Expr::Or(a, b) => feed_two(a, b, state),
+        Expr::If(c, a, b) => feed_three(c, a, b, state),
+        Expr::NoEvent(t) => feed_type(t, state),
+        Expr::Event(e) => feed_expr(e.get(), state),
+        Expr::On(e, d, b) => feed_three(e, d, b, state),
+        Expr::List(t, all) => feed_list(t, all, state),
+        Expr::Nth(e, i, d) => feed_three(e, i, d, state),
+        Expr::Len(e) => feed_expr(e.get(), state),
+    }
+}
+
+/// Feeds two parts to the hasher, one after the other.
+#[cycle(feed)]
+fn feed_two<H: Hasher>(a: &Part, b: &Part, state: &mut H)
+    ensures { state.new ≡ fold H.write state.old (expression_fed a.now ++ expression_fed b.now) }
+{
+    feed_expr(a.get(), state);
+    feed_expr(b.get(), state);
+}
+
+/// Feeds three parts to the hasher, one after another.
+#[cycle(feed)]
+fn feed_three<H: Hasher>(a: &Part, b: &Part, c: &Part, state: &mut H)
+    ensures { state.new ≡ fold H.write state.old (expression_fed a.now ++ (expression_fed b.now ++ expression_fed c.now)) }
+{
+    feed_expr(a.get(), state);
+    feed_two(b, c, state);
+}
+
+/// Feeds the type and the elements of a list expression to the hasher, and the byte behind them.
+#[cycle(feed)]
+fn feed_list<H: Hasher>(t: &Ty, all: &Parts, state: &mut H)
+    ensures { state.new ≡ fold H.write state.old (type_fed (type_of t.now) ++ (expressions_fed (expressions_of all.now) ++ u8 26)) }
+{
+    feed_type(t, state);
+    feed_all(all, state);
+    state.write_u8(26);
+}
+
+/// Feeds the elements of a list expression to the hasher, one after another.
+#[cycle(feed)]
+fn feed_all<H: Hasher>(all: &Parts, state: &mut H)
+    ensures { state.new ≡ fold H.write state.old (expressions_fed (expressions_of all.now)) }
+{
+    for e in all.as_slice() {
+        feed_expr(e, state);
+    }
+}

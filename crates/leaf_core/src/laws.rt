@@ -1,0 +1,12 @@
+// What holds of every expression.
+
+ghost use Rattle.leaf_core.specs.TypingLaws.{EqualityLaw, ExactnessLaw, OneTypeLaw, SoundnessLaw};
+
+/// A typed expression has values of its type, and one type; the checking walk answers it exactly
+/// where the expression has it within the limits; the test that `equal` makes is equality.
+pub fn typing_laws()
+    ensures sound { SoundnessLaw }
+    ensures one_type { OneTypeLaw }
+    ensures exact { ExactnessLaw }
+    ensures equality { EqualityLaw }
+{}

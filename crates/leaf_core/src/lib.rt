@@ -1,0 +1,25 @@
+//! Expressions: their trees, types, values and shapes, and the keys that closures are found by.
+//! `leaf_expr` passes all of it on, beside their texts.
+#![tactic(auto)]
+
+mod equal;
+mod evaluation;
+mod expr;
+mod feed;
+mod key;
+mod laws;
+mod limits;
+mod literal;
+mod operations;
+mod shape;
+mod typing;
+
+pub use equal::same_expr;
+pub use evaluation::eval;
+pub use expr::{Expr, Part, Parts};
+pub use key::LeafKey;
+pub use laws::typing_laws;
+pub use limits::{expr_fits, type_fits};
+pub use literal::Literal;
+pub use shape::{Shape, shape_laws, shape_of};
+pub use typing::{ExprFault, type_of_expr};

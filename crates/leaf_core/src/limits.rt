@@ -1,0 +1,114 @@
+// The limits of types and of expressions.
+
+ghost use Rattle.std.specs.Prelude.{◌≡◌, ◌+◌, ◌≤◌, max, MatchOption};
+ghost use Rattle.sample_core.specs.SeenType.{type_of};
+ghost use Rattle.leaf_core.specs.Seen.{expression_of};
+ghost use Rattle.leaf_core.specs.Expression.{expressions_of};
+ghost use Rattle.leaf_core.specs.TypeLimits.{depth_of, nodes_of, type_fits};
+ghost use Rattle.leaf_core.specs.ExpressionLimits.{height_of, heights_of, nodes_in, nodes_in_all, expression_fits};
+
+use crate::expr::{Expr, Part, Parts};
+use sample_core::Ty;
+
+/// How many types may stand in one another; `Int` has depth 1.
+const TYPE_DEPTH: u32 = 32;
+
+/// How many types a type may be made of, itself counted.
+const TYPE_NODES: u32 = 256;
+
+/// How many expressions may stand in one another.
+const EXPR_HEIGHT: u32 = 256;
+
+/// How many expressions an expression may be made of, itself counted.
+const EXPR_NODES: u32 = 100_000;
+
+/// Whether the type is within the limits: depth 32 and 256 nodes, where `Int` has depth 1 and one
+/// node. It takes no memory.
+pub fn type_fits(ty: &Ty) -> bool
+    ensures { result ≡ type_fits (type_of ty.now) }
+{
+    type_nodes_left(ty, TYPE_DEPTH, TYPE_NODES).is_some()
+}
+
+/// Whether the expression is within the limits: height 256 and 100,000 nodes, where `x` has height
+/// 1 and one node, and types count nothing. It takes no memory.
+pub fn expr_fits(expr: &Expr) -> bool
+    ensures { result ≡ expression_fits (expression_of expr.now) }
+{
+    nodes_left(expr, EXPR_HEIGHT, EXPR_NODES).is_some()
+}
+
+/// How many of `nodes` are left after those of the type, whose depth is at most `depth`; `None`
+/// where it is deeper, or has more. It stops at the first type too many.
+fn type_nodes_left(ty: &Ty, depth: u32, nodes: u32) -> Option<u32>
+    ensures { MatchOption result (depth_of (type_of ty.now) ≤ depth → nodes_of (type_of ty.now) ≤ nodes → ⊥) (λ left. (depth_of (type_of ty.now) ≤ depth) × (nodes_of (type_of ty.now) + left ≡ nodes)) }
+{
+    let depth = depth.checked_sub(1)?;
+    let nodes = nodes.checked_sub(1)?;
+    match ty {
+        Ty::Unit | Ty::Bool | Ty::Int => Some(nodes),
+        Ty::Pair(a, b) => {
+            let nodes = type_nodes_left(a.get(), depth, nodes)?;
+            type_nodes_left(b.get(), depth, nodes)
+        }
+        Ty::Event(a) | Ty::List(a) => type_nodes_left(a.get(), depth, nodes),
+    }
+}
+
+/// How many of `nodes` are left after those of the expression, whose height is at most `height`;
+/// `None` where it is taller, or has more. It stops at the first expression too many.
+#[cycle(left)]
+fn nodes_left(expr: &Expr, height: u32, nodes: u32) -> Option<u32>
+    ensures { MatchOption result (height_of (expression_of expr.now) ≤ height → nodes_in (expression_of expr.now) ≤ nodes → ⊥) (λ left. (height_of (expression_of expr.now) ≤ height) × (nodes_in (expression_of expr.now) + left ≡ nodes)) }
+{
+    let height = height.checked_sub(1)?;
+    let nodes = nodes.checked_sub(1)?;
+    match expr {
+        Expr::Input | Expr::Param(_) | Expr::Literal(_) | Expr::NoEvent(_) => Some(nodes),
+        Expr::Fst(a) | Expr::Snd(a) | Expr::Neg(a) | Expr::Not(a) | Expr::Event(a) | Expr::Len(a) =>
+            { nodes_left(a.get(), height, nodes) }
+        Expr::Pair(a, b)
+        | Expr::Then(a, b)
+        | Expr::Add(a, b)
+        | Expr::Sub(a, b)
+        | Expr::Mul(a, b)
+        | Expr::Less(a, b)
+        | Expr::Equal(a, b)
+        | Expr::And(a, b)
+        | Expr::Or(a, b) => nodes_left_of_two(a, b, height, nodes),
+        Expr::If(a, b, c) | Expr::On(a, b, c) | Expr::Nth(a, b, c) => nodes_left_of_three(
+            a, b, c, height, nodes,
+        ),
+        Expr::List(_, all) => nodes_left_of_all(all, height, nodes),
+    }
+}
+
+/// The same of two parts.
+#[cycle(left)]
+fn nodes_left_of_two(a: &Part, b: &Part, height: u32, nodes: u32) -> Option<u32>
+    ensures { MatchOption result (max (height_of a.now) (height_of b.now) ≤ height → nodes_in a.now + nodes_in b.now ≤ nodes → ⊥) (λ left. (max (height_of a.now) (height_of b.now) ≤ height) × (nodes_in a.now + nodes_in b.now + left ≡ nodes)) }
+{
+    let nodes = nodes_left(a.get(), height, nodes)?;
+    nodes_left(b.get(), height, nodes)
+}
+
+/// The same of three parts.
+#[cycle(left)]
+fn nodes_left_of_three(a: &Part, b: &Part, c: &Part, height: u32, nodes: u32) -> Option<u32>
+    ensures { MatchOption result (max (height_of a.now) (max (height_of b.now) (height_of c.now)) ≤ height → nodes_in a.now + nodes_in b.now + nodes_in c.now ≤ nodes → ⊥) (λ left. (max (height_of a.now) (max (height_of b.now) (height_of c.now)) ≤ height) × (nodes_in a.now + nodes_in b.now + nodes_in c.now + left ≡ nodes)) }
+{
+    let nodes = nodes_left_of_two(a, b, height, nodes)?;
+    nodes_left(c.get(), height, nodes)
+}
+
+/// The same of the elements of a list expression.
+#[cycle(left)]
+fn nodes_left_of_all(all: &Parts, height: u32, nodes: u32) -> Option<u32>
+    ensures { MatchOption result (heights_of (expressions_of all.now) ≤ height → nodes_in_all (expressions_of all.now) ≤ nodes → ⊥) (λ left. (heights_of (expressions_of all.now) ≤ height) × (nodes_in_all (expressions_of all.now) + left ≡ nodes)) }
+{
+    let mut left = nodes;
+    for element in all.as_slice() {
+        left = nodes_left(element, height, left)?;
+    }
+    Some(left)
+}

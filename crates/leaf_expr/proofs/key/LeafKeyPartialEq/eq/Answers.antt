@@ -1,6 +1,0 @@
-use Rattle.leaf_expr.specs.KeyTree.{key_code}
-use Rattle.leaf_expr.specs.SameByCode.{same_by_is}
-use Rattle.leaf_expr.proofs.key.LeafKeyPartialEq.eq.Goals as goal
-
-pub returns : goal.returns
-returns c = same_by_is key_code _ _ _ c.same.ensures
