@@ -1,42 +1,47 @@
-use Rattle.std.proofs.Common.{rules, ◌++◌, ◌∷◌, [], map, ap, sym, ◌∙◌, arith}
+use Rattle.std.proofs.Common.{rules, ◌≡◌, ◌++◌, ◌∷◌, [], map, refl, ap, sym, subst, arith}
 use Rattle.std.proofs.lemmas.Grind.{common_steps}
-use Rattle.std.proofs.lemmas.List.{map_push}
 use Rattle.sample_core.specs.SeenType.{type_of}
 use Rattle.leaf_core.specs.Seen.{expression_of}
+use Rattle.net_syntax.specs.Leaves.{IsTyped}
 use Rattle.net_syntax.specs.Network.{seq, map_network}
 use Rattle.net_syntax.specs.Seen.{tree_of}
-use Rattle.net_syntax.specs.SeenNeed.{need_of}
-use Rattle.net_syntax.proofs.AddedLeaves.{adds_arr, adds_i_pre, adds_seq, if_ok, typed_arr, typed_i_pre, typed_first, typed_second}
+use Rattle.net_syntax.proofs.AddedLeaves.{adds_seq, if_ok, typed_first, typed_second}
 use Rattle.net_syntax.proofs.needs.+add_leaves.Goals as goal
 
-pub returns-in_ok-push-in-Arr-clause-added : goal.returns-in_ok-push-in-Arr-clause-added
-returns-in_ok-push-in-Arr-clause-added t c =
-    let copied = ap type_of c.in_ok-output-in-Arr.ensures in
-    let added = ap (map need_of) c.in_ok-push-in-Arr.ensures.items ∙ map_push need_of _ _ ∙ ap (λ n. map need_of c.args.needs.now.items ++ n ∷ []) c.in_ok-need-in-Arr.ensures.need in
-    adds_arr _ _ _ _ _ _ _ _ _ _ (ap tree_of c.in-Arr.is) c.deref.ensures.value c.in_ok-need-in-Arr.ensures.output copied added
+pub add_leaves-add_map-requires : goal.add_leaves-add_map-requires
+add_leaves-add_map-requires t c =
+    subst (λ n. IsTyped (map type_of c.args.scope.now) n (type_of c.args.input.now)) (ap tree_of c.in-Arr.is) c.requires
 
-pub returns-in_ok-output-in-Seq-clause-added : goal.returns-in_ok-output-in-Seq-clause-added
-returns-in_ok-output-in-Seq-clause-added t c =
-    let form = ap tree_of c.in-Seq.is ∙ (λ i. seq (map_network expression_of (sym c.get.ensures i)) (map_network expression_of (sym c.get-in-Seq.ensures i))) in
-    adds_seq _ _ _ _ _ _ _ _ _ _ _ _ _ form (grind (arith, common_steps)) (grind (arith, common_steps)) c.in_ok-between-in-Seq.ensures.added c.in_ok-output-in-Seq.ensures.added
+pub add_leaves-add_both-requires : goal.add_leaves-add_both-requires
+add_leaves-add_both-requires t c =
+    (search rules, subst (λ n. IsTyped (map type_of c.args.scope.now) n (type_of c.args.input.now)) (ap tree_of c.in-Seq.is) c.requires)
 
-pub returns-in_ok-push-in-IPre-clause-added : goal.returns-in_ok-push-in-IPre-clause-added
-returns-in_ok-push-in-IPre-clause-added t c =
-    let added = ap (map need_of) c.in_ok-push-in-IPre.ensures.items ∙ map_push need_of _ _ ∙ ap (λ n. map need_of c.args.needs.now.items ++ n ∷ []) c.in_ok-first_need-in-IPre.ensures.need in
-    if_ok c.try_copy-in-IPre.result _ _ (λ o h. adds_i_pre _ _ _ _ _ _ _ _ _ _ (ap tree_of c.in-IPre.is) c.deref-in-IPre.ensures.value c.in_ok-first_need-in-IPre.ensures.output (ap type_of h) added) c.try_copy-in-IPre.ensures
+pub add_leaves-add_constant-requires : goal.add_leaves-add_constant-requires
+add_leaves-add_constant-requires t c =
+    subst (λ n. IsTyped (map type_of c.args.scope.now) n (type_of c.args.input.now)) (ap tree_of c.in-IPre.is) c.requires
 
-pub first_need-requires : goal.first_need-requires
-first_need-requires t c = typed_arr _ _ _ _ (ap tree_of c.in-Arr.is) c.requires
+pub add_both-add_leaves-requires : goal.add_both-add_leaves-requires
+add_both-add_leaves-requires t c = (
+  search rules,
+  subst (λ n. IsTyped (map type_of c.args.scope.now) (map_network expression_of n) (type_of c.args.input.now)) (sym c.get.ensures)
+      (typed_first _ _ _ _ _ refl c.requires),
+)
 
-pub first_need-requires-in-IPre : goal.first_need-requires-in-IPre
-first_need-requires-in-IPre t c = typed_i_pre _ _ _ _ (ap tree_of c.in-IPre.is) c.requires
+pub add_both-add_second-output-requires : goal.add_both-add_second-output-requires
+add_both-add_second-output-requires t c =
+    let form : seq (map_network expression_of c.args.f.now) (map_network expression_of c.args.g.now) ≡ seq (tree_of c.get.result.now) (map_network expression_of c.args.g.now)
+    = λ i. seq (map_network expression_of (sym c.get.ensures i)) (map_network expression_of c.args.g.now) in
+    (search rules, typed_second _ _ _ _ _ _ _ _ _ form c.requires c.in_ok-between.ensures.added)
 
-pub add_leaves-requires : goal.add_leaves-requires
-add_leaves-requires t c =
-    let form = ap tree_of c.in-Seq.is ∙ (λ i. seq (map_network expression_of (sym c.get.ensures i)) (map_network expression_of c.in-Seq.g)) in
-    (search rules, typed_first _ _ _ _ _ form c.requires)
+pub add_both-returns-clause-added : goal.add_both-returns-clause-added
+add_both-returns-clause-added t c =
+    let form : seq (map_network expression_of c.args.f.now) (map_network expression_of c.args.g.now) ≡ seq (tree_of c.get.result.now) (map_network expression_of c.args.g.now)
+    = λ i. seq (map_network expression_of (sym c.get.ensures i)) (map_network expression_of c.args.g.now) in
+    let back : c.pop.new.self.items ≡ c.args.path.now.items = grind (arith, common_steps) in
+    if_ok c.add_second-output.result _ _
+    (λ u h. adds_seq _ _ _ _ _ _ _ _ _ _ _ _ _ form c.in_ok-push.ensures.items (ap (λ p. p ++ 1 ∷ []) back) c.in_ok-between.ensures.added h)
+    c.add_second-output.ensures.added
 
-pub add_leaves-requires-in-Seq : goal.add_leaves-requires-in-Seq
-add_leaves-requires-in-Seq t c =
-    let form = ap tree_of c.in-Seq.is ∙ (λ i. seq (map_network expression_of (sym c.get.ensures i)) (map_network expression_of (sym c.get-in-Seq.ensures i))) in
-    (search rules, typed_second _ _ _ _ _ _ _ _ _ form c.requires c.in_ok-between-in-Seq.ensures.added)
+pub add_second-add_leaves-output-requires : goal.add_second-add_leaves-output-requires
+add_second-add_leaves-output-requires t c =
+    (search rules, subst (λ n. IsTyped (map type_of c.args.scope.now) (map_network expression_of n) (type_of c.args.input.now)) (sym c.get.ensures) c.requires)
