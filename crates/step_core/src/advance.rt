@@ -1,7 +1,11 @@
 // One sample through a network of rows.
 
-ghost use Rattle.std.specs.Prelude.{IfOk, map};
+ghost use Rattle.std.specs.Prelude.{◌≡◌, ◌<◌, ◌++◌, ◌∷◌, [], IfOk, OnOk, Some, length, map, slice_get};
+ghost use Rattle.sample_core.specs.Datum.{unit};
+ghost use Rattle.sample_core.specs.HasType.{HasType, TypedParams};
 ghost use Rattle.sample_core.specs.Seen.{datum_of};
+ghost use Rattle.leaf_core.specs.ExpressionValue.{value_of};
+ghost use Rattle.leaf_core.specs.KeyTree.{KeyTree};
 ghost use Rattle.leaf_table.specs.Rows.{rows_of};
 ghost use Rattle.step_core.specs.SeenRows.{rows_in};
 ghost use Rattle.step_core.specs.Held.{BegunWhere, MovedWhere, IsFirst};
@@ -29,12 +33,13 @@ pub(crate) fn start(
         Net::Arr(e) => table.call(*e, &[], sample),
         Net::Seq(f, g) => {
             let between = start(alloc, table, f.get(), next, sample)?;
-            start(alloc, table, g.get(), next, &between)
+            let answer = start(alloc, table, g.get(), next, &between);
+            drop(between);
+            answer
         }
         Net::IPre(c) => {
-            let answer = table.call(*c, &[], &Sample::Unit)?;
-            next.push(sample.try_copy(alloc)?)?;
-            Ok(answer)
+            keep(alloc, next, sample)?;
+            constant(table, *c)
         }
     }
 }
@@ -59,14 +64,43 @@ pub(crate) fn step<'a>(
         Net::Arr(e) => Ok((table.call(*e, &[], sample)?, held)),
         Net::Seq(f, g) => {
             let (between, rest) = step(alloc, table, f.get(), held, next, dt, sample)?;
-            step(alloc, table, g.get(), rest, next, dt, &between)
+            let answer = step(alloc, table, g.get(), rest, next, dt, &between);
+            drop(between);
+            answer
         }
         Net::IPre(_) => {
-            let (answer, rest) = first_held(alloc, held)?;
-            next.push(sample.try_copy(alloc)?)?;
-            Ok((answer, rest))
+            keep(alloc, next, sample)?;
+            first_held(alloc, held)
         }
     }
+}
+
+/// Adds a copy of the sample to what the cells hold after it.
+fn keep(alloc: Global, next: &mut Vec<Sample>, sample: &Sample) -> Result<(), Memory>
+    ensures { OnOk result
+        (map datum_of next.new.items ≡ map datum_of next.old.items ++ datum_of sample.now ∷ []) }
+{
+    let copy = sample.try_copy(alloc)?;
+    match next.push(copy) {
+        Ok(()) => Ok(()),
+        Err(failed) => {
+            drop(failed);
+            Err(Memory)
+        }
+    }
+}
+
+/// The value of the row of a constant place, whose input is `unit`.
+fn constant(table: &LeafTable, row: LeafId) -> Result<Sample, Memory>
+    requires { row.0 < length (rows_of table.now) }
+    ensures { IfOk result (λ v. (key : KeyTree) → slice_get (rows_of table.now) row.0 ≡ Some key →
+        TypedParams key.params [] → HasType unit key.input →
+        datum_of v ≡ value_of key.expr [] unit) }
+{
+    let input = Sample::Unit;
+    let value = table.call(row, &[], &input);
+    drop(input);
+    value
 }
 
 /// The value that is held first, and the rest.

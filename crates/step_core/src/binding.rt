@@ -2,6 +2,8 @@
 
 ghost use Rattle.std.specs.Prelude.{◌≡◌, IfOk, IfErr, OnOk, map};
 ghost use Rattle.leaf_table.specs.Rows.{rows_of};
+ghost use Rattle.leaf_core.specs.Seen.{expression_of};
+ghost use Rattle.net_syntax.specs.Network.{map_network};
 ghost use Rattle.net_syntax.specs.Seen.{tree_of};
 ghost use Rattle.net_syntax.specs.SeenNeed.{need_of};
 ghost use Rattle.step_core.specs.Bound.{FitsTable};
@@ -28,9 +30,10 @@ pub fn bind(alloc: Global, net: &TypedNet, table: &LeafTable) -> Result<Bound, B
 {
     let needs = leaves(alloc, net)?;
     let rows = find_rows(alloc, table, &needs)?;
+    let input = net.input().try_copy(alloc)?;
     let (lowered, _) = lower(alloc, net.net(), &rows)?;
     Ok(Bound {
-        input: net.input().try_copy(alloc)?,
+        input,
         net: lowered,
     })
 }
@@ -60,7 +63,9 @@ fn missing(alloc: Global, position: &Position) -> BindFault
     }
 }
 
-/// The network with the first of these rows in the place of its expressions, and the rest of the rows.
+/// The network with the first of these rows in the place of its expressions, and the rest of the
+/// rows.
+#[cycle(lower)]
 fn lower<'a>(
     alloc: Global,
     net: &Net<Expr>,
@@ -74,16 +79,30 @@ fn lower<'a>(
             Ok((Net::Arr(row), rest))
         }
         Net::Seq(f, g) => {
-            let (first, rest) = lower(alloc, f.get(), rows)?;
-            let (second, rest) = lower(alloc, g.get(), rest)?;
-            let lowered = Net::Seq(Sub::new(alloc, first)?, Sub::new(alloc, second)?);
-            Ok((lowered, rest))
+            let (first, rest) = lower_sub(alloc, f, rows)?;
+            let (second, rest) = lower_sub(alloc, g, rest)?;
+            Ok((Net::Seq(first, second), rest))
         }
         Net::IPre(_) => {
             let (row, rest) = first_row(rows);
             Ok((Net::IPre(row), rest))
         }
     }
+}
+
+/// The same of a network inside a network.
+#[cycle(lower)]
+fn lower_sub<'a>(
+    alloc: Global,
+    sub: &Sub<Expr>,
+    rows: &'a [LeafId],
+) -> Result<(Sub<LeafId>, &'a [LeafId]), Memory>
+    ensures { IfOk result (λ r. Lowered (map_network expression_of sub.now) (map row_number rows.now)
+        (map_network row_number r.0) (map row_number r.1.now)) }
+{
+    let (lowered, rest) = lower(alloc, sub.get(), rows)?;
+    let lowered = Sub::new(alloc, lowered)?;
+    Ok((lowered, rest))
 }
 
 /// The first row, and the rest.

@@ -1,7 +1,4 @@
-use Rattle.std.proofs.Common.{rules, ◌≡◌, ◌++◌, ◌∷◌, [], map, ap, sym, ◌∙◌, arith, subst}
-use Rattle.std.proofs.lemmas.Grind.{common_steps}
-use Rattle.std.proofs.lemmas.List.{map_push}
-use Rattle.sample_core.specs.Seen.{datum_of}
+use Rattle.std.proofs.Common.{rules, ap, sym, ◌∙◌, subst}
 use Rattle.net_syntax.specs.Network.{seq, map_network}
 use Rattle.step_core.specs.SeenRows.{row_number, rows_in}
 use Rattle.step_core.specs.RowTyping.{FitsRows}
@@ -11,14 +8,14 @@ use Rattle.step_core.proofs.advance.+start.Goals as goal
 pub call-requires : goal.call-requires
 call-requires g t c = fits_arr _ _ (subst (FitsRows _) (ap rows_in c.in-Arr.is) c.requires)
 
-pub call-requires-in-IPre : goal.call-requires-in-IPre
-call-requires-in-IPre g t c = fits_i_pre _ _ (subst (FitsRows _) (ap rows_in c.in-IPre.is) c.requires)
+pub constant-requires : goal.constant-requires
+constant-requires g t c = fits_i_pre _ _ (subst (FitsRows _) (ap rows_in c.in-IPre.is) c.requires)
 
 pub start-requires : goal.start-requires
 start-requires g t c = (search rules, fits_first _ _ (map_network row_number c.in-Seq.g) (subst (FitsRows _) (ap rows_in c.in-Seq.is ∙ (λ i. seq (map_network row_number (sym c.get.ensures i)) (map_network row_number c.in-Seq.g))) c.requires))
 
-pub start-requires-in-Seq : goal.start-requires-in-Seq
-start-requires-in-Seq g t c = (search rules, fits_second _ (map_network row_number c.in-Seq.f) _ (subst (FitsRows _) (ap rows_in c.in-Seq.is ∙ (λ i. seq (map_network row_number c.in-Seq.f) (map_network row_number (sym c.get-in-Seq.ensures i)))) c.requires))
+pub start-answer-requires : goal.start-answer-requires
+start-answer-requires g t c = (search rules, fits_second _ (map_network row_number c.in-Seq.f) _ (subst (FitsRows _) (ap rows_in c.in-Seq.is ∙ (λ i. seq (map_network row_number c.in-Seq.f) (map_network row_number (sym c.get-in-Seq.ensures i)))) c.requires))
 
 pub returns-in-Arr : goal.returns-in-Arr
 returns-in-Arr g t c = if_ok c.call.result _ _ (λ y h. arr_begun _ _ _ _ _ _ (ap rows_in c.in-Arr.is) h) c.call.ensures
@@ -26,9 +23,8 @@ returns-in-Arr g t c = if_ok c.call.result _ _ (λ y h. arr_begun _ _ _ _ _ _ (a
 pub returns-in_ok-between-in-Seq : goal.returns-in_ok-between-in-Seq
 returns-in_ok-between-in-Seq g t c =
     let form = ap rows_in c.in-Seq.is ∙ (λ i. seq (map_network row_number (sym c.get.ensures i)) (map_network row_number (sym c.get-in-Seq.ensures i))) in
-    if_ok c.start-in-Seq.result _ _ (λ y h. seq_begun _ _ _ _ _ _ _ _ _ _ form c.in_ok-between-in-Seq.ensures h) c.start-in-Seq.ensures
+    if_ok c.start-answer.result _ _ (λ y h. seq_begun _ _ _ _ _ _ _ _ _ _ form c.in_ok-between-in-Seq.ensures h) c.start-answer.ensures
 
-pub returns-in_ok-push-in-IPre : goal.returns-in_ok-push-in-IPre
-returns-in_ok-push-in-IPre g t c =
-    let pushed : map datum_of c.push.new.self.items ≡ map datum_of c.args.next.now.items ++ datum_of c.args.sample.now ∷ [] = grind (arith, common_steps, map_push datum_of) in
-    i_pre_begun _ _ _ _ _ _ _ (ap rows_in c.in-IPre.is) c.in_ok-answer-in-IPre.ensures pushed
+pub returns-in_ok-keep-in-IPre : goal.returns-in_ok-keep-in-IPre
+returns-in_ok-keep-in-IPre g t c =
+    if_ok c.constant.result _ _ (λ y h. i_pre_begun _ _ _ _ _ _ _ (ap rows_in c.in-IPre.is) h c.in_ok-keep-in-IPre.ensures) c.constant.ensures

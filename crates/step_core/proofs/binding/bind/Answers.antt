@@ -14,7 +14,7 @@ returns-clause-network g c =
 
 pub returns-clause-fits : goal.returns-clause-fits
 returns-clause-fits g c =
-    let same : type_of c.in_ok-try_copy.field-0 ≡ c.args.net.now.input = ap type_of c.in_ok-try_copy.ensures ∙ c.input.ensures in
+    let same : type_of c.in_ok-input.input ≡ c.args.net.now.input = ap type_of c.in_ok-input.ensures ∙ c.input.ensures in
     let typed = (bound_network _ c.args.net.now _ _ _ _ _ _ _ c.net.ensures.net (ap (map need_of) c.deref.ensures.value) (ap (map row_number) c.deref-2.ensures.value) c.in_ok-needs.ensures c.in_ok-rows.ensures.found c.in_ok-lowered.ensures).0 in
     (c.args.net.now.output, subst (λ A. RowsTyped (rows_of c.args.table.now) (rows_in c.in_ok-lowered.lowered) A c.args.net.now.output) (sym same) typed)
 
