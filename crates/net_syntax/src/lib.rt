@@ -16,6 +16,3 @@ pub use needs::leaves;
 pub use net::{Net, Sub};
 pub use position::{Position, print_position, push_position};
 pub use typed_net::TypedNet;
-
-#[cfg(test)]
-mod tests;

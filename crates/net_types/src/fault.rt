@@ -10,10 +10,10 @@ use thiserror::Error;
 
 /// Why a network has no types within the limits. A position is that of the node or of the
 /// expression that is refused.
-#[derive(Debug, Drop, PartialEq, Eq, Error)]
+#[derive(Debug, Drop, Error)]
 pub enum TypeFault {
     /// The expression is refused, for that fault, which isn't `Memory`.
-    #[error("an expression is refused: {fault}")]
+    #[error("an expression is refused")]
     Expr {
         position: Position,
         fault: ExprFault,

@@ -10,6 +10,3 @@ mod walk;
 pub use check::check_types;
 pub use fault::TypeFault;
 pub use laws::typing_laws;
-
-#[cfg(test)]
-mod tests;

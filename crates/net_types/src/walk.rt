@@ -4,18 +4,20 @@ ghost use Rattle.std.specs.Prelude.{◌≡◌, [], OnOk};
 ghost use Rattle.sample_core.specs.SeenType.{type_of};
 ghost use Rattle.leaf_core.specs.Seen.{expression_of};
 ghost use Rattle.leaf_core.specs.ExpressionCheck.{type_answer};
+ghost use Rattle.net_syntax.specs.Network.{seq, i_pre, map_network};
 ghost use Rattle.net_syntax.specs.Seen.{tree_of};
 ghost use Rattle.net_types.specs.Walk.{◌↓◌, placed, same};
 ghost use Rattle.net_types.specs.Check.{net_walk, Gives};
 
 use crate::fault::TypeFault;
 use leaf_core::{Expr, ExprFault, type_of_expr};
-use net_syntax::{Net, Position};
+use net_syntax::{Net, Position, Sub};
 use sample_core::{Ty, same_type};
 use std::alloc::Global;
 
-/// The output type of the network at the path under an input of this type, with nothing in scope. After an answer the
-/// path is as before.
+/// The output type of the network at the path under an input of this type, with nothing in scope.
+/// After an answer the path is as before.
+#[cycle(walk)]
 pub fn walk(
     alloc: Global,
     path: &mut Vec<u32>,
@@ -27,20 +29,56 @@ pub fn walk(
 {
     match net {
         Net::Arr(e) => leaf_type(alloc, path, input, e),
-        Net::Seq(f, g) => {
-            path.push(0)?;
-            let between = walk(alloc, path, input, f.get())?;
-            path.pop();
-            path.push(1)?;
-            let output = walk(alloc, path, &between, g.get())?;
-            path.pop();
-            Ok(output)
-        }
-        Net::IPre(c) => {
-            let first = leaf_type(alloc, path, &Ty::Unit, c)?;
-            same_at(alloc, path, input, first)
-        }
+        Net::Seq(f, g) => walk_both(alloc, path, input, f, g),
+        Net::IPre(c) => walk_constant(alloc, path, input, c),
     }
+}
+
+/// The output type of two networks, the second of which gets what the first puts out.
+#[cycle(walk)]
+fn walk_both(
+    alloc: Global,
+    path: &mut Vec<u32>,
+    input: &Ty,
+    f: &Sub<Expr>,
+    g: &Sub<Expr>,
+) -> Result<Ty, TypeFault>
+    ensures answer { Gives type_of result (net_walk path.old.items [] [] (type_of input.now)
+        (seq (map_network expression_of f.now) (map_network expression_of g.now))) }
+    ensures path { OnOk result (path.new.items ≡ path.old.items) }
+{
+    let between = walk_child(alloc, path, 0, input, f)?;
+    let output = walk_child(alloc, path, 1, &between, g);
+    drop(between);
+    output
+}
+
+/// The output type of the network that is child k of the node at the path.
+#[cycle(walk)]
+fn walk_child(
+    alloc: Global,
+    path: &mut Vec<u32>,
+    k: u32,
+    input: &Ty,
+    child: &Sub<Expr>,
+) -> Result<Ty, TypeFault>
+    ensures answer { Gives type_of result (net_walk (path.old.items ↓ k) [] [] (type_of input.now)
+        (map_network expression_of child.now)) }
+    ensures path { OnOk result (path.new.items ≡ path.old.items) }
+{
+    path.push(k)?;
+    let output = walk(alloc, path, input, child.get());
+    path.pop();
+    output
+}
+
+/// The output type of an `iPre` with that constant: that of its input.
+fn walk_constant(alloc: Global, path: &[u32], input: &Ty, c: &Expr) -> Result<Ty, TypeFault>
+    ensures { Gives type_of result (net_walk path.now [] [] (type_of input.now)
+        (i_pre (expression_of c.now))) }
+{
+    let first = leaf_type(alloc, path, &Ty::Unit, c)?;
+    same_at(alloc, path, input, first)
 }
 
 /// The type of the expression that is child 0 of the node at the path.
@@ -64,6 +102,7 @@ fn same_at(alloc: Global, path: &[u32], wanted: &Ty, ty: Ty) -> Result<Ty, TypeF
     if same_type(wanted, &ty) {
         return Ok(ty);
     }
+    drop(ty);
     let position = Position::of_node(alloc, path)?;
     Err(TypeFault::Joint { position })
 }
