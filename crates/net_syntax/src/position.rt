@@ -1,9 +1,11 @@
 // Positions of networks and expressions inside a network.
 
-ghost use Rattle.std.specs.Prelude.{◌≡◌, [], ◌∷◌, ◌++◌, nat_eq, IfOk, OnOk, string_bytes};
+ghost use Rattle.std.specs.Prelude.{◌≡◌, [], ◌∷◌, ◌++◌, codes, nat_eq, IfOk, string_bytes};
+ghost use Rattle.std.specs.Fmt.{decimal};
 ghost use lib.Pointwise.{pointwise};
 ghost use Rattle.std.specs.Cmp.{partial_equiv_from_equiv};
 ghost use Rattle.std.proofs.lemmas.Cmp.{nat_list_eq_equiv};
+ghost use Rattle.sample_core.specs.Adding.{Adds};
 ghost use Rattle.net_syntax.specs.Position.{position_spelling};
 
 use itoa::Buffer;
@@ -92,15 +94,25 @@ pub fn print_position(alloc: Global, position: &Position) -> Result<String, Memo
 }
 
 /// Adds the position, as it is printed, to the end of the text. `Memory` where a growth was
-/// refused; the text may then end with a part of it.
+/// refused; the text may then end with a part of it, and still begins as it did.
 pub fn push_position(text: &mut String, position: &Position) -> Result<(), Memory>
-    ensures { OnOk result (string_bytes text.new ≡ string_bytes text.old ++ position_spelling position.now) }
+    ensures { Adds result (string_bytes text.old) (string_bytes text.new)
+        (position_spelling position.now) }
 {
     text.push_str("(at")?;
     for child in position.path() {
-        text.push_str(" ")?;
-        text.push_str(Buffer::new().format(*child))?;
+        push_child(text, *child)?;
     }
     text.push_str(")")?;
+    Ok(())
+}
+
+/// Adds a space and a child number.
+fn push_child(text: &mut String, child: u32) -> Result<(), Memory>
+    ensures { Adds result (string_bytes text.old) (string_bytes text.new)
+        (codes " " ++ decimal child) }
+{
+    text.push_str(" ")?;
+    text.push_str(Buffer::new().format(child))?;
     Ok(())
 }
