@@ -6,12 +6,15 @@ from pathlib import Path
 TOP = Path(__file__).resolve().parent.parent
 CRATES = [
     ("sample_core", "Values and types"),
-    ("leaf_expr", "Expressions"),
+    ("leaf_core", "Expressions"),
+    ("leaf_expr", "Texts of expressions"),
     ("leaf_table", "Stored closures"),
     ("net_syntax", "Networks"),
     ("net_types", "The type checker"),
     ("net_text", "Texts of networks"),
     ("step_core", "Stepping"),
+    ("stream_text", "Texts of streams"),
+    ("command_line", "The command line"),
     ("yampa_run", "Runs"),
 ]
 HEAD = """# Definitions
