@@ -19,17 +19,17 @@ use Rattle.net_syntax.proofs.Meanings.{outputs-take}
 use Rattle.step_core.specs.Bound.{Binding}
 use Rattle.step_core.specs.RowTyping.{network_by}
 use Rattle.step_core.specs.Running.{Running, StandsFor, Pushed, network_in}
-use Rattle.yampa_run.specs.Course.{IsAt, IsBefore, RunsLine, IsOfText, Stops, ended_by}
+use Rattle.yampa_run.specs.Course.{IsAt, RunsLine, IsOfText, Stops, ended_by}
 use Rattle.yampa_run.specs.Output.{spelled_lines}
-use Rattle.yampa_run.specs.StepText.{behind, stepped}
-use Rattle.yampa_run.specs.StreamText.{Held, and_on, held_from, if_whole, is_some, later_line, line_after, line_read, samples, with_step, Refuses}
-use Rattle.yampa_run.specs.TextLines.{lines_of}
+use Rattle.stream_text.specs.StepText.{behind, stepped}
+use Rattle.stream_text.specs.StreamText.{Held, IsBefore, and_on, held_from, if_whole, is_some, later_line, line_after, line_read, samples, with_step, Refuses}
+use Rattle.stream_text.specs.TextLines.{lines_of}
 use Rattle.yampa_run.specs.Printed.{IsAnswered}
-use Rattle.yampa_run.specs.declared.fault.StreamFault.{StreamFault}
-use Rattle.yampa_run.specs.declared.fault.StreamFault.TheVariants as S
+use Rattle.stream_text.specs.declared.fault.StreamFault.{StreamFault}
+use Rattle.stream_text.specs.declared.fault.StreamFault.TheVariants as S
 use Rattle.yampa_run.specs.declared.fault.RunFault.{RunFault}
 use Rattle.yampa_run.specs.declared.fault.RunFault.TheVariants as U
-use Rattle.yampa_run.proofs.Samples.{read_few, read_typed}
+use Rattle.stream_text.proofs.Samples.{read_few, read_typed}
 use Rattle.sample_core.specs.ReadingLaws.{ReadingLaw}
 
 -- the samples p, and then what is held further

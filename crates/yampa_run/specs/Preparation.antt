@@ -15,7 +15,7 @@ use Rattle.net_types.specs.declared.fault.TypeFault.{TypeFault}
 use Rattle.net_types.specs.declared.fault.TypeFault.TheVariants as T
 use Rattle.leaf_table.specs.declared.fault.TableFault.{TableFault}
 use Rattle.leaf_table.specs.declared.fault.TableFault.TheVariants as A
-use Rattle.yampa_run.specs.CommandLine.{Asked, types_of, run_of, asked, AsksHelp, AsksNothing}
+use Rattle.command_line.specs.CommandLine.{Asked, types_of, run_of, asked, AsksHelp, AsksNothing}
 use Rattle.yampa_run.specs.Refused.{text_words, type_words, unread_words}
 use Rattle.yampa_run.specs.declared.preparation.Job.{Job}
 use Rattle.yampa_run.specs.declared.preparation.Job.TheVariants as J

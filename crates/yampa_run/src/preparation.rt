@@ -1,12 +1,12 @@
 // From the words of a command line to what is to be done.
 
 ghost use Rattle.std.specs.Prelude.{◌≡◌, ℕ, List, Err, IfErr, IfOk, Some, map, string_bytes};
-ghost use Rattle.yampa_run.specs.CommandLine.{ReadsWords, asked, seen_request};
+ghost use Rattle.command_line.specs.CommandLine.{ReadsWords, asked, seen_request};
 ghost use Rattle.yampa_run.specs.Preparation.{HasNoNetwork, IsAsked, IsNetworkIn, IsNetworkOf, IsRefusal, RefusesText, RefusesTypes, TellsTypes, Told, types_lines};
 
-use crate::command::{Reply, Request, parse};
 use crate::files::{FileFault, Files};
 use crate::refused::{Role, text_line, type_line, unread_line};
+use command_line::{Reply, Request, parse};
 use net_syntax::TypedNet;
 use net_text::{NetTextFault, read_net};
 use net_types::{TypeFault, check_types};

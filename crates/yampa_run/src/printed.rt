@@ -4,10 +4,11 @@ ghost use Rattle.std.specs.Prelude.{◌≡◌, ◌++◌, IfOk, OnOk, string_byte
 ghost use Rattle.std.specs.Fmt.{decimal};
 ghost use Rattle.yampa_run.specs.Printed.{IsAnswered, IsMet, at_line, line_of, status_of, stream_words, value_words};
 
-use crate::fault::{RunFault, StreamFault};
+use crate::fault::RunFault;
 use itoa::Buffer;
 use sample_core::{Memory, ValueFault};
 use std::alloc::Global;
+use stream_text::StreamFault;
 
 /// The exit status of a run that ended early, and the line that tells why, without a line feed: 1
 /// for what is wrong with the stream's text, 3 for reading, writing and memory. The fault must be

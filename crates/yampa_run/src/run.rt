@@ -9,15 +9,14 @@ ghost use Rattle.step_core.specs.Bound.{FitsTable};
 ghost use Rattle.step_core.specs.SeenRunner.{running_of};
 ghost use Rattle.yampa_run.specs.Course.{IsAt, RunsLine, Stops, ended_by, run_of, taken_by};
 ghost use Rattle.yampa_run.specs.Printed.{IsAnswered};
-ghost use Rattle.yampa_run.specs.StreamText.{Refuses, line_read};
+ghost use Rattle.stream_text.specs.StreamText.{Refuses, line_read};
 
-use crate::fault::{RunFault, RunReport, StreamFault};
-use crate::stream_text::read_line;
-use crate::text_lines::split_line;
+use crate::fault::{RunFault, RunReport};
 use leaf_table::LeafTable;
 use sample_core::{Sample, Ty, push_value, reading_laws};
 use std::alloc::Global;
 use step_core::{Bound, Runner};
+use stream_text::{StreamFault, read_line, split_line};
 
 /// What a run keeps from one line to the next, beside its runner.
 #[derive(Drop)]

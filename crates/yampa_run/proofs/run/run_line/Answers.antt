@@ -8,9 +8,9 @@ use Rattle.sample_core.specs.TypeTree.{TypeTree}
 use Rattle.sample_core.specs.Datum.{Datum}
 use Rattle.sample_core.specs.declared.sample.Sample.{Sample}
 use Rattle.step_core.specs.SeenRunner.{running_of}
-use Rattle.yampa_run.specs.StreamText.{line_read}
-use Rattle.yampa_run.specs.SeenStream.{seen_before, seen_sample}
-use Rattle.yampa_run.proofs.Samples.{allowed}
+use Rattle.stream_text.specs.StreamText.{line_read}
+use Rattle.stream_text.specs.SeenStream.{seen_before, seen_sample}
+use Rattle.yampa_run.proofs.Allowed.{allowed}
 use Rattle.yampa_run.proofs.run.run_line.Goals as goal
 
 seen_copied : (o : Option (Bor Sample)) → seen_before o ≡ option_map datum_of (option_copied o)
