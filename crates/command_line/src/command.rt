@@ -11,7 +11,7 @@ use clap::{Arg, ArgAction, ArgMatches, Command};
 use std::alloc::{AllocError, Global};
 
 /// What the command line asks for.
-#[derive(Clone, Copy, PartialEq, Eq, Debug)]
+#[derive(Clone, Copy)]
 pub enum Request<'a> {
     /// The types, the weight and the height of the network in a file.
     Types { net: &'a str },
@@ -20,7 +20,7 @@ pub enum Request<'a> {
 }
 
 /// Why the command line is no request.
-#[derive(Debug, Drop)]
+#[derive(Drop)]
 pub enum Reply {
     /// Help that was asked for.
     Help(String),
