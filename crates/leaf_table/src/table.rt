@@ -22,7 +22,7 @@ pub const MAX_ROWS: usize = 4096;
 pub struct LeafId(pub usize);
 
 /// Stored closures by row and by key: at most 4,096 rows, no two with the same key. Contracts see
-/// a table as the list of its rows' keys.
+/// a table as the list of its rows' keys and the list of its rows' leaves.
 #[derive(Drop)]
 pub struct LeafTable {
     alloc: Global,
@@ -32,11 +32,12 @@ pub struct LeafTable {
 }
 
 impl LeafTable {
-    ghost use Rattle.leaf_table.specs.Rows.{rows_of};
+    ghost use Rattle.leaf_table.specs.Rows.{leaves_of, rows_of};
 
     /// A table with no rows. It takes no memory.
     pub fn new(alloc: Global) -> LeafTable
-        ensures { rows_of result ≡ [] }
+        ensures rows { rows_of result ≡ [] }
+        ensures leaves { leaves_of result ≡ [] }
     {
         LeafTable {
             alloc,
@@ -44,8 +45,8 @@ impl LeafTable {
         }
     }
 
-    /// Adds the leaf as a new last row, or drops it where its key has a row already. Answers the
-    /// row of the key.
+    /// Adds the leaf as a new last row. Where its key has a row already, the leaf that is there
+    /// stays and this one is dropped. Answers the row of the key.
     ///
     /// A refusal gives the leaf back, and the table is as it was. `Full`: the key is new, and the
     /// table has 4,096 rows. `Memory`: a growth was refused.
@@ -54,6 +55,9 @@ impl LeafTable {
         ensures known { Contains (rows_of self.old) leaf.key → IsOk result × (rows_of self.new ≡ rows_of self.old) }
         ensures grown { OnOk result ((Contains (rows_of self.old) leaf.key → ⊥) → rows_of self.new ≡ rows_of self.old ++ leaf.key ∷ []) }
         ensures unchanged { OnErr result (rows_of self.new ≡ rows_of self.old) }
+        ensures kept { Contains (rows_of self.old) leaf.key → leaves_of self.new ≡ leaves_of self.old }
+        ensures stored { OnOk result ((Contains (rows_of self.old) leaf.key → ⊥) → leaves_of self.new ≡ leaves_of self.old ++ leaf ∷ []) }
+        ensures no_other { OnErr result (leaves_of self.new ≡ leaves_of self.old) }
         ensures returned { IfErr result (λ e. e.0 ≡ leaf) }
         ensures full { IfErr result (λ e. (e.1 ≡ TableFault.Full) ↔ (length (rows_of self.old) ≡ 4096)) }
         ensures refused { (Contains (rows_of self.old) leaf.key → ⊥) → length (rows_of self.old) ≡ 4096 → IsErr result }
@@ -80,6 +84,8 @@ impl LeafTable {
         ensures row { IfOk result (λ id. slice_get (rows_of self.new) id.0 ≡ Some key) }
         ensures grown { OnOk result (rows_of self.new ≡ rows_of self.old ++ key ∷ []) }
         ensures unchanged { OnErr result (rows_of self.new ≡ rows_of self.old) }
+        ensures stored { OnOk result (leaves_of self.new ≡ leaves_of self.old ++ leaf ∷ []) }
+        ensures no_other { OnErr result (leaves_of self.new ≡ leaves_of self.old) }
         ensures returned { IfErr result (λ e. (e.0 ≡ leaf) × (e.1 ≡ TableFault.Memory)) }
     {
         let row = self.rows.len();

@@ -1,6 +1,7 @@
 use Rattle.std.proofs.Common.{◌≡◌, ◌<◌, length, Some, ◌∙◌, sym, ap, subst, arith}
 use Rattle.std.proofs.lemmas.Map.Entries.{length-keys_of}
 use Rattle.std.proofs.lemmas.Result.{IfOk-weaker, IfErr-weaker}
+use Rattle.leaf_table.proofs.TableLemmas.{has_key}
 use Rattle.leaf_table.specs.Rows.{rows_of}
 use Rattle.leaf_table.specs.declared.fault.TableFault.TheVariants as F
 use Rattle.leaf_table.proofs.table.LeafTable.add.Goals as goal
@@ -14,3 +15,9 @@ returns-in-Ok-clause-full g c =
     IfErr-weaker c.push.result _ _
     (λ e h. (λ full. absurd (let clash : F.Memory ≡ F.Full = sym h.1 ∙ full in cc), λ all. absurd (omega (arith, few, all))))
     c.push.ensures.returned
+
+pub returns-in-Some-clause-stored : goal.returns-in-Some-clause-stored
+returns-in-Some-clause-stored g c = λ absent. absurd (absent (has_key _ _ _ c.in-Some.ensures.found))
+
+pub returns-in-Some-clause-refused : goal.returns-in-Some-clause-refused
+returns-in-Some-clause-refused g c = λ absent. absurd (absent (has_key _ _ _ c.in-Some.ensures.found))

@@ -1,8 +1,8 @@
 use Rattle.std.proofs.Common.{◌≡◌, ◌<◌, ◌++◌, ◌∷◌, [], Some, slice_get, ◌∙◌, sym, ap, subst}
 use Rattle.std.proofs.lemmas.Map.Entries.{length-keys_of}
-use Rattle.std.specs.Map.{keys_of}
+use Rattle.std.specs.Map.{keys_of, values_of}
 use Rattle.leaf_table.proofs.KeyEquality.{key_same}
-use Rattle.leaf_table.proofs.TableLemmas.{absent_from, keyed_after, room_after, entries_after, entries_grown, keys_push, key_pushed}
+use Rattle.leaf_table.proofs.TableLemmas.{absent_from, keyed_after, room_after, entries_after, entries_grown, keys_push, key_pushed, values_push}
 use Rattle.leaf_table.proofs.table.LeafTable.push.Goals as goal
 
 pub invariant_of-self-clause-keyed : goal.invariant_of-self-clause-keyed
@@ -29,3 +29,8 @@ returns-in-Ok-clause-row g c =
     let at : slice_get (keys_of (c.args.self.now.rows.entries ++ (c.args.key, c.args.leaf) ∷ [])) c.len-row.result ≡ Some c.args.key =
     subst (λ n. slice_get (keys_of (c.args.self.now.rows.entries ++ (c.args.key, c.args.leaf) ∷ [])) n ≡ Some c.args.key) (sym c.len-row.ensures.len) (key_pushed c.args.self.now.rows.entries (c.args.key, c.args.leaf)) in
     ap (λ es. slice_get (keys_of es) c.len-row.result) grown ∙ at
+
+pub returns-in-Ok-clause-stored : goal.returns-in-Ok-clause-stored
+returns-in-Ok-clause-stored g c =
+    let absent = absent_from _ key_same c.args.self.now.rows c.args.key c.requires.fresh in
+    ap values_of (entries_grown _ c.args.self.now.rows c.insert.new.self c.args.key c.args.leaf absent c.in-Ok.ensures.entries) ∙ values_push _ _
