@@ -11,7 +11,7 @@ ghost use Rattle.leaf_table.specs.Rows.{rows_of};
 ghost use Rattle.yampa_run.specs.Preparation.{RefusesTable};
 
 use crate::preparation::Refusal;
-pub use leaf_expr::{Shape, shape_of};
+pub use leaf_core::{Shape, shape_of};
 use leaf_table::{Leaf, LeafTable, Run};
 pub use leaf_table::{
     TableFault, run_affine, run_below, run_constant, run_general, run_identity, run_left,

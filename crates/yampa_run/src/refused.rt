@@ -3,7 +3,7 @@
 ghost use Rattle.std.specs.Prelude.{◌≡◌, codes, IfOk, string_bytes};
 ghost use Rattle.yampa_run.specs.Refused.{byte_words, expression_words, line_on, place_words, role_word, text_words, type_words, unread_words};
 
-use leaf_expr::ExprFault;
+use leaf_core::ExprFault;
 use net_syntax::{Position, push_position};
 use net_text::NetTextFault;
 use net_types::TypeFault;
