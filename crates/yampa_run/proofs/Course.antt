@@ -74,8 +74,8 @@ goes_on law keys b text lines n r r' before before' rest line after out out' i e
     let net : Network Expression = network_by keys b.rows in
     let reads : line_read b.input n before line ≡ Ok l.x = subst (λ A. line_read A n before line ≡ Ok l.x) g.of_type l.reads in
     let read : line_read b.input (suc lines) before line ≡ Ok l.x = subst (λ m. line_read b.input m before line ≡ Ok l.x) i reads in
-    let next : StandsFor r' (g.p ++ l.x ∷ []) × (stream_of (network_in r) (g.p ++ l.x ∷ []) ≡ stream_of (network_in r) g.p ++ l.y ∷ []) = l.pushes g.p g.stands in
-    let grown : stream_of net (g.p ++ l.x ∷ []) ≡ stream_of net g.p ++ l.y ∷ [] = subst (λ m. stream_of m (g.p ++ l.x ∷ []) ≡ stream_of m g.p ++ l.y ∷ []) g.of_network next.1 in
+    let next : StandsFor r' (g.p ++ l.x ∷ []) × (stream_of (network_in r) (g.p ++ l.x ∷ []) ≡ stream_of (network_in r) g.p ++ l.answers.y ∷ []) = l.answers.pushes g.p g.stands in
+    let grown : stream_of net (g.p ++ l.x ∷ []) ≡ stream_of net g.p ++ l.answers.y ∷ [] = subst (λ m. stream_of m (g.p ++ l.x ∷ []) ≡ stream_of m g.p ++ l.answers.y ∷ []) g.of_network next.1 in
     let later : Option Datum → ℕ → Held = λ v m. held_from b.input (suc m) v (lines_of after) in
     record {
       p = g.p ++ l.x ∷ [];
@@ -86,11 +86,11 @@ goes_on law keys b text lines n r r' before before' rest line after out out' i e
           ∙ ap (λ v. then_held (g.p ++ l.x ∷ []) (later v (suc lines))) (sym l.keeps)
           ∙ ap (λ m. then_held (g.p ++ l.x ∷ []) (later before' m)) (sym i);
       stands = next.0;
-      of_type = l.same_type ∙ g.of_type;
-      of_network = l.same_network ∙ g.of_network;
+      of_type = l.answers.same_type ∙ g.of_type;
+      of_network = l.answers.same_network ∙ g.of_network;
       count = let k : length (g.p ++ l.x ∷ []) ≡ length g.p + length (l.x ∷ []) = length-append g.p (l.x ∷ []) in omega (arith, k, g.count, i);
       value = subst (IsBefore b.input n) (sym l.keeps) (read_typed law b.input n lines before line l.x g.value reads);
-      wrote = l.writes ∙ ap (λ o. o ++ (spelling l.y ++ 10 ∷ [])) g.wrote ∙ sym (spelled_lines-push (stream_of net g.p) l.y) ∙ ap spelled_lines (sym grown);
+      wrote = l.answers.writes ∙ ap (λ o. o ++ (spelling l.answers.y ++ 10 ∷ [])) g.wrote ∙ sym (spelled_lines-push (stream_of net g.p) l.answers.y) ∙ ap spelled_lines (sym grown);
       few = read_few b.input n before line l.x reads;
     }
 

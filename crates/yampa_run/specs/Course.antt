@@ -21,16 +21,20 @@ pub record IsAt (r : Running) (A : TypeTree) (n : ℕ) (before : Option Datum) :
   pub number : n ≡ suc r.samples
   pub value : IsBefore A r.samples before
 
--- Line n holds the sample x, the network answers y, and y's line is written: the runner, the value before and what is written, before the line and behind it.
-pub record RunsLine (r : Running) (n : ℕ) (line : List ℕ) (before : Option Datum) (out : List ℕ) (r' : Running) (before' : Option Datum) (out' : List ℕ) : Type 0 where
-  pub x : ℕ × Datum
+-- The network takes the sample x in and answers y, and y's line is written: the runner and what is written, before and behind it.
+pub record Answers (r : Running) (x : ℕ × Datum) (out : List ℕ) (r' : Running) (out' : List ℕ) : Type 0 where
   pub y : Datum
-  pub reads : line_read r.input n before line ≡ Ok x
-  pub keeps : before' ≡ Some x.1
   pub pushes : Pushed r x y r'
   pub same_type : r'.input ≡ r.input
   pub same_network : network_in r' ≡ network_in r
   pub writes : out' ≡ out ++ (spelling y ++ 10 ∷ [])
+
+-- Line n holds the sample x, which the network answers and whose value is kept: the runner, the value before and what is written, before the line and behind it.
+pub record RunsLine (r : Running) (n : ℕ) (line : List ℕ) (before : Option Datum) (out : List ℕ) (r' : Running) (before' : Option Datum) (out' : List ℕ) : Type 0 where
+  pub x : ℕ × Datum
+  pub reads : line_read r.input n before line ≡ Ok x
+  pub keeps : before' ≡ Some x.1
+  pub answers : Answers r x out r' out'
 
 -- want of memory ends a run as such, another fault of the stream as the stream's
 abbrev pub ended_by : ℕ → StreamFault → RunFault

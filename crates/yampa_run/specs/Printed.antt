@@ -20,7 +20,7 @@ IsAnswered _ = ⊤
 
 -- what is printed of line n of the stream: its number, and what is wrong in it
 abbrev pub at_line : ℕ → List ℕ → List ℕ
-at_line n what = codes "stream: line " ++ decimal n ++ codes ": " ++ what
+at_line n what = codes "stream: line " ++ (decimal n ++ (codes ": " ++ what))
 
 -- what is printed of a faulty value in line n
 abbrev pub value_words : ℕ → ValueFault → List ℕ
