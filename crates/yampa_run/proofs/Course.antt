@@ -19,17 +19,17 @@ use Rattle.net_syntax.proofs.Meanings.{outputs-take}
 use Rattle.step_core.specs.Bound.{Binding}
 use Rattle.step_core.specs.RowTyping.{network_by}
 use Rattle.step_core.specs.Running.{Running, StandsFor, Pushed, network_in}
-use Rattle.yampa_run.specs.Course.{IsAt, IsBefore, RunsLine, IsOfText, Stops, ended_by}
+use Rattle.yampa_run.specs.Course.{IsAt, RunsLine, IsOfText, Stops, ended_by}
 use Rattle.yampa_run.specs.Output.{spelled_lines}
-use Rattle.yampa_run.specs.StepText.{behind, stepped}
-use Rattle.yampa_run.specs.StreamText.{Held, and_on, held_from, if_whole, is_some, later_line, line_after, line_read, samples, with_step, Refuses}
-use Rattle.yampa_run.specs.TextLines.{lines_of}
+use Rattle.stream_text.specs.StepText.{behind, stepped}
+use Rattle.stream_text.specs.StreamText.{Held, IsBefore, and_on, held_from, if_whole, is_some, later_line, line_after, line_read, samples, with_step, Refuses}
+use Rattle.stream_text.specs.TextLines.{lines_of}
 use Rattle.yampa_run.specs.Printed.{IsAnswered}
-use Rattle.yampa_run.specs.declared.fault.StreamFault.{StreamFault}
-use Rattle.yampa_run.specs.declared.fault.StreamFault.TheVariants as S
+use Rattle.stream_text.specs.declared.fault.StreamFault.{StreamFault}
+use Rattle.stream_text.specs.declared.fault.StreamFault.TheVariants as S
 use Rattle.yampa_run.specs.declared.fault.RunFault.{RunFault}
 use Rattle.yampa_run.specs.declared.fault.RunFault.TheVariants as U
-use Rattle.yampa_run.proofs.Samples.{read_few, read_typed}
+use Rattle.stream_text.proofs.Samples.{read_few, read_typed}
 use Rattle.sample_core.specs.ReadingLaws.{ReadingLaw}
 
 -- the samples p, and then what is held further
@@ -74,8 +74,8 @@ goes_on law keys b text lines n r r' before before' rest line after out out' i e
     let net : Network Expression = network_by keys b.rows in
     let reads : line_read b.input n before line ≡ Ok l.x = subst (λ A. line_read A n before line ≡ Ok l.x) g.of_type l.reads in
     let read : line_read b.input (suc lines) before line ≡ Ok l.x = subst (λ m. line_read b.input m before line ≡ Ok l.x) i reads in
-    let next : StandsFor r' (g.p ++ l.x ∷ []) × (stream_of (network_in r) (g.p ++ l.x ∷ []) ≡ stream_of (network_in r) g.p ++ l.y ∷ []) = l.pushes g.p g.stands in
-    let grown : stream_of net (g.p ++ l.x ∷ []) ≡ stream_of net g.p ++ l.y ∷ [] = subst (λ m. stream_of m (g.p ++ l.x ∷ []) ≡ stream_of m g.p ++ l.y ∷ []) g.of_network next.1 in
+    let next : StandsFor r' (g.p ++ l.x ∷ []) × (stream_of (network_in r) (g.p ++ l.x ∷ []) ≡ stream_of (network_in r) g.p ++ l.answers.y ∷ []) = l.answers.pushes g.p g.stands in
+    let grown : stream_of net (g.p ++ l.x ∷ []) ≡ stream_of net g.p ++ l.answers.y ∷ [] = subst (λ m. stream_of m (g.p ++ l.x ∷ []) ≡ stream_of m g.p ++ l.answers.y ∷ []) g.of_network next.1 in
     let later : Option Datum → ℕ → Held = λ v m. held_from b.input (suc m) v (lines_of after) in
     record {
       p = g.p ++ l.x ∷ [];
@@ -86,11 +86,11 @@ goes_on law keys b text lines n r r' before before' rest line after out out' i e
           ∙ ap (λ v. then_held (g.p ++ l.x ∷ []) (later v (suc lines))) (sym l.keeps)
           ∙ ap (λ m. then_held (g.p ++ l.x ∷ []) (later before' m)) (sym i);
       stands = next.0;
-      of_type = l.same_type ∙ g.of_type;
-      of_network = l.same_network ∙ g.of_network;
+      of_type = l.answers.same_type ∙ g.of_type;
+      of_network = l.answers.same_network ∙ g.of_network;
       count = let k : length (g.p ++ l.x ∷ []) ≡ length g.p + length (l.x ∷ []) = length-append g.p (l.x ∷ []) in omega (arith, k, g.count, i);
       value = subst (IsBefore b.input n) (sym l.keeps) (read_typed law b.input n lines before line l.x g.value reads);
-      wrote = l.writes ∙ ap (λ o. o ++ (spelling l.y ++ 10 ∷ [])) g.wrote ∙ sym (spelled_lines-push (stream_of net g.p) l.y) ∙ ap spelled_lines (sym grown);
+      wrote = l.answers.writes ∙ ap (λ o. o ++ (spelling l.answers.y ++ 10 ∷ [])) g.wrote ∙ sym (spelled_lines-push (stream_of net g.p) l.answers.y) ∙ ap spelled_lines (sym grown);
       few = read_few b.input n before line l.x reads;
     }
 

@@ -1,7 +1,3 @@
-pub mod Lines
-pub mod Steps
-pub mod Samples
+pub mod Allowed
 pub mod Course
-mod Matches
-mod Parsed
 mod Networks

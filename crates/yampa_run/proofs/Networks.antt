@@ -10,7 +10,7 @@ use Rattle.net_types.proofs.Checks.{check_exact}
 use Rattle.net_types.specs.Check.{check}
 use Rattle.net_types.specs.declared.fault.TypeFault.{TypeFault}
 use Rattle.net_types.specs.declared.fault.TypeFault.TheVariants as T
-use Rattle.yampa_run.specs.CommandLine.{Asked, asked}
+use Rattle.command_line.specs.CommandLine.{Asked, asked}
 use Rattle.yampa_run.specs.Preparation.{HasNoNetwork, IsNetworkIn, IsRefusal, RefusesText, RefusesTypes, Told, by_text, by_types, file_of}
 use Rattle.yampa_run.specs.declared.preparation.Refusal.{Refusal}
 use Rattle.yampa_run.specs.declared.preparation.Refusal.TheVariants as Refused

@@ -1,7 +1,6 @@
 -- How a run goes on by a line, and how it ends.
 use Rattle.std.specs.Prelude.{◌≡◌, ◌≤◌, ℕ, suc, List, ◌∷◌, [], ◌++◌, length, take, Option, None, Some, Ok, ⊤}
 use Rattle.sample_core.specs.Datum.{Datum}
-use Rattle.sample_core.specs.HasType.{HasType}
 use Rattle.sample_core.specs.Spelling.{spelling}
 use Rattle.sample_core.specs.TypeTree.{TypeTree}
 use Rattle.leaf_core.specs.KeyTree.{KeyTree}
@@ -10,16 +9,11 @@ use Rattle.step_core.specs.Bound.{Binding}
 use Rattle.step_core.specs.RowTyping.{network_by}
 use Rattle.step_core.specs.Running.{Running, Pushed, network_in}
 use Rattle.yampa_run.specs.Output.{Output, output_of, spelled_lines}
-use Rattle.yampa_run.specs.StreamText.{line_read, samples}
-use Rattle.yampa_run.specs.declared.fault.StreamFault.{StreamFault}
-use Rattle.yampa_run.specs.declared.fault.StreamFault.TheVariants as S
+use Rattle.stream_text.specs.StreamText.{IsBefore, line_read, samples}
+use Rattle.stream_text.specs.declared.fault.StreamFault.{StreamFault}
+use Rattle.stream_text.specs.declared.fault.StreamFault.TheVariants as S
 use Rattle.yampa_run.specs.declared.fault.RunFault.{RunFault}
 use Rattle.yampa_run.specs.declared.fault.RunFault.TheVariants as U
-
--- the value of the line before: none before line 1, and later one of the type
-abbrev pub IsBefore : TypeTree → ℕ → Option Datum → Type 0
-IsBefore A taken None = taken ≡ 0
-IsBefore A taken (Some v) = HasType v A
 
 -- a runner of inputs of type A stands before line n, the value of the line before being given
 pub record IsAt (r : Running) (A : TypeTree) (n : ℕ) (before : Option Datum) : Type 0 where
@@ -27,16 +21,20 @@ pub record IsAt (r : Running) (A : TypeTree) (n : ℕ) (before : Option Datum) :
   pub number : n ≡ suc r.samples
   pub value : IsBefore A r.samples before
 
--- Line n holds the sample x, the network answers y, and y's line is written: the runner, the value before and what is written, before the line and behind it.
-pub record RunsLine (r : Running) (n : ℕ) (line : List ℕ) (before : Option Datum) (out : List ℕ) (r' : Running) (before' : Option Datum) (out' : List ℕ) : Type 0 where
-  pub x : ℕ × Datum
+-- The network takes the sample x in and answers y, and y's line is written: the runner and what is written, before and behind it.
+pub record Answers (r : Running) (x : ℕ × Datum) (out : List ℕ) (r' : Running) (out' : List ℕ) : Type 0 where
   pub y : Datum
-  pub reads : line_read r.input n before line ≡ Ok x
-  pub keeps : before' ≡ Some x.1
   pub pushes : Pushed r x y r'
   pub same_type : r'.input ≡ r.input
   pub same_network : network_in r' ≡ network_in r
   pub writes : out' ≡ out ++ (spelling y ++ 10 ∷ [])
+
+-- Line n holds the sample x, which the network answers and whose value is kept: the runner, the value before and what is written, before the line and behind it.
+pub record RunsLine (r : Running) (n : ℕ) (line : List ℕ) (before : Option Datum) (out : List ℕ) (r' : Running) (before' : Option Datum) (out' : List ℕ) : Type 0 where
+  pub x : ℕ × Datum
+  pub reads : line_read r.input n before line ≡ Ok x
+  pub keeps : before' ≡ Some x.1
+  pub answers : Answers r x out r' out'
 
 -- want of memory ends a run as such, another fault of the stream as the stream's
 abbrev pub ended_by : ℕ → StreamFault → RunFault

@@ -1,12 +1,6 @@
-pub mod TextLines
-pub mod StepText
-pub mod SeenStream
 pub mod Printed
-pub mod StreamText
 pub mod Output
 pub mod Course
 pub mod Files
-pub mod CommandLine
 pub mod Refused
 pub mod Preparation
-pub mod CommandRows

@@ -6,8 +6,8 @@ use Rattle.sample_core.specs.TypeTree.{TypeTree}
 use Rattle.leaf_core.specs.Expression.{Expression}
 use Rattle.net_syntax.specs.Network.{Network}
 use Rattle.net_syntax.specs.Stream.{stream_of}
-use Rattle.yampa_run.specs.StreamText.{samples}
-use Rattle.yampa_run.specs.declared.fault.StreamFault.{StreamFault}
+use Rattle.stream_text.specs.StreamText.{samples}
+use Rattle.stream_text.specs.declared.fault.StreamFault.{StreamFault}
 
 -- each value's spelling and a line feed
 abbrev pub spelled_lines : List Datum → List ℕ

@@ -15,13 +15,12 @@ use Rattle.net_types.specs.declared.fault.TypeFault.{TypeFault}
 use Rattle.net_types.specs.declared.fault.TypeFault.TheVariants as T
 use Rattle.leaf_table.specs.declared.fault.TableFault.{TableFault}
 use Rattle.leaf_table.specs.declared.fault.TableFault.TheVariants as A
-use Rattle.yampa_run.specs.CommandLine.{Asked, types_of, run_of, asked, AsksHelp, AsksNothing}
+use Rattle.command_line.specs.CommandLine.{Asked, types_of, run_of, asked, AsksHelp, AsksNothing}
 use Rattle.yampa_run.specs.Refused.{text_words, type_words, unread_words}
 use Rattle.yampa_run.specs.declared.preparation.Job.{Job}
 use Rattle.yampa_run.specs.declared.preparation.Job.TheVariants as J
 use Rattle.yampa_run.specs.declared.preparation.Refusal.{Refusal}
 use Rattle.yampa_run.specs.declared.preparation.Refusal.TheVariants as Refused
-use Rattle.yampa_run.specs.declared.refused.Role.TheVariants.{Network as the_network}
 
 -- what is told of files by their names: their bytes, or nothing
 abbrev pub Told : Type 0
@@ -39,32 +38,40 @@ IsNetworkOf (Some bytes) t = IsNetworkIn bytes t
 
 -- the bytes are no network file, or one whose network has no types within the limits, and the line says why
 pub data IsRefusedWith (bytes line : List ℕ) : Type 0 where
-  by_text : (f : NetTextFault) → f ≢ V.Memory → IsFileFault bytes f → line ≡ text_words the_network f → IsRefusedWith bytes line
-  by_types : (A : TypeTree) (net : Network Expression) (f : TypeFault) → IsFile bytes A net → check A net ≡ Err f → line ≡ type_words the_network f → IsRefusedWith bytes line
+  by_text : (f : NetTextFault) → f ≢ V.Memory → IsFileFault bytes f → line ≡ text_words f → IsRefusedWith bytes line
+  by_types : (A : TypeTree) (net : Network Expression) (f : TypeFault) → IsFile bytes A net → check A net ≡ Err f → line ≡ type_words f → IsRefusedWith bytes line
 
 -- a file is refused with that line, where its bytes are told
 abbrev pub IsRefusedOf : Option (List ℕ) → List ℕ → Type 0
 IsRefusedOf None line = ⊤
 IsRefusedOf (Some bytes) line = IsRefusedWith bytes line
 
--- why there is no network of a file: it wasn't read, with status 3; or it is refused, with status 1; or memory was short
+-- why there is no network of a file: it wasn't read, with status 3, and nothing is told of it; or it is refused, with status 1; or memory was short
 abbrev pub HasNoNetwork : Option (List ℕ) → Refusal → Type 0
-HasNoNetwork told (Refused.Line status line) = ((status ≡ 3) × (string_bytes line ≡ unread_words the_network)) ⊎ ((status ≡ 1) × IsRefusedOf told (string_bytes line))
+HasNoNetwork told (Refused.Line status line) = ((status ≡ 3) × (told ≡ None) × (string_bytes line ≡ unread_words)) ⊎ ((status ≡ 1) × IsRefusedOf told (string_bytes line))
 HasNoNetwork told Refused.Memory = ⊤
 
 -- a refusal for that fault of a text: its line with status 1, or memory was short
 abbrev pub RefusesText : NetTextFault → Refusal → Type 0
-RefusesText f (Refused.Line status line) = (f ≢ V.Memory) × (status ≡ 1) × (string_bytes line ≡ text_words the_network f)
+RefusesText f (Refused.Line status line) = (f ≢ V.Memory) × (status ≡ 1) × (string_bytes line ≡ text_words f)
 RefusesText f Refused.Memory = ⊤
 
 -- a refusal for that fault of types: its line with status 1, or memory was short
 abbrev pub RefusesTypes : TypeFault → Refusal → Type 0
-RefusesTypes f (Refused.Line status line) = (f ≢ T.Memory) × (status ≡ 1) × (string_bytes line ≡ type_words the_network f)
+RefusesTypes f (Refused.Line status line) = (f ≢ T.Memory) × (status ≡ 1) × (string_bytes line ≡ type_words f)
 RefusesTypes f Refused.Memory = ⊤
+
+-- a network's types in one line
+abbrev pub arrow_line : TypedNetwork → List ℕ
+arrow_line t = type_spelling t.input ++ (codes " -> " ++ type_spelling t.output)
+
+-- the lines on a weight and a height, behind a line
+abbrev pub size_lines : ℕ → ℕ → List ℕ
+size_lines weight height = codes "\nweight " ++ (decimal weight ++ (codes "\nheight " ++ (decimal height ++ codes "\n")))
 
 -- the lines of the command `types`
 abbrev pub types_lines : TypedNetwork → List ℕ
-types_lines t = type_spelling t.input ++ (codes " -> " ++ (type_spelling t.output ++ (codes "\nweight " ++ (decimal t.weight ++ (codes "\nheight " ++ (decimal t.height ++ codes "\n"))))))
+types_lines t = arrow_line t ++ size_lines t.weight t.height
 
 -- the lines are those on the typed network of a file, where its bytes are told
 pub record TellsTypes (told : Option (List ℕ)) (text : List ℕ) : Type 0 where

@@ -3,8 +3,8 @@ use Rattle.std.specs.Prelude.{ℕ, List, ◌++◌, codes, ⊤}
 use Rattle.std.specs.Fmt.{decimal}
 use Rattle.sample_core.specs.declared.fault.ValueFault.{ValueFault}
 use Rattle.sample_core.specs.declared.fault.ValueFault.TheVariants as V
-use Rattle.yampa_run.specs.declared.fault.StreamFault.{StreamFault}
-use Rattle.yampa_run.specs.declared.fault.StreamFault.TheVariants as S
+use Rattle.stream_text.specs.declared.fault.StreamFault.{StreamFault}
+use Rattle.stream_text.specs.declared.fault.StreamFault.TheVariants as S
 use Rattle.yampa_run.specs.declared.fault.RunFault.{RunFault}
 use Rattle.yampa_run.specs.declared.fault.RunFault.TheVariants as U
 
@@ -20,7 +20,7 @@ IsAnswered _ = ⊤
 
 -- what is printed of line n of the stream: its number, and what is wrong in it
 abbrev pub at_line : ℕ → List ℕ → List ℕ
-at_line n what = codes "stream: line " ++ decimal n ++ codes ": " ++ what
+at_line n what = codes "stream: line " ++ (decimal n ++ (codes ": " ++ what))
 
 -- what is printed of a faulty value in line n
 abbrev pub value_words : ℕ → ValueFault → List ℕ

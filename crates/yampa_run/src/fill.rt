@@ -4,14 +4,14 @@
 //! The module is public for its macros alone: what they write in the caller's body names its
 //! items.
 
-ghost use Rattle.std.specs.Prelude.{◌≡◌, Ok, OnErr, map};
+ghost use Rattle.std.specs.Prelude.{◌≡◌, [], ◌∷◌, ◌++◌, Contains, Ok, OnErr, OnOk, map};
 ghost use Rattle.sample_core.specs.Seen.{datum_of};
 ghost use Rattle.leaf_table.specs.Computes.{Computes};
 ghost use Rattle.leaf_table.specs.Rows.{rows_of};
 ghost use Rattle.yampa_run.specs.Preparation.{RefusesTable};
 
 use crate::preparation::Refusal;
-pub use leaf_expr::{Shape, shape_of};
+pub use leaf_core::{Shape, shape_of};
 use leaf_table::{Leaf, LeafTable, Run};
 pub use leaf_table::{
     TableFault, run_affine, run_below, run_constant, run_general, run_identity, run_left,
@@ -45,7 +45,9 @@ pub fn add_row(
 ) -> Result<(), TableFault>
     requires callable { Run.IsAlwaysCallable run }
     requires computes { (ps : _) (x : _) (v : _) → Run.post run ps x (Ok v) → Computes need.now.key (map datum_of ps.now) (datum_of x.now) (datum_of v) }
-    ensures { OnErr result (rows_of table.new ≡ rows_of table.old) }
+    ensures known { Contains (rows_of table.old) need.now.key → rows_of table.new ≡ rows_of table.old }
+    ensures grown { OnOk result ((Contains (rows_of table.old) need.now.key → ⊥) → rows_of table.new ≡ rows_of table.old ++ need.now.key ∷ []) }
+    ensures unchanged { OnErr result (rows_of table.new ≡ rows_of table.old) }
 {
     // What is let go here is dropped by calls: where a scope ends, its drop is written out in
     // place, and proved there.

@@ -1,7 +1,7 @@
-//! Runs of networks on the texts of streams, the command line, and what the program prints.
+//! Runs of networks on the texts of streams, what a command line leads to, and what the program
+//! prints.
 #![tactic(auto)]
 
-mod command;
 mod fault;
 mod files;
 pub mod fill;
@@ -9,14 +9,12 @@ mod preparation;
 mod printed;
 mod refused;
 mod run;
-mod step_text;
-mod stream_text;
-mod text_lines;
 
-pub use command::command_rows;
-pub use fault::{RunFault, RunReport, StreamFault};
+pub use command_line::command_rows;
+pub use fault::{RunFault, RunReport};
 pub use files::{FileFault, Files};
 pub use fill::table_refusal;
 pub use preparation::{Job, Refusal, prepare};
 pub use printed::fault_line;
 pub use run::run_whole;
+pub use stream_text::StreamFault;

@@ -1,12 +1,13 @@
 // From the words of a command line to what is to be done.
 
-ghost use Rattle.std.specs.Prelude.{◌≡◌, ℕ, List, Err, IfErr, IfOk, Some, map, string_bytes};
-ghost use Rattle.yampa_run.specs.CommandLine.{ReadsWords, asked, seen_request};
-ghost use Rattle.yampa_run.specs.Preparation.{HasNoNetwork, IsAsked, IsNetworkIn, IsNetworkOf, IsRefusal, RefusesText, RefusesTypes, TellsTypes, Told, types_lines};
+ghost use Rattle.std.specs.Prelude.{◌≡◌, ◌++◌, ℕ, List, Err, IfErr, IfOk, OnOk, Some, map, string_bytes};
+ghost use Rattle.command_line.specs.CommandLine.{ReadsWords, asked, seen_request};
+ghost use Rattle.yampa_run.specs.Preparation.{HasNoNetwork, IsAsked, IsNetworkIn, IsNetworkOf, IsRefusal, RefusesText, RefusesTypes, TellsTypes, Told, arrow_line, size_lines, types_lines};
 
-use crate::command::{Reply, Request, parse};
 use crate::files::{FileFault, Files};
-use crate::refused::{Role, text_line, type_line, unread_line};
+use crate::printed::{push_number, push_words};
+use crate::refused::{text_line, type_line, unread_line};
+use command_line::{Reply, Request, parse};
 use net_syntax::TypedNet;
 use net_text::{NetTextFault, read_net};
 use net_types::{TypeFault, check_types};
@@ -109,7 +110,7 @@ fn load<F: Files>(alloc: Global, name: &str, files: &F) -> Result<TypedNet, Refu
         Err(FileFault::Memory) => Err(Refusal::Memory),
         Err(FileFault::Unread) => Err(Refusal::Line {
             status: 3,
-            line: unread_line(alloc, Role::Network)?,
+            line: unread_line(alloc)?,
         }),
     }
 }
@@ -141,7 +142,7 @@ fn text_refusal(alloc: Global, fault: &NetTextFault) -> Result<Refusal, Memory>
         NetTextFault::Memory => Ok(Refusal::Memory),
         fault => Ok(Refusal::Line {
             status: 1,
-            line: text_line(alloc, Role::Network, fault)?,
+            line: text_line(alloc, fault)?,
         }),
     }
 }
@@ -154,7 +155,7 @@ fn type_refusal(alloc: Global, fault: &TypeFault) -> Result<Refusal, Memory>
         TypeFault::Memory => Ok(Refusal::Memory),
         fault => Ok(Refusal::Line {
             status: 1,
-            line: type_line(alloc, Role::Network, fault)?,
+            line: type_line(alloc, fault)?,
         }),
     }
 }
@@ -164,11 +165,27 @@ fn types(alloc: Global, net: &TypedNet) -> Result<String, Memory>
     ensures { IfOk result (λ text. string_bytes text ≡ types_lines net.now) }
 {
     let mut text = String::new(alloc);
-    push_type(&mut text, net.input())?;
-    text.push_str(" -> ")?;
-    push_type(&mut text, net.output())?;
-    let weight = net.weight();
-    let height = net.height();
-    write!(text, "\nweight {weight}\nheight {height}\n")?;
+    push_arrow(&mut text, net)?;
+    push_sizes(&mut text, net.weight(), net.height())?;
     Ok(text)
+}
+
+/// Adds the network's input type and output type.
+fn push_arrow(text: &mut String, net: &TypedNet) -> Result<(), Memory>
+    ensures { OnOk result (string_bytes text.new ≡ string_bytes text.old ++ arrow_line net.now) }
+{
+    push_type(text, net.input())?;
+    push_words(text, " -> ")?;
+    push_type(text, net.output())
+}
+
+/// Adds a line feed, and the lines of a network's weight and height.
+fn push_sizes(text: &mut String, weight: u32, height: u32) -> Result<(), Memory>
+    ensures { OnOk result (string_bytes text.new ≡ string_bytes text.old ++ size_lines weight height) }
+{
+    push_words(text, "\nweight ")?;
+    push_number(text, u64::from(weight))?;
+    push_words(text, "\nheight ")?;
+    push_number(text, u64::from(height))?;
+    push_words(text, "\n")
 }

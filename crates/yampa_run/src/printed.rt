@@ -4,10 +4,11 @@ ghost use Rattle.std.specs.Prelude.{◌≡◌, ◌++◌, IfOk, OnOk, string_byte
 ghost use Rattle.std.specs.Fmt.{decimal};
 ghost use Rattle.yampa_run.specs.Printed.{IsAnswered, IsMet, at_line, line_of, status_of, stream_words, value_words};
 
-use crate::fault::{RunFault, StreamFault};
+use crate::fault::RunFault;
 use itoa::Buffer;
 use sample_core::{Memory, ValueFault};
 use std::alloc::Global;
+use stream_text::StreamFault;
 
 /// The exit status of a run that ended early, and the line that tells why, without a line feed: 1
 /// for what is wrong with the stream's text, 3 for reading, writing and memory. The fault must be
@@ -18,11 +19,7 @@ pub fn fault_line(alloc: Global, fault: &RunFault) -> Result<(u8, String), Memor
     ensures line { IfOk result (λ r. string_bytes r.1 ≡ line_of fault.now) }
 {
     let mut line = String::new(alloc);
-    match fault {
-        RunFault::Stream { fault, .. } => push_stream(&mut line, fault)?,
-        RunFault::Write { .. } => line.push_str("output: cannot be written")?,
-        RunFault::Memory { .. } => line.push_str("memory")?,
-    }
+    push_fault(&mut line, fault)?;
     Ok((status(fault), line))
 }
 
@@ -43,6 +40,17 @@ fn status(fault: &RunFault) -> u8
     }
 }
 
+fn push_fault(out: &mut String, fault: &RunFault) -> Result<(), Memory>
+    requires { IsAnswered fault.now }
+    ensures { OnOk result (string_bytes out.new ≡ string_bytes out.old ++ line_of fault.now) }
+{
+    match fault {
+        RunFault::Stream { fault, .. } => push_stream(out, fault),
+        RunFault::Write { .. } => push_words(out, "output: cannot be written"),
+        RunFault::Memory { .. } => push_words(out, "memory"),
+    }
+}
+
 fn push_stream(out: &mut String, fault: &StreamFault) -> Result<(), Memory>
     requires { IsMet fault.now }
     ensures { OnOk result (string_bytes out.new ≡ string_bytes out.old ++ stream_words fault.now) }
@@ -53,9 +61,9 @@ fn push_stream(out: &mut String, fault: &StreamFault) -> Result<(), Memory>
         StreamFault::NothingBefore { line } => push_at(out, *line, "nothing before"),
         StreamFault::LineTooLong { line } => push_at(out, *line, "too long"),
         StreamFault::TooManySamples { line } => push_at(out, *line, "too many samples"),
-        StreamFault::ReadTurns => Ok(out.push_str("stream: too many reads")?),
-        StreamFault::Read => Ok(out.push_str("stream: cannot be read")?),
-        StreamFault::Memory => Ok(out.push_str("memory")?),
+        StreamFault::ReadTurns => push_words(out, "stream: too many reads"),
+        StreamFault::Read => push_words(out, "stream: cannot be read"),
+        StreamFault::Memory => push_words(out, "memory"),
         StreamFault::Ended => unreachable!(),
     }
 }
@@ -67,17 +75,17 @@ fn push_value_fault(out: &mut String, line: u64, fault: &ValueFault) -> Result<(
         ValueFault::NotAValue { at } => push_place(out, line, "no value at ", *at),
         ValueFault::OtherType { at } => push_place(out, line, "other type at ", *at),
         ValueFault::NumberRange { at } => push_place(out, line, "number range at ", *at),
-        ValueFault::Memory => Ok(out.push_str("memory")?),
+        ValueFault::Memory => push_words(out, "memory"),
     }
 }
 
 fn push_at(out: &mut String, line: u64, what: &str) -> Result<(), Memory>
     ensures { OnOk result (string_bytes out.new ≡ string_bytes out.old ++ at_line line what.now) }
 {
-    out.push_str("stream: line ")?;
-    out.push_str(Buffer::new().format(line))?;
-    out.push_str(": ")?;
-    out.push_str(what)?;
+    push_words(out, "stream: line ")?;
+    push_number(out, line)?;
+    push_words(out, ": ")?;
+    push_words(out, what)?;
     Ok(())
 }
 
@@ -85,6 +93,23 @@ fn push_place(out: &mut String, line: u64, what: &str, place: usize) -> Result<(
     ensures { OnOk result (string_bytes out.new ≡ string_bytes out.old ++ at_line line (what.now ++ decimal place)) }
 {
     push_at(out, line, what)?;
-    out.push_str(Buffer::new().format(place))?;
+    push_number(out, place as u64)?;
     Ok(())
+}
+
+/// Adds the words. `Memory` where a growth was refused.
+pub fn push_words(out: &mut String, words: &str) -> Result<(), Memory>
+    ensures { OnOk result (string_bytes out.new ≡ string_bytes out.old ++ words.now) }
+{
+    match out.push_str(words) {
+        Ok(()) => Ok(()),
+        Err(_) => Err(Memory),
+    }
+}
+
+/// Adds the number in digits. `Memory` where a growth was refused.
+pub fn push_number(out: &mut String, number: u64) -> Result<(), Memory>
+    ensures { OnOk result (string_bytes out.new ≡ string_bytes out.old ++ decimal number) }
+{
+    push_words(out, Buffer::new().format(number))
 }

@@ -1,23 +1,24 @@
 // Runs of a network on a whole text.
 
-ghost use Rattle.std.specs.Prelude.{◌≡◌, [], IfErr, IfOk, None, OnErr, OnOk};
+ghost use Rattle.std.specs.Prelude.{◌≡◌, ◌<◌, ◌≤◌, ◌^◌, [], ◌∷◌, ◌++◌, IfErr, IfOk, None, OnErr, OnOk, Some};
 ghost use Rattle.std.specs.Option.{option_map};
+ghost use Rattle.sample_core.specs.HasType.{HasType};
 ghost use Rattle.sample_core.specs.Seen.{datum_of};
 ghost use Rattle.sample_core.specs.SeenType.{type_of};
+ghost use Rattle.sample_core.specs.Spelling.{spelling};
 ghost use Rattle.leaf_table.specs.Rows.{rows_of};
 ghost use Rattle.step_core.specs.Bound.{FitsTable};
 ghost use Rattle.step_core.specs.SeenRunner.{running_of};
-ghost use Rattle.yampa_run.specs.Course.{IsAt, RunsLine, Stops, ended_by, run_of, taken_by};
+ghost use Rattle.yampa_run.specs.Course.{Answers, IsAt, RunsLine, Stops, ended_by, run_of, taken_by};
 ghost use Rattle.yampa_run.specs.Printed.{IsAnswered};
-ghost use Rattle.yampa_run.specs.StreamText.{Refuses, line_read};
+ghost use Rattle.stream_text.specs.StreamText.{Refuses, line_read};
 
-use crate::fault::{RunFault, RunReport, StreamFault};
-use crate::stream_text::read_line;
-use crate::text_lines::split_line;
+use crate::fault::{RunFault, RunReport};
 use leaf_table::LeafTable;
-use sample_core::{Sample, Ty, push_value, reading_laws};
+use sample_core::{Memory, Sample, Ty, push_value, reading_laws};
 use std::alloc::Global;
 use step_core::{Bound, Runner};
+use stream_text::{StreamFault, read_line, split_line};
 
 /// What a run keeps from one line to the next, beside its runner.
 #[derive(Drop)]
@@ -71,11 +72,17 @@ pub fn run_whole(
             out,
         ) {
             Ok(()) => {}
-            Err(fault) => return Err(ended(lines, fault)),
+            Err(fault) => {
+                drop(course);
+                drop(runner);
+                return Err(ended(lines, fault));
+            }
         }
         lines += 1;
         rest = after;
     }
+    drop(course);
+    drop(runner);
     Ok(RunReport { lines })
 }
 
@@ -106,12 +113,70 @@ fn run_line(
 {
     // By these laws the sample is of the type.
     reading_laws();
-    let (step, sample) = read_line(alloc, ty, number, course.before.as_ref(), line)?;
-    let answer = runner.push(step, &sample)?;
-    course.text.clear();
-    push_value(&mut course.text, &answer)?;
-    course.text.push_str("\n")?;
-    out.extend_from_slice(course.text.as_bytes())?;
-    course.before = Some(sample);
+    match read_line(alloc, ty, number, course.before.as_ref(), line) {
+        Ok((step, sample)) => run_sample(step, sample, runner, course, out),
+        Err(fault) => Err(fault),
+    }
+}
+
+/// Runs the network on one sample, writes the line of its answer and keeps the sample's value.
+fn run_sample(
+    step: u64,
+    sample: Sample,
+    runner: &mut Runner<'_>,
+    course: &mut Course,
+    out: &mut Vec<u8>,
+) -> Result<(), StreamFault>
+    requires typed { HasType (datum_of sample) (running_of runner.old).input }
+    requires later { 0 < (running_of runner.old).samples → (1 ≤ step) × (step < 2 ^ 63) }
+    requires room { (running_of runner.old).samples < 2 ^ 63 }
+    ensures answers { OnOk result (Answers (running_of runner.old) (step, datum_of sample) out.old.items (running_of runner.new) out.new.items) }
+    ensures keeps { OnOk result (option_map datum_of course.new.before ≡ Some (datum_of sample)) }
+    ensures memory { IfErr result (λ fault. fault ≡ StreamFault.Memory) }
+    ensures kept { OnErr result (out.new.items ≡ out.old.items) }
+{
+    // Samples are let go by calls: where a scope ends, a drop is written out in place, and proved
+    // there.
+    match answer(step, &sample, runner, &mut course.text, out) {
+        Ok(()) => {
+            drop(course.before.replace(sample));
+            Ok(())
+        }
+        Err(Memory) => {
+            drop(sample);
+            Err(StreamFault::Memory)
+        }
+    }
+}
+
+/// Runs the network on one sample, and writes the line of its answer.
+fn answer(
+    step: u64,
+    sample: &Sample,
+    runner: &mut Runner<'_>,
+    text: &mut String,
+    out: &mut Vec<u8>,
+) -> Result<(), Memory>
+    requires typed { HasType (datum_of sample.now) (running_of runner.old).input }
+    requires later { 0 < (running_of runner.old).samples → (1 ≤ step) × (step < 2 ^ 63) }
+    requires room { (running_of runner.old).samples < 2 ^ 63 }
+    ensures answers { OnOk result (Answers (running_of runner.old) (step, datum_of sample.now) out.old.items (running_of runner.new) out.new.items) }
+    ensures kept { OnErr result (out.new.items ≡ out.old.items) }
+{
+    let answer = runner.push(step, sample)?;
+    let written = write_line(text, &answer, out);
+    drop(answer);
+    written
+}
+
+/// Adds a line with the value's spelling to `out`. `text` is room for it.
+fn write_line(text: &mut String, value: &Sample, out: &mut Vec<u8>) -> Result<(), Memory>
+    ensures written { OnOk result (out.new.items ≡ out.old.items ++ (spelling (datum_of value.now) ++ 10 ∷ [])) }
+    ensures kept { OnErr result (out.new.items ≡ out.old.items) }
+{
+    text.clear();
+    push_value(text, value)?;
+    text.push_str("\n")?;
+    out.extend_from_slice(text.as_bytes())?;
     Ok(())
 }

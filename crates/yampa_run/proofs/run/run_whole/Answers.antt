@@ -4,7 +4,7 @@ use Rattle.sample_core.specs.Seen.{datum_of}
 use Rattle.leaf_table.specs.Rows.{rows_of}
 use Rattle.yampa_run.proofs.Course.{answered, begins, goes_on, is_at, stops}
 use Rattle.yampa_run.specs.Course.{Stops, ended_by}
-use Rattle.yampa_run.specs.StreamText.{Refuses, line_read}
+use Rattle.stream_text.specs.StreamText.{Refuses, line_read}
 use Rattle.yampa_run.proofs.run.run_whole.Goals as goal
 
 pub loop-rest-init : goal.loop-rest-init

@@ -1,0 +1,79 @@
+-- The program's command line, and what its words ask for.
+use Rattle.std.specs.Prelude.{◌≡◌, ◌≢◌, ℕ, List, [], ◌∷◌, true, Option, Some, None, Result, Ok, Err, bytes_eq, codes, if◌then◌else◌, ⊤}
+use Rattle.clap.specs.Simple.{on_top}
+use Rattle.clap.specs.Words.{App, IsAmong, Kinds, Row, Rule, Shape, fault_of, first_of, new_app, new_rule, subcommand_of, with_rule, with_subcommand}
+use Rattle.clap.specs.declared.builder.action.ArgAction.TheVariants.{Set}
+use Rattle.clap.specs.declared.error.kind.ErrorKind.{ErrorKind}
+use Rattle.clap.specs.declared.error.kind.ErrorKind.TheVariants as kind
+use Rattle.command_line.specs.declared.command.Request.{Request}
+use Rattle.command_line.specs.declared.command.Request.TheVariants as Q
+use Rattle.command_line.specs.declared.command.Reply.{Reply}
+use Rattle.command_line.specs.declared.command.Reply.TheVariants as R
+
+-- the name of a network file, which must be there
+abbrev pub net_name : Rule
+net_name = record (new_rule (codes "NET")) { action = Some Set; required = true }
+
+-- a subcommand that takes the name of a network file
+abbrev pub file_command : List ℕ → Shape
+file_command name = (with_rule (new_app name) net_name).top
+
+-- the program's command line: `types NET` or `run NET`, of which one must be there
+abbrev pub command_line : App
+command_line = with_subcommand (with_subcommand (on_top (λ s. record s { subcommand_required = true }) (new_app (codes "yampa"))) (file_command (codes "types"))) (file_command (codes "run"))
+
+-- what a command line asks for: the types of the network in the file of that name, or a run of it
+pub data Asked : Type 0 where
+  types_of : List ℕ → Asked
+  run_of : List ℕ → Asked
+
+-- what a subcommand asks for on a file
+abbrev pub asked_on : List ℕ → Option (List ℕ) → Option Asked
+asked_on command None = None
+asked_on command (Some net) = if bytes_eq command (codes "types") then Some (types_of net) else (if bytes_eq command (codes "run") then Some (run_of net) else None)
+
+-- what the subcommand and its matches ask for
+abbrev pub asked_by : Option (List ℕ × List Row) → Option Asked
+asked_by None = None
+asked_by (Some s) = asked_on s.0 (first_of (codes "NET") s.1)
+
+-- what is asked for, where nothing is wrong with the words
+abbrev pub unless_faulty : Kinds → Option Asked → Option Asked
+unless_faulty [] what = what
+unless_faulty (k ∷ ks) what = None
+
+-- what the words ask for, where the command line takes them
+unfoldable pub asked : List (List ℕ) → Option Asked
+asked words = unless_faulty (fault_of command_line words) (asked_by (subcommand_of command_line words))
+
+-- the words ask for help
+unfoldable pub AsksHelp : List (List ℕ) → Type 0
+AsksHelp words = IsAmong kind.DisplayHelp (fault_of command_line words)
+
+-- the words ask for nothing that is there, and not for help alone
+unfoldable pub AsksNothing : List (List ℕ) → Type 0
+AsksNothing words = (asked words ≡ None) × (fault_of command_line words ≢ (kind.DisplayHelp ∷ []))
+
+-- the code's request as one
+abbrev pub seen_request : Request → Asked
+seen_request (Q.Types net) = types_of net.now
+seen_request (Q.Run net) = run_of net.now
+
+-- the reply fits an error of that kind
+abbrev pub RepliesTo : ErrorKind → Reply → Type 0
+RepliesTo k (R.Help text) = k ≡ kind.DisplayHelp
+RepliesTo k (R.Wrong text) = (k ≢ kind.DisplayHelp) × (k ≢ kind.OutOfMemory)
+RepliesTo k R.Memory = ⊤
+
+-- the reply to words that ask for nothing that is there
+abbrev pub IsNothing : Reply → Type 0
+IsNothing (R.Help text) = ⊥
+IsNothing (R.Wrong text) = ⊤
+IsNothing R.Memory = ⊤
+
+-- a request is what the words ask for; a reply is help that they ask for, or they ask for nothing that is there, or memory was short
+abbrev pub ReadsWords : List (List ℕ) → Result Request Reply → Type 0
+ReadsWords words (Ok request) = asked words ≡ Some (seen_request request)
+ReadsWords words (Err (R.Help text)) = AsksHelp words
+ReadsWords words (Err (R.Wrong text)) = AsksNothing words
+ReadsWords words (Err R.Memory) = ⊤

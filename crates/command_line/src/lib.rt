@@ -1,0 +1,7 @@
+//! The program's command line: what its words ask for, and what is replied to words that ask for
+//! nothing that is there.
+#![tactic(auto)]
+
+mod command;
+
+pub use command::{Reply, Request, command_rows, parse};

@@ -1,0 +1,125 @@
+-- What is read of a line: values of the type, and steps in range.
+use Rattle.std.proofs.Common.{◌≡◌, ◌≤◌, ◌<◌, ◌+◌, ◌*◌, ◌-◌, ◌^◌, ℕ, zero, suc, Bool, true, false, not, ◌&&◌, nat_eq, nat_lt, List, [], ◌∷◌, length, take, drop, Option, Some, None, Result, Ok, Err, refl, sym, ap, ◌∙◌, subst, arith, if◌then◌else◌}
+use Rattle.std.specs.Prelude.{bytes_eq, codes}
+use Rattle.std.specs.Char.{is_ascii_digit}
+use Rattle.std.specs.List.{prefix_len, take_while}
+use Rattle.std.specs.Str.Parse.{digits_value}
+use Rattle.std.proofs.lemmas.Bool.Decides.{nat_tests}
+use Rattle.std.proofs.lemmas.Str.Parse.{digits_value-take-le}
+use Rattle.sample_core.specs.Datum.{Datum}
+use Rattle.sample_core.specs.HasType.{HasType}
+use Rattle.sample_core.specs.Reading.{reading}
+use Rattle.sample_core.specs.ReadingLaws.{ReadingLaw}
+use Rattle.sample_core.specs.TypeTree.{TypeTree}
+use Rattle.sample_core.specs.declared.fault.ValueFault.{ValueFault}
+use Rattle.sample_core.specs.declared.fault.ValueFault.TheVariants as V
+use Rattle.stream_text.specs.StepText.{behind, is_step, followed, step_at_front, step_if, stepped}
+use Rattle.stream_text.specs.StreamText.{IsBefore, if_whole, whole_value, with_step, is_some, first_line, later_line, line_after, line_read}
+use Rattle.stream_text.specs.declared.fault.StreamFault.{StreamFault}
+use Rattle.stream_text.specs.declared.fault.StreamFault.TheVariants as S
+use Rattle.stream_text.proofs.Steps.{digit_in_range, next_value}
+
+-- what is answered where a test does not refuse
+from_else : {X : Type 0} (b : Bool) (f : StreamFault) (r : Result X StreamFault) (x : X) → (if b then Err f else r) ≡ Ok x → r ≡ Ok x
+from_else true f r x h = absurd (cc)
+from_else false f r x h = h
+
+is_ok : {X E : Type 0} {x y : X} → ◌≡◌ {A = Result X E} (Ok x) (Ok y) → x ≡ y
+is_ok h = cc
+
+whole_typed : ReadingLaw → (A : TypeTree) (n : ℕ) (bs : List ℕ) (v : Datum) → whole_value A n bs ≡ Ok v → HasType v A
+whole_typed law A n bs v e = go (reading A bs) refl e
+  where
+    chosen : (b : Bool) (w : Datum) (taken : ℕ) → (if b then Ok w else Err (S.Value n (V.NotAValue taken))) ≡ Ok v → w ≡ v
+    chosen true w taken h = is_ok h
+    chosen false w taken h = absurd (cc)
+
+    go : (r : Result (Datum × ℕ) ValueFault) → reading A bs ≡ r → if_whole n (length bs) r ≡ Ok v → HasType v A
+    go (Err f) q h = absurd (cc)
+    go (Ok (w, taken)) q h = subst (λ u. HasType u A) (chosen (nat_eq taken (length bs)) w taken h) ((law A bs w taken).0 q).1.typed
+
+with_step_from : (d : ℕ) (r : Result Datum StreamFault) (x : ℕ × Datum) → with_step d r ≡ Ok x → (r ≡ Ok x.1) × (x.0 ≡ d)
+with_step_from d (Ok v) x h =
+    let e : (d, v) ≡ x = is_ok h in
+    (ap (λ y. Ok y.1) e, sym (ap (λ y. y.0) e))
+with_step_from d (Err f) x h = absurd (cc)
+
+first_typed : ReadingLaw → (A : TypeTree) (n : ℕ) (line : List ℕ) (x : ℕ × Datum) → first_line A n line ≡ Ok x → HasType x.1 A
+first_typed law A n line x h =
+    let one : (if bytes_eq line (codes "=") then Err (S.NothingBefore n) else with_step 0 (whole_value A n line)) ≡ Ok x = from_else (is_some (behind 43 line)) _ _ x h in
+    let two : with_step 0 (whole_value A n line) ≡ Ok x = from_else (bytes_eq line (codes "=")) _ _ x one in
+    whole_typed law A n line x.1 (with_step_from 0 (whole_value A n line) x two).0
+
+-- behind its step, a later line has a value of the type; the step is the one in front
+later_typed : ReadingLaw → (A : TypeTree) (n : ℕ) (before : Datum) (o : Option (ℕ × List ℕ)) (x : ℕ × Datum) → HasType before A → later_line A n before o ≡ Ok x → HasType x.1 A × ((rest : List ℕ) × (o ≡ Some (x.0, rest)))
+later_typed law A n before None x t h = absurd (cc)
+later_typed law A n before (Some (d, rest)) x t h = go (bytes_eq rest (codes "=")) h
+  where
+    go : (b : Bool) → (if b then Ok (d, before) else with_step d (whole_value A n rest)) ≡ Ok x → HasType x.1 A × ((more : List ℕ) × ◌≡◌ {A = Option (ℕ × List ℕ)} (Some (d, rest)) (Some (x.0, more)))
+    go true q =
+        let e : (d, before) ≡ x = is_ok q in
+        (subst (λ y. HasType y.1 A) e t, (rest, ap (λ y. Some (y.0, rest)) e))
+    go false q =
+        let e : (whole_value A n rest ≡ Ok x.1) × (x.0 ≡ d) = with_step_from d (whole_value A n rest) x q in
+        (whole_typed law A n rest x.1 e.0, (rest, ap (λ m. Some (m, rest)) (sym e.1)))
+
+first_of_while : (f : ℕ → Bool) (bs : List ℕ) (d : ℕ) (ds : List ℕ) → take_while f bs ≡ d ∷ ds → f d ≡ true
+first_of_while f [] d ds h = absurd (cc)
+first_of_while f (b ∷ bs) d ds h = go (f b) refl h
+  where
+    go : (p : Bool) → f b ≡ p → take (if p then 1 + prefix_len f bs else 0) (b ∷ bs) ≡ d ∷ ds → f d ≡ true
+    go true q e =
+        let one : suc (prefix_len f bs) ≡ 1 + prefix_len f bs = omega arith in
+        let cells : b ∷ take (prefix_len f bs) bs ≡ d ∷ ds = ap (λ k. take k (b ∷ bs)) one ∙ e in
+        let same : b ≡ d = cc in
+        ap f (sym same) ∙ q
+    go false q e = absurd (cc)
+
+-- digits that write a step write a number from 1 to 2^63 - 1
+step_range : (ds : List ℕ) → ((d : ℕ) (more : List ℕ) → ds ≡ d ∷ more → is_ascii_digit d ≡ true) → is_step ds ≡ true → (1 ≤ digits_value 10 ds) × (digits_value 10 ds < 2 ^ 63)
+step_range [] f h = absurd (cc)
+step_range (d ∷ ds) f h =
+    let digit : is_ascii_digit d ≡ true = f d ds refl in
+    let range : (48 ≤ d) × (d ≤ 57) = digit_in_range d digit in
+    let one : digits_value 10 (take 1 (d ∷ ds)) ≡ digits_value 10 (take 0 (d ∷ ds)) * 10 + (d - 48) = next_value (d ∷ ds) 0 (omega arith) digit in
+    let front : digits_value 10 (take 1 (d ∷ ds)) ≤ digits_value 10 (d ∷ ds) = digits_value-take-le 10 (d ∷ ds) 1 (omega arith) in
+    let not_zero : nat_eq d 48 ≡ false = grind (arith, nat_tests) in
+    let small : nat_lt (digits_value 10 (d ∷ ds)) (2 ^ 63) ≡ true = grind (arith, nat_tests) in
+    (grind (arith, nat_tests), grind (arith, nat_tests))
+
+followed_is : (b : Bool) (d : ℕ) (o : Option (List ℕ)) (s : ℕ × List ℕ) → followed b d o ≡ Some s → (b ≡ true) × (d ≡ s.0)
+followed_is true d (Some rest) s h = (refl, ap (λ y. y.0) (let e : (d, rest) ≡ s = cc in e))
+followed_is true d None s h = absurd (cc)
+followed_is false d o s h = absurd (cc)
+
+stepped_range : (line : List ℕ) (s : ℕ × List ℕ) → stepped line ≡ Some s → (1 ≤ s.0) × (s.0 < 2 ^ 63)
+stepped_range line s h = go (behind 43 line) h
+  where
+    go : (o : Option (List ℕ)) → step_if o ≡ Some s → (1 ≤ s.0) × (s.0 < 2 ^ 63)
+    go None e = absurd (cc)
+    go (Some bs) e =
+        let ds : List ℕ = take_while is_ascii_digit bs in
+        let f : (is_step ds ≡ true) × (digits_value 10 ds ≡ s.0) = followed_is (is_step ds) (digits_value 10 ds) (behind 32 (drop (prefix_len is_ascii_digit bs) bs)) s e in
+        subst (λ n. (1 ≤ n) × (n < 2 ^ 63)) f.1 (step_range ds (first_of_while is_ascii_digit bs) f.0)
+
+-- behind the limits, the line is read by what it holds
+after_limits : (A : TypeTree) (n : ℕ) (before : Option Datum) (line : List ℕ) (x : ℕ × Datum) → line_read A n before line ≡ Ok x → line_after A n before line ≡ Ok x
+after_limits A n before line x h = from_else (nat_lt 65536 (length line)) _ _ x (from_else (nat_lt 1000000 n) _ _ x h)
+
+-- a line that is read is one of the first 1,000,000
+pub read_few : (A : TypeTree) (n : ℕ) (before : Option Datum) (line : List ℕ) (x : ℕ × Datum) → line_read A n before line ≡ Ok x → n ≤ 1000000
+read_few A n before line x e = go (nat_lt 1000000 n) refl e
+  where
+    go : (b : Bool) → nat_lt 1000000 n ≡ b → (if b then Err (S.TooManySamples n) else (if nat_lt 65536 (length line) then Err (S.LineTooLong n) else line_after A n before line)) ≡ Ok x → n ≤ 1000000
+    go true q h = absurd (cc)
+    go false q h = grind (arith, nat_tests)
+
+pub read_typed : ReadingLaw → (A : TypeTree) (n taken : ℕ) (before : Option Datum) (line : List ℕ) (x : ℕ × Datum) → IsBefore A taken before → line_read A n before line ≡ Ok x → HasType x.1 A
+read_typed law A n taken None line x t h = first_typed law A n line x (after_limits A n None line x h)
+read_typed law A n taken (Some v) line x t h = (later_typed law A n v (stepped line) x t (after_limits A n (Some v) line x h)).0
+
+pub read_step : ReadingLaw → (A : TypeTree) (n taken : ℕ) (before : Option Datum) (line : List ℕ) (x : ℕ × Datum) → IsBefore A taken before → line_read A n before line ≡ Ok x → 0 < taken → (1 ≤ x.0) × (x.0 < 2 ^ 63)
+read_step law A n taken None line x t h l = absurd (omega (arith, t))
+read_step law A n taken (Some v) line x t h l =
+    let s : HasType x.1 A × ((rest : List ℕ) × (stepped line ≡ Some (x.0, rest))) = later_typed law A n v (stepped line) x t (after_limits A n (Some v) line x h) in
+    stepped_range line (x.0, s.1.0) s.1.1

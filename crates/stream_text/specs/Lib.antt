@@ -1,0 +1,4 @@
+pub mod TextLines
+pub mod StepText
+pub mod SeenStream
+pub mod StreamText

@@ -1,0 +1,11 @@
+//! The texts of streams: their lines, and the step and the value that a line holds.
+#![tactic(auto)]
+
+mod fault;
+mod line;
+mod step_text;
+mod text_lines;
+
+pub use fault::StreamFault;
+pub use line::read_line;
+pub use text_lines::split_line;

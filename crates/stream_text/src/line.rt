@@ -1,0 +1,108 @@
+// Samples of the lines of a stream's text.
+
+ghost use Rattle.std.specs.Prelude.{None, Some};
+ghost use Rattle.sample_core.specs.Seen.{datum_of};
+ghost use Rattle.sample_core.specs.SeenType.{type_of};
+ghost use Rattle.stream_text.specs.StepText.{stepped};
+ghost use Rattle.stream_text.specs.SeenStream.{seen_before, seen_sample};
+ghost use Rattle.stream_text.specs.StreamText.{Tells, first_line, later_line, line_read, whole_value};
+
+use crate::fault::StreamFault;
+use crate::step_text::{split_step, strip};
+use sample_core::{Sample, Ty, ValueFault, read_value};
+use std::alloc::Global;
+
+/// The most samples of a run.
+const MOST_SAMPLES: u64 = 1_000_000;
+
+/// The most bytes of a line, without its line feed.
+const MOST_BYTES: usize = 65_536;
+
+/// The sample of a line, which has a value of the type, with the step that precedes it. Lines are
+/// numbered from 1, and `before` is the value of the line before; it is `None` for line 1, whose
+/// step is 0.
+///
+/// Refusals in order. `TooManySamples`: the number is over 1,000,000. `LineTooLong`: more than
+/// 65,536 bytes. `Step`: line 1 begins with `+`, or a later line doesn't begin with `+`, a step
+/// and a space. `NothingBefore`: line 1 is `=`. `Value`: the value is faulty, by its bytes counted
+/// from 0. `Memory`: a growth was refused.
+pub fn read_line(
+    alloc: Global,
+    ty: &Ty,
+    number: u64,
+    before: Option<&Sample>,
+    line: &[u8],
+) -> Result<(u64, Sample), StreamFault>
+    ensures { Tells seen_sample result (line_read (type_of ty.now) number (seen_before before.entry) line.now) }
+{
+    if number > MOST_SAMPLES {
+        return Err(StreamFault::TooManySamples { line: number });
+    }
+    if line.len() > MOST_BYTES {
+        return Err(StreamFault::LineTooLong { line: number });
+    }
+    match before {
+        None => read_first(alloc, ty, number, line),
+        Some(before) => read_later(alloc, ty, number, before, line),
+    }
+}
+
+fn read_first(
+    alloc: Global,
+    ty: &Ty,
+    number: u64,
+    line: &[u8],
+) -> Result<(u64, Sample), StreamFault>
+    ensures { Tells seen_sample result (first_line (type_of ty.now) number line.now) }
+{
+    if strip(b'+', line).is_some() {
+        return Err(StreamFault::Step { line: number });
+    }
+    if line == b"=".as_slice() {
+        return Err(StreamFault::NothingBefore { line: number });
+    }
+    let value = read_whole(alloc, ty, number, line)?;
+    Ok((0, value))
+}
+
+fn read_later(
+    alloc: Global,
+    ty: &Ty,
+    number: u64,
+    before: &Sample,
+    line: &[u8],
+) -> Result<(u64, Sample), StreamFault>
+    ensures { Tells seen_sample result (later_line (type_of ty.now) number (datum_of before.now) (stepped line.now)) }
+{
+    let Some((step, rest)) = split_step(line) else {
+        return Err(StreamFault::Step { line: number });
+    };
+    if rest == b"=".as_slice() {
+        return Ok((step, before.try_copy(alloc)?));
+    }
+    let value = read_whole(alloc, ty, number, rest)?;
+    Ok((step, value))
+}
+
+/// The value that all of the bytes write.
+fn read_whole(alloc: Global, ty: &Ty, number: u64, bytes: &[u8]) -> Result<Sample, StreamFault>
+    ensures { Tells datum_of result (whole_value (type_of ty.now) number bytes.now) }
+{
+    match read_value(alloc, bytes, ty) {
+        Ok((value, taken)) => {
+            if taken == bytes.len() {
+                Ok(value)
+            } else {
+                Err(StreamFault::Value {
+                    line: number,
+                    fault: ValueFault::NotAValue { at: taken },
+                })
+            }
+        }
+        Err(ValueFault::Memory) => Err(StreamFault::Memory),
+        Err(fault) => Err(StreamFault::Value {
+            line: number,
+            fault,
+        }),
+    }
+}
