@@ -1,3 +1,4 @@
+pub mod Adding
 pub mod Elements
 pub mod HasTypeCases
 pub mod Numbers

@@ -13,3 +13,4 @@ pub mod Reading
 pub mod Spelled
 pub mod Faults
 pub mod ReadingLaws
+pub mod Adding

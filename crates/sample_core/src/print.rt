@@ -1,7 +1,8 @@
 // The one spelling of values and of types.
 
-ghost use Rattle.std.specs.Prelude.{◌≡◌, ◌++◌, IfOk, OnOk, codes, string_bytes};
-ghost use Rattle.sample_core.specs.Datum.{pair, event, list, of_elements};
+ghost use Rattle.std.specs.Prelude.{◌≡◌, ◌++◌, IfOk, codes, string_bytes};
+ghost use Rattle.sample_core.specs.Adding.{Adds};
+ghost use Rattle.sample_core.specs.Datum.{pair, list, of_elements};
 ghost use Rattle.sample_core.specs.TypeTree.{pair_ty};
 ghost use Rattle.sample_core.specs.Seen.{datum_of};
 ghost use Rattle.sample_core.specs.SeenType.{type_of};
@@ -35,7 +36,7 @@ pub fn print_type(alloc: Global, ty: &Ty) -> Result<String, Memory>
 /// text may then end with a part of it.
 #[cycle(push_value)]
 pub fn push_value(text: &mut String, sample: &Sample) -> Result<(), Memory>
-    ensures { OnOk result (string_bytes text.new ≡ string_bytes text.old ++ spelling (datum_of sample.now)) }
+    ensures { Adds result (string_bytes text.old) (string_bytes text.new) (spelling (datum_of sample.now)) }
 {
     match sample {
         Sample::Unit => push_word(text, "unit"),
@@ -44,14 +45,14 @@ pub fn push_value(text: &mut String, sample: &Sample) -> Result<(), Memory>
         Sample::Int(n) => push_word(text, Buffer::new().format(*n)),
         Sample::Pair(v, w) => push_pair(text, v, w),
         Sample::NoEvent => push_word(text, "none"),
-        Sample::Event(v) => push_event(text, v),
+        Sample::Event(v) => push_last(text, "(event ", v),
         Sample::List(all) => push_list(text, all),
     }
 }
 
 /// Adds a word to the end of the text.
 fn push_word(text: &mut String, word: &str) -> Result<(), Memory>
-    ensures { OnOk result (string_bytes text.new ≡ string_bytes text.old ++ word.now) }
+    ensures { Adds result (string_bytes text.old) (string_bytes text.new) word.now }
 {
     text.push_str(word)?;
     Ok(())
@@ -60,21 +61,19 @@ fn push_word(text: &mut String, word: &str) -> Result<(), Memory>
 /// A pair.
 #[cycle(push_value)]
 fn push_pair(text: &mut String, v: &Child, w: &Child) -> Result<(), Memory>
-    ensures { OnOk result (string_bytes text.new ≡ string_bytes text.old ++ spelling (pair v.now w.now)) }
+    ensures { Adds result (string_bytes text.old) (string_bytes text.new) (spelling (pair v.now w.now)) }
 {
     push_word(text, "(pair ")?;
     push_value(text, v.get())?;
-    push_word(text, " ")?;
-    push_value(text, w.get())?;
-    push_word(text, ")")
+    push_last(text, " ", w)
 }
 
-/// An event.
+/// The last part of a value, behind a word.
 #[cycle(push_value)]
-fn push_event(text: &mut String, v: &Child) -> Result<(), Memory>
-    ensures { OnOk result (string_bytes text.new ≡ string_bytes text.old ++ spelling (event v.now)) }
+fn push_last(text: &mut String, word: &str, v: &Child) -> Result<(), Memory>
+    ensures { Adds result (string_bytes text.old) (string_bytes text.new) (word.now ++ (spelling v.now ++ codes ")")) }
 {
-    push_word(text, "(event ")?;
+    push_word(text, word)?;
     push_value(text, v.get())?;
     push_word(text, ")")
 }
@@ -82,54 +81,56 @@ fn push_event(text: &mut String, v: &Child) -> Result<(), Memory>
 /// A list.
 #[cycle(push_value)]
 fn push_list(text: &mut String, all: &Samples) -> Result<(), Memory>
-    ensures { OnOk result (string_bytes text.new ≡ string_bytes text.old ++ spelling (list (of_elements all.now))) }
+    ensures { Adds result (string_bytes text.old) (string_bytes text.new) (spelling (list (of_elements all.now))) }
 {
     push_word(text, "(list")?;
     for v in all.as_slice() {
-        push_word(text, " ")?;
-        push_value(text, v)?;
+        push_next(text, v)?;
     }
     push_word(text, ")")
+}
+
+/// A value behind a space.
+#[cycle(push_value)]
+fn push_next(text: &mut String, v: &Sample) -> Result<(), Memory>
+    ensures { Adds result (string_bytes text.old) (string_bytes text.new) (codes " " ++ spelling (datum_of v.now)) }
+{
+    push_word(text, " ")?;
+    push_value(text, v)
 }
 
 /// Adds the type's one spelling to the end of the text. `Memory` where a growth was refused; the
 /// text may then end with a part of it.
 #[cycle(push_type)]
 pub fn push_type(text: &mut String, ty: &Ty) -> Result<(), Memory>
-    ensures { OnOk result (string_bytes text.new ≡ string_bytes text.old ++ type_spelling (type_of ty.now)) }
+    ensures { Adds result (string_bytes text.old) (string_bytes text.new) (type_spelling (type_of ty.now)) }
 {
     match ty {
         Ty::Unit => push_word(text, "Unit"),
         Ty::Bool => push_word(text, "Bool"),
         Ty::Int => push_word(text, "Int"),
         Ty::Pair(a, b) => push_pair_type(text, a, b),
-        Ty::Event(a) => {
-            push_word(text, "(Event ")?;
-            push_type_end(text, a)
-        }
-        Ty::List(a) => {
-            push_word(text, "(List ")?;
-            push_type_end(text, a)
-        }
+        Ty::Event(a) => push_last_type(text, "(Event ", a),
+        Ty::List(a) => push_last_type(text, "(List ", a),
     }
 }
 
 /// A type of pairs.
 #[cycle(push_type)]
 fn push_pair_type(text: &mut String, a: &TyChild, b: &TyChild) -> Result<(), Memory>
-    ensures { OnOk result (string_bytes text.new ≡ string_bytes text.old ++ type_spelling (pair_ty a.now b.now)) }
+    ensures { Adds result (string_bytes text.old) (string_bytes text.new) (type_spelling (pair_ty a.now b.now)) }
 {
     push_word(text, "(Pair ")?;
     push_type(text, a.get())?;
-    push_word(text, " ")?;
-    push_type_end(text, b)
+    push_last_type(text, " ", b)
 }
 
-/// The last type inside another.
+/// The last part of a type, behind a word.
 #[cycle(push_type)]
-fn push_type_end(text: &mut String, a: &TyChild) -> Result<(), Memory>
-    ensures { OnOk result (string_bytes text.new ≡ string_bytes text.old ++ (type_spelling a.now ++ codes ")")) }
+fn push_last_type(text: &mut String, word: &str, a: &TyChild) -> Result<(), Memory>
+    ensures { Adds result (string_bytes text.old) (string_bytes text.new) (word.now ++ (type_spelling a.now ++ codes ")")) }
 {
+    push_word(text, word)?;
     push_type(text, a.get())?;
     push_word(text, ")")
 }

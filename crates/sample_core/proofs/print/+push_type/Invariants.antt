@@ -9,5 +9,5 @@ decreases-push_type l = 3 * type_size (type_of l.ty.now)
 abbrev pub decreases-push_pair_type : goal.decreases-push_pair_type
 decreases-push_pair_type l = 3 * (type_size l.a.now + type_size l.b.now) + 2
 
-abbrev pub decreases-push_type_end : goal.decreases-push_type_end
-decreases-push_type_end l = 3 * type_size l.a.now + 1
+abbrev pub decreases-push_last_type : goal.decreases-push_last_type
+decreases-push_last_type l = 3 * type_size l.a.now + 1

@@ -1,9 +1,19 @@
 use Rattle.std.proofs.Common.{arith}
 use Rattle.std.proofs.lemmas.Grind.{common_steps}
+use Rattle.sample_core.proofs.Adding.{extends_added}
 use Rattle.sample_core.proofs.Elements.{element_smaller}
 use Rattle.sample_core.proofs.print.+push_value.Goals as goal
 
-pub push_list-push_value-requires : goal.push_list-push_value-requires
-push_list-push_value-requires t c =
+pub push_list-push_next-requires : goal.push_list-push_next-requires
+push_list-push_next-requires t c =
     let e = element_smaller c.as_slice-v-items.result.now c.loop-v.v-index c.v-item.result (omega arith) in
     grind (arith, common_steps, e)
+
+pub push_pair-returns-in_err-push_value : goal.push_pair-returns-in_err-push_value
+push_pair-returns-in_err-push_value t c = grind (arith, common_steps, extends_added)
+
+pub push_last-returns-in_err-push_value : goal.push_last-returns-in_err-push_value
+push_last-returns-in_err-push_value t c = grind (arith, common_steps, extends_added)
+
+pub push_list-returns-in_err-push_next : goal.push_list-returns-in_err-push_next
+push_list-returns-in_err-push_next t c = grind (arith, common_steps, extends_added)

@@ -1,22 +1,26 @@
 use Rattle.std.proofs.Common.{◌≡◌, ◌+◌, ◌*◌, ◌++◌, string_bytes, drop, map}
 use Rattle.sample_core.specs.Seen.{datum_of}
+use Rattle.sample_core.specs.Adding.{Extends}
 use Rattle.sample_core.specs.Datum.{of_elements, datum_size, datums_size}
 use Rattle.sample_core.specs.Spelling.{spellings}
 use Rattle.sample_core.proofs.print.+push_value.Given as goal
 
--- what stands there and the spelling of the elements to come is the whole
+-- the text begins as it did, and what stands there and the spelling of the elements to come is the whole
 abbrev pub invariant-push_list-loop-v : goal.invariant-push_list-loop-v
 invariant-push_list-loop-v l =
-    string_bytes l.text ++ spellings (of_elements (map datum_of (drop l.v-index l.v-items))) ≡ string_bytes l.initial.text ++ spellings (of_elements (map datum_of l.v-items))
+    Extends (string_bytes l.initial.text) (string_bytes l.text) × (string_bytes l.text ++ spellings (of_elements (map datum_of (drop l.v-index l.v-items))) ≡ string_bytes l.initial.text ++ spellings (of_elements (map datum_of l.v-items)))
 
 abbrev pub decreases-push_value : goal.decreases-push_value
-decreases-push_value l = 2 * datum_size (datum_of l.sample.now)
+decreases-push_value l = 3 * datum_size (datum_of l.sample.now)
 
 abbrev pub decreases-push_pair : goal.decreases-push_pair
-decreases-push_pair l = 2 * (datum_size l.v.now + datum_size l.w.now) + 1
+decreases-push_pair l = 3 * (datum_size l.v.now + datum_size l.w.now) + 2
 
-abbrev pub decreases-push_event : goal.decreases-push_event
-decreases-push_event l = 2 * datum_size l.v.now + 1
+abbrev pub decreases-push_last : goal.decreases-push_last
+decreases-push_last l = 3 * datum_size l.v.now + 1
+
+abbrev pub decreases-push_next : goal.decreases-push_next
+decreases-push_next l = 3 * datum_size (datum_of l.v.now) + 1
 
 abbrev pub decreases-push_list : goal.decreases-push_list
-decreases-push_list l = 2 * datums_size (of_elements l.all.now) + 1
+decreases-push_list l = 3 * datums_size (of_elements l.all.now) + 2
