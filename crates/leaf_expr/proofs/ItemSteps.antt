@@ -1,5 +1,5 @@
 -- The elements of a list, one after the other.
-use Rattle.std.proofs.Common.{◌≡◌, ℕ, zero, suc, ◌<◌, ◌≤◌, false, List, [], ◌∷◌, ◌++◌, length, refl, sym, ap, ◌∙◌, ◌-◌, arith, append_assoc, Result, Ok, Err}
+use Rattle.std.proofs.Common.{◌≡◌, ℕ, zero, suc, ◌<◌, ◌≤◌, false, List, [], ◌∷◌, ◌++◌, length, refl, sym, ap, ◌∙◌, ◌-◌, arith, append_assoc, Ok, Err}
 use Rattle.std.proofs.lemmas.List.{append-nil}
 use Rattle.sample_core.specs.TypeTree.{TypeTree}
 use Rattle.leaf_expr.specs.Token.{opening, closing, word, Placed}
@@ -10,19 +10,12 @@ use Rattle.leaf_expr.specs.Reader.{Fault, syntax, number, too_deep, Read, ◌>>=
 use Rattle.leaf_expr.specs.ReadText.{Refuses, begins_closing}
 use Rattle.leaf_expr.specs.declared.text_fault.ExprTextFault.{ExprTextFault}
 use Rattle.leaf_expr.specs.declared.text_fault.ExprTextFault.TheVariants as V
+use Rattle.leaf_expr.proofs.ReadSteps.{with, with_bind}
 use Rattle.leaf_expr.proofs.ReadCounts.{read_all_count, read_shortens}
-
--- what was read, made into something else
-abbrev pub with : {T R : Type 0} → (T → R) → Read T → Read R
-with f r = r >>= (λ y. Ok (f y.0, y.1, y.2))
 
 -- what was read, behind what was read before
 abbrev pub with_front : List Expression → Read (List Expression) → Read (List Expression)
 with_front front r = with (λ xs. front ++ xs) r
-
-with_bind : {A T R : Type 0} (f : T → R) (r : Result A Fault) (g : A → Read T) (h : A → Read R) → ((x : A) → h x ≡ with f (g x)) → (r >>= h) ≡ with f (r >>= g)
-with_bind f (Ok x) g h e = e x
-with_bind f (Err d) g h e = refl
 
 -- what parts make, made into something else
 with_all : {T Q R : Type 0} (size : ℕ) (reader : List Placed → Read T) (f : Q → R) (n : ℕ) (make : List T → Q) (ts : List Placed) → read_all leaf size reader n (λ xs. f (make xs)) ts ≡ with f (read_all leaf size reader n make ts)

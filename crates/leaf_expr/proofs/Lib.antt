@@ -18,3 +18,4 @@ pub mod ItemSteps
 pub mod IndexSteps
 pub mod Joined
 pub mod Answered
+pub mod FrontSteps

@@ -1,11 +1,14 @@
 -- Steps of reading, as the code takes them.
-use Rattle.std.proofs.Common.{◌≡◌, ◌≢◌, ℕ, zero, suc, ◌+◌, ◌-◌, true, List, ◌∷◌, refl, ap, ◌∙◌, sym, arith, Ok, Err, Some, None}
+use Rattle.std.proofs.Common.{◌≡◌, ◌≢◌, ℕ, zero, suc, ◌+◌, List, ◌∷◌, refl, ap, ◌∙◌, sym, subst, arith, Result, Ok, Err, Some, None}
 use Rattle.leaf_expr.specs.Token.{opening, closing, Placed}
 use Rattle.sample_core.specs.TypeTree.{TypeTree}
 use Rattle.leaf_core.specs.Expression.{Expression, parameter, none_of}
 use Rattle.leaf_expr.specs.Language.{Row, no_place, place}
-use Rattle.leaf_expr.specs.Grammar.{leaf, Sort, Tree, type_sort, expression_sort, index_sort, has_form, row_at}
-use Rattle.leaf_expr.specs.Reader.{syntax, too_deep, unfit_token, ◌>>=◌, read, read_form, read_head, read_row, read_parts, read_end}
+use Rattle.leaf_expr.specs.Grammar.{leaf, Sort, Tree, type_sort, expression_sort, index_sort, row_at, e}
+use Rattle.leaf_expr.specs.Reader.{Fault, syntax, number, too_deep, Read, unfit_token, ◌>>=◌, read, read_form, read_head, read_row, read_parts, read_end}
+use Rattle.leaf_expr.specs.ReadText.{Refuses}
+use Rattle.leaf_expr.specs.declared.text_fault.ExprTextFault.{ExprTextFault}
+use Rattle.leaf_expr.specs.declared.text_fault.ExprTextFault.TheVariants as V
 
 pub unfit_open : (room n : ℕ) → room ≢ 0 → unfit_token room (n, opening) ≡ syntax n
 unfit_open zero n h = absurd (h refl)
@@ -14,12 +17,24 @@ unfit_open (suc room) n h = refl
 pub closed : (size room n : ℕ) (ts : List Placed) → read_end leaf size room ((n, closing) ∷ ts) ≡ Ok (n + 1, ts)
 closed size room n ts = let i : suc n ≡ n + 1 = omega arith in ap (λ m. Ok (m, ts)) i
 
-pub opened : (size room : ℕ) (s : Sort) (n : ℕ) (ts : List Placed) → room ≢ 0 → has_form s ≡ true → read leaf size room s ((n, opening) ∷ ts) ≡ read_form leaf size (read leaf size (room - 1)) (room - 1) s ts
-opened size zero s n ts h f = absurd (h refl)
-opened size (suc room) s n ts h f = let i : suc room - 1 ≡ room = omega arith in rw (i, f) refl
+pub ok_same : {A : Type 0} (x y : A) → ◌≡◌ {A = Result A Fault} (Ok x) (Ok y) → x ≡ y
+ok_same x y p = cc
 
-pub too_many : (size room : ℕ) (s : Sort) (n : ℕ) (ts : List Placed) → room ≡ 0 → read leaf size room s ((n, opening) ∷ ts) ≡ Err (too_deep n)
-too_many size room s n ts e = rw e refl
+-- what is read is not refused, but for want of memory
+pub refused_ok : {A B : Type 0} (x : ExprTextFault) (a : A) (r : Result B Fault) → Refuses x (Ok a) → Refuses x r
+refused_ok (V.Syntax n) a r p = absurd (cc)
+refused_ok (V.Number n) a r p = absurd (cc)
+refused_ok (V.TooDeep n) a r p = absurd (cc)
+refused_ok V.TooLong a r p = p
+refused_ok V.Memory a r p = p
+
+-- a refusal is the same whatever would have been read
+pub refused_same : (A B : Type 0) (x : ExprTextFault) (d : Fault) → Refuses {Y = A} x (Err d) → Refuses {Y = B} x (Err d)
+refused_same A B (V.Syntax n) d p = let i : d ≡ syntax n = cc in ap Err i
+refused_same A B (V.Number n) d p = let i : d ≡ number n = cc in ap Err i
+refused_same A B (V.TooDeep n) d p = let i : d ≡ too_deep n = cc in ap Err i
+refused_same A B V.TooLong d p = p
+refused_same A B V.Memory d p = p
 
 -- a form by its word
 pub named : {n : ℕ} {w : List ℕ} {ts : List Placed} (size room m : ℕ) (s : Sort) (us : List Placed) (r : Row Sort Tree (Tree s)) → read_head leaf size room us ≡ Ok (n, w, ts) → Some r ≡ row_at s w → read_form leaf size (read leaf size m) room s us ≡ read_parts leaf size (read leaf size m) room r.takes r.makes ts
@@ -28,13 +43,88 @@ named {n = n} {ts = ts} size room m s us r e f = ap (λ h. h >>= (λ h. read_row
 pub unnamed : {n : ℕ} {w : List ℕ} {ts : List Placed} (size room m : ℕ) (s : Sort) (us : List Placed) → read_head leaf size room us ≡ Ok (n, w, ts) → None ≡ row_at s w → read_form leaf size (read leaf size m) room s us ≡ Err (syntax n)
 unnamed {n = n} {ts = ts} size room m s us e f = ap (λ h. h >>= (λ h. read_row leaf size (read leaf size m) room h.0 (row_at s h.1) h.2)) e ∙ ap (λ o. read_row leaf size (read leaf size m) room n o ts) (sym f)
 
+-- what was read, made into something else
+abbrev pub with : {T R : Type 0} → (T → R) → Read T → Read R
+with f r = r >>= (λ y. Ok (f y.0, y.1, y.2))
+
+pub with_bind : {A T R : Type 0} (f : T → R) (r : Result A Fault) (g : A → Read T) (h : A → Read R) → ((x : A) → h x ≡ with f (g x)) → (r >>= h) ≡ with f (r >>= g)
+with_bind f (Ok x) g h e = e x
+with_bind f (Err d) g h e = refl
+
+-- a refusal goes through what would follow
+pub passed : {A B : Type 0} (x : ExprTextFault) (r : Result A Fault) (g : A → Result B Fault) → Refuses x r → Refuses x (r >>= g)
+passed (V.Syntax n) r g p = ap (λ y. y >>= g) p
+passed (V.Number n) r g p = ap (λ y. y >>= g) p
+passed (V.TooDeep n) r g p = ap (λ y. y >>= g) p
+passed V.TooLong r g p = p
+passed V.Memory r g p = p
+
+-- a refusal of what something was made into is one of it
+pub with_refused : {A T R : Type 0} (x : ExprTextFault) (f : T → R) (r : Read T) (g : T × ℕ × List Placed → Result A Fault) → Refuses x (with f r) → Refuses x (r >>= g)
+with_refused x f (Ok y) g p = refused_ok x _ _ p
+with_refused x f (Err d) g p = refused_same _ _ x d p
+
 -- the parts of a form one by one, and its end
 module _ (size room : ℕ) where
-  pub one_type : {a : TypeTree} {n j : ℕ} {us ws : List Placed} (make : TypeTree → TypeTree) (ts : List Placed) → read leaf size room type_sort ts ≡ Ok (a, n, us) → read_end leaf size room us ≡ Ok (j, ws) → read_parts leaf size (read leaf size room) room (place type_sort no_place) make ts ≡ Ok (make a, j, ws)
-  one_type make ts p q = rw (p, q) refl
+  -- the last part, and the last two, with the end
+  abbrev pub last_one : (s : Sort) → List Placed → Read (Tree s)
+  last_one s ts = read_parts leaf size (read leaf size room) room (place s no_place) (λ x. x) ts
 
-  pub two_types : {a b : TypeTree} {n m j : ℕ} {us vs ws : List Placed} (make : TypeTree → TypeTree → TypeTree) (ts : List Placed) → read leaf size room type_sort ts ≡ Ok (a, n, us) → read leaf size room type_sort us ≡ Ok (b, m, vs) → read_end leaf size room vs ≡ Ok (j, ws) → read_parts leaf size (read leaf size room) room (place type_sort (place type_sort no_place)) make ts ≡ Ok (make a b, j, ws)
-  two_types make ts p q r = rw (p, q, r) refl
+  abbrev pub last_two : List Placed → Read (Expression × Expression)
+  last_two ts = read_parts leaf size (read leaf size room) room (e (e no_place)) (λ a b. (a, b)) ts
+
+  one_with : {R : Type 0} (s : Sort) (make : Tree s → R) (ts : List Placed) → read_parts leaf size (read leaf size room) room (place s no_place) make ts ≡ with make (last_one s ts)
+  one_with s make ts = with_bind make (read leaf size room s ts) _ _ (λ x. with_bind make (read_end leaf size room x.2) _ _ (λ z. refl))
+
+  two_with : {R : Type 0} (make : Expression → Expression → R) (ts : List Placed) → read_parts leaf size (read leaf size room) room (e (e no_place)) make ts ≡ with (λ p. make p.0 p.1) (last_two ts)
+  two_with {R = R} make ts = with_bind f (read leaf size room expression_sort ts) _ _ (λ x. with_bind f (read leaf size room expression_sort x.2) _ _ (λ y. with_bind f (read_end leaf size room y.2) _ _ (λ z. refl)))
+    where
+      f : Expression × Expression → R
+      f p = make p.0 p.1
+
+  pub one_done : {R : Type 0} (s : Sort) {a : Tree s} {j : ℕ} {ws : List Placed} (make : Tree s → R) (ts : List Placed) → last_one s ts ≡ Ok (a, j, ws) → read_parts leaf size (read leaf size room) room (place s no_place) make ts ≡ Ok (make a, j, ws)
+  one_done s make ts p = one_with s make ts ∙ ap (with make) p
+
+  pub one_refused : {R : Type 0} (s : Sort) (x : ExprTextFault) (make : Tree s → R) (ts : List Placed) → Refuses x (last_one s ts) → Refuses x (read_parts leaf size (read leaf size room) room (place s no_place) make ts)
+  one_refused s x make ts p = subst (Refuses x) (sym (one_with s make ts)) (passed x (last_one s ts) _ p)
+
+  pub two_done : {R : Type 0} {a b : Expression} {j : ℕ} {ws : List Placed} (make : Expression → Expression → R) (ts : List Placed) → last_two ts ≡ Ok ((a, b), j, ws) → read_parts leaf size (read leaf size room) room (e (e no_place)) make ts ≡ Ok (make a b, j, ws)
+  two_done make ts p = two_with make ts ∙ ap (with (λ q. make q.0 q.1)) p
+
+  pub two_refused : {R : Type 0} (x : ExprTextFault) (make : Expression → Expression → R) (ts : List Placed) → Refuses x (last_two ts) → Refuses x (read_parts leaf size (read leaf size room) room (e (e no_place)) make ts)
+  two_refused x make ts p = subst (Refuses x) (sym (two_with make ts)) (passed x (last_two ts) _ p)
+
+  -- two types: one, and the last one with the end
+  pub two_types : {a b : TypeTree} {n j : ℕ} {us ws : List Placed} (make : TypeTree → TypeTree → TypeTree) (ts : List Placed) → read leaf size room type_sort ts ≡ Ok (a, n, us) → last_one type_sort us ≡ Ok (b, j, ws) → read_parts leaf size (read leaf size room) room (place type_sort (place type_sort no_place)) make ts ≡ Ok (make a b, j, ws)
+  two_types {a = a} {us = us} make ts p q = rw p (one_done type_sort (make a) us q)
+
+  pub no_second_type : {a : TypeTree} {n : ℕ} {us : List Placed} (x : ExprTextFault) (make : TypeTree → TypeTree → TypeTree) (ts : List Placed) → read leaf size room type_sort ts ≡ Ok (a, n, us) → Refuses x (last_one type_sort us) → Refuses x (read_parts leaf size (read leaf size room) room (place type_sort (place type_sort no_place)) make ts)
+  no_second_type {a = a} {us = us} x make ts p q = rw p (one_refused type_sort x (make a) us q)
+
+  -- three expressions: one, and the last two with the end
+  pub three_parts : {a b c : Expression} {n j : ℕ} {us ws : List Placed} (make : Expression → Expression → Expression → Expression) (ts : List Placed) → read leaf size room expression_sort ts ≡ Ok (a, n, us) → last_two us ≡ Ok ((b, c), j, ws) → read_parts leaf size (read leaf size room) room (e (e (e no_place))) make ts ≡ Ok (make a b c, j, ws)
+  three_parts {a = a} {us = us} make ts p q = rw p (two_done (make a) us q)
+
+  pub no_last_two : {a : Expression} {n : ℕ} {us : List Placed} (x : ExprTextFault) (make : Expression → Expression → Expression → Expression) (ts : List Placed) → read leaf size room expression_sort ts ≡ Ok (a, n, us) → Refuses x (last_two us) → Refuses x (read_parts leaf size (read leaf size room) room (e (e (e no_place))) make ts)
+  no_last_two {a = a} {us = us} x make ts p q = rw p (two_refused x (make a) us q)
+
+  -- a type, as no event of it, and the last two expressions with the end
+  behind_none : {m : Expression} {n : ℕ} {us : List Placed} (make : Expression → Expression → Expression → Expression) (r : Read TypeTree) → with none_of r ≡ Ok (m, n, us) → (r >>= (λ y. read_parts leaf size (read leaf size room) room (e (e no_place)) (make (none_of y.0)) y.2)) ≡ read_parts leaf size (read leaf size room) room (e (e no_place)) (make m) us
+  behind_none {m = m} {us = us} make (Ok y) p =
+      let q = ok_same _ _ p in
+      let i : none_of y.0 ≡ m = ap (λ (z : Expression × ℕ × List Placed). z.0) q in
+      let j : y.2 ≡ us = ap (λ (z : Expression × ℕ × List Placed). z.2) q in
+      rw (i, j) refl
+  behind_none make (Err d) p = absurd (cc)
+
+  pub typed_parts : {m a b : Expression} {n j : ℕ} {us ws : List Placed} (make : Expression → Expression → Expression → Expression) (ts : List Placed) → with none_of (read leaf size room type_sort ts) ≡ Ok (m, n, us) → last_two us ≡ Ok ((a, b), j, ws) → read_parts leaf size (read leaf size room) room (place type_sort (e (e no_place))) (λ T. make (none_of T)) ts ≡ Ok (make m a b, j, ws)
+  typed_parts {m = m} {us = us} make ts p q = behind_none make (read leaf size room type_sort ts) p ∙ two_done (make m) us q
+
+  pub no_typed_two : {m : Expression} {n : ℕ} {us : List Placed} (x : ExprTextFault) (make : Expression → Expression → Expression → Expression) (ts : List Placed) → with none_of (read leaf size room type_sort ts) ≡ Ok (m, n, us) → Refuses x (last_two us) → Refuses x (read_parts leaf size (read leaf size room) room (place type_sort (e (e no_place))) (λ T. make (none_of T)) ts)
+  no_typed_two {m = m} {us = us} x make ts p q = subst (Refuses x) (sym (behind_none make (read leaf size room type_sort ts) p)) (two_refused x (make m) us q)
+
+  pub no_typed : (x : ExprTextFault) (make : Expression → Expression → Expression → Expression) (ts : List Placed) → Refuses x (with none_of (read leaf size room type_sort ts)) → Refuses x (read_parts leaf size (read leaf size room) room (place type_sort (e (e no_place))) (λ T. make (none_of T)) ts)
+  no_typed x make ts p = with_refused x none_of (read leaf size room type_sort ts) _ p
 
   pub one_index : {i n j : ℕ} {us ws : List Placed} (ts : List Placed) → read leaf size room index_sort ts ≡ Ok (i, n, us) → read_end leaf size room us ≡ Ok (j, ws) → read_parts leaf size (read leaf size room) room (place index_sort no_place) parameter ts ≡ Ok (parameter i, j, ws)
   one_index ts p q = rw (p, q) refl
@@ -44,12 +134,3 @@ module _ (size room : ℕ) where
 
   pub one_part : {a : Expression} {n j : ℕ} {us ws : List Placed} (make : Expression → Expression) (ts : List Placed) → read leaf size room expression_sort ts ≡ Ok (a, n, us) → read_end leaf size room us ≡ Ok (j, ws) → read_parts leaf size (read leaf size room) room (place expression_sort no_place) make ts ≡ Ok (make a, j, ws)
   one_part make ts p q = rw (p, q) refl
-
-  pub two_parts : {a b : Expression} {n m j : ℕ} {us vs ws : List Placed} (make : Expression → Expression → Expression) (ts : List Placed) → read leaf size room expression_sort ts ≡ Ok (a, n, us) → read leaf size room expression_sort us ≡ Ok (b, m, vs) → read_end leaf size room vs ≡ Ok (j, ws) → read_parts leaf size (read leaf size room) room (place expression_sort (place expression_sort no_place)) make ts ≡ Ok (make a b, j, ws)
-  two_parts make ts p q r = rw (p, q, r) refl
-
-  pub three_parts : {a b c : Expression} {n m l j : ℕ} {us vs xs ws : List Placed} (make : Expression → Expression → Expression → Expression) (ts : List Placed) → read leaf size room expression_sort ts ≡ Ok (a, n, us) → read leaf size room expression_sort us ≡ Ok (b, m, vs) → read leaf size room expression_sort vs ≡ Ok (c, l, xs) → read_end leaf size room xs ≡ Ok (j, ws) → read_parts leaf size (read leaf size room) room (place expression_sort (place expression_sort (place expression_sort no_place))) make ts ≡ Ok (make a b c, j, ws)
-  three_parts make ts p q r u = rw (p, q, r, u) refl
-
-  pub typed_parts : {a : TypeTree} {b c : Expression} {n m l j : ℕ} {us vs xs ws : List Placed} (make : TypeTree → Expression → Expression → Expression) (ts : List Placed) → read leaf size room type_sort ts ≡ Ok (a, n, us) → read leaf size room expression_sort us ≡ Ok (b, m, vs) → read leaf size room expression_sort vs ≡ Ok (c, l, xs) → read_end leaf size room xs ≡ Ok (j, ws) → read_parts leaf size (read leaf size room) room (place type_sort (place expression_sort (place expression_sort no_place))) make ts ≡ Ok (make a b c, j, ws)
-  typed_parts make ts p q r u = rw (p, q, r, u) refl

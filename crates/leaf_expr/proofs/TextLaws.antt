@@ -2,10 +2,11 @@
 use Rattle.std.proofs.Common.{arith, ◌≡◌, ℕ, ◌+◌, ◌≤◌, ◌≢◌, Bool, true, false, nat_lt, List, [], ◌∷◌, ◌++◌, length, refl, sym, ap, ◌∙◌, subst, Result, Ok, Err, if◌then◌else◌}
 use Rattle.std.proofs.lemmas.Bool.{ltb-false, le-ltb}
 use Rattle.std.proofs.lemmas.List.{append-nil}
-use Rattle.leaf_expr.specs.Token.{Placed, tokens, tokens_in}
+use Rattle.sample_core.specs.TypeTree.{TypeTree}
+use Rattle.leaf_expr.specs.Token.{Placed, tokens, tokens_in, begins_word}
 use Rattle.leaf_expr.specs.Part.{Spells, spelling, depth}
 use Rattle.leaf_expr.specs.Language.{Begins}
-use Rattle.leaf_expr.specs.Grammar.{leaf, Sort, Tree, expression_sort}
+use Rattle.leaf_expr.specs.Grammar.{leaf, Sort, Tree, type_sort, expression_sort}
 use Rattle.leaf_expr.specs.Printed.{expression_part, type_part}
 use Rattle.leaf_expr.specs.Reader.{Fault, Read, unfit_token, read}
 use Rattle.leaf_expr.specs.ReadLaws.{Stops, too_short, at_token, Misfit}
@@ -16,12 +17,19 @@ use Rattle.leaf_expr.proofs.ReadFaults.{framed, one_reading, stops}
 use Rattle.leaf_expr.proofs.TokenLaws.{spells_printed}
 use Rattle.leaf_expr.proofs.PrintedMeans.{expression_means, expression_plain, type_means, type_plain}
 use Rattle.leaf_expr.proofs.LeafProper.{leaf_proper}
+use Rattle.leaf_expr.proofs.Joined.{type_spelled}
 
 pub printed_begins : PrintedLaw
 printed_begins e room n bs r d b = record { part = expression_part e; spells = spells_printed (expression_part e) n bs (expression_plain e r) b; means = expression_means e r; within = d }
 
+abbrev PrintedSo : TypeTree → ℕ → ℕ → List ℕ → List ℕ → Type 0
+PrintedSo t room n bs w = let end = n + length w in Begins leaf room type_sort t (tokens_in false n (w ++ bs)) end (tokens_in false end bs)
+
+printed_part : (t : TypeTree) (room n : ℕ) (bs : List ℕ) → depth (type_part t) ≤ room → begins_word bs ≡ false → PrintedSo t room n bs (spelling (type_part t))
+printed_part t room n bs d b = record { part = type_part t; spells = spells_printed (type_part t) n bs (type_plain t) b; means = type_means t; within = d }
+
 pub printed_type_begins : PrintedTypeLaw
-printed_type_begins t room n bs d b = record { part = type_part t; spells = spells_printed (type_part t) n bs (type_plain t) b; means = type_means t; within = d }
+printed_type_begins t room n bs d b = subst (PrintedSo t room n bs) (type_spelled t) (printed_part t room n bs d b)
 
 whole_ok : {T : Type 0} (r : Read T) (t : T) → whole r ≡ Ok t → (n : ℕ) × (r ≡ Ok (t, n, []))
 whole_ok {T = T} (Ok (u, n, [])) t e = (n, ap (λ x. Ok (x, n, [])) (inner e))

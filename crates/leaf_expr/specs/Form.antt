@@ -85,11 +85,11 @@ typed_name Y.Gate = codes "gate"
 typed_name Y.Tag = codes "tag"
 typed_name Y.Attach = codes "attach"
 
--- what a form of a type and two expressions makes of them
-abbrev pub typed_of : Typed → TypeTree → Expression → Expression → Expression
-typed_of Y.Gate = λ T a b. choice b a (none_of T)
-typed_of Y.Tag = λ T a c. on a (none_of T) (make_event ((then) (fst sample) c))
-typed_of Y.Attach = λ T a c. on a (none_of T) (make_event (make_pair (snd sample) ((then) (fst sample) c)))
+-- what a form of a type and two expressions makes of no event of the type, and of them
+abbrev pub typed_by : Typed → Expression → Expression → Expression → Expression
+typed_by Y.Gate = λ n a b. choice b a n
+typed_by Y.Tag = λ n a c. on a n (make_event ((then) (fst sample) c))
+typed_by Y.Attach = λ n a c. on a n (make_event (make_pair (snd sample) ((then) (fst sample) c)))
 
 -- a form of one expression as its row of the grammar
 abbrev pub unary_row : Unary → Row Sort Tree Expression
@@ -105,7 +105,7 @@ ternary_row f = row (ternary_name f) (e (e (e no_place))) (ternary_of f)
 
 -- a form of a type and two expressions as its row of the grammar
 abbrev pub typed_row : Typed → Row Sort Tree Expression
-typed_row f = row (typed_name f) (t (e (e no_place))) (typed_of f)
+typed_row f = row (typed_name f) (t (e (e no_place))) (λ T. typed_by f (none_of T))
 
 -- a form of expressions as its row of the grammar
 abbrev pub form_row : Form → Row Sort Tree Expression

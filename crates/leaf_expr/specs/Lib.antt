@@ -12,3 +12,4 @@ pub mod NumberLaws
 pub mod Lexeme
 pub mod Form
 pub mod ReadText
+pub mod Front

@@ -3,16 +3,16 @@ use Rattle.std.specs.Prelude.{◌≡◌, ◌<◌, ℕ, Bool, true, false, List, 
 use Rattle.sample_core.specs.TypeTree.{TypeTree}
 use Rattle.sample_core.specs.SeenType.{type_of}
 use Rattle.sample_core.specs.declared.ty.Ty.{Ty}
-use Rattle.leaf_core.specs.Expression.{Expression}
+use Rattle.leaf_core.specs.Expression.{Expression, none_of}
 use Rattle.leaf_core.specs.Seen.{expression_of}
 use Rattle.leaf_core.specs.declared.expr.Expr.{Expr}
 use Rattle.leaf_expr.specs.Token.{Placed, closing, tokens_from}
 use Rattle.leaf_expr.specs.NumberPlace.{Reading, reads, misspelt, unfit}
 use Rattle.leaf_expr.specs.declared.word.WordFault.{WordFault}
 use Rattle.leaf_expr.specs.declared.word.WordFault.TheVariants as W
-use Rattle.leaf_expr.specs.Grammar.{leaf, Tree, Sort, expression_sort}
-use Rattle.leaf_expr.specs.Reader.{Fault, syntax, number, too_deep, Read, read, read_form, read_parts, read_all}
-use Rattle.leaf_expr.specs.Language.{Row}
+use Rattle.leaf_expr.specs.Grammar.{leaf, Tree, Sort, type_sort, expression_sort, e}
+use Rattle.leaf_expr.specs.Reader.{Fault, syntax, number, too_deep, Read, ◌>>=◌, read, read_form, read_parts, read_all}
+use Rattle.leaf_expr.specs.Language.{Row, no_place, place}
 use Rattle.leaf_expr.specs.ReadLaws.{Stops}
 use Rattle.leaf_expr.specs.Text.{TextFault, too_long, at, NoText}
 use Rattle.leaf_expr.specs.declared.text_fault.ExprTextFault.{ExprTextFault}
@@ -63,6 +63,18 @@ form_at s text room n = read_form leaf (length text) (read leaf (length text) ro
 -- the parts of a form and its end, in the text from byte n on
 abbrev pub row_parts : {R : Type 0} → Row Sort Tree R → List ℕ → ℕ → ℕ → Read R
 row_parts r text room n = read_parts leaf (length text) (read leaf (length text) room) room r.takes r.makes (tokens_from n text)
+
+-- the last part of a form, a tree of the sort, and the form's end, in the text from byte n on
+abbrev pub last_at : (s : Sort) → List ℕ → ℕ → ℕ → Read (Tree s)
+last_at s text room n = read_parts leaf (length text) (read leaf (length text) room) room (place s no_place) (λ t. t) (tokens_from n text)
+
+-- the last two parts of a form, which are expressions, and its end, in the text from byte n on
+abbrev pub last_two_at : List ℕ → ℕ → ℕ → Read (Expression × Expression)
+last_two_at text room n = read_parts leaf (length text) (read leaf (length text) room) room (e (e no_place)) (λ a b. (a, b)) (tokens_from n text)
+
+-- a type in the text from byte n on, as no event of it
+abbrev pub none_at : List ℕ → ℕ → ℕ → Read Expression
+none_at text room n = tree_at type_sort text room n >>= (λ x. Ok (none_of x.0, x.1, x.2))
 
 -- the elements of a list up to the end of the form, in the text from byte n on
 abbrev pub items_at : List ℕ → ℕ → ℕ → Read (List Expression)

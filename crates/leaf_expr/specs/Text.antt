@@ -1,6 +1,7 @@
 -- Whole texts of one type or expression.
 use Rattle.std.specs.Prelude.{◌≡◌, ℕ, ◌+◌, ◌≤◌, nat_lt, false, List, [], ◌∷◌, ◌++◌, length, Result, Ok, Err, if◌then◌else◌}
 use Rattle.sample_core.specs.TypeTree.{TypeTree}
+use Rattle.sample_core.specs.Spelling.{type_spelling}
 use Rattle.leaf_expr.specs.Token.{Placed, tokens, tokens_in, begins_word}
 use Rattle.leaf_core.specs.Expression.{Expression}
 use Rattle.leaf_expr.specs.Part.{spelling, depth}
@@ -55,7 +56,7 @@ PrintedLaw = (e : Expression) (room n : ℕ) (bs : List ℕ) → InRange e → d
 
 -- a printed type is read again before any bytes that do not go on its last word
 abbrev pub PrintedTypeLaw : Type 0
-PrintedTypeLaw = (t : TypeTree) (room n : ℕ) (bs : List ℕ) → depth (type_part t) ≤ room → begins_word bs ≡ false → (let end = n + length (spelling (type_part t)) in Begins leaf room type_sort t (tokens_in false n (spelling (type_part t) ++ bs)) end (tokens_in false end bs))
+PrintedTypeLaw = (t : TypeTree) (room n : ℕ) (bs : List ℕ) → depth (type_part t) ≤ room → begins_word bs ≡ false → (let end = n + length (type_spelling t) in Begins leaf room type_sort t (tokens_in false n (type_spelling t ++ bs)) end (tokens_in false end bs))
 
 -- a printed expression is a text of it
 abbrev pub PrintedTextLaw : Type 0

@@ -1,23 +1,26 @@
 // Reading expressions.
 
-ghost use Rattle.std.specs.Prelude.{◌≡◌, ℕ, ◌-◌, ◌<◌, ◌∷◌, false, List, MatchOption, IfSome, IfOk, IfErr};
+ghost use Rattle.std.specs.Prelude.{◌≡◌, ℕ, ◌-◌, ◌<◌, ◌≤◌, List, Err, IfOk, IfErr, length, slice_range};
 ghost use Rattle.sample_core.specs.SeenType.{type_of};
 ghost use Rattle.sample_core.specs.TypeTree.{TypeTree};
 ghost use Rattle.leaf_core.specs.Expression.{Expression};
 ghost use Rattle.leaf_expr.specs.Form.{form_row, unary_row, binary_row, ternary_row, typed_row};
-ghost use Rattle.leaf_expr.specs.Grammar.{leaf, expression_sort, index_sort, type_sort};
+ghost use Rattle.leaf_expr.specs.Grammar.{leaf, expression_sort, index_sort, type_sort, word_at};
 ghost use Rattle.leaf_expr.specs.Language.{Begins};
-ghost use Rattle.leaf_expr.specs.ReadText.{Gives, GivesText, tree_at, form_at, row_parts, expression_left, type_left, items_at, items_left, begins_closing, IsFault, IsTextFault};
+ghost use Rattle.leaf_expr.specs.ReadText.{Gives, GivesText, tree_at, form_at, row_parts, last_two_at, none_at, expression_left, type_left, items_at, items_left, IsFault, IsTextFault};
+ghost use Rattle.leaf_expr.specs.Reader.{word_read};
 ghost use Rattle.leaf_core.specs.Seen.{expression_of};
-ghost use Rattle.leaf_expr.specs.Text.{read_text, IsText};
-ghost use Rattle.leaf_expr.specs.Token.{Placed, closing, tokens_from};
+ghost use Rattle.leaf_expr.specs.Text.{read_text, whole, IsText};
+ghost use Rattle.leaf_expr.specs.Token.{Placed, tokens_from};
+ghost use Rattle.leaf_expr.specs.declared.text_fault.ExprTextFault.TheVariants as Fault;
 
-use leaf_core::{Expr, Part, Parts};
 use crate::form::{Binary, Form, Ternary, Typed, Unary, form_named};
 use crate::text_fault::ExprTextFault;
-use crate::token::{Lexeme, lexeme_at, token_at};
-use crate::type_reader::{MAX_OPEN, form_end, form_head, read_type};
+use crate::token::token_at;
+use crate::tree_front::{Front, closing_at, form_end, form_head, front_at};
+use crate::type_reader::{MAX_OPEN, read_type};
 use crate::word::{WordFault, expr_word, index_word};
+use leaf_core::{Expr, Part, Parts};
 use sample_core::Ty;
 use std::alloc::Global;
 
@@ -28,23 +31,17 @@ pub const MAX_LENGTH: usize = 1_048_576;
 fn read_index(text: &[u8], at: usize, room: usize) -> Result<(u32, usize), ExprTextFault>
     ensures { Gives (λ x. (x.0, x.1, tokens_from x.1 text.now)) result (tree_at index_sort text.now room at) }
 {
-    match lexeme_at(text, at) {
-        Lexeme::End => Err(ExprTextFault::Syntax { at: text.len() }),
-        Lexeme::Close(start) => Err(ExprTextFault::Syntax { at: start }),
-        Lexeme::Open(start) if room == 0 => Err(ExprTextFault::TooDeep { at: start }),
-        Lexeme::Open(start) => Err(ExprTextFault::Syntax { at: start }),
-        Lexeme::Word(start, end) => match index_word(&text[start..end]) {
-            Ok(k) => Ok((k, end)),
-            Err(WordFault::Misspelt) => Err(ExprTextFault::Number { at: start }),
-            Err(WordFault::Unfit) => Err(ExprTextFault::Syntax { at: start }),
-        },
+    let (start, end) = form_head(text, at, room)?;
+    match index_word(&text[start..end]) {
+        Ok(k) => Ok((k, end)),
+        Err(WordFault::Misspelt) => Err(ExprTextFault::Number { at: start }),
+        Err(WordFault::Unfit) => Err(ExprTextFault::Syntax { at: start }),
     }
 }
 
 /// The expression at or after byte `at`, with room for so many more parentheses, and the byte
 /// behind it.
 #[cycle(read_expression)]
-#[tactic(auto, using(crate::proofs::ReadSteps::opened))]
 fn read_expression(
     alloc: Global,
     text: &[u8],
@@ -53,26 +50,27 @@ fn read_expression(
 ) -> Result<(Expr, usize), ExprTextFault>
     ensures { Gives (expression_left text.now) result (tree_at expression_sort text.now room at) }
 {
-    match lexeme_at(text, at) {
-        Lexeme::End => Err(ExprTextFault::Syntax { at: text.len() }),
-        Lexeme::Close(start) => Err(ExprTextFault::Syntax { at: start }),
-        Lexeme::Open(start) => {
-            if room == 0 {
-                return Err(ExprTextFault::TooDeep { at: start });
-            }
-            form(alloc, text, start + 1, room - 1)
-        }
-        Lexeme::Word(start, end) => match expr_word(&text[start..end]) {
-            Ok(expr) => Ok((expr, end)),
-            Err(WordFault::Misspelt) => Err(ExprTextFault::Number { at: start }),
-            Err(WordFault::Unfit) => Err(ExprTextFault::Syntax { at: start }),
-        },
+    match front_at(text, at, room)? {
+        Front::Form(start) => form(alloc, text, start + 1, room - 1),
+        Front::Word(start, end) => word_expr(text, start, end),
+    }
+}
+
+/// The expression that the word is from the first byte up to and without the second, and the
+/// latter.
+fn word_expr(text: &[u8], start: usize, end: usize) -> Result<(Expr, usize), ExprTextFault>
+    requires { (start < end) × (end ≤ length text.now) }
+    ensures { Gives (expression_left text.now) result (word_read start (slice_range text.now start end) (tokens_from end text.now) (word_at expression_sort (slice_range text.now start end))) }
+{
+    match expr_word(&text[start..end]) {
+        Ok(expr) => Ok((expr, end)),
+        Err(WordFault::Misspelt) => Err(ExprTextFault::Number { at: start }),
+        Err(WordFault::Unfit) => Err(ExprTextFault::Syntax { at: start }),
     }
 }
 
 /// What stands behind the parenthesis of a form.
 #[cycle(read_expression)]
-#[tactic(auto, using(crate::proofs::ReadSteps::named, crate::proofs::ReadSteps::unnamed))]
 fn form(alloc: Global, text: &[u8], at: usize, room: usize) -> Result<(Expr, usize), ExprTextFault>
     ensures { Gives (expression_left text.now) result (form_at expression_sort text.now room at) }
 {
@@ -124,8 +122,13 @@ fn no_event(
     ensures { Gives (expression_left text.now) result (row_parts (form_row Form.NoEvent) text.now room at) }
 {
     let (ty, at) = read_type(alloc, text, at, room)?;
-    let end = form_end(text, at, room)?;
-    Ok((Expr::NoEvent(ty), end))
+    match form_end(text, at, room) {
+        Ok(end) => Ok((Expr::NoEvent(ty), end)),
+        Err(fault) => {
+            drop(ty);
+            Err(fault)
+        }
+    }
 }
 
 /// An expression inside an expression.
@@ -135,6 +138,22 @@ fn part(alloc: Global, text: &[u8], at: usize, room: usize) -> Result<(Part, usi
 {
     let (expr, at) = read_expression(alloc, text, at, room)?;
     Ok((Part::new(alloc, expr)?, at))
+}
+
+/// The last two expressions inside an expression, and the end of the form.
+#[cycle(read_expression)]
+fn last_two(
+    alloc: Global,
+    text: &[u8],
+    at: usize,
+    room: usize,
+) -> Result<(Part, Part, usize), ExprTextFault>
+    ensures { Gives (λ x. ((x.0, x.1), x.2, tokens_from x.2 text.now)) result (last_two_at text.now room at) }
+{
+    let (a, at) = part(alloc, text, at, room)?;
+    let (b, at) = part(alloc, text, at, room)?;
+    let end = form_end(text, at, room)?;
+    Ok((a, b, end))
 }
 
 /// One expression, and the end of the form.
@@ -164,9 +183,7 @@ fn binary(
 ) -> Result<(Expr, usize), ExprTextFault>
     ensures { Gives (expression_left text.now) result (row_parts (binary_row form) text.now room at) }
 {
-    let (a, at) = part(alloc, text, at, room)?;
-    let (b, at) = part(alloc, text, at, room)?;
-    let end = form_end(text, at, room)?;
+    let (a, b, end) = last_two(alloc, text, at, room)?;
     let expr = form.of(alloc, a, b)?;
     Ok((expr, end))
 }
@@ -183,10 +200,22 @@ fn ternary(
     ensures { Gives (expression_left text.now) result (row_parts (ternary_row form) text.now room at) }
 {
     let (a, at) = part(alloc, text, at, room)?;
-    let (b, at) = part(alloc, text, at, room)?;
-    let (c, at) = part(alloc, text, at, room)?;
-    let end = form_end(text, at, room)?;
+    let (b, c, end) = last_two(alloc, text, at, room)?;
     Ok((form.of(a, b, c), end))
+}
+
+/// A type, as no event of it, and the byte behind it.
+fn none_part(
+    alloc: Global,
+    text: &[u8],
+    at: usize,
+    room: usize,
+) -> Result<(Part, usize), ExprTextFault>
+    ensures { Gives (λ x. (x.0, x.1, tokens_from x.1 text.now)) result (none_at text.now room at) }
+{
+    let (ty, at) = read_type(alloc, text, at, room)?;
+    let none = Part::new(alloc, Expr::NoEvent(ty))?;
+    Ok((none, at))
 }
 
 /// A type and two expressions, and the end of the form.
@@ -200,11 +229,9 @@ fn typed(
 ) -> Result<(Expr, usize), ExprTextFault>
     ensures { Gives (expression_left text.now) result (row_parts (typed_row form) text.now room at) }
 {
-    let (ty, at) = read_type(alloc, text, at, room)?;
-    let (a, at) = part(alloc, text, at, room)?;
-    let (b, at) = part(alloc, text, at, room)?;
-    let end = form_end(text, at, room)?;
-    let expr = form.of(alloc, ty, a, b)?;
+    let (none, at) = none_part(alloc, text, at, room)?;
+    let (a, b, end) = last_two(alloc, text, at, room)?;
+    let expr = form.of(alloc, none, a, b)?;
     Ok((expr, end))
 }
 
@@ -214,22 +241,28 @@ fn list(alloc: Global, text: &[u8], at: usize, room: usize) -> Result<(Expr, usi
     ensures { Gives (expression_left text.now) result (row_parts (form_row Form.List) text.now room at) }
 {
     let (ty, at) = read_type(alloc, text, at, room)?;
-    let (all, end) = items(alloc, text, at, room)?;
-    let elements = Parts::new(alloc, all)?;
-    Ok((Expr::List(ty, elements), end))
+    match elements(alloc, text, at, room) {
+        Ok((all, end)) => Ok((Expr::List(ty, all), end)),
+        Err(fault) => {
+            drop(ty);
+            Err(fault)
+        }
+    }
 }
 
-/// The byte behind the `)` that is the next token, where it is one.
-fn closing_at(text: &[u8], at: usize) -> Option<usize>
-    ensures token { MatchOption result (begins_closing (tokens_from at text.now) ≡ false) (λ end. tokens_from at text.now ≡ (end - 1, closing) ∷ tokens_from end text.now) }
-    ensures behind { IfSome result (λ end. 0 < end) }
+/// The elements of a list as its parts, and the end of the form.
+#[cycle(read_expression)]
+fn elements(
+    alloc: Global,
+    text: &[u8],
+    at: usize,
+    room: usize,
+) -> Result<(Parts, usize), ExprTextFault>
+    ensures { Gives (λ x. (x.0, x.1, tokens_from x.1 text.now)) result (items_at text.now room at) }
 {
-    match lexeme_at(text, at) {
-        Lexeme::Close(start) => Some(start + 1),
-        Lexeme::End => None,
-        Lexeme::Open(_) => None,
-        Lexeme::Word(_, _) => None,
-    }
+    let (all, end) = items(alloc, text, at, room)?;
+    let elements = Parts::new(alloc, all)?;
+    Ok((elements, end))
 }
 
 /// The elements of a list, and the end of the form.
@@ -280,19 +313,30 @@ fn expr_at(
     read_expression(alloc, text, at, MAX_OPEN.saturating_sub(depth))
 }
 
+/// One expression and nothing else, in a text of whatever length.
+fn only_expr(alloc: Global, text: &[u8]) -> Result<Expr, ExprTextFault>
+    ensures { GivesText expression_of result (whole (tree_at expression_sort text.now 600 0)) }
+{
+    let (expr, end) = read_expression(alloc, text, 0, MAX_OPEN)?;
+    match token_at(text, end) {
+        None => Ok(expr),
+        Some((start, _)) => {
+            drop(expr);
+            Err(ExprTextFault::Syntax { at: start })
+        }
+    }
+}
+
 /// What `read_expr` answers. It stands apart, since the other clauses of that contract follow from
-/// its exact one.
+/// these.
 fn whole_expr(alloc: Global, text: &[u8]) -> Result<Expr, ExprTextFault>
-    ensures { GivesText expression_of result (read_text expression_sort text.now) }
+    ensures long { 1048576 < length text.now → result ≡ Err Fault.TooLong }
+    ensures exact { GivesText expression_of result (read_text expression_sort text.now) }
 {
     if text.len() > MAX_LENGTH {
         return Err(ExprTextFault::TooLong);
     }
-    let (expr, end) = read_expression(alloc, text, 0, MAX_OPEN)?;
-    match token_at(text, end) {
-        None => Ok(expr),
-        Some((start, _)) => Err(ExprTextFault::Syntax { at: start }),
-    }
+    only_expr(alloc, text)
 }
 
 /// Reads the one type that begins with the first token at or after byte `at`, counted from 0, of
@@ -363,6 +407,8 @@ pub fn read_expr(alloc: Global, text: &[u8]) -> Result<Expr, ExprTextFault>
     ensures found { IfOk result (λ e. IsText expression_sort text.now (expression_of e)) }
     // A text of an expression is read, unless memory runs out.
     ensures only { (e : Expression) → IsText expression_sort text.now e → GivesText expression_of result (Ok e) }
+    // A text that is too long is refused as such, whatever its bytes are.
+    ensures long { 1048576 < length text.now → result ≡ Err Fault.TooLong }
     // What is refused is so at the first token that doesn't fit, or for its length.
     ensures refused { IfErr result (IsTextFault expression_sort text.now) }
     // Which answer it is.

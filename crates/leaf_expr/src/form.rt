@@ -1,14 +1,13 @@
 // The forms of types and expressions, by the word that each begins with.
 
 ghost use Rattle.std.specs.Prelude.{◌≡◌, IfOk, option_map, bytes_eq};
-ghost use Rattle.sample_core.specs.SeenType.{type_of};
-ghost use Rattle.leaf_core.specs.Expression.{sample, fst, then, none_of, make_event, on};
+ghost use Rattle.leaf_core.specs.Expression.{sample, fst, snd, then, make_pair, make_event, on};
 ghost use Rattle.leaf_core.specs.Seen.{expression_of};
 ghost use Rattle.leaf_expr.specs.Form.{form_row, unary_row, binary_row, ternary_row, typed_row, type_row};
 ghost use Rattle.leaf_expr.specs.Grammar.{type_sort, expression_sort, row_at, row_among, other_rows, unary_rows, binary_rows, ternary_rows, typed_rows};
 
 use leaf_core::{Expr, Part};
-use sample_core::{Memory, Ty};
+use sample_core::Memory;
 use std::alloc::Global;
 
 /// A form of types.
@@ -44,21 +43,18 @@ impl Binary {
     pub(crate) fn of(self, alloc: Global, a: Part, b: Part) -> Result<Expr, Memory>
         ensures { IfOk result (λ e. expression_of e ≡ binary_of self a b) }
     {
-        Ok(match self {
-            Binary::Pair => Expr::Pair(a, b),
-            Binary::Then => Expr::Then(a, b),
-            Binary::Add => Expr::Add(a, b),
-            Binary::Sub => Expr::Sub(a, b),
-            Binary::Mul => Expr::Mul(a, b),
-            Binary::Less => Expr::Less(a, b),
-            Binary::Equal => Expr::Equal(a, b),
-            Binary::And => Expr::And(a, b),
-            Binary::Or => Expr::Or(a, b),
-            Binary::Merge => {
-                let value = Part::new(alloc, Expr::Snd(Part::new(alloc, Expr::Input)?))?;
-                Expr::On(a, b, Part::new(alloc, Expr::Event(value))?)
-            }
-        })
+        match self {
+            Binary::Pair => Ok(Expr::Pair(a, b)),
+            Binary::Then => Ok(Expr::Then(a, b)),
+            Binary::Add => Ok(Expr::Add(a, b)),
+            Binary::Sub => Ok(Expr::Sub(a, b)),
+            Binary::Mul => Ok(Expr::Mul(a, b)),
+            Binary::Less => Ok(Expr::Less(a, b)),
+            Binary::Equal => Ok(Expr::Equal(a, b)),
+            Binary::And => Ok(Expr::And(a, b)),
+            Binary::Or => Ok(Expr::Or(a, b)),
+            Binary::Merge => merged(alloc, a, b),
+        }
     }
 }
 
@@ -77,45 +73,73 @@ impl Ternary {
     }
 }
 
+/// `(snd x)`: the event's value, where the input is a pair of a sample and it.
+fn event_value(alloc: Global) -> Result<Part, Memory>
+    ensures { IfOk result (λ e. e ≡ snd sample) }
+{
+    let input = Part::new(alloc, Expr::Input)?;
+    Part::new(alloc, Expr::Snd(input))
+}
+
 /// `(then (fst x) c)`: c at the sample, where the input is a pair of it and an event's value.
 fn at_sample(alloc: Global, c: Part) -> Result<Part, Memory>
     ensures { IfOk result (λ e. e ≡ then (fst sample) c) }
 {
-    let left = Part::new(alloc, Expr::Fst(Part::new(alloc, Expr::Input)?))?;
+    let input = Part::new(alloc, Expr::Input)?;
+    let left = Part::new(alloc, Expr::Fst(input))?;
     Part::new(alloc, Expr::Then(left, c))
 }
 
-/// An event of that expression where `a` has one, and no event of the type elsewhere.
-fn mapped(alloc: Global, ty: Ty, a: Part, value: Part) -> Result<Expr, Memory>
-    ensures { IfOk result (λ e. expression_of e ≡ on a (none_of (type_of ty)) (make_event value)) }
+/// An event of that value where `a` has one, and else what is given.
+fn mapped(alloc: Global, a: Part, other: Part, value: Part) -> Result<Expr, Memory>
+    ensures { IfOk result (λ e. expression_of e ≡ on a other (make_event value)) }
 {
-    let none = Part::new(alloc, Expr::NoEvent(ty))?;
-    Ok(Expr::On(a, none, Part::new(alloc, Expr::Event(value))?))
+    let event = Part::new(alloc, Expr::Event(value))?;
+    Ok(Expr::On(a, other, event))
+}
+
+/// `(on a b (event (snd x)))`.
+fn merged(alloc: Global, a: Part, b: Part) -> Result<Expr, Memory>
+    ensures { IfOk result (λ e. expression_of e ≡ on a b (make_event (snd sample))) }
+{
+    let value = event_value(alloc)?;
+    mapped(alloc, a, b, value)
+}
+
+/// `(pair (snd x) (then (fst x) c))`: the event's value, and c at the sample.
+fn value_and(alloc: Global, c: Part) -> Result<Part, Memory>
+    ensures { IfOk result (λ e. e ≡ make_pair (snd sample) (then (fst sample) c)) }
+{
+    let right = at_sample(alloc, c)?;
+    let left = event_value(alloc)?;
+    Part::new(alloc, Expr::Pair(left, right))
 }
 
 impl Typed {
-    ghost use Rattle.leaf_expr.specs.Form.{typed_of};
+    ghost use Rattle.leaf_expr.specs.Form.{typed_by};
 
-    /// The form with that type and those expressions: `(gate T e b)` is `(if b e (none T))`,
-    /// `(tag T e c)` is `(on e (none T) (event (then (fst x) c)))`, and `(attach T e c)` is
-    /// `(on e (none T) (event (pair (snd x) (then (fst x) c))))`.
-    pub(crate) fn of(self, alloc: Global, ty: Ty, a: Part, b: Part) -> Result<Expr, Memory>
-        ensures { IfOk result (λ e. expression_of e ≡ typed_of self (type_of ty) a b) }
+    /// The form with no event of that type and those expressions: `(gate T e b)` is
+    /// `(if b e (none T))`, `(tag T e c)` is `(on e (none T) (event (then (fst x) c)))`, and
+    /// `(attach T e c)` is `(on e (none T) (event (pair (snd x) (then (fst x) c))))`.
+    pub(crate) fn of(self, alloc: Global, none: Part, a: Part, b: Part) -> Result<Expr, Memory>
+        ensures { IfOk result (λ e. expression_of e ≡ typed_by self none a b) }
     {
         match self {
-            Typed::Gate => Ok(Expr::If(b, a, Part::new(alloc, Expr::NoEvent(ty))?)),
-            Typed::Tag => mapped(alloc, ty, a, at_sample(alloc, b)?),
+            Typed::Gate => Ok(Expr::If(b, a, none)),
+            Typed::Tag => {
+                let value = at_sample(alloc, b)?;
+                mapped(alloc, a, none, value)
+            }
             Typed::Attach => {
-                let value = Part::new(alloc, Expr::Snd(Part::new(alloc, Expr::Input)?))?;
-                let both = Expr::Pair(value, at_sample(alloc, b)?);
-                mapped(alloc, ty, a, Part::new(alloc, both)?)
+                let value = value_and(alloc, b)?;
+                mapped(alloc, a, none, value)
             }
         }
     }
 }
 
 /// Whether the word is that name.
-pub(crate) fn is_word(word: &[u8], name: &str) -> bool
+pub fn is_word(word: &[u8], name: &str) -> bool
     ensures { result ≡ bytes_eq word.now name.now }
 {
     word == name.as_bytes()

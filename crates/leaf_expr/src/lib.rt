@@ -8,10 +8,12 @@ mod print;
 mod text_fault;
 mod text_laws;
 mod token;
+mod tree_front;
 mod type_reader;
 mod word;
 
 pub use expr_reader::{MAX_LENGTH, read_expr, read_expr_at, read_type_at};
+pub use form::is_word;
 pub use leaf_core::{
     Expr, ExprFault, LeafKey, Literal, Part, Parts, Shape, eval, expr_fits, same_expr, shape_laws,
     shape_of, type_fits, type_of_expr, typing_laws,
@@ -22,4 +24,5 @@ pub use text_laws::{
     grammar_rows, number_laws, printing_laws, reading_laws, sugar_laws, whole_text_laws,
 };
 pub use token::{Lexeme, lexeme_at, token_at};
-pub use type_reader::{MAX_OPEN, form_end, form_head};
+pub use tree_front::{Front, form_end, form_head, front_at};
+pub use type_reader::MAX_OPEN;

@@ -8,9 +8,8 @@ ghost use Rattle.leaf_expr.specs.Part.{spelling};
 ghost use Rattle.leaf_expr.specs.Printed.{expression_part, type_part, one, two, three};
 ghost use Rattle.leaf_core.specs.Seen.{expression_of, literal_of};
 
-use leaf_core::{Expr, Part, Parts};
-use leaf_core::Literal;
 use itoa::Buffer;
+use leaf_core::{Expr, Literal, Part, Parts};
 use sample_core::{Memory, Ty, push_type};
 use std::alloc::Global;
 

@@ -7,9 +7,8 @@ ghost use Rattle.leaf_expr.specs.NumberPlace.{integer_at, index};
 ghost use Rattle.leaf_expr.specs.ReadText.{fit, found_word};
 ghost use Rattle.leaf_core.specs.Seen.{expression_of};
 
-use leaf_core::Expr;
 use crate::form::is_word;
-use leaf_core::Literal;
+use leaf_core::{Expr, Literal};
 use sample_core::Ty;
 use sample_core::number::{is_number_spelling, is_number_word, number};
 

@@ -4,7 +4,7 @@ use Rattle.std.specs.Prelude.{option_map, option_and_then}
 use Rattle.leaf_expr.specs.Token.{opening, closing, word, Placed}
 use Rattle.leaf_expr.specs.Part.{Part, Parts, atom, form, last, more}
 use Rattle.leaf_expr.specs.Language.{Places, Maker, Row, no_place, place, places, meaning, made}
-use Rattle.leaf_expr.specs.Grammar.{leaf, Sort, Tree, word_at, row_at, has_form}
+use Rattle.leaf_expr.specs.Grammar.{leaf, Sort, Tree, row_at, has_form}
 use Rattle.leaf_expr.specs.Reader.{Fault, syntax, Read, ◌>>=◌, read, read_form, read_head, read_row, read_parts, read_all, read_end}
 use Rattle.net_text.specs.Grammar.{networks, NetSort, NetTree, leaf_sort, carried, carried_maker, carried_row, net_word_at, net_row_at}
 

@@ -12,10 +12,9 @@ use Rattle.leaf_expr.specs.Token.{opening, closing, word, Placed, tokens}
 use Rattle.leaf_expr.specs.Language.{Begins}
 use Rattle.leaf_expr.specs.Grammar.{leaf, type_sort}
 use Rattle.leaf_expr.specs.Reader.{Fault, syntax, number, too_deep, ◌>>=◌, read}
-use Rattle.leaf_expr.specs.ReadLaws.{Stops}
 use Rattle.leaf_expr.proofs.ReadFound.{found, bind_ok}
 use Rattle.leaf_expr.proofs.ReadOnly.{only, some_bind}
-use Rattle.leaf_expr.proofs.ReadFaults.{stops, one_reading}
+use Rattle.leaf_expr.proofs.ReadFaults.{stops}
 use Rattle.leaf_expr.proofs.LeafProper.{leaf_proper}
 use Rattle.net_syntax.specs.Network.{Network}
 use Rattle.net_syntax.specs.Seen.{tree_of}

@@ -2,16 +2,16 @@
 use Rattle.std.proofs.Common.{◌≡◌, ℕ, Bool, true, false, ◌&&◌, List, [], ◌∷◌, refl, ap, ◌∙◌, None, if◌then◌else◌}
 use Rattle.std.specs.Prelude.{codes, bytes_eq, option_map}
 use Rattle.sample_core.specs.Number.{is_number_word}
-use Rattle.leaf_expr.specs.NumberPlace.{Reading, reads, misspelt, unfit}
+use Rattle.leaf_expr.specs.NumberPlace.{reads, misspelt, unfit}
 use Rattle.leaf_expr.specs.Token.{opening, closing, word, Placed}
 use Rattle.leaf_expr.specs.Part.{atom, form, last, more, atom_spells, form_spells, last_spells, more_spells}
 use Rattle.leaf_core.specs.Expression.{sample}
-use Rattle.leaf_expr.specs.Grammar.{leaf, Sort, word_at, row_at, words, rows}
+use Rattle.leaf_expr.specs.Grammar.{leaf, Sort, word_at, words}
 use Rattle.leaf_expr.specs.ReadLaws.{Completes}
 use Rattle.leaf_expr.proofs.Proper.{Proper}
 use Rattle.leaf_expr.proofs.LeafProper.{leaf_proper}
-use Rattle.net_syntax.specs.Network.{Network, arr}
-use Rattle.net_text.specs.Grammar.{networks, NetSort, NetTree, leaf_sort, network_sort, net_words, net_word_at, net_rows, net_row_at, net_has_form, net_takes_number, carried_row}
+use Rattle.net_syntax.specs.Network.{arr}
+use Rattle.net_text.specs.Grammar.{networks, NetSort, leaf_sort, network_sort, net_words, net_word_at, net_rows, net_row_at, net_has_form, net_takes_number, carried_row}
 use Rattle.net_text.proofs.Carried.{meaning_same}
 
 formless : (s : NetSort) (w : List ℕ) → net_has_form s ≡ false → net_row_at s w ≡ None

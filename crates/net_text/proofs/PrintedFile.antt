@@ -1,22 +1,20 @@
 -- A printed network file is read back.
-use Rattle.std.proofs.Common.{◌≡◌, ℕ, suc, ◌+◌, ◌≤◌, true, false, List, [], ◌∷◌, ◌++◌, length, refl, sym, ap, ◌∙◌, subst, Some}
+use Rattle.std.proofs.Common.{◌≡◌, ℕ, suc, ◌+◌, ◌≤◌, true, false, List, [], ◌∷◌, ◌++◌, length, refl, ◌∙◌, Some}
 use Rattle.std.specs.Prelude.{codes}
-use Rattle.sample_core.specs.TypeTree.{TypeTree}
 use Rattle.sample_core.specs.Spelling.{type_spelling}
 use Rattle.leaf_core.specs.Expression.{Expression}
-use Rattle.leaf_expr.specs.Token.{Placed, word, tokens, tokens_in, begins_word}
+use Rattle.leaf_expr.specs.Token.{tokens, tokens_in, begins_word}
 use Rattle.leaf_expr.specs.Part.{plain, depth, spelling}
 use Rattle.leaf_expr.specs.Language.{Begins, meaning}
-use Rattle.leaf_expr.specs.Grammar.{leaf, type_sort, expression_sort}
-use Rattle.leaf_expr.specs.Printed.{type_part, expression_part}
-use Rattle.leaf_expr.proofs.Joined.{type_spelled}
+use Rattle.leaf_expr.specs.Grammar.{leaf, expression_sort}
+use Rattle.leaf_expr.specs.Printed.{expression_part}
 use Rattle.leaf_expr.proofs.PrintedMeans.{expression_means, expression_plain}
 use Rattle.leaf_expr.proofs.TextLaws.{printed_type_begins}
 use Rattle.leaf_expr.proofs.TokenLaws.{spells_printed}
 use Rattle.net_syntax.specs.Network.{Network, arr, seq, i_pre}
 use Rattle.net_text.specs.Grammar.{networks, network_sort, leaf_sort, net_word_at, net_words, net_row_at, net_rows}
-use Rattle.net_text.specs.Printed.{network_part, file_spelling, Writable}
-use Rattle.net_text.specs.FileLaws.{Headed, IsFile, PrintedFileLaw, header_tokens}
+use Rattle.net_text.specs.Printed.{network_part, Writable}
+use Rattle.net_text.specs.FileLaws.{PrintedFileLaw, header_tokens}
 use Rattle.net_text.proofs.Carried.{meaning_same}
 
 leaf_means : (e : Expression) → meaning leaf expression_sort (expression_part e) ≡ Some e → meaning networks (leaf_sort expression_sort) (expression_part e) ≡ Some e
@@ -44,5 +42,5 @@ header_stands bs = refl
 pub printed_file : PrintedFileLaw
 printed_file A f w a d l =
     let net : List ℕ = spelling (network_part f) ++ 10 ∷ [] in
-    let stop : ℕ = 14 + length (spelling (type_part A)) in
-    record { short = l; behind = tokens_in false 14 (type_spelling A ++ (10 ∷ net)); headed = record { yampa = 0; one = 6; input = 8; starts = header_stands (type_spelling A ++ (10 ∷ net)) }; type_end = stop; network = tokens_in false (suc stop) net; input = subst (λ s. Begins leaf 600 type_sort A (tokens_in false 14 (s ++ (10 ∷ net))) stop (tokens_in false (suc stop) net)) (type_spelled A) (printed_type_begins A 600 14 (10 ∷ net) a refl); network_end = suc stop + length (spelling (network_part f)); body = printed_network f 600 (suc stop) (10 ∷ []) w d refl }
+    let stop : ℕ = 14 + length (type_spelling A) in
+    record { short = l; behind = tokens_in false 14 (type_spelling A ++ (10 ∷ net)); headed = record { yampa = 0; one = 6; input = 8; starts = header_stands (type_spelling A ++ (10 ∷ net)) }; type_end = stop; network = tokens_in false (suc stop) net; input = printed_type_begins A 600 14 (10 ∷ net) a refl; network_end = suc stop + length (spelling (network_part f)); body = printed_network f 600 (suc stop) (10 ∷ []) w d refl }

@@ -1,28 +1,18 @@
 -- Steps of reading networks, as the code takes them.
-use Rattle.std.proofs.Common.{◌≡◌, ◌≢◌, ℕ, zero, suc, ◌+◌, ◌-◌, ◌≤◌, List, ◌∷◌, refl, sym, ap, subst, ◌∙◌, arith, Result, Ok, Err, Some, None}
-use Rattle.leaf_expr.specs.Token.{opening, Placed}
+use Rattle.std.proofs.Common.{◌≡◌, ℕ, ◌-◌, ◌≤◌, List, [], ◌∷◌, refl, sym, ap, subst, ◌∙◌, arith, Result, Ok, Err, Some, None}
+use Rattle.leaf_expr.specs.Token.{Placed}
 use Rattle.leaf_core.specs.Expression.{Expression}
 use Rattle.leaf_expr.specs.Language.{no_place}
 use Rattle.leaf_expr.specs.Grammar.{leaf, expression_sort}
-use Rattle.leaf_expr.specs.Reader.{Fault, syntax, ◌>>=◌, read, read_form, read_head, read_row, read_parts, read_end}
+use Rattle.leaf_expr.specs.Reader.{Fault, Read, syntax, ◌>>=◌, read, read_form, read_head, read_row, read_parts, read_end}
 use Rattle.leaf_expr.specs.ReadText.{Refuses}
+use Rattle.leaf_expr.proofs.ReadSteps.{passed}
 use Rattle.leaf_expr.specs.declared.text_fault.ExprTextFault.{ExprTextFault}
-use Rattle.leaf_expr.specs.declared.text_fault.ExprTextFault.TheVariants as E
+use Rattle.sample_core.specs.TypeTree.{TypeTree}
 use Rattle.net_syntax.specs.Network.{Network, seq}
+use Rattle.net_text.specs.File.{at_end, read_network}
 use Rattle.net_text.specs.Grammar.{networks, network_sort, leaf_sort, net_row_at, NetRow, e, f}
 use Rattle.net_text.proofs.Carried.{end_same, head_same, read_same}
-
-pub opened : (size room n : ℕ) (ts : List Placed) → room ≢ 0 → read networks size room network_sort ((n, opening) ∷ ts) ≡ read_form networks size (read networks size (room - 1)) (room - 1) network_sort ts
-opened size zero n ts h = absurd (h refl)
-opened size (suc room) n ts h = let i : suc room - 1 ≡ room = omega arith in rw i refl
-
--- a refusal goes through what would follow
-pub passed : {A B : Type 0} (x : ExprTextFault) (r : Result A Fault) (g : A → Result B Fault) → Refuses x r → Refuses x (r >>= g)
-passed (E.Syntax n) r g p = ap (λ y. y >>= g) p
-passed (E.Number n) r g p = ap (λ y. y >>= g) p
-passed (E.TooDeep n) r g p = ap (λ y. y >>= g) p
-passed E.TooLong r g p = p
-passed E.Memory r g p = p
 
 module _ (size room m : ℕ) (us : List Placed) where
   -- a form by its word
@@ -62,3 +52,28 @@ module _ (size room : ℕ) where
 -- with no more open than there may be
 pub room_left : (room : ℕ) → room ≤ 600 → 600 - (600 - room) ≡ room
 room_left room h = omega arith
+
+-- a network with nothing behind it, with the type before it
+module _ (A : TypeTree) where
+  beside : Network Expression → Result (TypeTree × Network Expression) Fault
+  beside g = Ok (A, g)
+
+  behind : Network Expression × ℕ × List Placed → Result (TypeTree × Network Expression) Fault
+  behind g = at_end (A, g.0) g.2
+
+  alone : Network Expression × ℕ × List Placed → Result (Network Expression) Fault
+  alone g = at_end g.0 g.2
+
+  with_type : (r : Read (Network Expression)) → (r >>= behind) ≡ ((r >>= alone) >>= beside)
+  unfolding beside behind alone
+  with_type (Ok (g, n, [])) = refl
+  with_type (Ok (g, n, x ∷ ts)) = refl
+  with_type (Err x) = refl
+
+  pub body_read : {g : Network Expression} (size n : ℕ) (ts : List Placed) → (read networks size 600 network_sort ts >>= (λ h. at_end h.0 h.2)) ≡ Ok g → read_network size (A, n, ts) ≡ Ok (A, g)
+  unfolding beside behind alone
+  body_read size n ts p = with_type (read networks size 600 network_sort ts) ∙ ap (λ q. q >>= beside) p
+
+  pub body_refused : (x : ExprTextFault) (size n : ℕ) (ts : List Placed) → Refuses x (read networks size 600 network_sort ts >>= (λ h. at_end h.0 h.2)) → Refuses x (read_network size (A, n, ts))
+  unfolding beside behind alone
+  body_refused x size n ts p = subst (Refuses x) (sym (with_type (read networks size 600 network_sort ts))) (passed x (read networks size 600 network_sort ts >>= alone) beside p)

@@ -1,10 +1,10 @@
 -- Network files: `yampa 1 input TYPE NET`.
-use Rattle.std.specs.Prelude.{◌≡◌, ℕ, nat_lt, bytes_eq, codes, List, [], ◌∷◌, length, Option, Some, None, option_and_then, Result, Ok, Err, if◌then◌else◌}
+use Rattle.std.specs.Prelude.{ℕ, nat_lt, bytes_eq, codes, List, [], ◌∷◌, length, Option, Some, None, option_and_then, Result, Ok, Err, if◌then◌else◌}
 use Rattle.sample_core.specs.TypeTree.{TypeTree}
 use Rattle.leaf_core.specs.Expression.{Expression}
 use Rattle.leaf_expr.specs.Token.{Placed, word, tokens}
 use Rattle.leaf_expr.specs.Grammar.{leaf, type_sort}
-use Rattle.leaf_expr.specs.Reader.{Fault, syntax, Read, ◌>>=◌, read}
+use Rattle.leaf_expr.specs.Reader.{Fault, syntax, ◌>>=◌, read}
 use Rattle.net_syntax.specs.Network.{Network}
 use Rattle.net_text.specs.Grammar.{networks, network_sort}
 

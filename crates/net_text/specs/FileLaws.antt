@@ -3,7 +3,7 @@ use Rattle.std.specs.Prelude.{◌≡◌, ℕ, ◌≤◌, ◌<◌, List, [], ◌�
 use Rattle.sample_core.specs.TypeTree.{TypeTree}
 use Rattle.leaf_core.specs.Expression.{Expression}
 use Rattle.leaf_expr.specs.Token.{Placed, word, tokens}
-use Rattle.leaf_expr.specs.Part.{Part, depth, spelling}
+use Rattle.leaf_expr.specs.Part.{Part, depth}
 use Rattle.leaf_expr.specs.Language.{Begins, meaning}
 use Rattle.leaf_expr.specs.Grammar.{leaf, Sort, type_sort}
 use Rattle.leaf_expr.specs.Printed.{type_part}

@@ -8,7 +8,7 @@ use Rattle.leaf_expr.specs.Printed.{one, two}
 use Rattle.leaf_expr.specs.Reader.{syntax, number}
 use Rattle.net_syntax.specs.Network.{Network, arr, seq, i_pre}
 use Rattle.net_text.specs.Grammar.{networks, network_sort}
-use Rattle.net_text.specs.File.{FileFault, header, at, read_file}
+use Rattle.net_text.specs.File.{header, at, read_file}
 
 -- the file of that network, with numbers as its input
 abbrev pub file_of : List ℕ → List ℕ

@@ -8,18 +8,22 @@ use Rattle.leaf_core.specs.declared.expr.Expr.{Expr}
 use Rattle.leaf_expr.specs.declared.text_fault.ExprTextFault.{ExprTextFault}
 use Rattle.leaf_expr.specs.declared.text_fault.ExprTextFault.TheVariants as E
 use Rattle.leaf_expr.specs.Token.{Placed, tokens_from}
-use Rattle.leaf_expr.specs.Reader.{syntax, number, too_deep, Read, read, read_form, read_parts}
+use Rattle.leaf_expr.specs.Reader.{Fault, ◌>>=◌, syntax, number, too_deep, Read, read, read_form, read_parts}
 use Rattle.net_syntax.specs.Network.{Network}
 use Rattle.net_syntax.specs.Seen.{tree_of}
 use Rattle.net_syntax.specs.declared.net.Net.{Net}
 use Rattle.net_text.specs.Grammar.{networks, network_sort, NetRow}
-use Rattle.net_text.specs.File.{FileFault, header, too_long, at}
+use Rattle.net_text.specs.File.{FileFault, header, too_long, at, at_end}
 use Rattle.net_text.specs.declared.fault.NetTextFault.{NetTextFault}
 use Rattle.net_text.specs.declared.fault.NetTextFault.TheVariants as V
 
 -- a network in the text from byte n on, with room for so many more parentheses
 abbrev pub network_at : List ℕ → ℕ → ℕ → Read (Network Expression)
 network_at text room n = read networks (length text) room network_sort (tokens_from n text)
+
+-- the same, and nothing behind it
+abbrev pub last_network_at : List ℕ → ℕ → Result (Network Expression) Fault
+last_network_at text n = network_at text 600 n >>= (λ f. at_end f.0 f.2)
 
 -- what is read behind the parenthesis of a form, in the text from byte n on
 abbrev pub form_at : List ℕ → ℕ → ℕ → Read (Network Expression)

@@ -13,14 +13,14 @@ pub enum NetTextFault {
     #[error("header")]
     Header,
     /// A token that doesn't fit and is none of the next two, or no further token.
-    #[error("byte {at}: syntax")]
+    #[error("syntax")]
     Syntax { at: usize },
     /// Where a number may stand, a number word that is badly spelt or out of range: 64 bits for a
     /// literal, 0 to 65,535 for the number of a parameter.
-    #[error("byte {at}: number")]
+    #[error("number")]
     Number { at: usize },
     /// A parenthesis that would be the 601st open at once, also where none fits.
-    #[error("byte {at}: nesting")]
+    #[error("nesting")]
     TooDeep { at: usize },
     /// The text has more than 1,048,576 bytes, whatever they are.
     #[error("too long")]

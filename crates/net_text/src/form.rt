@@ -1,13 +1,15 @@
 // The forms of networks, by the word that each begins with.
 
-ghost use Rattle.std.specs.Prelude.{◌≡◌, IfOk, option_map, bytes_eq};
+ghost use Rattle.std.specs.Prelude.{◌≡◌, IfOk, option_map};
+ghost use Rattle.leaf_core.specs.Expression.{unit_literal, then};
 ghost use Rattle.leaf_core.specs.Seen.{expression_of};
+ghost use Rattle.net_syntax.specs.Network.{arr};
 ghost use Rattle.net_syntax.specs.Seen.{tree_of};
 ghost use Rattle.net_text.specs.Form.{form_row, leaf_form_of};
 ghost use Rattle.net_text.specs.Grammar.{net_row_at, net_word_at, network_sort};
 ghost use Rattle.leaf_expr.specs.ReadText.{fit};
 
-use leaf_expr::{Expr, Literal, Part};
+use leaf_expr::{Expr, Literal, Part, is_word};
 use net_syntax::Net;
 use sample_core::Memory;
 use std::alloc::Global;
@@ -34,22 +36,21 @@ impl LeafForm {
     pub(crate) fn of(self, alloc: Global, e: Expr) -> Result<Net<Expr>, Memory>
         ensures { IfOk result (λ net. tree_of net ≡ leaf_form_of self (expression_of e)) }
     {
-        Ok(match self {
-            LeafForm::Arr => Net::Arr(e),
-            LeafForm::IPre => Net::IPre(e),
-            LeafForm::Constant => {
-                let unit = Part::new(alloc, Expr::Literal(Literal::Unit))?;
-                Net::Arr(Expr::Then(unit, Part::new(alloc, e)?))
-            }
-        })
+        match self {
+            LeafForm::Arr => Ok(Net::Arr(e)),
+            LeafForm::IPre => Ok(Net::IPre(e)),
+            LeafForm::Constant => constant(alloc, e),
+        }
     }
 }
 
-/// Whether the word is that name.
-fn is_word(word: &[u8], name: &str) -> bool
-    ensures { result ≡ bytes_eq word.now name.now }
+/// `(arr (then unit e))`.
+fn constant(alloc: Global, e: Expr) -> Result<Net<Expr>, Memory>
+    ensures { IfOk result (λ net. tree_of net ≡ arr (then unit_literal (expression_of e))) }
 {
-    word == name.as_bytes()
+    let value = Part::new(alloc, e)?;
+    let unit = Part::new(alloc, Expr::Literal(Literal::Unit))?;
+    Ok(Net::Arr(Expr::Then(unit, value)))
 }
 
 /// The form of networks that the word begins.

@@ -11,6 +11,3 @@ pub use fault::NetTextFault;
 pub use laws::{file_laws, grammar_rows, printing_laws, reading_laws};
 pub use print::{print_net, push_net};
 pub use read::read_net;
-
-#[cfg(test)]
-mod tests;

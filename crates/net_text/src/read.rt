@@ -1,8 +1,9 @@
 // Reading network files.
 
-ghost use Rattle.std.specs.Prelude.{◌≡◌, ◌≤◌, length, option_map, IfOk, IfErr};
+ghost use Rattle.std.specs.Prelude.{◌≡◌, ◌<◌, ◌≤◌, Err, length, slice_range, option_map, IfOk, IfErr};
 ghost use Rattle.leaf_expr.specs.Grammar.{expression_sort};
 ghost use Rattle.leaf_expr.specs.ReadText.{Gives, tree_at, expression_left};
+ghost use Rattle.leaf_expr.specs.Reader.{word_read};
 ghost use Rattle.leaf_core.specs.Seen.{expression_of};
 ghost use Rattle.leaf_expr.specs.Token.{tokens, tokens_from};
 ghost use Rattle.leaf_core.specs.Expression.{Expression};
@@ -10,16 +11,18 @@ ghost use Rattle.sample_core.specs.TypeTree.{TypeTree};
 ghost use Rattle.net_syntax.specs.Network.{Network, map_network};
 ghost use Rattle.net_syntax.specs.Seen.{tree_of};
 ghost use Rattle.sample_core.specs.SeenType.{type_of};
-ghost use Rattle.net_text.specs.File.{behind_word, behind_header, read_body, read_file};
+ghost use Rattle.net_text.specs.File.{behind_word, behind_header, read_body, read_behind, read_file};
 ghost use Rattle.net_text.specs.FileLaws.{IsFile, IsFileFault};
 ghost use Rattle.net_text.specs.Form.{form_row, leaf_form_row};
-ghost use Rattle.net_text.specs.ReadNet.{GivesFile, network_at as network_read, form_at as form_read, row_parts, network_left};
+ghost use Rattle.net_text.specs.Grammar.{net_word_at, network_sort};
+ghost use Rattle.net_text.specs.ReadNet.{GivesFile, network_at as network_read, last_network_at, form_at as form_read, row_parts, network_left};
+ghost use Rattle.net_text.specs.declared.fault.NetTextFault.TheVariants as Fault;
 
 use crate::fault::NetTextFault;
 use crate::form::{Form, LeafForm, form_named, network_named};
 use leaf_expr::{
-    Expr, ExprTextFault, Lexeme, MAX_LENGTH, MAX_OPEN, form_end, form_head, lexeme_at,
-    read_expr_at, read_type_at, token_at,
+    Expr, ExprTextFault, Front, Lexeme, MAX_LENGTH, MAX_OPEN, form_end, form_head, front_at,
+    lexeme_at, read_expr_at, read_type_at, token_at,
 };
 use net_syntax::{Net, Sub};
 use sample_core::Ty;
@@ -40,6 +43,8 @@ pub fn read_net(alloc: Global, text: &[u8]) -> Result<(Ty, Net<Expr>), NetTextFa
     ensures found { IfOk result (λ x. IsFile text.now (type_of x.0) (tree_of x.1)) }
     // A network file is read, unless memory runs out.
     ensures only { (A : TypeTree) (f : Network Expression) → IsFile text.now A f → GivesFile result (Ok (A, f)) }
+    // A text that is too long is refused as such, whatever its bytes are.
+    ensures long { 1048576 < length text.now → result ≡ Err Fault.TooLong }
     // What is refused is so at the first token that doesn't fit, or for its length.
     ensures refused { IfErr result (IsFileFault text.now) }
     // Which answer it is.
@@ -49,13 +54,21 @@ pub fn read_net(alloc: Global, text: &[u8]) -> Result<(Ty, Net<Expr>), NetTextFa
 }
 
 /// What `read_net` answers. It stands apart, since the other clauses of that contract follow from
-/// its exact one.
+/// these.
 fn file(alloc: Global, text: &[u8]) -> Result<(Ty, Net<Expr>), NetTextFault>
-    ensures { GivesFile result (read_file text.now) }
+    ensures long { 1048576 < length text.now → result ≡ Err Fault.TooLong }
+    ensures exact { GivesFile result (read_file text.now) }
 {
     if text.len() > MAX_LENGTH {
         return Err(NetTextFault::TooLong);
     }
+    headed(alloc, text)
+}
+
+/// A header, and a type and a network behind it, in a text of whatever length.
+fn headed(alloc: Global, text: &[u8]) -> Result<(Ty, Net<Expr>), NetTextFault>
+    ensures { GivesFile result (read_behind (length text.now) (behind_header (tokens text.now))) }
+{
     match header_end(text) {
         Some(at) => Ok(body_at(alloc, text, at)?),
         None => Err(NetTextFault::Header),
@@ -67,10 +80,26 @@ fn body_at(alloc: Global, text: &[u8], at: usize) -> Result<(Ty, Net<Expr>), Exp
     ensures { Gives (λ x. (type_of x.0, tree_of x.1)) result (read_body (length text.now) (tokens_from at text.now)) }
 {
     let (input, at) = read_type_at(alloc, text, at, 0)?;
-    let (net, at) = network_at(alloc, text, at, MAX_OPEN)?;
-    match token_at(text, at) {
-        None => Ok((input, net)),
-        Some((start, _)) => Err(ExprTextFault::Syntax { at: start }),
+    match last_network(alloc, text, at) {
+        Ok(net) => Ok((input, net)),
+        Err(fault) => {
+            drop(input);
+            Err(fault)
+        }
+    }
+}
+
+/// A network, and nothing behind it, at or after byte `at`.
+fn last_network(alloc: Global, text: &[u8], at: usize) -> Result<Net<Expr>, ExprTextFault>
+    ensures { Gives tree_of result (last_network_at text.now at) }
+{
+    let (net, end) = network_at(alloc, text, at, MAX_OPEN)?;
+    match token_at(text, end) {
+        None => Ok(net),
+        Some((start, _)) => {
+            drop(net);
+            Err(ExprTextFault::Syntax { at: start })
+        }
     }
 }
 
@@ -104,7 +133,6 @@ fn word_end(text: &[u8], at: usize, word: &str) -> Option<usize>
 /// The network at or after byte `at`, with room for so many more parentheses, and the byte behind
 /// it.
 #[cycle(network)]
-#[tactic(auto, using(crate::proofs::ReadSteps::opened))]
 fn network_at(
     alloc: Global,
     text: &[u8],
@@ -114,19 +142,20 @@ fn network_at(
     requires { room ≤ 600 }
     ensures { Gives (network_left text.now) result (network_read text.now room at) }
 {
-    match lexeme_at(text, at) {
-        Lexeme::End => Err(ExprTextFault::Syntax { at: text.len() }),
-        Lexeme::Close(start) => Err(ExprTextFault::Syntax { at: start }),
-        Lexeme::Open(start) => {
-            if room == 0 {
-                return Err(ExprTextFault::TooDeep { at: start });
-            }
-            form_at(alloc, text, start + 1, room - 1)
-        }
-        Lexeme::Word(start, end) => match network_named(&text[start..end]) {
-            Some(net) => Ok((net, end)),
-            None => Err(ExprTextFault::Syntax { at: start }),
-        },
+    match front_at(text, at, room)? {
+        Front::Form(start) => form_at(alloc, text, start + 1, room - 1),
+        Front::Word(start, end) => word_network(text, start, end),
+    }
+}
+
+/// The network that the word is from the first byte up to and without the second, and the latter.
+fn word_network(text: &[u8], start: usize, end: usize) -> Result<(Net<Expr>, usize), ExprTextFault>
+    requires { (start < end) × (end ≤ length text.now) }
+    ensures { Gives (network_left text.now) result (word_read start (slice_range text.now start end) (tokens_from end text.now) (net_word_at network_sort (slice_range text.now start end))) }
+{
+    match network_named(&text[start..end]) {
+        Some(net) => Ok((net, end)),
+        None => Err(ExprTextFault::Syntax { at: start }),
     }
 }
 
@@ -212,9 +241,16 @@ fn leaf_form_at(
     ensures { Gives (network_left text.now) result (row_parts (leaf_form_row form) text.now room at) }
 {
     let (e, at) = expr_at(alloc, text, at, room)?;
-    let end = form_end(text, at, room)?;
-    let net = form.of(alloc, e)?;
-    Ok((net, end))
+    match form_end(text, at, room) {
+        Ok(end) => {
+            let net = form.of(alloc, e)?;
+            Ok((net, end))
+        }
+        Err(fault) => {
+            drop(e);
+            Err(fault)
+        }
+    }
 }
 
 /// The expression at or after byte `at`, with room for so many more parentheses, and the byte

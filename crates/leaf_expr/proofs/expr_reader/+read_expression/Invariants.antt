@@ -6,34 +6,40 @@ use Rattle.leaf_expr.proofs.ItemSteps.{with_front}
 use Rattle.leaf_expr.proofs.expr_reader.+read_expression.Given as goal
 
 abbrev pub decreases-read_expression : goal.decreases-read_expression
-decreases-read_expression l = 5 * l.room
+decreases-read_expression l = 6 * l.room
 
 abbrev pub decreases-form : goal.decreases-form
-decreases-form l = 5 * l.room + 4
+decreases-form l = 6 * l.room + 5
 
 abbrev pub decreases-parts : goal.decreases-parts
-decreases-parts l = 5 * l.room + 3
+decreases-parts l = 6 * l.room + 4
 
 abbrev pub decreases-part : goal.decreases-part
-decreases-part l = 5 * l.room + 1
+decreases-part l = 6 * l.room + 1
+
+abbrev pub decreases-last_two : goal.decreases-last_two
+decreases-last_two l = 6 * l.room + 2
+
+abbrev pub decreases-elements : goal.decreases-elements
+decreases-elements l = 6 * l.room + 2
 
 abbrev pub decreases-unary : goal.decreases-unary
-decreases-unary l = 5 * l.room + 2
+decreases-unary l = 6 * l.room + 3
 
 abbrev pub decreases-binary : goal.decreases-binary
-decreases-binary l = 5 * l.room + 2
+decreases-binary l = 6 * l.room + 3
 
 abbrev pub decreases-ternary : goal.decreases-ternary
-decreases-ternary l = 5 * l.room + 2
+decreases-ternary l = 6 * l.room + 3
 
 abbrev pub decreases-typed : goal.decreases-typed
-decreases-typed l = 5 * l.room + 2
+decreases-typed l = 6 * l.room + 3
 
 abbrev pub decreases-list : goal.decreases-list
-decreases-list l = 5 * l.room + 2
+decreases-list l = 6 * l.room + 3
 
 abbrev pub decreases-items : goal.decreases-items
-decreases-items l = 5 * l.room + 1
+decreases-items l = 6 * l.room + 1
 
 abbrev pub decreases-items-loop-end : goal.decreases-items-loop-end
 decreases-items-loop-end l = length (tokens_from l.next l.text)
