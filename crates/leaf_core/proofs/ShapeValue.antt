@@ -1,12 +1,12 @@
 -- An expression whose shape gives a value has that value.
-use Rattle.std.proofs.Common.{◌≡◌, ℤ, pos, ◌+ℤ◌, ◌*ℤ◌, List, Some, ap, sym, ◌∙◌}
+use Rattle.std.proofs.Common.{◌≡◌, ℤ, pos, ◌+ℤ◌, ◌*ℤ◌, Some, ap, sym, ◌∙◌}
 use Rattle.std.proofs.Math.IntN.{*ℤ_comm, *ℤ-one, +ℤ_idr}
 use Rattle.std.proofs.lemmas.Int.{int_wrap-add_left}
 use Rattle.std.specs.Int.{int_wrap, w64}
 use Rattle.sample_core.specs.Datum.{Datum, number, whole}
-use Rattle.leaf_core.specs.Expression.{Expression, sample, number_literal, make_pair, fst, snd, add, mul, less, make_event}
-use Rattle.leaf_core.specs.ExpressionValue.{value_of, wrapped}
-use Rattle.leaf_core.specs.Shape.{shape, value_by_shape, ShapeValueLaw}
+use Rattle.leaf_core.specs.Expression.{sample, number_literal, make_pair, fst, snd, add, mul, less, make_event}
+use Rattle.leaf_core.specs.ExpressionValue.{wrapped}
+use Rattle.leaf_core.specs.Shape.{ShapeValueLaw}
 
 -- one times a number and a number more
 once_and : (m b : ℤ) → wrapped (m +ℤ b) ≡ wrapped (pos 1 *ℤ m +ℤ b)
