@@ -43,12 +43,17 @@ impl LeafKey {
     {
         let params = try_copy_types(alloc, &self.params)?;
         let input = self.input.try_copy(alloc)?;
-        let expr = self.expr.try_copy(alloc)?;
-        Ok(LeafKey {
-            expr,
-            params,
-            input,
-        })
+        match self.expr.try_copy(alloc) {
+            Ok(expr) => Ok(LeafKey {
+                expr,
+                params,
+                input,
+            }),
+            Err(fault) => {
+                drop(input);
+                Err(fault)
+            }
+        }
     }
 
     /// Whether the two keys are equal.
