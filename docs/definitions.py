@@ -12,6 +12,8 @@ CRATES = [
     ("net_types", "The type checker"),
     ("net_text", "Texts of networks"),
     ("step_core", "Stepping"),
+    ("stream_text", "Texts of streams"),
+    ("command_line", "The command line"),
     ("yampa_run", "Runs"),
 ]
 HEAD = """# Definitions
