@@ -134,12 +134,12 @@ value_found size bool_ty bs y e = truth_found size bs y e
 value_found size int_ty bs y e = number_found size bs y e
 value_found size (pair_ty A B) bs y e =
     with_ok (behind_head size (codes "pair") bs) _ y e (λ hs h e1.
-      with_ok (behind_byte size 32 hs) _ y e1 (λ vs a e2.
-        with_ok (value_at size A vs) _ y e2 (λ v b e3.
-          with_ok (behind_byte size 32 v.1) _ y e3 (λ cs c e4.
-            with_ok (value_at size B cs) _ y e4 (λ w d e5.
-              with_ok (behind_byte size 41 w.1) _ y e5 (λ rest f e6.
-                subst (Is (pair_ty A B) bs) (ok_is e6) (pair_found size A B bs hs vs cs rest v w h a (value_found size A vs v b) c (value_found size B cs w d) f)))))))
+    with_ok (behind_byte size 32 hs) _ y e1 (λ vs a e2.
+    with_ok (value_at size A vs) _ y e2 (λ v b e3.
+    with_ok (behind_byte size 32 v.1) _ y e3 (λ cs c e4.
+    with_ok (value_at size B cs) _ y e4 (λ w d e5.
+    with_ok (behind_byte size 41 w.1) _ y e5 (λ rest f e6.
+    subst (Is (pair_ty A B) bs) (ok_is e6) (pair_found size A B bs hs vs cs rest v w h a (value_found size A vs v b) c (value_found size B cs w d) f)))))))
 value_found size (event_ty A) bs y e = go (if_is (bytes_eq (word_of bs) (codes "none")) (Ok (no_event, after_word bs)) _ (Ok y) e) (value_found size A)
   where
     go : ((bytes_eq (word_of bs) (codes "none") ≡ true) × ◌≡◌ {A = Result (Datum × List ℕ) ValueFault} (Ok (no_event, after_word bs)) (Ok y)) ⊎ ((bytes_eq (word_of bs) (codes "none") ≡ false) × ((behind_head size (codes "event") bs >>= (λ cs. behind_byte size 32 cs >>= (λ ds. value_at size A ds >>= (λ v. behind_byte size 41 v.1 >>= (λ rest. Ok (event v.0, rest)))))) ≡ Ok y)) → ((cs : List ℕ) (z : Datum × List ℕ) → value_at size A cs ≡ Ok z → Is A cs z) → Is (event_ty A) bs y
