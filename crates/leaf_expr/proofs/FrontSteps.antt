@@ -1,7 +1,6 @@
 -- Steps from what a tree begins with.
-use Rattle.std.proofs.Common.{◌≡◌, ℕ, zero, suc, ◌+◌, ◌-◌, ◌≤◌, true, List, [], ◌∷◌, length, drop, refl, sym, ap, arith, Ok, Err, length-drop}
+use Rattle.std.proofs.Common.{◌≡◌, ℕ, zero, suc, ◌-◌, ◌≤◌, true, List, [], ◌∷◌, length, refl, sym, ap, arith, Ok, Err}
 use Rattle.std.specs.List.{slice_range}
-use Rattle.std.proofs.lemmas.List.{length-take-le}
 use Rattle.leaf_expr.specs.Token.{opening, closing, word, Placed}
 use Rattle.leaf_expr.specs.Language.{Language}
 use Rattle.leaf_expr.specs.NumberPlace.{Reading, reads}
@@ -10,6 +9,7 @@ use Rattle.leaf_expr.specs.Reader.{syntax, word_read, read, read_form, read_head
 use Rattle.leaf_expr.specs.Front.{read_front}
 use Rattle.leaf_expr.specs.ReadText.{Refuses}
 use Rattle.leaf_expr.specs.declared.text_fault.ExprTextFault.{ExprTextFault}
+use Rattle.leaf_expr.proofs.TokenSteps.{word_takes}
 use Rattle.leaf_expr.proofs.ReadSteps.{ok_same, refused_ok, refused_same}
 
 -- a token, and those behind it
@@ -115,6 +115,5 @@ module _ (size : ℕ) where
 pub word_done : {T : Type 0} (start end : ℕ) (text : List ℕ) (us : List Placed) (r : Reading T) (x : T) → start ≤ end → end ≤ length text →
     r ≡ reads x → word_read start (slice_range text start end) us r ≡ Ok (x, end, us)
 word_done start end text us r x a b p =
-    let n : start + length (slice_range text start end) ≡ end =
-        omega (arith, length-take-le (end - start) (drop start text) (omega (arith, length-drop start text))) in
+    let n = word_takes start end text a b in
     rw (p, n) refl

@@ -63,12 +63,24 @@ no_word_at n text l h = go (nat_lt n (length text)) refl
     go true e = let i : n < length text = ltb-true n (length text) e in ap begins_word (drop-cons text n 0 i) ∙ h i
     go false e = let i : length text ≤ n = ltb-false n (length text) e in ap begins_word (drop_of_length-le text i)
 
--- a word from start up to byte n, where it ends
-pub word_stands : (start n : ℕ) (text : List ℕ) → start < n → n ≤ length text → ((k : ℕ) → start ≤ k → k < n → is_word_byte (get_or text k 0) ≡ true) → (n < length text → is_word_byte (get_or text n 0) ≡ false) → tokens_from start text ≡ (start, word (slice_range text start n)) ∷ tokens_from n text
+-- a word from start up to byte n: it is spelt so, and takes so many bytes
+pub word_spelt : (start n : ℕ) (text : List ℕ) → start < n → n ≤ length text → ((k : ℕ) → start ≤ k → k < n → is_word_byte (get_or text k 0) ≡ true) → is_word (slice_range text start n) ≡ true
+word_spelt start n text s l h = is_words (n - start) (drop start text) (omega arith) (λ k q. ap is_word_byte (get_or-drop start text k 0) ∙ h (start + k) (omega arith) (omega arith)) (omega (arith, length-drop start text))
+
+pub word_takes : (start n : ℕ) (text : List ℕ) → start ≤ n → n ≤ length text → start + length (slice_range text start n) ≡ n
+word_takes start n text s l = omega (arith, length-take-le (n - start) (drop start text) (omega (arith, length-drop start text)))
+
+-- and it ends there
+pub word_stands : (start n : ℕ) (text : List ℕ) → start < n → n ≤ length text →
+    ((k : ℕ) → start ≤ k → k < n → is_word_byte (get_or text k 0) ≡ true) → (n < length text → is_word_byte (get_or text n 0) ≡ false) →
+    tokens_from start text ≡ (start, word (slice_range text start n)) ∷ tokens_from n text
 word_stands start n text s l h e =
-    let w : is_word (slice_range text start n) ≡ true = is_words (n - start) (drop start text) (omega arith) (λ k q. ap is_word_byte (get_or-drop start text k 0) ∙ h (start + k) (omega arith) (omega arith)) (omega (arith, length-drop start text)) in
-    let len : start + length (slice_range text start n) ≡ n = omega (arith, length-take-le (n - start) (drop start text) (omega (arith, length-drop start text))) in
-    ap (tokens_in false start) (drop_split text start n (omega arith)) ∙ word_tokens start (slice_range text start n) (drop n text) w (no_word_at n text l e) ∙ ap (λ m. (start, word (slice_range text start n)) ∷ tokens_in false m (drop n text)) len
+    let w = word_spelt start n text s l h in
+    let within : start ≤ n = omega arith in
+    let taken = word_takes start n text within l in
+    ap (tokens_in false start) (drop_split text start n within)
+    ∙ word_tokens start (slice_range text start n) (drop n text) w (no_word_at n text l e)
+    ∙ ap (λ m. (start, word (slice_range text start n)) ∷ tokens_in false m (drop n text)) taken
 
 -- the same with the next place counted as the code does
 pub comment_next : (i : ℕ) (text : List ℕ) (c d : Bool) → i < length text → c ≡ true → d ≡ not (nat_eq (get_or text i 0) 10) → tokens_in d (i + 1) (drop (i + 1) text) ≡ tokens_in c i (drop i text)
@@ -76,9 +88,6 @@ comment_next i text c d h e f = let n : i + 1 ≡ suc i = omega arith in rw (n, 
 
 pub blank_next : (i : ℕ) (text : List ℕ) (c d : Bool) → i < length text → c ≡ false → begins_token (get_or text i 0) ≡ false → d ≡ nat_eq (get_or text i 0) 59 → tokens_in d (i + 1) (drop (i + 1) text) ≡ tokens_in c i (drop i text)
 blank_next i text c d h e g f = let n : i + 1 ≡ suc i = omega arith in rw (n, e, f) (blank_step i text h g)
-
-pub word_spelt : (start n : ℕ) (text : List ℕ) → start < n → n ≤ length text → ((k : ℕ) → start ≤ k → k < n → is_word_byte (get_or text k 0) ≡ true) → is_word (slice_range text start n) ≡ true
-word_spelt start n text s l h = is_words (n - start) (drop start text) (omega arith) (λ k q. ap is_word_byte (get_or-drop start text k 0) ∙ h (start + k) (omega arith) (omega arith)) (omega (arith, length-drop start text))
 
 -- a parenthesis at a place
 pub open_stands : (i : ℕ) (text : List ℕ) → i < length text → get_or text i 0 ≡ 40 → tokens_from i text ≡ (i, opening) ∷ tokens_from (i + 1) text

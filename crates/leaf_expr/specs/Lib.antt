@@ -10,6 +10,6 @@ pub mod Text
 pub mod TextRows
 pub mod NumberLaws
 pub mod Lexeme
+pub mod Front
 pub mod Form
 pub mod ReadText
-pub mod Front
