@@ -1,6 +1,8 @@
+pub mod InsideLaws
 pub mod Places
 pub mod SameDatum
 pub mod Soundness
 pub mod Exactness
+mod Typed
 pub mod Uniqueness
 pub mod ShapeValue

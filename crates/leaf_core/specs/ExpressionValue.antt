@@ -65,6 +65,13 @@ abbrev pub on_event : Datum → Datum → (Datum → Datum) → Datum
 on_event (event v) d b = b v
 on_event _ d b = d
 
+-- the sum, the difference, the product or the comparison of two numbers, as the form says
+abbrev pub of_numbers : Expression → ℤ → ℤ → Datum
+of_numbers (add _ _) m n = wrapped (m +ℤ n)
+of_numbers (sub _ _) m n = wrapped (m -ℤ n)
+of_numbers (mul _ _) m n = wrapped (m *ℤ n)
+of_numbers _ m n = truth (int_lt m n)
+
 -- the value under parameters ps at the input x; a default where it is ill typed
 abbrev mutual
   pub value_of : Expression → List Datum → Datum → Datum

@@ -1,5 +1,5 @@
 -- What a hasher is fed at an expression, a type and a key: the tag of each form, and then its parts.
-use Rattle.std.specs.Prelude.{ℕ, List, [], ◌∷◌, ◌++◌, true, false}
+use Rattle.std.specs.Prelude.{ℕ, [], ◌++◌, true, false}
 use Rattle.std.specs.Hash as fed
 use Rattle.std.specs.List.{flat_map}
 use Rattle.sample_core.specs.TypeTree.{TypeTree, unit_ty, bool_ty, int_ty, pair_ty, event_ty, list_ty}

@@ -8,6 +8,7 @@ pub mod Shape
 pub mod SameByCode
 pub mod KeyTree
 pub mod Fed
+pub mod Inside
 pub mod TypeLimits
 pub mod ExpressionLimits
 pub mod ExpressionCheck

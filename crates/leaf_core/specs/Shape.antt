@@ -1,5 +1,5 @@
 -- The shapes of the expressions that have code of their own, and what their names and parts tell of the value.
-use Rattle.std.specs.Prelude.{◌≡◌, ℤ, pos, ◌+ℤ◌, ◌*ℤ◌, int_lt, List, Option, Some, None}
+use Rattle.std.specs.Prelude.{◌≡◌, pos, ◌+ℤ◌, ◌*ℤ◌, int_lt, List, Option, Some, None}
 use Rattle.sample_core.specs.Datum.{Datum, unit, truth, number, pair, event, left, right, whole}
 use Rattle.leaf_core.specs.Expression.{Expression, sample, unit_literal, truth_literal, number_literal, make_pair, fst, snd, add, mul, less, make_event}
 use Rattle.leaf_core.specs.ExpressionValue.{value_of, wrapped}

@@ -3,41 +3,38 @@
 ghost use Rattle.std.specs.Prelude.{◌≡◌, ◌↔◌, IsTrue};
 ghost use Rattle.sample_core.specs.SeenType.{type_of};
 ghost use Rattle.leaf_core.specs.Expression.{expressions_of};
-ghost use Rattle.leaf_core.specs.Seen.{expression_of, literal_of};
+ghost use Rattle.leaf_core.specs.Inside.{inside_of};
+ghost use Rattle.leaf_core.specs.Seen.{expression_of};
 
 use crate::expr::{Expr, Part, Parts};
-use crate::literal::Literal;
+use crate::feed::tag;
+use crate::inside::{Contents, inside};
 use sample_core::{Ty, same_type};
 
 /// Whether the two expressions are equal, all their parts and types included. It takes no memory.
 #[cycle(same)]
+#[tactic(auto, using(crate::proofs::InsideLaws::same_inside_is))]
 pub fn same_expr(a: &Expr, b: &Expr) -> bool
     ensures { IsTrue result ↔ (expression_of a.now ≡ expression_of b.now) }
 {
-    match (a, b) {
-        (Expr::Input, Expr::Input) => true,
-        (Expr::Param(j), Expr::Param(k)) => *j == *k,
-        (Expr::Literal(c), Expr::Literal(d)) => same_literal(*c, *d),
-        (Expr::Pair(a, b), Expr::Pair(c, d)) => same_two(a, b, c, d),
-        (Expr::Fst(a), Expr::Fst(c)) => same_part(a, c),
-        (Expr::Snd(a), Expr::Snd(c)) => same_part(a, c),
-        (Expr::Then(a, b), Expr::Then(c, d)) => same_two(a, b, c, d),
-        (Expr::Neg(a), Expr::Neg(c)) => same_part(a, c),
-        (Expr::Add(a, b), Expr::Add(c, d)) => same_two(a, b, c, d),
-        (Expr::Sub(a, b), Expr::Sub(c, d)) => same_two(a, b, c, d),
-        (Expr::Mul(a, b), Expr::Mul(c, d)) => same_two(a, b, c, d),
-        (Expr::Less(a, b), Expr::Less(c, d)) => same_two(a, b, c, d),
-        (Expr::Equal(a, b), Expr::Equal(c, d)) => same_two(a, b, c, d),
-        (Expr::Not(a), Expr::Not(c)) => same_part(a, c),
-        (Expr::And(a, b), Expr::And(c, d)) => same_two(a, b, c, d),
-        (Expr::Or(a, b), Expr::Or(c, d)) => same_two(a, b, c, d),
-        (Expr::If(a, b, c), Expr::If(d, e, f)) => same_three(a, b, c, d, e, f),
-        (Expr::NoEvent(t), Expr::NoEvent(u)) => same_type(t, u),
-        (Expr::Event(a), Expr::Event(c)) => same_part(a, c),
-        (Expr::On(a, b, c), Expr::On(d, e, f)) => same_three(a, b, c, d, e, f),
-        (Expr::List(t, all), Expr::List(u, others)) => same_list(t, all, u, others),
-        (Expr::Nth(a, b, c), Expr::Nth(d, e, f)) => same_three(a, b, c, d, e, f),
-        (Expr::Len(a), Expr::Len(c)) => same_part(a, c),
+    tag(a) == tag(b) && same_inside(a, b)
+}
+
+/// Whether the same stands inside the two expressions, whatever their forms.
+#[cycle(same)]
+#[tactic(auto, using(crate::proofs::InsideLaws::sized))]
+fn same_inside(a: &Expr, b: &Expr) -> bool
+    ensures { IsTrue result ↔ (inside_of (expression_of a.now) ≡ inside_of (expression_of b.now)) }
+{
+    match (inside(a), inside(b)) {
+        (Contents::Nothing, Contents::Nothing) => true,
+        (Contents::Index(j), Contents::Index(k)) => j == k,
+        (Contents::Number(m), Contents::Number(n)) => m == n,
+        (Contents::One(a), Contents::One(b)) => same_part(a, b),
+        (Contents::Two(a, b), Contents::Two(c, d)) => same_two(a, b, c, d),
+        (Contents::Three(a, b, c), Contents::Three(d, e, f)) => same_three(a, b, c, d, e, f),
+        (Contents::Type(t), Contents::Type(u)) => same_type(t, u),
+        (Contents::Elements(t, all), Contents::Elements(u, others)) => same_list(t, all, u, others),
         _ => false,
     }
 }
@@ -90,16 +87,4 @@ fn same_parts(all: &Parts, others: &Parts) -> bool
         }
     }
     true
-}
-
-/// Whether two literals are equal.
-fn same_literal(a: Literal, b: Literal) -> bool
-    ensures { IsTrue result ↔ (literal_of a ≡ literal_of b) }
-{
-    match (a, b) {
-        (Literal::Unit, Literal::Unit) => true,
-        (Literal::Bool(x), Literal::Bool(y)) => x == y,
-        (Literal::Int(m), Literal::Int(n)) => m == n,
-        _ => false,
-    }
 }

@@ -5,12 +5,11 @@ ghost use Rattle.sample_core.specs.Datum.{whole, truth, pair, left, right};
 ghost use Rattle.sample_core.specs.Seen.{datum_of};
 ghost use Rattle.leaf_core.specs.Expression.{expressions_of, on};
 ghost use Rattle.leaf_core.specs.Seen.{expression_of};
-ghost use Rattle.leaf_core.specs.ExpressionValue.{value_of, values_of, is_true, same_datum, chosen, element_at, count_of, wrapped};
+ghost use Rattle.leaf_core.specs.ExpressionValue.{value_of, values_of, is_true, same_datum, chosen, element_at, count_of, of_numbers, on_event, wrapped};
 
 use crate::expr::{Expr, Part, Parts};
 use crate::operations::{
-    carried, count, difference, element, equal, first, literal_value, negated, number, param,
-    product, second, sum, truth,
+    count, element, equal, first, literal_value, negated, number, of_numbers, param, second, truth,
 };
 use sample_core::{Child, Memory, Sample, Samples};
 use std::alloc::Global;
@@ -39,21 +38,8 @@ pub fn eval(alloc: Global, expr: &Expr, params: &[Sample], x: &Sample) -> Result
             let a = eval_number(alloc, a, params, x)?;
             Ok(negated(a))
         }
-        Expr::Add(a, b) => {
-            let (a, b) = eval_numbers(alloc, a, b, params, x)?;
-            Ok(sum(a, b))
-        }
-        Expr::Sub(a, b) => {
-            let (a, b) = eval_numbers(alloc, a, b, params, x)?;
-            Ok(difference(a, b))
-        }
-        Expr::Mul(a, b) => {
-            let (a, b) = eval_numbers(alloc, a, b, params, x)?;
-            Ok(product(a, b))
-        }
-        Expr::Less(a, b) => {
-            let (a, b) = eval_numbers(alloc, a, b, params, x)?;
-            Ok(Sample::Bool(a < b))
+        Expr::Add(a, b) | Expr::Sub(a, b) | Expr::Mul(a, b) | Expr::Less(a, b) => {
+            eval_numbers(alloc, expr, a, b, params, x)
         }
         Expr::Equal(a, b) => eval_equal(alloc, a, b, params, x),
         Expr::Not(a) => {
@@ -100,7 +86,9 @@ fn eval_first(alloc: Global, e: &Part, params: &[Sample], x: &Sample) -> Result<
     ensures { IfOk result (λ s. datum_of s ≡ left (value_of e.now (map datum_of params.now) (datum_of x.now))) }
 {
     let pair = eval(alloc, e.get(), params, x)?;
-    first(alloc, pair)
+    let found = first(alloc, &pair);
+    drop(pair);
+    found
 }
 
 /// The second part of a value.
@@ -109,7 +97,9 @@ fn eval_second(alloc: Global, e: &Part, params: &[Sample], x: &Sample) -> Result
     ensures { IfOk result (λ s. datum_of s ≡ right (value_of e.now (map datum_of params.now) (datum_of x.now))) }
 {
     let pair = eval(alloc, e.get(), params, x)?;
-    second(alloc, pair)
+    let found = second(alloc, &pair);
+    drop(pair);
+    found
 }
 
 /// The value of one expression at that of another.
@@ -124,7 +114,9 @@ fn eval_then(
     ensures { IfOk result (λ s. datum_of s ≡ value_of g.now (map datum_of params.now) (value_of f.now (map datum_of params.now) (datum_of x.now))) }
 {
     let between = eval(alloc, f.get(), params, x)?;
-    eval(alloc, g.get(), params, &between)
+    let found = eval(alloc, g.get(), params, &between);
+    drop(between);
+    found
 }
 
 /// Whether two values are the same.
@@ -138,9 +130,27 @@ fn eval_equal(
 ) -> Result<Sample, Memory>
     ensures { IfOk result (λ s. datum_of s ≡ truth (same_datum (value_of a.now (map datum_of params.now) (datum_of x.now)) (value_of b.now (map datum_of params.now) (datum_of x.now)))) }
 {
-    let a = eval(alloc, a.get(), params, x)?;
-    let b = eval(alloc, b.get(), params, x)?;
-    Ok(Sample::Bool(equal(&a, &b)))
+    let first = eval(alloc, a.get(), params, x)?;
+    let found = eval_same(alloc, &first, b, params, x);
+    drop(first);
+    found
+}
+
+/// Whether a part has the value.
+#[cycle(eval)]
+fn eval_same(
+    alloc: Global,
+    value: &Sample,
+    part: &Part,
+    params: &[Sample],
+    x: &Sample,
+) -> Result<Sample, Memory>
+    ensures { IfOk result (λ s. datum_of s ≡ truth (same_datum (datum_of value.now) (value_of part.now (map datum_of params.now) (datum_of x.now)))) }
+{
+    let other = eval(alloc, part.get(), params, x)?;
+    let same = equal(value, &other);
+    drop(other);
+    Ok(Sample::Bool(same))
 }
 
 /// Whether both are true.
@@ -207,9 +217,26 @@ fn eval_on(
     ensures { IfOk result (λ s. datum_of s ≡ value_of (on e.now d.now b.now) (map datum_of params.now) (datum_of x.now)) }
 {
     let event = eval(alloc, e.get(), params, x)?;
-    match carried(event) {
-        Some(carried) => eval_body(alloc, b, carried, params, x),
-        None => eval(alloc, d.get(), params, x),
+    let found = eval_on_event(alloc, &event, d, b, params, x);
+    drop(event);
+    found
+}
+
+/// The same, where the event has this value.
+#[cycle(eval)]
+fn eval_on_event(
+    alloc: Global,
+    event: &Sample,
+    d: &Part,
+    b: &Part,
+    params: &[Sample],
+    x: &Sample,
+) -> Result<Sample, Memory>
+    ensures { IfOk result (λ s. datum_of s ≡ on_event (datum_of event.now) (value_of d.now (map datum_of params.now) (datum_of x.now)) (λ v. value_of b.now (map datum_of params.now) (pair (datum_of x.now) v))) }
+{
+    match event {
+        Sample::Event(carried) => eval_body(alloc, b, carried, params, x),
+        _ => eval(alloc, d.get(), params, x),
     }
 }
 
@@ -218,22 +245,26 @@ fn eval_on(
 fn eval_body(
     alloc: Global,
     b: &Part,
-    carried: Child,
+    carried: &Child,
     params: &[Sample],
     x: &Sample,
 ) -> Result<Sample, Memory>
-    ensures { IfOk result (λ s. datum_of s ≡ value_of b.now (map datum_of params.now) (pair (datum_of x.now) carried)) }
+    ensures { IfOk result (λ s. datum_of s ≡ value_of b.now (map datum_of params.now) (pair (datum_of x.now) carried.now)) }
 {
-    let input = copied_child(alloc, x)?;
-    eval(alloc, b.get(), params, &Sample::Pair(input, carried))
+    let input = with_carried(alloc, x, carried)?;
+    let found = eval(alloc, b.get(), params, &input);
+    drop(input);
+    found
 }
 
-/// A copy of the value, as a part of another.
-fn copied_child(alloc: Global, x: &Sample) -> Result<Child, Memory>
-    ensures { IfOk result (λ c. c ≡ datum_of x.now) }
+/// The pair of the input and what an event carries.
+fn with_carried(alloc: Global, x: &Sample, carried: &Child) -> Result<Sample, Memory>
+    ensures { IfOk result (λ s. datum_of s ≡ pair (datum_of x.now) carried.now) }
 {
     let copy = x.try_copy(alloc)?;
-    Child::new(alloc, copy)
+    let input = Child::new(alloc, copy)?;
+    let carried = carried.try_copy()?;
+    Ok(Sample::Pair(input, carried))
 }
 
 /// The value of an element of a list.
@@ -249,9 +280,28 @@ fn eval_nth(
     ensures { IfOk result (λ s. datum_of s ≡ element_at (value_of e.now (map datum_of params.now) (datum_of x.now)) (whole (value_of i.now (map datum_of params.now) (datum_of x.now))) (value_of d.now (map datum_of params.now) (datum_of x.now))) }
 {
     let list = eval(alloc, e.get(), params, x)?;
+    let found = eval_element(alloc, &list, i, d, params, x);
+    drop(list);
+    found
+}
+
+/// The same, where the list has this value.
+#[cycle(eval)]
+fn eval_element(
+    alloc: Global,
+    list: &Sample,
+    i: &Part,
+    d: &Part,
+    params: &[Sample],
+    x: &Sample,
+) -> Result<Sample, Memory>
+    ensures { IfOk result (λ s. datum_of s ≡ element_at (datum_of list.now) (whole (value_of i.now (map datum_of params.now) (datum_of x.now))) (value_of d.now (map datum_of params.now) (datum_of x.now))) }
+{
     let at = eval_number(alloc, i, params, x)?;
     let default = eval(alloc, d.get(), params, x)?;
-    element(alloc, &list, at, default)
+    let found = element(alloc, list, at, &default);
+    drop(default);
+    found
 }
 
 /// The value of a length.
@@ -260,7 +310,9 @@ fn eval_len(alloc: Global, e: &Part, params: &[Sample], x: &Sample) -> Result<Sa
     ensures { IfOk result (λ s. datum_of s ≡ wrapped (pos (count_of (value_of e.now (map datum_of params.now) (datum_of x.now))))) }
 {
     let list = eval(alloc, e.get(), params, x)?;
-    Ok(Sample::Int(count(&list)))
+    let elements = count(&list);
+    drop(list);
+    Ok(Sample::Int(elements))
 }
 
 /// The value of a part, as a part of another.
@@ -272,20 +324,21 @@ fn eval_child(alloc: Global, part: &Part, params: &[Sample], x: &Sample) -> Resu
     Child::new(alloc, value)
 }
 
-/// The numbers that two parts have as their values; 0 where one is no number.
+/// A sum, a difference, a product or a comparison of numbers.
 #[cycle(eval)]
 fn eval_numbers(
     alloc: Global,
+    form: &Expr,
     a: &Part,
     b: &Part,
     params: &[Sample],
     x: &Sample,
-) -> Result<(i64, i64), Memory>
-    ensures { IfOk result (λ n. (n.0 ≡ whole (value_of a.now (map datum_of params.now) (datum_of x.now))) × (n.1 ≡ whole (value_of b.now (map datum_of params.now) (datum_of x.now)))) }
+) -> Result<Sample, Memory>
+    ensures { IfOk result (λ s. datum_of s ≡ of_numbers (expression_of form.now) (whole (value_of a.now (map datum_of params.now) (datum_of x.now))) (whole (value_of b.now (map datum_of params.now) (datum_of x.now)))) }
 {
     let a = eval_number(alloc, a, params, x)?;
     let b = eval_number(alloc, b, params, x)?;
-    Ok((a, b))
+    Ok(of_numbers(form, a, b))
 }
 
 /// The number that a part has as its value; 0 where that is no number.
@@ -294,7 +347,9 @@ fn eval_number(alloc: Global, part: &Part, params: &[Sample], x: &Sample) -> Res
     ensures { IfOk result (λ n. n ≡ whole (value_of part.now (map datum_of params.now) (datum_of x.now))) }
 {
     let value = eval(alloc, part.get(), params, x)?;
-    Ok(number(&value))
+    let number = number(&value);
+    drop(value);
+    Ok(number)
 }
 
 /// Whether a part has `true` as its value.
@@ -303,7 +358,9 @@ fn eval_truth(alloc: Global, part: &Part, params: &[Sample], x: &Sample) -> Resu
     ensures { IfOk result (λ b. b ≡ is_true (value_of part.now (map datum_of params.now) (datum_of x.now))) }
 {
     let value = eval(alloc, part.get(), params, x)?;
-    Ok(truth(&value))
+    let truth = truth(&value);
+    drop(value);
+    Ok(truth)
 }
 
 /// The values of the elements of a list expression, in order.
@@ -318,7 +375,8 @@ fn eval_elements(
 {
     let mut values = Vec::new(alloc);
     for element in elements.as_slice() {
-        values.push(eval(alloc, element, params, x)?)?;
+        let value = eval(alloc, element, params, x)?;
+        values.push(value)?;
     }
     Samples::new(alloc, values)
 }

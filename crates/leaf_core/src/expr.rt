@@ -1,8 +1,11 @@
 // Expressions as trees.
 
 ghost use Rattle.std.specs.Prelude.{◌≡◌, IfOk, map};
+ghost use Rattle.leaf_core.specs.Inside.{plain, with_one, with_two, with_three};
 ghost use Rattle.leaf_core.specs.Seen.{expression_of};
+ghost use Rattle.leaf_core.specs.declared.expr.Expr.TheVariants as E;
 
+use crate::inside::{Contents, inside};
 use crate::literal::Literal;
 use sample_core::{Memory, Ty};
 use std::alloc::Global;
@@ -123,119 +126,113 @@ impl Expr {
     pub fn try_copy(&self, alloc: Global) -> Result<Expr, Memory>
         ensures { IfOk result (λ e. e ≡ self.now) }
     {
-        match self {
-            Expr::Input => Ok(Expr::Input),
-            Expr::Param(k) => Ok(Expr::Param(*k)),
-            Expr::Literal(literal) => Ok(Expr::Literal(*literal)),
-            Expr::Pair(a, b) => {
-                let (a, b) = copy_two(a, b)?;
-                Ok(Expr::Pair(a, b))
-            }
-            Expr::Fst(e) => {
-                let e = e.try_copy()?;
-                Ok(Expr::Fst(e))
-            }
-            Expr::Snd(e) => {
-                let e = e.try_copy()?;
-                Ok(Expr::Snd(e))
-            }
-            Expr::Then(a, b) => {
-                let (a, b) = copy_two(a, b)?;
-                Ok(Expr::Then(a, b))
-            }
-            Expr::Neg(e) => {
-                let e = e.try_copy()?;
-                Ok(Expr::Neg(e))
-            }
-            Expr::Add(a, b) => {
-                let (a, b) = copy_two(a, b)?;
-                Ok(Expr::Add(a, b))
-            }
-            Expr::Sub(a, b) => {
-                let (a, b) = copy_two(a, b)?;
-                Ok(Expr::Sub(a, b))
-            }
-            Expr::Mul(a, b) => {
-                let (a, b) = copy_two(a, b)?;
-                Ok(Expr::Mul(a, b))
-            }
-            Expr::Less(a, b) => {
-                let (a, b) = copy_two(a, b)?;
-                Ok(Expr::Less(a, b))
-            }
-            Expr::Equal(a, b) => {
-                let (a, b) = copy_two(a, b)?;
-                Ok(Expr::Equal(a, b))
-            }
-            Expr::Not(e) => {
-                let e = e.try_copy()?;
-                Ok(Expr::Not(e))
-            }
-            Expr::And(a, b) => {
-                let (a, b) = copy_two(a, b)?;
-                Ok(Expr::And(a, b))
-            }
-            Expr::Or(a, b) => {
-                let (a, b) = copy_two(a, b)?;
-                Ok(Expr::Or(a, b))
-            }
-            Expr::If(a, b, c) => {
-                let (a, b, c) = copy_three(a, b, c)?;
-                Ok(Expr::If(a, b, c))
-            }
-            Expr::NoEvent(carried) => {
-                let carried = carried.try_copy(alloc)?;
-                Ok(Expr::NoEvent(carried))
-            }
-            Expr::Event(e) => {
-                let e = e.try_copy()?;
-                Ok(Expr::Event(e))
-            }
-            Expr::On(a, b, c) => {
-                let (a, b, c) = copy_three(a, b, c)?;
-                Ok(Expr::On(a, b, c))
-            }
-            Expr::List(element, all) => {
-                let (element, all) = copy_list(alloc, element, all)?;
-                Ok(Expr::List(element, all))
-            }
-            Expr::Nth(a, b, c) => {
-                let (a, b, c) = copy_three(a, b, c)?;
-                Ok(Expr::Nth(a, b, c))
-            }
-            Expr::Len(e) => {
-                let e = e.try_copy()?;
-                Ok(Expr::Len(e))
-            }
+        match inside(self) {
+            Contents::Nothing => Ok(plain(self)),
+            Contents::Index(k) => Ok(Expr::Param(k)),
+            Contents::Number(n) => Ok(Expr::Literal(Literal::Int(n))),
+            Contents::One(a) => copy_of_one(self, a),
+            Contents::Two(a, b) => copy_of_two(self, a, b),
+            Contents::Three(a, b, c) => copy_of_three(self, a, b, c),
+            Contents::Type(carried) => copy_no_event(alloc, carried),
+            Contents::Elements(element, all) => copy_list(alloc, element, all),
         }
     }
 }
 
-/// Copies of two parts.
-fn copy_two(a: &Part, b: &Part) -> Result<(Part, Part), Memory>
-    ensures { IfOk result (λ p. (p.0 ≡ a.now) × (p.1 ≡ b.now)) }
+/// The expression's form, which has nothing inside.
+fn plain(form: &Expr) -> Expr
+    ensures { result ≡ plain form.now }
+{
+    match form {
+        Expr::Literal(literal) => Expr::Literal(*literal),
+        _ => Expr::Input,
+    }
+}
+
+/// The expression's form, with a copy of this part.
+fn copy_of_one(form: &Expr, a: &Part) -> Result<Expr, Memory>
+    ensures { IfOk result (λ e. e ≡ with_one form.now a.now) }
+{
+    let a = a.try_copy()?;
+    Ok(with_one(form, a))
+}
+
+/// The expression's form, with copies of these two parts.
+fn copy_of_two(form: &Expr, a: &Part, b: &Part) -> Result<Expr, Memory>
+    ensures { IfOk result (λ e. e ≡ with_two form.now a.now b.now) }
 {
     let a = a.try_copy()?;
     let b = b.try_copy()?;
-    Ok((a, b))
+    Ok(with_two(form, a, b))
 }
 
-/// Copies of three parts.
-fn copy_three(a: &Part, b: &Part, c: &Part) -> Result<(Part, Part, Part), Memory>
-    ensures { IfOk result (λ p. (p.0 ≡ a.now) × (p.1 ≡ b.now) × (p.2 ≡ c.now)) }
+/// The expression's form, with copies of these three parts.
+fn copy_of_three(form: &Expr, a: &Part, b: &Part, c: &Part) -> Result<Expr, Memory>
+    ensures { IfOk result (λ e. e ≡ with_three form.now a.now b.now c.now) }
 {
-    let (a, b) = copy_two(a, b)?;
+    let a = a.try_copy()?;
+    let b = b.try_copy()?;
     let c = c.try_copy()?;
-    Ok((a, b, c))
+    Ok(with_three(form, a, b, c))
 }
 
-/// Copies of the type and the elements of a list expression.
-fn copy_list(alloc: Global, element: &Ty, all: &Parts) -> Result<(Ty, Parts), Memory>
-    ensures { IfOk result (λ p. (p.0 ≡ element.now) × (p.1 ≡ all.now)) }
+/// The expression's form, with this part.
+fn with_one(form: &Expr, a: Part) -> Expr
+    ensures { result ≡ with_one form.now a }
 {
-    let element = element.try_copy(alloc)?;
+    match form {
+        Expr::Fst(_) => Expr::Fst(a),
+        Expr::Snd(_) => Expr::Snd(a),
+        Expr::Neg(_) => Expr::Neg(a),
+        Expr::Not(_) => Expr::Not(a),
+        Expr::Event(_) => Expr::Event(a),
+        _ => Expr::Len(a),
+    }
+}
+
+/// The expression's form, with these two parts.
+fn with_two(form: &Expr, a: Part, b: Part) -> Expr
+    ensures { result ≡ with_two form.now a b }
+{
+    match form {
+        Expr::Pair(..) => Expr::Pair(a, b),
+        Expr::Then(..) => Expr::Then(a, b),
+        Expr::Add(..) => Expr::Add(a, b),
+        Expr::Sub(..) => Expr::Sub(a, b),
+        Expr::Mul(..) => Expr::Mul(a, b),
+        Expr::Less(..) => Expr::Less(a, b),
+        Expr::Equal(..) => Expr::Equal(a, b),
+        Expr::And(..) => Expr::And(a, b),
+        _ => Expr::Or(a, b),
+    }
+}
+
+/// The expression's form, with these three parts.
+fn with_three(form: &Expr, a: Part, b: Part, c: Part) -> Expr
+    ensures { result ≡ with_three form.now a b c }
+{
+    match form {
+        Expr::If(..) => Expr::If(a, b, c),
+        Expr::On(..) => Expr::On(a, b, c),
+        _ => Expr::Nth(a, b, c),
+    }
+}
+
+/// A copy of no event that carries the type.
+fn copy_no_event(alloc: Global, carried: &Ty) -> Result<Expr, Memory>
+    ensures { IfOk result (λ e. e ≡ E.NoEvent carried.now) }
+{
+    let carried = carried.try_copy(alloc)?;
+    Ok(Expr::NoEvent(carried))
+}
+
+/// A copy of the list of these elements.
+fn copy_list(alloc: Global, element: &Ty, all: &Parts) -> Result<Expr, Memory>
+    ensures { IfOk result (λ e. e ≡ E.List element.now all.now) }
+{
     let all = all.try_copy()?;
-    Ok((element, all))
+    let element = element.try_copy(alloc)?;
+    Ok(Expr::List(element, all))
 }
 
 impl Part {

@@ -3,11 +3,13 @@
 ghost use Rattle.std.specs.Prelude.{◌≡◌, ◌++◌, fold};
 ghost use Rattle.std.specs.Hash.{u8};
 ghost use Rattle.sample_core.specs.SeenType.{type_of};
-ghost use Rattle.leaf_core.specs.Seen.{expression_of, literal_of};
+ghost use Rattle.leaf_core.specs.Seen.{expression_of};
+ghost use Rattle.leaf_core.specs.Inside.{inside_of, inside_fed};
 ghost use Rattle.leaf_core.specs.Expression.{expressions_of};
 ghost use Rattle.leaf_core.specs.Fed.{tag_of, type_fed, expression_fed, expressions_fed};
 
 use crate::expr::{Expr, Part, Parts};
+use crate::inside::{Contents, inside};
 use crate::literal::Literal;
 use sample_core::Ty;
 use std::hash::Hasher;
@@ -37,7 +39,7 @@ pub fn feed_type<H: Hasher>(ty: &Ty, state: &mut H)
 }
 
 /// The number of the expression's form.
-fn tag(expr: &Expr) -> u8
+pub fn tag(expr: &Expr) -> u8
     ensures { result ≡ tag_of (expression_of expr.now) }
 {
     match expr {
@@ -73,34 +75,29 @@ fn tag(expr: &Expr) -> u8
 /// Feeds the expression's forms to the hasher, a byte each, a form before its parts. A parameter's
 /// number and a literal's number follow their form, and a byte ends each list.
 #[cycle(feed)]
+#[tactic(auto, using(crate::proofs::InsideLaws::fed_inside))]
 pub fn feed_expr<H: Hasher>(expr: &Expr, state: &mut H)
     ensures { state.new ≡ fold H.write state.old (expression_fed (expression_of expr.now)) }
 {
     state.write_u8(tag(expr));
-    match expr {
-        Expr::Input | Expr::Literal(Literal::Unit | Literal::Bool(_)) => {}
-        Expr::Param(k) => state.write_u32(*k),
-        Expr::Literal(Literal::Int(n)) => state.write_i64(*n),
-        Expr::Pair(a, b) => feed_two(a, b, state),
-        Expr::Fst(e) => feed_expr(e.get(), state),
-        Expr::Snd(e) => feed_expr(e.get(), state),
-        Expr::Then(f, g) => feed_two(f, g, state),
-        Expr::Neg(a) => feed_expr(a.get(), state),
-        Expr::Add(a, b) => feed_two(a, b, state),
-        Expr::Sub(a, b) => feed_two(a, b, state),
-        Expr::Mul(a, b) => feed_two(a, b, state),
-        Expr::Less(a, b) => feed_two(a, b, state),
-        Expr::Equal(a, b) => feed_two(a, b, state),
-        Expr::Not(a) => feed_expr(a.get(), state),
-        Expr::And(a, b) => feed_two(a, b, state),
-        Expr::Or(a, b) => feed_two(a, b, state),
-        Expr::If(c, a, b) => feed_three(c, a, b, state),
-        Expr::NoEvent(t) => feed_type(t, state),
-        Expr::Event(e) => feed_expr(e.get(), state),
-        Expr::On(e, d, b) => feed_three(e, d, b, state),
-        Expr::List(t, all) => feed_list(t, all, state),
-        Expr::Nth(e, i, d) => feed_three(e, i, d, state),
-        Expr::Len(e) => feed_expr(e.get(), state),
+    feed_inside(expr, state)
+}
+
+/// Feeds what stands inside the expression to the hasher.
+#[cycle(feed)]
+#[tactic(auto, using(crate::proofs::InsideLaws::sized))]
+fn feed_inside<H: Hasher>(expr: &Expr, state: &mut H)
+    ensures { state.new ≡ fold H.write state.old (inside_fed (inside_of (expression_of expr.now))) }
+{
+    match inside(expr) {
+        Contents::Nothing => {}
+        Contents::Index(k) => state.write_u32(k),
+        Contents::Number(n) => state.write_i64(n),
+        Contents::One(a) => feed_expr(a.get(), state),
+        Contents::Two(a, b) => feed_two(a, b, state),
+        Contents::Three(a, b, c) => feed_three(a, b, c, state),
+        Contents::Type(t) => feed_type(t, state),
+        Contents::Elements(t, all) => feed_list(t, all, state),
     }
 }
 

@@ -5,7 +5,7 @@ ghost use Rattle.std.specs.Prelude.{◌≡◌, ◌↔◌, IsTrue, IfOk};
 use crate::equal::same_expr;
 use crate::expr::Expr;
 use crate::feed::{feed_expr, feed_type};
-use sample_core::{Memory, Ty, same_type};
+use sample_core::{Memory, Ty, same_type, try_copy_types};
 use std::alloc::Global;
 use std::hash::{Hash, Hasher};
 use std::marker::Model;
@@ -41,14 +41,19 @@ impl LeafKey {
     pub fn try_copy(&self, alloc: Global) -> Result<LeafKey, Memory>
         ensures { IfOk result (λ k. k ≡ self.now) }
     {
-        let params = copy_types(alloc, &self.params)?;
+        let params = try_copy_types(alloc, &self.params)?;
         let input = self.input.try_copy(alloc)?;
-        let expr = self.expr.try_copy(alloc)?;
-        Ok(LeafKey {
-            expr,
-            params,
-            input,
-        })
+        match self.expr.try_copy(alloc) {
+            Ok(expr) => Ok(LeafKey {
+                expr,
+                params,
+                input,
+            }),
+            Err(fault) => {
+                drop(input);
+                Err(fault)
+            }
+        }
     }
 
     /// Whether the two keys are equal.
@@ -68,18 +73,6 @@ impl LeafKey {
         }
         true
     }
-}
-
-/// Copies of the types, in order.
-fn copy_types(alloc: Global, types: &[Ty]) -> Result<Vec<Ty>, Memory>
-    ensures { IfOk result (λ copies. copies.items ≡ types.now) }
-{
-    let mut copies = Vec::with_capacity(alloc, types.len())?;
-    for ty in types {
-        let copy = ty.try_copy(alloc)?;
-        copies.push(copy)?;
-    }
-    Ok(copies)
 }
 
 impl PartialEq for LeafKey {

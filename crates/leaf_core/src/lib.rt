@@ -6,6 +6,7 @@ mod equal;
 mod evaluation;
 mod expr;
 mod feed;
+mod inside;
 mod key;
 mod laws;
 mod limits;

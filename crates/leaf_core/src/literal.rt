@@ -1,7 +1,7 @@
 // Literals.
 
 /// A constant that an expression writes out.
-#[derive(Clone, Copy, PartialEq, Eq, Debug)]
+#[derive(Clone, Copy)]
 pub enum Literal {
     /// `unit`.
     Unit,

@@ -1,12 +1,13 @@
 // What the forms of expressions do with the values of their parts.
 
-ghost use Rattle.std.specs.Prelude.{◌≡◌, IfOk, MatchOption, pos, neg_ℤ, ◌+ℤ◌, ◌-ℤ◌, ◌*ℤ◌, map, []};
+ghost use Rattle.std.specs.Prelude.{◌≡◌, IfOk, pos, neg_ℤ, map, []};
 ghost use Rattle.std.specs.Int.{int_wrap, w64};
-ghost use Rattle.sample_core.specs.Datum.{Datum, event, whole, left, right, unit};
+ghost use Rattle.sample_core.specs.Datum.{whole, left, right, unit};
 ghost use Rattle.sample_core.specs.Seen.{datum_of};
-ghost use Rattle.leaf_core.specs.Seen.{literal_of};
-ghost use Rattle.leaf_core.specs.ExpressionValue.{value_of, wrapped, is_true, on_event, element_at, count_of, param_at, same_datum};
+ghost use Rattle.leaf_core.specs.Seen.{expression_of, literal_of};
+ghost use Rattle.leaf_core.specs.ExpressionValue.{value_of, wrapped, is_true, of_numbers, element_at, count_of, param_at, same_datum};
 
+use crate::expr::Expr;
 use crate::literal::Literal;
 use sample_core::{Child, Memory, Sample, same};
 use std::alloc::Global;
@@ -39,25 +40,17 @@ pub fn negated(n: i64) -> Sample
     Sample::Int(n.wrapping_neg())
 }
 
-/// The sum modulo 2^64, read as signed.
-pub fn sum(m: i64, n: i64) -> Sample
-    ensures { datum_of result ≡ wrapped (m +ℤ n) }
+/// The sum, the difference, the product or the comparison of two numbers, as the form says. The
+/// first three are taken modulo 2^64 and read as signed.
+pub fn of_numbers(form: &Expr, m: i64, n: i64) -> Sample
+    ensures { datum_of result ≡ of_numbers (expression_of form.now) m n }
 {
-    Sample::Int(m.wrapping_add(n))
-}
-
-/// The difference modulo 2^64, read as signed.
-pub fn difference(m: i64, n: i64) -> Sample
-    ensures { datum_of result ≡ wrapped (m -ℤ n) }
-{
-    Sample::Int(m.wrapping_sub(n))
-}
-
-/// The product modulo 2^64, read as signed.
-pub fn product(m: i64, n: i64) -> Sample
-    ensures { datum_of result ≡ wrapped (m *ℤ n) }
-{
-    Sample::Int(m.wrapping_mul(n))
+    match form {
+        Expr::Add(..) => Sample::Int(m.wrapping_add(n)),
+        Expr::Sub(..) => Sample::Int(m.wrapping_sub(n)),
+        Expr::Mul(..) => Sample::Int(m.wrapping_mul(n)),
+        _ => Sample::Bool(m < n),
+    }
 }
 
 /// Whether a value is `true`.
@@ -68,32 +61,22 @@ pub fn truth(value: &Sample) -> bool
 }
 
 /// The first part of a pair; another value itself.
-pub fn first(alloc: Global, value: Sample) -> Result<Sample, Memory>
-    ensures { IfOk result (λ s. datum_of s ≡ left (datum_of value)) }
+pub fn first(alloc: Global, value: &Sample) -> Result<Sample, Memory>
+    ensures { IfOk result (λ s. datum_of s ≡ left (datum_of value.now)) }
 {
     match value {
         Sample::Pair(a, _) => a.get().try_copy(alloc),
-        other => Ok(other),
+        other => other.try_copy(alloc),
     }
 }
 
 /// The second part of a pair; another value itself.
-pub fn second(alloc: Global, value: Sample) -> Result<Sample, Memory>
-    ensures { IfOk result (λ s. datum_of s ≡ right (datum_of value)) }
+pub fn second(alloc: Global, value: &Sample) -> Result<Sample, Memory>
+    ensures { IfOk result (λ s. datum_of s ≡ right (datum_of value.now)) }
 {
     match value {
         Sample::Pair(_, b) => b.get().try_copy(alloc),
-        other => Ok(other),
-    }
-}
-
-/// What an event carries; `None` of another value.
-pub fn carried(value: Sample) -> Option<Child>
-    ensures { MatchOption result ((d : Datum) (b : Datum → Datum) → on_event (datum_of value) d b ≡ d) (λ c. datum_of value ≡ event c) }
-{
-    match value {
-        Sample::Event(carried) => Some(carried),
-        _ => None,
+        other => other.try_copy(alloc),
     }
 }
 
@@ -108,18 +91,18 @@ pub fn param(alloc: Global, params: &[Sample], k: u32) -> Result<Sample, Memory>
 }
 
 /// The element of a list value at a place, from 0; `default` outside.
-pub fn element(alloc: Global, value: &Sample, at: i64, default: Sample) -> Result<Sample, Memory>
-    ensures { IfOk result (λ s. datum_of s ≡ element_at (datum_of value.now) at (datum_of default)) }
+pub fn element(alloc: Global, value: &Sample, at: i64, default: &Sample) -> Result<Sample, Memory>
+    ensures { IfOk result (λ s. datum_of s ≡ element_at (datum_of value.now) at (datum_of default.now)) }
 {
     let Sample::List(all) = value else {
-        return Ok(default);
+        return default.try_copy(alloc);
     };
     let Ok(at) = usize::try_from(at) else {
-        return Ok(default);
+        return default.try_copy(alloc);
     };
     match all.as_slice().get(at) {
         Some(found) => found.try_copy(alloc),
-        None => Ok(default),
+        None => default.try_copy(alloc),
     }
 }
 

@@ -8,7 +8,7 @@ use crate::expr::Expr;
 use crate::literal::Literal;
 
 /// What an expression is, where it is one of the few that a closure of its own computes.
-#[derive(Clone, Copy, PartialEq, Eq, Debug)]
+#[derive(Clone, Copy)]
 pub enum Shape {
     /// `x`.
     Identity,

@@ -1,12 +1,14 @@
 // The type of an expression.
 
-ghost use Rattle.std.specs.Prelude.{◌≡◌, IfOk, List, Ok, map};
+ghost use Rattle.std.specs.Prelude.{◌≡◌, ◌≢◌, IfOk, MatchResult, List, Ok, Err, map};
 ghost use Rattle.sample_core.specs.TypeTree.{TypeTree, bool_ty, int_ty, pair_ty, event_ty, list_ty};
 ghost use Rattle.sample_core.specs.SeenType.{type_of};
 ghost use Rattle.leaf_core.specs.Expression.{expressions_of, make_pair, fst, snd, then, neg, add, less, equal, negation, conjunction, choice, make_event, on, make_list, nth, len};
 ghost use Rattle.leaf_core.specs.Seen.{expression_of, literal_of};
 ghost use Rattle.leaf_core.specs.ExpressionCheck.{carried_of, element_of, elements_walk, first_of, limited, of_type, on_ok, second_of, type_answer, type_of_param, type_walk, wanted};
+ghost use Rattle.leaf_core.specs.ExpressionLimits.{FullyChecked};
 ghost use Rattle.leaf_core.specs.Gives.{Gives, Passes};
+ghost use Rattle.leaf_core.specs.declared.typing.ExprFault.TheVariants as F;
 
 use crate::expr::{Expr, Part, Parts};
 use crate::limits::{expr_fits, type_fits};
@@ -53,6 +55,19 @@ impl From<Memory> for ExprFault {
 /// not as wanted, and `TooDeep` where a type that arises has a depth over 32 or more than 256
 /// nodes. `Memory` where a growth was refused.
 pub fn type_of_expr(alloc: Global, params: &[Ty], input: &Ty, expr: &Expr) -> Result<Ty, ExprFault>
+    // A type that is answered is the expression's, within all limits.
+    ensures typed { IfOk result (λ t. FullyChecked (expression_of expr.now) (map type_of params.now) (type_of input.now) (type_of t)) }
+    // The type that the expression has within all limits is answered, unless memory runs out.
+    ensures only { (t : TypeTree) → FullyChecked (expression_of expr.now) (map type_of params.now) (type_of input.now) t → Gives result (Ok t) }
+    // Which answer it is.
+    ensures exact { Gives result (type_answer (map type_of params.now) (type_of input.now) (expression_of expr.now)) }
+{
+    whole_type(alloc, params, input, expr)
+}
+
+/// What `type_of_expr` answers. It stands apart, since the other clauses of that contract follow
+/// from its exact one.
+fn whole_type(alloc: Global, params: &[Ty], input: &Ty, expr: &Expr) -> Result<Ty, ExprFault>
     ensures { Gives result (type_answer (map type_of params.now) (type_of input.now) (expression_of expr.now)) }
 {
     if !expr_fits(expr) {
@@ -67,8 +82,8 @@ fn walk(alloc: Global, params: &[Ty], input: &Ty, expr: &Expr) -> Result<Ty, Exp
     ensures { Gives result (type_walk (map type_of params.now) (type_of input.now) (expression_of expr.now)) }
 {
     match expr {
-        Expr::Input => limited(input.try_copy(alloc)?),
-        Expr::Param(k) => limited(param_type(alloc, params, *k)?),
+        Expr::Input => limited_copy(alloc, input),
+        Expr::Param(k) => param_type(alloc, params, *k),
         Expr::Literal(literal) => limited(literal_type(*literal)),
         Expr::Pair(a, b) => walk_pair(alloc, params, input, a, b),
         Expr::Fst(e) => walk_first(alloc, params, input, e),
@@ -95,9 +110,9 @@ fn walk(alloc: Global, params: &[Ty], input: &Ty, expr: &Expr) -> Result<Ty, Exp
 fn walk_pair(alloc: Global, params: &[Ty], input: &Ty, a: &Part, b: &Part) -> Result<Ty, ExprFault>
     ensures { Gives result (type_walk (map type_of params.now) (type_of input.now) (make_pair a.now b.now)) }
 {
-    let first = walk(alloc, params, input, a.get())?;
-    let second = walk(alloc, params, input, b.get())?;
-    limited(pair_type(alloc, first, second)?)
+    let first = walk_child(alloc, params, input, a)?;
+    let second = walk_child(alloc, params, input, b)?;
+    limited(Ty::Pair(first, second))
 }
 
 /// The type of the first part of a pair.
@@ -106,7 +121,9 @@ fn walk_first(alloc: Global, params: &[Ty], input: &Ty, e: &Part) -> Result<Ty, 
     ensures { Gives result (type_walk (map type_of params.now) (type_of input.now) (fst e.now)) }
 {
     let pair = walk(alloc, params, input, e.get())?;
-    limited(first_type(alloc, pair)?)
+    let first = first_type(alloc, &pair);
+    drop(pair);
+    first
 }
 
 /// The type of the second part of a pair.
@@ -115,7 +132,9 @@ fn walk_second(alloc: Global, params: &[Ty], input: &Ty, e: &Part) -> Result<Ty,
     ensures { Gives result (type_walk (map type_of params.now) (type_of input.now) (snd e.now)) }
 {
     let pair = walk(alloc, params, input, e.get())?;
-    limited(second_type(alloc, pair)?)
+    let second = second_type(alloc, &pair);
+    drop(pair);
+    second
 }
 
 /// The type of one expression behind another.
@@ -124,7 +143,9 @@ fn walk_then(alloc: Global, params: &[Ty], input: &Ty, f: &Part, g: &Part) -> Re
     ensures { Gives result (type_walk (map type_of params.now) (type_of input.now) (then f.now g.now)) }
 {
     let between = walk(alloc, params, input, f.get())?;
-    limited(walk(alloc, params, &between, g.get())?)
+    let found = walk(alloc, params, &between, g.get());
+    drop(between);
+    limited(found?)
 }
 
 /// The type of a negative.
@@ -162,7 +183,9 @@ fn walk_equal(alloc: Global, params: &[Ty], input: &Ty, a: &Part, b: &Part) -> R
     ensures { Gives result (type_walk (map type_of params.now) (type_of input.now) (equal a.now b.now)) }
 {
     let first = walk(alloc, params, input, a.get())?;
-    walk_wanted(alloc, params, input, b, &first)?;
+    let tested = walk_wanted(alloc, params, input, b.get(), &first);
+    drop(first);
+    tested?;
     limited(Ty::Bool)
 }
 
@@ -213,8 +236,8 @@ fn walk_branches(
     ensures { Gives result (on_ok (type_walk (map type_of params.now) (type_of input.now) a.now) (λ B. of_type (type_walk (map type_of params.now) (type_of input.now) b.now) B (limited B))) }
 {
     let first = walk(alloc, params, input, a.get())?;
-    walk_wanted(alloc, params, input, b, &first)?;
-    limited(first)
+    let tested = walk_wanted(alloc, params, input, b.get(), &first);
+    passed(tested, first)
 }
 
 /// The type of an event.
@@ -222,8 +245,8 @@ fn walk_branches(
 fn walk_event(alloc: Global, params: &[Ty], input: &Ty, e: &Part) -> Result<Ty, ExprFault>
     ensures { Gives result (type_walk (map type_of params.now) (type_of input.now) (make_event e.now)) }
 {
-    let carried = walk(alloc, params, input, e.get())?;
-    limited(event_type(alloc, carried)?)
+    let carried = walk_child(alloc, params, input, e)?;
+    limited(Ty::Event(carried))
 }
 
 /// The type of an expression on an event, or else another.
@@ -239,26 +262,62 @@ fn walk_on(
     ensures { Gives result (type_walk (map type_of params.now) (type_of input.now) (on e.now d.now b.now)) }
 {
     let event = walk(alloc, params, input, e.get())?;
-    let carried = carried_type(alloc, event)?;
-    let default = walk(alloc, params, input, d.get())?;
-    walk_body(alloc, params, input, carried, b, default)
+    let found = walk_on_event(alloc, params, input, &event, d, b);
+    drop(event);
+    found
 }
 
-/// The type of the expression on an event that carries the type, where another is of the type.
+/// The same, where the event is of the type.
+#[cycle(walk)]
+fn walk_on_event(
+    alloc: Global,
+    params: &[Ty],
+    input: &Ty,
+    event: &Ty,
+    d: &Part,
+    b: &Part,
+) -> Result<Ty, ExprFault>
+    ensures { Gives result (on_ok (carried_of (type_of event.now)) (λ V. on_ok (type_walk (map type_of params.now) (type_of input.now) d.now) (λ C. on_ok (limited (pair_ty (type_of input.now) V)) (λ I. of_type (type_walk (map type_of params.now) I b.now) C (limited C))))) }
+{
+    match event {
+        Ty::Event(carried) => walk_default(alloc, params, input, carried.get(), d, b),
+        _ => Err(ExprFault::Mismatch),
+    }
+}
+
+/// The same, where the event carries the type.
+#[cycle(walk)]
+fn walk_default(
+    alloc: Global,
+    params: &[Ty],
+    input: &Ty,
+    carried: &Ty,
+    d: &Part,
+    b: &Part,
+) -> Result<Ty, ExprFault>
+    ensures { Gives result (on_ok (type_walk (map type_of params.now) (type_of input.now) d.now) (λ C. on_ok (limited (pair_ty (type_of input.now) (type_of carried.now))) (λ I. of_type (type_walk (map type_of params.now) I b.now) C (limited C)))) }
+{
+    let default = walk(alloc, params, input, d.get())?;
+    let tested = walk_body(alloc, params, input, carried, b, &default);
+    passed(tested, default)
+}
+
+/// Tests that the expression on an event that carries the type is of the type that is wanted.
 #[cycle(walk)]
 fn walk_body(
     alloc: Global,
     params: &[Ty],
     input: &Ty,
-    carried: Ty,
+    carried: &Ty,
     b: &Part,
-    default: Ty,
-) -> Result<Ty, ExprFault>
-    ensures { Gives result (on_ok (limited (pair_ty (type_of input.now) (type_of carried))) (λ I. of_type (type_walk (map type_of params.now) I b.now) (type_of default) (limited (type_of default)))) }
+    ty: &Ty,
+) -> Result<(), ExprFault>
+    ensures { Passes result (on_ok (limited (pair_ty (type_of input.now) (type_of carried.now))) (λ I. wanted (type_walk (map type_of params.now) I b.now) (type_of ty.now))) (type_of ty.now) }
 {
     let inner = body_input(alloc, input, carried)?;
-    walk_wanted(alloc, params, &inner, b, &default)?;
-    limited(default)
+    let tested = walk_wanted(alloc, params, &inner, b.get(), ty);
+    drop(inner);
+    tested
 }
 
 /// The type of a list.
@@ -272,8 +331,10 @@ fn walk_list(
 ) -> Result<Ty, ExprFault>
     ensures { Gives result (type_walk (map type_of params.now) (type_of input.now) (make_list (type_of element.now) (expressions_of all.now))) }
 {
-    let element = limited(element.try_copy(alloc)?)?;
-    walk_elements(alloc, params, input, &element, all)
+    if !type_fits(element) {
+        return Err(ExprFault::TooDeep);
+    }
+    walk_elements(alloc, params, input, element, all)
 }
 
 /// The type of an element of a list.
@@ -289,10 +350,44 @@ fn walk_nth(
     ensures { Gives result (type_walk (map type_of params.now) (type_of input.now) (nth e.now i.now d.now)) }
 {
     let list = walk(alloc, params, input, e.get())?;
-    let element = element_type(alloc, list)?;
+    let found = walk_nth_of(alloc, params, input, &list, i, d);
+    drop(list);
+    found
+}
+
+/// The same, where the list is of the type.
+#[cycle(walk)]
+fn walk_nth_of(
+    alloc: Global,
+    params: &[Ty],
+    input: &Ty,
+    list: &Ty,
+    i: &Part,
+    d: &Part,
+) -> Result<Ty, ExprFault>
+    ensures { Gives result (on_ok (element_of (type_of list.now)) (λ T. of_type (type_walk (map type_of params.now) (type_of input.now) i.now) int_ty (of_type (type_walk (map type_of params.now) (type_of input.now) d.now) T (limited T)))) }
+{
+    match list {
+        Ty::List(element) => walk_element(alloc, params, input, element.get(), i, d),
+        _ => Err(ExprFault::Mismatch),
+    }
+}
+
+/// The same, where the elements are of the type.
+#[cycle(walk)]
+fn walk_element(
+    alloc: Global,
+    params: &[Ty],
+    input: &Ty,
+    element: &Ty,
+    i: &Part,
+    d: &Part,
+) -> Result<Ty, ExprFault>
+    ensures { Gives result (of_type (type_walk (map type_of params.now) (type_of input.now) i.now) int_ty (of_type (type_walk (map type_of params.now) (type_of input.now) d.now) (type_of element.now) (limited (type_of element.now)))) }
+{
     walk_int(alloc, params, input, i)?;
-    walk_wanted(alloc, params, input, d, &element)?;
-    limited(element)
+    walk_wanted(alloc, params, input, d.get(), element)?;
+    limited_copy(alloc, element)
 }
 
 /// The type of a length.
@@ -301,23 +396,36 @@ fn walk_len(alloc: Global, params: &[Ty], input: &Ty, e: &Part) -> Result<Ty, Ex
     ensures { Gives result (type_walk (map type_of params.now) (type_of input.now) (len e.now)) }
 {
     let list = walk(alloc, params, input, e.get())?;
-    element_type(alloc, list)?;
-    limited(Ty::Int)
+    let found = length_type(&list);
+    drop(list);
+    found
 }
 
-/// Tests that a part has the type that is wanted.
+/// The type of a part, as a part of another.
+#[cycle(walk)]
+fn walk_child(alloc: Global, params: &[Ty], input: &Ty, part: &Part) -> Result<TyChild, ExprFault>
+    ensures { MatchResult result (λ t. type_walk (map type_of params.now) (type_of input.now) part.now ≡ Ok t) (λ f. f ≢ F.Memory → type_walk (map type_of params.now) (type_of input.now) part.now ≡ Err f) }
+{
+    let found = walk(alloc, params, input, part.get())?;
+    let child = TyChild::new(alloc, found)?;
+    Ok(child)
+}
+
+/// Tests that an expression has the type that is wanted.
 #[cycle(walk)]
 fn walk_wanted(
     alloc: Global,
     params: &[Ty],
     input: &Ty,
-    part: &Part,
+    expr: &Expr,
     ty: &Ty,
 ) -> Result<(), ExprFault>
-    ensures { Passes result (wanted (type_walk (map type_of params.now) (type_of input.now) part.now) (type_of ty.now)) (type_of ty.now) }
+    ensures { Passes result (wanted (type_walk (map type_of params.now) (type_of input.now) (expression_of expr.now)) (type_of ty.now)) (type_of ty.now) }
 {
-    let found = walk(alloc, params, input, part.get())?;
-    matching(found, ty)
+    let found = walk(alloc, params, input, expr)?;
+    let tested = matching(&found, ty);
+    drop(found);
+    tested
 }
 
 /// Tests that a part is a number.
@@ -325,7 +433,7 @@ fn walk_wanted(
 fn walk_int(alloc: Global, params: &[Ty], input: &Ty, part: &Part) -> Result<(), ExprFault>
     ensures { Passes result (wanted (type_walk (map type_of params.now) (type_of input.now) part.now) int_ty) int_ty }
 {
-    walk_wanted(alloc, params, input, part, &Ty::Int)
+    walk_wanted(alloc, params, input, part.get(), &Ty::Int)
 }
 
 /// Tests that a part is a truth.
@@ -333,7 +441,7 @@ fn walk_int(alloc: Global, params: &[Ty], input: &Ty, part: &Part) -> Result<(),
 fn walk_bool(alloc: Global, params: &[Ty], input: &Ty, part: &Part) -> Result<(), ExprFault>
     ensures { Passes result (wanted (type_walk (map type_of params.now) (type_of input.now) part.now) bool_ty) bool_ty }
 {
-    walk_wanted(alloc, params, input, part, &Ty::Bool)
+    walk_wanted(alloc, params, input, part.get(), &Ty::Bool)
 }
 
 /// The type of a list of elements that are wanted to be of one type.
@@ -348,20 +456,32 @@ fn walk_elements(
     ensures { Gives result (elements_walk (map type_of params.now) (type_of input.now) (type_of element.now) (expressions_of all.now)) }
 {
     for part in all.as_slice() {
-        let found = walk(alloc, params, input, part)?;
-        matching(found, element)?;
+        walk_wanted(alloc, params, input, part, element)?;
     }
-    limited(list_type(alloc, element.try_copy(alloc)?)?)
+    list_type(alloc, element)
 }
 
 /// Tests that the type that was found is the one that is wanted.
-fn matching(found: Ty, ty: &Ty) -> Result<(), ExprFault>
-    ensures { Passes result (wanted (Ok (type_of found)) (type_of ty.now)) (type_of ty.now) }
+fn matching(found: &Ty, ty: &Ty) -> Result<(), ExprFault>
+    ensures { Passes result (wanted (Ok (type_of found.now)) (type_of ty.now)) (type_of ty.now) }
 {
-    if same_type(&found, ty) {
+    if same_type(found, ty) {
         Ok(())
     } else {
         Err(ExprFault::Mismatch)
+    }
+}
+
+/// The type, where a test was passed and the type is within the limits.
+fn passed(tested: Result<(), ExprFault>, ty: Ty) -> Result<Ty, ExprFault>
+    ensures { MatchResult tested (λ _. Gives result (limited (type_of ty))) (λ f. result ≡ Err f) }
+{
+    match tested {
+        Ok(()) => limited(ty),
+        Err(fault) => {
+            drop(ty);
+            Err(fault)
+        }
     }
 }
 
@@ -369,26 +489,59 @@ fn matching(found: Ty, ty: &Ty) -> Result<(), ExprFault>
 fn no_event_type(alloc: Global, carried: &Ty) -> Result<Ty, ExprFault>
     ensures { Gives result (on_ok (limited (type_of carried.now)) (λ T. limited (event_ty T))) }
 {
-    let carried = limited(carried.try_copy(alloc)?)?;
-    limited(event_type(alloc, carried)?)
+    if !type_fits(carried) {
+        return Err(ExprFault::TooDeep);
+    }
+    let carried = copied_child(alloc, carried)?;
+    limited(Ty::Event(carried))
 }
 
 /// The type of the input with what an event carries, where it is within the limits.
-fn body_input(alloc: Global, input: &Ty, carried: Ty) -> Result<Ty, ExprFault>
-    ensures { Gives result (limited (pair_ty (type_of input.now) (type_of carried))) }
+fn body_input(alloc: Global, input: &Ty, carried: &Ty) -> Result<Ty, ExprFault>
+    ensures { Gives result (limited (pair_ty (type_of input.now) (type_of carried.now))) }
 {
-    let input = input.try_copy(alloc)?;
-    limited(pair_type(alloc, input, carried)?)
+    let input = copied_child(alloc, input)?;
+    let carried = copied_child(alloc, carried)?;
+    limited(Ty::Pair(input, carried))
+}
+
+/// The type of lists of the type, where it is within the limits.
+fn list_type(alloc: Global, element: &Ty) -> Result<Ty, ExprFault>
+    ensures { Gives result (limited (list_ty (type_of element.now))) }
+{
+    let element = copied_child(alloc, element)?;
+    limited(Ty::List(element))
+}
+
+/// A copy of the type, as a part of another.
+fn copied_child(alloc: Global, ty: &Ty) -> Result<TyChild, Memory>
+    ensures { IfOk result (λ t. t ≡ type_of ty.now) }
+{
+    let copy = ty.try_copy(alloc)?;
+    TyChild::new(alloc, copy)
 }
 
 /// The type, where it is within the limits.
 fn limited(ty: Ty) -> Result<Ty, ExprFault>
     ensures { Gives result (limited (type_of ty)) }
 {
-    if !type_fits(&ty) {
+    if type_fits(&ty) {
+        Ok(ty)
+    } else {
+        drop(ty);
+        Err(ExprFault::TooDeep)
+    }
+}
+
+/// A copy of the type, where it is within the limits.
+fn limited_copy(alloc: Global, ty: &Ty) -> Result<Ty, ExprFault>
+    ensures { Gives result (limited (type_of ty.now)) }
+{
+    if !type_fits(ty) {
         return Err(ExprFault::TooDeep);
     }
-    Ok(ty)
+    let copy = ty.try_copy(alloc)?;
+    Ok(copy)
 }
 
 /// The type of a literal.
@@ -402,73 +555,42 @@ fn literal_type(literal: Literal) -> Ty
     }
 }
 
-/// The type of parameter k.
+/// The type of parameter k, where it is within the limits.
 fn param_type(alloc: Global, params: &[Ty], k: u32) -> Result<Ty, ExprFault>
-    ensures { Gives result (type_of_param (map type_of params.now) k) }
+    ensures { Gives result (on_ok (type_of_param (map type_of params.now) k) limited) }
 {
     match params.get(k as usize) {
-        Some(ty) => Ok(ty.try_copy(alloc)?),
+        Some(ty) => limited_copy(alloc, ty),
         None => Err(ExprFault::NoParam),
     }
 }
 
-/// The type of pairs of the two types.
-fn pair_type(alloc: Global, first: Ty, second: Ty) -> Result<Ty, Memory>
-    ensures { IfOk result (λ t. type_of t ≡ pair_ty (type_of first) (type_of second)) }
+/// The type of a pair's first part, where it is within the limits.
+fn first_type(alloc: Global, pair: &Ty) -> Result<Ty, ExprFault>
+    ensures { Gives result (on_ok (first_of (type_of pair.now)) limited) }
 {
-    Ok(Ty::Pair(TyChild::new(alloc, first)?, TyChild::new(alloc, second)?))
-}
-
-/// The type of events that carry the type.
-fn event_type(alloc: Global, carried: Ty) -> Result<Ty, Memory>
-    ensures { IfOk result (λ t. type_of t ≡ event_ty (type_of carried)) }
-{
-    Ok(Ty::Event(TyChild::new(alloc, carried)?))
-}
-
-/// The type of lists of the type.
-fn list_type(alloc: Global, element: Ty) -> Result<Ty, Memory>
-    ensures { IfOk result (λ t. type_of t ≡ list_ty (type_of element)) }
-{
-    Ok(Ty::List(TyChild::new(alloc, element)?))
-}
-
-/// The type of a pair's first part.
-fn first_type(alloc: Global, ty: Ty) -> Result<Ty, ExprFault>
-    ensures { Gives result (first_of (type_of ty)) }
-{
-    match ty {
-        Ty::Pair(first, _) => Ok(first.get().try_copy(alloc)?),
+    match pair {
+        Ty::Pair(first, _) => limited_copy(alloc, first.get()),
         _ => Err(ExprFault::Mismatch),
     }
 }
 
-/// The type of a pair's second part.
-fn second_type(alloc: Global, ty: Ty) -> Result<Ty, ExprFault>
-    ensures { Gives result (second_of (type_of ty)) }
+/// The type of a pair's second part, where it is within the limits.
+fn second_type(alloc: Global, pair: &Ty) -> Result<Ty, ExprFault>
+    ensures { Gives result (on_ok (second_of (type_of pair.now)) limited) }
 {
-    match ty {
-        Ty::Pair(_, second) => Ok(second.get().try_copy(alloc)?),
+    match pair {
+        Ty::Pair(_, second) => limited_copy(alloc, second.get()),
         _ => Err(ExprFault::Mismatch),
     }
 }
 
-/// The type of what an event carries.
-fn carried_type(alloc: Global, ty: Ty) -> Result<Ty, ExprFault>
-    ensures { Gives result (carried_of (type_of ty)) }
+/// The type of a list's length.
+fn length_type(list: &Ty) -> Result<Ty, ExprFault>
+    ensures { Gives result (on_ok (element_of (type_of list.now)) (λ _. limited int_ty)) }
 {
-    match ty {
-        Ty::Event(carried) => Ok(carried.get().try_copy(alloc)?),
-        _ => Err(ExprFault::Mismatch),
-    }
-}
-
-/// The type of a list's elements.
-fn element_type(alloc: Global, ty: Ty) -> Result<Ty, ExprFault>
-    ensures { Gives result (element_of (type_of ty)) }
-{
-    match ty {
-        Ty::List(element) => Ok(element.get().try_copy(alloc)?),
+    match list {
+        Ty::List(_) => limited(Ty::Int),
         _ => Err(ExprFault::Mismatch),
     }
 }

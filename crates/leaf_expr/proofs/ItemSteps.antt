@@ -10,7 +10,7 @@ use Rattle.leaf_expr.specs.Reader.{Fault, syntax, number, too_deep, Read, ◌>>=
 use Rattle.leaf_expr.specs.ReadText.{Refuses, begins_closing}
 use Rattle.leaf_expr.specs.declared.text_fault.ExprTextFault.{ExprTextFault}
 use Rattle.leaf_expr.specs.declared.text_fault.ExprTextFault.TheVariants as V
-use Rattle.leaf_expr.proofs.ReadSteps.{with, with_bind}
+use Rattle.leaf_expr.proofs.ReadSteps.{with, with_bind, passed}
 use Rattle.leaf_expr.proofs.ReadCounts.{read_all_count, read_shortens}
 
 -- what was read, behind what was read before
@@ -102,3 +102,6 @@ list_refuses size room (V.Number n) ts p q = list_refused size room (number n) t
 list_refuses size room (V.TooDeep n) ts p q = list_refused size room (too_deep n) ts p q
 list_refuses size room V.TooLong ts p q = q
 list_refuses size room V.Memory ts p q = tt
+
+pub no_list_type : (size room : ℕ) (f : ExprTextFault) (ts : List Placed) → Refuses f (read leaf size room type_sort ts) → Refuses f (read_parts leaf size (read leaf size room) room (place type_sort (places expression_sort)) (λ A xs. make_list A (expressions_of xs)) ts)
+no_list_type size room f ts p = passed f (read leaf size room type_sort ts) _ p

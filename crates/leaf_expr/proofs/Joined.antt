@@ -1,5 +1,5 @@
 -- What is printed part by part is the printed form.
-use Rattle.std.proofs.Common.{◌≡◌, ℕ, zero, suc, ◌<◌, List, [], ◌∷◌, ◌++◌, length, get_or, map, refl, ap, ◌∙◌, append_assoc, arith}
+use Rattle.std.proofs.Common.{◌≡◌, ℕ, zero, suc, ◌<◌, List, [], ◌∷◌, ◌++◌, length, get_or, map, refl, sym, ap, ◌∙◌, subst, append_assoc, arith, Result, Ok, Err}
 use Rattle.std.proofs.lemmas.List.{append-nil}
 use Rattle.std.specs.Prelude.{codes}
 use Rattle.sample_core.specs.TypeTree.{TypeTree, unit_ty, bool_ty, int_ty, pair_ty, event_ty, list_ty}
@@ -7,7 +7,9 @@ use Rattle.sample_core.specs.Spelling.{type_spelling}
 use Rattle.leaf_core.specs.Expression.{expression_size, expressions_size, expressions_of}
 use Rattle.leaf_core.specs.Seen.{expression_of}
 use Rattle.leaf_core.specs.declared.expr.Expr.{Expr}
-use Rattle.leaf_expr.specs.Part.{spelling}
+use Rattle.sample_core.specs.Adding.{Extends, Adds}
+use Rattle.sample_core.proofs.Adding.{extends_added}
+use Rattle.leaf_expr.specs.Part.{Part, Parts, more, spelling, spellings}
 use Rattle.leaf_expr.specs.Printed.{type_part}
 
 pair_joined : (a b : List ℕ) → (a ++ (32 ∷ b ++ [])) ++ 41 ∷ [] ≡ a ++ (codes " " ++ (b ++ codes ")"))
@@ -24,11 +26,22 @@ type_spelled (pair_ty a b) = rw (type_spelled a, type_spelled b) (ap (λ x. code
 type_spelled (event_ty a) = rw (type_spelled a) (ap (λ x. codes "(Event " ++ x) (alone_joined (type_spelling a)))
 type_spelled (list_ty a) = rw (type_spelled a) (ap (λ x. codes "(List " ++ x) (alone_joined (type_spelling a)))
 
-pub one_joined : (o w a : List ℕ) → o ++ (40 ∷ w) ++ (32 ∷ a) ++ (41 ∷ []) ≡ o ++ (40 ∷ w ++ ((32 ∷ a ++ []) ++ 41 ∷ []))
-one_joined o w a = simp append_assoc refl
+-- bytes were added, and then others by a call
+pub adds_behind : {T E : Type 0} (r : Result T E) (old mid new a b : List ℕ) → mid ≡ old ++ a → Adds r mid new b → Adds r old new (a ++ b)
+adds_behind (Ok x) old mid new a b e h = h ∙ ap (λ t. t ++ b) e ∙ append_assoc old a b
+adds_behind (Err y) old mid new a b e h = extends_added old mid new a e h
 
-pub list_joined : (o w a all : List ℕ) → o ++ (40 ∷ w) ++ (32 ∷ a) ++ all ++ (41 ∷ []) ≡ o ++ (40 ∷ w ++ ((32 ∷ a ++ all) ++ 41 ∷ []))
-list_joined o w a all = simp append_assoc refl
+-- a part, and then further parts and the form's end
+pub next_behind : (p : Part) (ps : Parts) → (32 ∷ spelling p) ++ (spellings ps ++ 41 ∷ []) ≡ spellings (more p ps) ++ 41 ∷ []
+next_behind p ps = sym (append_assoc (32 ∷ spelling p) (spellings ps) (41 ∷ []))
+
+-- a part, and then a call that adds further parts and the form's end
+pub adds_next : {T E : Type 0} (r : Result T E) (old mid new : List ℕ) (p : Part) (ps : Parts) → mid ≡ old ++ (32 ∷ spelling p) → Adds r mid new (spellings ps ++ 41 ∷ []) → Adds r old new (spellings (more p ps) ++ 41 ∷ [])
+adds_next r old mid new p ps e h = subst (Adds r old new) (next_behind p ps) (adds_behind r old mid new (32 ∷ spelling p) (spellings ps ++ 41 ∷ []) e h)
+
+-- the text grew, and grew again
+pub extends_twice : (old mid new : List ℕ) → Extends old mid → Extends mid new → Extends old new
+extends_twice old mid new x y = extends_added old mid new x.behind x.joined y
 
 -- an element of a list expression is smaller than the elements
 pub element_smaller : (all : List Expr) (i : ℕ) (s : Expr) → i < length all → expression_size (expression_of (get_or all i s)) < expressions_size (expressions_of (map expression_of all))

@@ -1,12 +1,13 @@
 -- Steps of reading, as the code takes them.
 use Rattle.std.proofs.Common.{◌≡◌, ◌≢◌, ℕ, zero, suc, ◌+◌, List, ◌∷◌, refl, ap, ◌∙◌, sym, subst, arith, Result, Ok, Err, Some, None}
+use Rattle.std.specs.Result.{IsErrAnd}
 use Rattle.leaf_expr.specs.Token.{opening, closing, Placed}
 use Rattle.sample_core.specs.TypeTree.{TypeTree}
-use Rattle.leaf_core.specs.Expression.{Expression, parameter, none_of}
-use Rattle.leaf_expr.specs.Language.{Row, no_place, place}
-use Rattle.leaf_expr.specs.Grammar.{leaf, Sort, Tree, type_sort, expression_sort, index_sort, row_at, e}
+use Rattle.leaf_core.specs.Expression.{Expression, none_of}
+use Rattle.leaf_expr.specs.Language.{Places, Maker, Row, no_place, place}
+use Rattle.leaf_expr.specs.Grammar.{leaf, Sort, Tree, type_sort, expression_sort, row_at, e}
 use Rattle.leaf_expr.specs.Reader.{Fault, syntax, number, too_deep, Read, unfit_token, ◌>>=◌, read, read_form, read_head, read_row, read_parts, read_end}
-use Rattle.leaf_expr.specs.ReadText.{Refuses}
+use Rattle.leaf_expr.specs.ReadText.{Refuses, Gives}
 use Rattle.leaf_expr.specs.declared.text_fault.ExprTextFault.{ExprTextFault}
 use Rattle.leaf_expr.specs.declared.text_fault.ExprTextFault.TheVariants as V
 
@@ -36,12 +37,24 @@ refused_same A B (V.TooDeep n) d p = let i : d ≡ too_deep n = cc in ap Err i
 refused_same A B V.TooLong d p = p
 refused_same A B V.Memory d p = p
 
+-- a refusal goes through what would follow
+pub passed : {A B : Type 0} (x : ExprTextFault) (r : Result A Fault) (g : A → Result B Fault) → Refuses x r → Refuses x (r >>= g)
+passed (V.Syntax n) r g p = ap (λ y. y >>= g) p
+passed (V.Number n) r g p = ap (λ y. y >>= g) p
+passed (V.TooDeep n) r g p = ap (λ y. y >>= g) p
+passed V.TooLong r g p = p
+passed V.Memory r g p = p
+
 -- a form by its word
 pub named : {n : ℕ} {w : List ℕ} {ts : List Placed} (size room m : ℕ) (s : Sort) (us : List Placed) (r : Row Sort Tree (Tree s)) → read_head leaf size room us ≡ Ok (n, w, ts) → Some r ≡ row_at s w → read_form leaf size (read leaf size m) room s us ≡ read_parts leaf size (read leaf size m) room r.takes r.makes ts
 named {n = n} {ts = ts} size room m s us r e f = ap (λ h. h >>= (λ h. read_row leaf size (read leaf size m) room h.0 (row_at s h.1) h.2)) e ∙ ap (λ o. read_row leaf size (read leaf size m) room n o ts) (sym f)
 
 pub unnamed : {n : ℕ} {w : List ℕ} {ts : List Placed} (size room m : ℕ) (s : Sort) (us : List Placed) → read_head leaf size room us ≡ Ok (n, w, ts) → None ≡ row_at s w → read_form leaf size (read leaf size m) room s us ≡ Err (syntax n)
 unnamed {n = n} {ts = ts} size room m s us e f = ap (λ h. h >>= (λ h. read_row leaf size (read leaf size m) room h.0 (row_at s h.1) h.2)) e ∙ ap (λ o. read_row leaf size (read leaf size m) room n o ts) (sym f)
+
+-- a form without a word
+pub headless : (x : ExprTextFault) (size room m : ℕ) (s : Sort) (us : List Placed) → Refuses x (read_head leaf size room us) → Refuses x (read_form leaf size (read leaf size m) room s us)
+headless x size room m s us p = passed x (read_head leaf size room us) _ p
 
 -- what was read, made into something else
 abbrev pub with : {T R : Type 0} → (T → R) → Read T → Read R
@@ -51,18 +64,19 @@ pub with_bind : {A T R : Type 0} (f : T → R) (r : Result A Fault) (g : A → R
 with_bind f (Ok x) g h e = e x
 with_bind f (Err d) g h e = refl
 
--- a refusal goes through what would follow
-pub passed : {A B : Type 0} (x : ExprTextFault) (r : Result A Fault) (g : A → Result B Fault) → Refuses x r → Refuses x (r >>= g)
-passed (V.Syntax n) r g p = ap (λ y. y >>= g) p
-passed (V.Number n) r g p = ap (λ y. y >>= g) p
-passed (V.TooDeep n) r g p = ap (λ y. y >>= g) p
-passed V.TooLong r g p = p
-passed V.Memory r g p = p
-
 -- a refusal of what something was made into is one of it
 pub with_refused : {A T R : Type 0} (x : ExprTextFault) (f : T → R) (r : Read T) (g : T × ℕ × List Placed → Result A Fault) → Refuses x (with f r) → Refuses x (r >>= g)
 with_refused x f (Ok y) g p = refused_ok x _ _ p
 with_refused x f (Err d) g p = refused_same _ _ x d p
+
+-- what a `?` returns of a refusal
+pub told : {X Y : Type 0} (view : X → Y) (r : Result X ExprTextFault) (x : ExprTextFault) (read : Result Y Fault) → IsErrAnd r (λ y. y ≡ x) → Refuses x read → Gives view r read
+told view (Ok y) x read p q = absurd p
+told view (Err y) x read p q = subst (λ z. Refuses z read) (sym p) q
+
+-- what a `?` returns where memory ran out
+pub told_memory : {X Y : Type 0} (view : X → Y) (r : Result X ExprTextFault) (read : Result Y Fault) → IsErrAnd r (λ y. y ≡ V.Memory) → Gives view r read
+told_memory view r read p = told view r V.Memory read p tt
 
 -- the parts of a form one by one, and its end
 module _ (size room : ℕ) where
@@ -93,6 +107,25 @@ module _ (size room : ℕ) where
 
   pub two_refused : {R : Type 0} (x : ExprTextFault) (make : Expression → Expression → R) (ts : List Placed) → Refuses x (last_two ts) → Refuses x (read_parts leaf size (read leaf size room) room (e (e no_place)) make ts)
   two_refused x make ts p = subst (Refuses x) (sym (two_with make ts)) (passed x (last_two ts) _ p)
+
+  -- a part and the end, and two parts and the end
+  pub one_part : {R : Type 0} (s : Sort) {a : Tree s} {n j : ℕ} {us ws : List Placed} (make : Tree s → R) (ts : List Placed) → read leaf size room s ts ≡ Ok (a, n, us) → read_end leaf size room us ≡ Ok (j, ws) → read_parts leaf size (read leaf size room) room (place s no_place) make ts ≡ Ok (make a, j, ws)
+  one_part s make ts p q = rw (p, q) refl
+
+  pub no_part : (R : Type 0) (s : Sort) (x : ExprTextFault) (qs : Places Sort) (make : Tree s → Maker Tree qs R) (ts : List Placed) → Refuses x (read leaf size room s ts) → Refuses x (read_parts leaf size (read leaf size room) room (place s qs) make ts)
+  no_part R s x qs make ts p = passed x (read leaf size room s ts) _ p
+
+  pub no_end : {R : Type 0} (s : Sort) {a : Tree s} {n : ℕ} {us : List Placed} (x : ExprTextFault) (make : Tree s → R) (ts : List Placed) → read leaf size room s ts ≡ Ok (a, n, us) → Refuses x (read_end leaf size room us) → Refuses x (read_parts leaf size (read leaf size room) room (place s no_place) make ts)
+  no_end s {us = us} x make ts p q = rw p (passed x (read_end leaf size room us) _ q)
+
+  pub two_parts : {a b : Expression} {n m j : ℕ} {us vs ws : List Placed} (ts : List Placed) → read leaf size room expression_sort ts ≡ Ok (a, n, us) → read leaf size room expression_sort us ≡ Ok (b, m, vs) → read_end leaf size room vs ≡ Ok (j, ws) → last_two ts ≡ Ok ((a, b), j, ws)
+  two_parts ts p q r = rw (p, q, r) refl
+
+  pub no_second : {a : Expression} {n : ℕ} {us : List Placed} (x : ExprTextFault) (ts : List Placed) → read leaf size room expression_sort ts ≡ Ok (a, n, us) → Refuses x (read leaf size room expression_sort us) → Refuses x (last_two ts)
+  no_second {us = us} x ts p q = rw p (passed x (read leaf size room expression_sort us) _ q)
+
+  pub no_two_end : {a b : Expression} {n m : ℕ} {us vs : List Placed} (x : ExprTextFault) (ts : List Placed) → read leaf size room expression_sort ts ≡ Ok (a, n, us) → read leaf size room expression_sort us ≡ Ok (b, m, vs) → Refuses x (read_end leaf size room vs) → Refuses x (last_two ts)
+  no_two_end {vs = vs} x ts p q r = rw (p, q) (passed x (read_end leaf size room vs) _ r)
 
   -- two types: one, and the last one with the end
   pub two_types : {a b : TypeTree} {n j : ℕ} {us ws : List Placed} (make : TypeTree → TypeTree → TypeTree) (ts : List Placed) → read leaf size room type_sort ts ≡ Ok (a, n, us) → last_one type_sort us ≡ Ok (b, j, ws) → read_parts leaf size (read leaf size room) room (place type_sort (place type_sort no_place)) make ts ≡ Ok (make a b, j, ws)
@@ -125,12 +158,3 @@ module _ (size room : ℕ) where
 
   pub no_typed : (x : ExprTextFault) (make : Expression → Expression → Expression → Expression) (ts : List Placed) → Refuses x (with none_of (read leaf size room type_sort ts)) → Refuses x (read_parts leaf size (read leaf size room) room (place type_sort (e (e no_place))) (λ T. make (none_of T)) ts)
   no_typed x make ts p = with_refused x none_of (read leaf size room type_sort ts) _ p
-
-  pub one_index : {i n j : ℕ} {us ws : List Placed} (ts : List Placed) → read leaf size room index_sort ts ≡ Ok (i, n, us) → read_end leaf size room us ≡ Ok (j, ws) → read_parts leaf size (read leaf size room) room (place index_sort no_place) parameter ts ≡ Ok (parameter i, j, ws)
-  one_index ts p q = rw (p, q) refl
-
-  pub one_none : {a : TypeTree} {n j : ℕ} {us ws : List Placed} (ts : List Placed) → read leaf size room type_sort ts ≡ Ok (a, n, us) → read_end leaf size room us ≡ Ok (j, ws) → read_parts leaf size (read leaf size room) room (place type_sort no_place) none_of ts ≡ Ok (none_of a, j, ws)
-  one_none ts p q = rw (p, q) refl
-
-  pub one_part : {a : Expression} {n j : ℕ} {us ws : List Placed} (make : Expression → Expression) (ts : List Placed) → read leaf size room expression_sort ts ≡ Ok (a, n, us) → read_end leaf size room us ≡ Ok (j, ws) → read_parts leaf size (read leaf size room) room (place expression_sort no_place) make ts ≡ Ok (make a, j, ws)
-  one_part make ts p q = rw (p, q) refl

@@ -1,11 +1,12 @@
 // The one printed form of expressions: core forms, one space between tokens, none inside a
 // parenthesis' edges.
 
-ghost use Rattle.std.specs.Prelude.{◌≡◌, ◌++◌, ◌∷◌, [], IfOk, OnOk, string_bytes};
+ghost use Rattle.std.specs.Prelude.{◌≡◌, ◌++◌, ◌∷◌, [], IfOk, string_bytes};
+ghost use Rattle.sample_core.specs.Adding.{Adds};
 ghost use Rattle.sample_core.specs.SeenType.{type_of};
 ghost use Rattle.leaf_core.specs.Expression.{parameter, none_of, make_list, expressions_of};
-ghost use Rattle.leaf_expr.specs.Part.{spelling};
-ghost use Rattle.leaf_expr.specs.Printed.{expression_part, type_part, one, two, three};
+ghost use Rattle.leaf_expr.specs.Part.{more, last, spelling, spellings};
+ghost use Rattle.leaf_expr.specs.Printed.{expression_part, expression_parts, type_part, one, two, three};
 ghost use Rattle.leaf_core.specs.Seen.{expression_of, literal_of};
 
 use itoa::Buffer;
@@ -28,13 +29,10 @@ pub fn print_expr(alloc: Global, expr: &Expr) -> Result<String, Memory>
 /// refused; the text may then end with a part of it.
 #[cycle(push_expr)]
 pub fn push_expr(text: &mut String, expr: &Expr) -> Result<(), Memory>
-    ensures { OnOk result (string_bytes text.new ≡ string_bytes text.old ++ spelling (expression_part (expression_of expr.now))) }
+    ensures { Adds result (string_bytes text.old) (string_bytes text.new) (spelling (expression_part (expression_of expr.now))) }
 {
     match expr {
-        Expr::Input => {
-            text.push_str("x")?;
-            Ok(())
-        }
+        Expr::Input => push_word(text, "x"),
         Expr::Param(k) => push_param(text, *k),
         Expr::Literal(literal) => push_literal(text, *literal),
         Expr::Pair(a, b) => push_two(text, "pair", a, b),
@@ -60,115 +58,125 @@ pub fn push_expr(text: &mut String, expr: &Expr) -> Result<(), Memory>
     }
 }
 
+/// Adds a word to the end of the text.
+fn push_word(text: &mut String, word: &str) -> Result<(), Memory>
+    ensures { Adds result (string_bytes text.old) (string_bytes text.new) word.now }
+{
+    text.push_str(word)?;
+    Ok(())
+}
+
 /// A literal.
 fn push_literal(text: &mut String, literal: Literal) -> Result<(), Memory>
-    ensures { OnOk result (string_bytes text.new ≡ string_bytes text.old ++ spelling (expression_part (literal_of literal))) }
+    ensures { Adds result (string_bytes text.old) (string_bytes text.new) (spelling (expression_part (literal_of literal))) }
 {
     match literal {
-        Literal::Unit => text.push_str("unit")?,
-        Literal::Bool(true) => text.push_str("true")?,
-        Literal::Bool(false) => text.push_str("false")?,
-        Literal::Int(n) => text.push_str(Buffer::new().format(n))?,
+        Literal::Unit => push_word(text, "unit"),
+        Literal::Bool(true) => push_word(text, "true"),
+        Literal::Bool(false) => push_word(text, "false"),
+        Literal::Int(n) => push_word(text, Buffer::new().format(n)),
     }
-    Ok(())
 }
 
 /// A parameter.
 fn push_param(text: &mut String, k: u32) -> Result<(), Memory>
-    ensures { OnOk result (string_bytes text.new ≡ string_bytes text.old ++ spelling (expression_part (parameter k))) }
+    ensures { Adds result (string_bytes text.old) (string_bytes text.new) (spelling (expression_part (parameter k))) }
 {
-    text.push_str("(p ")?;
-    text.push_str(Buffer::new().format(k))?;
-    text.push_str(")")?;
-    Ok(())
+    push_word(text, "(p ")?;
+    push_word(text, Buffer::new().format(k))?;
+    push_word(text, ")")
 }
 
 /// The beginning of a form.
 fn push_open(text: &mut String, name: &str) -> Result<(), Memory>
-    ensures { OnOk result (string_bytes text.new ≡ string_bytes text.old ++ (40 ∷ name.now)) }
+    ensures { Adds result (string_bytes text.old) (string_bytes text.new) (40 ∷ name.now) }
 {
-    text.push_str("(")?;
-    text.push_str(name)?;
-    Ok(())
+    push_word(text, "(")?;
+    push_word(text, name)
 }
 
 /// A type as the next part of a form.
 fn push_next_type(text: &mut String, ty: &Ty) -> Result<(), Memory>
-    ensures { OnOk result (string_bytes text.new ≡ string_bytes text.old ++ (32 ∷ spelling (type_part (type_of ty.now)))) }
+    ensures { Adds result (string_bytes text.old) (string_bytes text.new) (32 ∷ spelling (type_part (type_of ty.now))) }
 {
-    text.push_str(" ")?;
-    push_type(text, ty)?;
-    Ok(())
+    push_word(text, " ")?;
+    push_type(text, ty)
 }
 
 /// No event of a type.
-#[tactic(auto, using(crate::proofs::Joined::one_joined))]
 fn push_no_event(text: &mut String, ty: &Ty) -> Result<(), Memory>
-    ensures { OnOk result (string_bytes text.new ≡ string_bytes text.old ++ spelling (expression_part (none_of (type_of ty.now)))) }
+    ensures { Adds result (string_bytes text.old) (string_bytes text.new) (spelling (expression_part (none_of (type_of ty.now)))) }
 {
-    push_open(text, "none")?;
+    push_word(text, "(none")?;
     push_next_type(text, ty)?;
-    text.push_str(")")?;
-    Ok(())
+    push_word(text, ")")
 }
 
 /// An expression as the next part of a form.
 #[cycle(push_expr)]
 fn push_next(text: &mut String, expr: &Expr) -> Result<(), Memory>
-    ensures { OnOk result (string_bytes text.new ≡ string_bytes text.old ++ (32 ∷ spelling (expression_part (expression_of expr.now)))) }
+    ensures { Adds result (string_bytes text.old) (string_bytes text.new) (32 ∷ spelling (expression_part (expression_of expr.now))) }
 {
-    text.push_str(" ")?;
+    push_word(text, " ")?;
     push_expr(text, expr)
+}
+
+/// An expression as the last part of a form, and the form's end.
+#[cycle(push_expr)]
+fn push_last(text: &mut String, a: &Part) -> Result<(), Memory>
+    ensures { Adds result (string_bytes text.old) (string_bytes text.new) (spellings (more (expression_part a.now) last) ++ (41 ∷ [])) }
+{
+    push_next(text, a.get())?;
+    push_word(text, ")")
 }
 
 /// A form of one expression.
 #[cycle(push_expr)]
-#[tactic(auto, using(crate::proofs::Joined::one_joined))]
 fn push_one(text: &mut String, name: &str, a: &Part) -> Result<(), Memory>
-    ensures { OnOk result (string_bytes text.new ≡ string_bytes text.old ++ spelling (one name.now (expression_part a.now))) }
+    ensures { Adds result (string_bytes text.old) (string_bytes text.new) (spelling (one name.now (expression_part a.now))) }
 {
     push_open(text, name)?;
-    push_next(text, a.get())?;
-    text.push_str(")")?;
-    Ok(())
+    push_last(text, a)
 }
 
 /// A form of two expressions.
 #[cycle(push_expr)]
 fn push_two(text: &mut String, name: &str, a: &Part, b: &Part) -> Result<(), Memory>
-    ensures { OnOk result (string_bytes text.new ≡ string_bytes text.old ++ spelling (two name.now (expression_part a.now) (expression_part b.now))) }
+    ensures { Adds result (string_bytes text.old) (string_bytes text.new) (spelling (two name.now (expression_part a.now) (expression_part b.now))) }
 {
     push_open(text, name)?;
     push_next(text, a.get())?;
-    push_next(text, b.get())?;
-    text.push_str(")")?;
-    Ok(())
+    push_last(text, b)
 }
 
 /// A form of three expressions.
 #[cycle(push_expr)]
 fn push_three(text: &mut String, name: &str, a: &Part, b: &Part, c: &Part) -> Result<(), Memory>
-    ensures { OnOk result (string_bytes text.new ≡ string_bytes text.old ++ spelling (three name.now (expression_part a.now) (expression_part b.now) (expression_part c.now))) }
+    ensures { Adds result (string_bytes text.old) (string_bytes text.new) (spelling (three name.now (expression_part a.now) (expression_part b.now) (expression_part c.now))) }
 {
     push_open(text, name)?;
     push_next(text, a.get())?;
     push_next(text, b.get())?;
-    push_next(text, c.get())?;
-    text.push_str(")")?;
-    Ok(())
+    push_last(text, c)
 }
 
 /// A list expression.
 #[cycle(push_expr)]
-#[tactic(auto, using(crate::proofs::Joined::list_joined))]
 fn push_list(text: &mut String, ty: &Ty, all: &Parts) -> Result<(), Memory>
-    ensures { OnOk result (string_bytes text.new ≡ string_bytes text.old ++ spelling (expression_part (make_list (type_of ty.now) (expressions_of all.now)))) }
+    ensures { Adds result (string_bytes text.old) (string_bytes text.new) (spelling (expression_part (make_list (type_of ty.now) (expressions_of all.now)))) }
 {
-    push_open(text, "list")?;
+    push_word(text, "(list")?;
     push_next_type(text, ty)?;
+    push_elements(text, all)
+}
+
+/// The elements of a list expression, each as the next part, and the form's end.
+#[cycle(push_expr)]
+fn push_elements(text: &mut String, all: &Parts) -> Result<(), Memory>
+    ensures { Adds result (string_bytes text.old) (string_bytes text.new) (spellings (expression_parts (expressions_of all.now)) ++ (41 ∷ [])) }
+{
     for e in all.as_slice() {
         push_next(text, e)?;
     }
-    text.push_str(")")?;
-    Ok(())
+    push_word(text, ")")
 }

@@ -14,7 +14,7 @@ use crate::net::{Net, Sub};
 use crate::position::Position;
 use crate::typed_net::TypedNet;
 use leaf_core::{Expr, ExprFault, LeafKey, type_of_expr};
-use sample_core::{Memory, Ty};
+use sample_core::{Memory, Ty, try_copy_types};
 use std::alloc::Global;
 
 /// Every expression that is a child of a network, from the root on, children in written order.
@@ -231,7 +231,7 @@ fn key_under(alloc: Global, expr: &Expr, scope: &[Ty], input: &Ty) -> Result<Lea
     ensures { IfOk result
         (λ k. k ≡ record { expr = expression_of expr.now; params = map type_of scope.now; input = type_of input.now }) }
 {
-    let params = copied_types(alloc, scope)?;
+    let params = try_copy_types(alloc, scope)?;
     let input = input.try_copy(alloc)?;
     let expr = expr.try_copy(alloc)?;
     Ok(LeafKey {
@@ -239,15 +239,4 @@ fn key_under(alloc: Global, expr: &Expr, scope: &[Ty], input: &Ty) -> Result<Lea
         params,
         input,
     })
-}
-
-/// The types, which share their parts with these.
-fn copied_types(alloc: Global, types: &[Ty]) -> Result<Vec<Ty>, Memory>
-    ensures { IfOk result (λ copies. map type_of copies.items ≡ map type_of types.now) }
-{
-    let mut copies = Vec::with_capacity(alloc, types.len())?;
-    for ty in types {
-        copies.push(ty.try_copy(alloc)?)?;
-    }
-    Ok(copies)
 }

@@ -1,9 +1,16 @@
 -- What is printed part by part is the printed form.
-use Rattle.std.proofs.Common.{◌≡◌, ℕ, List, [], ◌∷◌, ◌++◌, refl, sym, ap, append_assoc}
+use Rattle.std.proofs.Common.{◌≡◌, ℕ, List, [], ◌∷◌, ◌++◌, sym, ap, ◌∙◌, append_assoc}
 use Rattle.std.proofs.lemmas.List.{append-nil}
+use Rattle.leaf_expr.specs.Part.{Part, more, last, spelling, spellings}
+use Rattle.leaf_expr.specs.Printed.{one, two}
 
-pub one_joined : (o w a : List ℕ) → o ++ (40 ∷ []) ++ w ++ (32 ∷ []) ++ a ++ (41 ∷ []) ≡ o ++ (40 ∷ w ++ ((32 ∷ a ++ []) ++ 41 ∷ []))
-one_joined o w a = simp (append_assoc, append-nil) refl
+-- a form of one part
+pub one_joined : (w : List ℕ) (p : Part) → ((40 ∷ w) ++ (32 ∷ [])) ++ (spelling p ++ 41 ∷ []) ≡ spelling (one w p)
+one_joined w p = append_assoc (40 ∷ w) (32 ∷ []) (spelling p ++ 41 ∷ []) ∙ ap (λ x. (40 ∷ w) ++ (32 ∷ (x ++ 41 ∷ []))) (sym (append-nil (spelling p)))
 
-pub two_joined : (o w a b : List ℕ) → o ++ (40 ∷ []) ++ w ++ (32 ∷ []) ++ a ++ (32 ∷ []) ++ b ++ (41 ∷ []) ≡ o ++ (40 ∷ w ++ ((32 ∷ a ++ (32 ∷ b ++ [])) ++ 41 ∷ []))
-two_joined o w a b = simp (append_assoc, append-nil) (ap (λ x. o ++ (40 ∷ (w ++ (32 ∷ x)))) (sym (append_assoc a (32 ∷ b) (41 ∷ []))))
+-- a form of two parts
+pub two_joined : (w : List ℕ) (p q : Part) → ((40 ∷ w) ++ (32 ∷ [])) ++ (spelling p ++ ((32 ∷ []) ++ (spelling q ++ 41 ∷ []))) ≡ spelling (two w p q)
+two_joined w p q =
+    append_assoc (40 ∷ w) (32 ∷ []) (spelling p ++ (32 ∷ spelling q ++ 41 ∷ []))
+    ∙ ap (λ x. (40 ∷ w) ++ (32 ∷ (spelling p ++ (32 ∷ (x ++ 41 ∷ []))))) (sym (append-nil (spelling q)))
+    ∙ ap (λ x. (40 ∷ w) ++ (32 ∷ x)) (sym (append_assoc (spelling p) (spellings (more q last)) (41 ∷ [])))

@@ -1,6 +1,7 @@
 // The one printed form of networks and of network files.
 
-ghost use Rattle.std.specs.Prelude.{◌≡◌, ◌++◌, IfOk, OnOk, string_bytes};
+ghost use Rattle.std.specs.Prelude.{◌≡◌, ◌++◌, ◌∷◌, [], IfOk, string_bytes};
+ghost use Rattle.sample_core.specs.Adding.{Adds};
 ghost use Rattle.sample_core.specs.SeenType.{type_of};
 ghost use Rattle.leaf_expr.specs.Part.{spelling};
 ghost use Rattle.leaf_expr.specs.Printed.{one, two, expression_part};
@@ -33,7 +34,7 @@ pub fn print_net(alloc: Global, input: &Ty, net: &Net<Expr>) -> Result<String, M
 /// refused; the text may then end with a part of it.
 #[cycle(push_net)]
 pub fn push_net(text: &mut String, net: &Net<Expr>) -> Result<(), Memory>
-    ensures { OnOk result (string_bytes text.new ≡ string_bytes text.old ++ spelling (network_part (tree_of net.now))) }
+    ensures { Adds result (string_bytes text.old) (string_bytes text.new) (spelling (network_part (tree_of net.now))) }
 {
     match net {
         Net::Arr(e) => push_leaf(text, "arr", e),
@@ -42,31 +43,40 @@ pub fn push_net(text: &mut String, net: &Net<Expr>) -> Result<(), Memory>
     }
 }
 
-/// A form of one expression.
-#[tactic(auto, using(crate::proofs::Joined::one_joined))]
-fn push_leaf(text: &mut String, name: &str, e: &Expr) -> Result<(), Memory>
-    ensures { OnOk result (string_bytes text.new ≡ string_bytes text.old ++ spelling (one name.now (expression_part (expression_of e.now)))) }
+/// Adds a word to the end of the text.
+fn push_word(text: &mut String, word: &str) -> Result<(), Memory>
+    ensures { Adds result (string_bytes text.old) (string_bytes text.new) word.now }
 {
-    text.push_str("(")?;
-    text.push_str(name)?;
-    text.push_str(" ")?;
-    push_expr(text, e)?;
-    text.push_str(")")?;
+    text.push_str(word)?;
     Ok(())
+}
+
+/// The beginning of a form, up to its first part.
+fn push_open(text: &mut String, name: &str) -> Result<(), Memory>
+    ensures { Adds result (string_bytes text.old) (string_bytes text.new) ((40 ∷ name.now) ++ (32 ∷ [])) }
+{
+    push_word(text, "(")?;
+    push_word(text, name)?;
+    push_word(text, " ")
+}
+
+/// A form of one expression.
+fn push_leaf(text: &mut String, name: &str, e: &Expr) -> Result<(), Memory>
+    ensures { Adds result (string_bytes text.old) (string_bytes text.new) (spelling (one name.now (expression_part (expression_of e.now)))) }
+{
+    push_open(text, name)?;
+    push_expr(text, e)?;
+    push_word(text, ")")
 }
 
 /// A form of two networks.
 #[cycle(push_net)]
-#[tactic(auto, using(crate::proofs::Joined::two_joined))]
 fn push_two(text: &mut String, name: &str, f: &Sub<Expr>, g: &Sub<Expr>) -> Result<(), Memory>
-    ensures { OnOk result (string_bytes text.new ≡ string_bytes text.old ++ spelling (two name.now (network_part (map_network expression_of f.now)) (network_part (map_network expression_of g.now)))) }
+    ensures { Adds result (string_bytes text.old) (string_bytes text.new) (spelling (two name.now (network_part (map_network expression_of f.now)) (network_part (map_network expression_of g.now)))) }
 {
-    text.push_str("(")?;
-    text.push_str(name)?;
-    text.push_str(" ")?;
+    push_open(text, name)?;
     push_net(text, f.get())?;
-    text.push_str(" ")?;
+    push_word(text, " ")?;
     push_net(text, g.get())?;
-    text.push_str(")")?;
-    Ok(())
+    push_word(text, ")")
 }

@@ -20,6 +20,9 @@ pub bind_ok : {A B : Type 0} (r : Result A ValueFault) (g : A → Result B Value
 bind_ok (Ok x) g y e = (x, refl, e)
 bind_ok (Err f) g y e = absurd (cc)
 
+not_ok : {A : Type 0} {f : ValueFault} {y : A} → ◌≡◌ {A = Result A ValueFault} (Err f) (Ok y) → ⊥
+not_ok e = cc
+
 pub ok_is : {A : Type 0} {x y : A} → ◌≡◌ {A = Result A ValueFault} (Ok x) (Ok y) → x ≡ y
 ok_is e = cc
 
@@ -34,8 +37,8 @@ byte_found size b [] cs e = absurd (cc)
 byte_found size b (c ∷ bs) cs e = go (if_is (nat_eq c b) (Ok bs) (Err (Fault.NotAValue (size - length (c ∷ bs)))) (Ok cs) e)
   where
     go : ((nat_eq c b ≡ true) × ◌≡◌ {A = Result (List ℕ) ValueFault} (Ok bs) (Ok cs)) ⊎ ((nat_eq c b ≡ false) × ◌≡◌ {A = Result (List ℕ) ValueFault} (Err (Fault.NotAValue (size - length (c ∷ bs)))) (Ok cs)) → c ∷ bs ≡ b ∷ cs
-    go (inl h) = let i : c ≡ b = eqb-true c b h.0 in let j : bs ≡ cs = ok_is h.1 in cc
-    go (inr h) = absurd (let k : ◌≡◌ {A = Result (List ℕ) ValueFault} (Err (Fault.NotAValue (size - length (c ∷ bs)))) (Ok cs) = h.1 in cc)
+    go (inl h) = ap (λ x. x ∷ bs) (eqb-true c b h.0) ∙ ap (λ x. b ∷ x) (ok_is h.1)
+    go (inr h) = absurd (not_ok h.1)
 
 pub head_found : (size c : ℕ) (w bs cs : List ℕ) → behind_head size (c ∷ w) bs ≡ Ok cs → (bs ≡ 40 ∷ c ∷ w ++ cs) × (goes_on cs ≡ false)
 unfolding behind_head
@@ -43,7 +46,7 @@ head_found size c w bs cs e = go (if_is (bytes_eq (form_word bs) (c ∷ w)) (Ok 
   where
     go : ((bytes_eq (form_word bs) (c ∷ w) ≡ true) × ◌≡◌ {A = Result (List ℕ) ValueFault} (Ok (after_form bs)) (Ok cs)) ⊎ ((bytes_eq (form_word bs) (c ∷ w) ≡ false) × ◌≡◌ {A = Result (List ℕ) ValueFault} (Err (wrong size bs)) (Ok cs)) → (bs ≡ 40 ∷ c ∷ w ++ cs) × (goes_on cs ≡ false)
     go (inl h) = subst (λ x. (bs ≡ 40 ∷ c ∷ w ++ x) × (goes_on x ≡ false)) (ok_is h.1) (at_form bs c w h.0)
-    go (inr h) = absurd (let k : ◌≡◌ {A = Result (List ℕ) ValueFault} (Err (wrong size bs)) (Ok cs) = h.1 in cc)
+    go (inr h) = absurd (not_ok h.1)
 
 -- the bytes are those of a value of the type and then the rest, which does not go on its last word
 pub record Is (A : TypeTree) (bs : List ℕ) (y : Datum × List ℕ) : Type 0 where
@@ -64,7 +67,7 @@ unit_found size bs y e = go (if_is (bytes_eq (word_of bs) (codes "unit")) (Ok (u
   where
     go : ((bytes_eq (word_of bs) (codes "unit") ≡ true) × ◌≡◌ {A = Result (Datum × List ℕ) ValueFault} (Ok (unit, after_word bs)) (Ok y)) ⊎ ((bytes_eq (word_of bs) (codes "unit") ≡ false) × ◌≡◌ {A = Result (Datum × List ℕ) ValueFault} (Err (wrong size bs)) (Ok y)) → Is unit_ty bs y
     go (inl p) = subst (Is unit_ty bs) (ok_is p.1) (record { typed = unit_has; spells = at_word bs (codes "unit") p.0; apart = (split bs).1 })
-    go (inr p) = absurd (let q : ◌≡◌ {A = Result (Datum × List ℕ) ValueFault} (Err (wrong size bs)) (Ok y) = p.1 in cc)
+    go (inr p) = absurd (not_ok p.1)
 
 truth_found : (size : ℕ) (bs : List ℕ) (y : Datum × List ℕ) → truth_at size bs ≡ Ok y → Is bool_ty bs y
 unfolding truth_at
@@ -72,7 +75,7 @@ truth_found size bs y e = go (if_is (bytes_eq (word_of bs) (codes "true")) (Ok (
   where
     go2 : ((bytes_eq (word_of bs) (codes "false") ≡ true) × ◌≡◌ {A = Result (Datum × List ℕ) ValueFault} (Ok (truth false, after_word bs)) (Ok y)) ⊎ ((bytes_eq (word_of bs) (codes "false") ≡ false) × ◌≡◌ {A = Result (Datum × List ℕ) ValueFault} (Err (wrong size bs)) (Ok y)) → Is bool_ty bs y
     go2 (inl p) = subst (Is bool_ty bs) (ok_is p.1) (record { typed = truth_has; spells = at_word bs (codes "false") p.0; apart = (split bs).1 })
-    go2 (inr p) = absurd (let q : ◌≡◌ {A = Result (Datum × List ℕ) ValueFault} (Err (wrong size bs)) (Ok y) = p.1 in cc)
+    go2 (inr p) = absurd (not_ok p.1)
 
     go : ((bytes_eq (word_of bs) (codes "true") ≡ true) × ◌≡◌ {A = Result (Datum × List ℕ) ValueFault} (Ok (truth true, after_word bs)) (Ok y)) ⊎ ((bytes_eq (word_of bs) (codes "true") ≡ false) × ((if bytes_eq (word_of bs) (codes "false") then Ok (truth false, after_word bs) else Err (wrong size bs)) ≡ Ok y)) → Is bool_ty bs y
     go (inl p) = subst (Is bool_ty bs) (ok_is p.1) (record { typed = truth_has; spells = at_word bs (codes "true") p.0; apart = (split bs).1 })
@@ -86,11 +89,14 @@ number_found size bs y e = go (if_is (is_number (word_of bs)) (if is_in_64 (word
     go2 h (inl p) =
         let i : FitsSigned w64 (number_of (word_of bs)) × (word_of bs ≡ signed_decimal (number_of (word_of bs))) = integer_back (word_of bs) h p.0 in
         subst (Is int_ty bs) (ok_is p.1) (record { typed = number_has i.0; spells = (split bs).0 ∙ ap (λ x. x ++ after_word bs) i.1; apart = (split bs).1 })
-    go2 h (inr p) = absurd (let q : ◌≡◌ {A = Result (Datum × List ℕ) ValueFault} (Err (Fault.NumberRange (size - length bs))) (Ok y) = p.1 in cc)
+    go2 h (inr p) = absurd (not_ok p.1)
 
     go : ((is_number (word_of bs) ≡ true) × ((if is_in_64 (word_of bs) then Ok (number (number_of (word_of bs)), after_word bs) else Err (Fault.NumberRange (size - length bs))) ≡ Ok y)) ⊎ ((is_number (word_of bs) ≡ false) × ◌≡◌ {A = Result (Datum × List ℕ) ValueFault} (Err (wrong size bs)) (Ok y)) → Is int_ty bs y
     go (inl p) = go2 p.0 (if_is (is_in_64 (word_of bs)) (Ok (number (number_of (word_of bs)), after_word bs)) (Err (Fault.NumberRange (size - length bs))) (Ok y) p.1)
-    go (inr p) = absurd (let q : ◌≡◌ {A = Result (Datum × List ℕ) ValueFault} (Err (wrong size bs)) (Ok y) = p.1 in cc)
+    go (inr p) = absurd (not_ok p.1)
+
+behind_shorter : (v : Datum) (r bs : List ℕ) (n : ℕ) → bs ≡ spelled v r → suc (length bs) ≤ suc n → length r ≤ n
+behind_shorter v r bs n e l = let k : length bs ≡ length (spelled v r) = ap length e in omega (arith, longer v r)
 
 pub elements_found : (size : ℕ) (A : TypeTree) → ((bs : List ℕ) (y : Datum × List ℕ) → value_at size A bs ≡ Ok y → Is A bs y) → (n : ℕ) (bs : List ℕ) (y : List Datum × List ℕ) → length bs ≤ n → elements_at (value_at size A) n bs ≡ Ok y → AreElements A bs y
 unfolding elements_at
@@ -105,8 +111,7 @@ elements_found size A h (suc n) (b ∷ bs) y l e = go (if_is (nat_eq b 32) (valu
         let a : (x : Datum × List ℕ) × (value_at size A bs ≡ Ok x) × ((elements_at (value_at size A) n x.1 >>= (λ z. Ok (x.0 ∷ z.0, z.1))) ≡ Ok y) = bind_ok (value_at size A bs) _ y p.1 in
         let c : (z : List Datum × List ℕ) × (elements_at (value_at size A) n a.0.1 ≡ Ok z) × ◌≡◌ {A = Result (List Datum × List ℕ) ValueFault} (Ok (a.0.0 ∷ z.0, z.1)) (Ok y) = bind_ok (elements_at (value_at size A) n a.0.1) _ y a.2 in
         let f : Is A bs a.0 = h bs a.0 a.1 in
-        let k : length bs ≡ length (spelled a.0.0 a.0.1) = ap length f.spells in
-        let m : length a.0.1 ≤ n = omega (arith, longer a.0.0 a.0.1) in
+        let m : length a.0.1 ≤ n = behind_shorter a.0.0 a.0.1 bs n f.spells l in
         let g : AreElements A a.0.1 c.0 = next a.0.1 c.0 m c.1 in
         let d : (ends_in_word a.0.0 && goes_on (all_spelled (of_elements c.0.0) c.0.1)) ≡ false = rw (← g.spells) f.apart in
         subst (AreElements A (b ∷ bs)) (ok_is c.2) (record { typed = more_has f.typed g.typed; spells = ap (λ x. x ∷ bs) i ∙ ap (λ x. 32 ∷ x) (f.spells ∙ ap (spelled a.0.0) g.spells); apart = more_apart a.0.0 (of_elements c.0.0) c.0.1 d g.apart; ended = g.ended })

@@ -11,13 +11,13 @@ use thiserror::Error;
 pub enum ValueFault {
     /// Where a value must stand none begins, of whatever type; or inside a value a space or a `)`
     /// is missing.
-    #[error("byte {at}: not a value")]
+    #[error("not a value")]
     NotAValue { at: usize },
     /// Where a value must stand one of another type begins.
-    #[error("byte {at}: a value of another type")]
+    #[error("a value of another type")]
     OtherType { at: usize },
     /// A number is wanted, and the one that begins there is outside 64 bits.
-    #[error("byte {at}: the number is out of range")]
+    #[error("the number is out of range")]
     NumberRange { at: usize },
     /// A growth was refused.
     #[error("out of memory")]

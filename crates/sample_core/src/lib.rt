@@ -20,5 +20,5 @@ pub use memory::Memory;
 pub use print::{print_type, print_value, push_type, push_value};
 pub use read::read_value;
 pub use sample::{Child, Sample, Samples};
-pub use ty::{Ty, TyChild};
+pub use ty::{Ty, TyChild, try_copy_types};
 pub use typing::has_type;

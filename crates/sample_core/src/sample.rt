@@ -141,14 +141,24 @@ impl Sample {
     pub fn try_copy(&self, _alloc: Global) -> Result<Sample, Memory>
         ensures { IfOk result (λ s. s ≡ self.now) }
     {
-        Ok(match self {
-            Sample::Unit => Sample::Unit,
-            Sample::Bool(b) => Sample::Bool(*b),
-            Sample::Int(n) => Sample::Int(*n),
-            Sample::Pair(a, b) => Sample::Pair(a.try_copy()?, b.try_copy()?),
-            Sample::NoEvent => Sample::NoEvent,
-            Sample::Event(a) => Sample::Event(a.try_copy()?),
-            Sample::List(all) => Sample::List(all.try_copy()?),
-        })
+        match self {
+            Sample::Unit => Ok(Sample::Unit),
+            Sample::Bool(b) => Ok(Sample::Bool(*b)),
+            Sample::Int(n) => Ok(Sample::Int(*n)),
+            Sample::Pair(a, b) => {
+                let a = a.try_copy()?;
+                let b = b.try_copy()?;
+                Ok(Sample::Pair(a, b))
+            }
+            Sample::NoEvent => Ok(Sample::NoEvent),
+            Sample::Event(a) => {
+                let a = a.try_copy()?;
+                Ok(Sample::Event(a))
+            }
+            Sample::List(all) => {
+                let all = all.try_copy()?;
+                Ok(Sample::List(all))
+            }
+        }
     }
 }

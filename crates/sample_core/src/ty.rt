@@ -84,13 +84,35 @@ impl Ty {
     pub fn try_copy(&self, _alloc: Global) -> Result<Ty, Memory>
         ensures { IfOk result (λ t. t ≡ self.now) }
     {
-        Ok(match self {
-            Ty::Unit => Ty::Unit,
-            Ty::Bool => Ty::Bool,
-            Ty::Int => Ty::Int,
-            Ty::Pair(a, b) => Ty::Pair(a.try_copy()?, b.try_copy()?),
-            Ty::Event(a) => Ty::Event(a.try_copy()?),
-            Ty::List(a) => Ty::List(a.try_copy()?),
-        })
+        match self {
+            Ty::Unit => Ok(Ty::Unit),
+            Ty::Bool => Ok(Ty::Bool),
+            Ty::Int => Ok(Ty::Int),
+            Ty::Pair(a, b) => {
+                let a = a.try_copy()?;
+                let b = b.try_copy()?;
+                Ok(Ty::Pair(a, b))
+            }
+            Ty::Event(a) => {
+                let a = a.try_copy()?;
+                Ok(Ty::Event(a))
+            }
+            Ty::List(a) => {
+                let a = a.try_copy()?;
+                Ok(Ty::List(a))
+            }
+        }
     }
+}
+
+/// Copies of the types, in order. `Memory` where a growth was refused.
+pub fn try_copy_types(alloc: Global, types: &[Ty]) -> Result<Vec<Ty>, Memory>
+    ensures { IfOk result (λ copies. copies.items ≡ types.now) }
+{
+    let mut copies = Vec::with_capacity(alloc, types.len())?;
+    for ty in types {
+        let copy = ty.try_copy(alloc)?;
+        copies.push(copy)?;
+    }
+    Ok(copies)
 }

@@ -84,7 +84,7 @@ fn unread_words(alloc: Global, error: &io::Error) -> Refusal {
 fn run(rt: &HostRuntime, net: &TypedNet) -> u8 {
     match leaves(rt.alloc(), net) {
         Ok(needs) => run_filled(rt, net, &needs),
-        Err(Memory) => complain(rt, BROKEN, "memory"),
+        Err(Memory) => refuse(rt, &Refusal::Memory),
     }
 }
 
@@ -117,7 +117,7 @@ fn run_on(rt: &HostRuntime, net: &TypedNet, table: &LeafTable) -> u8 {
             drop(bound);
             status
         }
-        Err(BindFault::Memory) => complain(rt, BROKEN, "memory"),
+        Err(BindFault::Memory) => refuse(rt, &Refusal::Memory),
         // The table was filled with a row for each expression, so this doesn't come.
         Err(BindFault::MissingLeaf { position: _ }) => complain(rt, BROKEN, "no row"),
     }
@@ -179,7 +179,7 @@ fn tell(rt: &HostRuntime, fault: &RunFault) -> u8
 {
     match fault_line(rt.alloc(), fault) {
         Ok((status, line)) => complain(rt, status, &line),
-        Err(Memory) => complain(rt, BROKEN, "memory"),
+        Err(Memory) => refuse(rt, &Refusal::Memory),
     }
 }
 

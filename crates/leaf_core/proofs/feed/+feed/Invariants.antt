@@ -9,16 +9,19 @@ invariant-feed_all-loop-e g l =
     fold g.H.Hasher.write l.state (expressions_fed (expressions_of (map expression_of (drop l.e-index l.e-items)))) ≡ fold g.H.Hasher.write l.initial.state (expressions_fed (expressions_of (map expression_of l.e-items)))
 
 abbrev pub decreases-feed_expr : goal.decreases-feed_expr
-decreases-feed_expr g l = 4 * expression_size (expression_of l.expr.now)
+decreases-feed_expr g l = 6 * expression_size (expression_of l.expr.now) + 1
+
+abbrev pub decreases-feed_inside : goal.decreases-feed_inside
+decreases-feed_inside g l = 6 * expression_size (expression_of l.expr.now)
 
 abbrev pub decreases-feed_two : goal.decreases-feed_two
-decreases-feed_two g l = 4 * (expression_size l.a.now + expression_size l.b.now) + 2
+decreases-feed_two g l = 6 * (expression_size l.a.now + expression_size l.b.now) + 3
 
 abbrev pub decreases-feed_three : goal.decreases-feed_three
-decreases-feed_three g l = 4 * (expression_size l.a.now + expression_size l.b.now + expression_size l.c.now) + 3
+decreases-feed_three g l = 6 * (expression_size l.a.now + expression_size l.b.now + expression_size l.c.now) + 4
 
 abbrev pub decreases-feed_list : goal.decreases-feed_list
-decreases-feed_list g l = 4 * expressions_size (expressions_of l.all.now) + 2
+decreases-feed_list g l = 6 * expressions_size (expressions_of l.all.now) + 3
 
 abbrev pub decreases-feed_all : goal.decreases-feed_all
-decreases-feed_all g l = 4 * expressions_size (expressions_of l.all.now) + 1
+decreases-feed_all g l = 6 * expressions_size (expressions_of l.all.now) + 2

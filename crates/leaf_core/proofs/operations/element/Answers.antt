@@ -7,9 +7,9 @@ use Rattle.leaf_core.proofs.operations.element.Goals as goal
 pub returns-in-Some : goal.returns-in-Some
 returns-in-Some c =
     let place : c.args.at ≡ pos c.in-Ok.at = grind (arith, common_steps) in
-    grind (arith, common_steps, element_found c.as_slice.result.now c.args.at c.in-Ok.at (datum_of c.args.default) c.in-Some.found.now place c.in-Some.ensures.lookup.3.0)
+    grind (arith, common_steps, element_found c.as_slice.result.now c.args.at c.in-Ok.at (datum_of c.args.default.now) c.in-Some.found.now place c.in-Some.ensures.lookup.3.0)
 
 pub returns-in-None : goal.returns-in-None
 returns-in-None c =
     let place : c.args.at ≡ pos c.in-Ok.at = grind (arith, common_steps) in
-    grind (arith, common_steps, element_missing c.as_slice.result.now c.args.at c.in-Ok.at (datum_of c.args.default) place c.in-None.ensures.lookup.3)
+    grind (arith, common_steps, element_missing c.as_slice.result.now c.args.at c.in-Ok.at (datum_of c.args.default.now) place c.in-None.ensures.lookup.3)

@@ -8,9 +8,9 @@ use Rattle.leaf_core.proofs.Exactness.{as_same_tree}
 use Rattle.leaf_core.proofs.typing.matching.Goals as goal
 
 pub returns-then-same_type : goal.returns-then-same_type
-returns-then-same_type c = grind (arith, common_steps, as_same_tree c.same_type.result (type_of c.args.found) (type_of c.args.ty.now) c.same_type.ensures)
+returns-then-same_type c = grind (arith, common_steps, as_same_tree c.same_type.result (type_of c.args.found.now) (type_of c.args.ty.now) c.same_type.ensures)
 
-pub returns : goal.returns
-returns c =
-    let e : c.same_type.result ≡ same_tree (type_of c.args.found) (type_of c.args.ty.now) = as_same_tree _ _ _ c.same_type.ensures in
-    λ h. ap (λ b. tested b Mismatch (Ok (type_of c.args.found))) (sym e ∙ c.if-same_type.false)
+pub returns-else-same_type : goal.returns-else-same_type
+returns-else-same_type c =
+    let e : c.same_type.result ≡ same_tree (type_of c.args.found.now) (type_of c.args.ty.now) = as_same_tree _ _ _ c.same_type.ensures in
+    λ h. ap (λ b. tested b Mismatch (Ok (type_of c.args.found.now))) (sym e ∙ c.if-same_type.false)

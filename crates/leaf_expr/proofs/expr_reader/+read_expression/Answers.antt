@@ -1,16 +1,19 @@
-use Rattle.std.proofs.Common.{◌≡◌, ◌∷◌, ◌++◌, ◌+◌, [], length, map, refl, sym, subst, arith, rules, Ok}
+use Rattle.std.proofs.Common.{◌≡◌, ◌∷◌, ◌++◌, ◌+◌, ◌∙◌, [], length, map, refl, sym, ap, subst, arith, Ok}
 use Rattle.std.specs.List.{slice_range}
 use Rattle.std.proofs.lemmas.Grind.{common_steps}
-use Rattle.leaf_expr.specs.Form.{form_row, typed_by}
+use Rattle.leaf_core.specs.Expression.{Expression}
+use Rattle.leaf_expr.specs.Form.{form_row, unary_row, binary_row, ternary_row, typed_row, unary_of, binary_of, ternary_of, typed_by}
 use Rattle.leaf_expr.specs.Front.{read_front, front_left}
-use Rattle.leaf_expr.specs.Grammar.{leaf, expression_sort}
-use Rattle.leaf_expr.specs.ReadText.{Gives, row_parts, expression_left}
+use Rattle.leaf_expr.specs.Grammar.{leaf, expression_sort, e}
+use Rattle.leaf_expr.specs.Language.{no_place}
+use Rattle.leaf_expr.specs.ReadText.{Gives, tree_at, form_at, row_parts, items_at, items_left, last_two_at, expression_left}
 use Rattle.leaf_core.specs.Seen.{expression_of}
 use Rattle.leaf_expr.specs.Token.{opening, word, tokens_from}
-use Rattle.leaf_expr.proofs.FrontSteps.{front_form, front_word}
-use Rattle.leaf_expr.proofs.ReadSteps.{no_typed_two}
-use Rattle.leaf_expr.proofs.ItemSteps.{done, more, list_parts, list_refuses}
+use Rattle.leaf_expr.proofs.FrontSteps.{front_form, front_word, front_refused}
+use Rattle.leaf_expr.proofs.ItemSteps.{done, more, gone, list_parts, list_refuses, no_list_type}
 use Rattle.leaf_expr.proofs.ReadCounts.{read_shortens}
+use Rattle.leaf_expr.proofs.ReadSteps.{told, told_memory, headless, named, unnamed, no_part, no_end, one_part, no_second, no_two_end, two_parts, two_refused, two_done, no_last_two, three_parts, no_typed, no_typed_two, typed_parts}
+use Rattle.leaf_expr.specs.declared.form.Form.TheVariants as Form
 use Rattle.leaf_expr.proofs.expr_reader.+read_expression.Goals as goal
 
 pub parts-returns-in-Param : goal.parts-returns-in-Param
@@ -48,11 +51,6 @@ read_expression-returns-in-Word t c =
     let front : read_front (length text) c.args.room ts ≡ Ok ((c.in-Word.start, word (slice_range text c.in-Word.start c.in-Word.end)), tokens_from c.in-Word.end text) = subst (λ f. read_front (length text) c.args.room ts ≡ Ok (front_left text f)) c.in-Word.is c.in_ok-start.ensures.front in
     subst (Gives (expression_left text) c.word_expr.result) (sym (front_word leaf (length text) c.args.room expression_sort ts front)) c.word_expr.ensures
 
-pub typed-returns-in_err-a : goal.typed-returns-in_err-a
-typed-returns-in_err-a t c =
-    let o = no_typed_two (length c.args.text.now) c.args.room c.in_err-a.field-0.0 (typed_by c.args.form) (tokens_from c.args.at c.args.text.now) c.in_ok-none.ensures c.in_err-a.ensures in
-    search (rules, o)
-
 pub list-returns-in-Ok : goal.list-returns-in-Ok
 list-returns-in-Ok t c = list_parts (length c.args.text.now) c.args.room (tokens_from c.args.at c.args.text.now) c.in_ok-ty.ensures c.in-Ok.ensures
 
@@ -70,3 +68,93 @@ items-loop-end-preserved t c =
     let p = c.in_ok-push.ensures.items in
     let m : map expression_of c.push.new.self.items ≡ map expression_of c.loop-end.all.items ++ expression_of c.in_ok-expr.expr ∷ [] = grind (arith, common_steps, p) in
     more (length c.args.text.now) c.args.room c.in_ok-expr.behind (map expression_of c.loop-end.all.items) (map expression_of c.push.new.self.items) (expression_of c.in_ok-expr.expr) (tokens_from c.loop-end.next c.args.text.now) (tokens_from c.in_ok-expr.behind c.args.text.now) _ c.loop-end.invariant c.in_default.ensures.token c.in_ok-expr.ensures m
+
+pub read_expression-returns-in_err-start : goal.read_expression-returns-in_err-start
+read_expression-returns-in_err-start t c = told (expression_left c.args.text.now) c.from_residual.result c.in_err-start.field-0.0 (tree_at expression_sort c.args.text.now c.args.room c.args.at) c.from_residual.ensures.1 (front_refused leaf (length c.args.text.now) c.in_err-start.field-0.0 c.args.room expression_sort (tokens_from c.args.at c.args.text.now) c.in_err-start.ensures.front)
+
+pub form-returns-in_err-start : goal.form-returns-in_err-start
+form-returns-in_err-start t c = told (expression_left c.args.text.now) c.from_residual.result c.in_err-start.field-0.0 (form_at expression_sort c.args.text.now c.args.room c.args.at) c.from_residual.ensures.1 (headless c.in_err-start.field-0.0 (length c.args.text.now) c.args.room c.args.room expression_sort (tokens_from c.args.at c.args.text.now) c.in_err-start.ensures.head)
+
+pub form-returns-in-Some : goal.form-returns-in-Some
+form-returns-in-Some t c = subst (Gives (expression_left c.args.text.now) c.parts.result) (sym (named (length c.args.text.now) c.args.room c.args.room expression_sort (tokens_from c.args.at c.args.text.now) (form_row c.in-Some.form) c.in_ok-start.ensures.head c.in-Some.ensures)) c.parts.ensures
+
+pub form-returns-in-None : goal.form-returns-in-None
+form-returns-in-None t c = unnamed (length c.args.text.now) c.args.room c.args.room expression_sort (tokens_from c.args.at c.args.text.now) c.in_ok-start.ensures.head c.in-None.ensures
+
+pub part-returns-in_err-expr : goal.part-returns-in_err-expr
+part-returns-in_err-expr t c = told (λ x. (x.0, x.1, tokens_from x.1 c.args.text.now)) c.from_residual.result c.in_err-expr.field-0.0 (tree_at expression_sort c.args.text.now c.args.room c.args.at) c.from_residual.ensures.1 (c.in_err-expr.ensures)
+
+pub part-returns-in_err-new : goal.part-returns-in_err-new
+part-returns-in_err-new t c = told_memory (λ x. (x.0, x.1, tokens_from x.1 c.args.text.now)) c.from_residual-in_err-new.result (tree_at expression_sort c.args.text.now c.args.room c.args.at) c.from_residual-in_err-new.ensures.1
+
+pub part-returns : goal.part-returns
+part-returns t c = c.in_ok-expr.ensures ∙ ap (λ x. Ok (x, c.in_ok-expr.at, tokens_from c.in_ok-expr.at c.args.text.now)) (sym c.in_ok-new.ensures)
+
+pub last_two-returns-in_err-a : goal.last_two-returns-in_err-a
+last_two-returns-in_err-a t c = told (λ x. ((x.0, x.1), x.2, tokens_from x.2 c.args.text.now)) c.from_residual.result c.in_err-a.field-0.0 (last_two_at c.args.text.now c.args.room c.args.at) c.from_residual.ensures.1 (no_part (length c.args.text.now) c.args.room (Expression × Expression) expression_sort c.in_err-a.field-0.0 (e no_place) (λ a b. (a, b)) (tokens_from c.args.at c.args.text.now) c.in_err-a.ensures)
+
+pub last_two-returns-in_err-b : goal.last_two-returns-in_err-b
+last_two-returns-in_err-b t c = told (λ x. ((x.0, x.1), x.2, tokens_from x.2 c.args.text.now)) c.from_residual-in_err-b.result c.in_err-b.field-0.0 (last_two_at c.args.text.now c.args.room c.args.at) c.from_residual-in_err-b.ensures.1 (no_second (length c.args.text.now) c.args.room c.in_err-b.field-0.0 (tokens_from c.args.at c.args.text.now) c.in_ok-a.ensures c.in_err-b.ensures)
+
+pub last_two-returns-in_err-end : goal.last_two-returns-in_err-end
+last_two-returns-in_err-end t c = told (λ x. ((x.0, x.1), x.2, tokens_from x.2 c.args.text.now)) c.from_residual-in_err-end.result c.in_err-end.field-0.0 (last_two_at c.args.text.now c.args.room c.args.at) c.from_residual-in_err-end.ensures.1 (no_two_end (length c.args.text.now) c.args.room c.in_err-end.field-0.0 (tokens_from c.args.at c.args.text.now) c.in_ok-a.ensures c.in_ok-b.ensures c.in_err-end.ensures)
+
+pub last_two-returns : goal.last_two-returns
+last_two-returns t c = two_parts (length c.args.text.now) c.args.room (tokens_from c.args.at c.args.text.now) c.in_ok-a.ensures c.in_ok-b.ensures c.in_ok-end.ensures
+
+pub unary-returns-in_err-a : goal.unary-returns-in_err-a
+unary-returns-in_err-a t c = told (expression_left c.args.text.now) c.from_residual.result c.in_err-a.field-0.0 (row_parts (unary_row c.args.form) c.args.text.now c.args.room c.args.at) c.from_residual.ensures.1 (no_part (length c.args.text.now) c.args.room Expression expression_sort c.in_err-a.field-0.0 no_place (unary_of c.args.form) (tokens_from c.args.at c.args.text.now) c.in_err-a.ensures)
+
+pub unary-returns-in_err-end : goal.unary-returns-in_err-end
+unary-returns-in_err-end t c = told (expression_left c.args.text.now) c.from_residual-in_err-end.result c.in_err-end.field-0.0 (row_parts (unary_row c.args.form) c.args.text.now c.args.room c.args.at) c.from_residual-in_err-end.ensures.1 (no_end (length c.args.text.now) c.args.room expression_sort c.in_err-end.field-0.0 (unary_of c.args.form) (tokens_from c.args.at c.args.text.now) c.in_ok-a.ensures c.in_err-end.ensures)
+
+pub unary-returns : goal.unary-returns
+unary-returns t c = one_part (length c.args.text.now) c.args.room expression_sort (unary_of c.args.form) (tokens_from c.args.at c.args.text.now) c.in_ok-a.ensures c.in_ok-end.ensures ∙ ap (λ x. Ok (x, c.in_ok-end.end, tokens_from c.in_ok-end.end c.args.text.now)) (sym c.of.ensures)
+
+pub binary-returns-in_err-a : goal.binary-returns-in_err-a
+binary-returns-in_err-a t c = told (expression_left c.args.text.now) c.from_residual.result c.in_err-a.field-0.0 (row_parts (binary_row c.args.form) c.args.text.now c.args.room c.args.at) c.from_residual.ensures.1 (two_refused (length c.args.text.now) c.args.room c.in_err-a.field-0.0 (binary_of c.args.form) (tokens_from c.args.at c.args.text.now) c.in_err-a.ensures)
+
+pub binary-returns-in_err-expr : goal.binary-returns-in_err-expr
+binary-returns-in_err-expr t c = told_memory (expression_left c.args.text.now) c.from_residual-in_err-expr.result (row_parts (binary_row c.args.form) c.args.text.now c.args.room c.args.at) c.from_residual-in_err-expr.ensures.1
+
+pub binary-returns : goal.binary-returns
+binary-returns t c = two_done (length c.args.text.now) c.args.room (binary_of c.args.form) (tokens_from c.args.at c.args.text.now) c.in_ok-a.ensures ∙ ap (λ x. Ok (x, c.in_ok-a.end, tokens_from c.in_ok-a.end c.args.text.now)) (sym c.in_ok-expr.ensures)
+
+pub ternary-returns-in_err-a : goal.ternary-returns-in_err-a
+ternary-returns-in_err-a t c = told (expression_left c.args.text.now) c.from_residual.result c.in_err-a.field-0.0 (row_parts (ternary_row c.args.form) c.args.text.now c.args.room c.args.at) c.from_residual.ensures.1 (no_part (length c.args.text.now) c.args.room Expression expression_sort c.in_err-a.field-0.0 (e (e no_place)) (ternary_of c.args.form) (tokens_from c.args.at c.args.text.now) c.in_err-a.ensures)
+
+pub ternary-returns-in_err-b : goal.ternary-returns-in_err-b
+ternary-returns-in_err-b t c = told (expression_left c.args.text.now) c.from_residual-in_err-b.result c.in_err-b.field-0.0 (row_parts (ternary_row c.args.form) c.args.text.now c.args.room c.args.at) c.from_residual-in_err-b.ensures.1 (no_last_two (length c.args.text.now) c.args.room c.in_err-b.field-0.0 (ternary_of c.args.form) (tokens_from c.args.at c.args.text.now) c.in_ok-a.ensures c.in_err-b.ensures)
+
+pub ternary-returns : goal.ternary-returns
+ternary-returns t c = three_parts (length c.args.text.now) c.args.room (ternary_of c.args.form) (tokens_from c.args.at c.args.text.now) c.in_ok-a.ensures c.in_ok-b.ensures ∙ ap (λ x. Ok (x, c.in_ok-b.end, tokens_from c.in_ok-b.end c.args.text.now)) (sym c.of.ensures)
+
+pub typed-returns-in_err-none : goal.typed-returns-in_err-none
+typed-returns-in_err-none t c = told (expression_left c.args.text.now) c.from_residual.result c.in_err-none.field-0.0 (row_parts (typed_row c.args.form) c.args.text.now c.args.room c.args.at) c.from_residual.ensures.1 (no_typed (length c.args.text.now) c.args.room c.in_err-none.field-0.0 (typed_by c.args.form) (tokens_from c.args.at c.args.text.now) c.in_err-none.ensures)
+
+pub typed-returns-in_err-a : goal.typed-returns-in_err-a
+typed-returns-in_err-a t c = told (expression_left c.args.text.now) c.from_residual-in_err-a.result c.in_err-a.field-0.0 (row_parts (typed_row c.args.form) c.args.text.now c.args.room c.args.at) c.from_residual-in_err-a.ensures.1 (no_typed_two (length c.args.text.now) c.args.room c.in_err-a.field-0.0 (typed_by c.args.form) (tokens_from c.args.at c.args.text.now) c.in_ok-none.ensures c.in_err-a.ensures)
+
+pub typed-returns-in_err-expr : goal.typed-returns-in_err-expr
+typed-returns-in_err-expr t c = told_memory (expression_left c.args.text.now) c.from_residual-in_err-expr.result (row_parts (typed_row c.args.form) c.args.text.now c.args.room c.args.at) c.from_residual-in_err-expr.ensures.1
+
+pub typed-returns : goal.typed-returns
+typed-returns t c = typed_parts (length c.args.text.now) c.args.room (typed_by c.args.form) (tokens_from c.args.at c.args.text.now) c.in_ok-none.ensures c.in_ok-a.ensures ∙ ap (λ x. Ok (x, c.in_ok-a.end, tokens_from c.in_ok-a.end c.args.text.now)) (sym c.in_ok-expr.ensures)
+
+pub list-returns-in_err-ty : goal.list-returns-in_err-ty
+list-returns-in_err-ty t c = told (expression_left c.args.text.now) c.from_residual.result c.in_err-ty.field-0.0 (row_parts (form_row Form.List) c.args.text.now c.args.room c.args.at) c.from_residual.ensures.1 (no_list_type (length c.args.text.now) c.args.room c.in_err-ty.field-0.0 (tokens_from c.args.at c.args.text.now) c.in_err-ty.ensures)
+
+pub elements-returns-in_err-all : goal.elements-returns-in_err-all
+elements-returns-in_err-all t c = told (λ x. (x.0, x.1, tokens_from x.1 c.args.text.now)) c.from_residual.result c.in_err-all.field-0.0 (items_at c.args.text.now c.args.room c.args.at) c.from_residual.ensures.1 (c.in_err-all.ensures)
+
+pub elements-returns-in_err-elements : goal.elements-returns-in_err-elements
+elements-returns-in_err-elements t c = told_memory (λ x. (x.0, x.1, tokens_from x.1 c.args.text.now)) c.from_residual-in_err-elements.result (items_at c.args.text.now c.args.room c.args.at) c.from_residual-in_err-elements.ensures.1
+
+pub elements-returns : goal.elements-returns
+elements-returns t c = c.in_ok-all.ensures ∙ ap (λ xs. Ok (xs, c.in_ok-all.end, tokens_from c.in_ok-all.end c.args.text.now)) (sym c.in_ok-elements.ensures)
+
+pub items-returns-in_err-expr : goal.items-returns-in_err-expr
+items-returns-in_err-expr t c = told (λ x. items_left c.args.text.now (x.0.items, x.1)) c.from_residual.result c.in_err-expr.field-0.0 (items_at c.args.text.now c.args.room c.args.at) c.from_residual.ensures.1 (gone (length c.args.text.now) c.args.room (map expression_of c.loop-end.all.items) c.in_err-expr.field-0.0 (tokens_from c.loop-end.next c.args.text.now) _ c.loop-end.invariant c.in_default.ensures.token c.in_err-expr.ensures)
+
+pub items-returns-in_err-push : goal.items-returns-in_err-push
+items-returns-in_err-push t c = told_memory (λ x. items_left c.args.text.now (x.0.items, x.1)) c.from_residual-in_err-push.result (items_at c.args.text.now c.args.room c.args.at) c.from_residual-in_err-push.ensures.1

@@ -1,12 +1,15 @@
-use Rattle.std.proofs.Common.{◌≡◌, ◌+◌, length, refl, sym, subst, Ok}
-use Rattle.sample_core.specs.TypeTree.{event_ty, list_ty}
+use Rattle.std.proofs.Common.{◌≡◌, ◌+◌, ◌∙◌, length, refl, sym, ap, subst, Ok}
+use Rattle.std.specs.List.{slice_range}
+use Rattle.sample_core.specs.TypeTree.{TypeTree, pair_ty, event_ty, list_ty}
 use Rattle.leaf_expr.specs.Form.{type_row}
 use Rattle.leaf_expr.specs.Front.{read_front, front_left}
 use Rattle.leaf_expr.specs.Grammar.{leaf, type_sort}
-use Rattle.leaf_expr.specs.ReadText.{Gives, row_parts, type_left}
-use Rattle.leaf_expr.specs.Token.{opening, tokens_from}
-use Rattle.leaf_expr.proofs.FrontSteps.{front_form}
-use Rattle.leaf_expr.proofs.ReadSteps.{one_done}
+use Rattle.leaf_expr.specs.Language.{no_place, place}
+use Rattle.leaf_expr.specs.ReadText.{Gives, tree_at, form_at, last_at, row_parts, type_left}
+use Rattle.leaf_expr.specs.Token.{opening, word, tokens_from}
+use Rattle.leaf_expr.specs.declared.form.TypeForm.TheVariants as Form
+use Rattle.leaf_expr.proofs.FrontSteps.{front_form, front_word, front_refused}
+use Rattle.leaf_expr.proofs.ReadSteps.{told, told_memory, headless, named, unnamed, no_part, no_end, one_part, one_done, one_refused, two_types, no_second_type}
 use Rattle.leaf_expr.proofs.type_reader.+read_type.Goals as goal
 
 pub read_type-returns-in-Form : goal.read_type-returns-in-Form
@@ -24,3 +27,55 @@ type_parts-returns-in_ok-a-in-Event t c = rw c.in-Event.is (one_done (length c.a
 
 pub type_parts-returns-in_ok-a-in-List : goal.type_parts-returns-in_ok-a-in-List
 type_parts-returns-in_ok-a-in-List t c = rw c.in-List.is (one_done (length c.args.text.now) c.args.room type_sort list_ty (tokens_from c.args.at c.args.text.now) c.in_ok-a-in-List.ensures)
+
+pub read_type-returns-in-Word : goal.read_type-returns-in-Word
+read_type-returns-in-Word t c =
+    let text = c.args.text.now in
+    let ts = tokens_from c.args.at text in
+    let front : read_front (length text) c.args.room ts ≡ Ok ((c.in-Word.start, word (slice_range text c.in-Word.start c.in-Word.end)), tokens_from c.in-Word.end text) = subst (λ f. read_front (length text) c.args.room ts ≡ Ok (front_left text f)) c.in-Word.is c.in_ok-start.ensures.front in
+    subst (Gives (type_left text) c.type_named.result) (sym (front_word leaf (length text) c.args.room type_sort ts front)) c.type_named.ensures
+
+pub read_type-returns-in_err-start : goal.read_type-returns-in_err-start
+read_type-returns-in_err-start t c = told (type_left c.args.text.now) c.from_residual.result c.in_err-start.field-0.0 (tree_at type_sort c.args.text.now c.args.room c.args.at) c.from_residual.ensures.1 (front_refused leaf (length c.args.text.now) c.in_err-start.field-0.0 c.args.room type_sort (tokens_from c.args.at c.args.text.now) c.in_err-start.ensures.front)
+
+pub type_form-returns-in_err-start : goal.type_form-returns-in_err-start
+type_form-returns-in_err-start t c = told (type_left c.args.text.now) c.from_residual.result c.in_err-start.field-0.0 (form_at type_sort c.args.text.now c.args.room c.args.at) c.from_residual.ensures.1 (headless c.in_err-start.field-0.0 (length c.args.text.now) c.args.room c.args.room type_sort (tokens_from c.args.at c.args.text.now) c.in_err-start.ensures.head)
+
+pub type_form-returns-in-Some : goal.type_form-returns-in-Some
+type_form-returns-in-Some t c = subst (Gives (type_left c.args.text.now) c.type_parts.result) (sym (named (length c.args.text.now) c.args.room c.args.room type_sort (tokens_from c.args.at c.args.text.now) (type_row c.in-Some.form) c.in_ok-start.ensures.head c.in-Some.ensures)) c.type_parts.ensures
+
+pub type_form-returns-in-None : goal.type_form-returns-in-None
+type_form-returns-in-None t c = unnamed (length c.args.text.now) c.args.room c.args.room type_sort (tokens_from c.args.at c.args.text.now) c.in_ok-start.ensures.head c.in-None.ensures
+
+pub type_part-returns-in_err-ty : goal.type_part-returns-in_err-ty
+type_part-returns-in_err-ty t c = told (λ x. (x.0, x.1, tokens_from x.1 c.args.text.now)) c.from_residual.result c.in_err-ty.field-0.0 (tree_at type_sort c.args.text.now c.args.room c.args.at) c.from_residual.ensures.1 (c.in_err-ty.ensures)
+
+pub type_part-returns-in_err-new : goal.type_part-returns-in_err-new
+type_part-returns-in_err-new t c = told_memory (λ x. (x.0, x.1, tokens_from x.1 c.args.text.now)) c.from_residual-in_err-new.result (tree_at type_sort c.args.text.now c.args.room c.args.at) c.from_residual-in_err-new.ensures.1
+
+pub type_part-returns : goal.type_part-returns
+type_part-returns t c = c.in_ok-ty.ensures ∙ ap (λ x. Ok (x, c.in_ok-ty.at, tokens_from c.in_ok-ty.at c.args.text.now)) (sym c.in_ok-new.ensures)
+
+pub last_type-returns-in_err-ty : goal.last_type-returns-in_err-ty
+last_type-returns-in_err-ty t c = told (λ x. (x.0, x.1, tokens_from x.1 c.args.text.now)) c.from_residual.result c.in_err-ty.field-0.0 (last_at type_sort c.args.text.now c.args.room c.args.at) c.from_residual.ensures.1 (no_part (length c.args.text.now) c.args.room TypeTree type_sort c.in_err-ty.field-0.0 no_place (λ a. a) (tokens_from c.args.at c.args.text.now) c.in_err-ty.ensures)
+
+pub last_type-returns-in_err-end : goal.last_type-returns-in_err-end
+last_type-returns-in_err-end t c = told (λ x. (x.0, x.1, tokens_from x.1 c.args.text.now)) c.from_residual-in_err-end.result c.in_err-end.field-0.0 (last_at type_sort c.args.text.now c.args.room c.args.at) c.from_residual-in_err-end.ensures.1 (no_end (length c.args.text.now) c.args.room type_sort c.in_err-end.field-0.0 (λ a. a) (tokens_from c.args.at c.args.text.now) c.in_ok-ty.ensures c.in_err-end.ensures)
+
+pub last_type-returns : goal.last_type-returns
+last_type-returns t c = one_part (length c.args.text.now) c.args.room type_sort (λ a. a) (tokens_from c.args.at c.args.text.now) c.in_ok-ty.ensures c.in_ok-end.ensures
+
+pub pair_type-returns-in_err-a : goal.pair_type-returns-in_err-a
+pair_type-returns-in_err-a t c = told (type_left c.args.text.now) c.from_residual.result c.in_err-a.field-0.0 (row_parts (type_row Form.Pair) c.args.text.now c.args.room c.args.at) c.from_residual.ensures.1 (no_part (length c.args.text.now) c.args.room TypeTree type_sort c.in_err-a.field-0.0 (place type_sort no_place) pair_ty (tokens_from c.args.at c.args.text.now) c.in_err-a.ensures)
+
+pub pair_type-returns-in_err-b : goal.pair_type-returns-in_err-b
+pair_type-returns-in_err-b t c = told (type_left c.args.text.now) c.from_residual-in_err-b.result c.in_err-b.field-0.0 (row_parts (type_row Form.Pair) c.args.text.now c.args.room c.args.at) c.from_residual-in_err-b.ensures.1 (no_second_type (length c.args.text.now) c.args.room c.in_err-b.field-0.0 pair_ty (tokens_from c.args.at c.args.text.now) c.in_ok-a.ensures c.in_err-b.ensures)
+
+pub pair_type-returns : goal.pair_type-returns
+pair_type-returns t c = two_types (length c.args.text.now) c.args.room pair_ty (tokens_from c.args.at c.args.text.now) c.in_ok-a.ensures c.in_ok-b.ensures
+
+pub type_parts-returns-in_err-a-in-Event : goal.type_parts-returns-in_err-a-in-Event
+type_parts-returns-in_err-a-in-Event t c = rw c.in-Event.is (told (type_left c.args.text.now) c.from_residual.result c.in_err-a-in-Event.field-0.0 (row_parts (type_row Form.Event) c.args.text.now c.args.room c.args.at) c.from_residual.ensures.1 (one_refused (length c.args.text.now) c.args.room type_sort c.in_err-a-in-Event.field-0.0 event_ty (tokens_from c.args.at c.args.text.now) c.in_err-a-in-Event.ensures))
+
+pub type_parts-returns-in_err-a-in-List : goal.type_parts-returns-in_err-a-in-List
+type_parts-returns-in_err-a-in-List t c = rw c.in-List.is (told (type_left c.args.text.now) c.from_residual-in_err-a-in-List.result c.in_err-a-in-List.field-0.0 (row_parts (type_row Form.List) c.args.text.now c.args.room c.args.at) c.from_residual-in_err-a-in-List.ensures.1 (one_refused (length c.args.text.now) c.args.room type_sort c.in_err-a-in-List.field-0.0 list_ty (tokens_from c.args.at c.args.text.now) c.in_err-a-in-List.ensures))

@@ -12,3 +12,15 @@ pub same_elements-same-requires : goal.same_elements-same-requires
 same_elements-same-requires t c =
     let e = element_smaller c.as_slice-vs.result.now c.loop-i.i c.index-vs-i.result (omega arith) in
     grind (arith, common_steps, e)
+
+pub same_elements-loop-i-preserved : goal.same_elements-loop-i-preserved
+same_elements-loop-i-preserved t c = grind (arith, common_steps)
+
+pub same_elements-returns : goal.same_elements-returns
+same_elements-returns t c = grind (arith, common_steps)
+
+pub same_elements-returns-then-not-same : goal.same_elements-returns-then-not-same
+same_elements-returns-then-not-same t c = grind (arith, common_steps)
+
+pub same-returns-in-List-List : goal.same-returns-in-List-List
+same-returns-in-List-List t c = grind (arith, common_steps)

@@ -4,7 +4,7 @@ use Rattle.sample_core.specs.Datum.{of_elements, end}
 use Rattle.sample_core.specs.HasType.{HaveType, end_has}
 use Rattle.sample_core.specs.Seen.{datum_of}
 use Rattle.sample_core.proofs.Elements.{element_smaller, elements_from}
-use Rattle.sample_core.proofs.HasTypeCases.{more_is}
+use Rattle.sample_core.proofs.HasTypeCases.{more_is, pair_is, event_is, list_is}
 use Rattle.sample_core.proofs.typing.+has_type.Goals as goal
 
 pub have_type-has_type-requires : goal.have_type-has_type-requires
@@ -28,3 +28,21 @@ pub have_type-returns : goal.have_type-returns
 have_type-returns t c =
     let n : HaveType end c.args.a.now = end_has in
     grind (arith, common_steps, n)
+
+pub have_type-loop-v-init : goal.have_type-loop-v-init
+have_type-loop-v-init t c = grind (arith, common_steps)
+
+pub have_types-returns-then-has_type : goal.have_types-returns-then-has_type
+have_types-returns-then-has_type t c = grind (arith, common_steps)
+
+pub have_types-returns-else-has_type : goal.have_types-returns-else-has_type
+have_types-returns-else-has_type t c = grind (arith, common_steps)
+
+pub has_type-returns-in-Pair-Pair : goal.has_type-returns-in-Pair-Pair
+has_type-returns-in-Pair-Pair t c = grind (arith, common_steps, pair_is)
+
+pub has_type-returns-in-List-List : goal.has_type-returns-in-List-List
+has_type-returns-in-List-List t c = grind (arith, common_steps, list_is)
+
+pub has_type-returns-in-Event-Event : goal.has_type-returns-in-Event-Event
+has_type-returns-in-Event-Event t c = grind (arith, common_steps, event_is)

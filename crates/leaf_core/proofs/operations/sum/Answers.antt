@@ -1,7 +1,0 @@
-use Rattle.std.proofs.Common.{ap, w64}
-use Rattle.std.proofs.lemmas.Int.{wrapping_add_is}
-use Rattle.sample_core.specs.Datum.{number}
-use Rattle.leaf_core.proofs.operations.sum.Goals as goal
-
-pub returns : goal.returns
-returns c = ap number (wrapping_add_is w64 c.args.m c.args.n c.ranges.m c.ranges.n)

@@ -1,0 +1,125 @@
+-- What stands inside an expression, apart from its form.
+use Rattle.std.specs.Prelude.{ℕ, suc, ◌+◌, ℤ, true, false, [], ◌++◌}
+use Rattle.std.specs.Hash as fed
+use Rattle.sample_core.specs.TypeTree.{TypeTree}
+use Rattle.sample_core.specs.SeenType.{type_of}
+use Rattle.leaf_core.specs.Expression.{Expression, Expressions, expressions_of, expression_size, expressions_size, sample, parameter, unit_literal, truth_literal, number_literal, make_pair, fst, snd, then, neg, add, sub, mul, less, equal, negation, conjunction, disjunction, choice, none_of, make_event, on, make_list, nth, len}
+use Rattle.leaf_core.specs.Fed.{type_fed, expression_fed, expressions_fed}
+use Rattle.leaf_core.specs.declared.inside.Contents.{Contents}
+use Rattle.leaf_core.specs.declared.inside.Contents.TheVariants as V
+use Rattle.leaf_core.specs.declared.expr.Expr.{Expr}
+use Rattle.leaf_core.specs.declared.expr.Expr.TheVariants as E
+use Rattle.leaf_core.specs.declared.literal.Literal.TheVariants as C
+
+-- nothing, a parameter's number, a literal's number, parts in their order, a type, or a type and elements
+pub data Inside : Type 0 where
+  nothing : Inside
+  index : ℕ → Inside
+  literal : ℤ → Inside
+  one : Expression → Inside
+  two : Expression → Expression → Inside
+  three : Expression → Expression → Expression → Inside
+  carried : TypeTree → Inside
+  row : TypeTree → Expressions → Inside
+
+-- what stands inside an expression; with the number of its form it is the expression
+abbrev pub inside_of : Expression → Inside
+inside_of sample = nothing
+inside_of (parameter k) = index k
+inside_of unit_literal = nothing
+inside_of (truth_literal false) = nothing
+inside_of (truth_literal true) = nothing
+inside_of (number_literal n) = literal n
+inside_of (make_pair a b) = two a b
+inside_of (fst a) = one a
+inside_of (snd a) = one a
+inside_of (then a b) = two a b
+inside_of (neg a) = one a
+inside_of (add a b) = two a b
+inside_of (sub a b) = two a b
+inside_of (mul a b) = two a b
+inside_of (less a b) = two a b
+inside_of (equal a b) = two a b
+inside_of (negation a) = one a
+inside_of (conjunction a b) = two a b
+inside_of (disjunction a b) = two a b
+inside_of (choice a b c) = three a b c
+inside_of (none_of t) = carried t
+inside_of (make_event a) = one a
+inside_of (on a b c) = three a b c
+inside_of (make_list t es) = row t es
+inside_of (nth a b c) = three a b c
+inside_of (len a) = one a
+
+-- what the code's `Contents` says
+abbrev pub seen_inside : Contents → Inside
+seen_inside V.Nothing = nothing
+seen_inside (V.Index k) = index k
+seen_inside (V.Number n) = literal n
+seen_inside (V.One a) = one a.now
+seen_inside (V.Two a b) = two a.now b.now
+seen_inside (V.Three a b c) = three a.now b.now c.now
+seen_inside (V.Type t) = carried (type_of t.now)
+seen_inside (V.Elements t es) = row (type_of t.now) (expressions_of es.now)
+
+-- how many forms stand inside one another, as of the expression
+abbrev pub inside_size : Inside → ℕ
+inside_size (one a) = suc (expression_size a)
+inside_size (two a b) = suc (expression_size a + expression_size b)
+inside_size (three a b c) = suc (expression_size a + expression_size b + expression_size c)
+inside_size (row t es) = suc (expressions_size es)
+inside_size _ = 0
+
+-- what a hasher is fed behind the number of the form
+abbrev pub inside_fed : Inside → fed.HashWrites
+inside_fed nothing = []
+inside_fed (index k) = fed.u32 k
+inside_fed (literal n) = fed.i64 n
+inside_fed (one a) = expression_fed a
+inside_fed (two a b) = expression_fed a ++ expression_fed b
+inside_fed (three a b c) = expression_fed a ++ (expression_fed b ++ expression_fed c)
+inside_fed (carried t) = type_fed t
+inside_fed (row t es) = type_fed t ++ (expressions_fed es ++ fed.u8 26)
+
+-- the code's expression of a form that has nothing inside
+abbrev pub plain : Expr → Expr
+plain (E.Literal c) = E.Literal c
+plain _ = E.Input
+
+-- the code's expression of the form of another, which has one part, with this part
+abbrev pub with_one : Expr → Expression → Expr
+with_one (E.Fst _) a = E.Fst a
+with_one (E.Snd _) a = E.Snd a
+with_one (E.Neg _) a = E.Neg a
+with_one (E.Not _) a = E.Not a
+with_one (E.Event _) a = E.Event a
+with_one _ a = E.Len a
+
+-- the same of two parts
+abbrev pub with_two : Expr → Expression → Expression → Expr
+with_two (E.Pair _ _) a b = E.Pair a b
+with_two (E.Then _ _) a b = E.Then a b
+with_two (E.Add _ _) a b = E.Add a b
+with_two (E.Sub _ _) a b = E.Sub a b
+with_two (E.Mul _ _) a b = E.Mul a b
+with_two (E.Less _ _) a b = E.Less a b
+with_two (E.Equal _ _) a b = E.Equal a b
+with_two (E.And _ _) a b = E.And a b
+with_two _ a b = E.Or a b
+
+-- the same of three parts
+abbrev pub with_three : Expr → Expression → Expression → Expression → Expr
+with_three (E.If _ _ _) a b c = E.If a b c
+with_three (E.On _ _ _) a b c = E.On a b c
+with_three _ a b c = E.Nth a b c
+
+-- the code's expression of the form of another, with this inside
+abbrev pub remade : Expr → Contents → Expr
+remade e V.Nothing = plain e
+remade e (V.Index k) = E.Param k
+remade e (V.Number n) = E.Literal (C.Int n)
+remade e (V.One a) = with_one e a.now
+remade e (V.Two a b) = with_two e a.now b.now
+remade e (V.Three a b c) = with_three e a.now b.now c.now
+remade e (V.Type t) = E.NoEvent t.now
+remade e (V.Elements t es) = E.List t.now es.now
