@@ -34,7 +34,11 @@ pub const TRIES: usize = 16;
 
 /// The bytes that are left at a try, `unit` more at each; at the last try ample memory.
 pub fn spare_at(attempt: usize, unit: usize) -> usize {
-    if attempt < LAST_TRY { unit.saturating_mul(attempt) } else { 1_000_000 }
+    if attempt < LAST_TRY {
+        unit.saturating_mul(attempt)
+    } else {
+        1_000_000
+    }
 }
 
 const LAST_TRY: usize = TRIES - 1;

@@ -63,8 +63,9 @@ pub fn status_told(status: u8, line: &str, out: &mut String) {
     say(out, line);
 }
 
-/// Words, among them commands that aren't there yet, on the file of a network.
+/// Command lines, and what they lead to.
 static COMMANDS: &str = "
+-- Words, among them commands that aren't there yet, on the file of a network.
 yampa types net | yampa 1 input Int (>>> (arr (add x 1)) (iPre 0)) => Int -> Int␤weight 3␤height 2␤
 yampa types other | yampa 1 input Int (>>> (arr (add x 1)) (iPre 0)) => status 3 network: cannot be read
 yampa run other | yampa 1 input Int (>>> (arr (add x 1)) (iPre 0)) => status 3 network: cannot be read
@@ -87,15 +88,7 @@ yampa optimise net | yampa 1 input Int (>>> (arr (add x 1)) (iPre 0)) => wrong w
 yampa optimise --certificate net | yampa 1 input Int (>>> (arr (add x 1)) (iPre 0)) => wrong words
 yampa check net net net | yampa 1 input Int (>>> (arr (add x 1)) (iPre 0)) => wrong words
 yampa run-checked net net net | yampa 1 input Int (>>> (arr (add x 1)) (iPre 0)) => wrong words
-";
-
-#[test]
-fn words_lead_to_help_types_or_a_refusal(rt: HostRuntime) {
-    all_are_found(&rt, rt.alloc(), Probe::Command, COMMANDS);
-}
-
-/// Files that are run, and why they are refused; the last two have bytes of no text.
-static FILES: &str = "
+-- Files that are run, and why they are refused; the last two have bytes of no text.
 yampa run net | yampa 3 input Int time => status 1 network: header
 yampa run net |  => status 1 network: header
 yampa run net | yampa 1 input Int (arr => status 1 network: syntax at byte 22
@@ -114,15 +107,7 @@ yampa run net | ; a comment␤yampa 1 input Int identity => run
 yampa run net | yampa 1␉input␍␤Int␤(>>> (arr x)(iPre 3)) => run
 yampa run net | {10000*~} => status 1 network: header
 yampa run net | yampa 1 input Int ~(arr x) => status 1 network: syntax at byte 18
-";
-
-#[test]
-fn files_are_run_or_refused(rt: HostRuntime) {
-    all_are_found(&rt, rt.alloc(), Probe::Command, FILES);
-}
-
-/// Long files.
-static LONG: &str = "
+-- Long files.
 yampa run net | yampa 1 input Int {255*(>>> (arr x) }(arr x){255*)} => run
 yampa run net | yampa 1 input Int {256*(>>> (arr x) }(arr x){256*)} => status 1 network: too deep
 yampa run net | yampa 1 input Int (arr {255*(neg }x{255*)}) => run
@@ -138,6 +123,6 @@ yampa types net | yampa 1 input Int {255*(>>> (arr x) }(arr x){255*)} => Int -> 
 ";
 
 #[test]
-fn long_files_are_run_or_refused(rt: HostRuntime) {
-    all_are_found(&rt, rt.alloc(), Probe::Command, LONG);
+fn command_lines_lead_where_they_should(rt: HostRuntime) {
+    all_are_found(&rt, rt.alloc(), Probe::Command, COMMANDS);
 }

@@ -2,7 +2,7 @@
 
 use crate::commands::command_told;
 use crate::keys::key_told;
-use crate::networks::{doubled_told, doubled_types_told, file_told, network_told, position_told};
+use crate::networks::{doubled_told, file_told, network_told, position_told};
 use crate::reading::{expr_at_told, expr_told, type_at_told};
 use crate::runs::{missing_told, run_told};
 use crate::scant_memory::scant_told;
@@ -51,10 +51,8 @@ pub enum Probe {
     File,
     /// A network's weight and height, or why it has no types.
     Network,
-    /// The weight of `(arr x)`, put so many times before itself.
+    /// The weight or the types of `(arr x)`, put so many times before itself: `KIND COUNT`.
     Doubled,
-    /// What its types are.
-    DoubledTypes,
     /// A position, by its name.
     Position,
     /// What a command line leads to, on one file called `net`: `WORDS | FILE`.
@@ -94,7 +92,6 @@ fn tell(alloc: Global, probe: Probe, given: &str, out: &mut String) {
         Probe::File => file_told(alloc, given, out),
         Probe::Network => network_told(alloc, given, out),
         Probe::Doubled => doubled_told(alloc, given, out),
-        Probe::DoubledTypes => doubled_types_told(alloc, given, out),
         Probe::Position => position_told(alloc, given, out),
         Probe::Command => command_told(alloc, given, out),
         Probe::Run => run_told(alloc, given, out),
@@ -109,14 +106,20 @@ fn tell(alloc: Global, probe: Probe, given: &str, out: &mut String) {
 
 /// Asserts that the probe finds what is wanted of each row. A line is a row: what is given, with
 /// ` | ` between its parts, ` => `, and what is to be found; both in short forms, see `write_short`.
+/// A line without ` =>` is a comment.
 pub fn all_are_found(rt: &impl Abort, alloc: Global, probe: Probe, rows: &str) {
     for row in rows.lines() {
         if let Some((given, wanted)) = row.split_once(" =>") {
-            let found = found(alloc, probe, given);
-            let wanted = written(alloc, wanted.strip_prefix(" ").unwrap_or(wanted));
-            assert!(rt; found.as_str() == wanted.as_str(), "{row}: found {found}");
+            is_found(rt, alloc, probe, given, wanted.trim_start());
         }
     }
+}
+
+fn is_found(rt: &impl Abort, alloc: Global, probe: Probe, given: &str, short: &str) {
+    let found = found(alloc, probe, given);
+    let wanted = written(alloc, short);
+    let right = found.as_str() == wanted.as_str();
+    assert!(rt; right, "{given}: wanted {short}, found {found}");
 }
 
 /// What the probe finds of what is given in short form.

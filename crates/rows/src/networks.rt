@@ -1,7 +1,7 @@
 // Network files and networks: what is read, printed and typed, and what is refused and where.
 
 use crate::found::{Probe, all_are_found};
-use crate::texts::{bytes_in, number_in, say, say_at};
+use crate::texts::{bytes_in, numbered, say, say_at};
 use leaf_expr::{Expr, ExprFault};
 use net_syntax::{Net, Position, Sub, print_position, push_position, weight};
 use net_text::{NetTextFault, print_net, read_net};
@@ -14,8 +14,7 @@ pub fn file_told(alloc: Global, text: &str, out: &mut String) {
     let bytes = bytes_in(alloc, text);
     match read_net(alloc, &bytes) {
         Ok((input, net)) => {
-            let printed = print_net(alloc, &input, &net);
-            copy_told(alloc, &input, &net, printed, out);
+            copy_told(alloc, &input, &net, out);
             drop(input);
             drop(net);
         }
@@ -35,71 +34,21 @@ fn text_fault_told(fault: NetTextFault, out: &mut String) {
     }
 }
 
-/// Tells how the network is printed, and whether its copy is printed so, and what is read of that.
-fn copy_told(
-    alloc: Global,
-    input: &Ty,
-    net: &Net<Expr>,
-    printed: Result<String, Memory>,
-    out: &mut String,
-) {
-    match printed {
-        Ok(printed) => {
-            if !copy_is_printed_so(alloc, input, net, printed.as_str()) {
-                say(out, "not the same as its copy ");
-            }
-            if !is_printed_again(alloc, printed.as_str()) {
-                say(out, "not the same when it is read again ");
-            }
-            say(out, printed.as_str())
+/// Tells how a copy of the network is printed.
+fn copy_told(alloc: Global, input: &Ty, net: &Net<Expr>, out: &mut String) {
+    match net.try_copy(alloc) {
+        Ok(copy) => {
+            printed_told(print_net(alloc, input, &copy), out);
+            drop(copy);
         }
         Err(Memory) => say(out, "memory"),
     }
 }
 
-fn copy_is_printed_so(alloc: Global, input: &Ty, net: &Net<Expr>, text: &str) -> bool {
-    match net.try_copy(alloc) {
-        Ok(copy) => {
-            let right = is_printed_so(alloc, input, &copy, text) && halves_are_copied(alloc, net);
-            drop(copy);
-            right
-        }
-        Err(Memory) => false,
-    }
-}
-
-fn is_printed_so(alloc: Global, input: &Ty, net: &Net<Expr>, text: &str) -> bool {
-    match print_net(alloc, input, net) {
-        Ok(printed) => printed.as_str() == text,
-        Err(Memory) => false,
-    }
-}
-
-fn halves_are_copied(alloc: Global, net: &Net<Expr>) -> bool {
-    match net {
-        Net::Seq(f, g) => half_is_copied(alloc, f) && half_is_copied(alloc, g),
-        _ => true,
-    }
-}
-
-/// Whether the copy of a network's half has its weight.
-fn half_is_copied(alloc: Global, half: &Sub<Expr>) -> bool {
-    match half.try_copy() {
-        Ok(copy) => weight(alloc, copy.get()) == weight(alloc, half.get()),
-        Err(Memory) => false,
-    }
-}
-
-/// Whether the file is printed as it is read.
-fn is_printed_again(alloc: Global, text: &str) -> bool {
-    match read_net(alloc, text.as_bytes()) {
-        Ok((input, net)) => {
-            let right = is_printed_so(alloc, &input, &net, text);
-            drop(input);
-            drop(net);
-            right
-        }
-        Err(_fault) => false,
+fn printed_told(printed: Result<String, Memory>, out: &mut String) {
+    match printed {
+        Ok(text) => say(out, text.as_str()),
+        Err(Memory) => say(out, "memory"),
     }
 }
 
@@ -154,11 +103,14 @@ fn at_told(alloc: Global, words: &str, position: &Position, out: &mut String) {
     }
 }
 
-/// Tells the weight of `(arr x)`, put so many times before itself.
+/// Tells the weight of `(arr x)`, put so many times before itself, or its types at an input that is
+/// a number.
 pub fn doubled_told(alloc: Global, given: &str, out: &mut String) {
-    match doubled(alloc, number_in(given)) {
-        Some(net) => weight_told(weight(alloc, &net), out),
-        None => say(out, "memory"),
+    let (kind, times) = numbered(given);
+    match (doubled(alloc, times), kind) {
+        (Some(net), "types") => types_told(alloc, Ty::Int, Box::into_inner(net), out),
+        (Some(net), _) => weight_told(weight(alloc, &net), out),
+        (None, _) => say(out, "memory"),
     }
 }
 
@@ -166,14 +118,6 @@ fn weight_told(weight: Result<u32, Memory>, out: &mut String) {
     match weight {
         Ok(weight) => say_at(out, "weight", weight as usize),
         Err(Memory) => say(out, "memory"),
-    }
-}
-
-/// Tells its types at an input that is a number.
-pub fn doubled_types_told(alloc: Global, given: &str, out: &mut String) {
-    match doubled(alloc, number_in(given)) {
-        Some(net) => types_told(alloc, Ty::Int, Box::into_inner(net), out),
-        None => say(out, "memory"),
     }
 }
 
@@ -200,14 +144,13 @@ pub fn position_told(alloc: Global, given: &str, out: &mut String) {
         _ => Position::of_node(alloc, &[0, 1, 10, 4_294_967_295]),
     };
     if let Ok(position) = made {
-        if let Ok(text) = print_position(alloc, &position) {
-            say(out, text.as_str());
-        }
+        printed_told(print_position(alloc, &position), out);
     }
 }
 
-/// Files that are refused for their header, what follows one, or their length alone.
-static HEADERS: &str = "
+/// Network files, how they are printed, and why they are refused.
+static FILES: &str = "
+-- Files that are refused for their header, what follows one, or their length alone.
  => header
 yampa => header
 yampa 1 => header
@@ -227,15 +170,7 @@ yampa 1 input 5 identity => syntax at 14
 yampa 1 input identity => syntax at 14
 {1048576*(} => header
 {1048576*(}  => too long
-";
-
-#[test]
-fn headers_are_read(rt: HostRuntime) {
-    all_are_found(&rt, rt.alloc(), Probe::File, HEADERS);
-}
-
-/// Files in which no network stands. Bytes of no text, zeros and vertical tabs stand in words.
-static NO_NETWORKS: &str = "
+-- Files in which no network stands. Bytes of no text, zeros and vertical tabs stand in words.
 yampa 1 input Int time => syntax at 18
 yampa 1 input Int integral => syntax at 18
 yampa 1 input Int edge => syntax at 18
@@ -279,32 +214,16 @@ yampa 1 input Int identity identity => syntax at 27
 yampa 1 input Int (iPre -0) => number at 24
 yampa 1 input Int (iPre 9223372036854775808) => number at 24
 yampa 1 input Int (arr (p 65536)) => number at 26
-";
-
-#[test]
-fn files_without_a_network_are_refused(rt: HostRuntime) {
-    all_are_found(&rt, rt.alloc(), Probe::File, NO_NETWORKS);
-}
-
-/// The 601st parenthesis, also where none fits: as a form's word, for its end, and inside an
-/// expression.
-static NESTING: &str = "
+-- The 601st parenthesis, also where none fits: as a form's word, for its end, and inside an
+-- expression.
 yampa 1 input Int {601*(>>> } => nesting at 3018
 yampa 1 input Int {600*(>>> } => syntax at 3018
 yampa 1 input Int {599*(>>> }(( => nesting at 3014
 yampa 1 input Int {599*(>>> }(arr x ( => nesting at 3020
 yampa 1 input Int {599*(>>> }(arr ( => nesting at 3018
 yampa 1 input Int {599*(>>> }(>>> ( => nesting at 3018
-";
-
-#[test]
-fn six_hundred_parentheses_may_be_open(rt: HostRuntime) {
-    all_are_found(&rt, rt.alloc(), Probe::File, NESTING);
-}
-
-/// Files, and how they are printed: in three lines and in core forms. White space and comments
-/// part tokens.
-static PRINTED: &str = "
+-- Files, and how they are printed: in three lines and in core forms. White space and comments
+-- part tokens.
 yampa 1 input Int(>>>(arr(add x 1));␤(iPre 0)) => yampa 1␤input Int␤(>>> (arr (add x 1)) (iPre 0))␤
 yampa 1 input (Pair Int Bool) identity => yampa 1␤input (Pair Int Bool)␤(arr x)␤
 yampa 1 input Unit (constant -7) => yampa 1␤input Unit␤(arr (then unit -7))␤
@@ -313,11 +232,20 @@ yampa 1 input Int (arr (attach Int (event 1) 2)) => yampa 1␤input Int␤(arr (
 yampa 1 input Int (>>> (arr x) (iPre 0)) => yampa 1␤input Int␤(>>> (arr x) (iPre 0))␤
 ␉; first␍; (␤yampa␍1;)␤input;x␤(List Int)(>>>(arr x)(iPre(list Int)));end => yampa 1␤input (List Int)␤(>>> (arr x) (iPre (list Int)))␤
 yampa 1 input Int identity ; (time) => yampa 1␤input Int␤(arr x)␤
+-- What is printed is read to the same.
+yampa 1␤input Int␤(>>> (arr (add x 1)) (iPre 0))␤ => yampa 1␤input Int␤(>>> (arr (add x 1)) (iPre 0))␤
+yampa 1␤input (Pair Int Bool)␤(arr x)␤ => yampa 1␤input (Pair Int Bool)␤(arr x)␤
+yampa 1␤input Unit␤(arr (then unit -7))␤ => yampa 1␤input Unit␤(arr (then unit -7))␤
+yampa 1␤input Int␤(arr (if true x (none Int)))␤ => yampa 1␤input Int␤(arr (if true x (none Int)))␤
+yampa 1␤input Int␤(arr (on (event 1) (none Int) (event (pair (snd x) (then (fst x) 2)))))␤ => yampa 1␤input Int␤(arr (on (event 1) (none Int) (event (pair (snd x) (then (fst x) 2)))))␤
+yampa 1␤input Int␤(>>> (arr x) (iPre 0))␤ => yampa 1␤input Int␤(>>> (arr x) (iPre 0))␤
+yampa 1␤input (List Int)␤(>>> (arr x) (iPre (list Int)))␤ => yampa 1␤input (List Int)␤(>>> (arr x) (iPre (list Int)))␤
+yampa 1␤input Int␤(arr x)␤ => yampa 1␤input Int␤(arr x)␤
 ";
 
 #[test]
-fn files_are_printed_in_three_lines(rt: HostRuntime) {
-    all_are_found(&rt, rt.alloc(), Probe::File, PRINTED);
+fn network_files_are_read(rt: HostRuntime) {
+    all_are_found(&rt, rt.alloc(), Probe::File, FILES);
 }
 
 /// Networks at the limits and over them, and faults where they stand.
@@ -336,26 +264,18 @@ fn networks_are_typed(rt: HostRuntime) {
     all_are_found(&rt, rt.alloc(), Probe::Network, TYPINGS);
 }
 
-/// How often `(arr x)` is put before itself, and the weight, which is counted up to its limit.
-static WEIGHTS: &str = "
-18 => weight 524287
-60 => weight 1000001
+/// How often `(arr x)` is put before itself, and its weight, which is counted up to its limit, or
+/// its types.
+static DOUBLED: &str = "
+weight 18 => weight 524287
+weight 60 => weight 1000001
+types 18 => weight 524287 height 19
+types 19 => too heavy
 ";
 
 #[test]
-fn weights_are_counted(rt: HostRuntime) {
-    all_are_found(&rt, rt.alloc(), Probe::Doubled, WEIGHTS);
-}
-
-/// The same, and the network's types.
-static HEAVY: &str = "
-18 => weight 524287 height 19
-19 => too heavy
-";
-
-#[test]
-fn heavy_networks_are_refused(rt: HostRuntime) {
-    all_are_found(&rt, rt.alloc(), Probe::DoubledTypes, HEAVY);
+fn shared_halves_are_weighed(rt: HostRuntime) {
+    all_are_found(&rt, rt.alloc(), Probe::Doubled, DOUBLED);
 }
 
 /// Positions by their names.

@@ -116,21 +116,11 @@ fn part_is_copied(part: &Part) -> bool {
     }
 }
 
+/// Whether the copy of a list's elements has as many.
 fn items_are_copied(all: &Parts) -> bool {
     match all.try_copy() {
-        Ok(copy) => are_alike(copy.as_slice(), all.as_slice()),
+        Ok(copy) => copy.as_slice().len() == all.as_slice().len(),
         Err(Memory) => false,
-    }
-}
-
-/// Whether a list's elements are as many as another's, and the same at both ends.
-fn are_alike(copy: &[Expr], all: &[Expr]) -> bool {
-    match (copy, all) {
-        ([first, .., last], [other_first, .., other_last]) => {
-            copy.len() == all.len() && same_expr(first, other_first) && same_expr(last, other_last)
-        }
-        ([one], [other]) => same_expr(one, other),
-        _ => copy.is_empty() && all.is_empty(),
     }
 }
 
@@ -172,9 +162,10 @@ fn type_child_is_copied(child: &TyChild) -> bool {
     }
 }
 
-/// Texts, and what is printed of them: core forms are printed as they were read, short forms are
-/// expanded, white space and comments part tokens.
-static PRINTED: &str = "
+/// Texts of expressions, how they are printed, and why they are refused.
+static EXPRESSIONS: &str = "
+-- Texts, and what is printed of them: core forms are printed as they were read, short forms are
+-- expanded, white space and comments part tokens.
 x => x
 unit => unit
 true => true
@@ -223,15 +214,7 @@ false => false
 ( add x 1 ) => (add x 1)
 (none(Event;Bool␤Int)) => (none (Event Int))
 x;x␍x => x
-";
-
-#[test]
-fn expressions_are_printed_in_core_forms(rt: HostRuntime) {
-    all_are_found(&rt, rt.alloc(), Probe::Expr, PRINTED);
-}
-
-/// Texts that are refused, and so. The last has a word of bytes that are no text.
-static REFUSED: &str = "
+-- Texts that are refused, and so. The last has a word of bytes that are no text.
 (add x 01) => number at 7
 (add x -0) => number at 7
 (add x -01) => number at 7
@@ -271,15 +254,7 @@ x x => syntax at 2
 (add x 1)) => syntax at 9
 (add x 1 2) => syntax at 9
 (add x ␀␋␌~ 1) => syntax at 7
-";
-
-#[test]
-fn texts_are_refused(rt: HostRuntime) {
-    all_are_found(&rt, rt.alloc(), Probe::Expr, REFUSED);
-}
-
-/// Long texts, and texts with many open parentheses: the 601st is refused, also where none fits.
-static LONG: &str = "
+-- Long texts, and texts with many open parentheses: the 601st is refused, also where none fits.
 {600*(neg } => syntax at 3000
 {600*(neg }01 => number at 3000
 {600*(neg }( => nesting at 3000
@@ -293,8 +268,8 @@ x{1048576* } => too long
 ";
 
 #[test]
-fn long_texts_are_read_or_refused(rt: HostRuntime) {
-    all_are_found(&rt, rt.alloc(), Probe::Expr, LONG);
+fn expressions_are_read(rt: HostRuntime) {
+    all_are_found(&rt, rt.alloc(), Probe::Expr, EXPRESSIONS);
 }
 
 /// A byte and how many parentheses are open, a text, and what expression is read from there.

@@ -168,6 +168,7 @@ fn unfilled_told(alloc: Global, net: &TypedNet, out: &mut String) {
 
 /// Networks, streams, and all that is written.
 static RUNS: &str = "
+-- Networks, streams, and all that is written.
 yampa 1 input Int (>>> (arr (add x 1)) (iPre 0)) | 5␤+1 6␤+1 7 => 0␤6␤7␤
 yampa 1 input Int (>>> (arr (add x 1)) (iPre 0)) | 5␤+1 6␤+1 =␤+9223372036854775807 1␤ => 0␤6␤7␤7␤
 yampa 1 input Int (arr (add x 1)) | 9223372036854775807 => -9223372036854775808␤
@@ -186,15 +187,7 @@ yampa 1 input Int (>>> (arr (add x 1)) (iPre 0)) | 5␤6 => 0␤status 1 stream:
 yampa 1 input Int (>>> (arr (add x 1)) (iPre 0)) | 5␤+1 == => 0␤status 1 stream: line 2: no value at 0
 yampa 1 input Int (>>> (arr (add x 1)) (iPre 0)) | ␤ => status 1 stream: line 1: no value at 0
 yampa 1 input (Pair Int Int) (>>> (iPre (pair 1 2)) (arr (sub (fst x) (mul (snd x) (neg 3))))) | (pair 10 -1)␤+2 (pair 0 0)␤+3 (pair 5 => 7␤7␤status 1 stream: line 3: no value at 7
-";
-
-#[test]
-fn runs_go_as_worked_out(rt: HostRuntime) {
-    all_are_found(&rt, rt.alloc(), Probe::Run, RUNS);
-}
-
-/// A network of one expression for each shape that has a closure of its own, and one for all others.
-static SHAPES: &str = "
+-- A network of one expression for each shape that has a closure of its own, and one for all others.
 yampa 1 input Int (arr x) | 5␤+1 -6 => 5␤-6␤
 yampa 1 input Int (arr 7) | 5␤+1 6 => 7␤7␤
 yampa 1 input Int (arr true) | 5 => true␤
@@ -211,8 +204,8 @@ yampa 1 input Int (arr (neg x)) | 5 => -5␤
 ";
 
 #[test]
-fn each_shape_of_expression_has_a_closure(rt: HostRuntime) {
-    all_are_found(&rt, rt.alloc(), Probe::Run, SHAPES);
+fn runs_go_as_worked_out(rt: HostRuntime) {
+    all_are_found(&rt, rt.alloc(), Probe::Run, RUNS);
 }
 
 /// Networks, and where the first expression without a row stands.

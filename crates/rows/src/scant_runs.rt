@@ -1,9 +1,11 @@
 // What a table and a runner answer where growths are refused.
 
+ghost use Rattle.std.specs.Prelude.{◌≡◌};
 ghost use Rattle.sample_core.specs.HasType.{HasType};
 ghost use Rattle.sample_core.specs.Seen.{datum_of};
 ghost use Rattle.leaf_table.specs.Rows.{rows_of};
 ghost use Rattle.step_core.specs.Bound.{FitsTable};
+ghost use Rattle.step_core.specs.SeenRunner.{running_of};
 
 use crate::ballast::{Answer, TRIES, Tally, compared, spare_at, take_all};
 use crate::found::{Probe, all_are_found};
@@ -12,7 +14,7 @@ use crate::texts::{say, written};
 use crate::working::answer_told;
 use leaf_table::LeafTable;
 use net_syntax::TypedNet;
-use sample_core::{Sample, has_type};
+use sample_core::{Memory, Sample, has_type};
 use std::alloc::Global;
 use step_core::{Bound, Runner};
 
@@ -79,16 +81,25 @@ fn push_told(
     let mut runner = Runner::new(alloc, bound, table);
     let scant = runner.push(0, sample);
     drop(ballast);
-    let refused = scant.is_err();
-    answer_told(scant, out);
-    if refused {
-        say(out, " ");
-        let first = runner.push(0, sample);
-        if first.is_ok() {
-            answer_told(first, out);
+    match scant {
+        Ok(answer) => answer_told(Ok(answer), out),
+        Err(Memory) => retried_told(runner, sample, out),
+    }
+}
+
+/// Tells of the want of memory, and what the same push and the next then answer.
+fn retried_told(mut runner: Runner<'_>, sample: &Sample, out: &mut String)
+    requires typed { HasType (datum_of sample.now) (running_of runner).input }
+    requires fresh { (running_of runner).samples ≡ 0 }
+{
+    say(out, "memory ");
+    match runner.push(0, sample) {
+        Ok(first) => {
+            answer_told(Ok(first), out);
             say(out, " ");
-            answer_told(runner.push(1, sample), out);
+            answer_told(runner.push(1, sample), out)
         }
+        Err(Memory) => say(out, "memory"),
     }
 }
 

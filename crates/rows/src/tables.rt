@@ -1,6 +1,6 @@
 // Tables of stored closures: how many rows they have, and what their closures answer.
 
-ghost use Rattle.std.specs.Prelude.{Ok, map};
+ghost use Rattle.std.specs.Prelude.{◌≡◌, IfSome, Ok, map};
 ghost use Rattle.sample_core.specs.Seen.{datum_of};
 ghost use Rattle.leaf_table.specs.Computes.{Computes};
 ghost use Rattle.leaf_table.specs.Rows.{rows_of};
@@ -9,11 +9,11 @@ use crate::found::{Probe, all_are_found};
 use crate::runs::{Trial, network, trial_told};
 use crate::texts::{parted, say, say_at, value_in};
 use crate::working::answer_told;
+use leaf_expr::LeafKey;
 use leaf_table::{Leaf, LeafId, LeafTable, Run, TableFault, run_general};
 use net_syntax::{LeafNeed, TypedNet, leaves};
 use sample_core::{Memory, Sample};
-use std::alloc::{AllocError, Global};
-use yampa_run::stored_row;
+use std::alloc::Global;
 
 /// Adds `2^depth` different expressions to the text of a network, the first of them with this
 /// number.
@@ -58,17 +58,18 @@ pub fn added_told(alloc: Global, one_more: &str, out: &mut String) {
 
 fn needs_told(alloc: Global, net: &TypedNet, out: &mut String) {
     match leaves(alloc, net) {
-        Ok(needs) => last_told(alloc, &needs, out),
+        Ok(needs) => general_told(alloc, &needs, None, out),
         Err(Memory) => say(out, "memory"),
     }
 }
 
-/// Adds a closure for each of the needs to one table. Tells what it answers to the last.
-fn last_told(alloc: Global, needs: &[LeafNeed], out: &mut String) {
+/// Adds the closure for any expression for each of the needs to one table. Tells what the table
+/// answers to the last, and what the last one's row answers on the value, where there is one.
+fn general_told(alloc: Global, needs: &[LeafNeed], x: Option<&Sample>, out: &mut String) {
     let mut table = LeafTable::new(alloc);
     for need in needs {
         out.clear();
-        if let Ok(own) = need.key.try_copy(alloc) {
+        if let Some(own) = boxed_key(alloc, need) {
             if let Ok(run) = Box::new(alloc, move |params: &[Sample], x: &Sample| {
                 run_general(alloc, &own, params, x)
             }) {
@@ -76,7 +77,21 @@ fn last_told(alloc: Global, needs: &[LeafNeed], out: &mut String) {
             }
         }
     }
+    if let (Some(need), Some(x)) = (needs.last(), x) {
+        say(out, " answers ");
+        row_told(&table, need, x, out);
+    }
     drop(table);
+}
+
+/// The need's key, in a box: what holds it is let go by a call.
+fn boxed_key(alloc: Global, need: &LeafNeed) -> Option<Box<LeafKey>>
+    ensures { IfSome result (λ key. key.value ≡ need.now.key) }
+{
+    match need.key.try_copy(alloc) {
+        Ok(key) => Box::new(alloc, key).ok(),
+        Err(Memory) => None,
+    }
 }
 
 /// Adds the closure under the need's key. Tells what the table answers.
@@ -116,7 +131,7 @@ fn refusal(fault: TableFault, own: bool, out: &mut String) {
     }
 }
 
-/// Tells what the row of a network's first expression answers on a value, `FILE | VALUE`: where its
+/// Tells what the row of a network's expression answers on a value, `FILE | VALUE`: where its
 /// closure is the one for any expression, and where it is the one for its shape.
 pub fn called_told(alloc: Global, given: &str, out: &mut String) {
     let (file, value) = parted(given);
@@ -128,31 +143,17 @@ pub fn called_told(alloc: Global, given: &str, out: &mut String) {
 
 fn value_told(alloc: Global, net: &TypedNet, value: &str, out: &mut String) {
     match (value_in(alloc, net.input(), value), leaves(alloc, net)) {
-        (Some(x), Ok(needs)) => first_told(alloc, net, &needs, &x, out),
+        (Some(x), Ok(needs)) => both_told(alloc, net, &needs, &x, out),
         _ => say(out, "no value"),
     }
 }
 
-fn first_told(alloc: Global, net: &TypedNet, needs: &[LeafNeed], x: &Sample, out: &mut String) {
-    match needs.first() {
-        Some(need) => {
-            general_told(alloc, need, x, out);
-            say(out, " and ");
-            trial_told(alloc, net, Trial::Call(need, x), out)
-        }
-        None => say(out, "no expression"),
+fn both_told(alloc: Global, net: &TypedNet, needs: &[LeafNeed], x: &Sample, out: &mut String) {
+    general_told(alloc, needs, Some(x), out);
+    if let Some(need) = needs.last() {
+        say(out, " and ");
+        trial_told(alloc, net, Trial::Call(need, x), out);
     }
-}
-
-fn general_told(alloc: Global, need: &LeafNeed, x: &Sample, out: &mut String) {
-    let mut table = LeafTable::new(alloc);
-    if let Ok(own) = need.key.try_copy(alloc) {
-        let added = stored_row!(alloc, table, need, run_general, &own);
-        if added.is_ok() {
-            row_told(&table, need, x, out);
-        }
-    }
-    drop(table);
 }
 
 /// Tells what the row of the need's key answers on the value.
@@ -187,10 +188,10 @@ fn a_full_table_answers_for_a_key_that_is_there(rt: HostRuntime) {
 
 /// A network, a value, and what the row of its expression answers, both ways.
 static CALLED: &str = "
-yampa 1 input Int (arr (add x 1)) | 5 => 6 and 6
-yampa 1 input Int (arr (less x 6)) | 5 => true and true
-yampa 1 input Int (arr (event x)) | 5 => (event 5) and (event 5)
-yampa 1 input (Pair Int Int) (arr (snd x)) | (pair 1 2) => 2 and 2
+yampa 1 input Int (arr (add x 1)) | 5 => row 0 answers 6 and 6
+yampa 1 input Int (arr (less x 6)) | 5 => row 0 answers true and true
+yampa 1 input Int (arr (event x)) | 5 => row 0 answers (event 5) and (event 5)
+yampa 1 input (Pair Int Int) (arr (snd x)) | (pair 1 2) => row 0 answers 2 and 2
 ";
 
 #[test]

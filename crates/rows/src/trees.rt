@@ -1,91 +1,72 @@
 // Values, types and expressions that are built by calls.
 
 use crate::found::{Probe, all_are_found};
-use crate::texts::{say, type_in, value_in};
+use crate::texts::say;
 use leaf_expr::{Expr, Part, Parts, push_expr};
-use sample_core::{Child, Sample, Samples, Ty, TyChild, print_type, print_value};
+use sample_core::{Child, Memory, Sample, Samples, Ty, TyChild, print_type, print_value};
 use std::alloc::Global;
 
 /// Tells how the tree of that name is printed.
 pub fn tree_told(alloc: Global, given: &str, out: &mut String) {
     match given {
-        "values" => value_told(alloc, mixed_values(alloc), out),
-        "types" => type_told(alloc, pair_of_types(alloc), out),
-        "negation" => expr_told(negation(alloc), out),
-        _ => expr_told(expressions(alloc), out),
-    }
-}
-
-fn value_told(alloc: Global, built: Option<Box<Sample>>, out: &mut String) {
-    if let Some(value) = built {
-        if let Ok(text) = print_value(alloc, &value) {
-            say(out, text.as_str());
-        }
-    }
-}
-
-fn type_told(alloc: Global, built: Option<Box<Ty>>, out: &mut String) {
-    if let Some(ty) = built {
-        if let Ok(text) = print_type(alloc, &ty) {
-            say(out, text.as_str());
-        }
-    }
-}
-
-fn expr_told(built: Option<Box<Expr>>, out: &mut String) {
-    if let Some(expr) = built {
-        drop(push_expr(out, &expr));
+        "values" => values_told(alloc, out),
+        "types" => types_told(alloc, out),
+        _ => exprs_told(alloc, out),
     }
 }
 
 /// A list of an event, no event and the unit: no type has it.
-fn mixed_values(alloc: Global) -> Option<Box<Sample>> {
-    let event = event(alloc)?;
+fn values_told(alloc: Global, out: &mut String) {
     let mut all = Vec::new(alloc);
-    drop(all.push(Box::into_inner(event)));
+    if let Some(event) = event(alloc) {
+        drop(all.push(Box::into_inner(event)));
+    }
     drop(all.push(Sample::NoEvent));
     drop(all.push(Sample::Unit));
-    let all = Samples::new(alloc, all).ok()?;
-    Box::new(alloc, Sample::List(all)).ok()
+    if let Ok(all) = Samples::new(alloc, all) {
+        let list = Sample::List(all);
+        printed_told(print_value(alloc, &list), out);
+        drop(list);
+    }
 }
 
 fn event(alloc: Global) -> Option<Box<Sample>> {
-    let ty = type_in(alloc, "(Pair Int Bool)")?;
-    let pair = value_in(alloc, &ty, "(pair -5 true)")?;
-    let child = Child::new(alloc, Box::into_inner(pair)).ok()?;
+    let child = Child::new(alloc, Sample::Int(-5)).ok()?;
     Box::new(alloc, Sample::Event(child)).ok()
 }
 
-fn pair_of_types(alloc: Global) -> Option<Box<Ty>> {
-    let list = type_child(alloc, "(List Bool)")?;
-    let event = type_child(alloc, "(Event Unit)")?;
-    Box::new(alloc, Ty::Pair(list, event)).ok()
+fn types_told(alloc: Global, out: &mut String) {
+    if let Ok(inner) = TyChild::new(alloc, Ty::Bool) {
+        let list = Ty::List(inner);
+        printed_told(print_type(alloc, &list), out);
+        drop(list);
+    }
 }
 
-fn type_child(alloc: Global, text: &str) -> Option<TyChild> {
-    let ty = type_in(alloc, text)?;
-    TyChild::new(alloc, Box::into_inner(ty)).ok()
+fn printed_told(printed: Result<String, Memory>, out: &mut String) {
+    if let Ok(text) = printed {
+        say(out, text.as_str());
+    }
 }
 
-fn negation(alloc: Global) -> Option<Box<Expr>> {
-    let part = Part::new(alloc, Expr::Input).ok()?;
-    Box::new(alloc, Expr::Neg(part)).ok()
-}
-
-fn expressions(alloc: Global) -> Option<Box<Expr>> {
+fn exprs_told(alloc: Global, out: &mut String) {
     let mut all = Vec::new(alloc);
-    drop(all.push(Expr::Input));
+    if let Ok(part) = Part::new(alloc, Expr::Input) {
+        drop(all.push(Expr::Neg(part)));
+    }
     drop(all.push(Expr::Param(7)));
-    let parts = Parts::new(alloc, all).ok()?;
-    Box::new(alloc, Expr::List(Ty::Int, parts)).ok()
+    if let Ok(all) = Parts::new(alloc, all) {
+        let list = Expr::List(Ty::Int, all);
+        drop(push_expr(out, &list));
+        drop(list);
+    }
 }
 
 /// Trees by their names, and how they are printed.
 static TREES: &str = "
-values => (list (event (pair -5 true)) none unit)
-types => (Pair (List Bool) (Event Unit))
-negation => (neg x)
-expressions => (list Int x (p 7))
+values => (list (event -5) none unit)
+types => (List Bool)
+expressions => (list Int (neg x) (p 7))
 ";
 
 #[test]

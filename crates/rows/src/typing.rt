@@ -78,8 +78,9 @@ fn fault_told(fault: ExprFault, fits: bool, out: &mut String) {
     }
 }
 
-/// Expressions that have a type that is not as wanted.
-static MISMATCHES: &str = "
+/// Expressions that have a type, and why others have none.
+static TYPINGS: &str = "
+-- Expressions that have a type that is not as wanted.
 Int | (fst x) => mismatch
 Int | (snd x) => mismatch
 Int | (then true (add x 1)) => mismatch
@@ -114,15 +115,7 @@ Int | (len (event x)) => mismatch
 Int | (lMerge (event 1) (event true)) => mismatch
 Int | (gate Bool (event 1) true) => mismatch
 Int | (tag Bool (event 1) 2) => mismatch
-";
-
-#[test]
-fn types_are_as_wanted(rt: HostRuntime) {
-    all_are_found(&rt, rt.alloc(), Probe::Typing, MISMATCHES);
-}
-
-/// Of several faults the leftmost is answered: a part is tested before the next is walked.
-static FIRST_FAULTS: &str = "
+-- Of several faults the leftmost is answered: a part is tested before the next is walked.
 Int | (p 2) => no parameter
 Int | (p 65535) => no parameter
 Int | (add (p 2) true) => no parameter
@@ -136,17 +129,9 @@ Int | (nth (list Int) true (p 2)) => mismatch
 Int | (list Int (p 2) true) => no parameter
 Int | (list Int true (p 2)) => mismatch
 Int | (equal (p 2) (fst x)) => no parameter
-";
-
-#[test]
-fn the_first_fault_is_answered(rt: HostRuntime) {
-    all_are_found(&rt, rt.alloc(), Probe::Typing, FIRST_FAULTS);
-}
-
-/// At the limits: of an input's depth, 32; of a type's nodes, 256; of the types that forms name,
-/// which are tested before the forms' parts, as the forms' own types are after them; and of the
-/// expression's height, 256, and nodes, 100,000, which are tested before all else.
-static LIMITS: &str = "
+-- At the limits: of an input's depth, 32; of a type's nodes, 256; of the types that forms name,
+-- which are tested before the forms' parts, as the forms' own types are after them; and of the
+-- expression's height, 256, and nodes, 100,000, which are tested before all else.
 {31*(Event }Int{31*)} | (event x) => type too deep
 {31*(Event }Int{31*)} | (pair x 1) => type too deep
 {31*(Event }Int{31*)} | (list Int (event x) (p 2)) => type too deep
@@ -174,8 +159,8 @@ Int | (list Int{100000* 0}) => expression too deep
 ";
 
 #[test]
-fn types_and_expressions_are_within_the_limits(rt: HostRuntime) {
-    all_are_found(&rt, rt.alloc(), Probe::Typing, LIMITS);
+fn types_are_found_or_refused(rt: HostRuntime) {
+    all_are_found(&rt, rt.alloc(), Probe::Typing, TYPINGS);
 }
 
 /// No parameter is in scope.

