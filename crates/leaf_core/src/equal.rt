@@ -22,7 +22,6 @@ pub fn same_expr(a: &Expr, b: &Expr) -> bool
 
 /// Whether the same stands inside the two expressions, whatever their forms.
 #[cycle(same)]
-#[tactic(auto, using(crate::proofs::InsideLaws::sized))]
 fn same_inside(a: &Expr, b: &Expr) -> bool
     ensures { IsTrue result ↔ (inside_of (expression_of a.now) ≡ inside_of (expression_of b.now)) }
 {

@@ -85,7 +85,6 @@ pub fn feed_expr<H: Hasher>(expr: &Expr, state: &mut H)
 
 /// Feeds what stands inside the expression to the hasher.
 #[cycle(feed)]
-#[tactic(auto, using(crate::proofs::InsideLaws::sized))]
 fn feed_inside<H: Hasher>(expr: &Expr, state: &mut H)
     ensures { state.new ≡ fold H.write state.old (inside_fed (inside_of (expression_of expr.now))) }
 {

@@ -25,7 +25,8 @@ no_opening : {m n : ℕ} {w : List ℕ} {ts us : List Placed} {A : Type 0} → �
 no_opening {w = w} e = let i : word w ≡ opening = ap (λ (q : Fronted). q.0.1) e in absurd (cc)
 
 module _ (L : Language) (size : ℕ) where
-  pub front_form : {n : ℕ} {us : List Placed} (room : ℕ) (s : L.Sort) (ts : List Placed) → L.has_form s ≡ true → read_front size room ts ≡ Ok ((n, opening), us) → read L size room s ts ≡ read_form L size (read L size (room - 1)) (room - 1) s us
+  pub front_form : {n : ℕ} {us : List Placed} (room : ℕ) (s : L.Sort) (ts : List Placed) → L.has_form s ≡ true →
+      read_front size room ts ≡ Ok ((n, opening), us) → read L size room s ts ≡ read_form L size (read L size (room - 1)) (room - 1) s us
   front_form room s [] f e = absurd (cc)
   front_form room s ((m, word w) ∷ ts) f e = no_opening (ok_same _ _ e)
   front_form room s ((m, closing) ∷ ts) f e = absurd (cc)
@@ -35,7 +36,8 @@ module _ (L : Language) (size : ℕ) where
       let j : suc room - 1 ≡ room = omega arith in
       rw (f, j, i) refl
 
-  pub front_word : {n : ℕ} {w : List ℕ} {us : List Placed} (room : ℕ) (s : L.Sort) (ts : List Placed) → read_front size room ts ≡ Ok ((n, word w), us) → read L size room s ts ≡ word_read n w us (L.word_at s w)
+  pub front_word : {n : ℕ} {w : List ℕ} {us : List Placed} (room : ℕ) (s : L.Sort) (ts : List Placed) →
+      read_front size room ts ≡ Ok ((n, word w), us) → read L size room s ts ≡ word_read n w us (L.word_at s w)
   front_word room s [] e = absurd (cc)
   front_word {n = n} {w = w} {us = us} room s ((m, word v) ∷ ts) e =
       let q = ok_same _ _ e in
@@ -57,14 +59,16 @@ module _ (L : Language) (size : ℕ) where
 
 module _ (size : ℕ) where
   -- the word of a form
-  pub head_form : {n : ℕ} {us : List Placed} (room : ℕ) (ts : List Placed) → read_front size room ts ≡ Ok ((n, opening), us) → read_head leaf size room ts ≡ Err (syntax n)
+  pub head_form : {n : ℕ} {us : List Placed} (room : ℕ) (ts : List Placed) → read_front size room ts ≡ Ok ((n, opening), us) →
+      read_head leaf size room ts ≡ Err (syntax n)
   head_form room [] e = absurd (cc)
   head_form room ((m, word w) ∷ ts) e = no_opening (ok_same _ _ e)
   head_form room ((m, closing) ∷ ts) e = absurd (cc)
   head_form zero ((m, opening) ∷ ts) e = absurd (cc)
   head_form {n = n} (suc room) ((m, opening) ∷ ts) e = ap (λ (q : Fronted). Err (syntax q.0.0)) (ok_same _ _ e)
 
-  pub head_word : {n : ℕ} {w : List ℕ} {us : List Placed} (room : ℕ) (ts : List Placed) → read_front size room ts ≡ Ok ((n, word w), us) → read_head leaf size room ts ≡ Ok (n, w, us)
+  pub head_word : {n : ℕ} {w : List ℕ} {us : List Placed} (room : ℕ) (ts : List Placed) → read_front size room ts ≡ Ok ((n, word w), us) →
+      read_head leaf size room ts ≡ Ok (n, w, us)
   head_word room [] e = absurd (cc)
   head_word {n = n} {w = w} {us = us} room ((m, word v) ∷ ts) e =
       let q = ok_same _ _ e in
@@ -86,7 +90,8 @@ module _ (size : ℕ) where
   head_refused x (suc room) ((m, opening) ∷ ts) p = refused_ok x _ _ p
 
   -- the number of a parameter stands where the word of a form would
-  pub index_word_read : {n : ℕ} {w : List ℕ} {us : List Placed} (room : ℕ) (ts : List Placed) → read_head leaf size room ts ≡ Ok (n, w, us) → read leaf size room index_sort ts ≡ word_read n w us (word_at index_sort w)
+  pub index_word_read : {n : ℕ} {w : List ℕ} {us : List Placed} (room : ℕ) (ts : List Placed) → read_head leaf size room ts ≡ Ok (n, w, us) →
+      read leaf size room index_sort ts ≡ word_read n w us (word_at index_sort w)
   index_word_read room [] e = absurd (cc)
   index_word_read {n = n} {w = w} {us = us} room ((m, word v) ∷ ts) e =
       let q = ok_same _ _ e in
@@ -97,7 +102,8 @@ module _ (size : ℕ) where
   index_word_read room ((m, closing) ∷ ts) e = absurd (cc)
   index_word_read room ((m, opening) ∷ ts) e = absurd (cc)
 
-  pub no_index_word : (x : ExprTextFault) (room : ℕ) (ts : List Placed) → Refuses x (read_head leaf size room ts) → Refuses x (read leaf size room index_sort ts)
+  pub no_index_word : (x : ExprTextFault) (room : ℕ) (ts : List Placed) → Refuses x (read_head leaf size room ts) →
+      Refuses x (read leaf size room index_sort ts)
   no_index_word x room [] p = refused_same _ _ x _ p
   no_index_word x room ((m, word v) ∷ ts) p = refused_ok x _ _ p
   no_index_word x zero ((m, closing) ∷ ts) p = refused_same _ _ x _ p
@@ -106,7 +112,9 @@ module _ (size : ℕ) where
   no_index_word x (suc room) ((m, opening) ∷ ts) p = refused_same _ _ x _ p
 
 -- a word that is a tree ends where its bytes do
-pub word_done : {T : Type 0} (start end : ℕ) (text : List ℕ) (us : List Placed) (r : Reading T) (x : T) → start ≤ end → end ≤ length text → r ≡ reads x → word_read start (slice_range text start end) us r ≡ Ok (x, end, us)
+pub word_done : {T : Type 0} (start end : ℕ) (text : List ℕ) (us : List Placed) (r : Reading T) (x : T) → start ≤ end → end ≤ length text →
+    r ≡ reads x → word_read start (slice_range text start end) us r ≡ Ok (x, end, us)
 word_done start end text us r x a b p =
-    let n : start + length (slice_range text start end) ≡ end = omega (arith, length-take-le (end - start) (drop start text) (omega (arith, length-drop start text))) in
+    let n : start + length (slice_range text start end) ≡ end =
+        omega (arith, length-take-le (end - start) (drop start text) (omega (arith, length-drop start text))) in
     rw (p, n) refl

@@ -36,7 +36,8 @@ pub next_behind : (p : Part) (ps : Parts) → (32 ∷ spelling p) ++ (spellings 
 next_behind p ps = sym (append_assoc (32 ∷ spelling p) (spellings ps) (41 ∷ []))
 
 -- a part, and then a call that adds further parts and the form's end
-pub adds_next : {T E : Type 0} (r : Result T E) (old mid new : List ℕ) (p : Part) (ps : Parts) → mid ≡ old ++ (32 ∷ spelling p) → Adds r mid new (spellings ps ++ 41 ∷ []) → Adds r old new (spellings (more p ps) ++ 41 ∷ [])
+pub adds_next : {T E : Type 0} (r : Result T E) (old mid new : List ℕ) (p : Part) (ps : Parts) → mid ≡ old ++ (32 ∷ spelling p) →
+    Adds r mid new (spellings ps ++ 41 ∷ []) → Adds r old new (spellings (more p ps) ++ 41 ∷ [])
 adds_next r old mid new p ps e h = subst (Adds r old new) (next_behind p ps) (adds_behind r old mid new (32 ∷ spelling p) (spellings ps ++ 41 ∷ []) e h)
 
 -- the text grew, and grew again
@@ -44,7 +45,8 @@ pub extends_twice : (old mid new : List ℕ) → Extends old mid → Extends mid
 extends_twice old mid new x y = extends_added old mid new x.behind x.joined y
 
 -- an element of a list expression is smaller than the elements
-pub element_smaller : (all : List Expr) (i : ℕ) (s : Expr) → i < length all → expression_size (expression_of (get_or all i s)) < expressions_size (expressions_of (map expression_of all))
+pub element_smaller : (all : List Expr) (i : ℕ) (s : Expr) → i < length all →
+    expression_size (expression_of (get_or all i s)) < expressions_size (expressions_of (map expression_of all))
 element_smaller [] i s h = absurd (omega arith)
 element_smaller (x ∷ xs) zero s h = omega arith
 element_smaller (x ∷ xs) (suc i) s h = omega (arith, element_smaller xs i s (omega arith))

@@ -23,6 +23,10 @@ bind_ok (Err f) g y e = absurd (cc)
 not_ok : {A : Type 0} {f : ValueFault} {y : A} → ◌≡◌ {A = Result A ValueFault} (Err f) (Ok y) → ⊥
 not_ok e = cc
 
+-- what comes first was answered, and then the rest
+with_ok : {A B C : Type 0} (r : Result A ValueFault) (g : A → Result B ValueFault) (y : B) → (r >>= g) ≡ Ok y → ((x : A) → r ≡ Ok x → g x ≡ Ok y → C) → C
+with_ok r g y e k = let a = bind_ok r g y e in k a.0 a.1 a.2
+
 pub ok_is : {A : Type 0} {x y : A} → ◌≡◌ {A = Result A ValueFault} (Ok x) (Ok y) → x ≡ y
 ok_is e = cc
 
@@ -117,22 +121,25 @@ elements_found size A h (suc n) (b ∷ bs) y l e = go (if_is (nat_eq b 32) (valu
         subst (AreElements A (b ∷ bs)) (ok_is c.2) (record { typed = more_has f.typed g.typed; spells = ap (λ x. x ∷ bs) i ∙ ap (λ x. 32 ∷ x) (f.spells ∙ ap (spelled a.0.0) g.spells); apart = more_apart a.0.0 (of_elements c.0.0) c.0.1 d g.apart; ended = g.ended })
     go (inr p) next = subst (AreElements A (b ∷ bs)) (ok_is p.1) (record { typed = end_has; spells = refl; apart = refl; ended = p.0 })
 
+pair_found : (size : ℕ) (A B : TypeTree) (bs hs vs cs rest : List ℕ) (v w : Datum × List ℕ) → behind_head size (codes "pair") bs ≡ Ok hs → behind_byte size 32 hs ≡ Ok vs → Is A vs v → behind_byte size 32 v.1 ≡ Ok cs → Is B cs w → behind_byte size 41 w.1 ≡ Ok rest → Is (pair_ty A B) bs (pair v.0 w.0, rest)
+pair_found size A B bs hs vs cs rest v w h a i c j f = record { typed = pair_has i.typed j.typed; spells = spells; apart = refl }
+  where
+    spells : bs ≡ spelled (pair v.0 w.0) rest
+    spells = (head_found size 112 (97 ∷ 105 ∷ 114 ∷ []) bs hs h).0 ∙ ap (λ x. 40 ∷ 112 ∷ 97 ∷ 105 ∷ 114 ∷ x) (byte_found size 32 hs vs a ∙ ap (λ x. 32 ∷ x) (i.spells ∙ ap (spelled v.0) (byte_found size 32 v.1 cs c ∙ ap (λ x. 32 ∷ x) (j.spells ∙ ap (spelled w.0) (byte_found size 41 w.1 rest f)))))
+
 pub value_found : (size : ℕ) (A : TypeTree) (bs : List ℕ) (y : Datum × List ℕ) → value_at size A bs ≡ Ok y → Is A bs y
 unfolding value_at
 value_found size unit_ty bs y e = unit_found size bs y e
 value_found size bool_ty bs y e = truth_found size bs y e
 value_found size int_ty bs y e = number_found size bs y e
 value_found size (pair_ty A B) bs y e =
-    let h : (hs : List ℕ) × (behind_head size (codes "pair") bs ≡ Ok hs) × ((behind_byte size 32 hs >>= (λ ds. value_at size A ds >>= (λ v. behind_byte size 32 v.1 >>= (λ es. value_at size B es >>= (λ w. behind_byte size 41 w.1 >>= (λ rest. Ok (pair v.0 w.0, rest))))))) ≡ Ok y) = bind_ok (behind_head size (codes "pair") bs) _ y e in
-    let a : (cs : List ℕ) × (behind_byte size 32 h.0 ≡ Ok cs) × ((value_at size A cs >>= (λ v. behind_byte size 32 v.1 >>= (λ es. value_at size B es >>= (λ w. behind_byte size 41 w.1 >>= (λ rest. Ok (pair v.0 w.0, rest)))))) ≡ Ok y) = bind_ok (behind_byte size 32 h.0) _ y h.2 in
-    let b : (x : Datum × List ℕ) × (value_at size A a.0 ≡ Ok x) × ((behind_byte size 32 x.1 >>= (λ es. value_at size B es >>= (λ w. behind_byte size 41 w.1 >>= (λ rest. Ok (pair x.0 w.0, rest))))) ≡ Ok y) = bind_ok (value_at size A a.0) _ y a.2 in
-    let c : (ds : List ℕ) × (behind_byte size 32 b.0.1 ≡ Ok ds) × ((value_at size B ds >>= (λ w. behind_byte size 41 w.1 >>= (λ rest. Ok (pair b.0.0 w.0, rest)))) ≡ Ok y) = bind_ok (behind_byte size 32 b.0.1) _ y b.2 in
-    let d : (z : Datum × List ℕ) × (value_at size B c.0 ≡ Ok z) × ((behind_byte size 41 z.1 >>= (λ rest. Ok (pair b.0.0 z.0, rest))) ≡ Ok y) = bind_ok (value_at size B c.0) _ y c.2 in
-    let f : (es : List ℕ) × (behind_byte size 41 d.0.1 ≡ Ok es) × ◌≡◌ {A = Result (Datum × List ℕ) ValueFault} (Ok (pair b.0.0 d.0.0, es)) (Ok y) = bind_ok (behind_byte size 41 d.0.1) _ y d.2 in
-    let i : Is A a.0 b.0 = value_found size A a.0 b.0 b.1 in
-    let j : Is B c.0 d.0 = value_found size B c.0 d.0 d.1 in
-    let s : bs ≡ spelled (pair b.0.0 d.0.0) f.0 = (head_found size 112 (97 ∷ 105 ∷ 114 ∷ []) bs h.0 h.1).0 ∙ ap (λ x. 40 ∷ 112 ∷ 97 ∷ 105 ∷ 114 ∷ x) (byte_found size 32 h.0 a.0 a.1 ∙ ap (λ x. 32 ∷ x) (i.spells ∙ ap (spelled b.0.0) (byte_found size 32 b.0.1 c.0 c.1 ∙ ap (λ x. 32 ∷ x) (j.spells ∙ ap (spelled d.0.0) (byte_found size 41 d.0.1 f.0 f.1))))) in
-    subst (Is (pair_ty A B) bs) (ok_is f.2) (record { typed = pair_has i.typed j.typed; spells = s; apart = refl })
+    with_ok (behind_head size (codes "pair") bs) _ y e (λ hs h e1.
+    with_ok (behind_byte size 32 hs) _ y e1 (λ vs a e2.
+    with_ok (value_at size A vs) _ y e2 (λ v b e3.
+    with_ok (behind_byte size 32 v.1) _ y e3 (λ cs c e4.
+    with_ok (value_at size B cs) _ y e4 (λ w d e5.
+    with_ok (behind_byte size 41 w.1) _ y e5 (λ rest f e6.
+    subst (Is (pair_ty A B) bs) (ok_is e6) (pair_found size A B bs hs vs cs rest v w h a (value_found size A vs v b) c (value_found size B cs w d) f)))))))
 value_found size (event_ty A) bs y e = go (if_is (bytes_eq (word_of bs) (codes "none")) (Ok (no_event, after_word bs)) _ (Ok y) e) (value_found size A)
   where
     go : ((bytes_eq (word_of bs) (codes "none") ≡ true) × ◌≡◌ {A = Result (Datum × List ℕ) ValueFault} (Ok (no_event, after_word bs)) (Ok y)) ⊎ ((bytes_eq (word_of bs) (codes "none") ≡ false) × ((behind_head size (codes "event") bs >>= (λ cs. behind_byte size 32 cs >>= (λ ds. value_at size A ds >>= (λ v. behind_byte size 41 v.1 >>= (λ rest. Ok (event v.0, rest)))))) ≡ Ok y)) → ((cs : List ℕ) (z : Datum × List ℕ) → value_at size A cs ≡ Ok z → Is A cs z) → Is (event_ty A) bs y

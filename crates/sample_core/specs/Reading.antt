@@ -65,6 +65,10 @@ elements_at reader zero bs = Ok ([], bs)
 elements_at reader (suc n) [] = Ok ([], [])
 elements_at reader (suc n) (b ∷ bs) = if nat_eq b 32 then (reader bs >>= (λ x. elements_at reader n x.1 >>= (λ y. Ok (x.0 ∷ y.0, y.1)))) else Ok ([], b ∷ bs)
 
+-- the value, where a ')' ends it, and what is behind that
+abbrev pub closed_at : ℕ → Datum → List ℕ → Result (Datum × List ℕ) ValueFault
+closed_at size v bs = behind_byte size 41 bs >>= (λ rest. Ok (v, rest))
+
 -- the value of the type at the front of bs, which are left of so many bytes, and what is behind it
 unfoldable pub value_at : ℕ → TypeTree → List ℕ → Result (Datum × List ℕ) ValueFault
 value_at size unit_ty bs = unit_at size bs

@@ -1,7 +1,7 @@
 // Reading one value off the front of a text.
 
 ghost use Rattle.std.specs.Prelude.{◌≡◌, ◌-◌, ◌≤◌, ◌∷◌, false, MatchOption, length, drop, map, IfOk, IfErr};
-ghost use Rattle.sample_core.specs.Reading.{Gives, begins_value, begins_with, wrong, behind_byte, behind_head, unit_at, truth_at, number_at, elements_at, part_at, value_at, reading};
+ghost use Rattle.sample_core.specs.Reading.{Gives, begins_value, begins_with, wrong, behind_byte, behind_head, unit_at, truth_at, number_at, elements_at, closed_at, part_at, value_at, reading};
 ghost use Rattle.sample_core.specs.Faults.{FaultOf};
 ghost use Rattle.sample_core.specs.Seen.{datum_of};
 ghost use Rattle.sample_core.specs.SeenType.{type_of};
@@ -166,6 +166,20 @@ fn integer(size: usize, text: &[u8]) -> Result<(Sample, &[u8]), ValueFault>
     }
 }
 
+/// The value, where a `)` ends it, and what is behind that.
+fn closed<'t>(size: usize, text: &'t [u8], sample: Sample) -> Result<(Sample, &'t [u8]), ValueFault>
+    ensures exact { Gives (λ x. (datum_of x.0, x.1.now)) result (closed_at size (datum_of sample) text.now) }
+    ensures shorter { IfOk result (λ x. length x.1.now ≤ length text.now) }
+{
+    match after_byte(size, text, b')') {
+        Ok(rest) => Ok((sample, rest)),
+        Err(fault) => {
+            drop(sample);
+            Err(fault)
+        }
+    }
+}
+
 /// A value of the type, and what is behind it.
 #[cycle(value)]
 #[tactic(auto, unfolding(crate::specs::Reading::value_at))]
@@ -204,8 +218,7 @@ fn pair<'t>(
     let rest = after_head(size, text, "pair")?;
     let (first, rest) = part(alloc, size, rest, a)?;
     let (second, rest) = part(alloc, size, rest, b)?;
-    let rest = after_byte(size, rest, b')')?;
-    Ok((Sample::Pair(first, second), rest))
+    closed(size, rest, Sample::Pair(first, second))
 }
 
 /// An event of the type, or none.
@@ -226,8 +239,7 @@ fn event<'t>(
     }
     let rest = after_head(size, text, "event")?;
     let (inner, rest) = part(alloc, size, rest, ty)?;
-    let rest = after_byte(size, rest, b')')?;
-    Ok((Sample::Event(inner), rest))
+    closed(size, rest, Sample::Event(inner))
 }
 
 /// A list of values of the type.
@@ -244,8 +256,8 @@ fn list<'t>(
 {
     let rest = after_head(size, text, "list")?;
     let (all, rest) = elements(alloc, size, rest, ty.get())?;
-    let rest = after_byte(size, rest, b')')?;
-    Ok((Sample::List(Samples::new(alloc, all)?), rest))
+    let all = Samples::new(alloc, all)?;
+    closed(size, rest, Sample::List(all))
 }
 
 /// A space and a value of the type, as a part of another.

@@ -4,7 +4,7 @@
 //! The module is public for its macros alone: what they write in the caller's body names its
 //! items.
 
-ghost use Rattle.std.specs.Prelude.{◌≡◌, [], ◌∷◌, ◌++◌, Contains, Ok, OnErr, OnOk, map};
+ghost use Rattle.std.specs.Prelude.{◌≡◌, [], ◌∷◌, ◌++◌, Contains, IfSome, Ok, OnErr, OnOk, map};
 ghost use Rattle.sample_core.specs.Seen.{datum_of};
 ghost use Rattle.leaf_table.specs.Computes.{Computes};
 ghost use Rattle.leaf_table.specs.Rows.{rows_of};
@@ -69,19 +69,32 @@ pub fn add_row(
     }
 }
 
-/// Adds a row for a need, whose closure calls a function on its parts and the arguments. A part of
-/// `fill_table!`.
+/// The closure in a box; none where a growth was refused. A part of `fill_table!`.
+pub fn boxed<F: Drop>(alloc: Global, run: F) -> Option<Box<F>>
+    ensures { IfSome result (λ b. b.value ≡ run) }
+{
+    match Box::new(alloc, run) {
+        Ok(run) => Some(run),
+        Err(refused) => {
+            drop(refused);
+            None
+        }
+    }
+}
+
+/// Adds a row for a need, whose closure calls a function on its parts and the arguments, and sets
+/// `filled` to what comes of it; leaves it as it is where there is no memory for the closure. A
+/// part of `fill_table!`.
 #[macro_export]
 macro_rules! stored_row {
-    ($alloc:ident, $table:expr, $need:ident, $run:ident $(, $part:expr)*) => {
-        match Box::new(
+    ($filled:ident, $alloc:ident, $table:expr, $need:ident, $run:ident $(, $part:expr)*) => {
+        if let Some(run) = $crate::fill::boxed(
             $alloc,
             move |params: &[$crate::fill::Sample], x: &$crate::fill::Sample| {
                 $crate::fill::$run($alloc, $($part,)* params, x)
             },
         ) {
-            Ok(run) => $crate::fill::add_row($alloc, &mut $table, $need, run),
-            Err(_) => Err($crate::fill::TableFault::Memory),
+            $filled = $crate::fill::add_row($alloc, &mut $table, $need, run);
         }
     };
 }
@@ -101,28 +114,40 @@ macro_rules! fill_table {
         let alloc: std::alloc::Global = $alloc;
         let mut filled = Ok(());
         for need in $needs {
-            filled = match $crate::fill::shape_of(&need.key.expr) {
+            // An arm that comes to its row's adding sets what came of that. With one way out of
+            // each arm the proof is half as long.
+            filled = Err($crate::fill::TableFault::Memory);
+            match $crate::fill::shape_of(&need.key.expr) {
                 $crate::fill::Shape::Identity => {
-                    $crate::stored_row!(alloc, $table, need, run_identity)
+                    $crate::stored_row!(filled, alloc, $table, need, run_identity)
                 }
                 $crate::fill::Shape::Constant { c } => {
-                    $crate::stored_row!(alloc, $table, need, run_constant, c)
+                    $crate::stored_row!(filled, alloc, $table, need, run_constant, c)
                 }
                 $crate::fill::Shape::Affine { a, b } => {
-                    $crate::stored_row!(alloc, $table, need, run_affine, a, b)
+                    $crate::stored_row!(filled, alloc, $table, need, run_affine, a, b)
                 }
-                $crate::fill::Shape::Swap => $crate::stored_row!(alloc, $table, need, run_swap),
-                $crate::fill::Shape::Left => $crate::stored_row!(alloc, $table, need, run_left),
-                $crate::fill::Shape::Right => $crate::stored_row!(alloc, $table, need, run_right),
+                $crate::fill::Shape::Swap => {
+                    $crate::stored_row!(filled, alloc, $table, need, run_swap)
+                }
+                $crate::fill::Shape::Left => {
+                    $crate::stored_row!(filled, alloc, $table, need, run_left)
+                }
+                $crate::fill::Shape::Right => {
+                    $crate::stored_row!(filled, alloc, $table, need, run_right)
+                }
                 $crate::fill::Shape::Below { k } => {
-                    $crate::stored_row!(alloc, $table, need, run_below, k)
+                    $crate::stored_row!(filled, alloc, $table, need, run_below, k)
                 }
-                $crate::fill::Shape::Wrap => $crate::stored_row!(alloc, $table, need, run_wrap),
-                $crate::fill::Shape::General => match need.key.try_copy(alloc) {
-                    Ok(own) => $crate::stored_row!(alloc, $table, need, run_general, &own),
-                    Err(_) => Err($crate::fill::TableFault::Memory),
-                },
-            };
+                $crate::fill::Shape::Wrap => {
+                    $crate::stored_row!(filled, alloc, $table, need, run_wrap)
+                }
+                $crate::fill::Shape::General => {
+                    if let Ok(own) = need.key.try_copy(alloc) {
+                        $crate::stored_row!(filled, alloc, $table, need, run_general, &own)
+                    }
+                }
+            }
             if filled.is_err() {
                 break;
             }

@@ -12,3 +12,12 @@ eval_on_event-returns-in_default t c = grind (arith, common_steps)
 
 pub eval_on_event-returns-in-Event : goal.eval_on_event-returns-in-Event
 eval_on_event-returns-in-Event t c = grind (arith, common_steps)
+
+pub eval_elements-loop-element-init : goal.eval_elements-loop-element-init
+eval_elements-loop-element-init t c = grind (arith, common_steps)
+
+pub eval_elements-loop-element-preserved : goal.eval_elements-loop-element-preserved
+eval_elements-loop-element-preserved t c = grind (arith, common_steps)
+
+pub eval_elements-returns : goal.eval_elements-returns
+eval_elements-returns t c = grind (arith, common_steps)
