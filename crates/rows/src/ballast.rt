@@ -1,5 +1,6 @@
 // Memory that is taken first, so that what is tested is refused it.
 
+use crate::texts::say;
 use std::alloc::{AllocError, Global};
 
 /// Blocks that hold all the memory that this process may have, but for some that is kept free.
@@ -28,6 +29,20 @@ pub fn take_all(alloc: Global, spare: usize) -> Result<Ballast, AllocError> {
     Ok(Ballast { blocks })
 }
 
+/// How many times a call is tried, with more and more bytes left.
+pub const TRIES: usize = 16;
+
+/// The bytes that are left at a try, `unit` more at each; at the last try ample memory.
+pub fn spare_at(attempt: usize, unit: usize) -> usize {
+    if attempt < LAST_TRY {
+        unit.saturating_mul(attempt)
+    } else {
+        1_000_000
+    }
+}
+
+const LAST_TRY: usize = TRIES - 1;
+
 /// What was answered: the same as with ample memory, want of memory, or something else.
 #[derive(Clone, Copy, PartialEq, Eq)]
 pub enum Answer {
@@ -36,7 +51,55 @@ pub enum Answer {
     Other,
 }
 
-/// A right answer, or another.
-pub fn judged(right: bool) -> Answer {
-    if right { Answer::Ample } else { Answer::Other }
+/// How what was told compares with what is told with ample memory.
+pub fn compared(told: &str, ample: &str) -> Answer {
+    if told == ample {
+        Answer::Ample
+    } else if told == "memory" {
+        Answer::Refused
+    } else {
+        Answer::Other
+    }
+}
+
+/// What the tries of a call answered.
+#[derive(Clone, Copy)]
+pub struct Tally {
+    refused: usize,
+    other: bool,
+    last: Answer,
+}
+
+impl Tally {
+    /// Before the first try.
+    pub fn new() -> Tally {
+        Tally {
+            refused: 0,
+            other: false,
+            last: Answer::Other,
+        }
+    }
+
+    /// With one more answer.
+    pub fn with(self, answer: Answer) -> Tally {
+        Tally {
+            refused: self
+                .refused
+                .saturating_add(usize::from(answer == Answer::Refused)),
+            other: self.other || answer == Answer::Other,
+            last: answer,
+        }
+    }
+
+    /// Tells whether the call was refused memory at first, and answered in the end.
+    pub fn tell(self, out: &mut String) {
+        if self.other || self.last != Answer::Ample {
+            return say(out, "another answer");
+        }
+        match self.refused {
+            0 => say(out, "never refused"),
+            1 => say(out, "refused once"),
+            _ => say(out, "refused at first"),
+        }
+    }
 }

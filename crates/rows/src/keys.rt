@@ -1,47 +1,57 @@
 // Copies of the keys of stored closures.
 
-use crate::expression_bench::expr_in;
-use leaf_expr::LeafKey;
-use sample_core::Ty;
+use crate::found::{Probe, all_are_found};
+use crate::texts::{expr_in, number_in, parted, say};
+use leaf_expr::{Expr, LeafKey};
+use sample_core::{Memory, Ty};
 use std::alloc::Global;
 
-/// The key of the expression `(add x 1)` at an input that is a number, under that many parameters
-/// that are numbers.
-fn key_under(alloc: Global, params: u32) -> Option<Box<LeafKey>> {
-    let mut types = Vec::new(alloc);
-    for _ in 0..params {
-        types.push(Ty::Int).ok()?;
+/// Tells whether the copy of a key is equal to it: that of the expression at an input that is a
+/// number, under so many parameters that are numbers.
+pub fn key_told(alloc: Global, given: &str, out: &mut String) {
+    let (count, text) = parted(given);
+    match expr_in(alloc, text) {
+        Some(expr) => expr_told(alloc, Box::into_inner(expr), number_in(count), out),
+        None => say(out, "no expression"),
     }
+}
+
+fn expr_told(alloc: Global, expr: Expr, count: usize, out: &mut String) {
     let key = LeafKey {
-        expr: Box::into_inner(expr_in(alloc, "(add x 1)")?),
-        params: types,
+        expr,
+        params: numbers(alloc, count),
         input: Ty::Int,
     };
-    Box::new(alloc, key).ok()
+    told(alloc, &key, out);
+    drop(key);
 }
 
-/// Whether the copy of a key is equal to it.
-fn copy_is_equal(alloc: Global, key: &LeafKey) -> bool {
+fn numbers(alloc: Global, count: usize) -> Vec<Ty> {
+    let mut types = Vec::new(alloc);
+    for _ in 0..count {
+        drop(types.push(Ty::Int));
+    }
+    types
+}
+
+fn told(alloc: Global, key: &LeafKey, out: &mut String) {
     match key.try_copy(alloc) {
         Ok(copy) => {
-            let equal = copy == *key;
+            say(out, if copy == *key { "equal" } else { "another" });
             drop(copy);
-            equal
         }
-        Err(_memory) => false,
+        Err(Memory) => say(out, "memory"),
     }
 }
 
-fn key_is_copied(alloc: Global, params: u32) -> bool {
-    match key_under(alloc, params) {
-        Some(key) => copy_is_equal(alloc, &key),
-        None => false,
-    }
-}
+/// How many parameters there are, and an expression.
+static KEYS: &str = "
+0 | (add x 1) => equal
+1 | (add x 1) => equal
+5 | (add x 1) => equal
+";
 
 #[test]
 fn keys_are_copied(rt: HostRuntime) {
-    for params in [0u32, 1, 5] {
-        assert!(rt; key_is_copied(rt.alloc(), params), "{params}");
-    }
+    all_are_found(&rt, rt.alloc(), Probe::Key, KEYS);
 }

@@ -4,27 +4,17 @@
 #[cfg(test)]
 mod ballast;
 #[cfg(test)]
-mod bench;
-#[cfg(test)]
-mod built;
-#[cfg(test)]
-mod closures;
-#[cfg(test)]
 mod commands;
 #[cfg(test)]
-mod copies;
+mod files;
 #[cfg(test)]
-mod expression_bench;
-#[cfg(test)]
-mod expression_faults;
-#[cfg(test)]
-mod expression_texts;
-#[cfg(test)]
-mod expressions;
+mod found;
 #[cfg(test)]
 mod keys;
 #[cfg(test)]
-mod refusals;
+mod networks;
+#[cfg(test)]
+mod reading;
 #[cfg(test)]
 mod runs;
 #[cfg(test)]
@@ -34,12 +24,16 @@ mod scant_runs;
 #[cfg(test)]
 mod shapes;
 #[cfg(test)]
-mod shelf;
+mod tables;
 #[cfg(test)]
-mod sizes;
-#[cfg(test)]
-mod spellings;
+mod texts;
 #[cfg(test)]
 mod tokens;
 #[cfg(test)]
+mod trees;
+#[cfg(test)]
+mod typing;
+#[cfg(test)]
 mod values;
+#[cfg(test)]
+mod working;

@@ -1,36 +1,23 @@
 // What is answered where growths are refused.
 
-use crate::ballast::{Answer, Ballast, judged, take_all};
-use crate::expression_bench::{expr_in, is_expr, is_value, type_in, value_in, with_many};
-use leaf_expr::{Expr, ExprTextFault, eval, read_expr};
-use sample_core::{Memory, Sample, Ty, ValueFault, read_value};
+use crate::ballast::{Answer, Ballast, TRIES, Tally, compared, spare_at, take_all};
+use crate::found::{Probe, all_are_found};
+use crate::reading::reading_told;
+use crate::texts::{expr_in, say, type_in, value_in, written};
+use crate::values::reading_told as value_reading_told;
+use crate::working::answer_told;
+use leaf_expr::{Expr, eval, push_expr, read_expr};
+use sample_core::{Memory, Sample, Ty, read_value};
 use std::alloc::Global;
 
 /// What the calls are given, with the spelling of the value and of the expression.
-#[derive(Drop)]
-struct Trees {
-    ty: Box<Ty>,
-    sample: Box<Sample>,
-    expr: Box<Expr>,
-    value_text: String,
-    expr_text: String,
-}
-
-/// A list of a hundred events, as a value and as an expression.
-fn read_trees(alloc: Global) -> Option<Trees> {
-    let event = " (event (pair 1 2))";
-    let value_text = with_many(alloc, "(list", event, 100, ")").ok()?;
-    let expr_text = with_many(alloc, "(list (Event (Pair Int Int))", event, 100, ")").ok()?;
-    let ty = type_in(alloc, "(List (Event (Pair Int Int)))")?;
-    let sample = value_in(alloc, &ty, value_text.as_str())?;
-    let expr = expr_in(alloc, expr_text.as_str())?;
-    Some(Trees {
-        ty,
-        sample,
-        expr,
-        value_text,
-        expr_text,
-    })
+#[derive(Clone, Copy)]
+struct Trees<'a> {
+    ty: &'a Ty,
+    sample: &'a Sample,
+    expr: &'a Expr,
+    value_text: &'a str,
+    expr_text: &'a str,
 }
 
 /// The calls that are refused memory.
@@ -43,163 +30,133 @@ enum Call {
     ReadExpression,
 }
 
-fn value_answered(alloc: Global, found: Result<Sample, Memory>, text: &str) -> Answer {
-    match found {
-        Ok(sample) => {
-            let answer = judged(is_value(alloc, &sample, text));
-            drop(sample);
-            answer
-        }
-        Err(Memory) => Answer::Refused,
+/// The call of that name.
+fn call_named(name: &str) -> Call {
+    match name {
+        "reading a value" => Call::ReadValue,
+        "copying a value" => Call::CopyValue,
+        "copying an expression" => Call::CopyExpression,
+        "evaluating" => Call::Eval,
+        _ => Call::ReadExpression,
     }
 }
 
-fn expression_answered(alloc: Global, found: Result<Expr, Memory>, text: &str) -> Answer {
-    match found {
-        Ok(expr) => {
-            let answer = judged(is_expr(alloc, &expr, text));
-            drop(expr);
-            answer
-        }
-        Err(Memory) => Answer::Refused,
-    }
-}
-
-fn reading_answered(
-    alloc: Global,
-    found: Result<(Sample, usize), ValueFault>,
-    text: &str,
-) -> Answer {
-    match found {
-        Ok((sample, length)) => {
-            let answer = judged(length == text.len() && is_value(alloc, &sample, text));
-            drop(sample);
-            answer
-        }
-        Err(fault) => {
-            if fault == ValueFault::Memory {
-                Answer::Refused
-            } else {
-                Answer::Other
-            }
-        }
-    }
-}
-
-fn text_answered(alloc: Global, found: Result<Expr, ExprTextFault>, text: &str) -> Answer {
-    match found {
-        Ok(expr) => {
-            let answer = judged(is_expr(alloc, &expr, text));
-            drop(expr);
-            answer
-        }
-        Err(fault) => {
-            if fault == ExprTextFault::Memory {
-                Answer::Refused
-            } else {
-                Answer::Other
-            }
-        }
-    }
-}
-
-/// What the call answers where only so much memory is left to it.
-fn answers(alloc: Global, call: Call, trees: &Trees, ballast: Ballast) -> Answer {
+/// Tells what the call answers where only so much memory is left to it.
+fn told(alloc: Global, call: Call, trees: Trees<'_>, ballast: Option<Ballast>, out: &mut String) {
     match call {
-        Call::ReadValue => {
-            let found = read_value(alloc, trees.value_text.as_bytes(), &trees.ty);
-            drop(ballast);
-            reading_answered(alloc, found, trees.value_text.as_str())
-        }
-        Call::CopyValue => {
-            let found = trees.sample.try_copy(alloc);
-            drop(ballast);
-            value_answered(alloc, found, trees.value_text.as_str())
-        }
-        Call::CopyExpression => {
-            let found = trees.expr.try_copy(alloc);
-            drop(ballast);
-            expression_answered(alloc, found, trees.expr_text.as_str())
-        }
-        Call::Eval => {
-            let input = Sample::Unit;
-            let found = eval(alloc, &trees.expr, &[], &input);
-            drop(ballast);
-            drop(input);
-            value_answered(alloc, found, trees.value_text.as_str())
-        }
-        Call::ReadExpression => {
-            let found = read_expr(alloc, trees.expr_text.as_bytes());
-            drop(ballast);
-            text_answered(alloc, found, trees.expr_text.as_str())
-        }
+        Call::ReadValue => value_read(alloc, trees, ballast, out),
+        Call::CopyValue => value_copied(alloc, trees, ballast, out),
+        Call::CopyExpression => expr_copied(alloc, trees, ballast, out),
+        Call::Eval => evaluated(alloc, trees, ballast, out),
+        Call::ReadExpression => expr_read(alloc, trees, ballast, out),
     }
 }
 
-/// The same where so many bytes are left.
-fn answers_with(alloc: Global, call: Call, trees: &Trees, spare: usize) -> Answer {
-    match take_all(alloc, spare) {
-        Ok(ballast) => answers(alloc, call, trees, ballast),
-        Err(_memory) => Answer::Other,
-    }
+fn value_read(alloc: Global, trees: Trees<'_>, ballast: Option<Ballast>, out: &mut String) {
+    let read = read_value(alloc, trees.value_text.as_bytes(), trees.ty);
+    drop(ballast);
+    value_reading_told(alloc, read, trees.ty, trees.value_text, out);
 }
 
-/// How many answers were want of memory, with more and more bytes left; `None` where one was
-/// neither that nor the one with ample memory, or where the last was not that one.
-fn refusals(alloc: Global, call: Call, trees: &Trees) -> Option<u32> {
-    let mut refused = 0u32;
-    let mut last = Answer::Other;
-    for step in 0..6usize {
-        last = answers_with(alloc, call, trees, step * 9_000);
-        match last {
-            Answer::Ample => {}
-            Answer::Refused => refused = refused.saturating_add(1),
-            Answer::Other => return None,
+fn value_copied(alloc: Global, trees: Trees<'_>, ballast: Option<Ballast>, out: &mut String) {
+    let copied = trees.sample.try_copy(alloc);
+    drop(ballast);
+    answer_told(copied, out);
+}
+
+fn evaluated(alloc: Global, trees: Trees<'_>, ballast: Option<Ballast>, out: &mut String) {
+    let input = Sample::Unit;
+    let answer = eval(alloc, trees.expr, &[], &input);
+    drop(ballast);
+    drop(input);
+    answer_told(answer, out);
+}
+
+fn expr_copied(alloc: Global, trees: Trees<'_>, ballast: Option<Ballast>, out: &mut String) {
+    let copied = trees.expr.try_copy(alloc);
+    drop(ballast);
+    match copied {
+        Ok(expr) => {
+            drop(push_expr(out, &expr));
+            drop(expr);
         }
-    }
-    if last == Answer::Ample {
-        Some(refused)
-    } else {
-        None
+        Err(Memory) => say(out, "memory"),
     }
 }
 
-/// Whether growths of the call are refused, at first, and the call answers in the end.
-fn is_refused_in_turn(alloc: Global, call: Call) -> bool {
-    match read_trees(alloc) {
-        Some(trees) => match refusals(alloc, call, &trees) {
-            Some(refused) => refused > 1,
-            None => false,
-        },
-        None => false,
+fn expr_read(alloc: Global, trees: Trees<'_>, ballast: Option<Ballast>, out: &mut String) {
+    let read = read_expr(alloc, trees.expr_text.as_bytes());
+    drop(ballast);
+    reading_told(alloc, read, trees.expr_text, out);
+}
+
+/// What the call answers where so many bytes are left, beside its answer with ample memory.
+fn answered(alloc: Global, call: Call, trees: Trees<'_>, spare: usize, ample: &str) -> Answer {
+    let mut scant = String::new(alloc);
+    if let Ok(ballast) = take_all(alloc, spare) {
+        told(alloc, call, trees, Some(ballast), &mut scant);
+    }
+    compared(scant.as_str(), ample)
+}
+
+fn tally_told(alloc: Global, call: Call, trees: Trees<'_>, out: &mut String) {
+    let mut ample = String::new(alloc);
+    told(alloc, call, trees, None, &mut ample);
+    let mut tally = Tally::new();
+    for attempt in 0..TRIES {
+        let spare = spare_at(attempt, 9_000);
+        tally = tally.with(answered(alloc, call, trees, spare, ample.as_str()));
+    }
+    tally.tell(out);
+}
+
+/// Tells whether the call of that name is refused memory at first, and answers in the end: on a
+/// list of a hundred events, as a value and as an expression.
+pub fn scant_told(alloc: Global, name: &str, out: &mut String) {
+    let text = written(alloc, "(list{100* (event (pair 1 2))})");
+    match type_in(alloc, "(List (Event (Pair Int Int)))") {
+        Some(ty) => value_tried(alloc, name, &ty, text.as_str(), out),
+        None => say(out, "no type"),
     }
 }
 
-/// Whether the call takes no memory.
-fn takes_none(alloc: Global, call: Call) -> bool {
-    match read_trees(alloc) {
-        Some(trees) => answers_with(alloc, call, &trees, 0) == Answer::Ample,
-        None => false,
+fn value_tried(alloc: Global, name: &str, ty: &Ty, value_text: &str, out: &mut String) {
+    match value_in(alloc, ty, value_text) {
+        Some(sample) => tried(alloc, name, ty, &sample, value_text, out),
+        None => say(out, "no value"),
     }
 }
+
+fn tried(alloc: Global, name: &str, ty: &Ty, sample: &Sample, value_text: &str, out: &mut String) {
+    let text = written(
+        alloc,
+        "(list (Event (Pair Int Int)){100* (event (pair 1 2))})",
+    );
+    match expr_in(alloc, text.as_str()) {
+        Some(expr) => {
+            let trees = Trees {
+                ty,
+                sample,
+                expr: &expr,
+                value_text,
+                expr_text: text.as_str(),
+            };
+            tally_told(alloc, call_named(name), trees, out)
+        }
+        None => say(out, "no expression"),
+    }
+}
+
+/// Calls by their names. Copies share, and take no memory.
+static CALLS: &str = "
+reading a value => refused at first
+reading an expression => refused at first
+evaluating => refused at first
+copying a value => never refused
+copying an expression => never refused
+";
 
 #[test]
-fn reading_a_value(rt: HostRuntime) {
-    assert!(rt; is_refused_in_turn(rt.alloc(), Call::ReadValue));
-}
-
-#[test]
-fn reading_an_expression(rt: HostRuntime) {
-    assert!(rt; is_refused_in_turn(rt.alloc(), Call::ReadExpression));
-}
-
-#[test]
-fn evaluating(rt: HostRuntime) {
-    assert!(rt; is_refused_in_turn(rt.alloc(), Call::Eval));
-}
-
-#[test]
-fn copies_share_and_take_no_memory(rt: HostRuntime) {
-    assert!(rt; takes_none(rt.alloc(), Call::CopyValue));
-    assert!(rt; takes_none(rt.alloc(), Call::CopyExpression));
+fn calls_are_refused_memory(rt: HostRuntime) {
+    all_are_found(&rt, rt.alloc(), Probe::Scant, CALLS);
 }

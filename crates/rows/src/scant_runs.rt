@@ -1,156 +1,168 @@
 // What a table and a runner answer where growths are refused.
 
+ghost use Rattle.std.specs.Prelude.{◌≡◌};
+ghost use Rattle.sample_core.specs.HasType.{HasType};
+ghost use Rattle.sample_core.specs.Seen.{datum_of};
 ghost use Rattle.leaf_table.specs.Rows.{rows_of};
 ghost use Rattle.step_core.specs.Bound.{FitsTable};
+ghost use Rattle.step_core.specs.SeenRunner.{running_of};
 
-use crate::ballast::{Answer, judged, take_all};
-use crate::bench::{Trial, ends_well, network};
-use crate::expression_bench::{is_value, with_many};
+use crate::ballast::{Answer, TRIES, Tally, compared, spare_at, take_all};
+use crate::found::{Probe, all_are_found};
+use crate::runs::{Trial, network, trial_told};
+use crate::texts::{say, written};
+use crate::working::answer_told;
 use leaf_table::LeafTable;
 use net_syntax::TypedNet;
 use sample_core::{Memory, Sample, has_type};
 use std::alloc::Global;
 use step_core::{Bound, Runner};
 
-/// How many events the answers hold, each of which takes memory.
-const MANY: u32 = 100;
+/// Tells what the tries of a runner's push answer: of a network that begins with a list of no
+/// events, and puts out a list of a hundred events after it.
+pub fn pushes_told(alloc: Global, bound: &Bound, table: &LeafTable, out: &mut String)
+    requires { FitsTable (rows_of table.now) bound.now }
+{
+    let events = written(alloc, "(list{100* (event 5)})");
+    let mut tally = Tally::new();
+    for attempt in 0..TRIES {
+        let spare = spare_at(attempt, 3_000);
+        tally = tally.with(pushed(alloc, bound, table, events.as_str(), spare));
+    }
+    tally.tell(out);
+}
 
-/// What the first push answers where so many bytes are left to it. Where it is want of memory, the same push with ample
-/// memory and the push after it answer as if nothing had been refused.
-fn push_answers(
-    alloc: Global,
-    bound: &Bound,
-    table: &LeafTable,
-    events: &str,
-    spare: usize,
-) -> Answer
+/// What the first push answers where so many bytes are left to it. Where it is want of memory, the
+/// same push with ample memory and the push after it answer as if nothing had been refused.
+fn pushed(alloc: Global, bound: &Bound, table: &LeafTable, events: &str, spare: usize) -> Answer
     requires { FitsTable (rows_of table.now) bound.now }
 {
     let sample = Sample::Int(5);
-    let answer = push_twice(alloc, bound, table, events, spare, &sample);
+    let mut told = String::new(alloc);
+    if has_type(&sample, bound.input()) {
+        push_told(alloc, bound, table, &sample, spare, &mut told);
+    }
     drop(sample);
-    answer
+    if told.as_str() == "(list)" {
+        Answer::Ample
+    } else {
+        refused(alloc, told.as_str(), events)
+    }
 }
 
-fn push_twice(
+/// Want of memory, where what was told of the two pushes after it is right.
+fn refused(alloc: Global, told: &str, events: &str) -> Answer {
+    let mut right = String::new(alloc);
+    say(&mut right, "memory (list) ");
+    say(&mut right, events);
+    if told == right.as_str() {
+        Answer::Refused
+    } else {
+        Answer::Other
+    }
+}
+
+/// Tells what a runner's first push answers where so many bytes are left to it; and where that is
+/// want of memory, what the same push and the next answer with ample memory.
+fn push_told(
     alloc: Global,
     bound: &Bound,
     table: &LeafTable,
-    events: &str,
-    spare: usize,
     sample: &Sample,
-) -> Answer
-    requires { FitsTable (rows_of table.now) bound.now }
+    spare: usize,
+    out: &mut String,
+)
+    requires fits { FitsTable (rows_of table.now) bound.now }
+    requires typed { HasType (datum_of sample.now) bound.now.input }
 {
-    if !has_type(sample, bound.input()) {
-        return Answer::Other;
-    }
     let Ok(ballast) = take_all(alloc, spare) else {
-        return Answer::Other;
+        return say(out, "no ballast");
     };
     let mut runner = Runner::new(alloc, bound, table);
-    let found = runner.push(0, sample);
+    let scant = runner.push(0, sample);
     drop(ballast);
-    match found {
-        Ok(answer) => judged(is_answer(alloc, answer, "(list)")),
-        Err(Memory) => match runner.push(0, sample) {
-            Ok(first) => {
-                if !is_answer(alloc, first, "(list)") {
-                    return Answer::Other;
-                }
-                match runner.push(1, sample) {
-                    Ok(second) => {
-                        if is_answer(alloc, second, events) {
-                            Answer::Refused
-                        } else {
-                            Answer::Other
-                        }
-                    }
-                    Err(Memory) => Answer::Other,
-                }
-            }
-            Err(Memory) => Answer::Other,
-        },
+    match scant {
+        Ok(answer) => answer_told(Ok(answer), out),
+        Err(Memory) => retried_told(runner, sample, out),
     }
 }
 
-fn is_answer(alloc: Global, answer: Sample, text: &str) -> bool {
-    let right = is_value(alloc, &answer, text);
-    drop(answer);
-    right
-}
-
-/// Whether pushes of the network of many events are refused memory at first, and answer in the end.
-pub fn pushes_are_refused_in_turn(alloc: Global, bound: &Bound, table: &LeafTable) -> bool
-    requires { FitsTable (rows_of table.now) bound.now }
+/// Tells of the want of memory, and what the same push and the next then answer.
+fn retried_told(mut runner: Runner<'_>, sample: &Sample, out: &mut String)
+    requires typed { HasType (datum_of sample.now) (running_of runner).input }
+    requires fresh { (running_of runner).samples ≡ 0 }
 {
-    let Ok(events) = with_many(alloc, "(list", " (event 5)", MANY, ")") else {
-        return false;
-    };
-    let mut refused = 0u32;
-    let mut last = Answer::Other;
-    for step in 0..16usize {
-        last = push_answers(alloc, bound, table, events.as_str(), step * 3_000);
-        match last {
-            Answer::Ample => {}
-            Answer::Refused => refused = refused.saturating_add(1),
-            Answer::Other => return false,
+    say(out, "memory ");
+    match runner.push(0, sample) {
+        Ok(first) => {
+            answer_told(Ok(first), out);
+            say(out, " ");
+            answer_told(runner.push(1, sample), out)
         }
-    }
-    last == Answer::Ample && refused > 1
-}
-
-fn events_are_refused_in_turn(alloc: Global) -> bool {
-    let front = "yampa 1 input Int (>>> (arr (list (Event Int)";
-    let back = ")) (iPre (list (Event Int))))";
-    let Ok(text) = with_many(alloc, front, " (event x)", MANY, back) else {
-        return false;
-    };
-    match network(alloc, text.as_str()) {
-        Some(net) => ends_well(alloc, &net, Trial::ScantMemory),
-        None => false,
+        Err(Memory) => say(out, "memory"),
     }
 }
 
-#[test]
-fn pushing_a_sample(rt: HostRuntime) {
-    assert!(rt; events_are_refused_in_turn(rt.alloc()));
-}
-
-/// Whether a table takes a closure for each expression of the network where so many bytes are left.
-fn fills_with(alloc: Global, net: &TypedNet, spare: usize) -> bool {
-    let Ok(ballast) = take_all(alloc, spare) else {
-        return false;
-    };
-    let filled = ends_well(alloc, net, Trial::Rows);
-    drop(ballast);
-    filled
-}
-
-/// Whether filling a table is refused memory at first, goes well with ample memory after each refusal, and comes to its
-/// end where enough is left.
-fn filling_is_refused_in_turn(alloc: Global, net: &TypedNet) -> bool {
-    let mut refused = 0u32;
-    for step in 0..8usize {
-        if !fills_with(alloc, net, step * 400) {
-            refused = refused.saturating_add(1);
-        }
-        if !ends_well(alloc, net, Trial::Rows) {
-            return false;
-        }
+/// Tells of the call of that name whether it is refused memory at first, and answers in the end.
+pub fn scant_run_told(alloc: Global, name: &str, out: &mut String) {
+    match name {
+        "pushing a sample" => pushing_told(alloc, out),
+        _ => filling_told(alloc, out),
     }
-    refused > 1 && fills_with(alloc, net, 1_000_000)
 }
 
-fn table_is_refused_in_turn(alloc: Global) -> bool {
+fn pushing_told(alloc: Global, out: &mut String) {
+    let short =
+        "yampa 1 input Int (>>> (arr (list (Event Int){100* (event x)})) (iPre (list (Event Int))))";
+    match network(alloc, written(alloc, short).as_str()) {
+        Some(net) => trial_told(alloc, &net, Trial::ScantMemory, out),
+        None => say(out, "no network"),
+    }
+}
+
+fn filling_told(alloc: Global, out: &mut String) {
     let text = "yampa 1 input Int (>>> (arr (neg x)) (>>> (arr (add x 1)) (iPre (mul 2 3))))";
     match network(alloc, text) {
-        Some(net) => filling_is_refused_in_turn(alloc, &net),
-        None => false,
+        Some(net) => fillings_told(alloc, &net, out),
+        None => say(out, "no network"),
     }
 }
 
+fn fillings_told(alloc: Global, net: &TypedNet, out: &mut String) {
+    let mut tally = Tally::new();
+    for attempt in 0..TRIES {
+        tally = tally.with(filled(alloc, net, spare_at(attempt, 400)));
+    }
+    tally.tell(out);
+}
+
+/// Whether a table takes a closure for each expression of the network where so many bytes are left,
+/// and then with ample memory.
+fn filled(alloc: Global, net: &TypedNet, spare: usize) -> Answer {
+    let mut scant = String::new(alloc);
+    let mut ample = String::new(alloc);
+    // Room for what is told, so that it isn't refused.
+    say(&mut scant, "a row for each expression");
+    scant.clear();
+    if let Ok(ballast) = take_all(alloc, spare) {
+        trial_told(alloc, net, Trial::Rows, &mut scant);
+        drop(ballast);
+    }
+    trial_told(alloc, net, Trial::Rows, &mut ample);
+    if ample.as_str() == "a row for each" {
+        compared(scant.as_str(), "a row for each")
+    } else {
+        Answer::Other
+    }
+}
+
+/// Calls by their names.
+static CALLS: &str = "
+pushing a sample => refused at first
+filling a table => refused at first
+";
+
 #[test]
-fn filling_a_table(rt: HostRuntime) {
-    assert!(rt; table_is_refused_in_turn(rt.alloc()));
+fn runs_are_refused_memory(rt: HostRuntime) {
+    all_are_found(&rt, rt.alloc(), Probe::ScantRun, CALLS);
 }

@@ -1,91 +1,107 @@
 // Tokens, the heads and ends of forms, and number words.
 
+use crate::found::{Probe, all_are_found};
+use crate::texts::{numbered, parted, say, say_at, say_signed};
 use leaf_expr::{Lexeme, form_end, form_head, lexeme_at, token_at};
 use sample_core::number::{is_number_spelling, is_number_word, number};
 
-/// From that byte on, where the first token begins and ends.
-static TOKENS: [(usize, Option<(usize, usize)>); 9] = [
-    (0, Some((1, 2))),
-    (2, Some((2, 4))),
-    (3, Some((3, 4))),
-    (4, Some((8, 9))),
-    (5, Some((5, 6))),
-    (8, Some((8, 9))),
-    (9, Some((10, 12))),
-    (12, None),
-    (100, None),
-];
+/// Tells the token, the lexeme, or the head or end of a form that stands from a byte on.
+pub fn token_told(given: &str, out: &mut String) {
+    let (place, text) = parted(given);
+    let (kind, at) = numbered(place);
+    match kind {
+        "token" => word_told(token_at(text.as_bytes(), at), out),
+        "lexeme" => lexeme_told(lexeme_at(text.as_bytes(), at), out),
+        "head" => word_told(form_head(text.as_bytes(), at, 1).ok(), out),
+        _ => end_told(form_end(text.as_bytes(), at, 1).ok(), out),
+    }
+}
+
+fn word_told(word: Option<(usize, usize)>, out: &mut String) {
+    match word {
+        Some((begin, end)) => {
+            say_at(out, "from", begin);
+            say_at(out, " to", end)
+        }
+        None => say(out, "none"),
+    }
+}
+
+fn lexeme_told(lexeme: Lexeme, out: &mut String) {
+    match lexeme {
+        Lexeme::End => say(out, "end"),
+        Lexeme::Open(at) => say_at(out, "open", at),
+        Lexeme::Close(at) => say_at(out, "close", at),
+        Lexeme::Word(begin, end) => word_told(Some((begin, end)), out),
+    }
+}
+
+fn end_told(end: Option<usize>, out: &mut String) {
+    match end {
+        Some(end) => say_at(out, "end", end),
+        None => say(out, "none"),
+    }
+}
+
+/// Tells the number that the word spells, or in what it is wrong.
+pub fn number_told(given: &str, out: &mut String) {
+    let word = given.as_bytes();
+    if !is_number_word(word) {
+        return say(out, "no number word");
+    }
+    if !is_number_spelling(word) {
+        return say(out, "badly spelt");
+    }
+    match number(word) {
+        Some(n) => say_signed(out, "number", n),
+        None => say(out, "out of range"),
+    }
+}
+
+/// A kind of thing, the byte from which it is sought, a text, and what is found.
+static TOKENS: &str = "
+token 0 |  (ab;c)␤)␍-5 => from 1 to 2
+token 2 |  (ab;c)␤)␍-5 => from 2 to 4
+token 3 |  (ab;c)␤)␍-5 => from 3 to 4
+token 4 |  (ab;c)␤)␍-5 => from 8 to 9
+token 5 |  (ab;c)␤)␍-5 => from 5 to 6
+token 8 |  (ab;c)␤)␍-5 => from 8 to 9
+token 9 |  (ab;c)␤)␍-5 => from 10 to 12
+token 12 |  (ab;c)␤)␍-5 => none
+token 100 |  (ab;c)␤)␍-5 => none
+lexeme 0 |  (ab)  => open 1
+lexeme 2 |  (ab)  => from 2 to 4
+lexeme 4 |  (ab)  => close 4
+lexeme 5 |  (ab)  => end
+head 1 | ( add x) => from 2 to 5
+head 1 | ((add x)) => none
+head 1 | () => none
+end 4 | (p 0 )) => end 6
+end 4 | (p 0 1) => none
+end 4 | (p 0 => none
+";
 
 #[test]
-fn tokens_from_a_place(rt: HostRuntime) {
-    for (at, token) in &TOKENS {
-        assert_eq!(rt; token_at(b" (ab;c)\n)\r-5", *at), *token, "{at}");
-    }
+fn tokens_are_found(rt: HostRuntime) {
+    all_are_found(&rt, rt.alloc(), Probe::Token, TOKENS);
 }
+
+/// Words, and what numbers they spell.
+static NUMBERS: &str = "
+0 => number 0
+-7 => number -7
+9223372036854775807 => number 9223372036854775807
+-9223372036854775808 => number -9223372036854775808
+9223372036854775808 => out of range
+007 => badly spelt
+-0 => badly spelt
+- => no number word
+ => no number word
++1 => no number word
+5x => no number word
+";
 
 #[test]
-fn kinds_of_tokens(rt: HostRuntime) {
-    assert!(rt; matches!(lexeme_at(b" (ab) ", 0), Lexeme::Open(1)));
-    assert!(rt; matches!(lexeme_at(b" (ab) ", 2), Lexeme::Word(2, 4)));
-    assert!(rt; matches!(lexeme_at(b" (ab) ", 4), Lexeme::Close(4)));
-    assert!(rt; matches!(lexeme_at(b" (ab) ", 5), Lexeme::End));
-}
-
-/// The word of the form whose parenthesis stands before byte `at`.
-fn head_at(text: &[u8], at: usize) -> Option<(usize, usize)> {
-    match form_head(text, at, 1) {
-        Ok(found) => Some(found),
-        Err(_fault) => None,
-    }
-}
-
-/// The byte behind the end of a form.
-fn end_at(text: &[u8], at: usize) -> Option<usize> {
-    match form_end(text, at, 1) {
-        Ok(end) => Some(end),
-        Err(_fault) => None,
-    }
-}
-
-#[test]
-fn heads_and_ends_of_forms(rt: HostRuntime) {
-    assert_eq!(rt; head_at(b"( add x)", 1), Some((2, 5)));
-    assert_eq!(rt; head_at(b"((add x))", 1), None);
-    assert_eq!(rt; head_at(b"()", 1), None);
-    assert_eq!(rt; end_at(b"(p 0 ))", 4), Some(6));
-    assert_eq!(rt; end_at(b"(p 0 1)", 4), None);
-    assert_eq!(rt; end_at(b"(p 0", 4), None);
-}
-
-/// Words; whether each is a number word, whether it is well spelt, and the number that it then is.
-static NUMBERS: [(&str, bool, bool, Option<i64>); 11] = [
-    ("0", true, true, Some(0)),
-    ("-7", true, true, Some(-7)),
-    ("9223372036854775807", true, true, Some(i64::MAX)),
-    ("-9223372036854775808", true, true, Some(i64::MIN)),
-    ("9223372036854775808", true, true, None),
-    ("007", true, false, None),
-    ("-0", true, false, None),
-    ("-", false, false, None),
-    ("", false, false, None),
-    ("+1", false, false, None),
-    ("5x", false, false, None),
-];
-
-/// The number that the word spells.
-fn number_in(word: &str) -> Option<i64> {
-    if is_number_spelling(word.as_bytes()) {
-        number(word.as_bytes())
-    } else {
-        None
-    }
-}
-
-#[test]
-fn number_words(rt: HostRuntime) {
-    for (word, is_word, is_spelt, n) in &NUMBERS {
-        assert_eq!(rt; is_number_word(word.as_bytes()), *is_word, "{word}");
-        assert_eq!(rt; is_number_spelling(word.as_bytes()), *is_spelt, "{word}");
-        assert_eq!(rt; number_in(word), *n, "{word}");
-    }
+fn number_words_are_read(rt: HostRuntime) {
+    all_are_found(&rt, rt.alloc(), Probe::Number, NUMBERS);
 }

@@ -1,141 +1,231 @@
-// Values inside values: what is read, and where reading stops.
+// Values: what is read at a type, where reading stops, and what is printed and copied.
 
-use crate::expression_bench::{is_value, type_in, with_many};
-use sample_core::{Ty, ValueFault, has_type, read_value};
+use crate::found::{Probe, all_are_found};
+use crate::texts::{parted, say, say_at, type_in, value_in};
+use sample_core::{
+    Child, Memory, Sample, Samples, Ty, ValueFault, has_type, push_value, read_value, same,
+};
 use std::alloc::Global;
 
-/// A type with every form of types in it, and a value of it.
-const TYPE: &str = "(Pair (List (Event Int)) (Pair Bool Unit))";
-
-const VALUE: &str = "(pair (list (event 5) none (event -7)) (pair true unit))";
-
-/// What stands where a value of the type is wanted, and the fault with its byte. Faults are told
-/// from the left.
-static FAULTS: [(&str, ValueFault); 24] = [
-    ("(pair (list (event 05)", ValueFault::NotAValue { at: 19 }),
-    (
-        "(pair (list (event 5 none) (pair true unit))",
-        ValueFault::NotAValue { at: 20 },
-    ),
-    (
-        "(pair (list (event 5) nope)",
-        ValueFault::NotAValue { at: 22 },
-    ),
-    (
-        "(pair (list (event 5)) (pair true units))",
-        ValueFault::NotAValue { at: 34 },
-    ),
-    (
-        "(pair (list (event 5)) (pair true unit)",
-        ValueFault::NotAValue { at: 39 },
-    ),
-    (
-        "(pair (list (event 5))(pair true unit))",
-        ValueFault::NotAValue { at: 22 },
-    ),
-    (
-        "(pair (list  none) (pair true unit))",
-        ValueFault::NotAValue { at: 12 },
-    ),
-    ("(pair (list none ) (", ValueFault::NotAValue { at: 17 }),
-    ("(pair (listnone) (", ValueFault::NotAValue { at: 6 }),
-    ("(pair (list) (pair", ValueFault::NotAValue { at: 18 }),
-    ("(pair (list) (pair ", ValueFault::NotAValue { at: 19 }),
-    ("(pair (event none)", ValueFault::OtherType { at: 6 }),
-    ("(pair (list 5)", ValueFault::OtherType { at: 12 }),
-    ("(pair (list (event true)", ValueFault::OtherType { at: 19 }),
-    (
-        "(pair (list (event 5)) true)",
-        ValueFault::OtherType { at: 23 },
-    ),
-    (
-        "(pair (list) (pair 1 unit))",
-        ValueFault::OtherType { at: 19 },
-    ),
-    (
-        "(pair (list) (pair true (list)))",
-        ValueFault::OtherType { at: 24 },
-    ),
-    (
-        "(pair (list) (pair 99999999999999999999 unit))",
-        ValueFault::OtherType { at: 19 },
-    ),
-    ("none", ValueFault::OtherType { at: 0 }),
-    (
-        "(pair (list (event 9223372036854775808))",
-        ValueFault::NumberRange { at: 19 },
-    ),
-    (
-        "(pair (list (event 1) (event -9223372036854775809))",
-        ValueFault::NumberRange { at: 29 },
-    ),
-    (
-        "(pair (list (event 9223372036854775808) 5)",
-        ValueFault::NumberRange { at: 19 },
-    ),
-    (
-        "(pair (list (event -0) 5)",
-        ValueFault::NotAValue { at: 19 },
-    ),
-    (
-        "(pair (list 5 (event -0))",
-        ValueFault::OtherType { at: 12 },
-    ),
-];
-
-/// Whether the text is refused so where a value of the type is wanted.
-fn refuses(alloc: Global, ty: &Ty, text: &str, fault: &ValueFault) -> bool {
-    match read_value(alloc, text.as_bytes(), ty) {
-        Ok((sample, _length)) => {
-            drop(sample);
-            false
-        }
-        Err(found) => found == *fault,
+/// Tells what is read at the type: how it is printed, and its length; or why nothing is read.
+pub fn value_told(alloc: Global, given: &str, out: &mut String) {
+    let (ty, text) = parted(given);
+    match type_in(alloc, ty) {
+        Some(ty) => reading_told(
+            alloc,
+            read_value(alloc, text.as_bytes(), &ty),
+            &ty,
+            text,
+            out,
+        ),
+        None => say(out, "no type"),
     }
 }
 
-/// The same at the type above.
-fn refuses_inside(alloc: Global, text: &str, fault: &ValueFault) -> bool {
-    match type_in(alloc, TYPE) {
-        Some(ty) => refuses(alloc, &ty, text, fault),
+/// The same at a type with every form of types in it.
+pub fn inside_told(alloc: Global, text: &str, out: &mut String) {
+    match type_in(alloc, "(Pair (List (Event Int)) (Pair Bool Unit))") {
+        Some(ty) => reading_told(
+            alloc,
+            read_value(alloc, text.as_bytes(), &ty),
+            &ty,
+            text,
+            out,
+        ),
+        None => say(out, "no type"),
+    }
+}
+
+/// Tells what was read of the text at the type, or why nothing was.
+pub fn reading_told(
+    alloc: Global,
+    read: Result<(Sample, usize), ValueFault>,
+    ty: &Ty,
+    text: &str,
+    out: &mut String,
+) {
+    match read {
+        Ok((sample, length)) => {
+            sample_told(alloc, &sample, ty, text, out);
+            say_at(out, " to", length);
+            drop(sample);
+        }
+        Err(fault) => fault_told(fault, out),
+    }
+}
+
+fn fault_told(fault: ValueFault, out: &mut String) {
+    match fault {
+        ValueFault::NotAValue { at } => say_at(out, "no value at", at),
+        ValueFault::OtherType { at } => say_at(out, "other type at", at),
+        ValueFault::NumberRange { at } => say_at(out, "number range at", at),
+        ValueFault::Memory => say(out, "memory"),
+    }
+}
+
+/// Tells how the value is printed, and what is wrong with it.
+fn sample_told(alloc: Global, sample: &Sample, ty: &Ty, text: &str, out: &mut String) {
+    if !has_type(sample, ty) {
+        say(out, "not of its type ");
+    }
+    if !is_read_again(alloc, sample, ty, text) {
+        say(out, "not the same when it is read again ");
+    }
+    if !is_copied(alloc, sample) {
+        say(out, "not the same as its copy ");
+    }
+    drop(push_value(out, sample));
+}
+
+fn is_read_again(alloc: Global, sample: &Sample, ty: &Ty, text: &str) -> bool {
+    match value_in(alloc, ty, text) {
+        Some(again) => same(&again, sample),
         None => false,
     }
 }
 
-/// Whether the value above is read before those bytes, of its length.
-fn reads_before(alloc: Global, back: &str) -> bool {
-    match with_many(alloc, "", VALUE, 1, back) {
-        Ok(text) => match type_in(alloc, TYPE) {
-            Some(ty) => reads_value(alloc, &ty, text.as_str()),
-            None => false,
-        },
-        Err(_memory) => false,
-    }
-}
-
-fn reads_value(alloc: Global, ty: &Ty, text: &str) -> bool {
-    match read_value(alloc, text.as_bytes(), ty) {
-        Ok((sample, length)) => {
-            let right = length == VALUE.len()
-                && has_type(&sample, ty)
-                && is_value(alloc, &sample, VALUE);
-            drop(sample);
+/// Whether the value's copy is the value, and likewise of its parts.
+fn is_copied(alloc: Global, sample: &Sample) -> bool {
+    match sample.try_copy(alloc) {
+        Ok(copy) => {
+            let right = same(&copy, sample) && parts_are_copied(sample);
+            drop(copy);
             right
         }
-        Err(_fault) => false,
+        Err(Memory) => false,
     }
 }
 
-#[test]
-fn faults_inside_values(rt: HostRuntime) {
-    for (text, fault) in &FAULTS {
-        assert!(rt; refuses_inside(rt.alloc(), text, fault), "{text}");
+fn parts_are_copied(sample: &Sample) -> bool {
+    match sample {
+        Sample::Pair(a, b) => child_is_copied(a) && child_is_copied(b),
+        Sample::Event(a) => child_is_copied(a),
+        Sample::List(all) => elements_are_copied(all),
+        _ => true,
     }
 }
 
-#[test]
-fn a_value_is_read_before_other_bytes(rt: HostRuntime) {
-    for back in ["", " ", ")", "5", "x", "(list)", "\n"] {
-        assert!(rt; reads_before(rt.alloc(), back), "{back}");
+fn child_is_copied(child: &Child) -> bool {
+    match child.try_copy() {
+        Ok(copy) => same(copy.get(), child.get()),
+        Err(Memory) => false,
     }
+}
+
+/// Whether the copy of a list's elements has as many.
+fn elements_are_copied(all: &Samples) -> bool {
+    match all.try_copy() {
+        Ok(copy) => copy.as_slice().len() == all.as_slice().len(),
+        Err(Memory) => false,
+    }
+}
+
+/// Values of each form, where reading stops, and faults, which are told from the left.
+static VALUES: &str = "
+-- Numbers, and where reading them stops.
+Int | 0 => 0 to 1
+Int | -1 => -1 to 2
+Int | -9 => -9 to 2
+Int | -9223372036854775808 => -9223372036854775808 to 20
+Int | 9223372036854775807 => 9223372036854775807 to 19
+Int | 12 => 12 to 2
+Int | 12 6 => 12 to 2
+Int | 12(x => 12 to 2
+Int | 12) => 12 to 2
+Int |  => no value at 0
+Int |  5 => no value at 0
+Int | 007 => no value at 0
+Int | -0 => no value at 0
+Int | - => no value at 0
+Int | +1 => no value at 0
+Int | 5x => no value at 0
+Int | (pairs 1 2) => no value at 0
+Int | ( pair 1 2) => no value at 0
+Int | True => no value at 0
+Int | ) => no value at 0
+Int | true => other type at 0
+Int | none => other type at 0
+Int | unit => other type at 0
+Int | (pair) => other type at 0
+Int | (list => other type at 0
+Int | (event 5) => other type at 0
+Int | 9223372036854775808 => number range at 0
+Int | -9223372036854775809 => number range at 0
+Int | {65000*9} => number range at 0
+-- Values of each form of types, and faults in them. Faults are told from the left.
+Unit | unit => unit to 4
+Bool | false => false to 5
+Bool | 9223372036854775808 => other type at 0
+Int | 99999999999999999999 => number range at 0
+(Event Int) | none => none to 4
+(Event (Pair Int Int)) | (event (pair 1 2)) => (event (pair 1 2)) to 18
+(List Int) | (list) => (list) to 6
+(List Int) | (list 1 2) => (list 1 2) to 10
+(List (Event Bool)) | (list none (event true)) => (list none (event true)) to 24
+(Pair Int (List Int)) | (pair 1 (list 2 3)) => (pair 1 (list 2 3)) to 19
+(Pair (List (Event Bool)) Unit) | (pair (list) unit) => (pair (list) unit) to 18
+(Pair (List (Event Bool)) Unit) | (pair (list (event true) none (event false)) unit) => (pair (list (event true) none (event false)) unit) to 50
+(List Int) | (list{13000* 1234}) => (list{13000* 1234}) to 65006
+(List Int) | (list ) => no value at 6
+(List Int) | (list(1) => no value at 5
+(List Int) | (list 1 2,3) => no value at 9
+(List Int) | (list 1 2 => no value at 9
+(List Int) | (list 1 true) => other type at 8
+(Pair Int (Event Int)) | (pair => no value at 5
+(Pair Int (Event Int)) | (pair 5) => no value at 7
+(Pair Int (Event Int)) | (pair 5 no => no value at 8
+(Pair Int (Event Int)) | (pair 5  none) => no value at 8
+(Pair Int (Event Int)) | (pair 5 none => no value at 12
+(Pair Int (Event Int)) | (pair 5 none ) => no value at 12
+(Pair Int (Event Int)) | (pair unit none) => other type at 6
+(Pair Int (Event Int)) | (pair 5 7) => other type at 8
+(Pair Int (Event Int)) | (pair 5 (event true)) => other type at 15
+(Pair Int (Event Int)) | (pair 5 (event 99999999999999999999)) => number range at 15
+{30*(Pair (List Int) }Int{30*)} | {30*(pair (list[1000* 7]) }7{30*)} => {30*(pair (list[1000* 7]) }7{30*)} to 60421
+{31*(List }Int{31*)} | {31*(list }7{19999* 7}{31*)} => {31*(list }7{19999* 7}{31*)} to 40216
+";
+
+#[test]
+fn values_are_read(rt: HostRuntime) {
+    all_are_found(&rt, rt.alloc(), Probe::Value, VALUES);
+}
+
+/// Texts of a value with every form of types in it, and faults in them.
+static INSIDE: &str = "
+(pair (list (event 05) => no value at 19
+(pair (list (event 5 none) (pair true unit)) => no value at 20
+(pair (list (event 5) nope) => no value at 22
+(pair (list (event 5)) (pair true units)) => no value at 34
+(pair (list (event 5)) (pair true unit) => no value at 39
+(pair (list (event 5))(pair true unit)) => no value at 22
+(pair (list  none) (pair true unit)) => no value at 12
+(pair (list none ) ( => no value at 17
+(pair (listnone) ( => no value at 6
+(pair (list) (pair => no value at 18
+(pair (list) (pair  => no value at 19
+(pair (event none) => other type at 6
+(pair (list 5) => other type at 12
+(pair (list (event true) => other type at 19
+(pair (list (event 5)) true) => other type at 23
+(pair (list) (pair 1 unit)) => other type at 19
+(pair (list) (pair true (list))) => other type at 24
+(pair (list) (pair 99999999999999999999 unit)) => other type at 19
+none => other type at 0
+(pair (list (event 9223372036854775808)) => number range at 19
+(pair (list (event 1) (event -9223372036854775809)) => number range at 29
+(pair (list (event 9223372036854775808) 5) => number range at 19
+(pair (list (event -0) 5) => no value at 19
+(pair (list 5 (event -0)) => other type at 12
+(pair (list (event 5) none (event -7)) (pair true unit)) => (pair (list (event 5) none (event -7)) (pair true unit)) to 56
+(pair (list (event 5) none (event -7)) (pair true unit))  => (pair (list (event 5) none (event -7)) (pair true unit)) to 56
+(pair (list (event 5) none (event -7)) (pair true unit))) => (pair (list (event 5) none (event -7)) (pair true unit)) to 56
+(pair (list (event 5) none (event -7)) (pair true unit))5 => (pair (list (event 5) none (event -7)) (pair true unit)) to 56
+(pair (list (event 5) none (event -7)) (pair true unit))x => (pair (list (event 5) none (event -7)) (pair true unit)) to 56
+(pair (list (event 5) none (event -7)) (pair true unit))(list) => (pair (list (event 5) none (event -7)) (pair true unit)) to 56
+(pair (list (event 5) none (event -7)) (pair true unit))␤ => (pair (list (event 5) none (event -7)) (pair true unit)) to 56
+";
+
+#[test]
+fn values_inside_values_are_read(rt: HostRuntime) {
+    all_are_found(&rt, rt.alloc(), Probe::Inside, INSIDE);
 }

@@ -1,0 +1,27 @@
+// Files that command lines are tried on.
+
+use std::alloc::Global;
+use yampa_run::{FileFault, Files};
+
+/// One file, called `net`, whose bytes are told.
+#[derive(Drop)]
+pub struct OneFile<'a> {
+    /// What is in the file.
+    pub bytes: &'a [u8],
+}
+
+impl Files for OneFile<'_> {
+    ghost use Rattle.std.specs.Prelude.{None, Some, bytes_eq, codes, if◌then◌else◌};
+
+    ghost told = { λ files name. if bytes_eq name (codes "net") then Some files.bytes.now else None };
+
+    fn read(&self, alloc: Global, name: &str) -> Result<Vec<u8>, FileFault> {
+        if name != "net" {
+            return Err(FileFault::Unread);
+        }
+        match self.bytes.to_vec(alloc) {
+            Ok(bytes) => Ok(bytes),
+            Err(_) => Err(FileFault::Memory),
+        }
+    }
+}

@@ -1,0 +1,132 @@
+// Worked rows, and the one way to ask of each whether it goes as it was worked out.
+
+use crate::commands::command_told;
+use crate::keys::key_told;
+use crate::networks::{doubled_told, file_told, network_told, position_told};
+use crate::reading::{expr_at_told, expr_told, type_at_told};
+use crate::runs::{missing_told, run_told};
+use crate::scant_memory::scant_told;
+use crate::scant_runs::scant_run_told;
+use crate::shapes::shape_told;
+use crate::tables::{added_told, called_told, filled_told};
+use crate::texts::{write_short, written};
+use crate::tokens::{number_told, token_told};
+use crate::trees::tree_told;
+use crate::typing::{typing_alone_told, typing_told};
+use crate::values::{inside_told, value_told};
+use crate::working::worked_told;
+use std::alloc::Global;
+use std::process::Abort;
+
+/// What is asked of what is given.
+#[derive(Clone, Copy)]
+pub enum Probe {
+    /// What value is read at a type, and where it ends: `TYPE | TEXT`.
+    Value,
+    /// The same at a type with every form of types in it.
+    Inside,
+    /// What type is read from a byte on, with so many parentheses open: `BYTE DEPTH | TEXT`.
+    TypeAt,
+    /// The same of an expression.
+    ExprAt,
+    /// What expression is read of the whole text.
+    Expr,
+    /// Whether an expression has a type, at an input of a type: `TYPE | EXPR`.
+    Typing,
+    /// The same with no parameter in scope.
+    TypingAlone,
+    /// An expression's type and value at an input: `TYPE | VALUE | EXPR`.
+    Worked,
+    /// An expression's shape.
+    Shape,
+    /// The copy of a key under so many parameters: `COUNT | EXPR`.
+    Key,
+    /// The token, lexeme, head or end of a form from a byte on: `KIND BYTE | TEXT`.
+    Token,
+    /// What number a word spells.
+    Number,
+    /// A tree that is built by calls, by its name.
+    Tree,
+    /// How a network file is printed.
+    File,
+    /// A network's weight and height, or why it has no types.
+    Network,
+    /// The weight or the types of `(arr x)`, put so many times before itself: `KIND COUNT`.
+    Doubled,
+    /// A position, by its name.
+    Position,
+    /// What a command line leads to, on one file called `net`: `WORDS | FILE`.
+    Command,
+    /// What a network's run on a stream writes: `FILE | STREAM`.
+    Run,
+    /// The first expression of a network without a row in an empty table.
+    Missing,
+    /// What the filling of a table tells with 4,096 different expressions and one more.
+    Filled,
+    /// What a table with 4,096 rows answers to one more expression.
+    Added,
+    /// What the row of a network's expression answers on a value: `FILE | VALUE`.
+    Called,
+    /// Whether a call, by its name, is refused memory at first and answers in the end.
+    Scant,
+    /// The same of a table and of a runner.
+    ScantRun,
+}
+
+/// Adds to the text what the probe finds.
+fn tell(alloc: Global, probe: Probe, given: &str, out: &mut String) {
+    match probe {
+        Probe::Value => value_told(alloc, given, out),
+        Probe::Inside => inside_told(alloc, given, out),
+        Probe::TypeAt => type_at_told(alloc, given, out),
+        Probe::ExprAt => expr_at_told(alloc, given, out),
+        Probe::Expr => expr_told(alloc, given, out),
+        Probe::Typing => typing_told(alloc, given, out),
+        Probe::TypingAlone => typing_alone_told(alloc, given, out),
+        Probe::Worked => worked_told(alloc, given, out),
+        Probe::Shape => shape_told(alloc, given, out),
+        Probe::Key => key_told(alloc, given, out),
+        Probe::Token => token_told(given, out),
+        Probe::Number => number_told(given, out),
+        Probe::Tree => tree_told(alloc, given, out),
+        Probe::File => file_told(alloc, given, out),
+        Probe::Network => network_told(alloc, given, out),
+        Probe::Doubled => doubled_told(alloc, given, out),
+        Probe::Position => position_told(alloc, given, out),
+        Probe::Command => command_told(alloc, given, out),
+        Probe::Run => run_told(alloc, given, out),
+        Probe::Missing => missing_told(alloc, given, out),
+        Probe::Filled => filled_told(alloc, given, out),
+        Probe::Added => added_told(alloc, given, out),
+        Probe::Called => called_told(alloc, given, out),
+        Probe::Scant => scant_told(alloc, given, out),
+        Probe::ScantRun => scant_run_told(alloc, given, out),
+    }
+}
+
+/// Asserts that the probe finds what is wanted of each row. A line is a row: what is given, with
+/// ` | ` between its parts, ` => `, and what is to be found; both in short forms, see `write_short`.
+/// A line without ` =>` is a comment.
+pub fn all_are_found(rt: &impl Abort, alloc: Global, probe: Probe, rows: &str) {
+    for row in rows.lines() {
+        if let Some((given, wanted)) = row.split_once(" =>") {
+            is_found(rt, alloc, probe, given, wanted.trim_start());
+        }
+    }
+}
+
+fn is_found(rt: &impl Abort, alloc: Global, probe: Probe, given: &str, short: &str) {
+    let found = found(alloc, probe, given);
+    let wanted = written(alloc, short);
+    let right = found.as_str() == wanted.as_str();
+    assert!(rt; right, "{given}: wanted {short}, found {found}");
+}
+
+/// What the probe finds of what is given in short form.
+fn found(alloc: Global, probe: Probe, given: &str) -> String {
+    let mut text = String::new(alloc);
+    let mut found = String::new(alloc);
+    write_short(alloc, given, &mut text);
+    tell(alloc, probe, text.as_str(), &mut found);
+    found
+}
