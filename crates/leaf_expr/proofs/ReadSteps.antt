@@ -182,7 +182,7 @@ module _ (size room : ℕ) where
   behind_none : {m : Expression} {n : ℕ} {us : List Placed} (make : Expression → Expression → Expression → Expression) (r : Read TypeTree) →
       with none_of r ≡ Ok (m, n, us) →
       (r >>= (λ y. read_parts leaf size (read leaf size room) room (e (e no_place)) (make (none_of y.0)) y.2)) ≡ read_parts leaf size
-          (read leaf size room) room (e (e no_place)) (make m) us
+      (read leaf size room) room (e (e no_place)) (make m) us
   behind_none {m = m} {us = us} make (Ok y) p =
       let q = ok_same _ _ p in
       let i : none_of y.0 ≡ m = ap (λ (z : Expression × ℕ × List Placed). z.0) q in

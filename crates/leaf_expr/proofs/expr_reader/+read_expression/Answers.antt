@@ -59,7 +59,7 @@ read_expression-returns-in-Form t c =
     let size = length text in
     let ts = tokens_from c.args.at text in
     let front : read_front size room ts ≡ Ok ((c.in-Form.start, opening), tokens_from (c.in-Form.start + 1) text) =
-        subst (λ f. read_front size room ts ≡ Ok (front_left text f)) c.in-Form.is c.in_ok-start.ensures.front in
+    subst (λ f. read_front size room ts ≡ Ok (front_left text f)) c.in-Form.is c.in_ok-start.ensures.front in
     subst (Gives (expression_left text) c.form.result) (sym (front_form leaf size room expression_sort ts refl front)) c.form.ensures
 
 pub read_expression-returns-in-Word : goal.read_expression-returns-in-Word
@@ -69,8 +69,8 @@ read_expression-returns-in-Word t c =
     let size = length text in
     let ts = tokens_from c.args.at text in
     let front : read_front size room ts ≡ Ok
-        ((c.in-Word.start, word (slice_range text c.in-Word.start c.in-Word.end)), tokens_from c.in-Word.end text) =
-        subst (λ f. read_front size room ts ≡ Ok (front_left text f)) c.in-Word.is c.in_ok-start.ensures.front in
+    ((c.in-Word.start, word (slice_range text c.in-Word.start c.in-Word.end)), tokens_from c.in-Word.end text) =
+    subst (λ f. read_front size room ts ≡ Ok (front_left text f)) c.in-Word.is c.in_ok-start.ensures.front in
     subst (Gives (expression_left text) c.word_expr.result) (sym (front_word leaf size room expression_sort ts front)) c.word_expr.ensures
 
 pub list-returns-in-Ok : goal.list-returns-in-Ok
@@ -89,16 +89,16 @@ pub items-returns-in-Some : goal.items-returns-in-Some
 items-returns-in-Some t c =
     let text = c.args.text.now in
     done (length text) c.args.room c.in-Some.end (map expression_of c.loop-end.all.items) (tokens_from c.loop-end.next text)
-        (tokens_from c.in-Some.end text) _ c.loop-end.invariant c.in-Some.ensures.behind c.in-Some.ensures.token
+    (tokens_from c.in-Some.end text) _ c.loop-end.invariant c.in-Some.ensures.behind c.in-Some.ensures.token
 
 pub items-loop-end-preserved : goal.items-loop-end-preserved
 items-loop-end-preserved t c =
     let p = c.in_ok-push.ensures.items in
     let m : map expression_of c.push.new.self.items ≡ map expression_of c.loop-end.all.items ++ expression_of c.in_ok-expr.expr ∷ [] =
-        grind (arith, common_steps, p) in
+    grind (arith, common_steps, p) in
     more (length c.args.text.now) c.args.room c.in_ok-expr.behind (map expression_of c.loop-end.all.items) (map expression_of c.push.new.self.items)
-        (expression_of c.in_ok-expr.expr) (tokens_from c.loop-end.next c.args.text.now) (tokens_from c.in_ok-expr.behind c.args.text.now) _
-        c.loop-end.invariant c.in_default.ensures.token c.in_ok-expr.ensures m
+    (expression_of c.in_ok-expr.expr) (tokens_from c.loop-end.next c.args.text.now) (tokens_from c.in_ok-expr.behind c.args.text.now) _
+    c.loop-end.invariant c.in_default.ensures.token c.in_ok-expr.ensures m
 
 pub read_expression-returns-in_err-start : goal.read_expression-returns-in_err-start
 read_expression-returns-in_err-start t c =
@@ -122,7 +122,7 @@ form-returns-in-Some t c =
     let room = c.args.room in
     let ts = tokens_from c.args.at text in
     subst (Gives (expression_left text) c.parts.result)
-        (sym (named (length text) room room expression_sort ts (form_row c.in-Some.form) c.in_ok-start.ensures.head c.in-Some.ensures)) c.parts.ensures
+    (sym (named (length text) room room expression_sort ts (form_row c.in-Some.form) c.in_ok-start.ensures.head c.in-Some.ensures)) c.parts.ensures
 
 pub form-returns-in-None : goal.form-returns-in-None
 form-returns-in-None t c =
@@ -134,13 +134,13 @@ pub part-returns-in_err-expr : goal.part-returns-in_err-expr
 part-returns-in_err-expr t c =
     let text = c.args.text.now in
     told (λ x. (x.0, x.1, tokens_from x.1 text)) c.from_residual.result c.in_err-expr.field-0.0 (tree_at expression_sort text c.args.room c.args.at)
-        c.from_residual.ensures.1 c.in_err-expr.ensures
+    c.from_residual.ensures.1 c.in_err-expr.ensures
 
 pub part-returns-in_err-new : goal.part-returns-in_err-new
 part-returns-in_err-new t c =
     let text = c.args.text.now in
     told_memory (λ x. (x.0, x.1, tokens_from x.1 text)) c.from_residual-in_err-new.result (tree_at expression_sort text c.args.room c.args.at)
-        c.from_residual-in_err-new.ensures.1
+    c.from_residual-in_err-new.ensures.1
 
 pub part-returns : goal.part-returns
 part-returns t c = c.in_ok-expr.ensures ∙ ap (λ x. Ok (x, c.in_ok-expr.at, tokens_from c.in_ok-expr.at c.args.text.now)) (sym c.in_ok-new.ensures)
@@ -152,7 +152,7 @@ last_two-returns-in_err-a t c =
     let ts = tokens_from c.args.at text in
     let why = no_part (length text) room (Expression × Expression) expression_sort c.in_err-a.field-0.0 (e no_place) (λ a b. (a, b)) ts c.in_err-a.ensures in
     told (λ x. ((x.0, x.1), x.2, tokens_from x.2 text)) c.from_residual.result c.in_err-a.field-0.0 (last_two_at text room c.args.at)
-        c.from_residual.ensures.1 why
+    c.from_residual.ensures.1 why
 
 pub last_two-returns-in_err-b : goal.last_two-returns-in_err-b
 last_two-returns-in_err-b t c =
@@ -161,7 +161,7 @@ last_two-returns-in_err-b t c =
     let ts = tokens_from c.args.at text in
     let why = no_second (length text) room c.in_err-b.field-0.0 ts c.in_ok-a.ensures c.in_err-b.ensures in
     told (λ x. ((x.0, x.1), x.2, tokens_from x.2 text)) c.from_residual-in_err-b.result c.in_err-b.field-0.0 (last_two_at text room c.args.at)
-        c.from_residual-in_err-b.ensures.1 why
+    c.from_residual-in_err-b.ensures.1 why
 
 pub last_two-returns-in_err-end : goal.last_two-returns-in_err-end
 last_two-returns-in_err-end t c =
@@ -170,7 +170,7 @@ last_two-returns-in_err-end t c =
     let ts = tokens_from c.args.at text in
     let why = no_two_end (length text) room c.in_err-end.field-0.0 ts c.in_ok-a.ensures c.in_ok-b.ensures c.in_err-end.ensures in
     told (λ x. ((x.0, x.1), x.2, tokens_from x.2 text)) c.from_residual-in_err-end.result c.in_err-end.field-0.0 (last_two_at text room c.args.at)
-        c.from_residual-in_err-end.ensures.1 why
+    c.from_residual-in_err-end.ensures.1 why
 
 pub last_two-returns : goal.last_two-returns
 last_two-returns t c =
@@ -185,7 +185,7 @@ unary-returns-in_err-a t c =
     let ts = tokens_from c.args.at text in
     let why = no_part (length text) room Expression expression_sort c.in_err-a.field-0.0 no_place (unary_of c.args.form) ts c.in_err-a.ensures in
     told (expression_left text) c.from_residual.result c.in_err-a.field-0.0 (row_parts (unary_row c.args.form) text room c.args.at)
-        c.from_residual.ensures.1 why
+    c.from_residual.ensures.1 why
 
 pub unary-returns-in_err-end : goal.unary-returns-in_err-end
 unary-returns-in_err-end t c =
@@ -194,7 +194,7 @@ unary-returns-in_err-end t c =
     let ts = tokens_from c.args.at text in
     let why = no_end (length text) room expression_sort c.in_err-end.field-0.0 (unary_of c.args.form) ts c.in_ok-a.ensures c.in_err-end.ensures in
     told (expression_left text) c.from_residual-in_err-end.result c.in_err-end.field-0.0 (row_parts (unary_row c.args.form) text room c.args.at)
-        c.from_residual-in_err-end.ensures.1 why
+    c.from_residual-in_err-end.ensures.1 why
 
 pub unary-returns : goal.unary-returns
 unary-returns t c =
@@ -210,13 +210,13 @@ binary-returns-in_err-a t c =
     let ts = tokens_from c.args.at text in
     let why = two_refused (length text) room c.in_err-a.field-0.0 (binary_of c.args.form) ts c.in_err-a.ensures in
     told (expression_left text) c.from_residual.result c.in_err-a.field-0.0 (row_parts (binary_row c.args.form) text room c.args.at)
-        c.from_residual.ensures.1 why
+    c.from_residual.ensures.1 why
 
 pub binary-returns-in_err-expr : goal.binary-returns-in_err-expr
 binary-returns-in_err-expr t c =
     let text = c.args.text.now in
     told_memory (expression_left text) c.from_residual-in_err-expr.result (row_parts (binary_row c.args.form) text c.args.room c.args.at)
-        c.from_residual-in_err-expr.ensures.1
+    c.from_residual-in_err-expr.ensures.1
 
 pub binary-returns : goal.binary-returns
 binary-returns t c =
@@ -232,7 +232,7 @@ ternary-returns-in_err-a t c =
     let ts = tokens_from c.args.at text in
     let why = no_part (length text) room Expression expression_sort c.in_err-a.field-0.0 (e (e no_place)) (ternary_of c.args.form) ts c.in_err-a.ensures in
     told (expression_left text) c.from_residual.result c.in_err-a.field-0.0 (row_parts (ternary_row c.args.form) text room c.args.at)
-        c.from_residual.ensures.1 why
+    c.from_residual.ensures.1 why
 
 pub ternary-returns-in_err-b : goal.ternary-returns-in_err-b
 ternary-returns-in_err-b t c =
@@ -241,7 +241,7 @@ ternary-returns-in_err-b t c =
     let ts = tokens_from c.args.at text in
     let why = no_last_two (length text) room c.in_err-b.field-0.0 (ternary_of c.args.form) ts c.in_ok-a.ensures c.in_err-b.ensures in
     told (expression_left text) c.from_residual-in_err-b.result c.in_err-b.field-0.0 (row_parts (ternary_row c.args.form) text room c.args.at)
-        c.from_residual-in_err-b.ensures.1 why
+    c.from_residual-in_err-b.ensures.1 why
 
 pub ternary-returns : goal.ternary-returns
 ternary-returns t c =
@@ -257,7 +257,7 @@ typed-returns-in_err-none t c =
     let ts = tokens_from c.args.at text in
     let why = no_typed (length text) room c.in_err-none.field-0.0 (typed_by c.args.form) ts c.in_err-none.ensures in
     told (expression_left text) c.from_residual.result c.in_err-none.field-0.0 (row_parts (typed_row c.args.form) text room c.args.at)
-        c.from_residual.ensures.1 why
+    c.from_residual.ensures.1 why
 
 pub typed-returns-in_err-a : goal.typed-returns-in_err-a
 typed-returns-in_err-a t c =
@@ -266,13 +266,13 @@ typed-returns-in_err-a t c =
     let ts = tokens_from c.args.at text in
     let why = no_typed_two (length text) room c.in_err-a.field-0.0 (typed_by c.args.form) ts c.in_ok-none.ensures c.in_err-a.ensures in
     told (expression_left text) c.from_residual-in_err-a.result c.in_err-a.field-0.0 (row_parts (typed_row c.args.form) text room c.args.at)
-        c.from_residual-in_err-a.ensures.1 why
+    c.from_residual-in_err-a.ensures.1 why
 
 pub typed-returns-in_err-expr : goal.typed-returns-in_err-expr
 typed-returns-in_err-expr t c =
     let text = c.args.text.now in
     told_memory (expression_left text) c.from_residual-in_err-expr.result (row_parts (typed_row c.args.form) text c.args.room c.args.at)
-        c.from_residual-in_err-expr.ensures.1
+    c.from_residual-in_err-expr.ensures.1
 
 pub typed-returns : goal.typed-returns
 typed-returns t c =
@@ -293,13 +293,13 @@ pub elements-returns-in_err-all : goal.elements-returns-in_err-all
 elements-returns-in_err-all t c =
     let text = c.args.text.now in
     told (λ x. (x.0, x.1, tokens_from x.1 text)) c.from_residual.result c.in_err-all.field-0.0 (items_at text c.args.room c.args.at)
-        c.from_residual.ensures.1 c.in_err-all.ensures
+    c.from_residual.ensures.1 c.in_err-all.ensures
 
 pub elements-returns-in_err-elements : goal.elements-returns-in_err-elements
 elements-returns-in_err-elements t c =
     let text = c.args.text.now in
     told_memory (λ x. (x.0, x.1, tokens_from x.1 text)) c.from_residual-in_err-elements.result (items_at text c.args.room c.args.at)
-        c.from_residual-in_err-elements.ensures.1
+    c.from_residual-in_err-elements.ensures.1
 
 pub elements-returns : goal.elements-returns
 elements-returns t c =
@@ -311,12 +311,12 @@ items-returns-in_err-expr t c =
     let text = c.args.text.now in
     let room = c.args.room in
     let why =
-        gone (length text) room (map expression_of c.loop-end.all.items) c.in_err-expr.field-0.0 (tokens_from c.loop-end.next text) _
-        c.loop-end.invariant c.in_default.ensures.token c.in_err-expr.ensures in
+    gone (length text) room (map expression_of c.loop-end.all.items) c.in_err-expr.field-0.0 (tokens_from c.loop-end.next text) _
+    c.loop-end.invariant c.in_default.ensures.token c.in_err-expr.ensures in
     told (λ x. items_left text (x.0.items, x.1)) c.from_residual.result c.in_err-expr.field-0.0 (items_at text room c.args.at) c.from_residual.ensures.1 why
 
 pub items-returns-in_err-push : goal.items-returns-in_err-push
 items-returns-in_err-push t c =
     let text = c.args.text.now in
     told_memory (λ x. items_left text (x.0.items, x.1)) c.from_residual-in_err-push.result (items_at text c.args.room c.args.at)
-        c.from_residual-in_err-push.ensures.1
+    c.from_residual-in_err-push.ensures.1

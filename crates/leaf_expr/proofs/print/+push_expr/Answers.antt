@@ -34,7 +34,7 @@ push_two-returns t c =
     let b = more (expression_part c.args.b.now) last in
     let a = subst (λ e. mid ≡ begun ++ (32 ∷ spelling (expression_part e))) c.get.ensures c.in_ok-push_next.ensures in
     adds_behind c.push_last.result old begun new (40 ∷ c.args.name.now) (spellings (more (expression_part c.args.a.now) b) ++ 41 ∷ [])
-        c.in_ok-push_open.ensures (adds_next c.push_last.result begun mid new (expression_part c.args.a.now) b a c.push_last.ensures)
+    c.in_ok-push_open.ensures (adds_next c.push_last.result begun mid new (expression_part c.args.a.now) b a c.push_last.ensures)
 
 pub push_three-returns : goal.push_three-returns
 push_three-returns t c =
@@ -49,7 +49,7 @@ push_three-returns t c =
     let b = subst (λ e. two ≡ one ++ (32 ∷ spelling (expression_part e))) c.get-2.ensures c.in_ok-push_next-2.ensures in
     let rest = adds_next c.push_last.result one two new (expression_part c.args.b.now) third b c.push_last.ensures in
     adds_behind c.push_last.result old begun new (40 ∷ c.args.name.now) (spellings (more (expression_part c.args.a.now) second) ++ 41 ∷ [])
-        c.in_ok-push_open.ensures (adds_next c.push_last.result begun one new (expression_part c.args.a.now) second a rest)
+    c.in_ok-push_open.ensures (adds_next c.push_last.result begun one new (expression_part c.args.a.now) second a rest)
 
 pub push_list-returns : goal.push_list-returns
 push_list-returns t c =
@@ -60,8 +60,8 @@ push_list-returns t c =
     let T = type_part (type_of c.args.ty.now) in
     let all = expression_parts (expressions_of c.args.all.now) in
     adds_behind c.push_elements.result old begun new
-        (codes "(list") (spellings (more T all) ++ 41 ∷ []) c.in_ok-push_word.ensures
-        (adds_next c.push_elements.result begun mid new T all c.in_ok-push_next_type.ensures c.push_elements.ensures)
+    (codes "(list") (spellings (more T all) ++ 41 ∷ []) c.in_ok-push_word.ensures
+    (adds_next c.push_elements.result begun mid new T all c.in_ok-push_next_type.ensures c.push_elements.ensures)
 
 pub push_expr-returns-in-Input : goal.push_expr-returns-in-Input
 push_expr-returns-in-Input t c = rw c.in-Input.is c.push_word.ensures

@@ -12,4 +12,4 @@ returns c =
     let mid = string_bytes c.push_word.new.text in
     let new = string_bytes c.push_type.new.text in
     subst (λ s. Adds c.push_type.result old new (32 ∷ s)) (sym (type_spelled T))
-        (adds_behind c.push_type.result old mid new (32 ∷ []) (type_spelling T) c.in_ok-push_word.ensures c.push_type.ensures)
+    (adds_behind c.push_type.result old mid new (32 ∷ []) (type_spelling T) c.in_ok-push_word.ensures c.push_type.ensures)

@@ -19,7 +19,7 @@ read_type-returns-in-Form t c =
     let size = length text in
     let ts = tokens_from c.args.at text in
     let front : read_front size room ts ≡ Ok ((c.in-Form.start, opening), tokens_from (c.in-Form.start + 1) text) =
-        subst (λ f. read_front size room ts ≡ Ok (front_left text f)) c.in-Form.is c.in_ok-start.ensures.front in
+    subst (λ f. read_front size room ts ≡ Ok (front_left text f)) c.in-Form.is c.in_ok-start.ensures.front in
     subst (Gives (type_left text) c.type_form.result) (sym (front_form leaf size room type_sort ts refl front)) c.type_form.ensures
 
 pub type_parts-returns-in-Pair : goal.type_parts-returns-in-Pair
@@ -46,8 +46,8 @@ read_type-returns-in-Word t c =
     let size = length text in
     let ts = tokens_from c.args.at text in
     let front : read_front size room ts ≡ Ok
-        ((c.in-Word.start, word (slice_range text c.in-Word.start c.in-Word.end)), tokens_from c.in-Word.end text) =
-        subst (λ f. read_front size room ts ≡ Ok (front_left text f)) c.in-Word.is c.in_ok-start.ensures.front in
+    ((c.in-Word.start, word (slice_range text c.in-Word.start c.in-Word.end)), tokens_from c.in-Word.end text) =
+    subst (λ f. read_front size room ts ≡ Ok (front_left text f)) c.in-Word.is c.in_ok-start.ensures.front in
     subst (Gives (type_left text) c.type_named.result) (sym (front_word leaf size room type_sort ts front)) c.type_named.ensures
 
 pub read_type-returns-in_err-start : goal.read_type-returns-in_err-start
@@ -70,7 +70,7 @@ type_form-returns-in-Some t c =
     let room = c.args.room in
     let ts = tokens_from c.args.at text in
     subst (Gives (type_left text) c.type_parts.result)
-        (sym (named (length text) room room type_sort ts (type_row c.in-Some.form) c.in_ok-start.ensures.head c.in-Some.ensures)) c.type_parts.ensures
+    (sym (named (length text) room room type_sort ts (type_row c.in-Some.form) c.in_ok-start.ensures.head c.in-Some.ensures)) c.type_parts.ensures
 
 pub type_form-returns-in-None : goal.type_form-returns-in-None
 type_form-returns-in-None t c =
@@ -82,13 +82,13 @@ pub type_part-returns-in_err-ty : goal.type_part-returns-in_err-ty
 type_part-returns-in_err-ty t c =
     let text = c.args.text.now in
     told (λ x. (x.0, x.1, tokens_from x.1 text)) c.from_residual.result c.in_err-ty.field-0.0 (tree_at type_sort text c.args.room c.args.at)
-        c.from_residual.ensures.1 c.in_err-ty.ensures
+    c.from_residual.ensures.1 c.in_err-ty.ensures
 
 pub type_part-returns-in_err-new : goal.type_part-returns-in_err-new
 type_part-returns-in_err-new t c =
     let text = c.args.text.now in
     told_memory (λ x. (x.0, x.1, tokens_from x.1 text)) c.from_residual-in_err-new.result (tree_at type_sort text c.args.room c.args.at)
-        c.from_residual-in_err-new.ensures.1
+    c.from_residual-in_err-new.ensures.1
 
 pub type_part-returns : goal.type_part-returns
 type_part-returns t c = c.in_ok-ty.ensures ∙ ap (λ x. Ok (x, c.in_ok-ty.at, tokens_from c.in_ok-ty.at c.args.text.now)) (sym c.in_ok-new.ensures)
@@ -100,7 +100,7 @@ last_type-returns-in_err-ty t c =
     let ts = tokens_from c.args.at text in
     let why = no_part (length text) room TypeTree type_sort c.in_err-ty.field-0.0 no_place (λ a. a) ts c.in_err-ty.ensures in
     told (λ x. (x.0, x.1, tokens_from x.1 text)) c.from_residual.result c.in_err-ty.field-0.0 (last_at type_sort text room c.args.at)
-        c.from_residual.ensures.1 why
+    c.from_residual.ensures.1 why
 
 pub last_type-returns-in_err-end : goal.last_type-returns-in_err-end
 last_type-returns-in_err-end t c =
@@ -109,7 +109,7 @@ last_type-returns-in_err-end t c =
     let ts = tokens_from c.args.at text in
     let why = no_end (length text) room type_sort c.in_err-end.field-0.0 (λ a. a) ts c.in_ok-ty.ensures c.in_err-end.ensures in
     told (λ x. (x.0, x.1, tokens_from x.1 text)) c.from_residual-in_err-end.result c.in_err-end.field-0.0 (last_at type_sort text room c.args.at)
-        c.from_residual-in_err-end.ensures.1 why
+    c.from_residual-in_err-end.ensures.1 why
 
 pub last_type-returns : goal.last_type-returns
 last_type-returns t c =
@@ -131,7 +131,7 @@ pair_type-returns-in_err-b t c =
     let ts = tokens_from c.args.at text in
     let why = no_second_type (length text) room c.in_err-b.field-0.0 pair_ty ts c.in_ok-a.ensures c.in_err-b.ensures in
     told (type_left text) c.from_residual-in_err-b.result c.in_err-b.field-0.0 (row_parts (type_row Form.Pair) text room c.args.at)
-        c.from_residual-in_err-b.ensures.1 why
+    c.from_residual-in_err-b.ensures.1 why
 
 pub pair_type-returns : goal.pair_type-returns
 pair_type-returns t c =
@@ -146,8 +146,8 @@ type_parts-returns-in_err-a-in-Event t c =
     let ts = tokens_from c.args.at text in
     let why = one_refused (length text) room type_sort c.in_err-a-in-Event.field-0.0 event_ty ts c.in_err-a-in-Event.ensures in
     rw c.in-Event.is
-        (told (type_left text) c.from_residual.result c.in_err-a-in-Event.field-0.0 (row_parts (type_row Form.Event) text room c.args.at)
-        c.from_residual.ensures.1 why)
+    (told (type_left text) c.from_residual.result c.in_err-a-in-Event.field-0.0 (row_parts (type_row Form.Event) text room c.args.at)
+    c.from_residual.ensures.1 why)
 
 pub type_parts-returns-in_err-a-in-List : goal.type_parts-returns-in_err-a-in-List
 type_parts-returns-in_err-a-in-List t c =
@@ -156,5 +156,5 @@ type_parts-returns-in_err-a-in-List t c =
     let ts = tokens_from c.args.at text in
     let why = one_refused (length text) room type_sort c.in_err-a-in-List.field-0.0 list_ty ts c.in_err-a-in-List.ensures in
     rw c.in-List.is
-        (told (type_left text) c.from_residual-in_err-a-in-List.result c.in_err-a-in-List.field-0.0
-        (row_parts (type_row Form.List) text room c.args.at) c.from_residual-in_err-a-in-List.ensures.1 why)
+    (told (type_left text) c.from_residual-in_err-a-in-List.result c.in_err-a-in-List.field-0.0
+    (row_parts (type_row Form.List) text room c.args.at) c.from_residual-in_err-a-in-List.ensures.1 why)

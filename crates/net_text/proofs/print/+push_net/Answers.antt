@@ -25,5 +25,5 @@ push_two-returns t c =
     let behind = adds_behind r one spaced new (32 ∷ []) (spelling g ++ 41 ∷ []) c.in_ok-push_word.ensures end in
     let parts = adds_behind r begun one new (spelling f) ((32 ∷ []) ++ (spelling g ++ 41 ∷ [])) first behind in
     subst (Adds r old new) (two_joined c.args.name.now f g)
-        (adds_behind r old begun new ((40 ∷ c.args.name.now) ++ (32 ∷ [])) (spelling f ++ ((32 ∷ []) ++ (spelling g ++ 41 ∷ [])))
-        c.in_ok-push_open.ensures parts)
+    (adds_behind r old begun new ((40 ∷ c.args.name.now) ++ (32 ∷ [])) (spelling f ++ ((32 ∷ []) ++ (spelling g ++ 41 ∷ [])))
+    c.in_ok-push_open.ensures parts)

@@ -17,4 +17,4 @@ returns c =
     let p = expression_part (expression_of c.args.e.now) in
     let a = adds_behind r begun mid new (spelling p) (41 ∷ []) c.in_ok-push_expr.ensures c.push_word.ensures in
     subst (Adds r old new) (one_joined c.args.name.now p)
-        (adds_behind r old begun new ((40 ∷ c.args.name.now) ++ (32 ∷ [])) (spelling p ++ 41 ∷ []) c.in_ok-push_open.ensures a)
+    (adds_behind r old begun new ((40 ∷ c.args.name.now) ++ (32 ∷ [])) (spelling p ++ 41 ∷ []) c.in_ok-push_open.ensures a)

@@ -16,7 +16,7 @@ network_at-returns-in-Form t c =
     let size = length text in
     let ts = tokens_from c.args.at text in
     let front : read_front size room ts ≡ Ok ((c.in-Form.start, opening), tokens_from (c.in-Form.start + 1) text) =
-        subst (λ f. read_front size room ts ≡ Ok (front_left text f)) c.in-Form.is c.in_ok-start.ensures.front in
+    subst (λ f. read_front size room ts ≡ Ok (front_left text f)) c.in-Form.is c.in_ok-start.ensures.front in
     subst (Gives (network_left text) c.form_at.result) (sym (front_form networks size room network_sort ts refl front)) c.form_at.ensures
 
 pub network_at-returns-in-Word : goal.network_at-returns-in-Word
@@ -26,8 +26,8 @@ network_at-returns-in-Word t c =
     let size = length text in
     let ts = tokens_from c.args.at text in
     let front : read_front size room ts ≡ Ok
-        ((c.in-Word.start, word (slice_range text c.in-Word.start c.in-Word.end)), tokens_from c.in-Word.end text) =
-        subst (λ f. read_front size room ts ≡ Ok (front_left text f)) c.in-Word.is c.in_ok-start.ensures.front in
+    ((c.in-Word.start, word (slice_range text c.in-Word.start c.in-Word.end)), tokens_from c.in-Word.end text) =
+    subst (λ f. read_front size room ts ≡ Ok (front_left text f)) c.in-Word.is c.in_ok-start.ensures.front in
     subst (Gives (network_left text) c.word_network.result) (sym (front_word networks size room network_sort ts front)) c.word_network.ensures
 
 pub parts_at-returns-in-Leaf : goal.parts_at-returns-in-Leaf
