@@ -1,5 +1,5 @@
 -- What a tree begins with: a word, or the parenthesis of a form.
-use Rattle.std.specs.Prelude.{ℕ, zero, suc, ◌+◌, ◌<◌, ◌≤◌, List, [], ◌∷◌, slice_range, Result, Ok, Err}
+use Rattle.std.specs.Prelude.{ℕ, zero, suc, ◌+◌, ◌<◌, ◌≤◌, List, [], ◌∷◌, length, slice_range, Result, Ok, Err}
 use Rattle.leaf_expr.specs.Token.{opening, closing, word, Placed, tokens_from}
 use Rattle.leaf_expr.specs.Reader.{Fault, syntax, too_deep}
 use Rattle.leaf_expr.specs.declared.tree_front.Front.{Front}
@@ -13,6 +13,10 @@ read_front size room ((n, word w) ∷ ts) = Ok ((n, word w), ts)
 read_front size room ((n, closing) ∷ ts) = Err (syntax n)
 read_front size zero ((n, opening) ∷ ts) = Err (too_deep n)
 read_front size (suc room) ((n, opening) ∷ ts) = Ok ((n, opening), ts)
+
+-- the same in the text from byte n on
+abbrev pub front_from : List ℕ → ℕ → ℕ → Result (Placed × List Placed) Fault
+front_from text room n = read_front (length text) room (tokens_from n text)
 
 -- the token that the code found, and the tokens behind it
 abbrev pub front_left : List ℕ → Front → Placed × List Placed

@@ -1,5 +1,5 @@
 -- What the code's readers answer: what the reader of the grammar does on the tokens from some byte on.
-use Rattle.std.specs.Prelude.{◌≡◌, ◌<◌, ℕ, Bool, true, false, List, [], ◌∷◌, length, map, Result, Ok, Err, Option, Some, None}
+use Rattle.std.specs.Prelude.{◌≡◌, ◌<◌, ℕ, Bool, true, false, List, [], ◌∷◌, length, slice_range, map, Result, Ok, Err, Option, Some, None}
 use Rattle.sample_core.specs.TypeTree.{TypeTree}
 use Rattle.sample_core.specs.SeenType.{type_of}
 use Rattle.sample_core.specs.declared.ty.Ty.{Ty}
@@ -10,8 +10,8 @@ use Rattle.leaf_expr.specs.Token.{Placed, closing, tokens_from}
 use Rattle.leaf_expr.specs.NumberPlace.{Reading, reads, misspelt, unfit}
 use Rattle.leaf_expr.specs.declared.word.WordFault.{WordFault}
 use Rattle.leaf_expr.specs.declared.word.WordFault.TheVariants as W
-use Rattle.leaf_expr.specs.Grammar.{leaf, Tree, Sort, type_sort, expression_sort, e}
-use Rattle.leaf_expr.specs.Reader.{Fault, syntax, number, too_deep, Read, ◌>>=◌, read, read_form, read_parts, read_all}
+use Rattle.leaf_expr.specs.Grammar.{leaf, Tree, Sort, type_sort, expression_sort, e, word_at}
+use Rattle.leaf_expr.specs.Reader.{Fault, syntax, number, too_deep, Read, ◌>>=◌, word_read, read, read_form, read_parts, read_all}
 use Rattle.leaf_expr.specs.Language.{Row, no_place, place}
 use Rattle.leaf_expr.specs.ReadLaws.{Stops}
 use Rattle.leaf_expr.specs.Text.{TextFault, too_long, at, NoText}
@@ -55,6 +55,10 @@ type_left text x = (type_of x.0, x.1, tokens_from x.1 text)
 -- an expression, the byte behind it, and the tokens from there on
 abbrev pub expression_left : List ℕ → Expr × ℕ → Expression × ℕ × List Placed
 expression_left text x = (expression_of x.0, x.1, tokens_from x.1 text)
+
+-- the tree of the sort that the word is from byte n up to and without byte m
+abbrev pub word_tree : (s : Sort) → List ℕ → ℕ → ℕ → Read (Tree s)
+word_tree s text n m = word_read n (slice_range text n m) (tokens_from m text) (word_at s (slice_range text n m))
 
 -- what is read behind the parenthesis of a form, in the text from byte n on
 abbrev pub form_at : (s : Sort) → List ℕ → ℕ → ℕ → Read (Tree s)

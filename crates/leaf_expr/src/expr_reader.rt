@@ -1,14 +1,13 @@
 // Reading expressions.
 
-ghost use Rattle.std.specs.Prelude.{◌≡◌, ℕ, ◌-◌, ◌<◌, ◌≤◌, List, Err, IfOk, IfErr, length, slice_range};
+ghost use Rattle.std.specs.Prelude.{◌≡◌, ℕ, ◌-◌, ◌<◌, ◌≤◌, List, Err, IfOk, IfErr, length};
 ghost use Rattle.sample_core.specs.SeenType.{type_of};
 ghost use Rattle.sample_core.specs.TypeTree.{TypeTree};
 ghost use Rattle.leaf_core.specs.Expression.{Expression};
 ghost use Rattle.leaf_expr.specs.Form.{form_row, unary_row, binary_row, ternary_row, typed_row};
-ghost use Rattle.leaf_expr.specs.Grammar.{leaf, expression_sort, index_sort, type_sort, word_at};
+ghost use Rattle.leaf_expr.specs.Grammar.{leaf, expression_sort, index_sort, type_sort};
 ghost use Rattle.leaf_expr.specs.Language.{Begins};
-ghost use Rattle.leaf_expr.specs.ReadText.{Gives, GivesText, tree_at, form_at, row_parts, last_two_at, none_at, expression_left, type_left, items_at, items_left, IsFault, IsTextFault};
-ghost use Rattle.leaf_expr.specs.Reader.{word_read};
+ghost use Rattle.leaf_expr.specs.ReadText.{Gives, GivesText, tree_at, word_tree, form_at, row_parts, last_two_at, none_at, expression_left, type_left, items_at, items_left, IsFault, IsTextFault};
 ghost use Rattle.leaf_core.specs.Seen.{expression_of};
 ghost use Rattle.leaf_expr.specs.Text.{read_text, whole, IsText};
 ghost use Rattle.leaf_expr.specs.Token.{Placed, tokens_from};
@@ -60,7 +59,7 @@ fn read_expression(
 /// latter.
 fn word_expr(text: &[u8], start: usize, end: usize) -> Result<(Expr, usize), ExprTextFault>
     requires { (start < end) × (end ≤ length text.now) }
-    ensures { Gives (expression_left text.now) result (word_read start (slice_range text.now start end) (tokens_from end text.now) (word_at expression_sort (slice_range text.now start end))) }
+    ensures { Gives (expression_left text.now) result (word_tree expression_sort text.now start end) }
 {
     match expr_word(&text[start..end]) {
         Ok(expr) => Ok((expr, end)),

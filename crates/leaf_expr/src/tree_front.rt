@@ -1,7 +1,7 @@
 // Where trees, the words of forms and their ends stand.
 
 ghost use Rattle.std.specs.Prelude.{◌≡◌, ◌-◌, ◌<◌, ◌≤◌, ◌∷◌, false, IfOk, IfSome, MatchOption, length, slice_range};
-ghost use Rattle.leaf_expr.specs.Front.{read_front, front_left, FrontFits};
+ghost use Rattle.leaf_expr.specs.Front.{front_from, front_left, FrontFits};
 ghost use Rattle.leaf_expr.specs.Grammar.{leaf};
 ghost use Rattle.leaf_expr.specs.ReadText.{Gives, begins_closing};
 ghost use Rattle.leaf_expr.specs.Reader.{read_end, read_head};
@@ -25,7 +25,7 @@ pub enum Front {
 /// `TooDeep` at a `(` where there is no room; `Syntax` at a `)`, or at the text's length where no
 /// token follows. Bytes are counted from 0.
 pub fn front_at(text: &[u8], at: usize, room: usize) -> Result<Front, ExprTextFault>
-    ensures front { Gives (front_left text.now) result (read_front (length text.now) room (tokens_from at text.now)) }
+    ensures front { Gives (front_left text.now) result (front_from text.now room at) }
     ensures within { IfOk result (FrontFits (length text.now) room) }
 {
     match lexeme_at(text, at) {

@@ -1,10 +1,9 @@
 // Reading types.
 
-ghost use Rattle.std.specs.Prelude.{◌≡◌, ◌<◌, ◌≤◌, length, slice_range};
+ghost use Rattle.std.specs.Prelude.{◌≡◌, ◌<◌, ◌≤◌, length};
 ghost use Rattle.leaf_expr.specs.Form.{type_row};
-ghost use Rattle.leaf_expr.specs.Grammar.{type_sort, word_at};
-ghost use Rattle.leaf_expr.specs.Reader.{word_read};
-ghost use Rattle.leaf_expr.specs.ReadText.{Gives, tree_at, form_at, row_parts, last_at, type_left};
+ghost use Rattle.leaf_expr.specs.Grammar.{type_sort};
+ghost use Rattle.leaf_expr.specs.ReadText.{Gives, tree_at, word_tree, form_at, row_parts, last_at, type_left};
 ghost use Rattle.leaf_expr.specs.Token.{tokens_from};
 
 use crate::form::{TypeForm, type_form_named};
@@ -36,7 +35,7 @@ pub(crate) fn read_type(
 /// The type that the word is from the first byte up to and without the second, and the latter.
 fn type_named(text: &[u8], start: usize, end: usize) -> Result<(Ty, usize), ExprTextFault>
     requires { (start < end) × (end ≤ length text.now) }
-    ensures { Gives (type_left text.now) result (word_read start (slice_range text.now start end) (tokens_from end text.now) (word_at type_sort (slice_range text.now start end))) }
+    ensures { Gives (type_left text.now) result (word_tree type_sort text.now start end) }
 {
     match type_word(&text[start..end]) {
         Some(ty) => Ok((ty, end)),

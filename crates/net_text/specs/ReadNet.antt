@@ -1,5 +1,5 @@
 -- What the code's reader of networks answers: what the reader of the grammar does on the tokens from some byte on.
-use Rattle.std.specs.Prelude.{◌≡◌, ℕ, List, length, Result, Ok, Err}
+use Rattle.std.specs.Prelude.{◌≡◌, ℕ, List, length, slice_range, Result, Ok, Err}
 use Rattle.sample_core.specs.TypeTree.{TypeTree}
 use Rattle.sample_core.specs.SeenType.{type_of}
 use Rattle.sample_core.specs.declared.ty.Ty.{Ty}
@@ -8,11 +8,11 @@ use Rattle.leaf_core.specs.declared.expr.Expr.{Expr}
 use Rattle.leaf_expr.specs.declared.text_fault.ExprTextFault.{ExprTextFault}
 use Rattle.leaf_expr.specs.declared.text_fault.ExprTextFault.TheVariants as E
 use Rattle.leaf_expr.specs.Token.{Placed, tokens_from}
-use Rattle.leaf_expr.specs.Reader.{Fault, ◌>>=◌, syntax, number, too_deep, Read, read, read_form, read_parts}
+use Rattle.leaf_expr.specs.Reader.{Fault, ◌>>=◌, word_read, syntax, number, too_deep, Read, read, read_form, read_parts}
 use Rattle.net_syntax.specs.Network.{Network}
 use Rattle.net_syntax.specs.Seen.{tree_of}
 use Rattle.net_syntax.specs.declared.net.Net.{Net}
-use Rattle.net_text.specs.Grammar.{networks, network_sort, NetRow}
+use Rattle.net_text.specs.Grammar.{networks, network_sort, net_word_at, NetRow}
 use Rattle.net_text.specs.File.{FileFault, header, too_long, at, at_end}
 use Rattle.net_text.specs.declared.fault.NetTextFault.{NetTextFault}
 use Rattle.net_text.specs.declared.fault.NetTextFault.TheVariants as V
@@ -24,6 +24,10 @@ network_at text room n = read networks (length text) room network_sort (tokens_f
 -- the same, and nothing behind it
 abbrev pub last_network_at : List ℕ → ℕ → Result (Network Expression) Fault
 last_network_at text n = network_at text 600 n >>= (λ f. at_end f.0 f.2)
+
+-- the network that the word is from byte n up to and without byte m
+abbrev pub word_network : List ℕ → ℕ → ℕ → Read (Network Expression)
+word_network text n m = word_read n (slice_range text n m) (tokens_from m text) (net_word_at network_sort (slice_range text n m))
 
 -- what is read behind the parenthesis of a form, in the text from byte n on
 abbrev pub form_at : List ℕ → ℕ → ℕ → Read (Network Expression)

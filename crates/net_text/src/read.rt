@@ -1,9 +1,8 @@
 // Reading network files.
 
-ghost use Rattle.std.specs.Prelude.{◌≡◌, ◌<◌, ◌≤◌, Err, length, slice_range, option_map, IfOk, IfErr};
+ghost use Rattle.std.specs.Prelude.{◌≡◌, ◌<◌, ◌≤◌, Err, length, option_map, IfOk, IfErr};
 ghost use Rattle.leaf_expr.specs.Grammar.{expression_sort};
 ghost use Rattle.leaf_expr.specs.ReadText.{Gives, tree_at, expression_left};
-ghost use Rattle.leaf_expr.specs.Reader.{word_read};
 ghost use Rattle.leaf_core.specs.Seen.{expression_of};
 ghost use Rattle.leaf_expr.specs.Token.{tokens, tokens_from};
 ghost use Rattle.leaf_core.specs.Expression.{Expression};
@@ -14,8 +13,7 @@ ghost use Rattle.sample_core.specs.SeenType.{type_of};
 ghost use Rattle.net_text.specs.File.{behind_word, behind_header, read_body, read_behind, read_file};
 ghost use Rattle.net_text.specs.FileLaws.{IsFile, IsFileFault};
 ghost use Rattle.net_text.specs.Form.{form_row, leaf_form_row};
-ghost use Rattle.net_text.specs.Grammar.{net_word_at, network_sort};
-ghost use Rattle.net_text.specs.ReadNet.{GivesFile, network_at as network_read, last_network_at, form_at as form_read, row_parts, network_left};
+ghost use Rattle.net_text.specs.ReadNet.{GivesFile, network_at as network_read, last_network_at, word_network as word_read, form_at as form_read, row_parts, network_left};
 ghost use Rattle.net_text.specs.declared.fault.NetTextFault.TheVariants as Fault;
 
 use crate::fault::NetTextFault;
@@ -151,7 +149,7 @@ fn network_at(
 /// The network that the word is from the first byte up to and without the second, and the latter.
 fn word_network(text: &[u8], start: usize, end: usize) -> Result<(Net<Expr>, usize), ExprTextFault>
     requires { (start < end) × (end ≤ length text.now) }
-    ensures { Gives (network_left text.now) result (word_read start (slice_range text.now start end) (tokens_from end text.now) (net_word_at network_sort (slice_range text.now start end))) }
+    ensures { Gives (network_left text.now) result (word_read text.now start end) }
 {
     match network_named(&text[start..end]) {
         Some(net) => Ok((net, end)),
