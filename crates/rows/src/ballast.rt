@@ -43,31 +43,12 @@ pub fn spare_at(attempt: usize, unit: usize) -> usize {
 
 const LAST_TRY: usize = TRIES - 1;
 
-/// What was answered: the same as with ample memory, want of memory, or something else.
-#[derive(Clone, Copy, PartialEq, Eq)]
-pub enum Answer {
-    Ample,
-    Refused,
-    Other,
-}
-
-/// How what was told compares with what is told with ample memory.
-pub fn compared(told: &str, ample: &str) -> Answer {
-    if told == ample {
-        Answer::Ample
-    } else if told == "memory" {
-        Answer::Refused
-    } else {
-        Answer::Other
-    }
-}
-
-/// What the tries of a call answered.
+/// What the tries of a call told.
 #[derive(Clone, Copy)]
 pub struct Tally {
     refused: usize,
     other: bool,
-    last: Answer,
+    ample: bool,
 }
 
 impl Tally {
@@ -76,30 +57,28 @@ impl Tally {
         Tally {
             refused: 0,
             other: false,
-            last: Answer::Other,
+            ample: false,
         }
     }
 
-    /// With one more answer.
-    pub fn with(self, answer: Answer) -> Tally {
+    /// With what one more try told, beside what is told with ample memory and for want of it.
+    pub fn with(self, told: &str, ample: &str, refused: &str) -> Tally {
+        let is_ample = told == ample;
+        let is_refused = told == refused;
         Tally {
-            refused: self
-                .refused
-                .saturating_add(usize::from(answer == Answer::Refused)),
-            other: self.other || answer == Answer::Other,
-            last: answer,
+            refused: self.refused.saturating_add(usize::from(is_refused)),
+            other: self.other || !(is_ample || is_refused),
+            ample: is_ample,
         }
     }
 
     /// Tells whether the call was refused memory at first, and answered in the end.
     pub fn tell(self, out: &mut String) {
-        if self.other || self.last != Answer::Ample {
-            return say(out, "another answer");
-        }
-        match self.refused {
-            0 => say(out, "never refused"),
-            1 => say(out, "refused once"),
-            _ => say(out, "refused at first"),
+        match (self.ample && !self.other, self.refused) {
+            (false, _) => say(out, "another answer"),
+            (true, 0) => say(out, "never refused"),
+            (true, 1) => say(out, "refused once"),
+            (true, _) => say(out, "refused at first"),
         }
     }
 }

@@ -13,7 +13,7 @@ use crate::texts::{write_short, written};
 use crate::tokens::{number_told, token_told};
 use crate::trees::tree_told;
 use crate::typing::{typing_alone_told, typing_told};
-use crate::values::{inside_told, value_told};
+use crate::values::value_told;
 use crate::working::worked_told;
 use std::alloc::Global;
 use std::process::Abort;
@@ -23,8 +23,6 @@ use std::process::Abort;
 pub enum Probe {
     /// What value is read at a type, and where it ends: `TYPE | TEXT`.
     Value,
-    /// The same at a type with every form of types in it.
-    Inside,
     /// What type is read from a byte on, with so many parentheses open: `BYTE DEPTH | TEXT`.
     TypeAt,
     /// The same of an expression.
@@ -77,7 +75,6 @@ pub enum Probe {
 fn tell(alloc: Global, probe: Probe, given: &str, out: &mut String) {
     match probe {
         Probe::Value => value_told(alloc, given, out),
-        Probe::Inside => inside_told(alloc, given, out),
         Probe::TypeAt => type_at_told(alloc, given, out),
         Probe::ExprAt => expr_at_told(alloc, given, out),
         Probe::Expr => expr_told(alloc, given, out),

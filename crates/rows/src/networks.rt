@@ -259,11 +259,6 @@ yampa 1 input Int (arr (p 0)) => no parameter (at 0)
 yampa 1 input {31*(Event }Int{31*)} (arr (event x)) => expression too deep (at 0)
 ";
 
-#[test]
-fn networks_are_typed(rt: HostRuntime) {
-    all_are_found(&rt, rt.alloc(), Probe::Network, TYPINGS);
-}
-
 /// How often `(arr x)` is put before itself, and its weight, which is counted up to its limit, or
 /// its types.
 static DOUBLED: &str = "
@@ -273,11 +268,6 @@ types 18 => weight 524287 height 19
 types 19 => too heavy
 ";
 
-#[test]
-fn shared_halves_are_weighed(rt: HostRuntime) {
-    all_are_found(&rt, rt.alloc(), Probe::Doubled, DOUBLED);
-}
-
 /// Positions by their names.
 static POSITIONS: &str = "
 root => (at)
@@ -286,6 +276,8 @@ deep => (at 0 1 10 4294967295)
 ";
 
 #[test]
-fn positions_are_printed(rt: HostRuntime) {
+fn networks_are_typed(rt: HostRuntime) {
+    all_are_found(&rt, rt.alloc(), Probe::Network, TYPINGS);
+    all_are_found(&rt, rt.alloc(), Probe::Doubled, DOUBLED);
     all_are_found(&rt, rt.alloc(), Probe::Position, POSITIONS);
 }

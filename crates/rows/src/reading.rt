@@ -288,11 +288,6 @@ static EXPRESSIONS_AT: &str = "
 0 599 | (add (neg x) 1) => nesting at 5
 ";
 
-#[test]
-fn expressions_are_read_from_a_place(rt: HostRuntime) {
-    all_are_found(&rt, rt.alloc(), Probe::ExprAt, EXPRESSIONS_AT);
-}
-
 /// The same of types. A type of depth 33 is read, and is over the limits.
 static TYPES_AT: &str = "
 0 0 | Int => Int to 3
@@ -319,6 +314,7 @@ static TYPES_AT: &str = "
 ";
 
 #[test]
-fn types_are_read_from_a_place(rt: HostRuntime) {
+fn texts_are_read_from_a_place(rt: HostRuntime) {
+    all_are_found(&rt, rt.alloc(), Probe::ExprAt, EXPRESSIONS_AT);
     all_are_found(&rt, rt.alloc(), Probe::TypeAt, TYPES_AT);
 }

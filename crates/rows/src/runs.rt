@@ -203,17 +203,13 @@ yampa 1 input Int (arr (event x)) | 5 => (event 5)␤
 yampa 1 input Int (arr (neg x)) | 5 => -5␤
 ";
 
-#[test]
-fn runs_go_as_worked_out(rt: HostRuntime) {
-    all_are_found(&rt, rt.alloc(), Probe::Run, RUNS);
-}
-
 /// Networks, and where the first expression without a row stands.
 static MISSING: &str = "
 yampa 1 input Int (>>> (arr (add x 1)) (iPre 0)) => (at 0 0)
 ";
 
 #[test]
-fn the_first_expression_without_a_row_is_named(rt: HostRuntime) {
+fn runs_go_as_worked_out(rt: HostRuntime) {
+    all_are_found(&rt, rt.alloc(), Probe::Run, RUNS);
     all_are_found(&rt, rt.alloc(), Probe::Missing, MISSING);
 }

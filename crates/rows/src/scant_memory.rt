@@ -1,6 +1,6 @@
 // What is answered where growths are refused.
 
-use crate::ballast::{Answer, Ballast, TRIES, Tally, compared, spare_at, take_all};
+use crate::ballast::{Ballast, TRIES, Tally, spare_at, take_all};
 use crate::found::{Probe, all_are_found};
 use crate::reading::reading_told;
 use crate::texts::{expr_in, say, type_in, value_in, written};
@@ -20,35 +20,14 @@ struct Trees<'a> {
     expr_text: &'a str,
 }
 
-/// The calls that are refused memory.
-#[derive(Clone, Copy)]
-enum Call {
-    ReadValue,
-    CopyValue,
-    CopyExpression,
-    Eval,
-    ReadExpression,
-}
-
-/// The call of that name.
-fn call_named(name: &str) -> Call {
+/// Tells what the call of that name answers where only so much memory is left to it.
+fn told(alloc: Global, name: &str, trees: Trees<'_>, ballast: Option<Ballast>, out: &mut String) {
     match name {
-        "reading a value" => Call::ReadValue,
-        "copying a value" => Call::CopyValue,
-        "copying an expression" => Call::CopyExpression,
-        "evaluating" => Call::Eval,
-        _ => Call::ReadExpression,
-    }
-}
-
-/// Tells what the call answers where only so much memory is left to it.
-fn told(alloc: Global, call: Call, trees: Trees<'_>, ballast: Option<Ballast>, out: &mut String) {
-    match call {
-        Call::ReadValue => value_read(alloc, trees, ballast, out),
-        Call::CopyValue => value_copied(alloc, trees, ballast, out),
-        Call::CopyExpression => expr_copied(alloc, trees, ballast, out),
-        Call::Eval => evaluated(alloc, trees, ballast, out),
-        Call::ReadExpression => expr_read(alloc, trees, ballast, out),
+        "reading a value" => value_read(alloc, trees, ballast, out),
+        "copying a value" => value_copied(alloc, trees, ballast, out),
+        "copying an expression" => expr_copied(alloc, trees, ballast, out),
+        "evaluating" => evaluated(alloc, trees, ballast, out),
+        _ => expr_read(alloc, trees, ballast, out),
     }
 }
 
@@ -90,22 +69,18 @@ fn expr_read(alloc: Global, trees: Trees<'_>, ballast: Option<Ballast>, out: &mu
     reading_told(alloc, read, trees.expr_text, out);
 }
 
-/// What the call answers where so many bytes are left, beside its answer with ample memory.
-fn answered(alloc: Global, call: Call, trees: Trees<'_>, spare: usize, ample: &str) -> Answer {
-    let mut scant = String::new(alloc);
-    if let Ok(ballast) = take_all(alloc, spare) {
-        told(alloc, call, trees, Some(ballast), &mut scant);
-    }
-    compared(scant.as_str(), ample)
-}
-
-fn tally_told(alloc: Global, call: Call, trees: Trees<'_>, out: &mut String) {
+/// Tells what the tries of the call of that name answer.
+fn tally_told(alloc: Global, name: &str, trees: Trees<'_>, out: &mut String) {
     let mut ample = String::new(alloc);
-    told(alloc, call, trees, None, &mut ample);
+    told(alloc, name, trees, None, &mut ample);
     let mut tally = Tally::new();
     for attempt in 0..TRIES {
-        let spare = spare_at(attempt, 9_000);
-        tally = tally.with(answered(alloc, call, trees, spare, ample.as_str()));
+        let mut scant = String::new(alloc);
+        if let Ok(ballast) = take_all(alloc, spare_at(attempt, 9_000)) {
+            told(alloc, name, trees, Some(ballast), &mut scant);
+        }
+        tally = tally.with(scant.as_str(), ample.as_str(), "memory");
+        drop(scant);
     }
     tally.tell(out);
 }
@@ -141,7 +116,7 @@ fn tried(alloc: Global, name: &str, ty: &Ty, sample: &Sample, value_text: &str, 
                 value_text,
                 expr_text: text.as_str(),
             };
-            tally_told(alloc, call_named(name), trees, out)
+            tally_told(alloc, name, trees, out)
         }
         None => say(out, "no expression"),
     }

@@ -7,7 +7,7 @@ ghost use Rattle.leaf_table.specs.Rows.{rows_of};
 ghost use Rattle.step_core.specs.Bound.{FitsTable};
 ghost use Rattle.step_core.specs.SeenRunner.{running_of};
 
-use crate::ballast::{Answer, TRIES, Tally, compared, spare_at, take_all};
+use crate::ballast::{TRIES, Tally, spare_at, take_all};
 use crate::found::{Probe, all_are_found};
 use crate::runs::{Trial, network, trial_told};
 use crate::texts::{say, written};
@@ -19,47 +19,31 @@ use std::alloc::Global;
 use step_core::{Bound, Runner};
 
 /// Tells what the tries of a runner's push answer: of a network that begins with a list of no
-/// events, and puts out a list of a hundred events after it.
+/// events, and puts out a list of a hundred events after it. Where the first push is want of
+/// memory, the same push with ample memory and the push after it are to answer as if nothing had
+/// been refused.
 pub fn pushes_told(alloc: Global, bound: &Bound, table: &LeafTable, out: &mut String)
     requires { FitsTable (rows_of table.now) bound.now }
 {
-    let events = written(alloc, "(list{100* (event 5)})");
+    let refused = written(alloc, "memory (list) (list{100* (event 5)})");
     let mut tally = Tally::new();
     for attempt in 0..TRIES {
-        let spare = spare_at(attempt, 3_000);
-        tally = tally.with(pushed(alloc, bound, table, events.as_str(), spare));
+        let mut told = String::new(alloc);
+        pushed(alloc, bound, table, spare_at(attempt, 3_000), &mut told);
+        tally = tally.with(told.as_str(), "(list)", refused.as_str());
+        drop(told);
     }
     tally.tell(out);
 }
 
-/// What the first push answers where so many bytes are left to it. Where it is want of memory, the
-/// same push with ample memory and the push after it answer as if nothing had been refused.
-fn pushed(alloc: Global, bound: &Bound, table: &LeafTable, events: &str, spare: usize) -> Answer
+fn pushed(alloc: Global, bound: &Bound, table: &LeafTable, spare: usize, out: &mut String)
     requires { FitsTable (rows_of table.now) bound.now }
 {
     let sample = Sample::Int(5);
-    let mut told = String::new(alloc);
     if has_type(&sample, bound.input()) {
-        push_told(alloc, bound, table, &sample, spare, &mut told);
+        push_told(alloc, bound, table, &sample, spare, out);
     }
     drop(sample);
-    if told.as_str() == "(list)" {
-        Answer::Ample
-    } else {
-        refused(alloc, told.as_str(), events)
-    }
-}
-
-/// Want of memory, where what was told of the two pushes after it is right.
-fn refused(alloc: Global, told: &str, events: &str) -> Answer {
-    let mut right = String::new(alloc);
-    say(&mut right, "memory (list) ");
-    say(&mut right, events);
-    if told == right.as_str() {
-        Answer::Refused
-    } else {
-        Answer::Other
-    }
 }
 
 /// Tells what a runner's first push answers where so many bytes are left to it; and where that is
@@ -131,29 +115,30 @@ fn filling_told(alloc: Global, out: &mut String) {
 fn fillings_told(alloc: Global, net: &TypedNet, out: &mut String) {
     let mut tally = Tally::new();
     for attempt in 0..TRIES {
-        tally = tally.with(filled(alloc, net, spare_at(attempt, 400)));
+        let mut told = String::new(alloc);
+        filled(alloc, net, spare_at(attempt, 400), &mut told);
+        tally = tally.with(
+            told.as_str(),
+            "a row for each, a row for each",
+            "memory, a row for each",
+        );
+        drop(told);
     }
     tally.tell(out);
 }
 
-/// Whether a table takes a closure for each expression of the network where so many bytes are left,
-/// and then with ample memory.
-fn filled(alloc: Global, net: &TypedNet, spare: usize) -> Answer {
-    let mut scant = String::new(alloc);
-    let mut ample = String::new(alloc);
+/// Tells whether a table takes a closure for each expression of the network where so many bytes are
+/// left, and then with ample memory.
+fn filled(alloc: Global, net: &TypedNet, spare: usize, out: &mut String) {
     // Room for what is told, so that it isn't refused.
-    say(&mut scant, "a row for each expression");
-    scant.clear();
+    say(out, "a row for each, a row for each");
+    out.clear();
     if let Ok(ballast) = take_all(alloc, spare) {
-        trial_told(alloc, net, Trial::Rows, &mut scant);
+        trial_told(alloc, net, Trial::Rows, out);
         drop(ballast);
     }
-    trial_told(alloc, net, Trial::Rows, &mut ample);
-    if ample.as_str() == "a row for each" {
-        compared(scant.as_str(), "a row for each")
-    } else {
-        Answer::Other
-    }
+    say(out, ", ");
+    trial_told(alloc, net, Trial::Rows, out);
 }
 
 /// Calls by their names.

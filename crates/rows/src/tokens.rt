@@ -81,11 +81,6 @@ end 4 | (p 0 1) => none
 end 4 | (p 0 => none
 ";
 
-#[test]
-fn tokens_are_found(rt: HostRuntime) {
-    all_are_found(&rt, rt.alloc(), Probe::Token, TOKENS);
-}
-
 /// Words, and what numbers they spell.
 static NUMBERS: &str = "
 0 => number 0
@@ -102,6 +97,7 @@ static NUMBERS: &str = "
 ";
 
 #[test]
-fn number_words_are_read(rt: HostRuntime) {
+fn tokens_and_numbers_are_found(rt: HostRuntime) {
+    all_are_found(&rt, rt.alloc(), Probe::Token, TOKENS);
     all_are_found(&rt, rt.alloc(), Probe::Number, NUMBERS);
 }

@@ -158,11 +158,6 @@ Int | (list Int{99999* 0}) => typed
 Int | (list Int{100000* 0}) => expression too deep
 ";
 
-#[test]
-fn types_are_found_or_refused(rt: HostRuntime) {
-    all_are_found(&rt, rt.alloc(), Probe::Typing, TYPINGS);
-}
-
 /// No parameter is in scope.
 static ALONE: &str = "
 Int | (p 0) => no parameter
@@ -170,6 +165,7 @@ Int | x => typed
 ";
 
 #[test]
-fn no_parameter_is_in_scope(rt: HostRuntime) {
+fn types_are_found_or_refused(rt: HostRuntime) {
+    all_are_found(&rt, rt.alloc(), Probe::Typing, TYPINGS);
     all_are_found(&rt, rt.alloc(), Probe::TypingAlone, ALONE);
 }

@@ -22,20 +22,6 @@ pub fn value_told(alloc: Global, given: &str, out: &mut String) {
     }
 }
 
-/// The same at a type with every form of types in it.
-pub fn inside_told(alloc: Global, text: &str, out: &mut String) {
-    match type_in(alloc, "(Pair (List (Event Int)) (Pair Bool Unit))") {
-        Some(ty) => reading_told(
-            alloc,
-            read_value(alloc, text.as_bytes(), &ty),
-            &ty,
-            text,
-            out,
-        ),
-        None => say(out, "no type"),
-    }
-}
-
 /// Tells what was read of the text at the type, or why nothing was.
 pub fn reading_told(
     alloc: Global,
@@ -183,49 +169,41 @@ Int | 99999999999999999999 => number range at 0
 (Pair Int (Event Int)) | (pair 5 (event 99999999999999999999)) => number range at 15
 {30*(Pair (List Int) }Int{30*)} | {30*(pair (list[1000* 7]) }7{30*)} => {30*(pair (list[1000* 7]) }7{30*)} to 60421
 {31*(List }Int{31*)} | {31*(list }7{19999* 7}{31*)} => {31*(list }7{19999* 7}{31*)} to 40216
+-- A value with every form of types in it, and faults in it.
+(Pair (List (Event Int)) (Pair Bool Unit)) | (pair (list (event 05) => no value at 19
+(Pair (List (Event Int)) (Pair Bool Unit)) | (pair (list (event 5 none) (pair true unit)) => no value at 20
+(Pair (List (Event Int)) (Pair Bool Unit)) | (pair (list (event 5) nope) => no value at 22
+(Pair (List (Event Int)) (Pair Bool Unit)) | (pair (list (event 5)) (pair true units)) => no value at 34
+(Pair (List (Event Int)) (Pair Bool Unit)) | (pair (list (event 5)) (pair true unit) => no value at 39
+(Pair (List (Event Int)) (Pair Bool Unit)) | (pair (list (event 5))(pair true unit)) => no value at 22
+(Pair (List (Event Int)) (Pair Bool Unit)) | (pair (list  none) (pair true unit)) => no value at 12
+(Pair (List (Event Int)) (Pair Bool Unit)) | (pair (list none ) ( => no value at 17
+(Pair (List (Event Int)) (Pair Bool Unit)) | (pair (listnone) ( => no value at 6
+(Pair (List (Event Int)) (Pair Bool Unit)) | (pair (list) (pair => no value at 18
+(Pair (List (Event Int)) (Pair Bool Unit)) | (pair (list) (pair  => no value at 19
+(Pair (List (Event Int)) (Pair Bool Unit)) | (pair (event none) => other type at 6
+(Pair (List (Event Int)) (Pair Bool Unit)) | (pair (list 5) => other type at 12
+(Pair (List (Event Int)) (Pair Bool Unit)) | (pair (list (event true) => other type at 19
+(Pair (List (Event Int)) (Pair Bool Unit)) | (pair (list (event 5)) true) => other type at 23
+(Pair (List (Event Int)) (Pair Bool Unit)) | (pair (list) (pair 1 unit)) => other type at 19
+(Pair (List (Event Int)) (Pair Bool Unit)) | (pair (list) (pair true (list))) => other type at 24
+(Pair (List (Event Int)) (Pair Bool Unit)) | (pair (list) (pair 99999999999999999999 unit)) => other type at 19
+(Pair (List (Event Int)) (Pair Bool Unit)) | none => other type at 0
+(Pair (List (Event Int)) (Pair Bool Unit)) | (pair (list (event 9223372036854775808)) => number range at 19
+(Pair (List (Event Int)) (Pair Bool Unit)) | (pair (list (event 1) (event -9223372036854775809)) => number range at 29
+(Pair (List (Event Int)) (Pair Bool Unit)) | (pair (list (event 9223372036854775808) 5) => number range at 19
+(Pair (List (Event Int)) (Pair Bool Unit)) | (pair (list (event -0) 5) => no value at 19
+(Pair (List (Event Int)) (Pair Bool Unit)) | (pair (list 5 (event -0)) => other type at 12
+(Pair (List (Event Int)) (Pair Bool Unit)) | (pair (list (event 5) none (event -7)) (pair true unit)) => (pair (list (event 5) none (event -7)) (pair true unit)) to 56
+(Pair (List (Event Int)) (Pair Bool Unit)) | (pair (list (event 5) none (event -7)) (pair true unit))  => (pair (list (event 5) none (event -7)) (pair true unit)) to 56
+(Pair (List (Event Int)) (Pair Bool Unit)) | (pair (list (event 5) none (event -7)) (pair true unit))) => (pair (list (event 5) none (event -7)) (pair true unit)) to 56
+(Pair (List (Event Int)) (Pair Bool Unit)) | (pair (list (event 5) none (event -7)) (pair true unit))5 => (pair (list (event 5) none (event -7)) (pair true unit)) to 56
+(Pair (List (Event Int)) (Pair Bool Unit)) | (pair (list (event 5) none (event -7)) (pair true unit))x => (pair (list (event 5) none (event -7)) (pair true unit)) to 56
+(Pair (List (Event Int)) (Pair Bool Unit)) | (pair (list (event 5) none (event -7)) (pair true unit))(list) => (pair (list (event 5) none (event -7)) (pair true unit)) to 56
+(Pair (List (Event Int)) (Pair Bool Unit)) | (pair (list (event 5) none (event -7)) (pair true unit))␤ => (pair (list (event 5) none (event -7)) (pair true unit)) to 56
 ";
 
 #[test]
 fn values_are_read(rt: HostRuntime) {
     all_are_found(&rt, rt.alloc(), Probe::Value, VALUES);
-}
-
-/// Texts of a value with every form of types in it, and faults in them.
-static INSIDE: &str = "
-(pair (list (event 05) => no value at 19
-(pair (list (event 5 none) (pair true unit)) => no value at 20
-(pair (list (event 5) nope) => no value at 22
-(pair (list (event 5)) (pair true units)) => no value at 34
-(pair (list (event 5)) (pair true unit) => no value at 39
-(pair (list (event 5))(pair true unit)) => no value at 22
-(pair (list  none) (pair true unit)) => no value at 12
-(pair (list none ) ( => no value at 17
-(pair (listnone) ( => no value at 6
-(pair (list) (pair => no value at 18
-(pair (list) (pair  => no value at 19
-(pair (event none) => other type at 6
-(pair (list 5) => other type at 12
-(pair (list (event true) => other type at 19
-(pair (list (event 5)) true) => other type at 23
-(pair (list) (pair 1 unit)) => other type at 19
-(pair (list) (pair true (list))) => other type at 24
-(pair (list) (pair 99999999999999999999 unit)) => other type at 19
-none => other type at 0
-(pair (list (event 9223372036854775808)) => number range at 19
-(pair (list (event 1) (event -9223372036854775809)) => number range at 29
-(pair (list (event 9223372036854775808) 5) => number range at 19
-(pair (list (event -0) 5) => no value at 19
-(pair (list 5 (event -0)) => other type at 12
-(pair (list (event 5) none (event -7)) (pair true unit)) => (pair (list (event 5) none (event -7)) (pair true unit)) to 56
-(pair (list (event 5) none (event -7)) (pair true unit))  => (pair (list (event 5) none (event -7)) (pair true unit)) to 56
-(pair (list (event 5) none (event -7)) (pair true unit))) => (pair (list (event 5) none (event -7)) (pair true unit)) to 56
-(pair (list (event 5) none (event -7)) (pair true unit))5 => (pair (list (event 5) none (event -7)) (pair true unit)) to 56
-(pair (list (event 5) none (event -7)) (pair true unit))x => (pair (list (event 5) none (event -7)) (pair true unit)) to 56
-(pair (list (event 5) none (event -7)) (pair true unit))(list) => (pair (list (event 5) none (event -7)) (pair true unit)) to 56
-(pair (list (event 5) none (event -7)) (pair true unit))␤ => (pair (list (event 5) none (event -7)) (pair true unit)) to 56
-";
-
-#[test]
-fn values_inside_values_are_read(rt: HostRuntime) {
-    all_are_found(&rt, rt.alloc(), Probe::Inside, INSIDE);
 }
