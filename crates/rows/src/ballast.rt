@@ -30,7 +30,7 @@ pub fn take_all(alloc: Global, spare: usize) -> Result<Ballast, AllocError> {
 }
 
 /// How many times a call is tried, with more and more bytes left.
-pub const TRIES: usize = 16;
+pub const TRIES: usize = 8;
 
 /// The bytes that are left at a try, `unit` more at each; at the last try ample memory.
 pub fn spare_at(attempt: usize, unit: usize) -> usize {

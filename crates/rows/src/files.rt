@@ -13,7 +13,8 @@ pub struct OneFile<'a> {
 impl Files for OneFile<'_> {
     ghost use Rattle.std.specs.Prelude.{None, Some, bytes_eq, codes, if◌then◌else◌};
 
-    ghost told = { λ files name. if bytes_eq name (codes "net") then Some files.bytes.now else None };
+    ghost told = { λ files name.
+        if bytes_eq name (codes "net") then Some files.bytes.now else None };
 
     fn read(&self, alloc: Global, name: &str) -> Result<Vec<u8>, FileFault> {
         if name != "net" {

@@ -97,7 +97,8 @@ fn boxed_key(alloc: Global, need: &LeafNeed) -> Option<Box<LeafKey>>
 /// Adds the closure under the need's key. Tells what the table answers.
 fn add(alloc: Global, table: &mut LeafTable, need: &LeafNeed, run: Run, out: &mut String)
     requires callable { Run.IsAlwaysCallable run }
-    requires computes { (ps : _) (x : _) (v : _) → Run.post run ps x (Ok v) → Computes need.now.key (map datum_of ps.now) (datum_of x.now) (datum_of v) }
+    requires computes { (ps : _) (x : _) (v : _) → Run.post run ps x (Ok v) →
+        Computes need.now.key (map datum_of ps.now) (datum_of x.now) (datum_of v) }
 {
     let Ok(key) = need.key.try_copy(alloc) else {
         return say(out, "memory");

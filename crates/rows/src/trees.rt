@@ -3,7 +3,9 @@
 use crate::found::{Probe, all_are_found};
 use crate::texts::say;
 use leaf_expr::{Expr, Part, Parts, push_expr};
-use sample_core::{Child, Memory, Sample, Samples, Ty, TyChild, print_type, print_value};
+use sample_core::{
+    Child, Memory, Sample, Samples, Ty, TyChild, has_type, print_type, print_value, same,
+};
 use std::alloc::Global;
 
 /// Tells how the tree of that name is printed.
@@ -26,8 +28,21 @@ fn values_told(alloc: Global, out: &mut String) {
     if let Ok(all) = Samples::new(alloc, all) {
         let list = Sample::List(all);
         printed_told(print_value(alloc, &list), out);
+        if is_taken_for_another(&list) {
+            say(out, " is taken for another");
+        }
         drop(list);
     }
+}
+
+/// Whether a list is the unit, or has the type of numbers.
+fn is_taken_for_another(list: &Sample) -> bool {
+    let unit = Sample::Unit;
+    let number = Ty::Int;
+    let taken = same(list, &unit) || has_type(list, &number);
+    drop(unit);
+    drop(number);
+    taken
 }
 
 fn event(alloc: Global) -> Option<Box<Sample>> {
