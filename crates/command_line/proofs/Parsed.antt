@@ -5,7 +5,7 @@ use Rattle.clap.specs.declared.error.Error.{Error}
 use Rattle.clap.specs.declared.error.kind.ErrorKind.{ErrorKind}
 use Rattle.clap.specs.declared.error.kind.ErrorKind.TheVariants as kind
 use Rattle.clap.specs.declared.parser.matches.ArgMatches.{ArgMatches}
-use Rattle.command_line.specs.CommandLine.{ReadsWords, Asked, AsksHelp, AsksNothing, IsNothing, RepliesTo, asked, asked_by, command_line, unless_faulty}
+use Rattle.command_line.specs.CommandLine.{ReadsWords, RequestTree, AsksHelp, AsksNothing, IsNothing, RepliesTo, request_in, request_by, command_line, unless_faulty}
 use Rattle.command_line.specs.declared.command.Reply.{Reply}
 use Rattle.command_line.specs.declared.command.Reply.TheVariants as R
 
@@ -16,25 +16,25 @@ simple = refl
 pub simple_and_free : is_simple_and_free command_line ≡ true
 simple_and_free = refl
 
-chosen : (ks : Kinds) → ks ≡ [] → (x : Option Asked) → unless_faulty ks x ≡ x
+chosen : (ks : Kinds) → ks ≡ [] → (x : Option RequestTree) → unless_faulty ks x ≡ x
 chosen [] e x = refl
 chosen (k ∷ ks) e x = cc
 
-refused : (k : ErrorKind) (ks : Kinds) → IsAmong k ks → (x : Option Asked) → unless_faulty ks x ≡ None
+refused : (k : ErrorKind) (ks : Kinds) → IsAmong k ks → (x : Option RequestTree) → unless_faulty ks x ≡ None
 refused k [] h x = absurd h
 refused k (j ∷ ks) h x = refl
 
 -- a parse that succeeds asks for what its matches do
 pub taken : (a : App) (words : List (List ℕ)) (m : ArgMatches) → a ≡ command_line → HasMatchesOf a words m → (is_simple_and_free a ≡ true → fault_of a words ≡ [])
-    → asked words ≡ asked_by (subcommand_rows_of m)
-unfolding asked
+    → request_in words ≡ request_by (subcommand_rows_of m)
+unfolding request_in
 taken a words m e h free =
     chosen (fault_of command_line words) (ap (λ (b : App). fault_of b words) (sym e) ∙ free (ap is_simple_and_free e ∙ simple_and_free)) _
-    ∙ ap asked_by (ap (λ (b : App). subcommand_of b words) (sym e) ∙ sym (h (ap is_simple e ∙ simple)).1)
+    ∙ ap request_by (ap (λ (b : App). subcommand_of b words) (sym e) ∙ sym (h (ap is_simple e ∙ simple)).1)
 
 -- matches that ask for nothing
 pub nothing : (a : App) (words : List (List ℕ)) (m : ArgMatches) → a ≡ command_line → HasMatchesOf a words m → (is_simple_and_free a ≡ true → fault_of a words ≡ [])
-    → None ≡ asked_by (subcommand_rows_of m) → AsksNothing words
+    → None ≡ request_by (subcommand_rows_of m) → AsksNothing words
 unfolding AsksNothing
 nothing a words m e h free none =
     (taken a words m e h free ∙ sym none, λ (l : fault_of command_line words ≡ (kind.DisplayHelp ∷ [])). no_fault (sym (ap (λ (b : App). fault_of b words) (sym e) ∙ free (ap is_simple_and_free e ∙ simple_and_free)) ∙ l))
@@ -62,7 +62,7 @@ asks_help words k help (inl memory) = absurd (help_is_memory (sym help ∙ memor
 asks_help words k help (inr h) = let there : IsAmong kind.DisplayHelp (fault_of command_line words) = rw help at h in there
 
 asks_nothing : (words : List (List ℕ)) (k : ErrorKind) → k ≢ kind.DisplayHelp → k ≢ kind.OutOfMemory → (k ≡ kind.OutOfMemory) ⊎ IsAmong k (fault_of command_line words) → AsksNothing words
-unfolding AsksNothing asked
+unfolding AsksNothing request_in
 asks_nothing words k help memory (inl e) = absurd (memory e)
 asks_nothing words k help memory (inr h) = (refused k (fault_of command_line words) h _, only_help k (fault_of command_line words) h help)
 

@@ -23,28 +23,28 @@ abbrev pub command_line : App
 command_line = with_subcommand (with_subcommand (on_top (λ s. record s { subcommand_required = true }) (new_app (codes "yampa"))) (file_command (codes "types"))) (file_command (codes "run"))
 
 -- what a command line asks for: the types of the network in the file of that name, or a run of it
-pub data Asked : Type 0 where
-  types_of : List ℕ → Asked
-  run_of : List ℕ → Asked
+pub data RequestTree : Type 0 where
+  types : List ℕ → RequestTree
+  run : List ℕ → RequestTree
 
 -- what a subcommand asks for on a file
-abbrev pub asked_on : List ℕ → Option (List ℕ) → Option Asked
-asked_on command None = None
-asked_on command (Some net) = if bytes_eq command (codes "types") then Some (types_of net) else (if bytes_eq command (codes "run") then Some (run_of net) else None)
+abbrev pub request_on : List ℕ → Option (List ℕ) → Option RequestTree
+request_on command None = None
+request_on command (Some net) = if bytes_eq command (codes "types") then Some (types net) else (if bytes_eq command (codes "run") then Some (run net) else None)
 
 -- what the subcommand and its matches ask for
-abbrev pub asked_by : Option (List ℕ × List Row) → Option Asked
-asked_by None = None
-asked_by (Some s) = asked_on s.0 (first_of (codes "NET") s.1)
+abbrev pub request_by : Option (List ℕ × List Row) → Option RequestTree
+request_by None = None
+request_by (Some s) = request_on s.0 (first_of (codes "NET") s.1)
 
 -- what is asked for, where nothing is wrong with the words
-abbrev pub unless_faulty : Kinds → Option Asked → Option Asked
+abbrev pub unless_faulty : Kinds → Option RequestTree → Option RequestTree
 unless_faulty [] what = what
 unless_faulty (k ∷ ks) what = None
 
 -- what the words ask for, where the command line takes them
-unfoldable pub asked : List (List ℕ) → Option Asked
-asked words = unless_faulty (fault_of command_line words) (asked_by (subcommand_of command_line words))
+unfoldable pub request_in : List (List ℕ) → Option RequestTree
+request_in words = unless_faulty (fault_of command_line words) (request_by (subcommand_of command_line words))
 
 -- the words ask for help
 unfoldable pub AsksHelp : List (List ℕ) → Type 0
@@ -52,12 +52,12 @@ AsksHelp words = IsAmong kind.DisplayHelp (fault_of command_line words)
 
 -- the words ask for nothing that is there, and not for help alone
 unfoldable pub AsksNothing : List (List ℕ) → Type 0
-AsksNothing words = (asked words ≡ None) × (fault_of command_line words ≢ (kind.DisplayHelp ∷ []))
+AsksNothing words = (request_in words ≡ None) × (fault_of command_line words ≢ (kind.DisplayHelp ∷ []))
 
 -- the code's request as one
-abbrev pub seen_request : Request → Asked
-seen_request (Q.Types net) = types_of net.now
-seen_request (Q.Run net) = run_of net.now
+abbrev pub request_view : Request → RequestTree
+request_view (Q.Types net) = types net.now
+request_view (Q.Run net) = run net.now
 
 -- the reply fits an error of that kind
 abbrev pub RepliesTo : ErrorKind → Reply → Type 0
@@ -73,7 +73,7 @@ IsNothing R.Memory = ⊤
 
 -- a request is what the words ask for; a reply is help that they ask for, or they ask for nothing that is there, or memory was short
 abbrev pub ReadsWords : List (List ℕ) → Result Request Reply → Type 0
-ReadsWords words (Ok request) = asked words ≡ Some (seen_request request)
+ReadsWords words (Ok request) = request_in words ≡ Some (request_view request)
 ReadsWords words (Err (R.Help text)) = AsksHelp words
 ReadsWords words (Err (R.Wrong text)) = AsksNothing words
 ReadsWords words (Err R.Memory) = ⊤

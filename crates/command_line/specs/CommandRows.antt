@@ -1,12 +1,12 @@
 -- Command lines, word for word, and what they ask for.
 use Rattle.std.specs.Prelude.{◌≡◌, [], ◌∷◌, Some, codes}
-use Rattle.command_line.specs.CommandLine.{AsksHelp, AsksNothing, asked, run_of, types_of}
+use Rattle.command_line.specs.CommandLine.{AsksHelp, AsksNothing, request_in, run, types}
 
 -- what is asked for
-abbrev pub AskedRows : Type 0
-AskedRows = (asked (codes "yampa" ∷ codes "types" ∷ codes "net" ∷ []) ≡ Some (types_of (codes "net")))
-    × (asked (codes "yampa" ∷ codes "run" ∷ codes "net" ∷ []) ≡ Some (run_of (codes "net")))
-    × (asked (codes "yampa" ∷ codes "run" ∷ codes "--" ∷ codes "-net" ∷ []) ≡ Some (run_of (codes "-net")))
+abbrev pub RequestRows : Type 0
+RequestRows = (request_in (codes "yampa" ∷ codes "types" ∷ codes "net" ∷ []) ≡ Some (types (codes "net")))
+    × (request_in (codes "yampa" ∷ codes "run" ∷ codes "net" ∷ []) ≡ Some (run (codes "net")))
+    × (request_in (codes "yampa" ∷ codes "run" ∷ codes "--" ∷ codes "-net" ∷ []) ≡ Some (run (codes "-net")))
 
 -- what asks for help
 abbrev pub HelpRows : Type 0

@@ -3,8 +3,8 @@
 ghost use Rattle.std.specs.Prelude.{◌≡◌, IfOk, map, option_map, false};
 ghost use Rattle.clap.specs.Words.{app_of, kind_of, shape_of, subcommand_rows_of, with_subcommand};
 ghost use Rattle.clap.specs.declared.builder.command.Command.TheViews.{out-Command};
-ghost use Rattle.command_line.specs.CommandRows.{AskedRows, HelpRows, NothingRows};
-ghost use Rattle.command_line.specs.CommandLine.{IsNothing, ReadsWords, RepliesTo, asked_by, command_line, file_command, seen_request};
+ghost use Rattle.command_line.specs.CommandRows.{RequestRows, HelpRows, NothingRows};
+ghost use Rattle.command_line.specs.CommandLine.{IsNothing, ReadsWords, RepliesTo, request_by, command_line, file_command, request_view};
 
 use clap::error::{Error, ErrorKind};
 use clap::{Arg, ArgAction, ArgMatches, Command};
@@ -77,7 +77,7 @@ fn make_command<'a>(alloc: Global) -> Result<Command<'a>, AllocError>
 
 /// What the matches ask for.
 fn request_of<'a>(matches: &ArgMatches<'a>) -> Option<Request<'a>>
-    ensures { option_map seen_request result ≡ asked_by (subcommand_rows_of matches.now) }
+    ensures { option_map request_view result ≡ request_by (subcommand_rows_of matches.now) }
 {
     let (name, inner) = matches.subcommand()?;
     let net = inner.get_str("NET")?;
@@ -134,7 +134,7 @@ fn no_such_command(alloc: Global) -> Reply
 
 /// Command lines, word for word, and what they ask for: a file's types or its run, help, or nothing that is there.
 pub fn command_rows()
-    ensures asked { AskedRows }
+    ensures asked { RequestRows }
     ensures help { HelpRows }
     ensures nothing { NothingRows }
 {}

@@ -1,12 +1,12 @@
 -- What stands at a place of a list, and how many there are.
 use Rattle.std.proofs.Common.{◌≡◌, ℕ, zero, suc, ◌<◌, ◌≤◌, ℤ, pos, List, [], ◌∷◌, length, get_or, Ok, Err, map, refl, ap, subst, sym, ◌∙◌, arith}
-use Rattle.sample_core.specs.Datum.{Datum, unit, list, elements, of_elements}
-use Rattle.sample_core.specs.Seen.{datum_of}
+use Rattle.sample_core.specs.Datum.{Datum, unit, list, elements, list_of}
+use Rattle.sample_core.specs.ValueView.{datum_of}
 use Rattle.sample_core.specs.declared.sample.Sample.{Sample}
 use Rattle.leaf_core.specs.Expression.{Expression, Expressions, no_more, and_then, expressions_of, expression_size, expressions_size}
-use Rattle.leaf_core.specs.Seen.{expression_of}
+use Rattle.leaf_core.specs.ExpressionView.{expression_of}
 use Rattle.leaf_core.specs.declared.expr.Expr.{Expr}
-use Rattle.sample_core.specs.SeenType.{type_of}
+use Rattle.sample_core.specs.TypeView.{type_of}
 use Rattle.sample_core.specs.declared.ty.Ty.{Ty}
 use Rattle.leaf_core.specs.ExpressionCheck.{type_of_param}
 use Rattle.leaf_core.specs.declared.typing.ExprFault.TheVariants.{NoParam}
@@ -32,23 +32,23 @@ type_missing [] k h = refl
 type_missing (P ∷ Ps) zero h = absurd (omega arith)
 type_missing (P ∷ Ps) (suc k) h = type_missing Ps k (omega arith)
 
-nth_found : (all : List Sample) (n : ℕ) (d : Datum) (s : Sample) → n < length all → nth_of (of_elements (map datum_of all)) n d ≡ datum_of (get_or all n s)
+nth_found : (all : List Sample) (n : ℕ) (d : Datum) (s : Sample) → n < length all → nth_of (list_of (map datum_of all)) n d ≡ datum_of (get_or all n s)
 nth_found [] n d s h = absurd (omega arith)
 nth_found (p ∷ ps) zero d s h = refl
 nth_found (p ∷ ps) (suc k) d s h = nth_found ps k d s (omega arith)
 
-nth_missing : (all : List Sample) (n : ℕ) (d : Datum) → length all ≤ n → nth_of (of_elements (map datum_of all)) n d ≡ d
+nth_missing : (all : List Sample) (n : ℕ) (d : Datum) → length all ≤ n → nth_of (list_of (map datum_of all)) n d ≡ d
 nth_missing [] n d h = refl
 nth_missing (p ∷ ps) zero d h = absurd (omega arith)
 nth_missing (p ∷ ps) (suc k) d h = nth_missing ps k d (omega arith)
 
-pub element_found : (all : List Sample) (at : ℤ) (n : ℕ) (d : Datum) (s : Sample) → at ≡ pos n → n < length all → element_at (list (of_elements (map datum_of all))) at d ≡ datum_of (get_or all n s)
-element_found all at n d s e h = ap (λ t. element_at (list (of_elements (map datum_of all))) t d) e ∙ nth_found all n d s h
+pub element_found : (all : List Sample) (at : ℤ) (n : ℕ) (d : Datum) (s : Sample) → at ≡ pos n → n < length all → element_at (list (list_of (map datum_of all))) at d ≡ datum_of (get_or all n s)
+element_found all at n d s e h = ap (λ t. element_at (list (list_of (map datum_of all))) t d) e ∙ nth_found all n d s h
 
-pub element_missing : (all : List Sample) (at : ℤ) (n : ℕ) (d : Datum) → at ≡ pos n → length all ≤ n → element_at (list (of_elements (map datum_of all))) at d ≡ d
-element_missing all at n d e h = ap (λ t. element_at (list (of_elements (map datum_of all))) t d) e ∙ nth_missing all n d h
+pub element_missing : (all : List Sample) (at : ℤ) (n : ℕ) (d : Datum) → at ≡ pos n → length all ≤ n → element_at (list (list_of (map datum_of all))) at d ≡ d
+element_missing all at n d e h = ap (λ t. element_at (list (list_of (map datum_of all))) t d) e ∙ nth_missing all n d h
 
-pub elements_of_elements : (vs : List Datum) → elements (of_elements vs) ≡ vs
+pub elements_of_elements : (vs : List Datum) → elements (list_of vs) ≡ vs
 elements_of_elements [] = refl
 elements_of_elements (v ∷ vs) = ap (λ t. v ∷ t) (elements_of_elements vs)
 

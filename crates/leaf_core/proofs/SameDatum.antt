@@ -2,7 +2,7 @@
 use Rattle.std.proofs.Common.{◌≡◌, Bool, true, false, ◌&&◌, refl, ap, ◌∙◌, subst, Decides, ◌↔◌, IsTrue}
 use Rattle.std.specs.Cmp.{booleans_Decides}
 use Rattle.std.proofs.lemmas.Bool.Decides.{Decides-int_eq, same_from_decides}
-use Rattle.sample_core.specs.Datum.{Datum, Datums, unit, truth, number, pair, no_event, event, list, end, more}
+use Rattle.sample_core.specs.Datum.{Datum, Datums, unit, bool, int, pair, no_event, event, list, end, more}
 use Rattle.leaf_core.specs.ExpressionValue.{same_datum, same_datums}
 
 false_is_not_true : {P : Type 0} → false ≡ true → P
@@ -15,8 +15,8 @@ and_true false t e = false_is_not_true e
 mutual
   pub same_datum-refl : (v : Datum) → same_datum v v ≡ true
   same_datum-refl unit = refl
-  same_datum-refl (truth b) = (booleans_Decides b b).1 refl
-  same_datum-refl (number n) = (Decides-int_eq n n).1 refl
+  same_datum-refl (bool b) = (booleans_Decides b b).1 refl
+  same_datum-refl (int n) = (Decides-int_eq n n).1 refl
   same_datum-refl (pair v w) = ap (λ t. t && same_datum w w) (same_datum-refl v) ∙ same_datum-refl w
   same_datum-refl no_event = refl
   same_datum-refl (event v) = same_datum-refl v
@@ -29,8 +29,8 @@ mutual
 mutual
   pub same_datum-true : (v w : Datum) → same_datum v w ≡ true → v ≡ w
   same_datum-true unit unit e = refl
-  same_datum-true (truth a) (truth b) e = ap truth ((booleans_Decides a b).0 e)
-  same_datum-true (number m) (number n) e = ap number ((Decides-int_eq m n).0 e)
+  same_datum-true (bool a) (bool b) e = ap bool ((booleans_Decides a b).0 e)
+  same_datum-true (int m) (int n) e = ap int ((Decides-int_eq m n).0 e)
   same_datum-true (pair a b) (pair c d) e =
       let h = and_true (same_datum a c) (same_datum b d) e in
       ap (λ t. pair t b) (same_datum-true a c h.0) ∙ ap (λ t. pair c t) (same_datum-true b d h.1)

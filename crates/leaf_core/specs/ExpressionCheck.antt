@@ -4,7 +4,7 @@ use Rattle.std.specs.Int.{int_wrap, w64}
 use Rattle.std.specs.Ordering.{int_eq}
 use Rattle.sample_core.specs.TypeTree.{TypeTree, unit_ty, bool_ty, int_ty, pair_ty, event_ty, list_ty}
 use Rattle.leaf_core.specs.TypeLimits.{type_fits, same_tree}
-use Rattle.leaf_core.specs.Expression.{Expression, Expressions, sample, parameter, unit_literal, truth_literal, number_literal, make_pair, fst, snd, then, neg, add, sub, mul, less, equal, negation, conjunction, disjunction, choice, none_of, make_event, on, make_list, nth, len, no_more, and_then}
+use Rattle.leaf_core.specs.Expression.{Expression, Expressions, input, param, unit_expr, bool_expr, int_expr, pair_expr, fst, snd, then_expr, neg, add, sub, mul, less, equal, not_expr, and_expr, or_expr, if_expr, no_event_expr, event_expr, on, list_expr, nth, len, no_more, and_then}
 use Rattle.leaf_core.specs.ExpressionLimits.{expression_fits}
 use Rattle.leaf_core.specs.declared.typing.ExprFault.{ExprFault}
 use Rattle.leaf_core.specs.declared.typing.ExprFault.TheVariants.{Mismatch, NoParam, TooDeep}
@@ -19,41 +19,41 @@ on_ok (Ok t) k = k t
 on_ok (Err f) k = Err f
 
 -- a test, its fault, and the rest
-abbrev pub tested : Bool → ExprFault → TypeAnswer → TypeAnswer
-tested true f r = r
-tested false f r = Err f
+abbrev pub check_that : Bool → ExprFault → TypeAnswer → TypeAnswer
+check_that true f r = r
+check_that false f r = Err f
 
 -- a part's answer, where it is the type that is wanted of the part
-abbrev pub wanted : TypeAnswer → TypeTree → TypeAnswer
-wanted r t = on_ok r (λ s. tested (same_tree s t) Mismatch (Ok s))
+abbrev pub expect : TypeAnswer → TypeTree → TypeAnswer
+expect r t = on_ok r (λ s. check_that (same_tree s t) Mismatch (Ok s))
 
 -- a part's answer, the type that is wanted of the part, and the rest
-abbrev pub of_type : TypeAnswer → TypeTree → TypeAnswer → TypeAnswer
-of_type r t k = on_ok (wanted r t) (λ s. k)
+abbrev pub expect_then : TypeAnswer → TypeTree → TypeAnswer → TypeAnswer
+expect_then r t k = on_ok (expect r t) (λ s. k)
 
 -- a type, where it is within the limits
-abbrev pub limited : TypeTree → TypeAnswer
-limited t = tested (type_fits t) TooDeep (Ok t)
+abbrev pub within_limits : TypeTree → TypeAnswer
+within_limits t = check_that (type_fits t) TooDeep (Ok t)
 
 -- the type of a pair's first part
-abbrev pub first_of : TypeTree → TypeAnswer
-first_of (pair_ty A B) = Ok A
-first_of _ = Err Mismatch
+abbrev pub first_type : TypeTree → TypeAnswer
+first_type (pair_ty A B) = Ok A
+first_type _ = Err Mismatch
 
 -- the type of a pair's second part
-abbrev pub second_of : TypeTree → TypeAnswer
-second_of (pair_ty A B) = Ok B
-second_of _ = Err Mismatch
+abbrev pub second_type : TypeTree → TypeAnswer
+second_type (pair_ty A B) = Ok B
+second_type _ = Err Mismatch
 
 -- the type of what an event carries
-abbrev pub carried_of : TypeTree → TypeAnswer
-carried_of (event_ty A) = Ok A
-carried_of _ = Err Mismatch
+abbrev pub carried_type : TypeTree → TypeAnswer
+carried_type (event_ty A) = Ok A
+carried_type _ = Err Mismatch
 
 -- the type of a list's elements
-abbrev pub element_of : TypeTree → TypeAnswer
-element_of (list_ty A) = Ok A
-element_of _ = Err Mismatch
+abbrev pub element_type : TypeTree → TypeAnswer
+element_type (list_ty A) = Ok A
+element_type _ = Err Mismatch
 
 -- the type of parameter k, from 0
 abbrev pub type_of_param : List TypeTree → ℕ → TypeAnswer
@@ -64,37 +64,37 @@ type_of_param (P ∷ Ps) (suc k) = type_of_param Ps k
 abbrev mutual
   -- the parts in written order: each, once walked, is tested before the next is walked; a node's own type comes last
   pub type_walk : List TypeTree → TypeTree → Expression → TypeAnswer
-  type_walk Ps A sample = limited A
-  type_walk Ps A (parameter k) = on_ok (type_of_param Ps k) limited
-  type_walk Ps A unit_literal = limited unit_ty
-  type_walk Ps A (truth_literal b) = limited bool_ty
-  type_walk Ps A (number_literal n) = tested (int_eq (int_wrap w64 n) n) Mismatch (limited int_ty)
-  type_walk Ps A (make_pair a b) = on_ok (type_walk Ps A a) (λ B. on_ok (type_walk Ps A b) (λ C. limited (pair_ty B C)))
-  type_walk Ps A (fst e) = on_ok (type_walk Ps A e) (λ P. on_ok (first_of P) limited)
-  type_walk Ps A (snd e) = on_ok (type_walk Ps A e) (λ P. on_ok (second_of P) limited)
-  type_walk Ps A (then f g) = on_ok (type_walk Ps A f) (λ B. on_ok (type_walk Ps B g) limited)
-  type_walk Ps A (neg a) = of_type (type_walk Ps A a) int_ty (limited int_ty)
-  type_walk Ps A (add a b) = of_type (type_walk Ps A a) int_ty (of_type (type_walk Ps A b) int_ty (limited int_ty))
-  type_walk Ps A (sub a b) = of_type (type_walk Ps A a) int_ty (of_type (type_walk Ps A b) int_ty (limited int_ty))
-  type_walk Ps A (mul a b) = of_type (type_walk Ps A a) int_ty (of_type (type_walk Ps A b) int_ty (limited int_ty))
-  type_walk Ps A (less a b) = of_type (type_walk Ps A a) int_ty (of_type (type_walk Ps A b) int_ty (limited bool_ty))
-  type_walk Ps A (equal a b) = on_ok (type_walk Ps A a) (λ B. of_type (type_walk Ps A b) B (limited bool_ty))
-  type_walk Ps A (negation a) = of_type (type_walk Ps A a) bool_ty (limited bool_ty)
-  type_walk Ps A (conjunction a b) = of_type (type_walk Ps A a) bool_ty (of_type (type_walk Ps A b) bool_ty (limited bool_ty))
-  type_walk Ps A (disjunction a b) = of_type (type_walk Ps A a) bool_ty (of_type (type_walk Ps A b) bool_ty (limited bool_ty))
-  type_walk Ps A (choice c a b) = of_type (type_walk Ps A c) bool_ty (on_ok (type_walk Ps A a) (λ B. of_type (type_walk Ps A b) B (limited B)))
-  type_walk Ps A (none_of t) = on_ok (limited t) (λ T. limited (event_ty T))
-  type_walk Ps A (make_event e) = on_ok (type_walk Ps A e) (λ B. limited (event_ty B))
-  type_walk Ps A (on e d b) = on_ok (type_walk Ps A e) (λ E. on_ok (carried_of E) (λ V. on_ok (type_walk Ps A d) (λ C. on_ok (limited (pair_ty A V)) (λ I. of_type (type_walk Ps I b) C (limited C)))))
-  type_walk Ps A (make_list t es) = on_ok (limited t) (λ T. elements_walk Ps A T es)
-  type_walk Ps A (nth e i d) = on_ok (type_walk Ps A e) (λ L. on_ok (element_of L) (λ T. of_type (type_walk Ps A i) int_ty (of_type (type_walk Ps A d) T (limited T))))
-  type_walk Ps A (len e) = on_ok (type_walk Ps A e) (λ L. on_ok (element_of L) (λ T. limited int_ty))
+  type_walk Ps A input = within_limits A
+  type_walk Ps A (param k) = on_ok (type_of_param Ps k) within_limits
+  type_walk Ps A unit_expr = within_limits unit_ty
+  type_walk Ps A (bool_expr b) = within_limits bool_ty
+  type_walk Ps A (int_expr n) = check_that (int_eq (int_wrap w64 n) n) Mismatch (within_limits int_ty)
+  type_walk Ps A (pair_expr a b) = on_ok (type_walk Ps A a) (λ B. on_ok (type_walk Ps A b) (λ C. within_limits (pair_ty B C)))
+  type_walk Ps A (fst e) = on_ok (type_walk Ps A e) (λ P. on_ok (first_type P) within_limits)
+  type_walk Ps A (snd e) = on_ok (type_walk Ps A e) (λ P. on_ok (second_type P) within_limits)
+  type_walk Ps A (then_expr f g) = on_ok (type_walk Ps A f) (λ B. on_ok (type_walk Ps B g) within_limits)
+  type_walk Ps A (neg a) = expect_then (type_walk Ps A a) int_ty (within_limits int_ty)
+  type_walk Ps A (add a b) = expect_then (type_walk Ps A a) int_ty (expect_then (type_walk Ps A b) int_ty (within_limits int_ty))
+  type_walk Ps A (sub a b) = expect_then (type_walk Ps A a) int_ty (expect_then (type_walk Ps A b) int_ty (within_limits int_ty))
+  type_walk Ps A (mul a b) = expect_then (type_walk Ps A a) int_ty (expect_then (type_walk Ps A b) int_ty (within_limits int_ty))
+  type_walk Ps A (less a b) = expect_then (type_walk Ps A a) int_ty (expect_then (type_walk Ps A b) int_ty (within_limits bool_ty))
+  type_walk Ps A (equal a b) = on_ok (type_walk Ps A a) (λ B. expect_then (type_walk Ps A b) B (within_limits bool_ty))
+  type_walk Ps A (not_expr a) = expect_then (type_walk Ps A a) bool_ty (within_limits bool_ty)
+  type_walk Ps A (and_expr a b) = expect_then (type_walk Ps A a) bool_ty (expect_then (type_walk Ps A b) bool_ty (within_limits bool_ty))
+  type_walk Ps A (or_expr a b) = expect_then (type_walk Ps A a) bool_ty (expect_then (type_walk Ps A b) bool_ty (within_limits bool_ty))
+  type_walk Ps A (if_expr c a b) = expect_then (type_walk Ps A c) bool_ty (on_ok (type_walk Ps A a) (λ B. expect_then (type_walk Ps A b) B (within_limits B)))
+  type_walk Ps A (no_event_expr t) = on_ok (within_limits t) (λ T. within_limits (event_ty T))
+  type_walk Ps A (event_expr e) = on_ok (type_walk Ps A e) (λ B. within_limits (event_ty B))
+  type_walk Ps A (on e d b) = on_ok (type_walk Ps A e) (λ E. on_ok (carried_type E) (λ V. on_ok (type_walk Ps A d) (λ C. on_ok (within_limits (pair_ty A V)) (λ I. expect_then (type_walk Ps I b) C (within_limits C)))))
+  type_walk Ps A (list_expr t es) = on_ok (within_limits t) (λ T. elements_walk Ps A T es)
+  type_walk Ps A (nth e i d) = on_ok (type_walk Ps A e) (λ L. on_ok (element_type L) (λ T. expect_then (type_walk Ps A i) int_ty (expect_then (type_walk Ps A d) T (within_limits T))))
+  type_walk Ps A (len e) = on_ok (type_walk Ps A e) (λ L. on_ok (element_type L) (λ T. within_limits int_ty))
 
   -- the elements of a list in order, each tested against the type given
   pub elements_walk : List TypeTree → TypeTree → TypeTree → Expressions → TypeAnswer
-  elements_walk Ps A t no_more = limited (list_ty t)
-  elements_walk Ps A t (and_then e es) = of_type (type_walk Ps A e) t (elements_walk Ps A t es)
+  elements_walk Ps A t no_more = within_limits (list_ty t)
+  elements_walk Ps A t (and_then e es) = expect_then (type_walk Ps A e) t (elements_walk Ps A t es)
 
 -- the type of a whole expression, whose height and size are tested first
 abbrev pub type_answer : List TypeTree → TypeTree → Expression → TypeAnswer
-type_answer Ps A e = tested (expression_fits e) TooDeep (type_walk Ps A e)
+type_answer Ps A e = check_that (expression_fits e) TooDeep (type_walk Ps A e)

@@ -5,7 +5,7 @@ use Rattle.std.specs.Coded.{Coded, coded_ℤ, coded_bool}
 use base.Stored.{Gv, gnil, gnum, gcons, num, coded_via}
 use denote.Struct.Codes.{itself}
 use Rattle.sample_core.specs.TypeCode.{type_code}
-use Rattle.leaf_core.specs.Expression.{Expression, Expressions, sample, parameter, unit_literal, truth_literal, number_literal, make_pair, fst, snd, then, neg, add, sub, mul, less, equal, negation, conjunction, disjunction, choice, none_of, make_event, on, make_list, nth, len, no_more, and_then}
+use Rattle.leaf_core.specs.Expression.{Expression, Expressions, input, param, unit_expr, bool_expr, int_expr, pair_expr, fst, snd, then_expr, neg, add, sub, mul, less, equal, not_expr, and_expr, or_expr, if_expr, no_event_expr, event_expr, on, list_expr, nth, len, no_more, and_then}
 
 -- a tag, and three parts
 abbrev pub node : ℕ → Gv → Gv → Gv → Gv
@@ -38,29 +38,29 @@ rest_of _ = gnil
 abbrev mutual
   -- an expression's code: the number of its form, and then its parts
   pub to_code : Expression → Gv
-  to_code sample = node 0 gnil gnil gnil
-  to_code (parameter k) = node 1 (gnum k) gnil gnil
-  to_code unit_literal = node 2 gnil gnil gnil
-  to_code (truth_literal p) = node 3 (coded_bool.code p) gnil gnil
-  to_code (number_literal n) = node 4 (coded_ℤ.code n) gnil gnil
-  to_code (make_pair a b) = node 5 (to_code a) (to_code b) gnil
+  to_code input = node 0 gnil gnil gnil
+  to_code (param k) = node 1 (gnum k) gnil gnil
+  to_code unit_expr = node 2 gnil gnil gnil
+  to_code (bool_expr p) = node 3 (coded_bool.code p) gnil gnil
+  to_code (int_expr n) = node 4 (coded_ℤ.code n) gnil gnil
+  to_code (pair_expr a b) = node 5 (to_code a) (to_code b) gnil
   to_code (fst a) = node 6 (to_code a) gnil gnil
   to_code (snd a) = node 7 (to_code a) gnil gnil
-  to_code (then a b) = node 8 (to_code a) (to_code b) gnil
+  to_code (then_expr a b) = node 8 (to_code a) (to_code b) gnil
   to_code (neg a) = node 9 (to_code a) gnil gnil
   to_code (add a b) = node 10 (to_code a) (to_code b) gnil
   to_code (sub a b) = node 11 (to_code a) (to_code b) gnil
   to_code (mul a b) = node 12 (to_code a) (to_code b) gnil
   to_code (less a b) = node 13 (to_code a) (to_code b) gnil
   to_code (equal a b) = node 14 (to_code a) (to_code b) gnil
-  to_code (negation a) = node 15 (to_code a) gnil gnil
-  to_code (conjunction a b) = node 16 (to_code a) (to_code b) gnil
-  to_code (disjunction a b) = node 17 (to_code a) (to_code b) gnil
-  to_code (choice a b c) = node 18 (to_code a) (to_code b) (to_code c)
-  to_code (none_of t) = node 19 (type_code.code t) gnil gnil
-  to_code (make_event a) = node 20 (to_code a) gnil gnil
+  to_code (not_expr a) = node 15 (to_code a) gnil gnil
+  to_code (and_expr a b) = node 16 (to_code a) (to_code b) gnil
+  to_code (or_expr a b) = node 17 (to_code a) (to_code b) gnil
+  to_code (if_expr a b c) = node 18 (to_code a) (to_code b) (to_code c)
+  to_code (no_event_expr t) = node 19 (type_code.code t) gnil gnil
+  to_code (event_expr a) = node 20 (to_code a) gnil gnil
   to_code (on a b c) = node 21 (to_code a) (to_code b) (to_code c)
-  to_code (make_list t es) = node 22 (type_code.code t) (to_codes es) gnil
+  to_code (list_expr t es) = node 22 (type_code.code t) (to_codes es) gnil
   to_code (nth a b c) = node 23 (to_code a) (to_code b) (to_code c)
   to_code (len a) = node 24 (to_code a) gnil gnil
 
@@ -72,29 +72,29 @@ abbrev mutual
 mutual
   -- expressions with one code are the same
   pub to_code_inj : (x y : Expression) → to_code x ≡ to_code y → x ≡ y
-  to_code_inj sample sample e = refl
-  to_code_inj (parameter k) (parameter k') e = ap parameter (ap num (ap part0 e))
-  to_code_inj unit_literal unit_literal e = refl
-  to_code_inj (truth_literal p) (truth_literal p') e = ap truth_literal (coded_bool.inj p p' (ap part0 e))
-  to_code_inj (number_literal n) (number_literal n') e = ap number_literal (coded_ℤ.inj n n' (ap part0 e))
-  to_code_inj (make_pair a b) (make_pair a' b') e = λ i. make_pair (to_code_inj a a' (ap part0 e) i) (to_code_inj b b' (ap part1 e) i)
+  to_code_inj input input e = refl
+  to_code_inj (param k) (param k') e = ap param (ap num (ap part0 e))
+  to_code_inj unit_expr unit_expr e = refl
+  to_code_inj (bool_expr p) (bool_expr p') e = ap bool_expr (coded_bool.inj p p' (ap part0 e))
+  to_code_inj (int_expr n) (int_expr n') e = ap int_expr (coded_ℤ.inj n n' (ap part0 e))
+  to_code_inj (pair_expr a b) (pair_expr a' b') e = λ i. pair_expr (to_code_inj a a' (ap part0 e) i) (to_code_inj b b' (ap part1 e) i)
   to_code_inj (fst a) (fst a') e = ap fst (to_code_inj a a' (ap part0 e))
   to_code_inj (snd a) (snd a') e = ap snd (to_code_inj a a' (ap part0 e))
-  to_code_inj (then a b) (then a' b') e = λ i. then (to_code_inj a a' (ap part0 e) i) (to_code_inj b b' (ap part1 e) i)
+  to_code_inj (then_expr a b) (then_expr a' b') e = λ i. then_expr (to_code_inj a a' (ap part0 e) i) (to_code_inj b b' (ap part1 e) i)
   to_code_inj (neg a) (neg a') e = ap neg (to_code_inj a a' (ap part0 e))
   to_code_inj (add a b) (add a' b') e = λ i. add (to_code_inj a a' (ap part0 e) i) (to_code_inj b b' (ap part1 e) i)
   to_code_inj (sub a b) (sub a' b') e = λ i. sub (to_code_inj a a' (ap part0 e) i) (to_code_inj b b' (ap part1 e) i)
   to_code_inj (mul a b) (mul a' b') e = λ i. mul (to_code_inj a a' (ap part0 e) i) (to_code_inj b b' (ap part1 e) i)
   to_code_inj (less a b) (less a' b') e = λ i. less (to_code_inj a a' (ap part0 e) i) (to_code_inj b b' (ap part1 e) i)
   to_code_inj (equal a b) (equal a' b') e = λ i. equal (to_code_inj a a' (ap part0 e) i) (to_code_inj b b' (ap part1 e) i)
-  to_code_inj (negation a) (negation a') e = ap negation (to_code_inj a a' (ap part0 e))
-  to_code_inj (conjunction a b) (conjunction a' b') e = λ i. conjunction (to_code_inj a a' (ap part0 e) i) (to_code_inj b b' (ap part1 e) i)
-  to_code_inj (disjunction a b) (disjunction a' b') e = λ i. disjunction (to_code_inj a a' (ap part0 e) i) (to_code_inj b b' (ap part1 e) i)
-  to_code_inj (choice a b c) (choice a' b' c') e = λ i. choice (to_code_inj a a' (ap part0 e) i) (to_code_inj b b' (ap part1 e) i) (to_code_inj c c' (ap part2 e) i)
-  to_code_inj (none_of t) (none_of t') e = ap none_of (type_code.inj t t' (ap part0 e))
-  to_code_inj (make_event a) (make_event a') e = ap make_event (to_code_inj a a' (ap part0 e))
+  to_code_inj (not_expr a) (not_expr a') e = ap not_expr (to_code_inj a a' (ap part0 e))
+  to_code_inj (and_expr a b) (and_expr a' b') e = λ i. and_expr (to_code_inj a a' (ap part0 e) i) (to_code_inj b b' (ap part1 e) i)
+  to_code_inj (or_expr a b) (or_expr a' b') e = λ i. or_expr (to_code_inj a a' (ap part0 e) i) (to_code_inj b b' (ap part1 e) i)
+  to_code_inj (if_expr a b c) (if_expr a' b' c') e = λ i. if_expr (to_code_inj a a' (ap part0 e) i) (to_code_inj b b' (ap part1 e) i) (to_code_inj c c' (ap part2 e) i)
+  to_code_inj (no_event_expr t) (no_event_expr t') e = ap no_event_expr (type_code.inj t t' (ap part0 e))
+  to_code_inj (event_expr a) (event_expr a') e = ap event_expr (to_code_inj a a' (ap part0 e))
   to_code_inj (on a b c) (on a' b' c') e = λ i. on (to_code_inj a a' (ap part0 e) i) (to_code_inj b b' (ap part1 e) i) (to_code_inj c c' (ap part2 e) i)
-  to_code_inj (make_list t es) (make_list t' es') e = λ i. make_list (type_code.inj t t' (ap part0 e) i) (to_codes_inj es es' (ap part1 e) i)
+  to_code_inj (list_expr t es) (list_expr t' es') e = λ i. list_expr (type_code.inj t t' (ap part0 e) i) (to_codes_inj es es' (ap part1 e) i)
   to_code_inj (nth a b c) (nth a' b' c') e = λ i. nth (to_code_inj a a' (ap part0 e) i) (to_code_inj b b' (ap part1 e) i) (to_code_inj c c' (ap part2 e) i)
   to_code_inj (len a) (len a') e = ap len (to_code_inj a a' (ap part0 e))
   to_code_inj _ _ e = absurd (omega (arith, ap tag_of e))

@@ -2,7 +2,7 @@
 use Rattle.std.specs.Prelude.{ℕ, zero, suc, ℤ, Bool, FitsSigned, List, ◌∷◌}
 use Rattle.std.specs.Int.{w64}
 use Rattle.sample_core.specs.TypeTree.{TypeTree, unit_ty, bool_ty, int_ty, pair_ty, event_ty, list_ty}
-use Rattle.leaf_core.specs.Expression.{Expression, Expressions, sample, parameter, unit_literal, truth_literal, number_literal, make_pair, fst, snd, then, neg, add, sub, mul, less, equal, negation, conjunction, disjunction, choice, none_of, make_event, on, make_list, nth, len, no_more, and_then}
+use Rattle.leaf_core.specs.Expression.{Expression, Expressions, input, param, unit_expr, bool_expr, int_expr, pair_expr, fst, snd, then_expr, neg, add, sub, mul, less, equal, not_expr, and_expr, or_expr, if_expr, no_event_expr, event_expr, on, list_expr, nth, len, no_more, and_then}
 
 -- parameter k has this type
 pub data ParamAt : List TypeTree → ℕ → TypeTree → Type 0 where
@@ -12,29 +12,29 @@ pub data ParamAt : List TypeTree → ℕ → TypeTree → Type 0 where
 mutual
   -- an expression, the parameters' types, the input's and its own; one constructor a row of the table
   pub data ExpressionTyped : Expression → List TypeTree → TypeTree → TypeTree → Type 0 where
-    sample_typed : {Ps : List TypeTree} {A : TypeTree} → ExpressionTyped sample Ps A A
-    parameter_typed : {Ps : List TypeTree} {A B : TypeTree} {k : ℕ} → ParamAt Ps k B → ExpressionTyped (parameter k) Ps A B
-    unit_typed : {Ps : List TypeTree} {A : TypeTree} → ExpressionTyped unit_literal Ps A unit_ty
-    truth_typed : {Ps : List TypeTree} {A : TypeTree} {b : Bool} → ExpressionTyped (truth_literal b) Ps A bool_ty
-    number_typed : {Ps : List TypeTree} {A : TypeTree} {n : ℤ} → FitsSigned w64 n → ExpressionTyped (number_literal n) Ps A int_ty
-    pair_typed : {Ps : List TypeTree} {A B C : TypeTree} {a b : Expression} → ExpressionTyped a Ps A B → ExpressionTyped b Ps A C → ExpressionTyped (make_pair a b) Ps A (pair_ty B C)
+    input_typed : {Ps : List TypeTree} {A : TypeTree} → ExpressionTyped input Ps A A
+    param_typed : {Ps : List TypeTree} {A B : TypeTree} {k : ℕ} → ParamAt Ps k B → ExpressionTyped (param k) Ps A B
+    unit_typed : {Ps : List TypeTree} {A : TypeTree} → ExpressionTyped unit_expr Ps A unit_ty
+    bool_typed : {Ps : List TypeTree} {A : TypeTree} {b : Bool} → ExpressionTyped (bool_expr b) Ps A bool_ty
+    int_typed : {Ps : List TypeTree} {A : TypeTree} {n : ℤ} → FitsSigned w64 n → ExpressionTyped (int_expr n) Ps A int_ty
+    pair_typed : {Ps : List TypeTree} {A B C : TypeTree} {a b : Expression} → ExpressionTyped a Ps A B → ExpressionTyped b Ps A C → ExpressionTyped (pair_expr a b) Ps A (pair_ty B C)
     fst_typed : {Ps : List TypeTree} {A B C : TypeTree} {e : Expression} → ExpressionTyped e Ps A (pair_ty B C) → ExpressionTyped (fst e) Ps A B
     snd_typed : {Ps : List TypeTree} {A B C : TypeTree} {e : Expression} → ExpressionTyped e Ps A (pair_ty B C) → ExpressionTyped (snd e) Ps A C
-    then_typed : {Ps : List TypeTree} {A B C : TypeTree} {f g : Expression} → ExpressionTyped f Ps A B → ExpressionTyped g Ps B C → ExpressionTyped (then f g) Ps A C
+    then_typed : {Ps : List TypeTree} {A B C : TypeTree} {f g : Expression} → ExpressionTyped f Ps A B → ExpressionTyped g Ps B C → ExpressionTyped (then_expr f g) Ps A C
     neg_typed : {Ps : List TypeTree} {A : TypeTree} {a : Expression} → ExpressionTyped a Ps A int_ty → ExpressionTyped (neg a) Ps A int_ty
     add_typed : {Ps : List TypeTree} {A : TypeTree} {a b : Expression} → ExpressionTyped a Ps A int_ty → ExpressionTyped b Ps A int_ty → ExpressionTyped (add a b) Ps A int_ty
     sub_typed : {Ps : List TypeTree} {A : TypeTree} {a b : Expression} → ExpressionTyped a Ps A int_ty → ExpressionTyped b Ps A int_ty → ExpressionTyped (sub a b) Ps A int_ty
     mul_typed : {Ps : List TypeTree} {A : TypeTree} {a b : Expression} → ExpressionTyped a Ps A int_ty → ExpressionTyped b Ps A int_ty → ExpressionTyped (mul a b) Ps A int_ty
     less_typed : {Ps : List TypeTree} {A : TypeTree} {a b : Expression} → ExpressionTyped a Ps A int_ty → ExpressionTyped b Ps A int_ty → ExpressionTyped (less a b) Ps A bool_ty
     equal_typed : {Ps : List TypeTree} {A B : TypeTree} {a b : Expression} → ExpressionTyped a Ps A B → ExpressionTyped b Ps A B → ExpressionTyped (equal a b) Ps A bool_ty
-    negation_typed : {Ps : List TypeTree} {A : TypeTree} {a : Expression} → ExpressionTyped a Ps A bool_ty → ExpressionTyped (negation a) Ps A bool_ty
-    conjunction_typed : {Ps : List TypeTree} {A : TypeTree} {a b : Expression} → ExpressionTyped a Ps A bool_ty → ExpressionTyped b Ps A bool_ty → ExpressionTyped (conjunction a b) Ps A bool_ty
-    disjunction_typed : {Ps : List TypeTree} {A : TypeTree} {a b : Expression} → ExpressionTyped a Ps A bool_ty → ExpressionTyped b Ps A bool_ty → ExpressionTyped (disjunction a b) Ps A bool_ty
-    choice_typed : {Ps : List TypeTree} {A B : TypeTree} {c a b : Expression} → ExpressionTyped c Ps A bool_ty → ExpressionTyped a Ps A B → ExpressionTyped b Ps A B → ExpressionTyped (choice c a b) Ps A B
-    none_of_typed : {Ps : List TypeTree} {A T : TypeTree} → ExpressionTyped (none_of T) Ps A (event_ty T)
-    event_typed : {Ps : List TypeTree} {A B : TypeTree} {e : Expression} → ExpressionTyped e Ps A B → ExpressionTyped (make_event e) Ps A (event_ty B)
+    not_typed : {Ps : List TypeTree} {A : TypeTree} {a : Expression} → ExpressionTyped a Ps A bool_ty → ExpressionTyped (not_expr a) Ps A bool_ty
+    and_typed : {Ps : List TypeTree} {A : TypeTree} {a b : Expression} → ExpressionTyped a Ps A bool_ty → ExpressionTyped b Ps A bool_ty → ExpressionTyped (and_expr a b) Ps A bool_ty
+    or_typed : {Ps : List TypeTree} {A : TypeTree} {a b : Expression} → ExpressionTyped a Ps A bool_ty → ExpressionTyped b Ps A bool_ty → ExpressionTyped (or_expr a b) Ps A bool_ty
+    if_typed : {Ps : List TypeTree} {A B : TypeTree} {c a b : Expression} → ExpressionTyped c Ps A bool_ty → ExpressionTyped a Ps A B → ExpressionTyped b Ps A B → ExpressionTyped (if_expr c a b) Ps A B
+    no_event_typed : {Ps : List TypeTree} {A T : TypeTree} → ExpressionTyped (no_event_expr T) Ps A (event_ty T)
+    event_typed : {Ps : List TypeTree} {A B : TypeTree} {e : Expression} → ExpressionTyped e Ps A B → ExpressionTyped (event_expr e) Ps A (event_ty B)
     on_typed : {Ps : List TypeTree} {A C V : TypeTree} {e d b : Expression} → ExpressionTyped e Ps A (event_ty V) → ExpressionTyped d Ps A C → ExpressionTyped b Ps (pair_ty A V) C → ExpressionTyped (on e d b) Ps A C
-    list_typed : {Ps : List TypeTree} {A T : TypeTree} {es : Expressions} → ExpressionsTyped es Ps A T → ExpressionTyped (make_list T es) Ps A (list_ty T)
+    list_typed : {Ps : List TypeTree} {A T : TypeTree} {es : Expressions} → ExpressionsTyped es Ps A T → ExpressionTyped (list_expr T es) Ps A (list_ty T)
     nth_typed : {Ps : List TypeTree} {A T : TypeTree} {e i d : Expression} → ExpressionTyped e Ps A (list_ty T) → ExpressionTyped i Ps A int_ty → ExpressionTyped d Ps A T → ExpressionTyped (nth e i d) Ps A T
     len_typed : {Ps : List TypeTree} {A T : TypeTree} {e : Expression} → ExpressionTyped e Ps A (list_ty T) → ExpressionTyped (len e) Ps A int_ty
 

@@ -3,15 +3,15 @@ use Rattle.std.specs.Prelude.{ℕ, zero, suc, ℤ, pos, neg_ℤ, ◌+ℤ◌, ◌
 use Rattle.std.specs.Int.{int_wrap, w64}
 use Rattle.std.specs.Ordering.{int_eq}
 use Rattle.std.specs.Bool.{beq}
-use Rattle.sample_core.specs.Datum.{Datum, Datums, unit, truth, number, pair, no_event, event, list, end, more, left, right, whole, elements, of_elements}
-use Rattle.leaf_core.specs.Expression.{Expression, Expressions, sample, parameter, unit_literal, truth_literal, number_literal, make_pair, fst, snd, then, neg, add, sub, mul, less, equal, negation, conjunction, disjunction, choice, none_of, make_event, on, make_list, nth, len, no_more, and_then}
+use Rattle.sample_core.specs.Datum.{Datum, Datums, unit, bool, int, pair, no_event, event, list, end, more, left, right, int_of, elements, list_of}
+use Rattle.leaf_core.specs.Expression.{Expression, Expressions, input, param, unit_expr, bool_expr, int_expr, pair_expr, fst, snd, then_expr, neg, add, sub, mul, less, equal, not_expr, and_expr, or_expr, if_expr, no_event_expr, event_expr, on, list_expr, nth, len, no_more, and_then}
 
 -- whether two values are the same
 abbrev mutual
   pub same_datum : Datum → Datum → Bool
   same_datum unit unit = true
-  same_datum (truth a) (truth b) = beq a b
-  same_datum (number m) (number n) = int_eq m n
+  same_datum (bool a) (bool b) = beq a b
+  same_datum (int m) (int n) = int_eq m n
   same_datum (pair a b) (pair c d) = same_datum a c && same_datum b d
   same_datum no_event no_event = true
   same_datum (event a) (event b) = same_datum a b
@@ -26,17 +26,17 @@ abbrev mutual
 
 -- whether a value is `true`
 abbrev pub is_true : Datum → Bool
-is_true (truth b) = b
+is_true (bool b) = b
 is_true _ = false
 
 -- the first value where the test holds, else the second
-abbrev pub chosen : Bool → Datum → Datum → Datum
-chosen true v w = v
-chosen false v w = w
+abbrev pub choose : Bool → Datum → Datum → Datum
+choose true v w = v
+choose false v w = w
 
 -- a number modulo 2^64, read as signed
-abbrev pub wrapped : ℤ → Datum
-wrapped z = number (int_wrap w64 z)
+abbrev pub wrap : ℤ → Datum
+wrap z = int (int_wrap w64 z)
 
 -- the element at a place, from 0; d outside
 abbrev pub nth_of : Datums → ℕ → Datum → Datum
@@ -66,40 +66,40 @@ on_event (event v) d b = b v
 on_event _ d b = d
 
 -- the sum, the difference, the product or the comparison of two numbers, as the form says
-abbrev pub of_numbers : Expression → ℤ → ℤ → Datum
-of_numbers (add _ _) m n = wrapped (m +ℤ n)
-of_numbers (sub _ _) m n = wrapped (m -ℤ n)
-of_numbers (mul _ _) m n = wrapped (m *ℤ n)
-of_numbers _ m n = truth (int_lt m n)
+abbrev pub of_ints : Expression → ℤ → ℤ → Datum
+of_ints (add _ _) m n = wrap (m +ℤ n)
+of_ints (sub _ _) m n = wrap (m -ℤ n)
+of_ints (mul _ _) m n = wrap (m *ℤ n)
+of_ints _ m n = bool (int_lt m n)
 
 -- the value under parameters ps at the input x; a default where it is ill typed
 abbrev mutual
   pub value_of : Expression → List Datum → Datum → Datum
-  value_of sample ps x = x
-  value_of (parameter k) ps x = param_at ps k
-  value_of unit_literal ps x = unit
-  value_of (truth_literal b) ps x = truth b
-  value_of (number_literal n) ps x = number n
-  value_of (make_pair a b) ps x = pair (value_of a ps x) (value_of b ps x)
+  value_of input ps x = x
+  value_of (param k) ps x = param_at ps k
+  value_of unit_expr ps x = unit
+  value_of (bool_expr b) ps x = bool b
+  value_of (int_expr n) ps x = int n
+  value_of (pair_expr a b) ps x = pair (value_of a ps x) (value_of b ps x)
   value_of (fst e) ps x = left (value_of e ps x)
   value_of (snd e) ps x = right (value_of e ps x)
-  value_of (then f g) ps x = value_of g ps (value_of f ps x)
-  value_of (neg a) ps x = wrapped (neg_ℤ (whole (value_of a ps x)))
-  value_of (add a b) ps x = wrapped (whole (value_of a ps x) +ℤ whole (value_of b ps x))
-  value_of (sub a b) ps x = wrapped (whole (value_of a ps x) -ℤ whole (value_of b ps x))
-  value_of (mul a b) ps x = wrapped (whole (value_of a ps x) *ℤ whole (value_of b ps x))
-  value_of (less a b) ps x = truth (int_lt (whole (value_of a ps x)) (whole (value_of b ps x)))
-  value_of (equal a b) ps x = truth (same_datum (value_of a ps x) (value_of b ps x))
-  value_of (negation a) ps x = truth (not (is_true (value_of a ps x)))
-  value_of (conjunction a b) ps x = truth (is_true (value_of a ps x) && is_true (value_of b ps x))
-  value_of (disjunction a b) ps x = truth (is_true (value_of a ps x) || is_true (value_of b ps x))
-  value_of (choice c a b) ps x = chosen (is_true (value_of c ps x)) (value_of a ps x) (value_of b ps x)
-  value_of (none_of t) ps x = no_event
-  value_of (make_event e) ps x = event (value_of e ps x)
+  value_of (then_expr f g) ps x = value_of g ps (value_of f ps x)
+  value_of (neg a) ps x = wrap (neg_ℤ (int_of (value_of a ps x)))
+  value_of (add a b) ps x = wrap (int_of (value_of a ps x) +ℤ int_of (value_of b ps x))
+  value_of (sub a b) ps x = wrap (int_of (value_of a ps x) -ℤ int_of (value_of b ps x))
+  value_of (mul a b) ps x = wrap (int_of (value_of a ps x) *ℤ int_of (value_of b ps x))
+  value_of (less a b) ps x = bool (int_lt (int_of (value_of a ps x)) (int_of (value_of b ps x)))
+  value_of (equal a b) ps x = bool (same_datum (value_of a ps x) (value_of b ps x))
+  value_of (not_expr a) ps x = bool (not (is_true (value_of a ps x)))
+  value_of (and_expr a b) ps x = bool (is_true (value_of a ps x) && is_true (value_of b ps x))
+  value_of (or_expr a b) ps x = bool (is_true (value_of a ps x) || is_true (value_of b ps x))
+  value_of (if_expr c a b) ps x = choose (is_true (value_of c ps x)) (value_of a ps x) (value_of b ps x)
+  value_of (no_event_expr t) ps x = no_event
+  value_of (event_expr e) ps x = event (value_of e ps x)
   value_of (on e d b) ps x = on_event (value_of e ps x) (value_of d ps x) (λ v. value_of b ps (pair x v))
-  value_of (make_list t es) ps x = list (of_elements (values_of es ps x))
-  value_of (nth e i d) ps x = element_at (value_of e ps x) (whole (value_of i ps x)) (value_of d ps x)
-  value_of (len e) ps x = wrapped (pos (count_of (value_of e ps x)))
+  value_of (list_expr t es) ps x = list (list_of (values_of es ps x))
+  value_of (nth e i d) ps x = element_at (value_of e ps x) (int_of (value_of i ps x)) (value_of d ps x)
+  value_of (len e) ps x = wrap (pos (count_of (value_of e ps x)))
 
   -- the values of the elements of a list, in order
   pub values_of : Expressions → List Datum → Datum → List Datum

@@ -2,9 +2,9 @@
 use Rattle.std.specs.Prelude.{ℕ, suc, ◌+◌, ℤ, true, false, [], ◌++◌}
 use Rattle.std.specs.Hash as fed
 use Rattle.sample_core.specs.TypeTree.{TypeTree}
-use Rattle.sample_core.specs.SeenType.{type_of}
-use Rattle.leaf_core.specs.Expression.{Expression, Expressions, expressions_of, expression_size, expressions_size, sample, parameter, unit_literal, truth_literal, number_literal, make_pair, fst, snd, then, neg, add, sub, mul, less, equal, negation, conjunction, disjunction, choice, none_of, make_event, on, make_list, nth, len}
-use Rattle.leaf_core.specs.Fed.{type_fed, expression_fed, expressions_fed}
+use Rattle.sample_core.specs.TypeView.{type_of}
+use Rattle.leaf_core.specs.Expression.{Expression, Expressions, expressions_of, expression_size, expressions_size, input, param, unit_expr, bool_expr, int_expr, pair_expr, fst, snd, then_expr, neg, add, sub, mul, less, equal, not_expr, and_expr, or_expr, if_expr, no_event_expr, event_expr, on, list_expr, nth, len}
+use Rattle.leaf_core.specs.HashWrites.{type_writes, expression_writes, expressions_writes}
 use Rattle.leaf_core.specs.declared.inside.Contents.{Contents}
 use Rattle.leaf_core.specs.declared.inside.Contents.TheVariants as V
 use Rattle.leaf_core.specs.declared.expr.Expr.{Expr}
@@ -19,48 +19,48 @@ pub data Inside : Type 0 where
   one : Expression → Inside
   two : Expression → Expression → Inside
   three : Expression → Expression → Expression → Inside
-  carried : TypeTree → Inside
+  one_type : TypeTree → Inside
   row : TypeTree → Expressions → Inside
 
 -- what stands inside an expression; with the number of its form it is the expression
 abbrev pub inside_of : Expression → Inside
-inside_of sample = nothing
-inside_of (parameter k) = index k
-inside_of unit_literal = nothing
-inside_of (truth_literal false) = nothing
-inside_of (truth_literal true) = nothing
-inside_of (number_literal n) = literal n
-inside_of (make_pair a b) = two a b
+inside_of input = nothing
+inside_of (param k) = index k
+inside_of unit_expr = nothing
+inside_of (bool_expr false) = nothing
+inside_of (bool_expr true) = nothing
+inside_of (int_expr n) = literal n
+inside_of (pair_expr a b) = two a b
 inside_of (fst a) = one a
 inside_of (snd a) = one a
-inside_of (then a b) = two a b
+inside_of (then_expr a b) = two a b
 inside_of (neg a) = one a
 inside_of (add a b) = two a b
 inside_of (sub a b) = two a b
 inside_of (mul a b) = two a b
 inside_of (less a b) = two a b
 inside_of (equal a b) = two a b
-inside_of (negation a) = one a
-inside_of (conjunction a b) = two a b
-inside_of (disjunction a b) = two a b
-inside_of (choice a b c) = three a b c
-inside_of (none_of t) = carried t
-inside_of (make_event a) = one a
+inside_of (not_expr a) = one a
+inside_of (and_expr a b) = two a b
+inside_of (or_expr a b) = two a b
+inside_of (if_expr a b c) = three a b c
+inside_of (no_event_expr t) = one_type t
+inside_of (event_expr a) = one a
 inside_of (on a b c) = three a b c
-inside_of (make_list t es) = row t es
+inside_of (list_expr t es) = row t es
 inside_of (nth a b c) = three a b c
 inside_of (len a) = one a
 
 -- what the code's `Contents` says
-abbrev pub seen_inside : Contents → Inside
-seen_inside V.Nothing = nothing
-seen_inside (V.Index k) = index k
-seen_inside (V.Number n) = literal n
-seen_inside (V.One a) = one a.now
-seen_inside (V.Two a b) = two a.now b.now
-seen_inside (V.Three a b c) = three a.now b.now c.now
-seen_inside (V.Type t) = carried (type_of t.now)
-seen_inside (V.Elements t es) = row (type_of t.now) (expressions_of es.now)
+abbrev pub inside_in : Contents → Inside
+inside_in V.Nothing = nothing
+inside_in (V.Index k) = index k
+inside_in (V.Number n) = literal n
+inside_in (V.One a) = one a.now
+inside_in (V.Two a b) = two a.now b.now
+inside_in (V.Three a b c) = three a.now b.now c.now
+inside_in (V.Type t) = one_type (type_of t.now)
+inside_in (V.Elements t es) = row (type_of t.now) (expressions_of es.now)
 
 -- how many forms stand inside one another, as of the expression
 abbrev pub inside_size : Inside → ℕ
@@ -75,11 +75,11 @@ abbrev pub inside_fed : Inside → fed.HashWrites
 inside_fed nothing = []
 inside_fed (index k) = fed.u32 k
 inside_fed (literal n) = fed.i64 n
-inside_fed (one a) = expression_fed a
-inside_fed (two a b) = expression_fed a ++ expression_fed b
-inside_fed (three a b c) = expression_fed a ++ (expression_fed b ++ expression_fed c)
-inside_fed (carried t) = type_fed t
-inside_fed (row t es) = type_fed t ++ (expressions_fed es ++ fed.u8 26)
+inside_fed (one a) = expression_writes a
+inside_fed (two a b) = expression_writes a ++ expression_writes b
+inside_fed (three a b c) = expression_writes a ++ (expression_writes b ++ expression_writes c)
+inside_fed (one_type t) = type_writes t
+inside_fed (row t es) = type_writes t ++ (expressions_writes es ++ fed.u8 26)
 
 -- the code's expression of a form that has nothing inside
 abbrev pub plain : Expr → Expr
@@ -114,12 +114,12 @@ with_three (E.On _ _ _) a b c = E.On a b c
 with_three _ a b c = E.Nth a b c
 
 -- the code's expression of the form of another, with this inside
-abbrev pub remade : Expr → Contents → Expr
-remade e V.Nothing = plain e
-remade e (V.Index k) = E.Param k
-remade e (V.Number n) = E.Literal (C.Int n)
-remade e (V.One a) = with_one e a.now
-remade e (V.Two a b) = with_two e a.now b.now
-remade e (V.Three a b c) = with_three e a.now b.now c.now
-remade e (V.Type t) = E.NoEvent t.now
-remade e (V.Elements t es) = E.List t.now es.now
+abbrev pub rebuild : Expr → Contents → Expr
+rebuild e V.Nothing = plain e
+rebuild e (V.Index k) = E.Param k
+rebuild e (V.Number n) = E.Literal (C.Int n)
+rebuild e (V.One a) = with_one e a.now
+rebuild e (V.Two a b) = with_two e a.now b.now
+rebuild e (V.Three a b c) = with_three e a.now b.now c.now
+rebuild e (V.Type t) = E.NoEvent t.now
+rebuild e (V.Elements t es) = E.List t.now es.now

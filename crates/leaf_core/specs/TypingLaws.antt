@@ -6,7 +6,7 @@ use Rattle.sample_core.specs.HasType.{HasType, TypedParams}
 use Rattle.leaf_core.specs.Expression.{Expression}
 use Rattle.leaf_core.specs.ExpressionValue.{value_of, same_datum}
 use Rattle.leaf_core.specs.ExpressionTyping.{ExpressionTyped}
-use Rattle.leaf_core.specs.ExpressionLimits.{FullyChecked}
+use Rattle.leaf_core.specs.ExpressionLimits.{ExpressionTypedWithin}
 use Rattle.leaf_core.specs.ExpressionCheck.{type_answer}
 
 -- the test that `equal` makes is equality
@@ -23,4 +23,4 @@ OneTypeLaw = (e : Expression) (Ps : List TypeTree) (A B C : TypeTree) → Expres
 
 -- the checking walk answers a type exactly where the expression has it within all limits
 abbrev pub ExactnessLaw : Type 0
-ExactnessLaw = (e : Expression) (Ps : List TypeTree) (A B : TypeTree) → (type_answer Ps A e ≡ Ok B) ↔ FullyChecked e Ps A B
+ExactnessLaw = (e : Expression) (Ps : List TypeTree) (A B : TypeTree) → (type_answer Ps A e ≡ Ok B) ↔ ExpressionTypedWithin e Ps A B

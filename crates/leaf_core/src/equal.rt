@@ -1,12 +1,12 @@
 // When two expressions are the same.
 
 ghost use Rattle.std.specs.Prelude.{◌≡◌, ◌↔◌, IsTrue};
-ghost use Rattle.sample_core.specs.SeenType.{type_of};
+ghost use Rattle.sample_core.specs.TypeView.{type_of};
 ghost use Rattle.leaf_core.specs.Expression.{expressions_of};
 ghost use Rattle.leaf_core.specs.Inside.{inside_of};
-ghost use Rattle.leaf_core.specs.Seen.{expression_of};
+ghost use Rattle.leaf_core.specs.ExpressionView.{expression_of};
 
-use crate::expr::{Expr, Part, Parts};
+use crate::expr::{Expr, ExprChild, Exprs};
 use crate::feed::tag;
 use crate::inside::{Contents, inside};
 use sample_core::{Ty, same_type};
@@ -40,7 +40,7 @@ fn same_inside(a: &Expr, b: &Expr) -> bool
 
 /// Whether two parts are equal.
 #[cycle(same)]
-fn same_part(a: &Part, b: &Part) -> bool
+fn same_part(a: &ExprChild, b: &ExprChild) -> bool
     ensures { IsTrue result ↔ (a.now ≡ b.now) }
 {
     same_expr(a.get(), b.get())
@@ -48,7 +48,7 @@ fn same_part(a: &Part, b: &Part) -> bool
 
 /// Whether two parts are equal to two others.
 #[cycle(same)]
-fn same_two(a: &Part, b: &Part, c: &Part, d: &Part) -> bool
+fn same_two(a: &ExprChild, b: &ExprChild, c: &ExprChild, d: &ExprChild) -> bool
     ensures { IsTrue result ↔ ((a.now ≡ c.now) × (b.now ≡ d.now)) }
 {
     same_part(a, c) && same_part(b, d)
@@ -56,7 +56,14 @@ fn same_two(a: &Part, b: &Part, c: &Part, d: &Part) -> bool
 
 /// Whether three parts are equal to three others.
 #[cycle(same)]
-fn same_three(a: &Part, b: &Part, c: &Part, d: &Part, e: &Part, f: &Part) -> bool
+fn same_three(
+    a: &ExprChild,
+    b: &ExprChild,
+    c: &ExprChild,
+    d: &ExprChild,
+    e: &ExprChild,
+    f: &ExprChild,
+) -> bool
     ensures { IsTrue result ↔ ((a.now ≡ d.now) × (b.now ≡ e.now) × (c.now ≡ f.now)) }
 {
     same_part(a, d) && same_two(b, c, e, f)
@@ -64,7 +71,7 @@ fn same_three(a: &Part, b: &Part, c: &Part, d: &Part, e: &Part, f: &Part) -> boo
 
 /// Whether the types and the elements of two list expressions are equal.
 #[cycle(same)]
-fn same_list(t: &Ty, all: &Parts, u: &Ty, others: &Parts) -> bool
+fn same_list(t: &Ty, all: &Exprs, u: &Ty, others: &Exprs) -> bool
     ensures { IsTrue result ↔ ((type_of t.now ≡ type_of u.now) × (expressions_of all.now ≡ expressions_of others.now)) }
 {
     same_type(t, u) && same_parts(all, others)
@@ -72,7 +79,7 @@ fn same_list(t: &Ty, all: &Parts, u: &Ty, others: &Parts) -> bool
 
 /// Whether the elements of two list expressions are equal.
 #[cycle(same)]
-fn same_parts(all: &Parts, others: &Parts) -> bool
+fn same_parts(all: &Exprs, others: &Exprs) -> bool
     ensures { IsTrue result ↔ (expressions_of all.now ≡ expressions_of others.now) }
 {
     let all = all.as_slice();

@@ -1,17 +1,17 @@
 // The value of an expression.
 
 ghost use Rattle.std.specs.Prelude.{◌≡◌, ◌&&◌, ◌||◌, IfOk, map, pos};
-ghost use Rattle.sample_core.specs.Datum.{whole, truth, pair, left, right};
-ghost use Rattle.sample_core.specs.Seen.{datum_of};
+ghost use Rattle.sample_core.specs.Datum.{int_of, bool, pair, left, right};
+ghost use Rattle.sample_core.specs.ValueView.{datum_of};
 ghost use Rattle.leaf_core.specs.Expression.{expressions_of, on};
-ghost use Rattle.leaf_core.specs.Seen.{expression_of};
-ghost use Rattle.leaf_core.specs.ExpressionValue.{value_of, values_of, is_true, same_datum, chosen, element_at, count_of, of_numbers, on_event, wrapped};
+ghost use Rattle.leaf_core.specs.ExpressionView.{expression_of};
+ghost use Rattle.leaf_core.specs.ExpressionValue.{value_of, values_of, is_true, same_datum, choose, element_at, count_of, of_ints, on_event, wrap};
 
-use crate::expr::{Expr, Part, Parts};
+use crate::expr::{Expr, ExprChild, Exprs};
 use crate::operations::{
     count, element, equal, first, literal_value, negated, number, of_numbers, param, second, truth,
 };
-use sample_core::{Child, Memory, Sample, Samples};
+use sample_core::{Memory, Sample, SampleChild, Samples};
 use std::alloc::Global;
 
 /// The value of the expression at the input `x`, where `params[k]` is the value of parameter k.
@@ -68,8 +68,8 @@ pub fn eval(alloc: Global, expr: &Expr, params: &[Sample], x: &Sample) -> Result
 #[cycle(eval)]
 fn eval_pair(
     alloc: Global,
-    a: &Part,
-    b: &Part,
+    a: &ExprChild,
+    b: &ExprChild,
     params: &[Sample],
     x: &Sample,
 ) -> Result<Sample, Memory>
@@ -82,7 +82,7 @@ fn eval_pair(
 
 /// The first part of a value.
 #[cycle(eval)]
-fn eval_first(alloc: Global, e: &Part, params: &[Sample], x: &Sample) -> Result<Sample, Memory>
+fn eval_first(alloc: Global, e: &ExprChild, params: &[Sample], x: &Sample) -> Result<Sample, Memory>
     ensures { IfOk result (λ s. datum_of s ≡ left (value_of e.now (map datum_of params.now) (datum_of x.now))) }
 {
     let pair = eval(alloc, e.get(), params, x)?;
@@ -93,7 +93,12 @@ fn eval_first(alloc: Global, e: &Part, params: &[Sample], x: &Sample) -> Result<
 
 /// The second part of a value.
 #[cycle(eval)]
-fn eval_second(alloc: Global, e: &Part, params: &[Sample], x: &Sample) -> Result<Sample, Memory>
+fn eval_second(
+    alloc: Global,
+    e: &ExprChild,
+    params: &[Sample],
+    x: &Sample,
+) -> Result<Sample, Memory>
     ensures { IfOk result (λ s. datum_of s ≡ right (value_of e.now (map datum_of params.now) (datum_of x.now))) }
 {
     let pair = eval(alloc, e.get(), params, x)?;
@@ -106,8 +111,8 @@ fn eval_second(alloc: Global, e: &Part, params: &[Sample], x: &Sample) -> Result
 #[cycle(eval)]
 fn eval_then(
     alloc: Global,
-    f: &Part,
-    g: &Part,
+    f: &ExprChild,
+    g: &ExprChild,
     params: &[Sample],
     x: &Sample,
 ) -> Result<Sample, Memory>
@@ -123,12 +128,12 @@ fn eval_then(
 #[cycle(eval)]
 fn eval_equal(
     alloc: Global,
-    a: &Part,
-    b: &Part,
+    a: &ExprChild,
+    b: &ExprChild,
     params: &[Sample],
     x: &Sample,
 ) -> Result<Sample, Memory>
-    ensures { IfOk result (λ s. datum_of s ≡ truth (same_datum (value_of a.now (map datum_of params.now) (datum_of x.now)) (value_of b.now (map datum_of params.now) (datum_of x.now)))) }
+    ensures { IfOk result (λ s. datum_of s ≡ bool (same_datum (value_of a.now (map datum_of params.now) (datum_of x.now)) (value_of b.now (map datum_of params.now) (datum_of x.now)))) }
 {
     let first = eval(alloc, a.get(), params, x)?;
     let found = eval_same(alloc, &first, b, params, x);
@@ -141,11 +146,11 @@ fn eval_equal(
 fn eval_same(
     alloc: Global,
     value: &Sample,
-    part: &Part,
+    part: &ExprChild,
     params: &[Sample],
     x: &Sample,
 ) -> Result<Sample, Memory>
-    ensures { IfOk result (λ s. datum_of s ≡ truth (same_datum (datum_of value.now) (value_of part.now (map datum_of params.now) (datum_of x.now)))) }
+    ensures { IfOk result (λ s. datum_of s ≡ bool (same_datum (datum_of value.now) (value_of part.now (map datum_of params.now) (datum_of x.now)))) }
 {
     let other = eval(alloc, part.get(), params, x)?;
     let same = equal(value, &other);
@@ -157,12 +162,12 @@ fn eval_same(
 #[cycle(eval)]
 fn eval_and(
     alloc: Global,
-    a: &Part,
-    b: &Part,
+    a: &ExprChild,
+    b: &ExprChild,
     params: &[Sample],
     x: &Sample,
 ) -> Result<Sample, Memory>
-    ensures { IfOk result (λ s. datum_of s ≡ truth (is_true (value_of a.now (map datum_of params.now) (datum_of x.now)) && is_true (value_of b.now (map datum_of params.now) (datum_of x.now)))) }
+    ensures { IfOk result (λ s. datum_of s ≡ bool (is_true (value_of a.now (map datum_of params.now) (datum_of x.now)) && is_true (value_of b.now (map datum_of params.now) (datum_of x.now)))) }
 {
     let a = eval_truth(alloc, a, params, x)?;
     let b = eval_truth(alloc, b, params, x)?;
@@ -173,12 +178,12 @@ fn eval_and(
 #[cycle(eval)]
 fn eval_or(
     alloc: Global,
-    a: &Part,
-    b: &Part,
+    a: &ExprChild,
+    b: &ExprChild,
     params: &[Sample],
     x: &Sample,
 ) -> Result<Sample, Memory>
-    ensures { IfOk result (λ s. datum_of s ≡ truth (is_true (value_of a.now (map datum_of params.now) (datum_of x.now)) || is_true (value_of b.now (map datum_of params.now) (datum_of x.now)))) }
+    ensures { IfOk result (λ s. datum_of s ≡ bool (is_true (value_of a.now (map datum_of params.now) (datum_of x.now)) || is_true (value_of b.now (map datum_of params.now) (datum_of x.now)))) }
 {
     let a = eval_truth(alloc, a, params, x)?;
     let b = eval_truth(alloc, b, params, x)?;
@@ -189,13 +194,13 @@ fn eval_or(
 #[cycle(eval)]
 fn eval_if(
     alloc: Global,
-    c: &Part,
-    a: &Part,
-    b: &Part,
+    c: &ExprChild,
+    a: &ExprChild,
+    b: &ExprChild,
     params: &[Sample],
     x: &Sample,
 ) -> Result<Sample, Memory>
-    ensures { IfOk result (λ s. datum_of s ≡ chosen (is_true (value_of c.now (map datum_of params.now) (datum_of x.now))) (value_of a.now (map datum_of params.now) (datum_of x.now)) (value_of b.now (map datum_of params.now) (datum_of x.now))) }
+    ensures { IfOk result (λ s. datum_of s ≡ choose (is_true (value_of c.now (map datum_of params.now) (datum_of x.now))) (value_of a.now (map datum_of params.now) (datum_of x.now)) (value_of b.now (map datum_of params.now) (datum_of x.now))) }
 {
     if eval_truth(alloc, c, params, x)? {
         eval(alloc, a.get(), params, x)
@@ -208,9 +213,9 @@ fn eval_if(
 #[cycle(eval)]
 fn eval_on(
     alloc: Global,
-    e: &Part,
-    d: &Part,
-    b: &Part,
+    e: &ExprChild,
+    d: &ExprChild,
+    b: &ExprChild,
     params: &[Sample],
     x: &Sample,
 ) -> Result<Sample, Memory>
@@ -227,8 +232,8 @@ fn eval_on(
 fn eval_on_event(
     alloc: Global,
     event: &Sample,
-    d: &Part,
-    b: &Part,
+    d: &ExprChild,
+    b: &ExprChild,
     params: &[Sample],
     x: &Sample,
 ) -> Result<Sample, Memory>
@@ -244,8 +249,8 @@ fn eval_on_event(
 #[cycle(eval)]
 fn eval_body(
     alloc: Global,
-    b: &Part,
-    carried: &Child,
+    b: &ExprChild,
+    carried: &SampleChild,
     params: &[Sample],
     x: &Sample,
 ) -> Result<Sample, Memory>
@@ -258,11 +263,11 @@ fn eval_body(
 }
 
 /// The pair of the input and what an event carries.
-fn with_carried(alloc: Global, x: &Sample, carried: &Child) -> Result<Sample, Memory>
+fn with_carried(alloc: Global, x: &Sample, carried: &SampleChild) -> Result<Sample, Memory>
     ensures { IfOk result (λ s. datum_of s ≡ pair (datum_of x.now) carried.now) }
 {
     let copy = x.try_copy(alloc)?;
-    let input = Child::new(alloc, copy)?;
+    let input = SampleChild::new(alloc, copy)?;
     let carried = carried.try_copy()?;
     Ok(Sample::Pair(input, carried))
 }
@@ -271,13 +276,13 @@ fn with_carried(alloc: Global, x: &Sample, carried: &Child) -> Result<Sample, Me
 #[cycle(eval)]
 fn eval_nth(
     alloc: Global,
-    e: &Part,
-    i: &Part,
-    d: &Part,
+    e: &ExprChild,
+    i: &ExprChild,
+    d: &ExprChild,
     params: &[Sample],
     x: &Sample,
 ) -> Result<Sample, Memory>
-    ensures { IfOk result (λ s. datum_of s ≡ element_at (value_of e.now (map datum_of params.now) (datum_of x.now)) (whole (value_of i.now (map datum_of params.now) (datum_of x.now))) (value_of d.now (map datum_of params.now) (datum_of x.now))) }
+    ensures { IfOk result (λ s. datum_of s ≡ element_at (value_of e.now (map datum_of params.now) (datum_of x.now)) (int_of (value_of i.now (map datum_of params.now) (datum_of x.now))) (value_of d.now (map datum_of params.now) (datum_of x.now))) }
 {
     let list = eval(alloc, e.get(), params, x)?;
     let found = eval_element(alloc, &list, i, d, params, x);
@@ -290,12 +295,12 @@ fn eval_nth(
 fn eval_element(
     alloc: Global,
     list: &Sample,
-    i: &Part,
-    d: &Part,
+    i: &ExprChild,
+    d: &ExprChild,
     params: &[Sample],
     x: &Sample,
 ) -> Result<Sample, Memory>
-    ensures { IfOk result (λ s. datum_of s ≡ element_at (datum_of list.now) (whole (value_of i.now (map datum_of params.now) (datum_of x.now))) (value_of d.now (map datum_of params.now) (datum_of x.now))) }
+    ensures { IfOk result (λ s. datum_of s ≡ element_at (datum_of list.now) (int_of (value_of i.now (map datum_of params.now) (datum_of x.now))) (value_of d.now (map datum_of params.now) (datum_of x.now))) }
 {
     let at = eval_number(alloc, i, params, x)?;
     let default = eval(alloc, d.get(), params, x)?;
@@ -306,8 +311,8 @@ fn eval_element(
 
 /// The value of a length.
 #[cycle(eval)]
-fn eval_len(alloc: Global, e: &Part, params: &[Sample], x: &Sample) -> Result<Sample, Memory>
-    ensures { IfOk result (λ s. datum_of s ≡ wrapped (pos (count_of (value_of e.now (map datum_of params.now) (datum_of x.now))))) }
+fn eval_len(alloc: Global, e: &ExprChild, params: &[Sample], x: &Sample) -> Result<Sample, Memory>
+    ensures { IfOk result (λ s. datum_of s ≡ wrap (pos (count_of (value_of e.now (map datum_of params.now) (datum_of x.now))))) }
 {
     let list = eval(alloc, e.get(), params, x)?;
     let elements = count(&list);
@@ -317,11 +322,16 @@ fn eval_len(alloc: Global, e: &Part, params: &[Sample], x: &Sample) -> Result<Sa
 
 /// The value of a part, as a part of another.
 #[cycle(eval)]
-fn eval_child(alloc: Global, part: &Part, params: &[Sample], x: &Sample) -> Result<Child, Memory>
+fn eval_child(
+    alloc: Global,
+    part: &ExprChild,
+    params: &[Sample],
+    x: &Sample,
+) -> Result<SampleChild, Memory>
     ensures { IfOk result (λ c. c ≡ value_of part.now (map datum_of params.now) (datum_of x.now)) }
 {
     let value = eval(alloc, part.get(), params, x)?;
-    Child::new(alloc, value)
+    SampleChild::new(alloc, value)
 }
 
 /// A sum, a difference, a product or a comparison of numbers.
@@ -329,12 +339,12 @@ fn eval_child(alloc: Global, part: &Part, params: &[Sample], x: &Sample) -> Resu
 fn eval_numbers(
     alloc: Global,
     form: &Expr,
-    a: &Part,
-    b: &Part,
+    a: &ExprChild,
+    b: &ExprChild,
     params: &[Sample],
     x: &Sample,
 ) -> Result<Sample, Memory>
-    ensures { IfOk result (λ s. datum_of s ≡ of_numbers (expression_of form.now) (whole (value_of a.now (map datum_of params.now) (datum_of x.now))) (whole (value_of b.now (map datum_of params.now) (datum_of x.now)))) }
+    ensures { IfOk result (λ s. datum_of s ≡ of_ints (expression_of form.now) (int_of (value_of a.now (map datum_of params.now) (datum_of x.now))) (int_of (value_of b.now (map datum_of params.now) (datum_of x.now)))) }
 {
     let a = eval_number(alloc, a, params, x)?;
     let b = eval_number(alloc, b, params, x)?;
@@ -343,8 +353,13 @@ fn eval_numbers(
 
 /// The number that a part has as its value; 0 where that is no number.
 #[cycle(eval)]
-fn eval_number(alloc: Global, part: &Part, params: &[Sample], x: &Sample) -> Result<i64, Memory>
-    ensures { IfOk result (λ n. n ≡ whole (value_of part.now (map datum_of params.now) (datum_of x.now))) }
+fn eval_number(
+    alloc: Global,
+    part: &ExprChild,
+    params: &[Sample],
+    x: &Sample,
+) -> Result<i64, Memory>
+    ensures { IfOk result (λ n. n ≡ int_of (value_of part.now (map datum_of params.now) (datum_of x.now))) }
 {
     let value = eval(alloc, part.get(), params, x)?;
     let number = number(&value);
@@ -354,7 +369,12 @@ fn eval_number(alloc: Global, part: &Part, params: &[Sample], x: &Sample) -> Res
 
 /// Whether a part has `true` as its value.
 #[cycle(eval)]
-fn eval_truth(alloc: Global, part: &Part, params: &[Sample], x: &Sample) -> Result<bool, Memory>
+fn eval_truth(
+    alloc: Global,
+    part: &ExprChild,
+    params: &[Sample],
+    x: &Sample,
+) -> Result<bool, Memory>
     ensures { IfOk result (λ b. b ≡ is_true (value_of part.now (map datum_of params.now) (datum_of x.now))) }
 {
     let value = eval(alloc, part.get(), params, x)?;
@@ -367,7 +387,7 @@ fn eval_truth(alloc: Global, part: &Part, params: &[Sample], x: &Sample) -> Resu
 #[cycle(eval)]
 fn eval_elements(
     alloc: Global,
-    elements: &Parts,
+    elements: &Exprs,
     params: &[Sample],
     x: &Sample,
 ) -> Result<Samples, Memory>

@@ -2,7 +2,7 @@
 
 ghost use Rattle.std.specs.Prelude.{◌≡◌, IfOk, map};
 ghost use Rattle.leaf_core.specs.Inside.{plain, with_one, with_two, with_three};
-ghost use Rattle.leaf_core.specs.Seen.{expression_of};
+ghost use Rattle.leaf_core.specs.ExpressionView.{expression_of};
 ghost use Rattle.leaf_core.specs.declared.expr.Expr.TheVariants as E;
 
 use crate::inside::{Contents, inside};
@@ -24,62 +24,62 @@ pub enum Expr {
     /// A literal.
     Literal(Literal),
     /// `(pair a b)`: the pair of the two.
-    Pair(Part, Part),
+    Pair(ExprChild, ExprChild),
     /// `(fst e)`: the first part of a pair.
-    Fst(Part),
+    Fst(ExprChild),
     /// `(snd e)`: the second part of a pair.
-    Snd(Part),
+    Snd(ExprChild),
     /// `(then f g)`: g at the value of f.
-    Then(Part, Part),
+    Then(ExprChild, ExprChild),
     /// `(neg a)`: the negative of a.
-    Neg(Part),
+    Neg(ExprChild),
     /// `(add a b)`: the sum.
-    Add(Part, Part),
+    Add(ExprChild, ExprChild),
     /// `(sub a b)`: a minus b.
-    Sub(Part, Part),
+    Sub(ExprChild, ExprChild),
     /// `(mul a b)`: the product.
-    Mul(Part, Part),
+    Mul(ExprChild, ExprChild),
     /// `(less a b)`: whether the number a is below b.
-    Less(Part, Part),
+    Less(ExprChild, ExprChild),
     /// `(equal a b)`: whether the two values are the same.
-    Equal(Part, Part),
+    Equal(ExprChild, ExprChild),
     /// `(not a)`: whether a isn't true.
-    Not(Part),
+    Not(ExprChild),
     /// `(and a b)`: whether both are true.
-    And(Part, Part),
+    And(ExprChild, ExprChild),
     /// `(or a b)`: whether one or both are true.
-    Or(Part, Part),
+    Or(ExprChild, ExprChild),
     /// `(if c a b)`: a where c is true, else b.
-    If(Part, Part, Part),
+    If(ExprChild, ExprChild, ExprChild),
     /// `(none T)`: no event, among events that carry a T.
     NoEvent(Ty),
     /// `(event e)`: an event that carries e.
-    Event(Part),
+    Event(ExprChild),
     /// `(on e d b)`: with an event v of e, b at the pair of the input and v; else d.
-    On(Part, Part, Part),
+    On(ExprChild, ExprChild, ExprChild),
     /// `(list T e1 .. en)`: the list of these, each a T.
-    List(Ty, Parts),
+    List(Ty, Exprs),
     /// `(nth e i d)`: the element of the list e at i, counted from 0; d outside.
-    Nth(Part, Part, Part),
+    Nth(ExprChild, ExprChild, ExprChild),
     /// `(len e)`: how many elements the list e has.
-    Len(Part),
+    Len(ExprChild),
 }
 
 /// An expression inside an expression. Contracts see it as the expression's tree; copies share it.
 #[cycle(expr)]
 #[derive(Drop)]
-pub struct Part {
+pub struct ExprChild {
     inner: Rc<Expr>,
 }
 
 /// The elements of a list expression. Contracts see them as a list of trees; copies share them.
 #[cycle(expr)]
 #[derive(Drop)]
-pub struct Parts {
+pub struct Exprs {
     all: Rc<Vec<Expr>>,
 }
 
-impl Model for Part {
+impl Model for ExprChild {
     ghost use Rattle.leaf_core.specs.Expression.{Expression, expression_size};
     ghost use Rattle.leaf_core.specs.ExpressionCode.{expression_code};
 
@@ -87,18 +87,18 @@ impl Model for Part {
 
     ghost coded = { expression_code };
 
-    ghost use Rattle.leaf_core.specs.Seen.{expression_of};
+    ghost use Rattle.leaf_core.specs.ExpressionView.{expression_of};
 
     ghost view = { λ a. expression_of a.inner.value };
 
     ghost size = { expression_size };
 
-    ghost use Rattle.leaf_core.specs.Falls.{depth_le};
+    ghost use Rattle.leaf_core.specs.Depth.{depth_le};
 
     ghost size_decreases = { λ a h. depth_le a.inner.value };
 }
 
-impl Model for Parts {
+impl Model for Exprs {
     ghost use Rattle.std.specs.Prelude.{List, map};
     ghost use Rattle.std.specs.Coded.{coded_list};
     ghost use Rattle.leaf_core.specs.Expression.{Expression, expressions_of, expressions_size};
@@ -108,13 +108,13 @@ impl Model for Parts {
 
     ghost coded = { coded_list expression_code };
 
-    ghost use Rattle.leaf_core.specs.Seen.{expression_of};
+    ghost use Rattle.leaf_core.specs.ExpressionView.{expression_of};
 
     ghost view = { λ a. map expression_of a.all.value.items };
 
     ghost size = { λ es. expressions_size (expressions_of es) };
 
-    ghost use Rattle.leaf_core.specs.Falls.{depths_le};
+    ghost use Rattle.leaf_core.specs.Depth.{depths_le};
     ghost use Rattle.std.proofs.Common.{arith};
 
     ghost size_decreases = { λ a h. Prim.omega (arith, depths_le a.all.value.items) };
@@ -150,7 +150,7 @@ fn plain(form: &Expr) -> Expr
 }
 
 /// The expression's form, with a copy of this part.
-fn copy_of_one(form: &Expr, a: &Part) -> Result<Expr, Memory>
+fn copy_of_one(form: &Expr, a: &ExprChild) -> Result<Expr, Memory>
     ensures { IfOk result (λ e. e ≡ with_one form.now a.now) }
 {
     let a = a.try_copy()?;
@@ -158,7 +158,7 @@ fn copy_of_one(form: &Expr, a: &Part) -> Result<Expr, Memory>
 }
 
 /// The expression's form, with copies of these two parts.
-fn copy_of_two(form: &Expr, a: &Part, b: &Part) -> Result<Expr, Memory>
+fn copy_of_two(form: &Expr, a: &ExprChild, b: &ExprChild) -> Result<Expr, Memory>
     ensures { IfOk result (λ e. e ≡ with_two form.now a.now b.now) }
 {
     let a = a.try_copy()?;
@@ -167,7 +167,7 @@ fn copy_of_two(form: &Expr, a: &Part, b: &Part) -> Result<Expr, Memory>
 }
 
 /// The expression's form, with copies of these three parts.
-fn copy_of_three(form: &Expr, a: &Part, b: &Part, c: &Part) -> Result<Expr, Memory>
+fn copy_of_three(form: &Expr, a: &ExprChild, b: &ExprChild, c: &ExprChild) -> Result<Expr, Memory>
     ensures { IfOk result (λ e. e ≡ with_three form.now a.now b.now c.now) }
 {
     let a = a.try_copy()?;
@@ -177,7 +177,7 @@ fn copy_of_three(form: &Expr, a: &Part, b: &Part, c: &Part) -> Result<Expr, Memo
 }
 
 /// The expression's form, with this part.
-fn with_one(form: &Expr, a: Part) -> Expr
+fn with_one(form: &Expr, a: ExprChild) -> Expr
     ensures { result ≡ with_one form.now a }
 {
     match form {
@@ -191,7 +191,7 @@ fn with_one(form: &Expr, a: Part) -> Expr
 }
 
 /// The expression's form, with these two parts.
-fn with_two(form: &Expr, a: Part, b: Part) -> Expr
+fn with_two(form: &Expr, a: ExprChild, b: ExprChild) -> Expr
     ensures { result ≡ with_two form.now a b }
 {
     match form {
@@ -208,7 +208,7 @@ fn with_two(form: &Expr, a: Part, b: Part) -> Expr
 }
 
 /// The expression's form, with these three parts.
-fn with_three(form: &Expr, a: Part, b: Part, c: Part) -> Expr
+fn with_three(form: &Expr, a: ExprChild, b: ExprChild, c: ExprChild) -> Expr
     ensures { result ≡ with_three form.now a b c }
 {
     match form {
@@ -227,7 +227,7 @@ fn copy_no_event(alloc: Global, carried: &Ty) -> Result<Expr, Memory>
 }
 
 /// A copy of the list of these elements.
-fn copy_list(alloc: Global, element: &Ty, all: &Parts) -> Result<Expr, Memory>
+fn copy_list(alloc: Global, element: &Ty, all: &Exprs) -> Result<Expr, Memory>
     ensures { IfOk result (λ e. e ≡ E.List element.now all.now) }
 {
     let all = all.try_copy()?;
@@ -235,13 +235,13 @@ fn copy_list(alloc: Global, element: &Ty, all: &Parts) -> Result<Expr, Memory>
     Ok(Expr::List(element, all))
 }
 
-impl Part {
+impl ExprChild {
     /// The expression as a part of another. `Memory` where a growth was refused.
-    pub fn new(alloc: Global, expr: Expr) -> Result<Part, Memory>
+    pub fn new(alloc: Global, expr: Expr) -> Result<ExprChild, Memory>
         ensures { IfOk result (λ p. p ≡ expression_of expr) }
     {
         let inner = Rc::new(alloc, expr)?;
-        Ok(Part { inner })
+        Ok(ExprChild { inner })
     }
 
     /// The expression itself.
@@ -253,22 +253,22 @@ impl Part {
 
     /// The same expression, shared. It takes no memory; `Memory` only where a count of references
     /// is full.
-    pub fn try_copy(&self) -> Result<Part, Memory>
+    pub fn try_copy(&self) -> Result<ExprChild, Memory>
         ensures { IfOk result (λ p. p ≡ self.now) }
     {
         let inner = self.inner.clone()?;
-        Ok(Part { inner })
+        Ok(ExprChild { inner })
     }
 }
 
-impl Parts {
+impl Exprs {
     /// The expressions as the elements of a list expression, in order. `Memory` where a growth was
     /// refused.
-    pub fn new(alloc: Global, all: Vec<Expr>) -> Result<Parts, Memory>
+    pub fn new(alloc: Global, all: Vec<Expr>) -> Result<Exprs, Memory>
         ensures { IfOk result (λ es. es ≡ map expression_of all.items) }
     {
         let all = Rc::new(alloc, all)?;
-        Ok(Parts { all })
+        Ok(Exprs { all })
     }
 
     /// The elements in order.
@@ -280,10 +280,10 @@ impl Parts {
 
     /// The same elements, shared. It takes no memory; `Memory` only where a count of references is
     /// full.
-    pub fn try_copy(&self) -> Result<Parts, Memory>
+    pub fn try_copy(&self) -> Result<Exprs, Memory>
         ensures { IfOk result (λ es. es ≡ self.now) }
     {
         let all = self.all.clone()?;
-        Ok(Parts { all })
+        Ok(Exprs { all })
     }
 }

@@ -2,13 +2,13 @@
 
 ghost use Rattle.std.specs.Prelude.{◌≡◌, ◌++◌, fold};
 ghost use Rattle.std.specs.Hash.{u8};
-ghost use Rattle.sample_core.specs.SeenType.{type_of};
-ghost use Rattle.leaf_core.specs.Seen.{expression_of};
+ghost use Rattle.sample_core.specs.TypeView.{type_of};
+ghost use Rattle.leaf_core.specs.ExpressionView.{expression_of};
 ghost use Rattle.leaf_core.specs.Inside.{inside_of, inside_fed};
 ghost use Rattle.leaf_core.specs.Expression.{expressions_of};
-ghost use Rattle.leaf_core.specs.Fed.{tag_of, type_fed, expression_fed, expressions_fed};
+ghost use Rattle.leaf_core.specs.HashWrites.{tag_of, type_writes, expression_writes, expressions_writes};
 
-use crate::expr::{Expr, Part, Parts};
+use crate::expr::{Expr, ExprChild, Exprs};
 use crate::inside::{Contents, inside};
 use crate::literal::Literal;
 use sample_core::Ty;
@@ -16,7 +16,7 @@ use std::hash::Hasher;
 
 /// Feeds the type's forms to the hasher, a byte each, a form before its parts.
 pub fn feed_type<H: Hasher>(ty: &Ty, state: &mut H)
-    ensures { state.new ≡ fold H.write state.old (type_fed (type_of ty.now)) }
+    ensures { state.new ≡ fold H.write state.old (type_writes (type_of ty.now)) }
 {
     match ty {
         Ty::Unit => state.write_u8(0),
@@ -77,7 +77,7 @@ pub fn tag(expr: &Expr) -> u8
 #[cycle(feed)]
 #[tactic(auto, using(crate::proofs::InsideLaws::fed_inside))]
 pub fn feed_expr<H: Hasher>(expr: &Expr, state: &mut H)
-    ensures { state.new ≡ fold H.write state.old (expression_fed (expression_of expr.now)) }
+    ensures { state.new ≡ fold H.write state.old (expression_writes (expression_of expr.now)) }
 {
     state.write_u8(tag(expr));
     feed_inside(expr, state)
@@ -102,8 +102,8 @@ fn feed_inside<H: Hasher>(expr: &Expr, state: &mut H)
 
 /// Feeds two parts to the hasher, one after the other.
 #[cycle(feed)]
-fn feed_two<H: Hasher>(a: &Part, b: &Part, state: &mut H)
-    ensures { state.new ≡ fold H.write state.old (expression_fed a.now ++ expression_fed b.now) }
+fn feed_two<H: Hasher>(a: &ExprChild, b: &ExprChild, state: &mut H)
+    ensures { state.new ≡ fold H.write state.old (expression_writes a.now ++ expression_writes b.now) }
 {
     feed_expr(a.get(), state);
     feed_expr(b.get(), state);
@@ -111,8 +111,8 @@ fn feed_two<H: Hasher>(a: &Part, b: &Part, state: &mut H)
 
 /// Feeds three parts to the hasher, one after another.
 #[cycle(feed)]
-fn feed_three<H: Hasher>(a: &Part, b: &Part, c: &Part, state: &mut H)
-    ensures { state.new ≡ fold H.write state.old (expression_fed a.now ++ (expression_fed b.now ++ expression_fed c.now)) }
+fn feed_three<H: Hasher>(a: &ExprChild, b: &ExprChild, c: &ExprChild, state: &mut H)
+    ensures { state.new ≡ fold H.write state.old (expression_writes a.now ++ (expression_writes b.now ++ expression_writes c.now)) }
 {
     feed_expr(a.get(), state);
     feed_two(b, c, state);
@@ -120,8 +120,8 @@ fn feed_three<H: Hasher>(a: &Part, b: &Part, c: &Part, state: &mut H)
 
 /// Feeds the type and the elements of a list expression to the hasher, and the byte behind them.
 #[cycle(feed)]
-fn feed_list<H: Hasher>(t: &Ty, all: &Parts, state: &mut H)
-    ensures { state.new ≡ fold H.write state.old (type_fed (type_of t.now) ++ (expressions_fed (expressions_of all.now) ++ u8 26)) }
+fn feed_list<H: Hasher>(t: &Ty, all: &Exprs, state: &mut H)
+    ensures { state.new ≡ fold H.write state.old (type_writes (type_of t.now) ++ (expressions_writes (expressions_of all.now) ++ u8 26)) }
 {
     feed_type(t, state);
     feed_all(all, state);
@@ -130,8 +130,8 @@ fn feed_list<H: Hasher>(t: &Ty, all: &Parts, state: &mut H)
 
 /// Feeds the elements of a list expression to the hasher, one after another.
 #[cycle(feed)]
-fn feed_all<H: Hasher>(all: &Parts, state: &mut H)
-    ensures { state.new ≡ fold H.write state.old (expressions_fed (expressions_of all.now)) }
+fn feed_all<H: Hasher>(all: &Exprs, state: &mut H)
+    ensures { state.new ≡ fold H.write state.old (expressions_writes (expressions_of all.now)) }
 {
     for e in all.as_slice() {
         feed_expr(e, state);

@@ -1,10 +1,10 @@
 // What stands inside an expression, apart from its form.
 
 ghost use Rattle.std.specs.Prelude.{◌≡◌};
-ghost use Rattle.leaf_core.specs.Inside.{inside_of, remade, seen_inside};
-ghost use Rattle.leaf_core.specs.Seen.{expression_of};
+ghost use Rattle.leaf_core.specs.Inside.{inside_of, rebuild, inside_in};
+ghost use Rattle.leaf_core.specs.ExpressionView.{expression_of};
 
-use crate::expr::{Expr, Part, Parts};
+use crate::expr::{Expr, ExprChild, Exprs};
 use crate::literal::Literal;
 use sample_core::Ty;
 
@@ -20,22 +20,22 @@ pub enum Contents<'e> {
     /// The number of a literal.
     Number(i64),
     /// A part.
-    One(&'e Part),
+    One(&'e ExprChild),
     /// Two parts, in their order.
-    Two(&'e Part, &'e Part),
+    Two(&'e ExprChild, &'e ExprChild),
     /// Three parts, in their order.
-    Three(&'e Part, &'e Part, &'e Part),
+    Three(&'e ExprChild, &'e ExprChild, &'e ExprChild),
     /// What no event carries.
     Type(&'e Ty),
     /// What a list has elements of, and the elements.
-    Elements(&'e Ty, &'e Parts),
+    Elements(&'e Ty, &'e Exprs),
 }
 
 /// What stands inside the expression.
 pub fn inside(expr: &Expr) -> Contents<'_>
-    ensures seen { seen_inside result ≡ inside_of (expression_of expr.now) }
+    ensures seen { inside_in result ≡ inside_of (expression_of expr.now) }
     // With the form it is the expression.
-    ensures whole { remade expr.now result ≡ expr.now }
+    ensures whole { rebuild expr.now result ≡ expr.now }
 {
     match expr {
         Expr::Input | Expr::Literal(Literal::Unit | Literal::Bool(_)) => Contents::Nothing,

@@ -25,9 +25,9 @@ pub struct LeafKey {
 
 impl Model for LeafKey {
     ghost use Rattle.std.specs.Prelude.{map};
-    ghost use Rattle.sample_core.specs.SeenType.{type_of};
+    ghost use Rattle.sample_core.specs.TypeView.{type_of};
     ghost use Rattle.leaf_core.specs.KeyTree.{KeyTree, key_code};
-    ghost use Rattle.leaf_core.specs.Seen.{expression_of};
+    ghost use Rattle.leaf_core.specs.ExpressionView.{expression_of};
 
     ghost Value = { KeyTree };
 
@@ -77,7 +77,7 @@ impl LeafKey {
 
 impl PartialEq for LeafKey {
     ghost use Rattle.leaf_core.specs.KeyTree.{key_code};
-    ghost use Rattle.leaf_core.specs.SameByCode.{same_by, same_by_partial_laws};
+    ghost use Rattle.leaf_core.specs.EqualityByCode.{same_by, same_by_partial_laws};
 
     ghost eq = { same_by key_code };
 
@@ -90,19 +90,19 @@ impl PartialEq for LeafKey {
 
 impl Eq for LeafKey {
     ghost use Rattle.leaf_core.specs.KeyTree.{key_code};
-    ghost use Rattle.leaf_core.specs.SameByCode.{same_by_laws};
+    ghost use Rattle.leaf_core.specs.EqualityByCode.{same_by_laws};
 
     ghost laws = { same_by_laws key_code };
 }
 
 impl Hash for LeafKey {
-    ghost use Rattle.leaf_core.specs.Fed.{key_fed};
+    ghost use Rattle.leaf_core.specs.HashWrites.{key_writes};
     ghost use Rattle.leaf_core.specs.KeyTree.{key_code};
-    ghost use Rattle.leaf_core.specs.SameByCode.{same_by_respects};
+    ghost use Rattle.leaf_core.specs.EqualityByCode.{same_by_respects};
 
-    ghost hash_input = { key_fed };
+    ghost hash_input = { key_writes };
 
-    ghost respects_eq = { same_by_respects key_code key_fed };
+    ghost respects_eq = { same_by_respects key_code key_writes };
 
     fn hash<H: Hasher>(&self, state: &mut H) {
         feed_expr(&self.expr, state);

@@ -17,7 +17,7 @@ mod typing;
 
 pub use equal::same_expr;
 pub use evaluation::eval;
-pub use expr::{Expr, Part, Parts};
+pub use expr::{Expr, ExprChild, Exprs};
 pub use key::LeafKey;
 pub use laws::typing_laws;
 pub use limits::{expr_fits, type_fits};

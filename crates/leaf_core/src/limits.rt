@@ -1,13 +1,13 @@
 // The limits of types and of expressions.
 
 ghost use Rattle.std.specs.Prelude.{◌≡◌, ◌+◌, ◌≤◌, max, MatchOption};
-ghost use Rattle.sample_core.specs.SeenType.{type_of};
-ghost use Rattle.leaf_core.specs.Seen.{expression_of};
+ghost use Rattle.sample_core.specs.TypeView.{type_of};
+ghost use Rattle.leaf_core.specs.ExpressionView.{expression_of};
 ghost use Rattle.leaf_core.specs.Expression.{expressions_of};
 ghost use Rattle.leaf_core.specs.TypeLimits.{depth_of, nodes_of, type_fits};
 ghost use Rattle.leaf_core.specs.ExpressionLimits.{height_of, heights_of, nodes_in, nodes_in_all, expression_fits};
 
-use crate::expr::{Expr, Part, Parts};
+use crate::expr::{Expr, ExprChild, Exprs};
 use sample_core::Ty;
 
 /// How many types may stand in one another; `Int` has depth 1.
@@ -85,7 +85,7 @@ fn nodes_left(expr: &Expr, height: u32, nodes: u32) -> Option<u32>
 
 /// The same of two parts.
 #[cycle(left)]
-fn nodes_left_of_two(a: &Part, b: &Part, height: u32, nodes: u32) -> Option<u32>
+fn nodes_left_of_two(a: &ExprChild, b: &ExprChild, height: u32, nodes: u32) -> Option<u32>
     ensures { MatchOption result (max (height_of a.now) (height_of b.now) ≤ height → nodes_in a.now + nodes_in b.now ≤ nodes → ⊥) (λ left. (max (height_of a.now) (height_of b.now) ≤ height) × (nodes_in a.now + nodes_in b.now + left ≡ nodes)) }
 {
     let nodes = nodes_left(a.get(), height, nodes)?;
@@ -94,7 +94,13 @@ fn nodes_left_of_two(a: &Part, b: &Part, height: u32, nodes: u32) -> Option<u32>
 
 /// The same of three parts.
 #[cycle(left)]
-fn nodes_left_of_three(a: &Part, b: &Part, c: &Part, height: u32, nodes: u32) -> Option<u32>
+fn nodes_left_of_three(
+    a: &ExprChild,
+    b: &ExprChild,
+    c: &ExprChild,
+    height: u32,
+    nodes: u32,
+) -> Option<u32>
     ensures { MatchOption result (max (height_of a.now) (max (height_of b.now) (height_of c.now)) ≤ height → nodes_in a.now + nodes_in b.now + nodes_in c.now ≤ nodes → ⊥) (λ left. (max (height_of a.now) (max (height_of b.now) (height_of c.now)) ≤ height) × (nodes_in a.now + nodes_in b.now + nodes_in c.now + left ≡ nodes)) }
 {
     let nodes = nodes_left_of_two(a, b, height, nodes)?;
@@ -103,7 +109,7 @@ fn nodes_left_of_three(a: &Part, b: &Part, c: &Part, height: u32, nodes: u32) ->
 
 /// The same of the elements of a list expression.
 #[cycle(left)]
-fn nodes_left_of_all(all: &Parts, height: u32, nodes: u32) -> Option<u32>
+fn nodes_left_of_all(all: &Exprs, height: u32, nodes: u32) -> Option<u32>
     ensures { MatchOption result (heights_of (expressions_of all.now) ≤ height → nodes_in_all (expressions_of all.now) ≤ nodes → ⊥) (λ left. (heights_of (expressions_of all.now) ≤ height) × (nodes_in_all (expressions_of all.now) + left ≡ nodes)) }
 {
     let mut left = nodes;

@@ -2,14 +2,14 @@
 
 ghost use Rattle.std.specs.Prelude.{◌≡◌, IfOk, pos, neg_ℤ, map, []};
 ghost use Rattle.std.specs.Int.{int_wrap, w64};
-ghost use Rattle.sample_core.specs.Datum.{whole, left, right, unit};
-ghost use Rattle.sample_core.specs.Seen.{datum_of};
-ghost use Rattle.leaf_core.specs.Seen.{expression_of, literal_of};
-ghost use Rattle.leaf_core.specs.ExpressionValue.{value_of, wrapped, is_true, of_numbers, element_at, count_of, param_at, same_datum};
+ghost use Rattle.sample_core.specs.Datum.{int_of, left, right, unit};
+ghost use Rattle.sample_core.specs.ValueView.{datum_of};
+ghost use Rattle.leaf_core.specs.ExpressionView.{expression_of, literal_of};
+ghost use Rattle.leaf_core.specs.ExpressionValue.{value_of, wrap, is_true, of_ints, element_at, count_of, param_at, same_datum};
 
 use crate::expr::Expr;
 use crate::literal::Literal;
-use sample_core::{Child, Memory, Sample, same};
+use sample_core::{Memory, Sample, SampleChild, same};
 use std::alloc::Global;
 
 /// The value that a literal writes out.
@@ -25,7 +25,7 @@ pub fn literal_value(literal: Literal) -> Sample
 
 /// The number of a number value; 0 of another.
 pub fn number(value: &Sample) -> i64
-    ensures { result ≡ whole (datum_of value.now) }
+    ensures { result ≡ int_of (datum_of value.now) }
 {
     match value {
         Sample::Int(n) => *n,
@@ -35,7 +35,7 @@ pub fn number(value: &Sample) -> i64
 
 /// The number's negative, modulo 2^64, read as signed.
 pub fn negated(n: i64) -> Sample
-    ensures { datum_of result ≡ wrapped (neg_ℤ n) }
+    ensures { datum_of result ≡ wrap (neg_ℤ n) }
 {
     Sample::Int(n.wrapping_neg())
 }
@@ -43,7 +43,7 @@ pub fn negated(n: i64) -> Sample
 /// The sum, the difference, the product or the comparison of two numbers, as the form says. The
 /// first three are taken modulo 2^64 and read as signed.
 pub fn of_numbers(form: &Expr, m: i64, n: i64) -> Sample
-    ensures { datum_of result ≡ of_numbers (expression_of form.now) m n }
+    ensures { datum_of result ≡ of_ints (expression_of form.now) m n }
 {
     match form {
         Expr::Add(..) => Sample::Int(m.wrapping_add(n)),

@@ -1,7 +1,7 @@
 // The shapes of the expressions that have code of their own.
 
 ghost use Rattle.std.specs.Prelude.{◌≡◌};
-ghost use Rattle.leaf_core.specs.Seen.{expression_of};
+ghost use Rattle.leaf_core.specs.ExpressionView.{expression_of};
 ghost use Rattle.leaf_core.specs.Shape.{shape, ShapeValueLaw};
 
 use crate::expr::Expr;

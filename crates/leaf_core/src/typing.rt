@@ -2,15 +2,15 @@
 
 ghost use Rattle.std.specs.Prelude.{◌≡◌, ◌≢◌, IfOk, MatchResult, List, Ok, Err, map};
 ghost use Rattle.sample_core.specs.TypeTree.{TypeTree, bool_ty, int_ty, pair_ty, event_ty, list_ty};
-ghost use Rattle.sample_core.specs.SeenType.{type_of};
-ghost use Rattle.leaf_core.specs.Expression.{expressions_of, make_pair, fst, snd, then, neg, add, less, equal, negation, conjunction, choice, make_event, on, make_list, nth, len};
-ghost use Rattle.leaf_core.specs.Seen.{expression_of, literal_of};
-ghost use Rattle.leaf_core.specs.ExpressionCheck.{carried_of, element_of, elements_walk, first_of, limited, of_type, on_ok, second_of, type_answer, type_of_param, type_walk, wanted};
-ghost use Rattle.leaf_core.specs.ExpressionLimits.{FullyChecked};
-ghost use Rattle.leaf_core.specs.Gives.{Gives, Passes};
+ghost use Rattle.sample_core.specs.TypeView.{type_of};
+ghost use Rattle.leaf_core.specs.Expression.{expressions_of, pair_expr, fst, snd, then_expr, neg, add, less, equal, not_expr, and_expr, if_expr, event_expr, on, list_expr, nth, len};
+ghost use Rattle.leaf_core.specs.ExpressionView.{expression_of, literal_of};
+ghost use Rattle.leaf_core.specs.ExpressionCheck.{carried_type, element_type, elements_walk, first_type, within_limits, expect_then, on_ok, second_type, type_answer, type_of_param, type_walk, expect};
+ghost use Rattle.leaf_core.specs.ExpressionLimits.{ExpressionTypedWithin};
+ghost use Rattle.leaf_core.specs.CheckAnswer.{Gives, Passes};
 ghost use Rattle.leaf_core.specs.declared.typing.ExprFault.TheVariants as F;
 
-use crate::expr::{Expr, Part, Parts};
+use crate::expr::{Expr, ExprChild, Exprs};
 use crate::limits::{expr_fits, type_fits};
 use crate::literal::Literal;
 use sample_core::{Memory, Ty, TyChild, same_type};
@@ -56,9 +56,9 @@ impl From<Memory> for ExprFault {
 /// nodes. `Memory` where a growth was refused.
 pub fn type_of_expr(alloc: Global, params: &[Ty], input: &Ty, expr: &Expr) -> Result<Ty, ExprFault>
     // A type that is answered is the expression's, within all limits.
-    ensures typed { IfOk result (λ t. FullyChecked (expression_of expr.now) (map type_of params.now) (type_of input.now) (type_of t)) }
+    ensures typed { IfOk result (λ t. ExpressionTypedWithin (expression_of expr.now) (map type_of params.now) (type_of input.now) (type_of t)) }
     // The type that the expression has within all limits is answered, unless memory runs out.
-    ensures only { (t : TypeTree) → FullyChecked (expression_of expr.now) (map type_of params.now) (type_of input.now) t → Gives result (Ok t) }
+    ensures only { (t : TypeTree) → ExpressionTypedWithin (expression_of expr.now) (map type_of params.now) (type_of input.now) t → Gives result (Ok t) }
     // Which answer it is.
     ensures exact { Gives result (type_answer (map type_of params.now) (type_of input.now) (expression_of expr.now)) }
 {
@@ -107,8 +107,14 @@ fn walk(alloc: Global, params: &[Ty], input: &Ty, expr: &Expr) -> Result<Ty, Exp
 
 /// The type of a pair.
 #[cycle(walk)]
-fn walk_pair(alloc: Global, params: &[Ty], input: &Ty, a: &Part, b: &Part) -> Result<Ty, ExprFault>
-    ensures { Gives result (type_walk (map type_of params.now) (type_of input.now) (make_pair a.now b.now)) }
+fn walk_pair(
+    alloc: Global,
+    params: &[Ty],
+    input: &Ty,
+    a: &ExprChild,
+    b: &ExprChild,
+) -> Result<Ty, ExprFault>
+    ensures { Gives result (type_walk (map type_of params.now) (type_of input.now) (pair_expr a.now b.now)) }
 {
     let first = walk_child(alloc, params, input, a)?;
     let second = walk_child(alloc, params, input, b)?;
@@ -117,7 +123,7 @@ fn walk_pair(alloc: Global, params: &[Ty], input: &Ty, a: &Part, b: &Part) -> Re
 
 /// The type of the first part of a pair.
 #[cycle(walk)]
-fn walk_first(alloc: Global, params: &[Ty], input: &Ty, e: &Part) -> Result<Ty, ExprFault>
+fn walk_first(alloc: Global, params: &[Ty], input: &Ty, e: &ExprChild) -> Result<Ty, ExprFault>
     ensures { Gives result (type_walk (map type_of params.now) (type_of input.now) (fst e.now)) }
 {
     let pair = walk(alloc, params, input, e.get())?;
@@ -128,7 +134,7 @@ fn walk_first(alloc: Global, params: &[Ty], input: &Ty, e: &Part) -> Result<Ty, 
 
 /// The type of the second part of a pair.
 #[cycle(walk)]
-fn walk_second(alloc: Global, params: &[Ty], input: &Ty, e: &Part) -> Result<Ty, ExprFault>
+fn walk_second(alloc: Global, params: &[Ty], input: &Ty, e: &ExprChild) -> Result<Ty, ExprFault>
     ensures { Gives result (type_walk (map type_of params.now) (type_of input.now) (snd e.now)) }
 {
     let pair = walk(alloc, params, input, e.get())?;
@@ -139,8 +145,14 @@ fn walk_second(alloc: Global, params: &[Ty], input: &Ty, e: &Part) -> Result<Ty,
 
 /// The type of one expression behind another.
 #[cycle(walk)]
-fn walk_then(alloc: Global, params: &[Ty], input: &Ty, f: &Part, g: &Part) -> Result<Ty, ExprFault>
-    ensures { Gives result (type_walk (map type_of params.now) (type_of input.now) (then f.now g.now)) }
+fn walk_then(
+    alloc: Global,
+    params: &[Ty],
+    input: &Ty,
+    f: &ExprChild,
+    g: &ExprChild,
+) -> Result<Ty, ExprFault>
+    ensures { Gives result (type_walk (map type_of params.now) (type_of input.now) (then_expr f.now g.now)) }
 {
     let between = walk(alloc, params, input, f.get())?;
     let found = walk(alloc, params, &between, g.get());
@@ -150,7 +162,7 @@ fn walk_then(alloc: Global, params: &[Ty], input: &Ty, f: &Part, g: &Part) -> Re
 
 /// The type of a negative.
 #[cycle(walk)]
-fn walk_negative(alloc: Global, params: &[Ty], input: &Ty, a: &Part) -> Result<Ty, ExprFault>
+fn walk_negative(alloc: Global, params: &[Ty], input: &Ty, a: &ExprChild) -> Result<Ty, ExprFault>
     ensures { Gives result (type_walk (map type_of params.now) (type_of input.now) (neg a.now)) }
 {
     walk_int(alloc, params, input, a)?;
@@ -159,7 +171,13 @@ fn walk_negative(alloc: Global, params: &[Ty], input: &Ty, a: &Part) -> Result<T
 
 /// The type of a sum, a difference or a product.
 #[cycle(walk)]
-fn walk_sum(alloc: Global, params: &[Ty], input: &Ty, a: &Part, b: &Part) -> Result<Ty, ExprFault>
+fn walk_sum(
+    alloc: Global,
+    params: &[Ty],
+    input: &Ty,
+    a: &ExprChild,
+    b: &ExprChild,
+) -> Result<Ty, ExprFault>
     ensures { Gives result (type_walk (map type_of params.now) (type_of input.now) (add a.now b.now)) }
 {
     walk_int(alloc, params, input, a)?;
@@ -169,7 +187,13 @@ fn walk_sum(alloc: Global, params: &[Ty], input: &Ty, a: &Part, b: &Part) -> Res
 
 /// The type of a comparison of numbers.
 #[cycle(walk)]
-fn walk_less(alloc: Global, params: &[Ty], input: &Ty, a: &Part, b: &Part) -> Result<Ty, ExprFault>
+fn walk_less(
+    alloc: Global,
+    params: &[Ty],
+    input: &Ty,
+    a: &ExprChild,
+    b: &ExprChild,
+) -> Result<Ty, ExprFault>
     ensures { Gives result (type_walk (map type_of params.now) (type_of input.now) (less a.now b.now)) }
 {
     walk_int(alloc, params, input, a)?;
@@ -179,7 +203,13 @@ fn walk_less(alloc: Global, params: &[Ty], input: &Ty, a: &Part, b: &Part) -> Re
 
 /// The type of a comparison.
 #[cycle(walk)]
-fn walk_equal(alloc: Global, params: &[Ty], input: &Ty, a: &Part, b: &Part) -> Result<Ty, ExprFault>
+fn walk_equal(
+    alloc: Global,
+    params: &[Ty],
+    input: &Ty,
+    a: &ExprChild,
+    b: &ExprChild,
+) -> Result<Ty, ExprFault>
     ensures { Gives result (type_walk (map type_of params.now) (type_of input.now) (equal a.now b.now)) }
 {
     let first = walk(alloc, params, input, a.get())?;
@@ -191,8 +221,8 @@ fn walk_equal(alloc: Global, params: &[Ty], input: &Ty, a: &Part, b: &Part) -> R
 
 /// The type of what isn't so.
 #[cycle(walk)]
-fn walk_not(alloc: Global, params: &[Ty], input: &Ty, a: &Part) -> Result<Ty, ExprFault>
-    ensures { Gives result (type_walk (map type_of params.now) (type_of input.now) (negation a.now)) }
+fn walk_not(alloc: Global, params: &[Ty], input: &Ty, a: &ExprChild) -> Result<Ty, ExprFault>
+    ensures { Gives result (type_walk (map type_of params.now) (type_of input.now) (not_expr a.now)) }
 {
     walk_bool(alloc, params, input, a)?;
     limited(Ty::Bool)
@@ -200,8 +230,14 @@ fn walk_not(alloc: Global, params: &[Ty], input: &Ty, a: &Part) -> Result<Ty, Ex
 
 /// The type of two truths in one.
 #[cycle(walk)]
-fn walk_both(alloc: Global, params: &[Ty], input: &Ty, a: &Part, b: &Part) -> Result<Ty, ExprFault>
-    ensures { Gives result (type_walk (map type_of params.now) (type_of input.now) (conjunction a.now b.now)) }
+fn walk_both(
+    alloc: Global,
+    params: &[Ty],
+    input: &Ty,
+    a: &ExprChild,
+    b: &ExprChild,
+) -> Result<Ty, ExprFault>
+    ensures { Gives result (type_walk (map type_of params.now) (type_of input.now) (and_expr a.now b.now)) }
 {
     walk_bool(alloc, params, input, a)?;
     walk_bool(alloc, params, input, b)?;
@@ -214,11 +250,11 @@ fn walk_if(
     alloc: Global,
     params: &[Ty],
     input: &Ty,
-    c: &Part,
-    a: &Part,
-    b: &Part,
+    c: &ExprChild,
+    a: &ExprChild,
+    b: &ExprChild,
 ) -> Result<Ty, ExprFault>
-    ensures { Gives result (type_walk (map type_of params.now) (type_of input.now) (choice c.now a.now b.now)) }
+    ensures { Gives result (type_walk (map type_of params.now) (type_of input.now) (if_expr c.now a.now b.now)) }
 {
     walk_bool(alloc, params, input, c)?;
     walk_branches(alloc, params, input, a, b)
@@ -230,10 +266,10 @@ fn walk_branches(
     alloc: Global,
     params: &[Ty],
     input: &Ty,
-    a: &Part,
-    b: &Part,
+    a: &ExprChild,
+    b: &ExprChild,
 ) -> Result<Ty, ExprFault>
-    ensures { Gives result (on_ok (type_walk (map type_of params.now) (type_of input.now) a.now) (λ B. of_type (type_walk (map type_of params.now) (type_of input.now) b.now) B (limited B))) }
+    ensures { Gives result (on_ok (type_walk (map type_of params.now) (type_of input.now) a.now) (λ B. expect_then (type_walk (map type_of params.now) (type_of input.now) b.now) B (within_limits B))) }
 {
     let first = walk(alloc, params, input, a.get())?;
     let tested = walk_wanted(alloc, params, input, b.get(), &first);
@@ -242,8 +278,8 @@ fn walk_branches(
 
 /// The type of an event.
 #[cycle(walk)]
-fn walk_event(alloc: Global, params: &[Ty], input: &Ty, e: &Part) -> Result<Ty, ExprFault>
-    ensures { Gives result (type_walk (map type_of params.now) (type_of input.now) (make_event e.now)) }
+fn walk_event(alloc: Global, params: &[Ty], input: &Ty, e: &ExprChild) -> Result<Ty, ExprFault>
+    ensures { Gives result (type_walk (map type_of params.now) (type_of input.now) (event_expr e.now)) }
 {
     let carried = walk_child(alloc, params, input, e)?;
     limited(Ty::Event(carried))
@@ -255,9 +291,9 @@ fn walk_on(
     alloc: Global,
     params: &[Ty],
     input: &Ty,
-    e: &Part,
-    d: &Part,
-    b: &Part,
+    e: &ExprChild,
+    d: &ExprChild,
+    b: &ExprChild,
 ) -> Result<Ty, ExprFault>
     ensures { Gives result (type_walk (map type_of params.now) (type_of input.now) (on e.now d.now b.now)) }
 {
@@ -274,10 +310,10 @@ fn walk_on_event(
     params: &[Ty],
     input: &Ty,
     event: &Ty,
-    d: &Part,
-    b: &Part,
+    d: &ExprChild,
+    b: &ExprChild,
 ) -> Result<Ty, ExprFault>
-    ensures { Gives result (on_ok (carried_of (type_of event.now)) (λ V. on_ok (type_walk (map type_of params.now) (type_of input.now) d.now) (λ C. on_ok (limited (pair_ty (type_of input.now) V)) (λ I. of_type (type_walk (map type_of params.now) I b.now) C (limited C))))) }
+    ensures { Gives result (on_ok (carried_type (type_of event.now)) (λ V. on_ok (type_walk (map type_of params.now) (type_of input.now) d.now) (λ C. on_ok (within_limits (pair_ty (type_of input.now) V)) (λ I. expect_then (type_walk (map type_of params.now) I b.now) C (within_limits C))))) }
 {
     match event {
         Ty::Event(carried) => walk_default(alloc, params, input, carried.get(), d, b),
@@ -292,10 +328,10 @@ fn walk_default(
     params: &[Ty],
     input: &Ty,
     carried: &Ty,
-    d: &Part,
-    b: &Part,
+    d: &ExprChild,
+    b: &ExprChild,
 ) -> Result<Ty, ExprFault>
-    ensures { Gives result (on_ok (type_walk (map type_of params.now) (type_of input.now) d.now) (λ C. on_ok (limited (pair_ty (type_of input.now) (type_of carried.now))) (λ I. of_type (type_walk (map type_of params.now) I b.now) C (limited C)))) }
+    ensures { Gives result (on_ok (type_walk (map type_of params.now) (type_of input.now) d.now) (λ C. on_ok (within_limits (pair_ty (type_of input.now) (type_of carried.now))) (λ I. expect_then (type_walk (map type_of params.now) I b.now) C (within_limits C)))) }
 {
     let default = walk(alloc, params, input, d.get())?;
     let tested = walk_body(alloc, params, input, carried, b, &default);
@@ -309,10 +345,10 @@ fn walk_body(
     params: &[Ty],
     input: &Ty,
     carried: &Ty,
-    b: &Part,
+    b: &ExprChild,
     ty: &Ty,
 ) -> Result<(), ExprFault>
-    ensures { Passes result (on_ok (limited (pair_ty (type_of input.now) (type_of carried.now))) (λ I. wanted (type_walk (map type_of params.now) I b.now) (type_of ty.now))) (type_of ty.now) }
+    ensures { Passes result (on_ok (within_limits (pair_ty (type_of input.now) (type_of carried.now))) (λ I. expect (type_walk (map type_of params.now) I b.now) (type_of ty.now))) (type_of ty.now) }
 {
     let inner = body_input(alloc, input, carried)?;
     let tested = walk_wanted(alloc, params, &inner, b.get(), ty);
@@ -327,9 +363,9 @@ fn walk_list(
     params: &[Ty],
     input: &Ty,
     element: &Ty,
-    all: &Parts,
+    all: &Exprs,
 ) -> Result<Ty, ExprFault>
-    ensures { Gives result (type_walk (map type_of params.now) (type_of input.now) (make_list (type_of element.now) (expressions_of all.now))) }
+    ensures { Gives result (type_walk (map type_of params.now) (type_of input.now) (list_expr (type_of element.now) (expressions_of all.now))) }
 {
     if !type_fits(element) {
         return Err(ExprFault::TooDeep);
@@ -343,9 +379,9 @@ fn walk_nth(
     alloc: Global,
     params: &[Ty],
     input: &Ty,
-    e: &Part,
-    i: &Part,
-    d: &Part,
+    e: &ExprChild,
+    i: &ExprChild,
+    d: &ExprChild,
 ) -> Result<Ty, ExprFault>
     ensures { Gives result (type_walk (map type_of params.now) (type_of input.now) (nth e.now i.now d.now)) }
 {
@@ -362,10 +398,10 @@ fn walk_nth_of(
     params: &[Ty],
     input: &Ty,
     list: &Ty,
-    i: &Part,
-    d: &Part,
+    i: &ExprChild,
+    d: &ExprChild,
 ) -> Result<Ty, ExprFault>
-    ensures { Gives result (on_ok (element_of (type_of list.now)) (λ T. of_type (type_walk (map type_of params.now) (type_of input.now) i.now) int_ty (of_type (type_walk (map type_of params.now) (type_of input.now) d.now) T (limited T)))) }
+    ensures { Gives result (on_ok (element_type (type_of list.now)) (λ T. expect_then (type_walk (map type_of params.now) (type_of input.now) i.now) int_ty (expect_then (type_walk (map type_of params.now) (type_of input.now) d.now) T (within_limits T)))) }
 {
     match list {
         Ty::List(element) => walk_element(alloc, params, input, element.get(), i, d),
@@ -380,10 +416,10 @@ fn walk_element(
     params: &[Ty],
     input: &Ty,
     element: &Ty,
-    i: &Part,
-    d: &Part,
+    i: &ExprChild,
+    d: &ExprChild,
 ) -> Result<Ty, ExprFault>
-    ensures { Gives result (of_type (type_walk (map type_of params.now) (type_of input.now) i.now) int_ty (of_type (type_walk (map type_of params.now) (type_of input.now) d.now) (type_of element.now) (limited (type_of element.now)))) }
+    ensures { Gives result (expect_then (type_walk (map type_of params.now) (type_of input.now) i.now) int_ty (expect_then (type_walk (map type_of params.now) (type_of input.now) d.now) (type_of element.now) (within_limits (type_of element.now)))) }
 {
     walk_int(alloc, params, input, i)?;
     walk_wanted(alloc, params, input, d.get(), element)?;
@@ -392,7 +428,7 @@ fn walk_element(
 
 /// The type of a length.
 #[cycle(walk)]
-fn walk_len(alloc: Global, params: &[Ty], input: &Ty, e: &Part) -> Result<Ty, ExprFault>
+fn walk_len(alloc: Global, params: &[Ty], input: &Ty, e: &ExprChild) -> Result<Ty, ExprFault>
     ensures { Gives result (type_walk (map type_of params.now) (type_of input.now) (len e.now)) }
 {
     let list = walk(alloc, params, input, e.get())?;
@@ -403,7 +439,12 @@ fn walk_len(alloc: Global, params: &[Ty], input: &Ty, e: &Part) -> Result<Ty, Ex
 
 /// The type of a part, as a part of another.
 #[cycle(walk)]
-fn walk_child(alloc: Global, params: &[Ty], input: &Ty, part: &Part) -> Result<TyChild, ExprFault>
+fn walk_child(
+    alloc: Global,
+    params: &[Ty],
+    input: &Ty,
+    part: &ExprChild,
+) -> Result<TyChild, ExprFault>
     ensures { MatchResult result (λ t. type_walk (map type_of params.now) (type_of input.now) part.now ≡ Ok t) (λ f. f ≢ F.Memory → type_walk (map type_of params.now) (type_of input.now) part.now ≡ Err f) }
 {
     let found = walk(alloc, params, input, part.get())?;
@@ -420,7 +461,7 @@ fn walk_wanted(
     expr: &Expr,
     ty: &Ty,
 ) -> Result<(), ExprFault>
-    ensures { Passes result (wanted (type_walk (map type_of params.now) (type_of input.now) (expression_of expr.now)) (type_of ty.now)) (type_of ty.now) }
+    ensures { Passes result (expect (type_walk (map type_of params.now) (type_of input.now) (expression_of expr.now)) (type_of ty.now)) (type_of ty.now) }
 {
     let found = walk(alloc, params, input, expr)?;
     let tested = matching(&found, ty);
@@ -430,16 +471,16 @@ fn walk_wanted(
 
 /// Tests that a part is a number.
 #[cycle(walk)]
-fn walk_int(alloc: Global, params: &[Ty], input: &Ty, part: &Part) -> Result<(), ExprFault>
-    ensures { Passes result (wanted (type_walk (map type_of params.now) (type_of input.now) part.now) int_ty) int_ty }
+fn walk_int(alloc: Global, params: &[Ty], input: &Ty, part: &ExprChild) -> Result<(), ExprFault>
+    ensures { Passes result (expect (type_walk (map type_of params.now) (type_of input.now) part.now) int_ty) int_ty }
 {
     walk_wanted(alloc, params, input, part.get(), &Ty::Int)
 }
 
 /// Tests that a part is a truth.
 #[cycle(walk)]
-fn walk_bool(alloc: Global, params: &[Ty], input: &Ty, part: &Part) -> Result<(), ExprFault>
-    ensures { Passes result (wanted (type_walk (map type_of params.now) (type_of input.now) part.now) bool_ty) bool_ty }
+fn walk_bool(alloc: Global, params: &[Ty], input: &Ty, part: &ExprChild) -> Result<(), ExprFault>
+    ensures { Passes result (expect (type_walk (map type_of params.now) (type_of input.now) part.now) bool_ty) bool_ty }
 {
     walk_wanted(alloc, params, input, part.get(), &Ty::Bool)
 }
@@ -451,7 +492,7 @@ fn walk_elements(
     params: &[Ty],
     input: &Ty,
     element: &Ty,
-    all: &Parts,
+    all: &Exprs,
 ) -> Result<Ty, ExprFault>
     ensures { Gives result (elements_walk (map type_of params.now) (type_of input.now) (type_of element.now) (expressions_of all.now)) }
 {
@@ -463,7 +504,7 @@ fn walk_elements(
 
 /// Tests that the type that was found is the one that is wanted.
 fn matching(found: &Ty, ty: &Ty) -> Result<(), ExprFault>
-    ensures { Passes result (wanted (Ok (type_of found.now)) (type_of ty.now)) (type_of ty.now) }
+    ensures { Passes result (expect (Ok (type_of found.now)) (type_of ty.now)) (type_of ty.now) }
 {
     if same_type(found, ty) {
         Ok(())
@@ -474,7 +515,7 @@ fn matching(found: &Ty, ty: &Ty) -> Result<(), ExprFault>
 
 /// The type, where a test was passed and the type is within the limits.
 fn passed(tested: Result<(), ExprFault>, ty: Ty) -> Result<Ty, ExprFault>
-    ensures { MatchResult tested (λ _. Gives result (limited (type_of ty))) (λ f. result ≡ Err f) }
+    ensures { MatchResult tested (λ _. Gives result (within_limits (type_of ty))) (λ f. result ≡ Err f) }
 {
     match tested {
         Ok(()) => limited(ty),
@@ -487,7 +528,7 @@ fn passed(tested: Result<(), ExprFault>, ty: Ty) -> Result<Ty, ExprFault>
 
 /// The type of no event that carries the type.
 fn no_event_type(alloc: Global, carried: &Ty) -> Result<Ty, ExprFault>
-    ensures { Gives result (on_ok (limited (type_of carried.now)) (λ T. limited (event_ty T))) }
+    ensures { Gives result (on_ok (within_limits (type_of carried.now)) (λ T. within_limits (event_ty T))) }
 {
     if !type_fits(carried) {
         return Err(ExprFault::TooDeep);
@@ -498,7 +539,7 @@ fn no_event_type(alloc: Global, carried: &Ty) -> Result<Ty, ExprFault>
 
 /// The type of the input with what an event carries, where it is within the limits.
 fn body_input(alloc: Global, input: &Ty, carried: &Ty) -> Result<Ty, ExprFault>
-    ensures { Gives result (limited (pair_ty (type_of input.now) (type_of carried.now))) }
+    ensures { Gives result (within_limits (pair_ty (type_of input.now) (type_of carried.now))) }
 {
     let input = copied_child(alloc, input)?;
     let carried = copied_child(alloc, carried)?;
@@ -507,7 +548,7 @@ fn body_input(alloc: Global, input: &Ty, carried: &Ty) -> Result<Ty, ExprFault>
 
 /// The type of lists of the type, where it is within the limits.
 fn list_type(alloc: Global, element: &Ty) -> Result<Ty, ExprFault>
-    ensures { Gives result (limited (list_ty (type_of element.now))) }
+    ensures { Gives result (within_limits (list_ty (type_of element.now))) }
 {
     let element = copied_child(alloc, element)?;
     limited(Ty::List(element))
@@ -523,7 +564,7 @@ fn copied_child(alloc: Global, ty: &Ty) -> Result<TyChild, Memory>
 
 /// The type, where it is within the limits.
 fn limited(ty: Ty) -> Result<Ty, ExprFault>
-    ensures { Gives result (limited (type_of ty)) }
+    ensures { Gives result (within_limits (type_of ty)) }
 {
     if type_fits(&ty) {
         Ok(ty)
@@ -535,7 +576,7 @@ fn limited(ty: Ty) -> Result<Ty, ExprFault>
 
 /// A copy of the type, where it is within the limits.
 fn limited_copy(alloc: Global, ty: &Ty) -> Result<Ty, ExprFault>
-    ensures { Gives result (limited (type_of ty.now)) }
+    ensures { Gives result (within_limits (type_of ty.now)) }
 {
     if !type_fits(ty) {
         return Err(ExprFault::TooDeep);
@@ -546,7 +587,7 @@ fn limited_copy(alloc: Global, ty: &Ty) -> Result<Ty, ExprFault>
 
 /// The type of a literal.
 fn literal_type(literal: Literal) -> Ty
-    ensures { (Ps : List TypeTree) (A : TypeTree) → type_walk Ps A (literal_of literal) ≡ limited (type_of result) }
+    ensures { (Ps : List TypeTree) (A : TypeTree) → type_walk Ps A (literal_of literal) ≡ within_limits (type_of result) }
 {
     match literal {
         Literal::Unit => Ty::Unit,
@@ -557,7 +598,7 @@ fn literal_type(literal: Literal) -> Ty
 
 /// The type of parameter k, where it is within the limits.
 fn param_type(alloc: Global, params: &[Ty], k: u32) -> Result<Ty, ExprFault>
-    ensures { Gives result (on_ok (type_of_param (map type_of params.now) k) limited) }
+    ensures { Gives result (on_ok (type_of_param (map type_of params.now) k) within_limits) }
 {
     match params.get(k as usize) {
         Some(ty) => limited_copy(alloc, ty),
@@ -567,7 +608,7 @@ fn param_type(alloc: Global, params: &[Ty], k: u32) -> Result<Ty, ExprFault>
 
 /// The type of a pair's first part, where it is within the limits.
 fn first_type(alloc: Global, pair: &Ty) -> Result<Ty, ExprFault>
-    ensures { Gives result (on_ok (first_of (type_of pair.now)) limited) }
+    ensures { Gives result (on_ok (first_type (type_of pair.now)) within_limits) }
 {
     match pair {
         Ty::Pair(first, _) => limited_copy(alloc, first.get()),
@@ -577,7 +618,7 @@ fn first_type(alloc: Global, pair: &Ty) -> Result<Ty, ExprFault>
 
 /// The type of a pair's second part, where it is within the limits.
 fn second_type(alloc: Global, pair: &Ty) -> Result<Ty, ExprFault>
-    ensures { Gives result (on_ok (second_of (type_of pair.now)) limited) }
+    ensures { Gives result (on_ok (second_type (type_of pair.now)) within_limits) }
 {
     match pair {
         Ty::Pair(_, second) => limited_copy(alloc, second.get()),
@@ -587,7 +628,7 @@ fn second_type(alloc: Global, pair: &Ty) -> Result<Ty, ExprFault>
 
 /// The type of a list's length.
 fn length_type(list: &Ty) -> Result<Ty, ExprFault>
-    ensures { Gives result (on_ok (element_of (type_of list.now)) (λ _. limited int_ty)) }
+    ensures { Gives result (on_ok (element_type (type_of list.now)) (λ _. within_limits int_ty)) }
 {
     match list {
         Ty::List(_) => limited(Ty::Int),

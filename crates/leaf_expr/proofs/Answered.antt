@@ -2,10 +2,10 @@
 use Rattle.std.proofs.Common.{◌≡◌, ◌≢◌, ℕ, ◌<◌, Bool, true, false, if◌then◌else◌, nat_lt, List, [], ◌∷◌, length, refl, subst, IfOk, Result, Ok, Err}
 use Rattle.std.specs.Prelude.{IfErr}
 use Rattle.std.proofs.lemmas.Bool.{ltb-true}
-use Rattle.leaf_expr.specs.Token.{Placed, tokens, tokens_from}
+use Rattle.leaf_expr.specs.Token.{PlacedToken, tokens, tokens_from}
 use Rattle.leaf_expr.specs.Language.{Begins}
 use Rattle.leaf_expr.specs.Grammar.{leaf, Sort, Tree}
-use Rattle.leaf_expr.specs.Reader.{syntax, number, too_deep, Read, read}
+use Rattle.leaf_expr.specs.TreeReader.{syntax, number, too_deep, Read, read}
 use Rattle.leaf_expr.specs.Text.{too_long, whole, read_text, IsText}
 use Rattle.leaf_expr.specs.ReadText.{Gives, GivesText, IsFault, IsTextFault, tree_at}
 use Rattle.leaf_expr.specs.declared.text_fault.ExprTextFault.{ExprTextFault}
@@ -17,12 +17,12 @@ use Rattle.leaf_expr.proofs.LeafProper.{leaf_proper}
 use Rattle.leaf_expr.proofs.TextLaws.{text_found, text_read, text_fault}
 
 module _ (s : Sort) (text : List ℕ) where
-  module _ {X : Type 0} (room n : ℕ) (view : X → Tree s × ℕ × List Placed) where
+  module _ {X : Type 0} (room n : ℕ) (view : X → Tree s × ℕ × List PlacedToken) where
     pub tree_found : (r : Result X ExprTextFault) → Gives view r (tree_at s text room n) → IfOk r (λ x. Begins leaf room s (view x).0 (tokens_from n text) (view x).1 (view x).2)
     tree_found (Ok x) h = found leaf (length text) room s (tokens_from n text) (view x) h
     tree_found (Err e) h = tt
 
-    pub tree_only : (r : Result X ExprTextFault) → Gives view r (tree_at s text room n) → (t : Tree s) (m : ℕ) (rest : List Placed) → Begins leaf room s t (tokens_from n text) m rest → Gives view r (Ok (t, m, rest))
+    pub tree_only : (r : Result X ExprTextFault) → Gives view r (tree_at s text room n) → (t : Tree s) (m : ℕ) (rest : List PlacedToken) → Begins leaf room s t (tokens_from n text) m rest → Gives view r (Ok (t, m, rest))
     tree_only r h t m rest b = subst (λ z. Gives view r z) (only leaf leaf_proper (length text) room s b.part (tokens_from n text) m rest t b.spells b.means b.within) h
 
     pub tree_refused : (r : Result X ExprTextFault) → Gives view r (tree_at s text room n) → IfErr r (IsFault s text room n)

@@ -1,24 +1,24 @@
 -- Whatever was read so far can be completed to a tree, and leads to one place.
 use Rattle.std.proofs.Common.{◌≡◌, ℕ, zero, suc, ◌+◌, Bool, true, ◌&&◌, if◌then◌else◌, List, [], ◌∷◌, ◌++◌, refl, sym, ap, arith, Option, Some, None, append_assoc}
 use Rattle.sample_core.specs.Number.{is_number_word}
-use Rattle.leaf_expr.specs.Token.{opening, closing, word, Placed}
-use Rattle.leaf_expr.specs.Part.{Parts, form, last, more, SpellAll, form_spells, last_spells, more_spells}
-use Rattle.leaf_expr.specs.Language.{Language, Places, Maker, Row, no_place, place, places, made}
-use Rattle.leaf_expr.specs.Reader.{Fault, syntax, number, unfit_token}
+use Rattle.leaf_expr.specs.Token.{opening, closing, word, PlacedToken}
+use Rattle.leaf_expr.specs.Sexpr.{Sexprs, form, last, more, SpellAll, form_spells, last_spells, more_spells}
+use Rattle.leaf_expr.specs.Language.{Language, Places, Maker, Row, no_place, place, places, make_tree}
+use Rattle.leaf_expr.specs.TreeReader.{Fault, syntax, number, unfit_token}
 use Rattle.leaf_expr.specs.ReadLaws.{Completes, Whole, LeadsIn, at_tree, at_word, in_form, at_end, in_part, behind, in_item, behind_item, fault_at, Misfit}
 use Rattle.leaf_expr.proofs.Proper.{Proper}
 
 module _ (L : Language) where
   -- as `Completes`, of the parts of a form
-  pub record CompletesAll (s : L.Sort) (qs : Places L.Sort) (make : Maker L.Tree qs (L.Tree s)) (us : List Placed) : Type 0 where
-    pub end : List Placed
-    pub parts : Parts
+  pub record CompletesAll (s : L.Sort) (qs : Places L.Sort) (make : Maker L.Tree qs (L.Tree s)) (us : List PlacedToken) : Type 0 where
+    pub end : List PlacedToken
+    pub parts : Sexprs
     pub tree : L.Tree s
-    pub spell : (ts : List Placed) → SpellAll parts (us ++ (end ++ ts)) ts
-    pub means : made L s qs make parts ≡ Some tree
+    pub spell : (ts : List PlacedToken) → SpellAll parts (us ++ (end ++ ts)) ts
+    pub means : make_tree L s qs make parts ≡ Some tree
 
   -- as `Misfit`, of the parts of a form
-  pub record MisfitIn (room : ℕ) (qs : Places L.Sort) (before : List Placed) (x : Placed) (e : Fault) : Type 0 where
+  pub record MisfitIn (room : ℕ) (qs : Places L.Sort) (before : List PlacedToken) (x : PlacedToken) (e : Fault) : Type 0 where
     pub next : Option L.Sort
     pub opened : ℕ
     pub left : ℕ
@@ -27,38 +27,38 @@ module _ (L : Language) where
     pub called : e ≡ fault_at L left x next
 
   -- behind a part begun, and behind a part read
-  pub begun : {s q : L.Sort} (qs : Places L.Sort) (make : Maker L.Tree (place q qs) (L.Tree s)) (us : List Placed) (c : Completes L q us) → CompletesAll s qs (make c.tree) [] → CompletesAll s (place q qs) make us
+  pub begun : {s q : L.Sort} (qs : Places L.Sort) (make : Maker L.Tree (place q qs) (L.Tree s)) (us : List PlacedToken) (c : Completes L q us) → CompletesAll s qs (make c.tree) [] → CompletesAll s (place q qs) make us
   begun qs make us c d = record { end = c.end ++ d.end; parts = more c.part d.parts; tree = d.tree; spell = λ ts. more_spells {n = c.stop} {mid = d.end ++ ts} (rw append_assoc (c.spells (d.end ++ ts))) (d.spell ts); means = rw c.means d.means }
 
-  pub begun_many : {s q : L.Sort} (make : List (L.Tree q) → L.Tree s) (us : List Placed) → Completes L q us → CompletesAll s (places q) make us
+  pub begun_many : {s q : L.Sort} (make : List (L.Tree q) → L.Tree s) (us : List PlacedToken) → Completes L q us → CompletesAll s (places q) make us
   begun_many make us c = record { end = c.end; parts = more c.part last; tree = make (c.tree ∷ []); spell = λ ts. more_spells {n = c.stop} {mid = ts} (c.spells ts) last_spells; means = rw c.means refl }
 
-  pub passed : {s q : L.Sort} (qs : Places L.Sort) (make : Maker L.Tree (place q qs) (L.Tree s)) (t : L.Tree q) (front us : List Placed) → Whole L q t front → CompletesAll s qs (make t) us → CompletesAll s (place q qs) make (front ++ us)
+  pub passed : {s q : L.Sort} (qs : Places L.Sort) (make : Maker L.Tree (place q qs) (L.Tree s)) (t : L.Tree q) (front us : List PlacedToken) → Whole L q t front → CompletesAll s qs (make t) us → CompletesAll s (place q qs) make (front ++ us)
   passed qs make t front us p d = record { end = d.end; parts = more p.part d.parts; tree = d.tree; spell = λ ts. more_spells {n = p.stop} {mid = us ++ (d.end ++ ts)} (rw append_assoc (p.spells (us ++ (d.end ++ ts)))) (d.spell ts); means = rw p.means d.means }
 
-  pub passed_many : {s q : L.Sort} (make : List (L.Tree q) → L.Tree s) (t : L.Tree q) (front us : List Placed) → Whole L q t front → CompletesAll s (places q) (λ xs. make (t ∷ xs)) us → CompletesAll s (places q) make (front ++ us)
+  pub passed_many : {s q : L.Sort} (make : List (L.Tree q) → L.Tree s) (t : L.Tree q) (front us : List PlacedToken) → Whole L q t front → CompletesAll s (places q) (λ xs. make (t ∷ xs)) us → CompletesAll s (places q) make (front ++ us)
   passed_many make t front us p d = record { end = d.end; parts = more p.part d.parts; tree = d.tree; spell = λ ts. more_spells {n = p.stop} {mid = us ++ (d.end ++ ts)} (rw append_assoc (p.spells (us ++ (d.end ++ ts)))) (d.spell ts); means = rw p.means d.means }
 
-  pub completes_form : (s : L.Sort) (n m : ℕ) (w : List ℕ) (r : Row L.Sort L.Tree (L.Tree s)) (us : List Placed) → L.row_at s w ≡ Some r → CompletesAll s r.takes r.makes us → Completes L s ((n, opening) ∷ (m, word w) ∷ us)
+  pub completes_form : (s : L.Sort) (n m : ℕ) (w : List ℕ) (r : Row L.Sort L.Tree (L.Tree s)) (us : List PlacedToken) → L.row_at s w ≡ Some r → CompletesAll s r.takes r.makes us → Completes L s ((n, opening) ∷ (m, word w) ∷ us)
   completes_form s n m w r us a d = record { end = d.end ++ (0, closing) ∷ []; stop = 1; part = form w d.parts; tree = d.tree; spells = λ ts. form_spells {k = 0} (rw append_assoc (d.spell ((0, closing) ∷ ts))); means = rw a d.means }
 
-  pub misfit_form : (room : ℕ) (s : L.Sort) (n m : ℕ) (w : List ℕ) (r : Row L.Sort L.Tree (L.Tree s)) (us : List Placed) (x : Placed) (e : Fault) → L.has_form s ≡ true → L.row_at s w ≡ Some r → MisfitIn room r.takes us x e → Misfit L (suc room) s ((n, opening) ∷ (m, word w) ∷ us) x e
+  pub misfit_form : (room : ℕ) (s : L.Sort) (n m : ℕ) (w : List ℕ) (r : Row L.Sort L.Tree (L.Tree s)) (us : List PlacedToken) (x : PlacedToken) (e : Fault) → L.has_form s ≡ true → L.row_at s w ≡ Some r → MisfitIn room r.takes us x e → Misfit L (suc room) s ((n, opening) ∷ (m, word w) ∷ us) x e
   misfit_form room s n m w r us x e f a i = record { next = i.next; opened = suc i.opened; left = i.left; counts = let c : i.opened + i.left ≡ room = i.counts in omega arith; leads = in_form f a i.leads; called = i.called }
 
-  pub misfit_part : (room : ℕ) (q : L.Sort) (qs : Places L.Sort) (us : List Placed) (x : Placed) (e : Fault) → Misfit L room q us x e → MisfitIn room (place q qs) us x e
+  pub misfit_part : (room : ℕ) (q : L.Sort) (qs : Places L.Sort) (us : List PlacedToken) (x : PlacedToken) (e : Fault) → Misfit L room q us x e → MisfitIn room (place q qs) us x e
   misfit_part room q qs us x e i = record { next = i.next; opened = i.opened; left = i.left; counts = i.counts; leads = in_part i.leads; called = i.called }
 
-  pub misfit_item : (room : ℕ) (q : L.Sort) (us : List Placed) (x : Placed) (e : Fault) → Misfit L room q us x e → MisfitIn room (places q) us x e
+  pub misfit_item : (room : ℕ) (q : L.Sort) (us : List PlacedToken) (x : PlacedToken) (e : Fault) → Misfit L room q us x e → MisfitIn room (places q) us x e
   misfit_item room q us x e i = record { next = i.next; opened = i.opened; left = i.left; counts = i.counts; leads = in_item i.leads; called = i.called }
 
-  pub misfit_behind : (room : ℕ) (q : L.Sort) (qs : Places L.Sort) (t : L.Tree q) (front us : List Placed) (x : Placed) (e : Fault) → Whole L q t front → MisfitIn room qs us x e → MisfitIn room (place q qs) (front ++ us) x e
+  pub misfit_behind : (room : ℕ) (q : L.Sort) (qs : Places L.Sort) (t : L.Tree q) (front us : List PlacedToken) (x : PlacedToken) (e : Fault) → Whole L q t front → MisfitIn room qs us x e → MisfitIn room (place q qs) (front ++ us) x e
   misfit_behind room q qs t front us x e p i = record { next = i.next; opened = i.opened; left = i.left; counts = i.counts; leads = behind p i.leads; called = i.called }
 
-  pub misfit_behind_item : (room : ℕ) (q : L.Sort) (t : L.Tree q) (front us : List Placed) (x : Placed) (e : Fault) → Whole L q t front → MisfitIn room (places q) us x e → MisfitIn room (places q) (front ++ us) x e
+  pub misfit_behind_item : (room : ℕ) (q : L.Sort) (t : L.Tree q) (front us : List PlacedToken) (x : PlacedToken) (e : Fault) → Whole L q t front → MisfitIn room (places q) us x e → MisfitIn room (places q) (front ++ us) x e
   misfit_behind_item room q t front us x e p i = record { next = i.next; opened = i.opened; left = i.left; counts = i.counts; leads = behind_item p i.leads; called = i.called }
 
   -- what the reader calls a token that fits nowhere
-  unfit_called : (room : ℕ) (x : Placed) → unfit_token room x ≡ fault_at L room x None
+  unfit_called : (room : ℕ) (x : PlacedToken) → unfit_token room x ≡ fault_at L room x None
   unfit_called zero (n, opening) = refl
   unfit_called zero (n, closing) = refl
   unfit_called zero (n, word w) = refl
@@ -74,18 +74,18 @@ module _ (L : Language) where
   word_called zero n w q b e = ap (λ c. if c then number n else syntax n) (sym e)
   word_called (suc room) n w q b e = ap (λ c. if c then number n else syntax n) (sym e)
 
-  pub misfit_end : (room : ℕ) (x : Placed) → MisfitIn room no_place [] x (unfit_token room x)
+  pub misfit_end : (room : ℕ) (x : PlacedToken) → MisfitIn room no_place [] x (unfit_token room x)
   misfit_end room x = record { next = None; opened = 0; left = room; counts = omega arith; leads = at_end; called = unfit_called room x }
 
   -- at the word of a form
-  pub misfit_head : (room : ℕ) (s : L.Sort) (k : ℕ) (x : Placed) → L.has_form s ≡ true → Misfit L (suc room) s ((k, opening) ∷ []) x (unfit_token room x)
+  pub misfit_head : (room : ℕ) (s : L.Sort) (k : ℕ) (x : PlacedToken) → L.has_form s ≡ true → Misfit L (suc room) s ((k, opening) ∷ []) x (unfit_token room x)
   misfit_head room s k x f = record { next = None; opened = 1; left = room; counts = omega arith; leads = at_word f; called = unfit_called room x }
 
   pub unfit_word : (room m : ℕ) (w : List ℕ) → unfit_token room (m, word w) ≡ syntax m
   unfit_word zero m w = refl
   unfit_word (suc room) m w = refl
 
-  at_place : (room : ℕ) (s : L.Sort) (x : Placed) (e : Fault) → e ≡ fault_at L room x (Some s) → Misfit L room s [] x e
+  at_place : (room : ℕ) (s : L.Sort) (x : PlacedToken) (e : Fault) → e ≡ fault_at L room x (Some s) → Misfit L room s [] x e
   at_place room s x e c = record { next = Some s; opened = 0; left = room; counts = omega arith; leads = at_tree; called = c }
 
   pub misfit_word : (room : ℕ) (s : L.Sort) (n : ℕ) (w : List ℕ) (b : Bool) → (L.takes_number s && is_number_word w) ≡ b → Misfit L room s [] (n, word w) (if b then number n else syntax n)

@@ -4,15 +4,15 @@ use Rattle.std.proofs.Math.Facts.{to_z-of_z}
 use Rattle.std.specs.Fmt.{decimal, signed_decimal}
 use Rattle.std.proofs.lemmas.Bool.{leb-true, le-leb}
 use Rattle.sample_core.specs.Number.{is_number_word}
-use Rattle.leaf_expr.specs.NumberPlace.{Reading, reads, misspelt, unfit, integer_at, natural_at, index}
+use Rattle.leaf_expr.specs.WordReading.{WordReading, reads, misspelt, unfit, integer_at, natural_at, index}
 use Rattle.leaf_expr.specs.Grammar.{word_at, words, index_sort}
-use Rattle.leaf_expr.specs.ReadText.{found_word}
+use Rattle.leaf_expr.specs.ReadText.{word_reading}
 use Rattle.leaf_expr.specs.declared.word.WordFault.{WordFault}
 use Rattle.leaf_expr.specs.declared.word.WordFault.TheVariants as W
 use Rattle.leaf_expr.proofs.Numbers.{integer_spelled, integer_back, natural_spelled, natural_back}
 
 -- a number as that of a parameter, or what it was
-abbrev clip : Reading ℤ → Reading ℕ
+abbrev clip : WordReading ℤ → WordReading ℕ
 clip (reads (pos k)) = if nat_le k 65535 then reads k else misspelt
 clip (reads (negsuc k)) = misspelt
 clip misspelt = misspelt
@@ -32,7 +32,7 @@ alike_back false b c z n e = refl
 clipped : (w : List ℕ) → natural_at 0 65535 w ≡ clip (integer_at w)
 clipped w = go (natural_at 0 65535 w) (integer_at w) refl refl
   where
-    go : (r : Reading ℕ) (q : Reading ℤ) → natural_at 0 65535 w ≡ r → integer_at w ≡ q → r ≡ clip q
+    go : (r : WordReading ℕ) (q : WordReading ℤ) → natural_at 0 65535 w ≡ r → integer_at w ≡ q → r ≡ clip q
     go (reads n) q e f =
         let b : (0 ≤ n) × (n ≤ 65535) × (w ≡ decimal n) = natural_back 0 65535 n w (omega arith) e in
         let i : integer_at w ≡ reads (pos n) = ap integer_at b.2 ∙ integer_spelled (pos n) (omega arith) in
@@ -57,7 +57,7 @@ as_index : (w : List ℕ) → word_at index_sort w ≡ natural_at 0 65535 w
 unfolding word_at words
 as_index w = refl
 
-pub index_refused : (w : List ℕ) (e : WordFault) → found_word {X = ℤ} (λ n. n) (Err e) ≡ integer_at w → found_word {X = ℕ} (λ k. k) (Err e) ≡ word_at index_sort w
+pub index_refused : (w : List ℕ) (e : WordFault) → word_reading {X = ℤ} (λ n. n) (Err e) ≡ integer_at w → word_reading {X = ℕ} (λ k. k) (Err e) ≡ word_at index_sort w
 index_refused w W.Misspelt e = sym (as_index w ∙ clipped w ∙ ap clip (sym e))
 index_refused w W.Unfit e = sym (as_index w ∙ clipped w ∙ ap clip (sym e))
 

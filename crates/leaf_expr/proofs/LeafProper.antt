@@ -3,10 +3,10 @@ use Rattle.std.proofs.Common.{◌≡◌, ℕ, Bool, true, false, ◌&&◌, List,
 use Rattle.std.specs.Prelude.{codes, bytes_eq, if◌then◌else◌}
 use Rattle.sample_core.specs.TypeTree.{unit_ty, event_ty}
 use Rattle.sample_core.specs.Number.{is_number_word}
-use Rattle.leaf_expr.specs.NumberPlace.{Reading, reads, misspelt, unfit, map_reading, integer_at}
+use Rattle.leaf_expr.specs.WordReading.{WordReading, reads, misspelt, unfit, map_reading, integer_at}
 use Rattle.leaf_expr.specs.Token.{opening, closing, word}
-use Rattle.leaf_expr.specs.Part.{atom, form, last, more, atom_spells, form_spells, last_spells, more_spells}
-use Rattle.leaf_core.specs.Expression.{sample, fst, number_literal}
+use Rattle.leaf_expr.specs.Sexpr.{atom, form, last, more, atom_spells, form_spells, last_spells, more_spells}
+use Rattle.leaf_core.specs.Expression.{input, fst, int_expr}
 use Rattle.leaf_expr.specs.Grammar.{leaf, Sort, type_sort, expression_sort, index_sort, words, rows, word_at, row_at, word_among, number_at, has_form, takes_number}
 use Rattle.leaf_expr.specs.ReadLaws.{Completes}
 use Rattle.leaf_expr.proofs.Proper.{Proper}
@@ -18,7 +18,7 @@ formless expression_sort w h = absurd (cc)
 formless index_sort w h = refl
 
 -- a table of words never says that one is misspelt, nor that it is unfit
-among_misspelt : {T : Type 0} (w : List ℕ) (xs : List (List ℕ × T)) (r : Reading T) → word_among w xs r ≡ misspelt → r ≡ misspelt
+among_misspelt : {T : Type 0} (w : List ℕ) (xs : List (List ℕ × T)) (r : WordReading T) → word_among w xs r ≡ misspelt → r ≡ misspelt
 among_misspelt w [] r e = e
 among_misspelt {T = T} w (x ∷ xs) r e = go (bytes_eq w x.0) (λ p. among_misspelt w xs r p) e
   where
@@ -26,7 +26,7 @@ among_misspelt {T = T} w (x ∷ xs) r e = go (bytes_eq w x.0) (λ p. among_missp
     go true f p = absurd (cc)
     go false f p = f p
 
-among_unfit : {T : Type 0} (w : List ℕ) (xs : List (List ℕ × T)) (r : Reading T) → word_among w xs r ≡ unfit → r ≡ unfit
+among_unfit : {T : Type 0} (w : List ℕ) (xs : List (List ℕ × T)) (r : WordReading T) → word_among w xs r ≡ unfit → r ≡ unfit
 among_unfit w [] r e = e
 among_unfit {T = T} w (x ∷ xs) r e = go (bytes_eq w x.0) (λ p. among_unfit w xs r p) e
   where
@@ -43,12 +43,12 @@ chosen_unfit true true x e = absurd (cc)
 chosen_unfit true false x e = absurd (cc)
 chosen_unfit false b x e = refl
 
-mapped_misspelt : {A B : Type 0} (f : A → B) (r : Reading A) → map_reading f r ≡ misspelt → r ≡ misspelt
+mapped_misspelt : {A B : Type 0} (f : A → B) (r : WordReading A) → map_reading f r ≡ misspelt → r ≡ misspelt
 mapped_misspelt f (reads x) e = absurd (cc)
 mapped_misspelt f misspelt e = refl
 mapped_misspelt f unfit e = absurd (cc)
 
-mapped_unfit : {A B : Type 0} (f : A → B) (r : Reading A) → map_reading f r ≡ unfit → r ≡ unfit
+mapped_unfit : {A B : Type 0} (f : A → B) (r : WordReading A) → map_reading f r ≡ unfit → r ≡ unfit
 mapped_unfit f (reads x) e = absurd (cc)
 mapped_unfit f misspelt e = absurd (cc)
 mapped_unfit f unfit e = refl
@@ -56,25 +56,25 @@ mapped_unfit f unfit e = refl
 spoilt : (s : Sort) (w : List ℕ) → word_at s w ≡ misspelt → (takes_number s && is_number_word w) ≡ true
 unfolding word_at
 spoilt type_sort w e = absurd (let i : number_at type_sort w ≡ misspelt = among_misspelt w (words type_sort) _ e in cc)
-spoilt expression_sort w e = chosen_misspelt (is_number_word w) _ _ (mapped_misspelt number_literal (integer_at w) (among_misspelt w (words expression_sort) _ e))
+spoilt expression_sort w e = chosen_misspelt (is_number_word w) _ _ (mapped_misspelt int_expr (integer_at w) (among_misspelt w (words expression_sort) _ e))
 spoilt index_sort w e = chosen_misspelt (is_number_word w) _ _ (among_misspelt w (words index_sort) _ e)
 
 foreign : (s : Sort) (w : List ℕ) → word_at s w ≡ unfit → (takes_number s && is_number_word w) ≡ false
 unfolding word_at
 foreign type_sort w e = refl
-foreign expression_sort w e = chosen_unfit (is_number_word w) _ _ (mapped_unfit number_literal (integer_at w) (among_unfit w (words expression_sort) _ e))
+foreign expression_sort w e = chosen_unfit (is_number_word w) _ _ (mapped_unfit int_expr (integer_at w) (among_unfit w (words expression_sort) _ e))
 foreign index_sort w e = chosen_unfit (is_number_word w) _ _ (among_unfit w (words index_sort) _ e)
 
 filler : (s : Sort) → Completes leaf s []
 unfolding word_at words row_at rows
 filler type_sort = record { end = (0, word (codes "Unit")) ∷ []; stop = 4; part = atom (codes "Unit"); tree = unit_ty; spells = λ ts. atom_spells; means = refl }
-filler expression_sort = record { end = (0, word (codes "x")) ∷ []; stop = 1; part = atom (codes "x"); tree = sample; spells = λ ts. atom_spells; means = refl }
+filler expression_sort = record { end = (0, word (codes "x")) ∷ []; stop = 1; part = atom (codes "x"); tree = input; spells = λ ts. atom_spells; means = refl }
 filler index_sort = record { end = (0, word (codes "1")) ∷ []; stop = 1; part = atom (codes "1"); tree = 1; spells = λ ts. atom_spells; means = refl }
 
 opener : (s : Sort) (n : ℕ) → has_form s ≡ true → Completes leaf s ((n, opening) ∷ [])
 unfolding word_at words row_at rows
 opener type_sort n h = record { end = (0, word (codes "Event")) ∷ (0, word (codes "Unit")) ∷ (0, closing) ∷ []; stop = 1; part = form (codes "Event") (more (atom (codes "Unit")) last); tree = event_ty unit_ty; spells = λ ts. form_spells (more_spells {n = 4} atom_spells last_spells); means = refl }
-opener expression_sort n h = record { end = (0, word (codes "fst")) ∷ (0, word (codes "x")) ∷ (0, closing) ∷ []; stop = 1; part = form (codes "fst") (more (atom (codes "x")) last); tree = fst sample; spells = λ ts. form_spells (more_spells {n = 1} atom_spells last_spells); means = refl }
+opener expression_sort n h = record { end = (0, word (codes "fst")) ∷ (0, word (codes "x")) ∷ (0, closing) ∷ []; stop = 1; part = form (codes "fst") (more (atom (codes "x")) last); tree = fst input; spells = λ ts. form_spells (more_spells {n = 1} atom_spells last_spells); means = refl }
 opener index_sort n h = absurd (cc)
 
 pub leaf_proper : Proper leaf

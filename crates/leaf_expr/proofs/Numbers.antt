@@ -7,9 +7,9 @@ use Rattle.std.proofs.lemmas.Fmt.{decimal_nonempty, digits_decimal, digits_value
 use Rattle.std.proofs.lemmas.Bool.{le-leb, lt-ltb, eq-eqb, ne_eqb, leb-true, ltb-true, eqb-true}
 use Rattle.std.proofs.lemmas.Str.Parse.{numerals_by_value, tells_all_ascii_digits}
 use Rattle.leaf_expr.specs.Token.{is_word_byte}
-use Rattle.leaf_expr.specs.Part.{all_word_bytes, is_word}
+use Rattle.leaf_expr.specs.Sexpr.{all_word_bytes, is_word}
 use Rattle.sample_core.specs.Number.{is_minus, digits_part, is_number_word, begins_zero, is_well_spelt, magnitude, number_of, is_in_64}
-use Rattle.leaf_expr.specs.NumberPlace.{reads, misspelt, unfit, is_between, integer_at, natural_at}
+use Rattle.leaf_expr.specs.WordReading.{reads, misspelt, unfit, is_between, integer_at, natural_at}
 
 -- the digits of n
 record Digits (ds : List ℕ) (n : ℕ) : Type 0 where

@@ -1,7 +1,7 @@
 -- What every language of this repository has, and the proofs about reading rest on.
 use Rattle.std.specs.Prelude.{◌≡◌, ℕ, true, false, ◌&&◌, List, [], ◌∷◌, None}
 use Rattle.sample_core.specs.Number.{is_number_word}
-use Rattle.leaf_expr.specs.NumberPlace.{misspelt, unfit}
+use Rattle.leaf_expr.specs.WordReading.{misspelt, unfit}
 use Rattle.leaf_expr.specs.Token.{opening}
 use Rattle.leaf_expr.specs.Language.{Language}
 use Rattle.leaf_expr.specs.ReadLaws.{Completes}

@@ -3,12 +3,12 @@ use Rattle.std.proofs.Common.{arith, ◌≡◌, ℕ, ◌+◌, ◌≤◌, ◌≢�
 use Rattle.std.proofs.lemmas.Bool.{ltb-false, le-ltb}
 use Rattle.std.proofs.lemmas.List.{append-nil}
 use Rattle.sample_core.specs.TypeTree.{TypeTree}
-use Rattle.leaf_expr.specs.Token.{Placed, tokens, tokens_in, begins_word}
-use Rattle.leaf_expr.specs.Part.{Spells, spelling, depth}
+use Rattle.leaf_expr.specs.Token.{PlacedToken, tokens, tokens_in, begins_word}
+use Rattle.leaf_expr.specs.Sexpr.{Spells, spelling, depth}
 use Rattle.leaf_expr.specs.Language.{Begins}
 use Rattle.leaf_expr.specs.Grammar.{leaf, Sort, Tree, type_sort, expression_sort}
-use Rattle.leaf_expr.specs.Printed.{expression_part, type_part}
-use Rattle.leaf_expr.specs.Reader.{Fault, Read, unfit_token, read}
+use Rattle.leaf_expr.specs.Printing.{expression_sexpr, type_sexpr}
+use Rattle.leaf_expr.specs.TreeReader.{Fault, Read, unfit_token, read}
 use Rattle.leaf_expr.specs.ReadLaws.{Stops, too_short, at_token, Misfit}
 use Rattle.leaf_expr.specs.Text.{TextFault, too_long, at, whole, read_text, PrintedTypeLaw, PrintedTextLaw, IsText, NoText, ends, fails, follows, ReadTextLaw, OneTextLaw, TextFaultLaw, PrintedLaw}
 use Rattle.leaf_expr.proofs.ReadFound.{found}
@@ -20,13 +20,13 @@ use Rattle.leaf_expr.proofs.LeafProper.{leaf_proper}
 use Rattle.leaf_expr.proofs.Joined.{type_spelled}
 
 pub printed_begins : PrintedLaw
-printed_begins e room n bs r d b = record { part = expression_part e; spells = spells_printed (expression_part e) n bs (expression_plain e r) b; means = expression_means e r; within = d }
+printed_begins e room n bs r d b = record { part = expression_sexpr e; spells = spells_printed (expression_sexpr e) n bs (expression_plain e r) b; means = expression_means e r; within = d }
 
 abbrev PrintedSo : TypeTree → ℕ → ℕ → List ℕ → List ℕ → Type 0
 PrintedSo t room n bs w = let end = n + length w in Begins leaf room type_sort t (tokens_in false n (w ++ bs)) end (tokens_in false end bs)
 
-printed_part : (t : TypeTree) (room n : ℕ) (bs : List ℕ) → depth (type_part t) ≤ room → begins_word bs ≡ false → PrintedSo t room n bs (spelling (type_part t))
-printed_part t room n bs d b = record { part = type_part t; spells = spells_printed (type_part t) n bs (type_plain t) b; means = type_means t; within = d }
+printed_part : (t : TypeTree) (room n : ℕ) (bs : List ℕ) → depth (type_sexpr t) ≤ room → begins_word bs ≡ false → PrintedSo t room n bs (spelling (type_sexpr t))
+printed_part t room n bs d b = record { part = type_sexpr t; spells = spells_printed (type_sexpr t) n bs (type_plain t) b; means = type_means t; within = d }
 
 pub printed_type_begins : PrintedTypeLaw
 printed_type_begins t room n bs d b = subst (PrintedSo t room n bs) (type_spelled t) (printed_part t room n bs d b)
@@ -67,7 +67,7 @@ no_text : (s : Sort) (bs : List ℕ) (e : Fault) (r : Read (Tree s)) → read le
 no_text s bs e (Ok (t, n, [])) p q = absurd (cc)
 no_text s bs e (Ok (t, n, x ∷ rest)) p q =
     let b : Begins leaf 600 s t (tokens bs) n (x ∷ rest) = found leaf (length bs) 600 s (tokens bs) (t, n, x ∷ rest) p in
-    let f : (front : List Placed) × (tokens bs ≡ front ++ x ∷ rest) × ((us : List Placed) → Spells b.part (front ++ us) n us) = framed b.part (tokens bs) n (x ∷ rest) b.spells in
+    let f : (front : List PlacedToken) × (tokens bs ≡ front ++ x ∷ rest) × ((us : List PlacedToken) → Spells b.part (front ++ us) n us) = framed b.part (tokens bs) n (x ∷ rest) b.spells in
     let i : e ≡ unfit_token 600 x = cc in
     let d : depth b.part ≤ 600 = b.within in
     follows f.0 x rest f.1 (λ us u m c. absurd (
@@ -88,10 +88,10 @@ text_fault s bs e p =
     no_text s bs e (read leaf (length bs) 600 s (tokens bs)) refl i.1
 
 pub printed_text : PrintedTextLaw
-printed_text e r d l = text_read expression_sort (spelling (expression_part e)) e (record { short = l; stop = length (spelling (expression_part e)); begins = go })
+printed_text e r d l = text_read expression_sort (spelling (expression_sexpr e)) e (record { short = l; stop = length (spelling (expression_sexpr e)); begins = go })
   where
-    n : 0 + length (spelling (expression_part e)) ≡ length (spelling (expression_part e))
+    n : 0 + length (spelling (expression_sexpr e)) ≡ length (spelling (expression_sexpr e))
     n = omega arith
 
-    go : Begins leaf 600 expression_sort e (tokens (spelling (expression_part e))) (length (spelling (expression_part e))) []
-    go = subst (λ m. Begins leaf 600 expression_sort e (tokens (spelling (expression_part e))) m []) n (subst (λ bs. Begins leaf 600 expression_sort e (tokens_in false 0 bs) (0 + length (spelling (expression_part e))) []) (append-nil (spelling (expression_part e))) (printed_begins e 600 0 [] r d refl))
+    go : Begins leaf 600 expression_sort e (tokens (spelling (expression_sexpr e))) (length (spelling (expression_sexpr e))) []
+    go = subst (λ m. Begins leaf 600 expression_sort e (tokens (spelling (expression_sexpr e))) m []) n (subst (λ bs. Begins leaf 600 expression_sort e (tokens_in false 0 bs) (0 + length (spelling (expression_sexpr e))) []) (append-nil (spelling (expression_sexpr e))) (printed_begins e 600 0 [] r d refl))

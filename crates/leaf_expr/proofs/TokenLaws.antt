@@ -1,10 +1,10 @@
 -- The tokens of a spelling part.
 use Rattle.std.proofs.Common.{◌≡◌, ℕ, suc, ◌+◌, Bool, true, false, ◌&&◌, List, [], ◌∷◌, ◌++◌, length, refl, sym, ap, ◌∙◌, subst, arith, append_assoc, length-append, nat_eq, if◌then◌else◌}
-use Rattle.leaf_expr.specs.Token.{opening, closing, word, is_word_byte, begins_word, joined, tokens_in}
-use Rattle.leaf_expr.specs.Part.{Part, Parts, atom, form, last, more, Spells, SpellAll, atom_spells, form_spells, last_spells, more_spells, spelling, spellings, all_word_bytes, is_word, plain, all_plain}
+use Rattle.leaf_expr.specs.Token.{opening, closing, word, is_word_byte, begins_word, join_byte, tokens_in}
+use Rattle.leaf_expr.specs.Sexpr.{Sexpr, Sexprs, atom, form, last, more, Spells, SpellAll, atom_spells, form_spells, last_spells, more_spells, spelling, spellings, all_word_bytes, is_word, plain, all_plain}
 
-pub tokens_step : (n b : ℕ) (bs : List ℕ) → is_word_byte b ≡ true → tokens_in false n (b ∷ bs) ≡ joined n b (begins_word bs) (tokens_in false (suc n) bs)
-tokens_step n b bs h = ap (λ p. if p then joined n b (begins_word bs) (tokens_in false (suc n) bs) else (if nat_eq b 40 then (n, opening) ∷ tokens_in false (suc n) bs else (if nat_eq b 41 then (n, closing) ∷ tokens_in false (suc n) bs else tokens_in (nat_eq b 59) (suc n) bs))) h
+pub tokens_step : (n b : ℕ) (bs : List ℕ) → is_word_byte b ≡ true → tokens_in false n (b ∷ bs) ≡ join_byte n b (begins_word bs) (tokens_in false (suc n) bs)
+tokens_step n b bs h = ap (λ p. if p then join_byte n b (begins_word bs) (tokens_in false (suc n) bs) else (if nat_eq b 40 then (n, opening) ∷ tokens_in false (suc n) bs else (if nat_eq b 41 then (n, closing) ∷ tokens_in false (suc n) bs else tokens_in (nat_eq b 59) (suc n) bs))) h
 
 pub both_true : (a b : Bool) → (a && b) ≡ true → (a ≡ true) × (b ≡ true)
 both_true true b e = (refl, e)
@@ -16,8 +16,8 @@ word_token n b (c ∷ w) bs h a e =
     let i : suc (suc n) + length w ≡ suc n + length (c ∷ w) = omega arith in
     let t : (is_word_byte c ≡ true) × (all_word_bytes w ≡ true) = both_true (is_word_byte c) (all_word_bytes w) a in
     tokens_step n b (c ∷ w ++ bs) h
-    ∙ ap (λ q. joined n b q (tokens_in false (suc n) (c ∷ w ++ bs))) t.0
-    ∙ ap (joined n b true) (word_token (suc n) c w bs t.0 t.1 e)
+    ∙ ap (λ q. join_byte n b q (tokens_in false (suc n) (c ∷ w ++ bs))) t.0
+    ∙ ap (join_byte n b true) (word_token (suc n) c w bs t.0 t.1 e)
     ∙ ap (λ m. (n, word (b ∷ c ∷ w)) ∷ tokens_in false m bs) i
 
 pub word_tokens : (n : ℕ) (w bs : List ℕ) → is_word w ≡ true → begins_word bs ≡ false → tokens_in false n (w ++ bs) ≡ (n, word w) ∷ tokens_in false (n + length w) bs
@@ -27,16 +27,16 @@ word_tokens n (b ∷ w) bs h e =
     let t : (is_word_byte b ≡ true) × (all_word_bytes w ≡ true) = both_true (is_word_byte b) (all_word_bytes w) h in
     word_token n b w bs t.0 t.1 e ∙ ap (λ m. (n, word (b ∷ w)) ∷ tokens_in false m bs) i
 
-begins_close : (ps : Parts) (bs : List ℕ) → begins_word (spellings ps ++ 41 ∷ bs) ≡ false
+begins_close : (ps : Sexprs) (bs : List ℕ) → begins_word (spellings ps ++ 41 ∷ bs) ≡ false
 begins_close last bs = refl
 begins_close (more p ps) bs = refl
 
-begins_next : (ps : Parts) (bs : List ℕ) → begins_word bs ≡ false → begins_word (spellings ps ++ bs) ≡ false
+begins_next : (ps : Sexprs) (bs : List ℕ) → begins_word bs ≡ false → begins_word (spellings ps ++ bs) ≡ false
 begins_next last bs e = e
 begins_next (more p ps) bs e = refl
 
 mutual
-  pub spells_printed : (p : Part) (n : ℕ) (bs : List ℕ) → plain p ≡ true → begins_word bs ≡ false → Spells p (tokens_in false n (spelling p ++ bs)) (n + length (spelling p)) (tokens_in false (n + length (spelling p)) bs)
+  pub spells_printed : (p : Sexpr) (n : ℕ) (bs : List ℕ) → plain p ≡ true → begins_word bs ≡ false → Spells p (tokens_in false n (spelling p ++ bs)) (n + length (spelling p)) (tokens_in false (n + length (spelling p)) bs)
   spells_printed (atom w) n bs h e = subst (λ ts. Spells (atom w) ts (n + length w) (tokens_in false (n + length w) bs)) (sym (word_tokens n w bs h e)) atom_spells
   spells_printed (form w ps) n bs h e =
       let t : (is_word w ≡ true) × (all_plain ps ≡ true) = both_true (is_word w) (all_plain ps) h in
@@ -47,7 +47,7 @@ mutual
       subst (λ ts. Spells (form w ps) ((n, opening) ∷ ts) (n + length (spelling (form w ps))) (tokens_in false (n + length (spelling (form w ps))) bs)) (sym (ap (tokens_in false (suc n)) a ∙ i))
       (subst (λ m. Spells (form w ps) ((n, opening) ∷ (suc n, word w) ∷ tokens_in false (suc n + length w) (spellings ps ++ 41 ∷ bs)) m (tokens_in false m bs)) l (form_spells j))
 
-  pub spell_printed : (ps : Parts) (n : ℕ) (bs : List ℕ) → all_plain ps ≡ true → begins_word bs ≡ false → SpellAll ps (tokens_in false n (spellings ps ++ bs)) (tokens_in false (n + length (spellings ps)) bs)
+  pub spell_printed : (ps : Sexprs) (n : ℕ) (bs : List ℕ) → all_plain ps ≡ true → begins_word bs ≡ false → SpellAll ps (tokens_in false n (spellings ps ++ bs)) (tokens_in false (n + length (spellings ps)) bs)
   spell_printed last n bs h e = let i : n + 0 ≡ n = omega arith in subst (λ m. SpellAll last (tokens_in false n bs) (tokens_in false m bs)) (sym i) last_spells
   spell_printed (more p ps) n bs h e =
       let t : (plain p ≡ true) × (all_plain ps ≡ true) = both_true (plain p) (all_plain ps) h in

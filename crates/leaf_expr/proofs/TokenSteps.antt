@@ -7,7 +7,7 @@ use Rattle.std.proofs.lemmas.List.Folds.{drop_split}
 use Rattle.leaf_expr.specs.Token.{opening, closing, word, is_word_byte, begins_token, begins_word, tokens_in, tokens_from, token_of}
 use Rattle.leaf_expr.specs.Lexeme.{IsLexeme}
 use Rattle.leaf_expr.specs.declared.token.Lexeme.TheVariants as V
-use Rattle.leaf_expr.specs.Part.{all_word_bytes, is_word}
+use Rattle.leaf_expr.specs.Sexpr.{all_word_bytes, is_word}
 use Rattle.leaf_expr.proofs.TokenLaws.{word_tokens}
 
 -- the bytes from place i on are the byte there and the rest

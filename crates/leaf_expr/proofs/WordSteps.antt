@@ -1,7 +1,7 @@
 -- What a word is where a number may stand, by its tests.
 use Rattle.std.proofs.Common.{◌≡◌, ℕ, Bool, true, false, List, refl, sym, ◌∙◌}
 use Rattle.sample_core.specs.Number.{is_number, is_number_word, is_well_spelt, is_in_64, number_of}
-use Rattle.leaf_expr.specs.NumberPlace.{reads, misspelt, unfit, integer_at}
+use Rattle.leaf_expr.specs.WordReading.{reads, misspelt, unfit, integer_at}
 use Rattle.leaf_expr.proofs.Numbers.{parts_of}
 
 pub no_number : (w : List ℕ) → is_number_word w ≡ false → unfit ≡ integer_at w

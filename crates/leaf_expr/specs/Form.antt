@@ -1,7 +1,7 @@
 -- The code's forms as rows of the grammar.
 use Rattle.std.specs.Prelude.{ℕ, List, codes}
 use Rattle.sample_core.specs.TypeTree.{TypeTree, pair_ty, event_ty, list_ty}
-use Rattle.leaf_core.specs.Expression.{Expression, sample, parameter, make_pair, fst, snd, then, neg, add, sub, mul, less, equal, negation, conjunction, disjunction, choice, none_of, make_event, on, make_list, nth, len, expressions_of}
+use Rattle.leaf_core.specs.Expression.{Expression, input, param, pair_expr, fst, snd, then_expr, neg, add, sub, mul, less, equal, not_expr, and_expr, or_expr, if_expr, no_event_expr, event_expr, on, list_expr, nth, len, expressions_of}
 use Rattle.leaf_expr.specs.Language.{Row, no_place, places}
 use Rattle.leaf_expr.specs.Grammar.{Sort, Tree, expression_sort, row, t, e, k}
 use Rattle.leaf_expr.specs.declared.form.TypeForm.{TypeForm}
@@ -37,8 +37,8 @@ abbrev pub unary_of : Unary → Expression → Expression
 unary_of U.Fst = fst
 unary_of U.Snd = snd
 unary_of U.Neg = neg
-unary_of U.Not = negation
-unary_of U.Event = make_event
+unary_of U.Not = not_expr
+unary_of U.Event = event_expr
 unary_of U.Len = len
 
 -- the word of a form of two expressions
@@ -56,16 +56,16 @@ binary_name B.Merge = codes "lMerge"
 
 -- what a form of two expressions makes of them
 abbrev pub binary_of : Binary → Expression → Expression → Expression
-binary_of B.Pair = make_pair
-binary_of B.Then = then
+binary_of B.Pair = pair_expr
+binary_of B.Then = then_expr
 binary_of B.Add = add
 binary_of B.Sub = sub
 binary_of B.Mul = mul
 binary_of B.Less = less
 binary_of B.Equal = equal
-binary_of B.And = conjunction
-binary_of B.Or = disjunction
-binary_of B.Merge = λ a b. on a b (make_event (snd sample))
+binary_of B.And = and_expr
+binary_of B.Or = or_expr
+binary_of B.Merge = λ a b. on a b (event_expr (snd input))
 
 -- the word of a form of three expressions
 abbrev pub ternary_name : Ternary → List ℕ
@@ -75,7 +75,7 @@ ternary_name R.Nth = codes "nth"
 
 -- what a form of three expressions makes of them
 abbrev pub ternary_of : Ternary → Expression → Expression → Expression → Expression
-ternary_of R.If = choice
+ternary_of R.If = if_expr
 ternary_of R.On = on
 ternary_of R.Nth = nth
 
@@ -87,9 +87,9 @@ typed_name Y.Attach = codes "attach"
 
 -- what a form of a type and two expressions makes of no event of the type, and of them
 abbrev pub typed_by : Typed → Expression → Expression → Expression → Expression
-typed_by Y.Gate = λ n a b. choice b a n
-typed_by Y.Tag = λ n a c. on a n (make_event ((then) (fst sample) c))
-typed_by Y.Attach = λ n a c. on a n (make_event (make_pair (snd sample) ((then) (fst sample) c)))
+typed_by Y.Gate = λ n a b. if_expr b a n
+typed_by Y.Tag = λ n a c. on a n (event_expr (then_expr (fst input) c))
+typed_by Y.Attach = λ n a c. on a n (event_expr (pair_expr (snd input) (then_expr (fst input) c)))
 
 -- a form of one expression as its row of the grammar
 abbrev pub unary_row : Unary → Row Sort Tree Expression
@@ -105,13 +105,13 @@ ternary_row f = row (ternary_name f) (e (e (e no_place))) (ternary_of f)
 
 -- a form of a type and two expressions as its row of the grammar
 abbrev pub typed_row : Typed → Row Sort Tree Expression
-typed_row f = row (typed_name f) (t (e (e no_place))) (λ T. typed_by f (none_of T))
+typed_row f = row (typed_name f) (t (e (e no_place))) (λ T. typed_by f (no_event_expr T))
 
 -- a form of expressions as its row of the grammar
 abbrev pub form_row : Form → Row Sort Tree Expression
-form_row F.Param = row (codes "p") (k no_place) parameter
-form_row F.NoEvent = row (codes "none") (t no_place) none_of
-form_row F.List = row (codes "list") (t (places expression_sort)) (λ T es. make_list T (expressions_of es))
+form_row F.Param = row (codes "p") (k no_place) param
+form_row F.NoEvent = row (codes "none") (t no_place) no_event_expr
+form_row F.List = row (codes "list") (t (places expression_sort)) (λ T es. list_expr T (expressions_of es))
 form_row (F.Unary f) = unary_row f
 form_row (F.Binary f) = binary_row f
 form_row (F.Ternary f) = ternary_row f

@@ -1,8 +1,8 @@
 -- The grammar of types and expressions: a table of words, and a table of forms.
 use Rattle.std.specs.Prelude.{ℕ, true, false, Bool, List, [], ◌∷◌, ◌++◌, Option, Some, None, bytes_eq, codes, if◌then◌else◌}
 use Rattle.sample_core.specs.TypeTree.{TypeTree, unit_ty, bool_ty, int_ty, pair_ty, event_ty, list_ty}
-use Rattle.leaf_expr.specs.NumberPlace.{Reading, reads, unfit, integer_at, natural_at, map_reading}
-use Rattle.leaf_core.specs.Expression.{Expression, sample, parameter, unit_literal, truth_literal, number_literal, make_pair, fst, snd, then, neg, add, sub, mul, less, equal, negation, conjunction, disjunction, choice, none_of, make_event, on, make_list, nth, len, expressions_of}
+use Rattle.leaf_expr.specs.WordReading.{WordReading, reads, unfit, integer_at, natural_at, map_reading}
+use Rattle.leaf_core.specs.Expression.{Expression, input, param, unit_expr, bool_expr, int_expr, pair_expr, fst, snd, then_expr, neg, add, sub, mul, less, equal, not_expr, and_expr, or_expr, if_expr, no_event_expr, event_expr, on, list_expr, nth, len, expressions_of}
 use Rattle.leaf_expr.specs.Language.{Language, Places, Maker, Row, no_place, place, places}
 
 -- what stands at a place: a type, an expression, or the number of a parameter
@@ -32,7 +32,7 @@ k ps = place index_sort ps
 -- words that are a tree by themselves
 unfoldable pub words : (s : Sort) → List (List ℕ × Tree s)
 words type_sort = (codes "Unit", unit_ty) ∷ (codes "Bool", bool_ty) ∷ (codes "Int", int_ty) ∷ []
-words expression_sort = (codes "x", sample) ∷ (codes "unit", unit_literal) ∷ (codes "true", truth_literal true) ∷ (codes "false", truth_literal false) ∷ []
+words expression_sort = (codes "x", input) ∷ (codes "unit", unit_expr) ∷ (codes "true", bool_expr true) ∷ (codes "false", bool_expr false) ∷ []
 words index_sort = []
 
 -- a row of the grammar: the word of a form, its parts, and the tree that they make
@@ -46,9 +46,9 @@ type_rows = row (codes "Pair") (t (t no_place)) pair_ty ∷ row (codes "Event") 
 -- a parameter, no event of a type, and a list of elements of a type
 abbrev pub other_rows : List (Row Sort Tree Expression)
 other_rows =
-    row (codes "p") (k no_place) parameter
-    ∷ row (codes "none") (t no_place) none_of
-    ∷ row (codes "list") (t (places expression_sort)) (λ T es. make_list T (expressions_of es))
+    row (codes "p") (k no_place) param
+    ∷ row (codes "none") (t no_place) no_event_expr
+    ∷ row (codes "list") (t (places expression_sort)) (λ T es. list_expr T (expressions_of es))
     ∷ []
 
 -- the forms of one expression
@@ -57,36 +57,36 @@ unary_rows =
     row (codes "fst") (e no_place) fst
     ∷ row (codes "snd") (e no_place) snd
     ∷ row (codes "neg") (e no_place) neg
-    ∷ row (codes "not") (e no_place) negation
-    ∷ row (codes "event") (e no_place) make_event
+    ∷ row (codes "not") (e no_place) not_expr
+    ∷ row (codes "event") (e no_place) event_expr
     ∷ row (codes "len") (e no_place) len
     ∷ []
 
 -- the forms of two expressions, the sugar last
 abbrev pub binary_rows : List (Row Sort Tree Expression)
 binary_rows =
-    row (codes "pair") (e (e no_place)) make_pair
-    ∷ row (codes "then") (e (e no_place)) (then)
+    row (codes "pair") (e (e no_place)) pair_expr
+    ∷ row (codes "then") (e (e no_place)) then_expr
     ∷ row (codes "add") (e (e no_place)) add
     ∷ row (codes "sub") (e (e no_place)) sub
     ∷ row (codes "mul") (e (e no_place)) mul
     ∷ row (codes "less") (e (e no_place)) less
     ∷ row (codes "equal") (e (e no_place)) equal
-    ∷ row (codes "and") (e (e no_place)) conjunction
-    ∷ row (codes "or") (e (e no_place)) disjunction
-    ∷ row (codes "lMerge") (e (e no_place)) (λ a b. on a b (make_event (snd sample)))
+    ∷ row (codes "and") (e (e no_place)) and_expr
+    ∷ row (codes "or") (e (e no_place)) or_expr
+    ∷ row (codes "lMerge") (e (e no_place)) (λ a b. on a b (event_expr (snd input)))
     ∷ []
 
 -- the forms of three expressions
 abbrev pub ternary_rows : List (Row Sort Tree Expression)
-ternary_rows = row (codes "if") (e (e (e no_place))) choice ∷ row (codes "on") (e (e (e no_place))) on ∷ row (codes "nth") (e (e (e no_place))) nth ∷ []
+ternary_rows = row (codes "if") (e (e (e no_place))) if_expr ∷ row (codes "on") (e (e (e no_place))) on ∷ row (codes "nth") (e (e (e no_place))) nth ∷ []
 
 -- the sugar of a type and two expressions
 abbrev pub typed_rows : List (Row Sort Tree Expression)
 typed_rows =
-    row (codes "gate") (t (e (e no_place))) (λ T a b. choice b a (none_of T))
-    ∷ row (codes "tag") (t (e (e no_place))) (λ T a c. on a (none_of T) (make_event ((then) (fst sample) c)))
-    ∷ row (codes "attach") (t (e (e no_place))) (λ T a c. on a (none_of T) (make_event (make_pair (snd sample) ((then) (fst sample) c))))
+    row (codes "gate") (t (e (e no_place))) (λ T a b. if_expr b a (no_event_expr T))
+    ∷ row (codes "tag") (t (e (e no_place))) (λ T a c. on a (no_event_expr T) (event_expr (then_expr (fst input) c)))
+    ∷ row (codes "attach") (t (e (e no_place))) (λ T a c. on a (no_event_expr T) (event_expr (pair_expr (snd input) (then_expr (fst input) c))))
     ∷ []
 
 -- forms: the word, the parts, and the tree that they make
@@ -96,18 +96,18 @@ rows expression_sort = other_rows ++ unary_rows ++ binary_rows ++ ternary_rows +
 rows index_sort = []
 
 -- what a word is that no table has: an expression may be a number of 64 bits, a parameter's number is at most 65,535
-abbrev pub number_at : (s : Sort) → List ℕ → Reading (Tree s)
+abbrev pub number_at : (s : Sort) → List ℕ → WordReading (Tree s)
 number_at type_sort w = unfit
-number_at expression_sort w = map_reading number_literal (integer_at w)
+number_at expression_sort w = map_reading int_expr (integer_at w)
 number_at index_sort w = natural_at 0 65535 w
 
 -- what a word is by a table of words; where the table lacks it, what is given
-abbrev pub word_among : {T : Type 0} → List ℕ → List (List ℕ × T) → Reading T → Reading T
+abbrev pub word_among : {T : Type 0} → List ℕ → List (List ℕ × T) → WordReading T → WordReading T
 word_among w [] r = r
 word_among w (x ∷ xs) r = if bytes_eq w x.0 then reads x.1 else word_among w xs r
 
 -- what a word is where a tree of the sort stands
-unfoldable pub word_at : (s : Sort) → List ℕ → Reading (Tree s)
+unfoldable pub word_at : (s : Sort) → List ℕ → WordReading (Tree s)
 word_at s w = word_among w (words s) (number_at s w)
 
 -- the row of a table that a word begins

@@ -1,8 +1,8 @@
 -- Languages of texts: sorts of trees, the words that are trees, and the forms with their parts.
 use Rattle.std.specs.Prelude.{◌≡◌, ℕ, ◌≤◌, Bool, List, [], ◌∷◌, Option, Some, None, option_and_then}
-use Rattle.leaf_expr.specs.NumberPlace.{Reading, reads}
-use Rattle.leaf_expr.specs.Token.{Placed}
-use Rattle.leaf_expr.specs.Part.{Part, Parts, atom, form, last, more, Spells, depth}
+use Rattle.leaf_expr.specs.WordReading.{WordReading, reads}
+use Rattle.leaf_expr.specs.Token.{PlacedToken}
+use Rattle.leaf_expr.specs.Sexpr.{Sexpr, Sexprs, atom, form, last, more, Spells, depth}
 
 -- the parts that a form takes: some of given sorts, and at the end perhaps any number of one sort
 pub data Places (S : Type 0) : Type 0 where
@@ -27,35 +27,35 @@ pub record Language : Type 1 where
   pub Sort : Type 0
   pub Tree : Sort → Type 0
   -- what a word is where a tree of the sort stands
-  pub word_at : (s : Sort) → List ℕ → Reading (Tree s)
+  pub word_at : (s : Sort) → List ℕ → WordReading (Tree s)
   -- the form that a word begins
   pub row_at : (s : Sort) → List ℕ → Option (Row Sort Tree (Tree s))
   pub has_form : Sort → Bool
   pub takes_number : Sort → Bool
 
 -- the tree that a word is, where it is one
-abbrev pub read_word : {T : Type 0} → Reading T → Option T
+abbrev pub read_word : {T : Type 0} → WordReading T → Option T
 read_word (reads x) = Some x
 read_word _ = None
 
 module _ (L : Language) where
   abbrev mutual
     -- the tree of the sort that a part means
-    pub meaning : (s : L.Sort) → Part → Option (L.Tree s)
+    pub meaning : (s : L.Sort) → Sexpr → Option (L.Tree s)
     meaning s (atom w) = read_word (L.word_at s w)
-    meaning s (form w ps) = option_and_then (λ r. made s r.takes r.makes ps) (L.row_at s w)
+    meaning s (form w ps) = option_and_then (λ r. make_tree s r.takes r.makes ps) (L.row_at s w)
 
     -- what parts make
-    pub made : (s : L.Sort) → (qs : Places L.Sort) → Maker L.Tree qs (L.Tree s) → Parts → Option (L.Tree s)
-    made s no_place r last = Some r
-    made s (place q qs) make (more p ps) = option_and_then (λ x. made s qs (make x) ps) (meaning q p)
-    made s (places q) make last = Some (make [])
-    made s (places q) make (more p ps) = option_and_then (λ x. made s (places q) (λ xs. make (x ∷ xs)) ps) (meaning q p)
-    made s _ make _ = None
+    pub make_tree : (s : L.Sort) → (qs : Places L.Sort) → Maker L.Tree qs (L.Tree s) → Sexprs → Option (L.Tree s)
+    make_tree s no_place r last = Some r
+    make_tree s (place q qs) make (more p ps) = option_and_then (λ x. make_tree s qs (make x) ps) (meaning q p)
+    make_tree s (places q) make last = Some (make [])
+    make_tree s (places q) make (more p ps) = option_and_then (λ x. make_tree s (places q) (λ xs. make (x ∷ xs)) ps) (meaning q p)
+    make_tree s _ make _ = None
 
   -- The tokens ts are those of t, up to byte n, and then rest, with at most so many parentheses open.
-  pub record Begins (room : ℕ) (s : L.Sort) (t : L.Tree s) (ts : List Placed) (n : ℕ) (rest : List Placed) : Type 0 where
-    pub part : Part
+  pub record Begins (room : ℕ) (s : L.Sort) (t : L.Tree s) (ts : List PlacedToken) (n : ℕ) (rest : List PlacedToken) : Type 0 where
+    pub part : Sexpr
     pub spells : Spells part ts n rest
     pub means : meaning s part ≡ Some t
     pub within : depth part ≤ room

@@ -1,7 +1,7 @@
 -- The first token of a text from some byte on, as the code has it.
 use Rattle.std.specs.Prelude.{◌≡◌, ℕ, ◌+◌, ◌≤◌, ◌<◌, true, List, [], ◌∷◌, length, slice_index, slice_range}
 use Rattle.leaf_expr.specs.Token.{opening, closing, word, tokens_from}
-use Rattle.leaf_expr.specs.Part.{is_word}
+use Rattle.leaf_expr.specs.Sexpr.{is_word}
 use Rattle.leaf_expr.specs.declared.token.Lexeme.{Lexeme}
 use Rattle.leaf_expr.specs.declared.token.Lexeme.TheVariants as V
 

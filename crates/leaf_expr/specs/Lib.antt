@@ -1,11 +1,11 @@
-pub mod NumberPlace
+pub mod WordReading
 pub mod Token
-pub mod Part
+pub mod Sexpr
 pub mod Language
-pub mod Reader
+pub mod TreeReader
 pub mod ReadLaws
 pub mod Grammar
-pub mod Printed
+pub mod Printing
 pub mod Text
 pub mod TextRows
 pub mod NumberLaws

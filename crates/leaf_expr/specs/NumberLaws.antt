@@ -2,7 +2,7 @@
 use Rattle.std.specs.Prelude.{◌≡◌, ℕ, ◌≤◌, ◌<◌, ◌^◌, ℤ, List, FitsSigned}
 use Rattle.std.specs.Int.{w64}
 use Rattle.std.specs.Fmt.{decimal, signed_decimal}
-use Rattle.leaf_expr.specs.NumberPlace.{reads, integer_at, natural_at}
+use Rattle.leaf_expr.specs.WordReading.{reads, integer_at, natural_at}
 
 -- a number word that is read is the one spelling of its number, and each number in range is read from it
 abbrev pub NumberLaw : Type 0

@@ -1,24 +1,24 @@
 -- What the code's readers answer: what the reader of the grammar does on the tokens from some byte on.
 use Rattle.std.specs.Prelude.{◌≡◌, ◌<◌, ℕ, Bool, true, false, List, [], ◌∷◌, length, slice_range, map, Result, Ok, Err, Option, Some, None}
 use Rattle.sample_core.specs.TypeTree.{TypeTree}
-use Rattle.sample_core.specs.SeenType.{type_of}
+use Rattle.sample_core.specs.TypeView.{type_of}
 use Rattle.sample_core.specs.declared.ty.Ty.{Ty}
-use Rattle.leaf_core.specs.Expression.{Expression, none_of}
-use Rattle.leaf_core.specs.Seen.{expression_of}
+use Rattle.leaf_core.specs.Expression.{Expression, no_event_expr}
+use Rattle.leaf_core.specs.ExpressionView.{expression_of}
 use Rattle.leaf_core.specs.declared.expr.Expr.{Expr}
-use Rattle.leaf_expr.specs.Token.{Placed, closing, tokens_from}
-use Rattle.leaf_expr.specs.NumberPlace.{Reading, reads, misspelt, unfit}
+use Rattle.leaf_expr.specs.Token.{PlacedToken, closing, tokens_from}
+use Rattle.leaf_expr.specs.WordReading.{WordReading, reads, misspelt, unfit}
 use Rattle.leaf_expr.specs.declared.word.WordFault.{WordFault}
 use Rattle.leaf_expr.specs.declared.word.WordFault.TheVariants as W
 use Rattle.leaf_expr.specs.Grammar.{leaf, Tree, Sort, type_sort, expression_sort, e, word_at}
-use Rattle.leaf_expr.specs.Reader.{Fault, syntax, number, too_deep, Read, ◌>>=◌, word_read, read, read_form, read_parts, read_all}
+use Rattle.leaf_expr.specs.TreeReader.{Fault, syntax, number, too_deep, Read, ◌>>=◌, word_read, read, read_form, read_parts, read_all}
 use Rattle.leaf_expr.specs.Language.{Row, no_place, place}
 use Rattle.leaf_expr.specs.ReadLaws.{Stops}
 use Rattle.leaf_expr.specs.Text.{TextFault, too_long, at, NoText}
 use Rattle.leaf_expr.specs.declared.text_fault.ExprTextFault.{ExprTextFault}
 use Rattle.leaf_expr.specs.declared.text_fault.ExprTextFault.TheVariants as V
 
--- a fault that reading has; want of memory says nothing of the text
+-- a fault that reading has; `Memory` says nothing of the text
 abbrev pub Refuses : {Y : Type 0} → ExprTextFault → Result Y Fault → Type 0
 Refuses (V.Syntax n) read = read ≡ Err (syntax n)
 Refuses (V.Number n) read = read ≡ Err (number n)
@@ -49,11 +49,11 @@ abbrev pub tree_at : (s : Sort) → List ℕ → ℕ → ℕ → Read (Tree s)
 tree_at s text room n = read leaf (length text) room s (tokens_from n text)
 
 -- a type, the byte behind it, and the tokens from there on
-abbrev pub type_left : List ℕ → Ty × ℕ → TypeTree × ℕ × List Placed
+abbrev pub type_left : List ℕ → Ty × ℕ → TypeTree × ℕ × List PlacedToken
 type_left text x = (type_of x.0, x.1, tokens_from x.1 text)
 
 -- an expression, the byte behind it, and the tokens from there on
-abbrev pub expression_left : List ℕ → Expr × ℕ → Expression × ℕ × List Placed
+abbrev pub expression_left : List ℕ → Expr × ℕ → Expression × ℕ × List PlacedToken
 expression_left text x = (expression_of x.0, x.1, tokens_from x.1 text)
 
 -- the tree of the sort that the word is from byte n up to and without byte m
@@ -78,29 +78,29 @@ last_two_at text room n = read_parts leaf (length text) (read leaf (length text)
 
 -- a type in the text from byte n on, as no event of it
 abbrev pub none_at : List ℕ → ℕ → ℕ → Read Expression
-none_at text room n = tree_at type_sort text room n >>= (λ x. Ok (none_of x.0, x.1, x.2))
+none_at text room n = tree_at type_sort text room n >>= (λ x. Ok (no_event_expr x.0, x.1, x.2))
 
 -- the elements of a list up to the end of the form, in the text from byte n on
 abbrev pub items_at : List ℕ → ℕ → ℕ → Read (List Expression)
 items_at text room n = read_all leaf (length text) (read leaf (length text) room expression_sort) (length (tokens_from n text)) (λ xs. xs) (tokens_from n text)
 
 -- the elements as trees, the byte behind them, and the tokens from there on
-abbrev pub items_left : List ℕ → List Expr × ℕ → List Expression × ℕ × List Placed
+abbrev pub items_left : List ℕ → List Expr × ℕ → List Expression × ℕ × List PlacedToken
 items_left text x = (map expression_of x.0, x.1, tokens_from x.1 text)
 
 -- what a word is in a table of words alone
-abbrev pub fit : {T : Type 0} → Option T → Reading T
+abbrev pub fit : {T : Type 0} → Option T → WordReading T
 fit None = unfit
 fit (Some x) = reads x
 
 -- what the code found a word to be
-abbrev pub found_word : {X Y : Type 0} → (X → Y) → Result X WordFault → Reading Y
-found_word view (Ok x) = reads (view x)
-found_word view (Err W.Misspelt) = misspelt
-found_word view (Err W.Unfit) = unfit
+abbrev pub word_reading : {X Y : Type 0} → (X → Y) → Result X WordFault → WordReading Y
+word_reading view (Ok x) = reads (view x)
+word_reading view (Err W.Misspelt) = misspelt
+word_reading view (Err W.Unfit) = unfit
 
 -- the first token closes a form
-abbrev pub begins_closing : List Placed → Bool
+abbrev pub begins_closing : List PlacedToken → Bool
 begins_closing [] = false
 begins_closing ((n, closing) ∷ ts) = true
 begins_closing (x ∷ ts) = false

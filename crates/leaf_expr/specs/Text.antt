@@ -2,14 +2,14 @@
 use Rattle.std.specs.Prelude.{◌≡◌, ℕ, ◌+◌, ◌≤◌, nat_lt, false, List, [], ◌∷◌, ◌++◌, length, Result, Ok, Err, if◌then◌else◌}
 use Rattle.sample_core.specs.TypeTree.{TypeTree}
 use Rattle.sample_core.specs.Spelling.{type_spelling}
-use Rattle.leaf_expr.specs.Token.{Placed, tokens, tokens_in, begins_word}
+use Rattle.leaf_expr.specs.Token.{PlacedToken, tokens, tokens_in, begins_word}
 use Rattle.leaf_core.specs.Expression.{Expression}
-use Rattle.leaf_expr.specs.Part.{spelling, depth}
+use Rattle.leaf_expr.specs.Sexpr.{spelling, depth}
 use Rattle.leaf_expr.specs.Language.{Begins}
 use Rattle.leaf_expr.specs.Grammar.{leaf, Sort, Tree, type_sort, expression_sort}
 use Rattle.leaf_expr.specs.ReadLaws.{Completes, Misfit}
-use Rattle.leaf_expr.specs.Printed.{expression_part, type_part, InRange}
-use Rattle.leaf_expr.specs.Reader.{Fault, syntax, Read, unfit_token, read}
+use Rattle.leaf_expr.specs.Printing.{expression_sexpr, type_sexpr, InRange}
+use Rattle.leaf_expr.specs.TreeReader.{Fault, syntax, Read, unfit_token, read}
 
 -- why bytes are no text of one tree
 pub data TextFault : Type 0 where
@@ -35,8 +35,8 @@ pub record IsText (s : Sort) (bs : List ℕ) (t : Tree s) : Type 0 where
 -- No text is one tree: the tokens end too early, or a token doesn't fit where a tree goes on, or one follows a tree.
 pub data NoText (s : Sort) (bs : List ℕ) (e : Fault) : Type 0 where
   ends : e ≡ syntax (length bs) → ((t : Tree s) (n : ℕ) → Begins leaf 600 s t (tokens bs) n [] → ⊥) → Completes leaf s (tokens bs) → NoText s bs e
-  fails : (before : List Placed) (x : Placed) (after : List Placed) → tokens bs ≡ before ++ x ∷ after → ((more : List Placed) (t : Tree s) (n : ℕ) → Begins leaf 600 s t (before ++ x ∷ more) n [] → ⊥) → Completes leaf s before → Misfit leaf 600 s before x e → NoText s bs e
-  follows : (before : List Placed) (x : Placed) (after : List Placed) → tokens bs ≡ before ++ x ∷ after → ((more : List Placed) (t : Tree s) (n : ℕ) → Begins leaf 600 s t (before ++ x ∷ more) n [] → ⊥) → (t : Tree s) (n : ℕ) → Begins leaf 600 s t before n [] → e ≡ syntax x.0 → NoText s bs e
+  fails : (before : List PlacedToken) (x : PlacedToken) (after : List PlacedToken) → tokens bs ≡ before ++ x ∷ after → ((more : List PlacedToken) (t : Tree s) (n : ℕ) → Begins leaf 600 s t (before ++ x ∷ more) n [] → ⊥) → Completes leaf s before → Misfit leaf 600 s before x e → NoText s bs e
+  follows : (before : List PlacedToken) (x : PlacedToken) (after : List PlacedToken) → tokens bs ≡ before ++ x ∷ after → ((more : List PlacedToken) (t : Tree s) (n : ℕ) → Begins leaf 600 s t (before ++ x ∷ more) n [] → ⊥) → (t : Tree s) (n : ℕ) → Begins leaf 600 s t before n [] → e ≡ syntax x.0 → NoText s bs e
 
 -- the reader of whole texts answers exactly the texts of a tree
 abbrev pub ReadTextLaw : Type 0
@@ -52,12 +52,12 @@ TextFaultLaw = (s : Sort) (bs : List ℕ) (e : Fault) → read_text s bs ≡ Err
 
 -- a printed expression is read again before any bytes that do not go on its last word
 abbrev pub PrintedLaw : Type 0
-PrintedLaw = (e : Expression) (room n : ℕ) (bs : List ℕ) → InRange e → depth (expression_part e) ≤ room → begins_word bs ≡ false → (let end = n + length (spelling (expression_part e)) in Begins leaf room expression_sort e (tokens_in false n (spelling (expression_part e) ++ bs)) end (tokens_in false end bs))
+PrintedLaw = (e : Expression) (room n : ℕ) (bs : List ℕ) → InRange e → depth (expression_sexpr e) ≤ room → begins_word bs ≡ false → (let end = n + length (spelling (expression_sexpr e)) in Begins leaf room expression_sort e (tokens_in false n (spelling (expression_sexpr e) ++ bs)) end (tokens_in false end bs))
 
 -- a printed type is read again before any bytes that do not go on its last word
 abbrev pub PrintedTypeLaw : Type 0
-PrintedTypeLaw = (t : TypeTree) (room n : ℕ) (bs : List ℕ) → depth (type_part t) ≤ room → begins_word bs ≡ false → (let end = n + length (type_spelling t) in Begins leaf room type_sort t (tokens_in false n (type_spelling t ++ bs)) end (tokens_in false end bs))
+PrintedTypeLaw = (t : TypeTree) (room n : ℕ) (bs : List ℕ) → depth (type_sexpr t) ≤ room → begins_word bs ≡ false → (let end = n + length (type_spelling t) in Begins leaf room type_sort t (tokens_in false n (type_spelling t ++ bs)) end (tokens_in false end bs))
 
 -- a printed expression is a text of it
 abbrev pub PrintedTextLaw : Type 0
-PrintedTextLaw = (e : Expression) → InRange e → depth (expression_part e) ≤ 600 → length (spelling (expression_part e)) ≤ 1048576 → read_text expression_sort (spelling (expression_part e)) ≡ Ok e
+PrintedTextLaw = (e : Expression) → InRange e → depth (expression_sexpr e) ≤ 600 → length (spelling (expression_sexpr e)) ≤ 1048576 → read_text expression_sort (spelling (expression_sexpr e)) ≡ Ok e

@@ -1,13 +1,13 @@
 -- Each form of the grammar, read once, and the sugar in terms of the core forms.
 use Rattle.std.specs.Prelude.{◌≡◌, ℕ, true, false, List, [], ◌∷◌, Ok, Err, codes, pos, negsuc}
 use Rattle.sample_core.specs.TypeTree.{TypeTree, unit_ty, bool_ty, int_ty, pair_ty, event_ty, list_ty}
-use Rattle.leaf_core.specs.Expression.{Expression, sample, parameter, unit_literal, truth_literal, number_literal, make_pair, fst, snd, then, neg, add, sub, mul, less, equal, negation, conjunction, disjunction, choice, none_of, make_event, on, make_list, nth, len, no_more, and_then}
+use Rattle.leaf_core.specs.Expression.{Expression, input, param, unit_expr, bool_expr, int_expr, pair_expr, fst, snd, then_expr, neg, add, sub, mul, less, equal, not_expr, and_expr, or_expr, if_expr, no_event_expr, event_expr, on, list_expr, nth, len, no_more, and_then}
 use Rattle.leaf_expr.specs.Token.{opening, word}
-use Rattle.leaf_expr.specs.Part.{Part, atom}
+use Rattle.leaf_expr.specs.Sexpr.{Sexpr, atom}
 use Rattle.leaf_expr.specs.Language.{meaning}
 use Rattle.leaf_expr.specs.Grammar.{leaf, type_sort, expression_sort}
-use Rattle.leaf_expr.specs.Printed.{one, two, three}
-use Rattle.leaf_expr.specs.Reader.{syntax, number, too_deep, read}
+use Rattle.leaf_expr.specs.Printing.{one, two, three}
+use Rattle.leaf_expr.specs.TreeReader.{syntax, number, too_deep, read}
 use Rattle.leaf_expr.specs.Text.{at, read_text}
 
 -- the text is that type
@@ -31,66 +31,66 @@ TypeRows =
 -- each word, numbers, and a parameter
 abbrev pub WordRows : Type 0
 WordRows =
-    IsExpression (codes "x") sample
-    × IsExpression (codes "unit") unit_literal
-    × IsExpression (codes "true") (truth_literal true)
-    × IsExpression (codes "false") (truth_literal false)
-    × IsExpression (codes "-7") (number_literal (negsuc 6))
-    × IsExpression (codes "70") (number_literal (pos 70))
-    × IsExpression (codes "(p 12)") (parameter 12)
+    IsExpression (codes "x") input
+    × IsExpression (codes "unit") unit_expr
+    × IsExpression (codes "true") (bool_expr true)
+    × IsExpression (codes "false") (bool_expr false)
+    × IsExpression (codes "-7") (int_expr (negsuc 6))
+    × IsExpression (codes "70") (int_expr (pos 70))
+    × IsExpression (codes "(p 12)") (param 12)
 
 -- each form of one part, and no event of a type
 abbrev pub UnaryRows : Type 0
 UnaryRows =
-    IsExpression (codes "(fst x)") (fst sample)
-    × IsExpression (codes "(snd x)") (snd sample)
-    × IsExpression (codes "(neg x)") (neg sample)
-    × IsExpression (codes "(not x)") (negation sample)
-    × IsExpression (codes "(event x)") (make_event sample)
-    × IsExpression (codes "(len x)") (len sample)
-    × IsExpression (codes "(none Int)") (none_of int_ty)
+    IsExpression (codes "(fst x)") (fst input)
+    × IsExpression (codes "(snd x)") (snd input)
+    × IsExpression (codes "(neg x)") (neg input)
+    × IsExpression (codes "(not x)") (not_expr input)
+    × IsExpression (codes "(event x)") (event_expr input)
+    × IsExpression (codes "(len x)") (len input)
+    × IsExpression (codes "(none Int)") (no_event_expr int_ty)
 
 -- each form of two expressions
 abbrev pub BinaryRows : Type 0
 BinaryRows =
-    IsExpression (codes "(pair x unit)") (make_pair sample unit_literal)
-    × IsExpression (codes "(then x unit)") ((then) sample unit_literal)
-    × IsExpression (codes "(add x unit)") (add sample unit_literal)
-    × IsExpression (codes "(sub x unit)") (sub sample unit_literal)
-    × IsExpression (codes "(mul x unit)") (mul sample unit_literal)
-    × IsExpression (codes "(less x unit)") (less sample unit_literal)
-    × IsExpression (codes "(equal x unit)") (equal sample unit_literal)
-    × IsExpression (codes "(and x unit)") (conjunction sample unit_literal)
-    × IsExpression (codes "(or x unit)") (disjunction sample unit_literal)
+    IsExpression (codes "(pair x unit)") (pair_expr input unit_expr)
+    × IsExpression (codes "(then x unit)") (then_expr input unit_expr)
+    × IsExpression (codes "(add x unit)") (add input unit_expr)
+    × IsExpression (codes "(sub x unit)") (sub input unit_expr)
+    × IsExpression (codes "(mul x unit)") (mul input unit_expr)
+    × IsExpression (codes "(less x unit)") (less input unit_expr)
+    × IsExpression (codes "(equal x unit)") (equal input unit_expr)
+    × IsExpression (codes "(and x unit)") (and_expr input unit_expr)
+    × IsExpression (codes "(or x unit)") (or_expr input unit_expr)
 
 -- each form of three expressions, and lists
 abbrev pub LongRows : Type 0
 LongRows =
-    IsExpression (codes "(if true x unit)") (choice (truth_literal true) sample unit_literal)
-    × IsExpression (codes "(on true x unit)") (on (truth_literal true) sample unit_literal)
-    × IsExpression (codes "(nth true x unit)") (nth (truth_literal true) sample unit_literal)
-    × IsExpression (codes "(list Int)") (make_list int_ty no_more)
-    × IsExpression (codes "(list Int x unit)") (make_list int_ty (and_then sample (and_then unit_literal no_more)))
+    IsExpression (codes "(if true x unit)") (if_expr (bool_expr true) input unit_expr)
+    × IsExpression (codes "(on true x unit)") (on (bool_expr true) input unit_expr)
+    × IsExpression (codes "(nth true x unit)") (nth (bool_expr true) input unit_expr)
+    × IsExpression (codes "(list Int)") (list_expr int_ty no_more)
+    × IsExpression (codes "(list Int x unit)") (list_expr int_ty (and_then input (and_then unit_expr no_more)))
 
 -- sugar: `(lMerge a b)` means `(on a b (event (snd x)))`, whatever a and b are; so with the forms below
 abbrev pub MergeIs : Type 0
-MergeIs = (a b : Part) → meaning leaf expression_sort (two (codes "lMerge") a b) ≡ meaning leaf expression_sort (three (codes "on") a b (one (codes "event") (one (codes "snd") (atom (codes "x")))))
+MergeIs = (a b : Sexpr) → meaning leaf expression_sort (two (codes "lMerge") a b) ≡ meaning leaf expression_sort (three (codes "on") a b (one (codes "event") (one (codes "snd") (atom (codes "x")))))
 
 -- `(gate T e b)` means `(if b e (none T))`
 abbrev pub GateIs : Type 0
-GateIs = (T a b : Part) → meaning leaf expression_sort (three (codes "gate") T a b) ≡ meaning leaf expression_sort (three (codes "if") b a (one (codes "none") T))
+GateIs = (T a b : Sexpr) → meaning leaf expression_sort (three (codes "gate") T a b) ≡ meaning leaf expression_sort (three (codes "if") b a (one (codes "none") T))
 
 -- `(then (fst x) c)`
-abbrev pub at_sample : Part → Part
+abbrev pub at_sample : Sexpr → Sexpr
 at_sample c = two (codes "then") (one (codes "fst") (atom (codes "x"))) c
 
 -- `(tag T e c)` means `(on e (none T) (event (then (fst x) c)))`
 abbrev pub TagIs : Type 0
-TagIs = (T a c : Part) → meaning leaf expression_sort (three (codes "tag") T a c) ≡ meaning leaf expression_sort (three (codes "on") a (one (codes "none") T) (one (codes "event") (at_sample c)))
+TagIs = (T a c : Sexpr) → meaning leaf expression_sort (three (codes "tag") T a c) ≡ meaning leaf expression_sort (three (codes "on") a (one (codes "none") T) (one (codes "event") (at_sample c)))
 
 -- `(attach T e c)` means `(on e (none T) (event (pair (snd x) (then (fst x) c))))`
 abbrev pub AttachIs : Type 0
-AttachIs = (T a c : Part) → meaning leaf expression_sort (three (codes "attach") T a c) ≡ meaning leaf expression_sort (three (codes "on") a (one (codes "none") T) (one (codes "event") (two (codes "pair") (one (codes "snd") (atom (codes "x"))) (at_sample c))))
+AttachIs = (T a c : Sexpr) → meaning leaf expression_sort (three (codes "attach") T a c) ≡ meaning leaf expression_sort (three (codes "on") a (one (codes "none") T) (one (codes "event") (two (codes "pair") (one (codes "snd") (atom (codes "x"))) (at_sample c))))
 
 -- refusals: by place and kind
 abbrev pub FaultRows : Type 0

@@ -8,8 +8,8 @@ pub data Token : Type 0 where
   word : List ℕ → Token
 
 -- a token and the place of its first byte
-abbrev pub Placed : Type 0
-Placed = ℕ × Token
+abbrev pub PlacedToken : Type 0
+PlacedToken = ℕ × Token
 
 -- space, tab, line feed, carriage return
 abbrev pub is_blank : ℕ → Bool
@@ -25,26 +25,26 @@ begins_word [] = false
 begins_word (b ∷ bs) = is_word_byte b
 
 -- the byte b at n, and the tokens after it: the first of them goes on b's word, or b is a word alone
-abbrev pub joined : ℕ → ℕ → Bool → List Placed → List Placed
-joined n b true ((m, word w) ∷ ts) = (n, word (b ∷ w)) ∷ ts
-joined n b _ ts = (n, word (b ∷ [])) ∷ ts
+abbrev pub join_byte : ℕ → ℕ → Bool → List PlacedToken → List PlacedToken
+join_byte n b true ((m, word w) ∷ ts) = (n, word (b ∷ w)) ∷ ts
+join_byte n b _ ts = (n, word (b ∷ [])) ∷ ts
 
 -- the tokens of bytes that begin at place n, within a comment or not; a comment ends with its line
-abbrev pub tokens_in : Bool → ℕ → List ℕ → List Placed
+abbrev pub tokens_in : Bool → ℕ → List ℕ → List PlacedToken
 tokens_in c n [] = []
 tokens_in true n (b ∷ bs) = tokens_in (not (nat_eq b 10)) (suc n) bs
 tokens_in false n (b ∷ bs) =
-    if is_word_byte b then joined n b (begins_word bs) (tokens_in false (suc n) bs)
+    if is_word_byte b then join_byte n b (begins_word bs) (tokens_in false (suc n) bs)
     else if nat_eq b 40 then (n, opening) ∷ tokens_in false (suc n) bs
     else if nat_eq b 41 then (n, closing) ∷ tokens_in false (suc n) bs
     else tokens_in (nat_eq b 59) (suc n) bs
 
 -- the tokens of the text as it stands from byte n on
-abbrev pub tokens_from : ℕ → List ℕ → List Placed
+abbrev pub tokens_from : ℕ → List ℕ → List PlacedToken
 tokens_from n text = tokens_in false n (drop n text)
 
 -- the tokens of a whole text
-abbrev pub tokens : List ℕ → List Placed
+abbrev pub tokens : List ℕ → List PlacedToken
 tokens text = tokens_in false 0 text
 
 -- a byte that a token begins with, where no comment is

@@ -1,16 +1,16 @@
 // Reading expressions.
 
 ghost use Rattle.std.specs.Prelude.{◌≡◌, ℕ, ◌-◌, ◌<◌, ◌≤◌, List, Err, IfOk, IfErr, length};
-ghost use Rattle.sample_core.specs.SeenType.{type_of};
+ghost use Rattle.sample_core.specs.TypeView.{type_of};
 ghost use Rattle.sample_core.specs.TypeTree.{TypeTree};
 ghost use Rattle.leaf_core.specs.Expression.{Expression};
 ghost use Rattle.leaf_expr.specs.Form.{form_row, unary_row, binary_row, ternary_row, typed_row};
 ghost use Rattle.leaf_expr.specs.Grammar.{leaf, expression_sort, index_sort, type_sort};
 ghost use Rattle.leaf_expr.specs.Language.{Begins};
 ghost use Rattle.leaf_expr.specs.ReadText.{Gives, GivesText, tree_at, word_tree, form_at, row_parts, last_two_at, none_at, expression_left, type_left, items_at, items_left, IsFault, IsTextFault};
-ghost use Rattle.leaf_core.specs.Seen.{expression_of};
+ghost use Rattle.leaf_core.specs.ExpressionView.{expression_of};
 ghost use Rattle.leaf_expr.specs.Text.{read_text, whole, IsText};
-ghost use Rattle.leaf_expr.specs.Token.{Placed, tokens_from};
+ghost use Rattle.leaf_expr.specs.Token.{PlacedToken, tokens_from};
 ghost use Rattle.leaf_expr.specs.declared.text_fault.ExprTextFault.TheVariants as Fault;
 
 use crate::form::{Binary, Form, Ternary, Typed, Unary, form_named};
@@ -19,7 +19,7 @@ use crate::token::token_at;
 use crate::tree_front::{Front, closing_at, form_end, form_head, front_at};
 use crate::type_reader::{MAX_OPEN, read_type};
 use crate::word::{WordFault, expr_word, index_word};
-use leaf_core::{Expr, Part, Parts};
+use leaf_core::{Expr, ExprChild, Exprs};
 use sample_core::Ty;
 use std::alloc::Global;
 
@@ -132,11 +132,16 @@ fn no_event(
 
 /// An expression inside an expression.
 #[cycle(read_expression)]
-fn part(alloc: Global, text: &[u8], at: usize, room: usize) -> Result<(Part, usize), ExprTextFault>
+fn part(
+    alloc: Global,
+    text: &[u8],
+    at: usize,
+    room: usize,
+) -> Result<(ExprChild, usize), ExprTextFault>
     ensures { Gives (λ x. (x.0, x.1, tokens_from x.1 text.now)) result (tree_at expression_sort text.now room at) }
 {
     let (expr, at) = read_expression(alloc, text, at, room)?;
-    Ok((Part::new(alloc, expr)?, at))
+    Ok((ExprChild::new(alloc, expr)?, at))
 }
 
 /// The last two expressions inside an expression, and the end of the form.
@@ -146,7 +151,7 @@ fn last_two(
     text: &[u8],
     at: usize,
     room: usize,
-) -> Result<(Part, Part, usize), ExprTextFault>
+) -> Result<(ExprChild, ExprChild, usize), ExprTextFault>
     ensures { Gives (λ x. ((x.0, x.1), x.2, tokens_from x.2 text.now)) result (last_two_at text.now room at) }
 {
     let (a, at) = part(alloc, text, at, room)?;
@@ -209,11 +214,11 @@ fn none_part(
     text: &[u8],
     at: usize,
     room: usize,
-) -> Result<(Part, usize), ExprTextFault>
+) -> Result<(ExprChild, usize), ExprTextFault>
     ensures { Gives (λ x. (x.0, x.1, tokens_from x.1 text.now)) result (none_at text.now room at) }
 {
     let (ty, at) = read_type(alloc, text, at, room)?;
-    let none = Part::new(alloc, Expr::NoEvent(ty))?;
+    let none = ExprChild::new(alloc, Expr::NoEvent(ty))?;
     Ok((none, at))
 }
 
@@ -256,11 +261,11 @@ fn elements(
     text: &[u8],
     at: usize,
     room: usize,
-) -> Result<(Parts, usize), ExprTextFault>
+) -> Result<(Exprs, usize), ExprTextFault>
     ensures { Gives (λ x. (x.0, x.1, tokens_from x.1 text.now)) result (items_at text.now room at) }
 {
     let (all, end) = items(alloc, text, at, room)?;
-    let elements = Parts::new(alloc, all)?;
+    let elements = Exprs::new(alloc, all)?;
     Ok((elements, end))
 }
 
@@ -355,7 +360,7 @@ pub fn read_type_at(
     // What is read is in the grammar.
     ensures found { IfOk result (λ x. Begins leaf (600 - depth) type_sort (type_of x.0) (tokens_from at text.now) x.1 (tokens_from x.1 text.now)) }
     // What is in the grammar is read, unless memory runs out.
-    ensures only { (t : TypeTree) (n : ℕ) (rest : List Placed) → Begins leaf (600 - depth) type_sort t (tokens_from at text.now) n rest → Gives (type_left text.now) result (Ok (t, n, rest)) }
+    ensures only { (t : TypeTree) (n : ℕ) (rest : List PlacedToken) → Begins leaf (600 - depth) type_sort t (tokens_from at text.now) n rest → Gives (type_left text.now) result (Ok (t, n, rest)) }
     // What is refused is so at the first token that doesn't fit.
     ensures refused { IfErr result (IsFault type_sort text.now (600 - depth) at) }
     // Which answer it is.
@@ -383,7 +388,7 @@ pub fn read_expr_at(
     // What is read is in the grammar.
     ensures found { IfOk result (λ x. Begins leaf (600 - depth) expression_sort (expression_of x.0) (tokens_from at text.now) x.1 (tokens_from x.1 text.now)) }
     // What is in the grammar is read, unless memory runs out.
-    ensures only { (t : Expression) (n : ℕ) (rest : List Placed) → Begins leaf (600 - depth) expression_sort t (tokens_from at text.now) n rest → Gives (expression_left text.now) result (Ok (t, n, rest)) }
+    ensures only { (t : Expression) (n : ℕ) (rest : List PlacedToken) → Begins leaf (600 - depth) expression_sort t (tokens_from at text.now) n rest → Gives (expression_left text.now) result (Ok (t, n, rest)) }
     // What is refused is so at the first token that doesn't fit.
     ensures refused { IfErr result (IsFault expression_sort text.now (600 - depth) at) }
     // Which answer it is.

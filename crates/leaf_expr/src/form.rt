@@ -1,12 +1,12 @@
 // The forms of types and expressions, by the word that each begins with.
 
 ghost use Rattle.std.specs.Prelude.{◌≡◌, IfOk, option_map, bytes_eq};
-ghost use Rattle.leaf_core.specs.Expression.{sample, fst, snd, then, make_pair, make_event, on};
-ghost use Rattle.leaf_core.specs.Seen.{expression_of};
+ghost use Rattle.leaf_core.specs.Expression.{input, fst, snd, then_expr, pair_expr, event_expr, on};
+ghost use Rattle.leaf_core.specs.ExpressionView.{expression_of};
 ghost use Rattle.leaf_expr.specs.Form.{form_row, unary_row, binary_row, ternary_row, typed_row, type_row};
 ghost use Rattle.leaf_expr.specs.Grammar.{type_sort, expression_sort, row_at, row_among, other_rows, unary_rows, binary_rows, ternary_rows, typed_rows};
 
-use leaf_core::{Expr, Part};
+use leaf_core::{Expr, ExprChild};
 use sample_core::Memory;
 use std::alloc::Global;
 
@@ -22,7 +22,7 @@ impl Unary {
     ghost use Rattle.leaf_expr.specs.Form.{unary_of};
 
     /// The form with that expression.
-    pub(crate) fn of(self, a: Part) -> Expr
+    pub(crate) fn of(self, a: ExprChild) -> Expr
         ensures { expression_of result ≡ unary_of self a }
     {
         match self {
@@ -40,7 +40,7 @@ impl Binary {
     ghost use Rattle.leaf_expr.specs.Form.{binary_of};
 
     /// The form with those expressions; `(lMerge a b)` is `(on a b (event (snd x)))`.
-    pub(crate) fn of(self, alloc: Global, a: Part, b: Part) -> Result<Expr, Memory>
+    pub(crate) fn of(self, alloc: Global, a: ExprChild, b: ExprChild) -> Result<Expr, Memory>
         ensures { IfOk result (λ e. expression_of e ≡ binary_of self a b) }
     {
         match self {
@@ -62,7 +62,7 @@ impl Ternary {
     ghost use Rattle.leaf_expr.specs.Form.{ternary_of};
 
     /// The form with those expressions.
-    pub(crate) fn of(self, a: Part, b: Part, c: Part) -> Expr
+    pub(crate) fn of(self, a: ExprChild, b: ExprChild, c: ExprChild) -> Expr
         ensures { expression_of result ≡ ternary_of self a b c }
     {
         match self {
@@ -74,45 +74,45 @@ impl Ternary {
 }
 
 /// `(snd x)`: the event's value, where the input is a pair of a sample and it.
-fn event_value(alloc: Global) -> Result<Part, Memory>
-    ensures { IfOk result (λ e. e ≡ snd sample) }
+fn event_value(alloc: Global) -> Result<ExprChild, Memory>
+    ensures { IfOk result (λ e. e ≡ snd input) }
 {
-    let input = Part::new(alloc, Expr::Input)?;
-    Part::new(alloc, Expr::Snd(input))
+    let input = ExprChild::new(alloc, Expr::Input)?;
+    ExprChild::new(alloc, Expr::Snd(input))
 }
 
 /// `(then (fst x) c)`: c at the sample, where the input is a pair of it and an event's value.
-fn at_sample(alloc: Global, c: Part) -> Result<Part, Memory>
-    ensures { IfOk result (λ e. e ≡ then (fst sample) c) }
+fn at_sample(alloc: Global, c: ExprChild) -> Result<ExprChild, Memory>
+    ensures { IfOk result (λ e. e ≡ then_expr (fst input) c) }
 {
-    let input = Part::new(alloc, Expr::Input)?;
-    let left = Part::new(alloc, Expr::Fst(input))?;
-    Part::new(alloc, Expr::Then(left, c))
+    let input = ExprChild::new(alloc, Expr::Input)?;
+    let left = ExprChild::new(alloc, Expr::Fst(input))?;
+    ExprChild::new(alloc, Expr::Then(left, c))
 }
 
 /// An event of that value where `a` has one, and else what is given.
-fn mapped(alloc: Global, a: Part, other: Part, value: Part) -> Result<Expr, Memory>
-    ensures { IfOk result (λ e. expression_of e ≡ on a other (make_event value)) }
+fn mapped(alloc: Global, a: ExprChild, other: ExprChild, value: ExprChild) -> Result<Expr, Memory>
+    ensures { IfOk result (λ e. expression_of e ≡ on a other (event_expr value)) }
 {
-    let event = Part::new(alloc, Expr::Event(value))?;
+    let event = ExprChild::new(alloc, Expr::Event(value))?;
     Ok(Expr::On(a, other, event))
 }
 
 /// `(on a b (event (snd x)))`.
-fn merged(alloc: Global, a: Part, b: Part) -> Result<Expr, Memory>
-    ensures { IfOk result (λ e. expression_of e ≡ on a b (make_event (snd sample))) }
+fn merged(alloc: Global, a: ExprChild, b: ExprChild) -> Result<Expr, Memory>
+    ensures { IfOk result (λ e. expression_of e ≡ on a b (event_expr (snd input))) }
 {
     let value = event_value(alloc)?;
     mapped(alloc, a, b, value)
 }
 
 /// `(pair (snd x) (then (fst x) c))`: the event's value, and c at the sample.
-fn value_and(alloc: Global, c: Part) -> Result<Part, Memory>
-    ensures { IfOk result (λ e. e ≡ make_pair (snd sample) (then (fst sample) c)) }
+fn value_and(alloc: Global, c: ExprChild) -> Result<ExprChild, Memory>
+    ensures { IfOk result (λ e. e ≡ pair_expr (snd input) (then_expr (fst input) c)) }
 {
     let right = at_sample(alloc, c)?;
     let left = event_value(alloc)?;
-    Part::new(alloc, Expr::Pair(left, right))
+    ExprChild::new(alloc, Expr::Pair(left, right))
 }
 
 impl Typed {
@@ -121,7 +121,13 @@ impl Typed {
     /// The form with no event of that type and those expressions: `(gate T e b)` is
     /// `(if b e (none T))`, `(tag T e c)` is `(on e (none T) (event (then (fst x) c)))`, and
     /// `(attach T e c)` is `(on e (none T) (event (pair (snd x) (then (fst x) c))))`.
-    pub(crate) fn of(self, alloc: Global, none: Part, a: Part, b: Part) -> Result<Expr, Memory>
+    pub(crate) fn of(
+        self,
+        alloc: Global,
+        none: ExprChild,
+        a: ExprChild,
+        b: ExprChild,
+    ) -> Result<Expr, Memory>
         ensures { IfOk result (λ e. expression_of e ≡ typed_by self none a b) }
     {
         match self {

@@ -15,8 +15,8 @@ mod word;
 pub use expr_reader::{MAX_LENGTH, read_expr, read_expr_at, read_type_at};
 pub use form::is_word;
 pub use leaf_core::{
-    Expr, ExprFault, LeafKey, Literal, Part, Parts, Shape, eval, expr_fits, same_expr, shape_laws,
-    shape_of, type_fits, type_of_expr, typing_laws,
+    Expr, ExprChild, ExprFault, Exprs, LeafKey, Literal, Shape, eval, expr_fits, same_expr,
+    shape_laws, shape_of, type_fits, type_of_expr, typing_laws,
 };
 pub use print::{print_expr, push_expr};
 pub use text_fault::ExprTextFault;

@@ -3,14 +3,14 @@
 
 ghost use Rattle.std.specs.Prelude.{◌≡◌, ◌++◌, ◌∷◌, [], IfOk, string_bytes};
 ghost use Rattle.sample_core.specs.Adding.{Adds};
-ghost use Rattle.sample_core.specs.SeenType.{type_of};
-ghost use Rattle.leaf_core.specs.Expression.{parameter, none_of, make_list, expressions_of};
-ghost use Rattle.leaf_expr.specs.Part.{more, last, spelling, spellings};
-ghost use Rattle.leaf_expr.specs.Printed.{expression_part, expression_parts, type_part, one, two, three};
-ghost use Rattle.leaf_core.specs.Seen.{expression_of, literal_of};
+ghost use Rattle.sample_core.specs.TypeView.{type_of};
+ghost use Rattle.leaf_core.specs.Expression.{param, no_event_expr, list_expr, expressions_of};
+ghost use Rattle.leaf_expr.specs.Sexpr.{more, last, spelling, spellings};
+ghost use Rattle.leaf_expr.specs.Printing.{expression_sexpr, expression_sexprs, type_sexpr, one, two, three};
+ghost use Rattle.leaf_core.specs.ExpressionView.{expression_of, literal_of};
 
 use itoa::Buffer;
-use leaf_core::{Expr, Literal, Part, Parts};
+use leaf_core::{Expr, ExprChild, Exprs, Literal};
 use sample_core::{Memory, Ty, push_type};
 use std::alloc::Global;
 
@@ -18,7 +18,7 @@ use std::alloc::Global;
 /// the limits of texts, it is read back to the same expression. `Memory` where a growth was
 /// refused.
 pub fn print_expr(alloc: Global, expr: &Expr) -> Result<String, Memory>
-    ensures { IfOk result (λ text. string_bytes text ≡ spelling (expression_part (expression_of expr.now))) }
+    ensures { IfOk result (λ text. string_bytes text ≡ spelling (expression_sexpr (expression_of expr.now))) }
 {
     let mut text = String::new(alloc);
     push_expr(&mut text, expr)?;
@@ -29,7 +29,7 @@ pub fn print_expr(alloc: Global, expr: &Expr) -> Result<String, Memory>
 /// refused; the text may then end with a part of it.
 #[cycle(push_expr)]
 pub fn push_expr(text: &mut String, expr: &Expr) -> Result<(), Memory>
-    ensures { Adds result (string_bytes text.old) (string_bytes text.new) (spelling (expression_part (expression_of expr.now))) }
+    ensures { Adds result (string_bytes text.old) (string_bytes text.new) (spelling (expression_sexpr (expression_of expr.now))) }
 {
     match expr {
         Expr::Input => push_word(text, "x"),
@@ -68,7 +68,7 @@ fn push_word(text: &mut String, word: &str) -> Result<(), Memory>
 
 /// A literal.
 fn push_literal(text: &mut String, literal: Literal) -> Result<(), Memory>
-    ensures { Adds result (string_bytes text.old) (string_bytes text.new) (spelling (expression_part (literal_of literal))) }
+    ensures { Adds result (string_bytes text.old) (string_bytes text.new) (spelling (expression_sexpr (literal_of literal))) }
 {
     match literal {
         Literal::Unit => push_word(text, "unit"),
@@ -80,7 +80,7 @@ fn push_literal(text: &mut String, literal: Literal) -> Result<(), Memory>
 
 /// A parameter.
 fn push_param(text: &mut String, k: u32) -> Result<(), Memory>
-    ensures { Adds result (string_bytes text.old) (string_bytes text.new) (spelling (expression_part (parameter k))) }
+    ensures { Adds result (string_bytes text.old) (string_bytes text.new) (spelling (expression_sexpr (param k))) }
 {
     push_word(text, "(p ")?;
     push_word(text, Buffer::new().format(k))?;
@@ -97,7 +97,7 @@ fn push_open(text: &mut String, name: &str) -> Result<(), Memory>
 
 /// A type as the next part of a form.
 fn push_next_type(text: &mut String, ty: &Ty) -> Result<(), Memory>
-    ensures { Adds result (string_bytes text.old) (string_bytes text.new) (32 ∷ spelling (type_part (type_of ty.now))) }
+    ensures { Adds result (string_bytes text.old) (string_bytes text.new) (32 ∷ spelling (type_sexpr (type_of ty.now))) }
 {
     push_word(text, " ")?;
     push_type(text, ty)
@@ -105,7 +105,7 @@ fn push_next_type(text: &mut String, ty: &Ty) -> Result<(), Memory>
 
 /// No event of a type.
 fn push_no_event(text: &mut String, ty: &Ty) -> Result<(), Memory>
-    ensures { Adds result (string_bytes text.old) (string_bytes text.new) (spelling (expression_part (none_of (type_of ty.now)))) }
+    ensures { Adds result (string_bytes text.old) (string_bytes text.new) (spelling (expression_sexpr (no_event_expr (type_of ty.now)))) }
 {
     push_word(text, "(none")?;
     push_next_type(text, ty)?;
@@ -115,7 +115,7 @@ fn push_no_event(text: &mut String, ty: &Ty) -> Result<(), Memory>
 /// An expression as the next part of a form.
 #[cycle(push_expr)]
 fn push_next(text: &mut String, expr: &Expr) -> Result<(), Memory>
-    ensures { Adds result (string_bytes text.old) (string_bytes text.new) (32 ∷ spelling (expression_part (expression_of expr.now))) }
+    ensures { Adds result (string_bytes text.old) (string_bytes text.new) (32 ∷ spelling (expression_sexpr (expression_of expr.now))) }
 {
     push_word(text, " ")?;
     push_expr(text, expr)
@@ -123,8 +123,8 @@ fn push_next(text: &mut String, expr: &Expr) -> Result<(), Memory>
 
 /// An expression as the last part of a form, and the form's end.
 #[cycle(push_expr)]
-fn push_last(text: &mut String, a: &Part) -> Result<(), Memory>
-    ensures { Adds result (string_bytes text.old) (string_bytes text.new) (spellings (more (expression_part a.now) last) ++ (41 ∷ [])) }
+fn push_last(text: &mut String, a: &ExprChild) -> Result<(), Memory>
+    ensures { Adds result (string_bytes text.old) (string_bytes text.new) (spellings (more (expression_sexpr a.now) last) ++ (41 ∷ [])) }
 {
     push_next(text, a.get())?;
     push_word(text, ")")
@@ -132,8 +132,8 @@ fn push_last(text: &mut String, a: &Part) -> Result<(), Memory>
 
 /// A form of one expression.
 #[cycle(push_expr)]
-fn push_one(text: &mut String, name: &str, a: &Part) -> Result<(), Memory>
-    ensures { Adds result (string_bytes text.old) (string_bytes text.new) (spelling (one name.now (expression_part a.now))) }
+fn push_one(text: &mut String, name: &str, a: &ExprChild) -> Result<(), Memory>
+    ensures { Adds result (string_bytes text.old) (string_bytes text.new) (spelling (one name.now (expression_sexpr a.now))) }
 {
     push_open(text, name)?;
     push_last(text, a)
@@ -141,8 +141,8 @@ fn push_one(text: &mut String, name: &str, a: &Part) -> Result<(), Memory>
 
 /// A form of two expressions.
 #[cycle(push_expr)]
-fn push_two(text: &mut String, name: &str, a: &Part, b: &Part) -> Result<(), Memory>
-    ensures { Adds result (string_bytes text.old) (string_bytes text.new) (spelling (two name.now (expression_part a.now) (expression_part b.now))) }
+fn push_two(text: &mut String, name: &str, a: &ExprChild, b: &ExprChild) -> Result<(), Memory>
+    ensures { Adds result (string_bytes text.old) (string_bytes text.new) (spelling (two name.now (expression_sexpr a.now) (expression_sexpr b.now))) }
 {
     push_open(text, name)?;
     push_next(text, a.get())?;
@@ -151,8 +151,14 @@ fn push_two(text: &mut String, name: &str, a: &Part, b: &Part) -> Result<(), Mem
 
 /// A form of three expressions.
 #[cycle(push_expr)]
-fn push_three(text: &mut String, name: &str, a: &Part, b: &Part, c: &Part) -> Result<(), Memory>
-    ensures { Adds result (string_bytes text.old) (string_bytes text.new) (spelling (three name.now (expression_part a.now) (expression_part b.now) (expression_part c.now))) }
+fn push_three(
+    text: &mut String,
+    name: &str,
+    a: &ExprChild,
+    b: &ExprChild,
+    c: &ExprChild,
+) -> Result<(), Memory>
+    ensures { Adds result (string_bytes text.old) (string_bytes text.new) (spelling (three name.now (expression_sexpr a.now) (expression_sexpr b.now) (expression_sexpr c.now))) }
 {
     push_open(text, name)?;
     push_next(text, a.get())?;
@@ -162,8 +168,8 @@ fn push_three(text: &mut String, name: &str, a: &Part, b: &Part, c: &Part) -> Re
 
 /// A list expression.
 #[cycle(push_expr)]
-fn push_list(text: &mut String, ty: &Ty, all: &Parts) -> Result<(), Memory>
-    ensures { Adds result (string_bytes text.old) (string_bytes text.new) (spelling (expression_part (make_list (type_of ty.now) (expressions_of all.now)))) }
+fn push_list(text: &mut String, ty: &Ty, all: &Exprs) -> Result<(), Memory>
+    ensures { Adds result (string_bytes text.old) (string_bytes text.new) (spelling (expression_sexpr (list_expr (type_of ty.now) (expressions_of all.now)))) }
 {
     push_word(text, "(list")?;
     push_next_type(text, ty)?;
@@ -172,8 +178,8 @@ fn push_list(text: &mut String, ty: &Ty, all: &Parts) -> Result<(), Memory>
 
 /// The elements of a list expression, each as the next part, and the form's end.
 #[cycle(push_expr)]
-fn push_elements(text: &mut String, all: &Parts) -> Result<(), Memory>
-    ensures { Adds result (string_bytes text.old) (string_bytes text.new) (spellings (expression_parts (expressions_of all.now)) ++ (41 ∷ [])) }
+fn push_elements(text: &mut String, all: &Exprs) -> Result<(), Memory>
+    ensures { Adds result (string_bytes text.old) (string_bytes text.new) (spellings (expression_sexprs (expressions_of all.now)) ++ (41 ∷ [])) }
 {
     for e in all.as_slice() {
         push_next(text, e)?;

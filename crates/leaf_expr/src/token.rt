@@ -1,7 +1,7 @@
 // The tokens of a text: parentheses, and words between white space and comments.
 
 ghost use Rattle.std.specs.Prelude.{◌≡◌, ◌<◌, ◌≤◌, true, length, slice_index, slice_range, MatchOption, IfSome, [], ◌∷◌};
-ghost use Rattle.leaf_expr.specs.Part.{is_word};
+ghost use Rattle.leaf_expr.specs.Sexpr.{is_word};
 ghost use Rattle.leaf_expr.specs.Lexeme.{IsLexeme};
 ghost use Rattle.leaf_expr.specs.Token.{word, tokens_from, token_of, begins_token, is_word_byte as is_byte_of_word};
 

@@ -4,7 +4,7 @@ ghost use Rattle.std.specs.Prelude.{◌≡◌, ◌-◌, ◌<◌, ◌≤◌, ◌�
 ghost use Rattle.leaf_expr.specs.Front.{front_from, front_left, FrontFits};
 ghost use Rattle.leaf_expr.specs.Grammar.{leaf};
 ghost use Rattle.leaf_expr.specs.ReadText.{Gives, begins_closing};
-ghost use Rattle.leaf_expr.specs.Reader.{read_end, read_head};
+ghost use Rattle.leaf_expr.specs.TreeReader.{read_end, read_head};
 ghost use Rattle.leaf_expr.specs.Token.{closing, tokens_from};
 
 use crate::text_fault::ExprTextFault;

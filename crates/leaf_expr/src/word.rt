@@ -1,11 +1,11 @@
 // Words that are a type, an expression or a parameter's number by themselves.
 
 ghost use Rattle.std.specs.Prelude.{◌≡◌, option_map};
-ghost use Rattle.sample_core.specs.SeenType.{type_of};
+ghost use Rattle.sample_core.specs.TypeView.{type_of};
 ghost use Rattle.leaf_expr.specs.Grammar.{word_at, type_sort, expression_sort, index_sort};
-ghost use Rattle.leaf_expr.specs.NumberPlace.{integer_at, index};
-ghost use Rattle.leaf_expr.specs.ReadText.{fit, found_word};
-ghost use Rattle.leaf_core.specs.Seen.{expression_of};
+ghost use Rattle.leaf_expr.specs.WordReading.{integer_at, index};
+ghost use Rattle.leaf_expr.specs.ReadText.{fit, word_reading};
+ghost use Rattle.leaf_core.specs.ExpressionView.{expression_of};
 
 use crate::form::is_word;
 use leaf_core::{Expr, Literal};
@@ -43,7 +43,7 @@ pub(crate) fn type_word(word: &[u8]) -> Option<Ty>
 /// The number of 64 bits that the word is.
 #[tactic(auto, using(crate::proofs::WordSteps::no_number, crate::proofs::WordSteps::bad_number, crate::proofs::WordSteps::big_number, crate::proofs::WordSteps::small_number))]
 fn integer_word(word: &[u8]) -> Result<i64, WordFault>
-    ensures { found_word (λ n. n) result ≡ integer_at word.now }
+    ensures { word_reading (λ n. n) result ≡ integer_at word.now }
 {
     if !is_number_word(word) {
         return Err(WordFault::Unfit);
@@ -71,7 +71,7 @@ fn index_of(n: i64) -> Option<u32>
 /// The parameter's number that the word is.
 #[tactic(auto, using(crate::proofs::IndexSteps::index_refused, crate::proofs::IndexSteps::index_found, crate::proofs::IndexSteps::index_wild))]
 pub(crate) fn index_word(word: &[u8]) -> Result<u32, WordFault>
-    ensures { found_word (λ k. k) result ≡ word_at index_sort word.now }
+    ensures { word_reading (λ k. k) result ≡ word_at index_sort word.now }
 {
     let n = integer_word(word)?;
     match index_of(n) {
@@ -83,7 +83,7 @@ pub(crate) fn index_word(word: &[u8]) -> Result<u32, WordFault>
 /// The expression that the word is: the input, or a literal.
 #[tactic(auto, unfolding(crate::specs::Grammar::word_at, crate::specs::Grammar::words))]
 pub(crate) fn expr_word(word: &[u8]) -> Result<Expr, WordFault>
-    ensures { found_word expression_of result ≡ word_at expression_sort word.now }
+    ensures { word_reading expression_of result ≡ word_at expression_sort word.now }
 {
     if is_word(word, "x") {
         Ok(Expr::Input)

@@ -2,8 +2,8 @@
 use Rattle.std.proofs.Common.{◌≡◌, ℤ, ◌+ℤ◌, ◌*ℤ◌, List, Some, ap, sym, ◌∙◌}
 use Rattle.std.proofs.lemmas.Int.{int_wrap-add_left}
 use Rattle.std.specs.Int.{int_wrap, w64}
-use Rattle.sample_core.specs.Datum.{Datum, number, whole}
-use Rattle.leaf_core.specs.ExpressionValue.{wrapped}
+use Rattle.sample_core.specs.Datum.{Datum, int, int_of}
+use Rattle.leaf_core.specs.ExpressionValue.{wrap}
 use Rattle.leaf_core.specs.Shape.{shape, value_by_shape}
 use Rattle.leaf_core.specs.KeyTree.{KeyTree}
 use Rattle.leaf_core.specs.declared.shape.Shape.{Shape}
@@ -15,6 +15,6 @@ pub by_shape : (s : Shape) (ps : List Datum) (x v : Datum) → value_by_shape s 
 by_shape s ps x v h key e = record { value = λ t u. sym (shape_values key.expr ps x v (ap (λ s. value_by_shape s x) e ∙ h)) }
 
 -- a sum of a product that was wrapped, wrapped
-pub affine_value : (a b n p s : ℤ) (x : Datum) → n ≡ whole x → p ≡ int_wrap w64 (a *ℤ n) → s ≡ int_wrap w64 (p +ℤ b) → Some (wrapped (a *ℤ whole x +ℤ b)) ≡ Some (number s)
+pub affine_value : (a b n p s : ℤ) (x : Datum) → n ≡ int_of x → p ≡ int_wrap w64 (a *ℤ n) → s ≡ int_wrap w64 (p +ℤ b) → Some (wrap (a *ℤ int_of x +ℤ b)) ≡ Some (int s)
 affine_value a b n p s x at product sum =
-    ap (λ z. Some (number z)) (sym (sum ∙ ap (λ z. int_wrap w64 (z +ℤ b)) product ∙ int_wrap-add_left w64 (a *ℤ n) b ∙ ap (λ z. int_wrap w64 (a *ℤ z +ℤ b)) at))
+    ap (λ z. Some (int z)) (sym (sum ∙ ap (λ z. int_wrap w64 (z +ℤ b)) product ∙ int_wrap-add_left w64 (a *ℤ n) b ∙ ap (λ z. int_wrap w64 (a *ℤ z +ℤ b)) at))

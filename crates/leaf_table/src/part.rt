@@ -2,15 +2,15 @@
 
 ghost use Rattle.std.specs.Prelude.{◌≡◌, ◌+ℤ◌, ◌*ℤ◌, IfOk};
 ghost use Rattle.std.specs.Int.{int_wrap, w64};
-ghost use Rattle.sample_core.specs.Datum.{left, right, whole};
-ghost use Rattle.sample_core.specs.Seen.{datum_of};
+ghost use Rattle.sample_core.specs.Datum.{left, right, int_of};
+ghost use Rattle.sample_core.specs.ValueView.{datum_of};
 
-use sample_core::{Child, Memory, Sample};
+use sample_core::{Memory, Sample, SampleChild};
 use std::alloc::{AllocError, Global};
 
 /// The number of a number value; 0 of another.
 pub fn number(value: &Sample) -> i64
-    ensures { result ≡ whole (datum_of value.now) }
+    ensures { result ≡ int_of (datum_of value.now) }
 {
     match value {
         Sample::Int(n) => *n,
@@ -64,11 +64,11 @@ pub fn copied(alloc: Global, value: &Sample) -> Result<Sample, AllocError>
 }
 
 /// A copy of the value, as a part of another. `AllocError` where a growth was refused.
-pub fn child(alloc: Global, value: &Sample) -> Result<Child, AllocError>
+pub fn child(alloc: Global, value: &Sample) -> Result<SampleChild, AllocError>
     ensures { IfOk result (λ c. c ≡ datum_of value.now) }
 {
     let copy = copied(alloc, value)?;
-    match Child::new(alloc, copy) {
+    match SampleChild::new(alloc, copy) {
         Ok(child) => Ok(child),
         Err(Memory) => Err(AllocError),
     }

@@ -2,7 +2,7 @@
 // parameters and the input `x`; only the one for any expression looks at the parameters.
 
 ghost use Rattle.std.specs.Prelude.{◌≡◌, IfOk, Some, map};
-ghost use Rattle.sample_core.specs.Seen.{datum_of};
+ghost use Rattle.sample_core.specs.ValueView.{datum_of};
 ghost use Rattle.leaf_core.specs.Shape.{shape, value_by_shape};
 ghost use Rattle.leaf_core.specs.declared.shape.Shape.TheVariants as S;
 ghost use Rattle.leaf_core.specs.KeyTree.{KeyTree};

@@ -3,7 +3,7 @@
 ghost use Rattle.std.specs.Prelude.{◌≡◌, ◌≤◌, ◌<◌, ◌++◌, ◌∷◌, ◌↔◌, [], length, IfOk, IfErr, IsOk, IsErr, OnOk, OnErr, IfSome, IfNone, All, Ok, Some, None, slice_get, Contains, map};
 ghost use Rattle.indexmap.specs.IndexMap.{index_map_len};
 ghost use Rattle.sample_core.specs.HasType.{HasType, TypedParams};
-ghost use Rattle.sample_core.specs.Seen.{datum_of};
+ghost use Rattle.sample_core.specs.ValueView.{datum_of};
 ghost use Rattle.leaf_core.specs.ExpressionValue.{value_of};
 ghost use Rattle.leaf_core.specs.KeyTree.{KeyTree};
 
@@ -75,8 +75,8 @@ impl LeafTable {
         }
     }
 
-    /// Adds the leaf, whose key is new, as a new last row. A leaf that is not taken, for want of
-    /// memory, comes back.
+    /// Adds the leaf, whose key is new, as a new last row. A leaf that is not taken, since
+    /// memory ran out, comes back.
     fn push(&mut self, key: LeafKey, leaf: Leaf) -> Result<LeafId, (Leaf, TableFault)>
         requires own { leaf.key ≡ key }
         requires fresh { Contains (rows_of self.old) key → ⊥ }

@@ -1,7 +1,7 @@
 -- The first event of a list and of its fronts.
 use Rattle.std.proofs.Common.{◌≡◌, ◌⊎◌, ℕ, zero, suc, ◌≤◌, ◌<◌, List, [], ◌∷◌, length, take, refl, ap, ◌∙◌, arith, Some, None, inl, inr}
 use Rattle.sample_core.specs.Datum.{Datum, event}
-use Rattle.net_syntax.specs.Signal.{first_event, later}
+use Rattle.net_syntax.specs.SignalFunction.{first_event, later}
 
 -- event c is the first of vs, at n
 pub record IsFirst (vs : List Datum) (n : ℕ) (c : Datum) : Type 0 where

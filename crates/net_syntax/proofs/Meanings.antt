@@ -1,42 +1,41 @@
 -- Every network denotes a signal, where the frozen networks in scope do.
 use Rattle.std.proofs.Common.{◌≡◌, ℕ, zero, suc, List, [], ◌∷◌, ◌++◌, length, take}
 use Rattle.sample_core.specs.Datum.{Datum, unit}
-use Rattle.net_syntax.specs.Signal.{Timed, Signal, retime}
-use Rattle.net_syntax.specs.IsSignal.{IsSignal}
+use Rattle.net_syntax.specs.SignalFunction.{TimedList, SignalFunction, retime, IsSignalFunction}
 use Rattle.net_syntax.specs.Network.{Network, Networks, arr, seq, first, par, loop_pre, i_pre, delay, hold, accum_by, after, repeatedly, time, integral, switch, d_switch, r_switch, k_switch, p_switch, old, no_members, and_member}
 use Rattle.net_syntax.specs.Meaning.{Context, with_param, with_olds, old_at, meaning, meanings}
 use Rattle.net_syntax.specs.Environment.{Environment, context_of, outputs, closed, param, frozen}
-use Rattle.net_syntax.proofs.Cells.{IsSignal-map, IsSignal-values, IsSignal-previous_of, IsSignal-delayed, IsSignal-held, IsSignal-accumulation, IsSignal-reached, IsSignal-repeated, IsSignal-clock, IsSignal-integrated}
+use Rattle.net_syntax.proofs.Cells.{IsSignal-map, IsSignal-values, IsSignal-previous_of, IsSignal-delay_value, IsSignal-latest_event, IsSignal-accumulation, IsSignal-after_value, IsSignal-repeatedly_value, IsSignal-clock, IsSignal-integral_value}
 use Rattle.net_syntax.proofs.Plain.{AllSignals, no_signal, and_signal, IsSignal-sequence, IsSignal-on_left, IsSignal-in_parallel}
 use Rattle.net_syntax.proofs.Feedback.{IsSignal-feedback}
-use Rattle.net_syntax.proofs.Resumed.{IsSignal-resumed}
+use Rattle.net_syntax.proofs.Resumed.{IsSignal-resume}
 use Rattle.net_syntax.proofs.Switches.{IsSignal-switching, IsSignal-switching_late, IsSignal-switching_on, IsSignal-switching_all}
 use Rattle.net_syntax.proofs.Restarting.{IsSignal-restarting}
 
-pub AllSignals-append : (fs gs : List Signal) → AllSignals fs → AllSignals gs → AllSignals (fs ++ gs)
+pub AllSignals-append : (fs gs : List SignalFunction) → AllSignals fs → AllSignals gs → AllSignals (fs ++ gs)
 AllSignals-append [] gs s r = r
 AllSignals-append (f ∷ fs) gs (and_signal sf s) r = and_signal sf (AllSignals-append fs gs s r)
 
-pub IsSignal-old_at : (fs : List Signal) → AllSignals fs → (k : ℕ) → IsSignal (old_at fs k)
+pub IsSignal-old_at : (fs : List SignalFunction) → AllSignals fs → (k : ℕ) → IsSignalFunction (old_at fs k)
 IsSignal-old_at [] s k = IsSignal-values
 IsSignal-old_at (f ∷ fs) (and_signal sf s) zero = sf
 IsSignal-old_at (f ∷ fs) (and_signal sf s) (suc k) = IsSignal-old_at fs s k
 
 mutual
-  pub IsSignal-meaning : {L : Type 0} (val : L → List Datum → Datum → Datum) (net : Network L) (E : Context) → AllSignals E.olds → IsSignal (meaning val net E)
+  pub IsSignal-meaning : {L : Type 0} (val : L → List Datum → Datum → Datum) (net : Network L) (E : Context) → AllSignals E.olds → IsSignalFunction (meaning val net E)
   IsSignal-meaning val (arr e) E s = IsSignal-map (val e E.params)
   IsSignal-meaning val (seq f g) E s = IsSignal-sequence (meaning val f E) (meaning val g E) (IsSignal-meaning val f E s) (IsSignal-meaning val g E s)
   IsSignal-meaning val (first f) E s = IsSignal-on_left (meaning val f E) (IsSignal-meaning val f E s)
   IsSignal-meaning val (par fs) E s = IsSignal-in_parallel (meanings val fs E) (AllSignals-meanings val fs E s)
   IsSignal-meaning val (loop_pre c f) E s = IsSignal-feedback (val c E.params unit) (meaning val f E) (IsSignal-meaning val f E s)
   IsSignal-meaning val (i_pre c) E s = IsSignal-previous_of (val c E.params unit)
-  IsSignal-meaning val (delay q c) E s = IsSignal-delayed q (val c E.params unit)
-  IsSignal-meaning val (hold c) E s = IsSignal-held (val c E.params unit)
+  IsSignal-meaning val (delay q c) E s = IsSignal-delay_value q (val c E.params unit)
+  IsSignal-meaning val (hold c) E s = IsSignal-latest_event (val c E.params unit)
   IsSignal-meaning val (accum_by g z) E s = IsSignal-accumulation (val g E.params) (val z E.params unit)
-  IsSignal-meaning val (after q c) E s = IsSignal-reached q (val c E.params unit)
-  IsSignal-meaning val (repeatedly q c) E s = IsSignal-repeated q (val c E.params unit)
+  IsSignal-meaning val (after q c) E s = IsSignal-after_value q (val c E.params unit)
+  IsSignal-meaning val (repeatedly q c) E s = IsSignal-repeatedly_value q (val c E.params unit)
   IsSignal-meaning val time E s = IsSignal-clock
-  IsSignal-meaning val integral E s = IsSignal-integrated
+  IsSignal-meaning val integral E s = IsSignal-integral_value
   IsSignal-meaning val (switch f t) E s = IsSignal-switching (meaning val f E) (λ c. meaning val t (with_param E c)) (IsSignal-meaning val f E s) (λ c. IsSignal-meaning val t (with_param E c) s)
   IsSignal-meaning val (d_switch f t) E s = IsSignal-switching_late (meaning val f E) (λ c. meaning val t (with_param E c)) (IsSignal-meaning val f E s) (λ c. IsSignal-meaning val t (with_param E c) s)
   IsSignal-meaning val (r_switch f t) E s = IsSignal-restarting (λ c. meaning val t (with_param E c)) (λ c. IsSignal-meaning val t (with_param E c) s) (meaning val f E) (IsSignal-meaning val f E s)
@@ -60,14 +59,14 @@ AllSignals-context_of val closed = no_signal
 AllSignals-context_of val (param E c) = AllSignals-context_of val E
 AllSignals-context_of val (frozen E net E' p d) =
     AllSignals-append (context_of val E).olds _ (AllSignals-context_of val E)
-    (and_signal (IsSignal-resumed (meaning val net (context_of val E')) (IsSignal-meaning val net (context_of val E') (AllSignals-context_of val E')) p d) no_signal)
+    (and_signal (IsSignal-resume (meaning val net (context_of val E')) (IsSignal-meaning val net (context_of val E') (AllSignals-context_of val E')) p d) no_signal)
 
 -- the laws of every network in every environment
-pub length-outputs : {L : Type 0} (val : L → List Datum → Datum → Datum) (net : Network L) (E : Environment L) (xs : Timed) → length (outputs val net E xs) ≡ length xs
+pub length-outputs : {L : Type 0} (val : L → List Datum → Datum → Datum) (net : Network L) (E : Environment L) (xs : TimedList) → length (outputs val net E xs) ≡ length xs
 length-outputs val net E = (IsSignal-meaning val net (context_of val E) (AllSignals-context_of val E)).sized
 
-pub outputs-take : {L : Type 0} (val : L → List Datum → Datum → Datum) (net : Network L) (E : Environment L) (n : ℕ) (xs : Timed) → outputs val net E (take n xs) ≡ take n (outputs val net E xs)
+pub outputs-take : {L : Type 0} (val : L → List Datum → Datum → Datum) (net : Network L) (E : Environment L) (n : ℕ) (xs : TimedList) → outputs val net E (take n xs) ≡ take n (outputs val net E xs)
 outputs-take val net E = (IsSignal-meaning val net (context_of val E) (AllSignals-context_of val E)).causal
 
-pub outputs-retime : {L : Type 0} (val : L → List Datum → Datum → Datum) (net : Network L) (E : Environment L) (d : ℕ) (xs : Timed) → outputs val net E (retime d xs) ≡ outputs val net E xs
+pub outputs-retime : {L : Type 0} (val : L → List Datum → Datum → Datum) (net : Network L) (E : Environment L) (d : ℕ) (xs : TimedList) → outputs val net E (retime d xs) ≡ outputs val net E xs
 outputs-retime val net E = (IsSignal-meaning val net (context_of val E) (AllSignals-context_of val E)).timeless

@@ -4,8 +4,7 @@ use Rattle.std.proofs.lemmas.List.{length-map, take-map}
 use Rattle.std.proofs.lemmas.Simd.{map-map}
 use mathlib.Core.Path.{fun_ext}
 use Rattle.sample_core.specs.Datum.{Datum}
-use Rattle.net_syntax.specs.Signal.{Timed, prefixes, by_past, retime}
-use Rattle.net_syntax.specs.IsSignal.{IsSignal}
+use Rattle.net_syntax.specs.SignalFunction.{TimedList, prefixes, by_past, retime, IsSignalFunction}
 
 pub length-prefixes : {A : Type 0} (xs : List A) → length (prefixes xs) ≡ length xs
 length-prefixes [] = refl
@@ -16,11 +15,11 @@ prefixes-take zero xs = refl
 prefixes-take (suc n) [] = refl
 prefixes-take (suc n) (x ∷ xs) = ap (λ ps. (x ∷ []) ∷ ps) (ap (map (λ p. x ∷ p)) (prefixes-take n xs) ∙ sym (take-map (λ p. x ∷ p) n (prefixes xs)))
 
-pub prefixes-retime : (d : ℕ) (xs : Timed) → prefixes (retime d xs) ≡ map (retime d) (prefixes xs)
+pub prefixes-retime : (d : ℕ) (xs : TimedList) → prefixes (retime d xs) ≡ map (retime d) (prefixes xs)
 prefixes-retime d [] = refl
 prefixes-retime d (x ∷ xs) = ap (λ ps. ((d, x.1) ∷ []) ∷ ps) (sym (map-map (retime d) (λ p. x ∷ p) (prefixes xs)))
 
-pub IsSignal-by_past : (h : Timed → Datum) → ((d : ℕ) (p : Timed) → h (retime d p) ≡ h p) → IsSignal (by_past h)
+pub IsSignal-by_past : (h : TimedList → Datum) → ((d : ℕ) (p : TimedList) → h (retime d p) ≡ h p) → IsSignalFunction (by_past h)
 IsSignal-by_past h hr = record {
   sized = λ xs. length-map (prefixes xs) h ∙ length-prefixes xs;
   causal = λ n xs. ap (map h) (prefixes-take n xs) ∙ sym (take-map h n (prefixes xs));

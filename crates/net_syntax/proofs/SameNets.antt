@@ -2,32 +2,32 @@
 use Rattle.std.proofs.Common.{◌≡◌, ℕ, suc, ◌≤◌, List, [], ◌∷◌, ◌++◌, map, length, refl, sym, ap, ap₂, ◌∙◌, arith, subst}
 use Rattle.std.proofs.lemmas.Simd.{map-map}
 use Rattle.sample_core.specs.Datum.{Datum, unit, pair, no_event}
-use Rattle.net_syntax.specs.Signal.{Timed, Signal, values, last_or, prefixes, by_past, feedback, if_event, previous_of, delayed, held, accumulated, accumulation, reached, repeated, clock, integrated, time_at, times}
+use Rattle.net_syntax.specs.SignalFunction.{TimedList, SignalFunction, values, last_or, prefixes, by_past, loop_pre_function, if_event, i_pre_value, delay_value, latest_event, fold_events, accum_by_value, after_value, repeatedly_value, time_value, integral_value, time_at, times}
 use Rattle.net_syntax.specs.Network.{Network, Networks, arr, seq, first, par, loop_pre, i_pre, delay, hold, accum_by, after, repeatedly, time, integral, switch, d_switch, r_switch, k_switch, p_switch, old, no_members, and_member}
 use Rattle.net_syntax.specs.Meaning.{Context, old_at, meaning, meanings}
 use Rattle.sample_core.specs.TypeTree.{TypeTree, unit_ty, int_ty, pair_ty, event_ty, list_ty}
-use Rattle.sample_core.specs.HasType.{HasType, unit_has, pair_has, none_has, event_has, TypedParams, no_params, and_param}
+use Rattle.sample_core.specs.HasType.{HasType, unit_has, pair_has, no_event_has, event_has, TypedParams, no_params, and_param}
 use Rattle.net_syntax.specs.Typing.{TypedValues, no_value, and_value, TypedSamples, no_sample, and_sample, Arrow, OldAt, old_here, old_after, copies, members, LeafTyping, Typed, AllTyped, arr_typed, seq_typed, first_typed, par_typed, loop_typed, i_pre_typed, delay_typed, hold_typed, accum_typed, after_typed, repeatedly_typed, time_typed, integral_typed, switch_typed, d_switch_typed, r_switch_typed, k_switch_typed, p_switch_typed, old_typed, no_members_typed, and_member_typed}
 use Rattle.net_syntax.proofs.Plain.{AllSignals, no_signal, and_signal}
 use Rattle.net_syntax.proofs.Meanings.{IsSignal-meaning}
-use Rattle.net_syntax.proofs.TypedLists.{TypedValues-map, typed_values, typed_last, typed_by_past, typed_previous_of, typed_latest_by, typed_held, typed_accumulated, typed_if_event, typed_when, typed_wrapped, typed_integrated}
+use Rattle.net_syntax.proofs.TypedLists.{TypedValues-map, typed_values, typed_last, typed_by_past, typed_previous_of, typed_latest_by, typed_latest_event, typed_fold_events, typed_if_event, typed_when, typed_wrapped, typed_integral_value}
 use Rattle.net_syntax.proofs.SameAt.{SameAt-one, SameAt-sequence, SameAt-on_left, SameAt-in_parallel, SameAt-feedback}
 use Rattle.net_syntax.proofs.SameSwitches.{SameAt-switching, SameAt-switching_late, SameAt-restarting, SameAt-switching_on, SameAt-switching_all, AllOlds-append}
-use Rattle.net_syntax.specs.Same.{SameAt, no_twin, and_twin, AllOlds, no_olds, and_old, context, LeavesTyped, SameLeaf, SameNet, SameNets}
+use Rattle.net_syntax.specs.Sameness.{SameAt, no_twin, and_twin, AllOlds, no_olds, and_old, context, LeavesTyped, SameLeaf, SameNet, SameNets}
 
 pub TypedParams-append : (Ps Qs : List TypeTree) (ps qs : List Datum) → TypedParams Ps ps → TypedParams Qs qs → TypedParams (Ps ++ Qs) (ps ++ qs)
 TypedParams-append Ps Qs ps qs no_params k = k
 TypedParams-append Ps Qs ps qs (and_param {Ps = Ps'} {ps = ps'} h hs) k = and_param h (TypedParams-append Ps' Qs ps' qs hs k)
 
-pub signals_left : {Os : List Arrow} (fs gs : List Signal) → AllOlds Os fs gs → AllSignals fs
+pub signals_left : {Os : List Arrow} (fs gs : List SignalFunction) → AllOlds Os fs gs → AllSignals fs
 signals_left fs gs no_olds = no_signal
 signals_left fs gs (and_old {fs = fs'} {gs = gs'} sf sg h a) = and_signal sf (signals_left fs' gs' a)
 
-pub signals_right : {Os : List Arrow} (fs gs : List Signal) → AllOlds Os fs gs → AllSignals gs
+pub signals_right : {Os : List Arrow} (fs gs : List SignalFunction) → AllOlds Os fs gs → AllSignals gs
 signals_right fs gs no_olds = no_signal
 signals_right fs gs (and_old {fs = fs'} {gs = gs'} sf sg h a) = and_signal sg (signals_right fs' gs' a)
 
-same_olds : {Os : List Arrow} {k : ℕ} {o : Arrow} (fs gs : List Signal) → AllOlds Os fs gs → OldAt Os k o → SameAt o.input o.output (old_at fs k) (old_at gs k)
+same_olds : {Os : List Arrow} {k : ℕ} {o : Arrow} (fs gs : List SignalFunction) → AllOlds Os fs gs → OldAt Os k o → SameAt o.input o.output (old_at fs k) (old_at gs k)
 same_olds fs gs no_olds i = elim i [ ]
 same_olds fs gs (and_old sf sg h a) old_here = h
 same_olds fs gs (and_old {fs = fs'} {gs = gs'} sf sg h a) (old_after i) = same_olds fs' gs' a i
@@ -67,34 +67,34 @@ module _ {L : Type 0} (val : L → List Datum → Datum → Datum) where
   pub same-loop_pre : {Ps : List TypeTree} {Os : List Arrow} {A B C : TypeTree} (c c' : L) (f f' : Network L) → SameLeaf val Ps unit_ty C c c' → SameNet val Ps Os (pair_ty A C) (pair_ty B C) f f' → SameNet val Ps Os A B (loop_pre c f) (loop_pre c' f')
   same-loop_pre {A = A} {B = B} c c' f f' hc hf = record {
     here = λ ps os os' k a.
-        subst (λ v. SameAt A B (meaning val (loop_pre c f) (context ps os)) (feedback v (meaning val f' (context ps os')))) (const_same hc ps k)
+        subst (λ v. SameAt A B (meaning val (loop_pre c f) (context ps os)) (loop_pre_function v (meaning val f' (context ps os')))) (const_same hc ps k)
         (SameAt-feedback (val c ps unit) _ _ (const_typed hc ps k) (hf.here ps os os' k a));
   }
 
   -- a cell with a constant
-  same-const : {Ps : List TypeTree} {C : TypeTree} {A B : TypeTree} (c c' : L) (s : Datum → Signal) → SameLeaf val Ps unit_ty C c c' → ((v : Datum) → HasType v C → (xs : Timed) → TypedSamples A xs → TypedValues B (s v xs)) → (ps : List Datum) → TypedParams Ps ps → SameAt A B (s (val c ps unit)) (s (val c' ps unit))
+  same-const : {Ps : List TypeTree} {C : TypeTree} {A B : TypeTree} (c c' : L) (s : Datum → SignalFunction) → SameLeaf val Ps unit_ty C c c' → ((v : Datum) → HasType v C → (xs : TimedList) → TypedSamples A xs → TypedValues B (s v xs)) → (ps : List Datum) → TypedParams Ps ps → SameAt A B (s (val c ps unit)) (s (val c' ps unit))
   same-const {A = A} {B = B} c c' s hc h ps k = subst (λ v. SameAt A B (s (val c ps unit)) (s v)) (const_same hc ps k) (SameAt-one (s (val c ps unit)) (h (val c ps unit) (const_typed hc ps k)))
 
   pub same-i_pre : {Ps : List TypeTree} {Os : List Arrow} {A : TypeTree} (c c' : L) → SameLeaf val Ps unit_ty A c c' → SameNet val Ps Os A A (i_pre c) (i_pre c')
-  same-i_pre c c' hc = record { here = λ ps os os' k a. same-const c c' (λ v. by_past (previous_of v)) hc (λ v i xs j. typed_by_past (previous_of v) xs (λ p l. typed_previous_of v p i l) j) ps k }
+  same-i_pre c c' hc = record { here = λ ps os os' k a. same-const c c' (λ v. by_past (i_pre_value v)) hc (λ v i xs j. typed_by_past (i_pre_value v) xs (λ p l. typed_previous_of v p i l) j) ps k }
 
   pub same-delay : {Ps : List TypeTree} {Os : List Arrow} {A : TypeTree} (q : ℕ) (c c' : L) → SameLeaf val Ps unit_ty A c c' → SameNet val Ps Os A A (delay q c) (delay q c')
-  same-delay q c c' hc = record { here = λ ps os os' k a. same-const c c' (λ v. by_past (delayed q v)) hc (λ v i xs j. typed_by_past (delayed q v) xs (λ p l. typed_latest_by q (time_at p) v (times p) (values p) i (typed_values p l)) j) ps k }
+  same-delay q c c' hc = record { here = λ ps os os' k a. same-const c c' (λ v. by_past (delay_value q v)) hc (λ v i xs j. typed_by_past (delay_value q v) xs (λ p l. typed_latest_by q (time_at p) v (times p) (values p) i (typed_values p l)) j) ps k }
 
   pub same-hold : {Ps : List TypeTree} {Os : List Arrow} {A : TypeTree} (c c' : L) → SameLeaf val Ps unit_ty A c c' → SameNet val Ps Os (event_ty A) A (hold c) (hold c')
-  same-hold c c' hc = record { here = λ ps os os' k a. same-const c c' (λ v. by_past (λ p. held v (values p))) hc (λ v i xs j. typed_by_past (λ p. held v (values p)) xs (λ p l. typed_held v (values p) i (typed_values p l)) j) ps k }
+  same-hold c c' hc = record { here = λ ps os os' k a. same-const c c' (λ v. by_past (λ p. latest_event v (values p))) hc (λ v i xs j. typed_by_past (λ p. latest_event v (values p)) xs (λ p l. typed_latest_event v (values p) i (typed_values p l)) j) ps k }
 
   pub same-after : {Ps : List TypeTree} {Os : List Arrow} {A C : TypeTree} (q : ℕ) (c c' : L) → SameLeaf val Ps unit_ty C c c' → SameNet val Ps Os A (event_ty C) (after q c) (after q c')
-  same-after q c c' hc = record { here = λ ps os os' k a. same-const c c' (λ v. by_past (reached q v)) hc (λ v i xs j. typed_by_past (reached q v) xs (λ p l. typed_when _ v i) j) ps k }
+  same-after q c c' hc = record { here = λ ps os os' k a. same-const c c' (λ v. by_past (after_value q v)) hc (λ v i xs j. typed_by_past (after_value q v) xs (λ p l. typed_when _ v i) j) ps k }
 
   pub same-repeatedly : {Ps : List TypeTree} {Os : List Arrow} {A C : TypeTree} (q : ℕ) (c c' : L) → SameLeaf val Ps unit_ty C c c' → SameNet val Ps Os A (event_ty C) (repeatedly q c) (repeatedly q c')
-  same-repeatedly q c c' hc = record { here = λ ps os os' k a. same-const c c' (λ v. by_past (repeated q v)) hc (λ v i xs j. typed_by_past (repeated q v) xs (λ p l. typed_when _ v i) j) ps k }
+  same-repeatedly q c c' hc = record { here = λ ps os os' k a. same-const c c' (λ v. by_past (repeatedly_value q v)) hc (λ v i xs j. typed_by_past (repeatedly_value q v) xs (λ p l. typed_when _ v i) j) ps k }
 
   pub same-time : {Ps : List TypeTree} {Os : List Arrow} {A : TypeTree} → SameNet val Ps Os A int_ty time time
-  same-time = record { here = λ ps os os' k a. SameAt-one (by_past clock) (λ xs j. typed_by_past clock xs (λ p l. typed_wrapped _) j) }
+  same-time = record { here = λ ps os os' k a. SameAt-one (by_past time_value) (λ xs j. typed_by_past time_value xs (λ p l. typed_wrapped _) j) }
 
   pub same-integral : {Ps : List TypeTree} {Os : List Arrow} → SameNet val Ps Os int_ty int_ty integral integral
-  same-integral = record { here = λ ps os os' k a. SameAt-one (by_past integrated) (λ xs j. typed_by_past integrated xs (λ p l. typed_integrated p) j) }
+  same-integral = record { here = λ ps os os' k a. SameAt-one (by_past integral_value) (λ xs j. typed_by_past integral_value xs (λ p l. typed_integral_value p) j) }
 
   pub same-switch : {Ps : List TypeTree} {Os : List Arrow} {A B C : TypeTree} (f f' t t' : Network L) → SameNet val Ps Os A (pair_ty B (event_ty C)) f f' → SameNet val (Ps ++ C ∷ []) Os A B t t' → SameNet val Ps Os A B (switch f t) (switch f' t')
   same-switch {Ps = Ps} {C = C} f f' t t' hf ht = record { here = λ ps os os' k a. SameAt-switching _ _ _ _ (hf.here ps os os' k a) (λ c i. ht.here (ps ++ c ∷ []) os os' (TypedParams-append Ps (C ∷ []) ps (c ∷ []) k (and_param i no_params)) a) }
@@ -138,13 +138,13 @@ module _ {L : Type 0} (val : L → List Datum → Datum → Datum) where
         and_twin (IsSignal-meaning val f (context ps os) (signals_left os os' a)) (IsSignal-meaning val f' (context ps os') (signals_right os os' a)) (hf.here ps os os' k a) (hfs.here ps os os' k a);
   }
 
-  accumulated-same : {Z V : TypeTree} (g g' : Datum → Datum) → ((v : Datum) → HasType v (pair_ty Z V) → (g v ≡ g' v) × HasType (g v) Z) → (acc : Datum) (vs : List Datum) → HasType acc Z → TypedValues (event_ty V) vs → accumulated g acc vs ≡ accumulated g' acc vs
-  accumulated-same g g' s acc vs h no_value = refl
-  accumulated-same g g' s acc vs h (and_value {vs = vs'} none_has ks) = accumulated-same g g' s acc vs' h ks
-  accumulated-same g g' s acc vs h (and_value {vs = vs'} (event_has {v = v} k) ks) =
-      accumulated-same g g' s (g (pair acc v)) vs' (s (pair acc v) (pair_has h k)).1 ks ∙ ap (λ w. accumulated g' w vs') (s (pair acc v) (pair_has h k)).0
+  fold_events-same : {Z V : TypeTree} (g g' : Datum → Datum) → ((v : Datum) → HasType v (pair_ty Z V) → (g v ≡ g' v) × HasType (g v) Z) → (acc : Datum) (vs : List Datum) → HasType acc Z → TypedValues (event_ty V) vs → fold_events g acc vs ≡ fold_events g' acc vs
+  fold_events-same g g' s acc vs h no_value = refl
+  fold_events-same g g' s acc vs h (and_value {vs = vs'} no_event_has ks) = fold_events-same g g' s acc vs' h ks
+  fold_events-same g g' s acc vs h (and_value {vs = vs'} (event_has {v = v} k) ks) =
+      fold_events-same g g' s (g (pair acc v)) vs' (s (pair acc v) (pair_has h k)).1 ks ∙ ap (λ w. fold_events g' w vs') (s (pair acc v) (pair_has h k)).0
 
-  by_past-same : {A : TypeTree} (h h' : Timed → Datum) (xs : Timed) → ((p : Timed) → TypedSamples A p → h p ≡ h' p) → TypedSamples A xs → map h (prefixes xs) ≡ map h' (prefixes xs)
+  by_past-same : {A : TypeTree} (h h' : TimedList → Datum) (xs : TimedList) → ((p : TimedList) → TypedSamples A p → h p ≡ h' p) → TypedSamples A xs → map h (prefixes xs) ≡ map h' (prefixes xs)
   by_past-same h h' xs s no_sample = refl
   by_past-same h h' xs s (and_sample {x = x} {xs = xs'} k ks) =
       ap₂ (λ v vs. v ∷ vs) (s (x ∷ []) (and_sample k no_sample)) (map-map h (λ p. x ∷ p) (prefixes xs') ∙ by_past-same (λ p. h (x ∷ p)) (λ p. h' (x ∷ p)) xs' (λ p j. s (x ∷ p) (and_sample k j)) ks ∙ sym (map-map h' (λ p. x ∷ p) (prefixes xs')))
@@ -152,12 +152,12 @@ module _ {L : Type 0} (val : L → List Datum → Datum → Datum) where
   pub same-accum_by : {Ps : List TypeTree} {Os : List Arrow} {V Z : TypeTree} (g g' z z' : L) → SameLeaf val Ps unit_ty Z z z' → SameLeaf val Ps (pair_ty Z V) Z g g' → SameNet val Ps Os (event_ty V) (event_ty Z) (accum_by g z) (accum_by g' z')
   same-accum_by g g' z z' hz hg = record {
     here = λ ps os os' k a. record {
-      same = λ xs j. by_past-same (accumulation (val g ps) (val z ps unit)) (accumulation (val g' ps) (val z' ps unit)) xs
+      same = λ xs j. by_past-same (accum_by_value (val g ps) (val z ps unit)) (accum_by_value (val g' ps) (val z' ps unit)) xs
           (λ p l. ap (if_event (last_or no_event (values p))) (
-          accumulated-same (val g ps) (val g' ps) (λ v i. (hg.leaf_same ps v k i, hg.leaf_typed ps v k i)) (val z ps unit) (values p) (const_typed hz ps k) (typed_values p l)
-          ∙ ap (λ v. accumulated (val g' ps) v (values p)) (const_same hz ps k))) j;
-      typed = λ xs j. typed_by_past (accumulation (val g ps) (val z ps unit)) xs
-          (λ p l. typed_if_event _ _ (typed_last no_event (values p) none_has (typed_values p l)) (typed_accumulated (val g ps) (val z ps unit) (values p) (λ v i. hg.leaf_typed ps v k i) (const_typed hz ps k) (typed_values p l))) j;
+          fold_events-same (val g ps) (val g' ps) (λ v i. (hg.leaf_same ps v k i, hg.leaf_typed ps v k i)) (val z ps unit) (values p) (const_typed hz ps k) (typed_values p l)
+          ∙ ap (λ v. fold_events (val g' ps) v (values p)) (const_same hz ps k))) j;
+      typed = λ xs j. typed_by_past (accum_by_value (val g ps) (val z ps unit)) xs
+          (λ p l. typed_if_event _ _ (typed_last no_event (values p) no_event_has (typed_values p l)) (typed_fold_events (val g ps) (val z ps unit) (values p) (λ v i. hg.leaf_typed ps v k i) (const_typed hz ps k) (typed_values p l))) j;
     };
   }
 
@@ -193,13 +193,13 @@ module _ {L : Type 0} (val : L → List Datum → Datum → Datum) where
       same-all_typed Ps Os fs A B no_members_typed = same-no_members
       same-all_typed Ps Os fs A B (and_member_typed {f = f} {fs = fs'} df ds) = same-and_member f f fs' fs' (same-typed Ps Os f A B df) (same-all_typed Ps Os fs' A B ds)
 
-    olds_alone : (Os : List Arrow) (os os' : List Signal) → AllOlds Os os os' → AllOlds Os os os
+    olds_alone : (Os : List Arrow) (os os' : List SignalFunction) → AllOlds Os os os' → AllOlds Os os os
     olds_alone Os os os' no_olds = no_olds
     olds_alone Os os os' (and_old {Os = Os'} {f = f} {fs = fs} {gs = gs} sf sg h a) = and_old sf sf (SameAt-one f h.typed) (olds_alone Os' fs gs a)
 
     -- a law shown in each one environment holds across alike ones
     pub same-from_law : (Ps : List TypeTree) (Os : List Arrow) (A B : TypeTree) (f g : Network L) → Typed T Ps Os f A B → Typed T Ps Os g A B
-        → ((ps : List Datum) (os : List Signal) → TypedParams Ps ps → AllOlds Os os os → (xs : Timed) → TypedSamples A xs → meaning val f (context ps os) xs ≡ meaning val g (context ps os) xs) → SameNet val Ps Os A B f g
+        → ((ps : List Datum) (os : List SignalFunction) → TypedParams Ps ps → AllOlds Os os os → (xs : TimedList) → TypedSamples A xs → meaning val f (context ps os) xs ≡ meaning val g (context ps os) xs) → SameNet val Ps Os A B f g
     same-from_law Ps Os A B f g df dg law = record {
       here = λ ps os os' k a. record {
         same = λ xs j. law ps os k (olds_alone Os os os' a) xs j ∙ ((same-typed Ps Os g A B dg).here ps os os' k a).same xs j;

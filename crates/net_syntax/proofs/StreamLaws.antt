@@ -4,13 +4,13 @@ use Rattle.sample_core.specs.TypeTree.{TypeTree}
 use Rattle.leaf_core.specs.Expression.{Expression}
 use Rattle.leaf_core.specs.ExpressionValue.{value_of}
 use Rattle.leaf_core.specs.ExpressionTyping.{ExpressionTyped}
-use Rattle.net_syntax.specs.Signal.{Timed}
+use Rattle.net_syntax.specs.SignalFunction.{TimedList}
 use Rattle.net_syntax.specs.Network.{Network}
 use Rattle.net_syntax.specs.Environment.{Environment, context_of}
 use Rattle.net_syntax.specs.Typing.{Arrow, TypedValues, TypedSamples}
-use Rattle.net_syntax.specs.Stream.{outputs_of, NetTyped}
-use Rattle.net_syntax.specs.Same.{SameNet}
-use Rattle.net_syntax.specs.Alike.{EnvironmentTyped, SameOutputs}
+use Rattle.net_syntax.specs.TypedNetwork.{outputs_of, NetTyped}
+use Rattle.net_syntax.specs.Sameness.{SameNet}
+use Rattle.net_syntax.specs.AlikeEnvironments.{EnvironmentTyped, SameOutputs}
 use Rattle.leaf_core.proofs.Soundness.{typed_value}
 use Rattle.leaf_core.proofs.Uniqueness.{one_type}
 use Rattle.net_syntax.proofs.SameNets.{same-typed}
@@ -19,12 +19,12 @@ use Rattle.net_syntax.proofs.Unique.{unique}
 use Rattle.net_syntax.proofs.Unlimited.{free}
 use Rattle.net_syntax.proofs.TypedMeanings.{Holds, holds, typed_outputs, outputs_alike, alike_from_equal}
 
--- a typed network in a typed environment puts out typed values
-pub outputs-typed : (Ps : List TypeTree) (Os : List Arrow) (net : Network Expression) (A B : TypeTree) (E : Environment Expression) (xs : Timed)
+-- a typed network in a typed environment outputs typed values
+pub outputs-typed : (Ps : List TypeTree) (Os : List Arrow) (net : Network Expression) (A B : TypeTree) (E : Environment Expression) (xs : TimedList)
     → EnvironmentTyped Ps Os E → NetTyped Ps Os net A B → TypedSamples A xs → TypedValues B (outputs_of net E xs)
 outputs-typed = typed_outputs value_of ExpressionTyped typed_value
 
--- networks that do the same put out the same in alike environments
+-- networks that do the same output the same in alike environments
 pub same-outputs : (Ps : List TypeTree) (Os : List Arrow) (f g : Network Expression) (A B : TypeTree) → SameNet value_of Ps Os A B f g → SameOutputs Ps Os A f g
 same-outputs Ps Os f g A B s E F a xs j =
     let e : Holds value_of ExpressionTyped typed_value Ps Os (context_of value_of E) = holds value_of ExpressionTyped typed_value Ps Os E a.one_typed in
@@ -32,11 +32,11 @@ same-outputs Ps Os f g A B s E F a xs j =
     outputs_alike value_of ExpressionTyped typed_value Ps Os f g A B E F xs
     (record {
       alike_params = sym a.same_params;
-      alike_typed = e.held_params;
-      alike_olds = alike_from_equal Os (context_of value_of E).olds (context_of value_of F).olds e.held_olds h.held_olds (λ k o i ys l. a.same_olds k o i ys l);
+      alike_typed = e.scope_params;
+      alike_olds = alike_from_equal Os (context_of value_of E).olds (context_of value_of F).olds e.scope_olds h.scope_olds (λ k o i ys l. a.same_olds k o i ys l);
     }) s j
 
--- a typed network puts out the same in alike environments
+-- a typed network outputs the same in alike environments
 pub alike-outputs : (Ps : List TypeTree) (Os : List Arrow) (net : Network Expression) (A B : TypeTree) → NetTyped Ps Os net A B → SameOutputs Ps Os A net net
 alike-outputs Ps Os net A B h = same-outputs Ps Os net net A B (same-typed value_of ExpressionTyped typed_value Ps Os net A B h)
 

@@ -1,14 +1,14 @@
--- What the switches put out, said with environments.
+-- What the switches output, said with environments.
 use Rattle.std.proofs.Common.{◌≡◌, ℕ, zero, suc, ◌<◌, List, [], ◌∷◌, ◌++◌, length, take, drop, refl, sym, ap, ◌∙◌, arith, append-nil, append_assoc}
 use mathlib.Core.Path.{fun_ext}
 use Rattle.sample_core.specs.Datum.{Datum}
 use Rattle.leaf_core.specs.Expression.{Expression}
 use Rattle.leaf_core.specs.ExpressionValue.{value_of}
-use Rattle.net_syntax.specs.Signal.{Timed, Signal, paired, first_event, cut_at, step_of, routed, resumed, frozen_all}
+use Rattle.net_syntax.specs.SignalFunction.{TimedList, SignalFunction, pair_samples, first_event, cut_at, step_of, route, resume, freeze_all}
 use Rattle.net_syntax.specs.Network.{Networks, no_members, and_member}
 use Rattle.net_syntax.specs.Meaning.{old_at, with_olds, meaning, meanings}
 use Rattle.net_syntax.specs.Environment.{Environment, param, frozen, context_of}
-use Rattle.net_syntax.specs.Stream.{outputs_of}
+use Rattle.net_syntax.specs.TypedNetwork.{outputs_of}
 use Rattle.net_syntax.specs.SwitchLaws.{route_in, freeze_members, members_in, SwitchLaw, SwitchLateLaw, RestartLaw, FreezeLaw, FreezeMembersLaw, ResumeLaw, KeptNumbersLaw}
 
 pub switch_outputs : SwitchLaw
@@ -23,31 +23,31 @@ restart_outputs f t E xs = refl
 pub freeze_outputs : FreezeLaw
 freeze_outputs f e t E xs = refl
 
-frozen_in : (E : Environment Expression) (r : Expression) (i : ℕ) (fs : Networks Expression) (p : Timed) (d : ℕ) (F : Environment Expression)
-    → context_of value_of (freeze_members E r i fs p d F) ≡ with_olds (context_of value_of F) (frozen_all (route_in E r) i (meanings value_of fs (context_of value_of E)) p d)
+frozen_in : (E : Environment Expression) (r : Expression) (i : ℕ) (fs : Networks Expression) (p : TimedList) (d : ℕ) (F : Environment Expression)
+    → context_of value_of (freeze_members E r i fs p d F) ≡ with_olds (context_of value_of F) (freeze_all (route_in E r) i (meanings value_of fs (context_of value_of E)) p d)
 frozen_in E r i no_members p d F = ap (λ os. record (context_of value_of F) { olds = os }) (sym (append-nil (context_of value_of F).olds))
 frozen_in E r i (and_member f fs) p d F =
-    frozen_in E r (suc i) fs p d (frozen F f E (routed (route_in E r) i p) d)
+    frozen_in E r (suc i) fs p d (frozen F f E (route (route_in E r) i p) d)
     ∙ ap (λ os. record (context_of value_of F) { olds = os })
-    (append_assoc (context_of value_of F).olds (resumed (meaning value_of f (context_of value_of E)) (routed (route_in E r) i p) d ∷ []) (frozen_all (route_in E r) (suc i) (meanings value_of fs (context_of value_of E)) p d))
+    (append_assoc (context_of value_of F).olds (resume (meaning value_of f (context_of value_of E)) (route (route_in E r) i p) d ∷ []) (freeze_all (route_in E r) (suc i) (meanings value_of fs (context_of value_of E)) p d))
 
 pub freeze_members_outputs : FreezeMembersLaw
 freeze_members_outputs r fs e t E xs =
     let ys : List Datum = members_in E r fs xs in
-    ap (cut_at (first_event (outputs_of e E (paired xs ys))) ys)
+    ap (cut_at (first_event (outputs_of e E (pair_samples xs ys))) ys)
     (fun_ext λ n. fun_ext λ c. ap (λ ctx. take n ys ++ meaning value_of t ctx (drop n xs)) (sym (frozen_in E r 0 fs (take n xs) (step_of (drop n xs)) (param E c))))
 
-old_at-last : (fs : List Signal) (f : Signal) → old_at (fs ++ f ∷ []) (length fs) ≡ f
+old_at-last : (fs : List SignalFunction) (f : SignalFunction) → old_at (fs ++ f ∷ []) (length fs) ≡ f
 old_at-last [] f = refl
 old_at-last (g ∷ gs) f = old_at-last gs f
 
-old_at-before : (fs : List Signal) (f : Signal) (k : ℕ) → k < length fs → old_at (fs ++ f ∷ []) k ≡ old_at fs k
+old_at-before : (fs : List SignalFunction) (f : SignalFunction) (k : ℕ) → k < length fs → old_at (fs ++ f ∷ []) k ≡ old_at fs k
 old_at-before [] f k h = absurd (omega (arith, h))
 old_at-before (g ∷ gs) f zero h = refl
 old_at-before (g ∷ gs) f (suc k) h = old_at-before gs f k (omega (arith, h))
 
 pub resume_outputs : ResumeLaw
-resume_outputs E net F p d xs = ap (λ f. f xs) (old_at-last (context_of value_of E).olds (resumed (outputs_of net F) p d))
+resume_outputs E net F p d xs = ap (λ f. f xs) (old_at-last (context_of value_of E).olds (resume (outputs_of net F) p d))
 
 pub kept_numbers : KeptNumbersLaw
-kept_numbers E net F p d k xs h = ap (λ f. f xs) (old_at-before (context_of value_of E).olds (resumed (outputs_of net F) p d) k h)
+kept_numbers E net F p d k xs h = ap (λ f. f xs) (old_at-before (context_of value_of E).olds (resume (outputs_of net F) p d) k h)

@@ -1,49 +1,49 @@
--- Worked examples of what networks put out, and of their weight.
+-- Worked examples of what networks output, and of their weight.
 use Rattle.std.specs.Prelude.{◌≡◌, ℕ, zero, suc, ◌<◌, pos, negsuc, true, false, List, [], ◌∷◌}
-use Rattle.sample_core.specs.Datum.{Datum, unit, truth, number, pair, no_event, event, list, of_elements}
+use Rattle.sample_core.specs.Datum.{Datum, unit, bool, int, pair, no_event, event, list, list_of}
 use Rattle.sample_core.specs.TypeTree.{unit_ty, int_ty}
-use Rattle.leaf_core.specs.Expression.{Expression, sample, parameter, unit_literal, truth_literal, number_literal, make_pair, fst, snd, neg, add, less, equal, negation, conjunction, choice, none_of, make_event}
-use Rattle.net_syntax.specs.Signal.{Timed}
+use Rattle.leaf_core.specs.Expression.{Expression, input, param, unit_expr, bool_expr, int_expr, pair_expr, fst, snd, neg, add, less, equal, not_expr, and_expr, if_expr, no_event_expr, event_expr}
+use Rattle.net_syntax.specs.SignalFunction.{TimedList}
 use Rattle.net_syntax.specs.Network.{Network, arr, seq, first, par, loop_pre, i_pre, delay, hold, accum_by, after, repeatedly, time, integral, switch, d_switch, r_switch, k_switch, p_switch, old, networks_of}
 use Rattle.net_syntax.specs.Weight.{weight}
-use Rattle.net_syntax.specs.Stream.{stream_of}
+use Rattle.net_syntax.specs.TypedNetwork.{stream_of}
 
 -- the number k as a value
 abbrev pub n : ℕ → Datum
-n k = number (pos k)
+n k = int (pos k)
 
 -- the number -k as a value
 abbrev pub minus : ℕ → Datum
-minus zero = number (pos 0)
-minus (suc k) = number (negsuc k)
+minus zero = int (pos 0)
+minus (suc k) = int (negsuc k)
 
 -- the number k as an expression
 abbrev pub num : ℕ → Expression
-num k = number_literal (pos k)
+num k = int_expr (pos k)
 
 -- `(arr (pair x (if (less 9 x) (event x) (none Int))))`: the input, and an event with it where it is above nine
 abbrev pub above_nine : Network Expression
-above_nine = arr (make_pair sample (choice (less (num 9) sample) (make_event sample) (none_of int_ty)))
+above_nine = arr (pair_expr input (if_expr (less (num 9) input) (event_expr input) (no_event_expr int_ty)))
 
 -- `(arr (add x (p 0)))`
 abbrev pub add_param : Network Expression
-add_param = arr (add sample (parameter 0))
+add_param = arr (add input (param 0))
 
 -- `(arr (if (equal (fst x) k) (event unit) (none Unit)))`: an event where the left part is k
 abbrev pub at_left : ℕ → Network Expression
-at_left k = arr (choice (equal (fst sample) (num k)) (make_event unit_literal) (none_of unit_ty))
+at_left k = arr (if_expr (equal (fst input) (num k)) (event_expr unit_expr) (no_event_expr unit_ty))
 
 -- 1, 20, 3, a step of 1 between them
-abbrev pub one_then_twenty : Timed
+abbrev pub one_then_twenty : TimedList
 one_then_twenty = (0, n 1) ∷ (1, n 20) ∷ (1, n 3) ∷ []
 
 -- the times 0, 4, 9, 15, 22, 23; the third value is 1, the fifth 2
-abbrev pub six_samples : Timed
+abbrev pub six_samples : TimedList
 six_samples = (0, n 0) ∷ (4, n 0) ∷ (5, n 1) ∷ (6, n 0) ∷ (7, n 2) ∷ (1, n 0) ∷ []
 
 -- `(>>> (arr (add x 1)) (iPre 0))`
 abbrev pub add_then_delay : Network Expression
-add_then_delay = seq (arr (add sample (num 1))) (i_pre (num 0))
+add_then_delay = seq (arr (add input (num 1))) (i_pre (num 0))
 
 -- on 5, 6, 7
 abbrev pub AddThenDelay : Type 0
@@ -55,11 +55,11 @@ OnNothing = stream_of add_then_delay [] ≡ []
 
 -- `(arr (add x 1))` on the greatest number gives the least
 abbrev pub AddWraps : Type 0
-AddWraps = stream_of (arr (add sample (num 1))) ((0, n 9223372036854775807) ∷ []) ≡ minus 9223372036854775808 ∷ []
+AddWraps = stream_of (arr (add input (num 1))) ((0, n 9223372036854775807) ∷ []) ≡ minus 9223372036854775808 ∷ []
 
 -- `(repeatedly 3 unit)` at the times 0, 2, 4, 11, 12
 abbrev pub RepeatedlyByTime : Type 0
-RepeatedlyByTime = stream_of (repeatedly 3 unit_literal) ((0, unit) ∷ (2, unit) ∷ (2, unit) ∷ (7, unit) ∷ (1, unit) ∷ []) ≡ no_event ∷ no_event ∷ event unit ∷ event unit ∷ event unit ∷ []
+RepeatedlyByTime = stream_of (repeatedly 3 unit_expr) ((0, unit) ∷ (2, unit) ∷ (2, unit) ∷ (7, unit) ∷ (1, unit) ∷ []) ≡ no_event ∷ no_event ∷ event unit ∷ event unit ∷ event unit ∷ []
 
 -- `(after 5 7)`, once 5 is passed
 abbrev pub AfterOnce : Type 0
@@ -73,7 +73,7 @@ AfterAtOnce = stream_of (after 0 (num 7)) ((4, unit) ∷ []) ≡ event (n 7) ∷
 abbrev pub TimeWraps : Type 0
 TimeWraps = stream_of time ((0, unit) ∷ (9223372036854775807, unit) ∷ (9223372036854775807, unit) ∷ []) ≡ n 0 ∷ n 9223372036854775807 ∷ minus 2 ∷ []
 
--- `switch` puts out its continuation at the event's sample
+-- `switch` outputs its continuation at the event's sample
 abbrev pub SwitchAtOnce : Type 0
 SwitchAtOnce = stream_of (switch above_nine add_param) one_then_twenty ≡ n 1 ∷ n 40 ∷ n 23 ∷ []
 
@@ -87,7 +87,7 @@ StartedAtTheEvent = stream_of (d_switch above_nine time) one_then_twenty ≡ n 1
 
 -- `(switch F (switch (arr (pair x (event (neg (p 0))))) (arr (add x (p 1)))))`: two switches in one sample
 abbrev pub switch_twice : Network Expression
-switch_twice = switch above_nine (switch (arr (make_pair sample (make_event (neg (parameter 0))))) (arr (add sample (parameter 1))))
+switch_twice = switch above_nine (switch (arr (pair_expr input (event_expr (neg (param 0))))) (arr (add input (param 1))))
 
 -- 3 added to -20
 abbrev pub SwitchTwice : Type 0
@@ -99,7 +99,7 @@ SwitchTwiceWeight = weight switch_twice [] ≡ 5
 
 -- `(rSwitch (iPre 0) (iPre (p 0)))`
 abbrev pub restart : Network Expression
-restart = r_switch (i_pre (num 0)) (i_pre (parameter 0))
+restart = r_switch (i_pre (num 0)) (i_pre (param 0))
 
 -- each event starts the continuation anew
 abbrev pub RestartAtEvents : Type 0
@@ -111,13 +111,13 @@ RestartAtTheFirst = stream_of restart ((0, pair (n 5) (event (n 3))) ∷ (1, pai
 
 -- `(kSwitch time E (switch (arr (pair -1 (if (equal x 2) (event unit) (none Unit)))) (old 0)))`
 abbrev pub freeze_clock : Network Expression
-freeze_clock = k_switch time (at_left 1) (switch (arr (make_pair (number_literal (negsuc 0)) (choice (equal sample (num 2)) (make_event unit_literal) (none_of unit_ty)))) (old 0))
+freeze_clock = k_switch time (at_left 1) (switch (arr (pair_expr (int_expr (negsuc 0)) (if_expr (equal input (num 2)) (event_expr unit_expr) (no_event_expr unit_ty)))) (old 0))
 
 -- the clock stands while it is frozen, and goes on with the step that it was frozen with
 abbrev pub FreezeClock : Type 0
 FreezeClock = stream_of freeze_clock six_samples ≡ n 0 ∷ n 4 ∷ minus 1 ∷ minus 1 ∷ n 9 ∷ n 10 ∷ []
 
--- `(kSwitch time E (old 0))` puts out what `time` does
+-- `(kSwitch time E (old 0))` outputs what `time` does
 abbrev pub FreezeAndResume : Type 0
 FreezeAndResume = stream_of (k_switch time (at_left 1) (old 0)) six_samples ≡ stream_of time six_samples
 
@@ -127,11 +127,11 @@ ClockOfSix = stream_of time six_samples ≡ n 0 ∷ n 4 ∷ n 9 ∷ n 15 ∷ n 2
 
 -- `(pSwitch (fst x) (col time integral) E (parB (old 1) (old 0)))`
 abbrev pub swap_members : Network Expression
-swap_members = p_switch (fst sample) (networks_of (time ∷ integral ∷ [])) (at_left 7) (par (networks_of (old 1 ∷ old 0 ∷ [])))
+swap_members = p_switch (fst input) (networks_of (time ∷ integral ∷ [])) (at_left 7) (par (networks_of (old 1 ∷ old 0 ∷ [])))
 
 -- a list value of two numbers
 abbrev pub two : ℕ → ℕ → Datum
-two j k = list (of_elements (n j ∷ n k ∷ []))
+two j k = list (list_of (n j ∷ n k ∷ []))
 
 -- the members change places, and go on from where they were frozen
 abbrev pub SwapMembers : Type 0
@@ -143,11 +143,11 @@ DelayByTime = stream_of (delay 3 (num 0)) ((0, n 1) ∷ (2, n 2) ∷ (2, n 3) �
 
 -- `(add (fst x) (snd x))`
 abbrev pub both_parts : Expression
-both_parts = add (fst sample) (snd sample)
+both_parts = add (fst input) (snd input)
 
 -- `(loopPre 0 (arr (pair S S)))`, S that sum: the sums so far
 abbrev pub SumsFedBack : Type 0
-SumsFedBack = stream_of (loop_pre (num 0) (arr (make_pair both_parts both_parts))) ((0, n 1) ∷ (1, n 2) ∷ (1, n 3) ∷ []) ≡ n 1 ∷ n 3 ∷ n 6 ∷ []
+SumsFedBack = stream_of (loop_pre (num 0) (arr (pair_expr both_parts both_parts))) ((0, n 1) ∷ (1, n 2) ∷ (1, n 3) ∷ []) ≡ n 1 ∷ n 3 ∷ n 6 ∷ []
 
 -- `(accumHoldBy (add (fst x) (snd x)) 10)` in its core forms
 abbrev pub SumsHeld : Type 0
@@ -155,7 +155,7 @@ SumsHeld = stream_of (seq (accum_by both_parts (num 10)) (hold (num 10))) ((0, n
 
 -- the parts of a pair change places
 abbrev pub swap : Network Expression
-swap = arr (make_pair (snd sample) (fst sample))
+swap = arr (pair_expr (snd input) (fst input))
 
 -- `(second f)` in its core forms
 abbrev pub second : Network Expression → Network Expression
@@ -163,15 +163,15 @@ second f = seq swap (seq (first f) swap)
 
 -- `edge` in its core forms
 abbrev pub edge : Network Expression
-edge = seq (seq (arr (make_pair sample sample)) (seq (first (arr sample)) (second (i_pre (truth_literal true))))) (arr (choice (conjunction (fst sample) (negation (snd sample))) (make_event unit_literal) (none_of unit_ty)))
+edge = seq (seq (arr (pair_expr input input)) (seq (first (arr input)) (second (i_pre (bool_expr true))))) (arr (if_expr (and_expr (fst input) (not_expr (snd input))) (event_expr unit_expr) (no_event_expr unit_ty)))
 
 -- an event where the input becomes true
 abbrev pub EdgeAtTrue : Type 0
-EdgeAtTrue = stream_of edge ((0, truth true) ∷ (1, truth false) ∷ (1, truth true) ∷ []) ≡ no_event ∷ no_event ∷ event unit ∷ []
+EdgeAtTrue = stream_of edge ((0, bool true) ∷ (1, bool false) ∷ (1, bool true) ∷ []) ≡ no_event ∷ no_event ∷ event unit ∷ []
 
 -- `(arr (none Unit))`
 abbrev pub never_event : Network Expression
-never_event = arr (none_of unit_ty)
+never_event = arr (no_event_expr unit_ty)
 
 -- m times `(kSwitch (>>> (old k) (old k)) E ..)`, k one more each time, then the last network
 abbrev pub doubled : ℕ → ℕ → Network Expression → Network Expression
@@ -189,12 +189,12 @@ olds_then gs = in_sequence (old 16) (old 15 ∷ old 14 ∷ old 12 ∷ old 7 ∷ 
 
 -- each nesting doubles the weight: the heaviest network within the limit
 abbrev pub HeaviestWithin : Type 0
-HeaviestWithin = weight (k_switch (arr sample) never_event (doubled 16 0 (olds_then (arr sample ∷ arr sample ∷ arr sample ∷ [])))) [] ≡ 1000000
+HeaviestWithin = weight (k_switch (arr input) never_event (doubled 16 0 (olds_then (arr input ∷ arr input ∷ arr input ∷ [])))) [] ≡ 1000000
 
 -- one that is just past it
 abbrev pub JustTooHeavy : Type 0
-JustTooHeavy = weight (k_switch (arr sample) never_event (doubled 16 0 (olds_then (arr sample ∷ arr sample ∷ arr sample ∷ arr sample ∷ [])))) [] ≡ 1000002
+JustTooHeavy = weight (k_switch (arr input) never_event (doubled 16 0 (olds_then (arr input ∷ arr input ∷ arr input ∷ arr input ∷ [])))) [] ≡ 1000002
 
 -- one that is past it by its nesting alone
 abbrev pub TooHeavy : Type 0
-TooHeavy = 1000000 < weight (k_switch (arr sample) never_event (doubled 19 0 (old 19))) []
+TooHeavy = 1000000 < weight (k_switch (arr input) never_event (doubled 19 0 (old 19))) []

@@ -3,37 +3,37 @@ use Rattle.std.specs.Prelude.{◌≡◌, ℕ, List, length, take}
 use Rattle.sample_core.specs.TypeTree.{TypeTree}
 use Rattle.leaf_core.specs.Expression.{Expression}
 use Rattle.leaf_core.specs.ExpressionValue.{value_of}
-use Rattle.net_syntax.specs.Signal.{Timed, retime}
+use Rattle.net_syntax.specs.SignalFunction.{TimedList, retime}
 use Rattle.net_syntax.specs.Network.{Network}
 use Rattle.net_syntax.specs.Environment.{Environment}
 use Rattle.net_syntax.specs.Typing.{Arrow, TypedValues, TypedSamples}
-use Rattle.net_syntax.specs.Stream.{outputs_of, NetTyped}
+use Rattle.net_syntax.specs.TypedNetwork.{outputs_of, NetTyped}
 use Rattle.net_syntax.specs.NetworkLimits.{NetTypedWithin}
-use Rattle.net_syntax.specs.Same.{SameNet}
-use Rattle.net_syntax.specs.Alike.{EnvironmentTyped, SameOutputs}
+use Rattle.net_syntax.specs.Sameness.{SameNet}
+use Rattle.net_syntax.specs.AlikeEnvironments.{EnvironmentTyped, SameOutputs}
 
 -- as many outputs as samples
 abbrev pub LengthLaw : Type 0
-LengthLaw = (net : Network Expression) (E : Environment Expression) (xs : Timed) → length (outputs_of net E xs) ≡ length xs
+LengthLaw = (net : Network Expression) (E : Environment Expression) (xs : TimedList) → length (outputs_of net E xs) ≡ length xs
 
 -- the first n outputs are those of the first n samples
 abbrev pub CausalLaw : Type 0
-CausalLaw = (net : Network Expression) (E : Environment Expression) (n : ℕ) (xs : Timed) → outputs_of net E (take n xs) ≡ take n (outputs_of net E xs)
+CausalLaw = (net : Network Expression) (E : Environment Expression) (n : ℕ) (xs : TimedList) → outputs_of net E (take n xs) ≡ take n (outputs_of net E xs)
 
 -- the first step is not seen
 abbrev pub RetimeLaw : Type 0
-RetimeLaw = (net : Network Expression) (E : Environment Expression) (d : ℕ) (xs : Timed) → outputs_of net E (retime d xs) ≡ outputs_of net E xs
+RetimeLaw = (net : Network Expression) (E : Environment Expression) (d : ℕ) (xs : TimedList) → outputs_of net E (retime d xs) ≡ outputs_of net E xs
 
--- a typed network, in a typed environment, puts out typed values on typed samples
+-- a typed network, in a typed environment, outputs typed values on typed samples
 abbrev pub TypedOutputsLaw : Type 0
-TypedOutputsLaw = (Ps : List TypeTree) (Os : List Arrow) (net : Network Expression) (A B : TypeTree) (E : Environment Expression) (xs : Timed)
+TypedOutputsLaw = (Ps : List TypeTree) (Os : List Arrow) (net : Network Expression) (A B : TypeTree) (E : Environment Expression) (xs : TimedList)
     → EnvironmentTyped Ps Os E → NetTyped Ps Os net A B → TypedSamples A xs → TypedValues B (outputs_of net E xs)
 
--- a typed network puts out the same in alike environments
+-- a typed network outputs the same in alike environments
 abbrev pub AlikeLaw : Type 0
 AlikeLaw = (Ps : List TypeTree) (Os : List Arrow) (net : Network Expression) (A B : TypeTree) → NetTyped Ps Os net A B → SameOutputs Ps Os A net net
 
--- networks that do the same put out the same in alike environments
+-- networks that do the same output the same in alike environments
 abbrev pub SameLaw : Type 0
 SameLaw = (Ps : List TypeTree) (Os : List Arrow) (f g : Network Expression) (A B : TypeTree) → SameNet value_of Ps Os A B f g → SameOutputs Ps Os A f g
 

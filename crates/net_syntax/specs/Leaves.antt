@@ -3,11 +3,11 @@ use Rattle.std.specs.Prelude.{◌≡◌, ℕ, suc, List, [], ◌∷◌, ◌++◌
 use Rattle.sample_core.specs.TypeTree.{TypeTree, unit_ty, int_ty, pair_ty, event_ty, list_ty}
 use Rattle.leaf_core.specs.Expression.{Expression}
 use Rattle.leaf_core.specs.ExpressionTyping.{ExpressionTyped}
-use Rattle.leaf_core.specs.ExpressionLimits.{FullyChecked}
+use Rattle.leaf_core.specs.ExpressionLimits.{ExpressionTypedWithin}
 use Rattle.leaf_core.specs.KeyTree.{KeyTree}
 use Rattle.net_syntax.specs.Network.{Network, Networks, arr, seq, first, par, loop_pre, i_pre, delay, hold, accum_by, after, repeatedly, time, integral, switch, d_switch, r_switch, k_switch, p_switch, old, no_members, and_member}
 use Rattle.net_syntax.specs.Typing.{Arrow, OldAt, copies, members}
-use Rattle.net_syntax.specs.Stream.{TypedNetwork, NetTyped}
+use Rattle.net_syntax.specs.TypedNetwork.{TypedNetwork, NetTyped}
 use Rattle.net_syntax.specs.NetworkLimits.{NetTypedWithin}
 
 -- an expression of a network: its position, what a stored closure for it is found by, and its type
@@ -53,13 +53,13 @@ abbrev pub LeavesOf : TypedNetwork → List Need → Type 0
 LeavesOf t ns = Leaves [] [] [] t.net t.input t.output ns
 
 -- of a network that is typed, t is the output type, and its expressions were added behind others
-abbrev pub Adds : List TypeTree → List ℕ → Network Expression → TypeTree → TypeTree → List Need → List Need → Type 0
-Adds Ps at net A t before now = (Os : List Arrow) (B : TypeTree) → NetTyped Ps Os net A B → (t ≡ B) × (ns : List Need) × Leaves Ps Os at net A B ns × (now ≡ before ++ ns)
+abbrev pub AddsLeaves : List TypeTree → List ℕ → Network Expression → TypeTree → TypeTree → List Need → List Need → Type 0
+AddsLeaves Ps at net A t before now = (Os : List Arrow) (B : TypeTree) → NetTyped Ps Os net A B → (t ≡ B) × (ns : List Need) × Leaves Ps Os at net A B ns × (now ≡ before ++ ns)
 
 -- under parameters of types Ps, at inputs of type A, the network has an output type within the limits
 abbrev pub IsTyped : List TypeTree → Network Expression → TypeTree → Type 0
 IsTyped Ps net A = ∥ ((Os : List Arrow) × (B : TypeTree) × NetTypedWithin Ps Os net A B) ∥₁
 
 -- under parameters of types Ps, at inputs of type A, the expression has a type within the limits
-abbrev pub IsChecked : List TypeTree → Expression → TypeTree → Type 0
-IsChecked Ps e A = ∥ ((B : TypeTree) × FullyChecked e Ps A B) ∥₁
+abbrev pub ExpressionIsTyped : List TypeTree → Expression → TypeTree → Type 0
+ExpressionIsTyped Ps e A = ∥ ((B : TypeTree) × ExpressionTypedWithin e Ps A B) ∥₁

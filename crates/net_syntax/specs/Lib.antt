@@ -1,13 +1,11 @@
 pub mod Network
 pub mod NetworkCode
-pub mod Seen
-pub mod Falls
-pub mod Signal
-pub mod IsSignal
-pub mod Answer
+pub mod NetworkView
+pub mod Depth
+pub mod SignalFunction
 pub mod Meaning
 pub mod Environment
-pub mod Stream
+pub mod TypedNetwork
 pub mod TypedNetworkCode
 pub mod Weight
 pub mod Height
@@ -15,8 +13,8 @@ pub mod Typing
 pub mod TypedWithin
 pub mod NetworkLimits
 pub mod TypedEnvironment
-pub mod Same
-pub mod Alike
+pub mod Sameness
+pub mod AlikeEnvironments
 pub mod Laws
 pub mod SwitchLaws
 pub mod Examples
@@ -24,4 +22,4 @@ pub mod WithinLimits
 pub mod Position
 pub mod Place
 pub mod Leaves
-pub mod SeenNeed
+pub mod NeedView

@@ -20,26 +20,26 @@ member (and_member f fs) zero = Some f
 member (and_member f fs) (suc k) = member fs k
 
 -- what stands at a number behind the route of a pSwitch: its members, then its event, then its continuation
-pub data Part : Type 0 where
-  member_part : Part
-  event_part : Part
-  continuation_part : Part
-  no_part : Part
+pub data PSwitchChild : Type 0 where
+  member_child : PSwitchChild
+  event_child : PSwitchChild
+  continuation_child : PSwitchChild
+  no_child : PSwitchChild
 
 -- which of them stands at number k
-abbrev pub part : {L : Type 0} → Networks L → ℕ → Part
-part no_members zero = event_part
-part no_members (suc zero) = continuation_part
-part no_members (suc (suc k)) = no_part
-part (and_member f fs) zero = member_part
-part (and_member f fs) (suc k) = part fs k
+abbrev pub p_switch_child : {L : Type 0} → Networks L → ℕ → PSwitchChild
+p_switch_child no_members zero = event_child
+p_switch_child no_members (suc zero) = continuation_child
+p_switch_child no_members (suc (suc k)) = no_child
+p_switch_child (and_member f fs) zero = member_child
+p_switch_child (and_member f fs) (suc k) = p_switch_child fs k
 
 -- the network that stands there
-abbrev pub part_child : {L : Type 0} → Part → Networks L → Network L → Network L → ℕ → Option (Network L)
-part_child member_part fs e n k = member fs k
-part_child event_part fs e n k = Some e
-part_child continuation_part fs e n k = Some n
-part_child no_part fs e n k = None
+abbrev pub child_network : {L : Type 0} → PSwitchChild → Networks L → Network L → Network L → ℕ → Option (Network L)
+child_network member_child fs e n k = member fs k
+child_network event_child fs e n k = Some e
+child_network continuation_child fs e n k = Some n
+child_network no_child fs e n k = None
 
 -- child k, from 0
 abbrev pub child : {L : Type 0} → Network L → ℕ → Option (Tree L)
@@ -67,7 +67,7 @@ child (k_switch f e n) zero = Some (a_network f)
 child (k_switch f e n) (suc zero) = Some (a_network e)
 child (k_switch f e n) (suc (suc zero)) = Some (a_network n)
 child (p_switch r fs e n) zero = Some (a_leaf r)
-child (p_switch r fs e n) (suc k) = option_map a_network (part_child (part fs k) fs e n k)
+child (p_switch r fs e n) (suc k) = option_map a_network (child_network (p_switch_child fs k) fs e n k)
 child _ _ = None
 
 -- the network, or the whole expression with what is left of the position inside it

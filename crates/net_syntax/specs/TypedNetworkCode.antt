@@ -7,7 +7,7 @@ use Rattle.leaf_core.specs.Expression.{Expression}
 use Rattle.leaf_core.specs.ExpressionCode.{expression_code}
 use Rattle.net_syntax.specs.Network.{Network}
 use Rattle.net_syntax.specs.NetworkCode.{network_code}
-use Rattle.net_syntax.specs.Stream.{TypedNetwork}
+use Rattle.net_syntax.specs.TypedNetwork.{TypedNetwork}
 
 -- networks with their types, told apart by their codes
 abbrev pub typed_network_code : Coded TypedNetwork

@@ -47,7 +47,7 @@ ghost use Rattle.net_syntax.specs.Examples.{
   TooHeavy,
 };
 
-/// A network puts out one value for each sample, doesn't look ahead, and doesn't see the first
+/// A network outputs one value for each sample, doesn't look ahead, and doesn't see the first
 /// step.
 pub fn stream_laws()
     ensures length { LengthLaw }
@@ -55,7 +55,7 @@ pub fn stream_laws()
     ensures retimed { RetimeLaw }
 {}
 
-/// A typed network puts out typed values, the same ones in alike environments, and it has one
+/// A typed network outputs typed values, the same ones in alike environments, and it has one
 /// output type.
 pub fn typing_laws()
     ensures typed { TypedOutputsLaw }
@@ -65,7 +65,7 @@ pub fn typing_laws()
     ensures within { WithinLaw }
 {}
 
-/// What the switches and resumed networks put out, by the environments that their parts run in.
+/// What the switches and resumed networks output, by the environments that their parts run in.
 pub fn switching_laws()
     ensures switch { SwitchLaw }
     ensures switch_late { SwitchLateLaw }
@@ -76,7 +76,7 @@ pub fn switching_laws()
     ensures kept_numbers { KeptNumbersLaw }
 {}
 
-/// What some networks put out, computed by the definitions.
+/// What some networks output, computed by the definitions.
 pub fn output_examples()
     ensures add_then_delay { AddThenDelay }
     ensures on_nothing { OnNothing }

@@ -13,6 +13,6 @@ pub use laws::{output_examples, stream_laws, switching_laws, typing_laws, weight
 pub use measure::{MOST_HEIGHT, MOST_WEIGHT, height, weight};
 pub use need::LeafNeed;
 pub use needs::leaves;
-pub use net::{Net, Sub};
+pub use net::{Net, NetChild};
 pub use position::{Position, print_position, push_position};
 pub use typed_net::TypedNet;

@@ -2,7 +2,7 @@
 
 ghost use Rattle.std.specs.Prelude.{◌≡◌, ◌+◌, ◌<◌, min, suc, [], IfOk, MatchOption};
 ghost use Rattle.net_syntax.specs.Height.{height as height_of};
-ghost use Rattle.net_syntax.specs.Seen.{tree_of};
+ghost use Rattle.net_syntax.specs.NetworkView.{tree_of};
 ghost use Rattle.net_syntax.specs.Weight.{weight as weight_of};
 
 use crate::net::Net;

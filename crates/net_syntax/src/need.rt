@@ -1,6 +1,6 @@
 // What a network needs a stored closure for.
 
-ghost use Rattle.sample_core.specs.SeenType.{type_of};
+ghost use Rattle.sample_core.specs.TypeView.{type_of};
 ghost use Rattle.leaf_core.specs.ExpressionTyping.{ExpressionTyped};
 
 use crate::position::Position;

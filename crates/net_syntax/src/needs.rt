@@ -1,16 +1,16 @@
 // The expressions of a network: what it needs stored closures for.
 
 ghost use Rattle.std.specs.Prelude.{◌≡◌, ◌++◌, ◌∷◌, [], IfOk, OnOk, Ok, map};
-ghost use Rattle.sample_core.specs.SeenType.{type_of};
-ghost use Rattle.leaf_core.specs.Seen.{expression_of};
+ghost use Rattle.sample_core.specs.TypeView.{type_of};
+ghost use Rattle.leaf_core.specs.ExpressionView.{expression_of};
 ghost use Rattle.leaf_core.specs.ExpressionCheck.{type_answer};
 ghost use Rattle.net_syntax.specs.Network.{arr, seq, i_pre, map_network};
-ghost use Rattle.net_syntax.specs.Seen.{tree_of};
-ghost use Rattle.net_syntax.specs.SeenNeed.{need_of};
-ghost use Rattle.net_syntax.specs.Leaves.{need_at, LeavesOf, Adds, IsTyped, IsChecked};
+ghost use Rattle.net_syntax.specs.NetworkView.{tree_of};
+ghost use Rattle.net_syntax.specs.NeedView.{need_of};
+ghost use Rattle.net_syntax.specs.Leaves.{need_at, LeavesOf, AddsLeaves, IsTyped, ExpressionIsTyped};
 
 use crate::need::LeafNeed;
-use crate::net::{Net, Sub};
+use crate::net::{Net, NetChild};
 use crate::position::Position;
 use crate::typed_net::TypedNet;
 use leaf_core::{Expr, ExprFault, LeafKey, type_of_expr};
@@ -42,7 +42,7 @@ fn add_leaves(
     requires { IsTyped (map type_of scope.now) (tree_of net.now) (type_of input.now) }
     ensures path { OnOk result (path.new.items ≡ path.old.items) }
     ensures added { IfOk result
-        (λ t. Adds (map type_of scope.now) path.old.items (tree_of net.now) (type_of input.now)
+        (λ t. AddsLeaves (map type_of scope.now) path.old.items (tree_of net.now) (type_of input.now)
         (type_of t) (map need_of needs.old.items) (map need_of needs.new.items)) }
 {
     match net {
@@ -52,12 +52,12 @@ fn add_leaves(
     }
 }
 
-/// Adds the expressions of two networks, the second of which gets what the first puts out.
+/// Adds the expressions of two networks, the second of which gets what the first outputs.
 #[cycle(add_leaves)]
 fn add_both(
     alloc: Global,
-    f: &Sub<Expr>,
-    g: &Sub<Expr>,
+    f: &NetChild<Expr>,
+    g: &NetChild<Expr>,
     scope: &[Ty],
     input: &Ty,
     path: &mut Vec<u32>,
@@ -68,7 +68,7 @@ fn add_both(
         (type_of input.now) }
     ensures path { OnOk result (path.new.items ≡ path.old.items) }
     ensures added { IfOk result
-        (λ t. Adds (map type_of scope.now) path.old.items
+        (λ t. AddsLeaves (map type_of scope.now) path.old.items
         (seq (map_network expression_of f.now) (map_network expression_of g.now))
         (type_of input.now) (type_of t) (map need_of needs.old.items)
         (map need_of needs.new.items)) }
@@ -85,7 +85,7 @@ fn add_both(
 #[cycle(add_leaves)]
 fn add_second(
     alloc: Global,
-    g: &Sub<Expr>,
+    g: &NetChild<Expr>,
     scope: &[Ty],
     input: &Ty,
     path: &mut Vec<u32>,
@@ -95,7 +95,7 @@ fn add_second(
         (type_of input.now) }
     ensures path { OnOk result (path.new.items ≡ path.old.items) }
     ensures added { IfOk result
-        (λ t. Adds (map type_of scope.now) (path.old.items ++ 1 ∷ []) (map_network expression_of g.now)
+        (λ t. AddsLeaves (map type_of scope.now) (path.old.items ++ 1 ∷ []) (map_network expression_of g.now)
         (type_of input.now) (type_of t) (map need_of needs.old.items)
         (map need_of needs.new.items)) }
 {
@@ -116,7 +116,7 @@ fn add_map(
 ) -> Result<Ty, Memory>
     requires { IsTyped (map type_of scope.now) (arr (expression_of e.now)) (type_of input.now) }
     ensures added { IfOk result
-        (λ t. Adds (map type_of scope.now) path.now (arr (expression_of e.now))
+        (λ t. AddsLeaves (map type_of scope.now) path.now (arr (expression_of e.now))
         (type_of input.now) (type_of t) (map need_of needs.old.items)
         (map need_of needs.new.items)) }
 {
@@ -141,7 +141,7 @@ fn add_constant(
 ) -> Result<Ty, Memory>
     requires { IsTyped (map type_of scope.now) (i_pre (expression_of c.now)) (type_of input.now) }
     ensures added { IfOk result
-        (λ t. Adds (map type_of scope.now) path.now (i_pre (expression_of c.now))
+        (λ t. AddsLeaves (map type_of scope.now) path.now (i_pre (expression_of c.now))
         (type_of input.now) (type_of t) (map need_of needs.old.items)
         (map need_of needs.new.items)) }
 {
@@ -212,7 +212,7 @@ fn first_need(
 
 /// The type of an expression that has one within the limits.
 fn checked_type(alloc: Global, expr: &Expr, scope: &[Ty], input: &Ty) -> Result<Ty, Memory>
-    requires { IsChecked (map type_of scope.now) (expression_of expr.now) (type_of input.now) }
+    requires { ExpressionIsTyped (map type_of scope.now) (expression_of expr.now) (type_of input.now) }
     ensures { IfOk result
         (λ t. type_answer (map type_of scope.now) (type_of input.now) (expression_of expr.now) ≡ Ok (type_of t)) }
 {

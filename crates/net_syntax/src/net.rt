@@ -1,7 +1,7 @@
 // Networks, over leaves of any type.
 
 ghost use Rattle.std.specs.Prelude.{◌≡◌, IfOk};
-ghost use Rattle.net_syntax.specs.Seen.{network_of};
+ghost use Rattle.net_syntax.specs.NetworkView.{network_of};
 
 use leaf_core::Expr;
 use sample_core::Memory;
@@ -15,8 +15,8 @@ use std::rc::Rc;
 pub enum Net<L> {
     /// `(arr e)`: each sample changed by the leaf.
     Arr(L),
-    /// `(>>> f g)`: what f puts out is what g gets.
-    Seq(Sub<L>, Sub<L>),
+    /// `(>>> f g)`: what f outputs is what g gets.
+    Seq(NetChild<L>, NetChild<L>),
     /// `(iPre c)`: c first, then each sample one later.
     IPre(L),
 }
@@ -24,11 +24,11 @@ pub enum Net<L> {
 /// A network inside a network. Contracts see it as the network's tree; copies share it.
 #[cycle(net)]
 #[derive(Drop)]
-pub struct Sub<L> {
+pub struct NetChild<L> {
     inner: Rc<Net<L>>,
 }
 
-impl<L> Model for Sub<L> {
+impl<L> Model for NetChild<L> {
     ghost use Rattle.net_syntax.specs.Network.{Network, network_size};
     ghost use Rattle.net_syntax.specs.NetworkCode.{network_code};
 
@@ -36,26 +36,26 @@ impl<L> Model for Sub<L> {
 
     ghost coded = { network_code L.code };
 
-    ghost use Rattle.net_syntax.specs.Seen.{network_of};
+    ghost use Rattle.net_syntax.specs.NetworkView.{network_of};
 
     ghost view = { λ a. network_of a.inner.value };
 
     ghost size = { network_size };
 
-    ghost use Rattle.net_syntax.specs.Falls.{depth_le};
+    ghost use Rattle.net_syntax.specs.Depth.{depth_le};
 
     ghost size_decreases = { λ a h. depth_le a.inner.value };
 }
 
-impl<L> Sub<L> {
+impl<L> NetChild<L> {
     /// The network as a part of another. `Memory` where a growth was refused.
-    pub fn new(alloc: Global, net: Net<L>) -> Result<Sub<L>, Memory>
+    pub fn new(alloc: Global, net: Net<L>) -> Result<NetChild<L>, Memory>
     where
         L: Drop,
         ensures { IfOk result (λ s. s ≡ network_of net) }
     {
         let inner = Rc::new(alloc, net)?;
-        Ok(Sub { inner })
+        Ok(NetChild { inner })
     }
 
     /// The network itself.
@@ -67,13 +67,13 @@ impl<L> Sub<L> {
 
     /// The same network, shared. It takes no memory; `Memory` only where a count of references is
     /// full.
-    pub fn try_copy(&self) -> Result<Sub<L>, Memory>
+    pub fn try_copy(&self) -> Result<NetChild<L>, Memory>
     where
         L: Drop,
         ensures { IfOk result (λ s. s ≡ self.now) }
     {
         let inner = self.inner.clone()?;
-        Ok(Sub { inner })
+        Ok(NetChild { inner })
     }
 }
 

@@ -1,9 +1,9 @@
 // Networks with their types, weight and height.
 
 ghost use Rattle.std.specs.Prelude.{◌≡◌};
-ghost use Rattle.sample_core.specs.SeenType.{type_of};
-ghost use Rattle.net_syntax.specs.Seen.{tree_of};
-ghost use Rattle.net_syntax.specs.Stream.{HoldsTypes};
+ghost use Rattle.sample_core.specs.TypeView.{type_of};
+ghost use Rattle.net_syntax.specs.NetworkView.{tree_of};
+ghost use Rattle.net_syntax.specs.TypedNetwork.{HasItsTypes};
 ghost use Rattle.net_syntax.specs.WithinLimits.{WithinLimits};
 
 use crate::net::Net;
@@ -23,15 +23,15 @@ pub struct TypedNet {
 }
 
 impl Model for TypedNet {
-    ghost use Rattle.net_syntax.specs.Stream.{TypedNetwork};
+    ghost use Rattle.net_syntax.specs.TypedNetwork.{TypedNetwork};
     ghost use Rattle.net_syntax.specs.TypedNetworkCode.{typed_network_code};
 
     ghost Value = { TypedNetwork };
 
     ghost coded = { typed_network_code };
 
-    ghost use Rattle.sample_core.specs.SeenType.{type_of};
-    ghost use Rattle.net_syntax.specs.Seen.{tree_of};
+    ghost use Rattle.sample_core.specs.TypeView.{type_of};
+    ghost use Rattle.net_syntax.specs.NetworkView.{tree_of};
     ghost use Rattle.net_syntax.specs.WithinLimits.{WithinLimits};
 
     ghost view = { λ a. record { input = type_of a.input; output = type_of a.output; net = tree_of a.net; weight = a.weight; height = a.height } };
@@ -62,7 +62,7 @@ impl TypedNet {
         &self.input
     }
 
-    /// The type of each sample that the network puts out.
+    /// The type of each sample that the network outputs.
     pub fn output(&self) -> &Ty
         ensures { type_of result.now ≡ self.now.output }
     {
@@ -72,7 +72,7 @@ impl TypedNet {
     /// The network, which has the types, the weight and the height.
     pub fn net(&self) -> &Net<Expr>
         ensures net { tree_of result.now ≡ self.now.net }
-        ensures typed { HoldsTypes self.now }
+        ensures typed { HasItsTypes self.now }
         ensures limits { WithinLimits self.now }
     {
         &self.net

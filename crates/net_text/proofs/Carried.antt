@@ -1,52 +1,52 @@
 -- Types and expressions inside networks are read as they are by themselves.
 use Rattle.std.proofs.Common.{◌≡◌, ℕ, zero, suc, List, [], ◌∷◌, length, refl, ap, ◌∙◌, Result, Ok, Err, Option, Some, None, if◌then◌else◌}
 use Rattle.std.specs.Prelude.{option_map, option_and_then}
-use Rattle.leaf_expr.specs.Token.{opening, closing, word, Placed}
-use Rattle.leaf_expr.specs.Part.{Part, Parts, atom, form, last, more}
-use Rattle.leaf_expr.specs.Language.{Places, Maker, Row, no_place, place, places, meaning, made}
+use Rattle.leaf_expr.specs.Token.{opening, closing, word, PlacedToken}
+use Rattle.leaf_expr.specs.Sexpr.{Sexpr, Sexprs, atom, form, last, more}
+use Rattle.leaf_expr.specs.Language.{Places, Maker, Row, no_place, place, places, meaning, make_tree}
 use Rattle.leaf_expr.specs.Grammar.{leaf, Sort, Tree, row_at, has_form}
-use Rattle.leaf_expr.specs.Reader.{Fault, syntax, Read, ◌>>=◌, read, read_form, read_head, read_row, read_parts, read_all, read_end}
-use Rattle.net_text.specs.Grammar.{networks, NetSort, NetTree, leaf_sort, carried, carried_maker, carried_row, net_word_at, net_row_at}
+use Rattle.leaf_expr.specs.TreeReader.{Fault, syntax, Read, ◌>>=◌, read, read_form, read_head, read_row, read_parts, read_all, read_end}
+use Rattle.net_text.specs.Grammar.{networks, NetSort, NetTree, leaf_sort, leaf_places, leaf_maker, leaf_row, net_word_at, net_row_at}
 
 bind_same : {A B : Type 0} (r : Result A Fault) (g h : A → Result B Fault) → ((x : A) → g x ≡ h x) → (r >>= g) ≡ (r >>= h)
 bind_same (Ok x) g h same = same x
 bind_same (Err e) g h same = refl
 
 module _ (size : ℕ) where
-  pub end_same : (room : ℕ) (ts : List Placed) → read_end networks size room ts ≡ read_end leaf size room ts
+  pub end_same : (room : ℕ) (ts : List PlacedToken) → read_end networks size room ts ≡ read_end leaf size room ts
   end_same room [] = refl
   end_same room ((n, opening) ∷ ts) = refl
   end_same room ((n, closing) ∷ ts) = refl
   end_same room ((n, word w) ∷ ts) = refl
 
-  pub head_same : (room : ℕ) (ts : List Placed) → read_head networks size room ts ≡ read_head leaf size room ts
+  pub head_same : (room : ℕ) (ts : List PlacedToken) → read_head networks size room ts ≡ read_head leaf size room ts
   head_same room [] = refl
   head_same room ((n, opening) ∷ ts) = refl
   head_same room ((n, closing) ∷ ts) = refl
   head_same room ((n, word w) ∷ ts) = refl
 
-  all_same : {T R : Type 0} (g h : List Placed → Read T) → ((ts : List Placed) → g ts ≡ h ts) → (n : ℕ) (make : List T → R) (ts : List Placed) → read_all networks size g n make ts ≡ read_all leaf size h n make ts
+  all_same : {T R : Type 0} (g h : List PlacedToken → Read T) → ((ts : List PlacedToken) → g ts ≡ h ts) → (n : ℕ) (make : List T → R) (ts : List PlacedToken) → read_all networks size g n make ts ≡ read_all leaf size h n make ts
   all_same g h same zero make ts = refl
   all_same g h same (suc n) make [] = refl
   all_same g h same (suc n) make ((m, closing) ∷ ts) = refl
   all_same g h same (suc n) make ((m, opening) ∷ ts) = ap (λ r. r >>= (λ x. read_all networks size g n (λ xs. make (x.0 ∷ xs)) x.2)) (same ((m, opening) ∷ ts)) ∙ bind_same (h ((m, opening) ∷ ts)) _ _ (λ x. all_same g h same n (λ xs. make (x.0 ∷ xs)) x.2)
   all_same g h same (suc n) make ((m, word w) ∷ ts) = ap (λ r. r >>= (λ x. read_all networks size g n (λ xs. make (x.0 ∷ xs)) x.2)) (same ((m, word w) ∷ ts)) ∙ bind_same (h ((m, word w) ∷ ts)) _ _ (λ x. all_same g h same n (λ xs. make (x.0 ∷ xs)) x.2)
 
-  module _ (g : (s : NetSort) → List Placed → Read (NetTree s)) (h : (s : Sort) → List Placed → Read (Tree s)) (same : (s : Sort) (ts : List Placed) → g (leaf_sort s) ts ≡ h s ts) (room : ℕ) where
-    parts_same : (R : Type 0) (qs : Places Sort) (make : Maker Tree qs R) (ts : List Placed) → read_parts networks size g room (carried qs) (carried_maker R qs make) ts ≡ read_parts leaf size h room qs make ts
+  module _ (g : (s : NetSort) → List PlacedToken → Read (NetTree s)) (h : (s : Sort) → List PlacedToken → Read (Tree s)) (same : (s : Sort) (ts : List PlacedToken) → g (leaf_sort s) ts ≡ h s ts) (room : ℕ) where
+    parts_same : (R : Type 0) (qs : Places Sort) (make : Maker Tree qs R) (ts : List PlacedToken) → read_parts networks size g room (leaf_places qs) (leaf_maker R qs make) ts ≡ read_parts leaf size h room qs make ts
     parts_same R no_place x ts = ap (λ r. r >>= (λ y. Ok (x, y.0, y.1))) (end_same room ts)
-    parts_same R (place s qs) make ts = ap (λ r. r >>= (λ x. read_parts networks size g room (carried qs) (carried_maker R qs (make x.0)) x.2)) (same s ts) ∙ bind_same (h s ts) _ _ (λ x. parts_same R qs (make x.0) x.2)
+    parts_same R (place s qs) make ts = ap (λ r. r >>= (λ x. read_parts networks size g room (leaf_places qs) (leaf_maker R qs (make x.0)) x.2)) (same s ts) ∙ bind_same (h s ts) _ _ (λ x. parts_same R qs (make x.0) x.2)
     parts_same R (places s) make ts = all_same (g (leaf_sort s)) (h s) (same s) (length ts) make ts
 
-    row_same : {R : Type 0} (n : ℕ) (o : Option (Row Sort Tree R)) (ts : List Placed) → read_row networks size g room n (option_map carried_row o) ts ≡ read_row leaf size h room n o ts
+    row_same : {R : Type 0} (n : ℕ) (o : Option (Row Sort Tree R)) (ts : List PlacedToken) → read_row networks size g room n (option_map leaf_row o) ts ≡ read_row leaf size h room n o ts
     row_same n None ts = refl
     row_same {R = R} n (Some r) ts = parts_same R r.takes r.makes ts
 
-    form_same : (s : Sort) (ts : List Placed) → read_form networks size g room (leaf_sort s) ts ≡ read_form leaf size h room s ts
+    form_same : (s : Sort) (ts : List PlacedToken) → read_form networks size g room (leaf_sort s) ts ≡ read_form leaf size h room s ts
     unfolding net_row_at
     form_same s ts = ap (λ r. r >>= (λ k. read_row networks size g room k.0 (net_row_at (leaf_sort s) k.1) k.2)) (head_same room ts) ∙ bind_same (read_head leaf size room ts) _ _ (λ k. row_same k.0 (row_at s k.1) k.2)
 
-  pub read_same : (room : ℕ) (s : Sort) (ts : List Placed) → read networks size room (leaf_sort s) ts ≡ read leaf size room s ts
+  pub read_same : (room : ℕ) (s : Sort) (ts : List PlacedToken) → read networks size room (leaf_sort s) ts ≡ read leaf size room s ts
   unfolding net_word_at
   read_same room s [] = refl
   read_same room s ((n, word w) ∷ ts) = refl
@@ -54,7 +54,7 @@ module _ (size : ℕ) where
   read_same zero s ((n, opening) ∷ ts) = refl
   read_same (suc room) s ((n, opening) ∷ ts) = ap (λ r. if has_form s then r else Err (syntax n)) (form_same (read networks size room) (read leaf size room) (read_same room) room s ts)
 
-with_row : (s : Sort) (o : Option (Row Sort Tree (Tree s))) (ps : Parts) → ((qs : Places Sort) (make : Maker Tree qs (Tree s)) → made networks (leaf_sort s) (carried qs) (carried_maker (Tree s) qs make) ps ≡ made leaf s qs make ps) → option_and_then (λ r. made networks (leaf_sort s) r.takes r.makes ps) (option_map carried_row o) ≡ option_and_then (λ r. made leaf s r.takes r.makes ps) o
+with_row : (s : Sort) (o : Option (Row Sort Tree (Tree s))) (ps : Sexprs) → ((qs : Places Sort) (make : Maker Tree qs (Tree s)) → make_tree networks (leaf_sort s) (leaf_places qs) (leaf_maker (Tree s) qs make) ps ≡ make_tree leaf s qs make ps) → option_and_then (λ r. make_tree networks (leaf_sort s) r.takes r.makes ps) (option_map leaf_row o) ≡ option_and_then (λ r. make_tree leaf s r.takes r.makes ps) o
 with_row s None ps same = refl
 with_row s (Some r) ps same = same r.takes r.makes
 
@@ -65,14 +65,14 @@ then_same (Some x) g h same = same x
 mutual
   unfolding net_word_at net_row_at
 
-  pub meaning_same : (s : Sort) (p : Part) → meaning networks (leaf_sort s) p ≡ meaning leaf s p
+  pub meaning_same : (s : Sort) (p : Sexpr) → meaning networks (leaf_sort s) p ≡ meaning leaf s p
   meaning_same s (atom w) = refl
   meaning_same s (form w ps) = with_row s (row_at s w) ps (λ qs make. made_same s qs make ps)
 
-  pub made_same : (s : Sort) (qs : Places Sort) (make : Maker Tree qs (Tree s)) (ps : Parts) → made networks (leaf_sort s) (carried qs) (carried_maker (Tree s) qs make) ps ≡ made leaf s qs make ps
+  pub made_same : (s : Sort) (qs : Places Sort) (make : Maker Tree qs (Tree s)) (ps : Sexprs) → make_tree networks (leaf_sort s) (leaf_places qs) (leaf_maker (Tree s) qs make) ps ≡ make_tree leaf s qs make ps
   made_same s no_place r last = refl
   made_same s no_place r (more p ps) = refl
   made_same s (place q qs) make last = refl
-  made_same s (place q qs) make (more p ps) = ap (option_and_then (λ x. made networks (leaf_sort s) (carried qs) (carried_maker (Tree s) qs (make x)) ps)) (meaning_same q p) ∙ then_same (meaning leaf q p) _ _ (λ x. made_same s qs (make x) ps)
+  made_same s (place q qs) make (more p ps) = ap (option_and_then (λ x. make_tree networks (leaf_sort s) (leaf_places qs) (leaf_maker (Tree s) qs (make x)) ps)) (meaning_same q p) ∙ then_same (meaning leaf q p) _ _ (λ x. made_same s qs (make x) ps)
   made_same s (places q) make last = refl
-  made_same s (places q) make (more p ps) = ap (option_and_then (λ x. made networks (leaf_sort s) (places (leaf_sort q)) (λ xs. make (x ∷ xs)) ps)) (meaning_same q p) ∙ then_same (meaning leaf q p) _ _ (λ x. made_same s (places q) (λ xs. make (x ∷ xs)) ps)
+  made_same s (places q) make (more p ps) = ap (option_and_then (λ x. make_tree networks (leaf_sort s) (places (leaf_sort q)) (λ xs. make (x ∷ xs)) ps)) (meaning_same q p) ∙ then_same (meaning leaf q p) _ _ (λ x. made_same s (places q) (λ xs. make (x ∷ xs)) ps)

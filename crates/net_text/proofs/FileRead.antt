@@ -4,24 +4,24 @@ use Rattle.std.specs.Prelude.{codes, bytes_eq, option_and_then, IfErr}
 use Rattle.std.proofs.lemmas.Bool.{ltb-false, ltb-true, le-ltb}
 use Rattle.std.proofs.lemmas.Slice.Eq.{bytes_eq-Decides}
 use Rattle.sample_core.specs.TypeTree.{TypeTree}
-use Rattle.sample_core.specs.SeenType.{type_of}
+use Rattle.sample_core.specs.TypeView.{type_of}
 use Rattle.sample_core.specs.declared.ty.Ty.{Ty}
 use Rattle.leaf_core.specs.Expression.{Expression}
 use Rattle.leaf_core.specs.declared.expr.Expr.{Expr}
-use Rattle.leaf_expr.specs.Token.{opening, closing, word, Placed, tokens}
+use Rattle.leaf_expr.specs.Token.{opening, closing, word, PlacedToken, tokens}
 use Rattle.leaf_expr.specs.Language.{Begins}
 use Rattle.leaf_expr.specs.Grammar.{leaf, type_sort}
-use Rattle.leaf_expr.specs.Reader.{Fault, syntax, number, too_deep, ◌>>=◌, read}
+use Rattle.leaf_expr.specs.TreeReader.{Fault, syntax, number, too_deep, ◌>>=◌, read}
 use Rattle.leaf_expr.proofs.ReadFound.{found, bind_ok}
 use Rattle.leaf_expr.proofs.ReadOnly.{only, some_bind}
 use Rattle.leaf_expr.proofs.ReadFaults.{stops}
 use Rattle.leaf_expr.proofs.LeafProper.{leaf_proper}
 use Rattle.net_syntax.specs.Network.{Network}
-use Rattle.net_syntax.specs.Seen.{tree_of}
+use Rattle.net_syntax.specs.NetworkView.{tree_of}
 use Rattle.net_syntax.specs.declared.net.Net.{Net}
 use Rattle.net_text.specs.Grammar.{networks, network_sort}
 use Rattle.net_text.specs.File.{FileFault, header, too_long, at, behind_word, behind_header, at_end, read_network, read_body, body_fault, read_behind, read_file}
-use Rattle.net_text.specs.FileLaws.{header_tokens, Headed, IsFile, NoFile, no_type, no_network, follows, IsFileFault, ReadFileLaw, OneFileLaw}
+use Rattle.net_text.specs.FileLaws.{header_tokens, HasHeader, IsFile, NoFile, no_type, no_network, follows, IsFileFault, ReadFileLaw, OneFileLaw}
 use Rattle.net_text.specs.ReadNet.{GivesFile}
 use Rattle.net_text.specs.declared.fault.NetTextFault.{NetTextFault}
 use Rattle.net_text.specs.declared.fault.NetTextFault.TheVariants as V
@@ -50,11 +50,11 @@ body_err : {A : Type 0} (r : Result A Fault) (f : Fault) → body_fault r ≡ Er
 body_err (Ok y) f e = absurd (cc)
 body_err (Err g) f e = ap Err (at_is e)
 
-at_end_ok : {T : Type 0} (x y : T) (ts : List Placed) → at_end x ts ≡ Ok y → (x ≡ y) × (ts ≡ [])
+at_end_ok : {T : Type 0} (x y : T) (ts : List PlacedToken) → at_end x ts ≡ Ok y → (x ≡ y) × (ts ≡ [])
 at_end_ok x y [] e = (ok_same e, refl)
 at_end_ok x y (z ∷ ts) e = absurd (cc)
 
-word_found : (u : List ℕ) (ts us : List Placed) → behind_word u ts ≡ Some us → (n : ℕ) × (ts ≡ (n, word u) ∷ us)
+word_found : (u : List ℕ) (ts us : List PlacedToken) → behind_word u ts ≡ Some us → (n : ℕ) × (ts ≡ (n, word u) ∷ us)
 word_found u [] us e = absurd (cc)
 word_found u ((n, opening) ∷ ts) us e = absurd (cc)
 word_found u ((n, closing) ∷ ts) us e = absurd (cc)
@@ -64,16 +64,16 @@ word_found u ((n, word w) ∷ ts) us e = go (bytes_eq w u) refl e
     go true p q = (n, let i : w ≡ u = (bytes_eq-Decides w u).0 p in let j : ts ≡ us = some_is q in λ k. (n, word (i k)) ∷ j k)
     go false p q = absurd (cc)
 
-header_found : (ts us : List Placed) → behind_header ts ≡ Some us → (a : ℕ) × (b : ℕ) × (c : ℕ) × (ts ≡ header_tokens a b c us)
+header_found : (ts us : List PlacedToken) → behind_header ts ≡ Some us → (a : ℕ) × (b : ℕ) × (c : ℕ) × (ts ≡ header_tokens a b c us)
 header_found ts us e =
-    let i : (vs : List Placed) × (option_and_then (behind_word (codes "1")) (behind_word (codes "yampa") ts) ≡ Some vs) × (behind_word (codes "input") vs ≡ Some us) = some_bind (option_and_then (behind_word (codes "1")) (behind_word (codes "yampa") ts)) (behind_word (codes "input")) us e in
-    let j : (ws : List Placed) × (behind_word (codes "yampa") ts ≡ Some ws) × (behind_word (codes "1") ws ≡ Some i.0) = some_bind (behind_word (codes "yampa") ts) (behind_word (codes "1")) i.0 i.1 in
+    let i : (vs : List PlacedToken) × (option_and_then (behind_word (codes "1")) (behind_word (codes "yampa") ts) ≡ Some vs) × (behind_word (codes "input") vs ≡ Some us) = some_bind (option_and_then (behind_word (codes "1")) (behind_word (codes "yampa") ts)) (behind_word (codes "input")) us e in
+    let j : (ws : List PlacedToken) × (behind_word (codes "yampa") ts ≡ Some ws) × (behind_word (codes "1") ws ≡ Some i.0) = some_bind (behind_word (codes "yampa") ts) (behind_word (codes "1")) i.0 i.1 in
     let p : (a : ℕ) × (ts ≡ (a, word (codes "yampa")) ∷ j.0) = word_found (codes "yampa") ts j.0 j.1 in
     let q : (b : ℕ) × (j.0 ≡ (b, word (codes "1")) ∷ i.0) = word_found (codes "1") j.0 i.0 j.2 in
     let r : (c : ℕ) × (i.0 ≡ (c, word (codes "input")) ∷ us) = word_found (codes "input") i.0 us i.2 in
     (p.0, q.0, r.0, p.1 ∙ ap (λ vs. (p.0, word (codes "yampa")) ∷ vs) (q.1 ∙ ap (λ vs. (q.0, word (codes "1")) ∷ vs) r.1))
 
-header_behind : (bs : List ℕ) (ts : List Placed) → Headed bs ts → behind_header (tokens bs) ≡ Some ts
+header_behind : (bs : List ℕ) (ts : List PlacedToken) → HasHeader bs ts → behind_header (tokens bs) ≡ Some ts
 header_behind bs ts h = ap behind_header h.starts
 
 module _ (bs : List ℕ) where
@@ -88,27 +88,27 @@ module _ (bs : List ℕ) where
       ∙ ap (λ r. body_fault (r >>= read_network (length bs))) p
       ∙ ap (λ r. body_fault (r >>= (λ g. at_end (A, g.0) g.2))) q
 
-  body_found : (ts : List Placed) → Headed bs ts → length bs ≤ 1048576 → (A : TypeTree) (f : Network Expression) → read_body (length bs) ts ≡ Ok (A, f) → IsFile bs A f
+  body_found : (ts : List PlacedToken) → HasHeader bs ts → length bs ≤ 1048576 → (A : TypeTree) (f : Network Expression) → read_body (length bs) ts ≡ Ok (A, f) → IsFile bs A f
   body_found ts h l A f e =
-      let i : (x : TypeTree × ℕ × List Placed) × (read leaf (length bs) 600 type_sort ts ≡ Ok x) × (read_network (length bs) x ≡ Ok (A, f)) = bind_ok (read leaf (length bs) 600 type_sort ts) _ (A, f) e in
-      let j : (y : Network Expression × ℕ × List Placed) × (read networks (length bs) 600 network_sort i.0.2 ≡ Ok y) × (at_end (i.0.0, y.0) y.2 ≡ Ok (A, f)) = bind_ok (read networks (length bs) 600 network_sort i.0.2) _ (A, f) i.2 in
+      let i : (x : TypeTree × ℕ × List PlacedToken) × (read leaf (length bs) 600 type_sort ts ≡ Ok x) × (read_network (length bs) x ≡ Ok (A, f)) = bind_ok (read leaf (length bs) 600 type_sort ts) _ (A, f) e in
+      let j : (y : Network Expression × ℕ × List PlacedToken) × (read networks (length bs) 600 network_sort i.0.2 ≡ Ok y) × (at_end (i.0.0, y.0) y.2 ≡ Ok (A, f)) = bind_ok (read networks (length bs) 600 network_sort i.0.2) _ (A, f) i.2 in
       let k : ((i.0.0, j.0.0) ≡ (A, f)) × (j.0.2 ≡ []) = at_end_ok (i.0.0, j.0.0) (A, f) j.0.2 j.2 in
       let a : i.0.0 ≡ A = ap (λ z. z.0) k.0 in
       let g : j.0.0 ≡ f = ap (λ z. z.1) k.0 in
       record { short = l; behind = ts; headed = h; type_end = i.0.1; network = i.0.2; input = subst (λ B. Begins leaf 600 type_sort B ts i.0.1 i.0.2) a (found leaf (length bs) 600 type_sort ts i.0 i.1); network_end = j.0.1; body = subst (λ r. Begins networks 600 network_sort f i.0.2 j.0.1 r) k.1 (subst (λ n. Begins networks 600 network_sort n i.0.2 j.0.1 j.0.2) g (found networks (length bs) 600 network_sort i.0.2 j.0 j.1)) }
 
-  body_refused : (ts : List Placed) → Headed bs ts → (e : Fault) → read_body (length bs) ts ≡ Err e → NoFile bs e
+  body_refused : (ts : List PlacedToken) → HasHeader bs ts → (e : Fault) → read_body (length bs) ts ≡ Err e → NoFile bs e
   body_refused ts h e p = go (read leaf (length bs) 600 type_sort ts) refl p
     where
-      ended : TypeTree → Network Expression × ℕ × List Placed → Result (TypeTree × Network Expression) Fault
+      ended : TypeTree → Network Expression × ℕ × List PlacedToken → Result (TypeTree × Network Expression) Fault
       ended A g = at_end (A, g.0) g.2
 
-      then_network : (A : TypeTree) (n : ℕ) (us : List Placed) → read leaf (length bs) 600 type_sort ts ≡ Ok (A, n, us) → (r : Result (Network Expression × ℕ × List Placed) Fault) → read networks (length bs) 600 network_sort us ≡ r → (r >>= ended A) ≡ Err e → NoFile bs e
+      then_network : (A : TypeTree) (n : ℕ) (us : List PlacedToken) → read leaf (length bs) 600 type_sort ts ≡ Ok (A, n, us) → (r : Result (Network Expression × ℕ × List PlacedToken) Fault) → read networks (length bs) 600 network_sort us ≡ r → (r >>= ended A) ≡ Err e → NoFile bs e
       then_network A n us i (Err f) j q = no_network ts h A n us (found leaf (length bs) 600 type_sort ts (A, n, us) i) (stops networks networks_proper (length bs) 600 network_sort us e (j ∙ ap Err (err_is q)))
       then_network A n us i (Ok (f, m, [])) j q = absurd (cc)
       then_network A n us i (Ok (f, m, x ∷ after)) j q = follows ts h A n us (found leaf (length bs) 600 type_sort ts (A, n, us) i) f m x after (found networks (length bs) 600 network_sort us (f, m, x ∷ after) j) (sym (err_is q))
 
-      go : (r : Result (TypeTree × ℕ × List Placed) Fault) → read leaf (length bs) 600 type_sort ts ≡ r → (r >>= read_network (length bs)) ≡ Err e → NoFile bs e
+      go : (r : Result (TypeTree × ℕ × List PlacedToken) Fault) → read leaf (length bs) 600 type_sort ts ≡ r → (r >>= read_network (length bs)) ≡ Err e → NoFile bs e
       go (Err f) i q = no_type ts h (stops leaf leaf_proper (length bs) 600 type_sort ts e (i ∙ ap Err (err_is q)))
       go (Ok (A, n, us)) i q = then_network A n us i (read networks (length bs) 600 network_sort us) refl q
 
@@ -119,31 +119,31 @@ module _ (bs : List ℕ) where
       go true q e' = absurd (d (sym e'))
       go false q e' = (ltb-false 1048576 (length bs) q, e')
 
-  headed_by : (ts : List Placed) → behind_header (tokens bs) ≡ Some ts → Headed bs ts
+  headed_by : (ts : List PlacedToken) → behind_header (tokens bs) ≡ Some ts → HasHeader bs ts
   headed_by ts e = let i : (a : ℕ) × (b : ℕ) × (c : ℕ) × (tokens bs ≡ header_tokens a b c ts) = header_found (tokens bs) ts e in record { yampa = i.0; one = i.1; input = i.2; starts = i.3 }
 
   pub file_found : (A : TypeTree) (f : Network Expression) → read_file bs ≡ Ok (A, f) → IsFile bs A f
   file_found A f e = let i : (length bs ≤ 1048576) × (read_behind (length bs) (behind_header (tokens bs)) ≡ Ok (A, f)) = short_file (Ok (A, f)) (λ q. cc) e in go i.0 (behind_header (tokens bs)) refl i.1
     where
-      go : length bs ≤ 1048576 → (o : Option (List Placed)) → behind_header (tokens bs) ≡ o → read_behind (length bs) o ≡ Ok (A, f) → IsFile bs A f
+      go : length bs ≤ 1048576 → (o : Option (List PlacedToken)) → behind_header (tokens bs) ≡ o → read_behind (length bs) o ≡ Ok (A, f) → IsFile bs A f
       go l None p q = absurd (cc)
       go l (Some ts) p q = body_found ts (headed_by ts p) l A f (body_ok (read_body (length bs) ts) (A, f) q)
 
   pub file_refused : (e : Fault) → read_file bs ≡ Err (at e) → (length bs ≤ 1048576) × NoFile bs e
   file_refused e p = let i : (length bs ≤ 1048576) × (read_behind (length bs) (behind_header (tokens bs)) ≡ Err (at e)) = short_file (Err (at e)) (λ q. cc) p in (i.0, go (behind_header (tokens bs)) refl i.1)
     where
-      go : (o : Option (List Placed)) → behind_header (tokens bs) ≡ o → read_behind (length bs) o ≡ Err (at e) → NoFile bs e
+      go : (o : Option (List PlacedToken)) → behind_header (tokens bs) ≡ o → read_behind (length bs) o ≡ Err (at e) → NoFile bs e
       go None h q = absurd (cc)
       go (Some ts) h q = body_refused ts (headed_by ts h) e (body_err (read_body (length bs) ts) e q)
 
-  pub headless : read_file bs ≡ Err header → (length bs ≤ 1048576) × ((ts : List Placed) → Headed bs ts → ⊥)
+  pub headless : read_file bs ≡ Err header → (length bs ≤ 1048576) × ((ts : List PlacedToken) → HasHeader bs ts → ⊥)
   headless p = let i : (length bs ≤ 1048576) × (read_behind (length bs) (behind_header (tokens bs)) ≡ Err header) = short_file (Err header) (λ q. cc) p in (i.0, λ ts h. not_header ts (sym (ap (read_behind (length bs)) (header_behind bs ts h)) ∙ i.1))
     where
       not_at : (r : Result (TypeTree × Network Expression) Fault) → body_fault r ≡ Err header → ⊥
       not_at (Ok x) q = cc
       not_at (Err f) q = cc
 
-      not_header : (ts : List Placed) → read_behind (length bs) (Some ts) ≡ Err header → ⊥
+      not_header : (ts : List PlacedToken) → read_behind (length bs) (Some ts) ≡ Err header → ⊥
       not_header ts q = not_at (read_body (length bs) ts) q
 
   pub longer : read_file bs ≡ Err too_long → 1048576 < length bs
@@ -153,7 +153,7 @@ module _ (bs : List ℕ) where
       not_at (Ok x) q = cc
       not_at (Err f) q = cc
 
-      other : (o : Option (List Placed)) → read_behind (length bs) o ≡ Err too_long → ⊥
+      other : (o : Option (List PlacedToken)) → read_behind (length bs) o ≡ Err too_long → ⊥
       other None q = cc
       other (Some ts) q = not_at (read_body (length bs) ts) q
 

@@ -1,7 +1,7 @@
 -- Each form of networks, read once, and the sugar.
 use Rattle.std.proofs.Common.{refl, Option, Some, None, ◌≡◌}
 use Rattle.std.specs.Prelude.{option_and_then}
-use Rattle.leaf_core.specs.Expression.{Expression, unit_literal, then}
+use Rattle.leaf_core.specs.Expression.{Expression, unit_expr, then_expr}
 use Rattle.leaf_expr.specs.Language.{meaning}
 use Rattle.leaf_expr.specs.Grammar.{expression_sort, word_at, row_at, words, rows}
 use Rattle.net_syntax.specs.Network.{arr}
@@ -16,7 +16,7 @@ pub identity_is : IdentityIs
 unfolding word_at words row_at rows net_words net_word_at net_rows net_row_at
 identity_is = refl
 
-constant_parts : (e : Option Expression) → option_and_then (λ c. Some (arr ((then) unit_literal c))) e ≡ option_and_then (λ x. Some (arr x)) (option_and_then (λ c. Some ((then) unit_literal c)) e)
+constant_parts : (e : Option Expression) → option_and_then (λ c. Some (arr (then_expr unit_expr c))) e ≡ option_and_then (λ x. Some (arr x)) (option_and_then (λ c. Some (then_expr unit_expr c)) e)
 constant_parts None = refl
 constant_parts (Some c) = refl
 

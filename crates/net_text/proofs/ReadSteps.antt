@@ -1,10 +1,10 @@
 -- Steps of reading networks, as the code takes them.
 use Rattle.std.proofs.Common.{◌≡◌, ℕ, ◌-◌, ◌≤◌, List, [], ◌∷◌, refl, sym, ap, subst, ◌∙◌, arith, Result, Ok, Err, Some, None}
-use Rattle.leaf_expr.specs.Token.{Placed}
+use Rattle.leaf_expr.specs.Token.{PlacedToken}
 use Rattle.leaf_core.specs.Expression.{Expression}
 use Rattle.leaf_expr.specs.Language.{no_place}
 use Rattle.leaf_expr.specs.Grammar.{leaf, expression_sort}
-use Rattle.leaf_expr.specs.Reader.{Fault, Read, syntax, ◌>>=◌, read, read_form, read_head, read_row, read_parts, read_end}
+use Rattle.leaf_expr.specs.TreeReader.{Fault, Read, syntax, ◌>>=◌, read, read_form, read_head, read_row, read_parts, read_end}
 use Rattle.leaf_expr.specs.ReadText.{Refuses}
 use Rattle.leaf_expr.proofs.ReadSteps.{passed}
 use Rattle.leaf_expr.specs.declared.text_fault.ExprTextFault.{ExprTextFault}
@@ -14,16 +14,16 @@ use Rattle.net_text.specs.File.{at_end, read_network}
 use Rattle.net_text.specs.Grammar.{networks, network_sort, leaf_sort, net_row_at, NetRow, e, f}
 use Rattle.net_text.proofs.Carried.{end_same, head_same, read_same}
 
-module _ (size room m : ℕ) (us : List Placed) where
+module _ (size room m : ℕ) (us : List PlacedToken) where
   -- a form by its word
-  pub named : {n : ℕ} {w : List ℕ} {ts : List Placed} (r : NetRow) → read_head leaf size room us ≡ Ok (n, w, ts) →
+  pub named : {n : ℕ} {w : List ℕ} {ts : List PlacedToken} (r : NetRow) → read_head leaf size room us ≡ Ok (n, w, ts) →
       Some r ≡ net_row_at network_sort w →
       read_form networks size (read networks size m) room network_sort us ≡ read_parts networks size (read networks size m) room r.takes r.makes ts
   named {n = n} {ts = ts} r p q =
       ap (λ h. h >>= (λ h. read_row networks size (read networks size m) room h.0 (net_row_at network_sort h.1) h.2)) (head_same size room us ∙ p)
       ∙ ap (λ o. read_row networks size (read networks size m) room n o ts) (sym q)
 
-  pub unnamed : {n : ℕ} {w : List ℕ} {ts : List Placed} → read_head leaf size room us ≡ Ok (n, w, ts) → None ≡ net_row_at network_sort w →
+  pub unnamed : {n : ℕ} {w : List ℕ} {ts : List PlacedToken} → read_head leaf size room us ≡ Ok (n, w, ts) → None ≡ net_row_at network_sort w →
       read_form networks size (read networks size m) room network_sort us ≡ Err (syntax n)
   unnamed {n = n} {ts = ts} p q =
       ap (λ h. h >>= (λ h. read_row networks size (read networks size m) room h.0 (net_row_at network_sort h.1) h.2)) (head_same size room us ∙ p)
@@ -35,35 +35,35 @@ module _ (size room m : ℕ) (us : List Placed) where
 
 -- the parts of a form one by one, and its end
 module _ (size room : ℕ) where
-  pub two_networks : {a b : Network Expression} {n k j : ℕ} {us vs ws : List Placed} (ts : List Placed) →
+  pub two_networks : {a b : Network Expression} {n k j : ℕ} {us vs ws : List PlacedToken} (ts : List PlacedToken) →
       read networks size room network_sort ts ≡ Ok (a, n, us) → read networks size room network_sort us ≡ Ok (b, k, vs) →
       read_end leaf size room vs ≡ Ok (j, ws) → read_parts networks size (read networks size room) room (f (f no_place)) seq ts ≡ Ok (seq a b, j, ws)
   two_networks {vs = vs} ts p q r = let i = end_same size room vs ∙ r in rw (p, q, i) refl
 
-  pub no_first : (x : ExprTextFault) (ts : List Placed) → Refuses x (read networks size room network_sort ts) →
+  pub no_first : (x : ExprTextFault) (ts : List PlacedToken) → Refuses x (read networks size room network_sort ts) →
       Refuses x (read_parts networks size (read networks size room) room (f (f no_place)) seq ts)
   no_first x ts p = passed x (read networks size room network_sort ts) _ p
 
-  pub no_second : {a : Network Expression} {n : ℕ} {us : List Placed} (x : ExprTextFault) (ts : List Placed) →
+  pub no_second : {a : Network Expression} {n : ℕ} {us : List PlacedToken} (x : ExprTextFault) (ts : List PlacedToken) →
       read networks size room network_sort ts ≡ Ok (a, n, us) → Refuses x (read networks size room network_sort us) →
       Refuses x (read_parts networks size (read networks size room) room (f (f no_place)) seq ts)
   no_second {us = us} x ts p q = rw p (passed x (read networks size room network_sort us) _ q)
 
-  pub no_end : {a b : Network Expression} {n k : ℕ} {us vs : List Placed} (x : ExprTextFault) (ts : List Placed) →
+  pub no_end : {a b : Network Expression} {n k : ℕ} {us vs : List PlacedToken} (x : ExprTextFault) (ts : List PlacedToken) →
       read networks size room network_sort ts ≡ Ok (a, n, us) → read networks size room network_sort us ≡ Ok (b, k, vs) →
       Refuses x (read_end leaf size room vs) → Refuses x (read_parts networks size (read networks size room) room (f (f no_place)) seq ts)
   no_end {vs = vs} x ts p q r = rw (p, q) (passed x (read_end networks size room vs) _ (subst (Refuses x) (sym (end_same size room vs)) r))
 
-  pub one_leaf : {a : Expression} {n j : ℕ} {us ws : List Placed} (make : Expression → Network Expression) (ts : List Placed) →
+  pub one_leaf : {a : Expression} {n j : ℕ} {us ws : List PlacedToken} (make : Expression → Network Expression) (ts : List PlacedToken) →
       read leaf size room expression_sort ts ≡ Ok (a, n, us) → read_end leaf size room us ≡ Ok (j, ws) →
       read_parts networks size (read networks size room) room (e no_place) make ts ≡ Ok (make a, j, ws)
   one_leaf {us = us} make ts p q = let i = read_same size room expression_sort ts ∙ p in let k = end_same size room us ∙ q in rw (i, k) refl
 
-  pub no_leaf : (x : ExprTextFault) (make : Expression → Network Expression) (ts : List Placed) → Refuses x (read leaf size room expression_sort ts) →
+  pub no_leaf : (x : ExprTextFault) (make : Expression → Network Expression) (ts : List PlacedToken) → Refuses x (read leaf size room expression_sort ts) →
       Refuses x (read_parts networks size (read networks size room) room (e no_place) make ts)
   no_leaf x make ts p = passed x (read networks size room (leaf_sort expression_sort) ts) _ (subst (Refuses x) (sym (read_same size room expression_sort ts)) p)
 
-  pub no_leaf_end : {a : Expression} {n : ℕ} {us : List Placed} (x : ExprTextFault) (make : Expression → Network Expression) (ts : List Placed) →
+  pub no_leaf_end : {a : Expression} {n : ℕ} {us : List PlacedToken} (x : ExprTextFault) (make : Expression → Network Expression) (ts : List PlacedToken) →
       read leaf size room expression_sort ts ≡ Ok (a, n, us) → Refuses x (read_end leaf size room us) →
       Refuses x (read_parts networks size (read networks size room) room (e no_place) make ts)
   no_leaf_end {us = us} x make ts p q = let i =
@@ -78,10 +78,10 @@ module _ (A : TypeTree) where
   beside : Network Expression → Result (TypeTree × Network Expression) Fault
   beside g = Ok (A, g)
 
-  behind : Network Expression × ℕ × List Placed → Result (TypeTree × Network Expression) Fault
+  behind : Network Expression × ℕ × List PlacedToken → Result (TypeTree × Network Expression) Fault
   behind g = at_end (A, g.0) g.2
 
-  alone : Network Expression × ℕ × List Placed → Result (Network Expression) Fault
+  alone : Network Expression × ℕ × List PlacedToken → Result (Network Expression) Fault
   alone g = at_end g.0 g.2
 
   with_type : (r : Read (Network Expression)) → (r >>= behind) ≡ ((r >>= alone) >>= beside)
@@ -90,12 +90,12 @@ module _ (A : TypeTree) where
   with_type (Ok (g, n, x ∷ ts)) = refl
   with_type (Err x) = refl
 
-  pub body_read : {g : Network Expression} (size n : ℕ) (ts : List Placed) →
+  pub body_read : {g : Network Expression} (size n : ℕ) (ts : List PlacedToken) →
       (read networks size 600 network_sort ts >>= (λ h. at_end h.0 h.2)) ≡ Ok g → read_network size (A, n, ts) ≡ Ok (A, g)
   unfolding beside behind alone
   body_read size n ts p = with_type (read networks size 600 network_sort ts) ∙ ap (λ q. q >>= beside) p
 
-  pub body_refused : (x : ExprTextFault) (size n : ℕ) (ts : List Placed) →
+  pub body_refused : (x : ExprTextFault) (size n : ℕ) (ts : List PlacedToken) →
       Refuses x (read networks size 600 network_sort ts >>= (λ h. at_end h.0 h.2)) → Refuses x (read_network size (A, n, ts))
   unfolding beside behind alone
   body_refused x size n ts p =

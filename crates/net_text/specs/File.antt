@@ -2,9 +2,9 @@
 use Rattle.std.specs.Prelude.{ℕ, nat_lt, bytes_eq, codes, List, [], ◌∷◌, length, Option, Some, None, option_and_then, Result, Ok, Err, if◌then◌else◌}
 use Rattle.sample_core.specs.TypeTree.{TypeTree}
 use Rattle.leaf_core.specs.Expression.{Expression}
-use Rattle.leaf_expr.specs.Token.{Placed, word, tokens}
+use Rattle.leaf_expr.specs.Token.{PlacedToken, word, tokens}
 use Rattle.leaf_expr.specs.Grammar.{leaf, type_sort}
-use Rattle.leaf_expr.specs.Reader.{Fault, syntax, ◌>>=◌, read}
+use Rattle.leaf_expr.specs.TreeReader.{Fault, syntax, ◌>>=◌, read}
 use Rattle.net_syntax.specs.Network.{Network}
 use Rattle.net_text.specs.Grammar.{networks, network_sort}
 
@@ -15,25 +15,25 @@ pub data FileFault : Type 0 where
   at : Fault → FileFault
 
 -- the tokens behind that word, where it comes first
-abbrev pub behind_word : List ℕ → List Placed → Option (List Placed)
+abbrev pub behind_word : List ℕ → List PlacedToken → Option (List PlacedToken)
 behind_word u ((n, word w) ∷ ts) = if bytes_eq w u then Some ts else None
 behind_word u _ = None
 
 -- the tokens behind `yampa 1 input`, where these come first
-abbrev pub behind_header : List Placed → Option (List Placed)
+abbrev pub behind_header : List PlacedToken → Option (List PlacedToken)
 behind_header ts = option_and_then (behind_word (codes "input")) (option_and_then (behind_word (codes "1")) (behind_word (codes "yampa") ts))
 
 -- x, where no token is left
-abbrev pub at_end : {T : Type 0} → T → List Placed → Result T Fault
+abbrev pub at_end : {T : Type 0} → T → List PlacedToken → Result T Fault
 at_end x [] = Ok x
 at_end x (y ∷ ts) = Err (syntax y.0)
 
 -- a network behind a type, and nothing behind it, in a text of so many bytes
-abbrev pub read_network : ℕ → TypeTree × ℕ × List Placed → Result (TypeTree × Network Expression) Fault
+abbrev pub read_network : ℕ → TypeTree × ℕ × List PlacedToken → Result (TypeTree × Network Expression) Fault
 read_network size a = read networks size 600 network_sort a.2 >>= (λ g. at_end (a.0, g.0) g.2)
 
 -- a type and a network, and nothing behind them, in a text of so many bytes
-abbrev pub read_body : ℕ → List Placed → Result (TypeTree × Network Expression) Fault
+abbrev pub read_body : ℕ → List PlacedToken → Result (TypeTree × Network Expression) Fault
 read_body size ts = read leaf size 600 type_sort ts >>= read_network size
 
 -- a fault behind the header as a fault of the file
@@ -42,7 +42,7 @@ body_fault (Ok x) = Ok x
 body_fault (Err e) = Err (at e)
 
 -- the type and the network behind the header, where there is one
-abbrev pub read_behind : ℕ → Option (List Placed) → Result (TypeTree × Network Expression) FileFault
+abbrev pub read_behind : ℕ → Option (List PlacedToken) → Result (TypeTree × Network Expression) FileFault
 read_behind size None = Err header
 read_behind size (Some ts) = body_fault (read_body size ts)
 

@@ -2,26 +2,26 @@
 use Rattle.std.specs.Prelude.{◌≡◌, ℕ, ◌≤◌, ◌<◌, List, [], ◌∷◌, length, codes, Ok}
 use Rattle.sample_core.specs.TypeTree.{TypeTree}
 use Rattle.leaf_core.specs.Expression.{Expression}
-use Rattle.leaf_expr.specs.Token.{Placed, word, tokens}
-use Rattle.leaf_expr.specs.Part.{Part, depth}
+use Rattle.leaf_expr.specs.Token.{PlacedToken, word, tokens}
+use Rattle.leaf_expr.specs.Sexpr.{Sexpr, depth}
 use Rattle.leaf_expr.specs.Language.{Begins, meaning}
 use Rattle.leaf_expr.specs.Grammar.{leaf, Sort, type_sort}
-use Rattle.leaf_expr.specs.Printed.{type_part}
-use Rattle.leaf_expr.specs.Reader.{Fault, syntax, number, too_deep}
+use Rattle.leaf_expr.specs.Printing.{type_sexpr}
+use Rattle.leaf_expr.specs.TreeReader.{Fault, syntax, number, too_deep}
 use Rattle.leaf_expr.specs.ReadLaws.{Stops}
 use Rattle.net_syntax.specs.Network.{Network}
 use Rattle.net_text.specs.Grammar.{networks, network_sort, leaf_sort}
 use Rattle.net_text.specs.File.{read_file}
-use Rattle.net_text.specs.Printed.{network_part, file_spelling, Writable}
+use Rattle.net_text.specs.Printing.{network_sexpr, file_spelling, Writable}
 use Rattle.net_text.specs.declared.fault.NetTextFault.{NetTextFault}
 use Rattle.net_text.specs.declared.fault.NetTextFault.TheVariants as V
 
 -- the words `yampa 1 input` at those places, and then ts
-abbrev pub header_tokens : ℕ → ℕ → ℕ → List Placed → List Placed
+abbrev pub header_tokens : ℕ → ℕ → ℕ → List PlacedToken → List PlacedToken
 header_tokens a b c ts = (a, word (codes "yampa")) ∷ (b, word (codes "1")) ∷ (c, word (codes "input")) ∷ ts
 
 -- the bytes begin with the words `yampa 1 input`, and then the tokens ts follow
-pub record Headed (bs : List ℕ) (ts : List Placed) : Type 0 where
+pub record HasHeader (bs : List ℕ) (ts : List PlacedToken) : Type 0 where
   pub yampa : ℕ
   pub one : ℕ
   pub input : ℕ
@@ -31,10 +31,10 @@ pub record Headed (bs : List ℕ) (ts : List Placed) : Type 0 where
 -- open at once, in at most 1,048,576 bytes.
 pub record IsFile (bs : List ℕ) (A : TypeTree) (f : Network Expression) : Type 0 where
   pub short : length bs ≤ 1048576
-  pub behind : List Placed
-  pub headed : Headed bs behind
+  pub behind : List PlacedToken
+  pub headed : HasHeader bs behind
   pub type_end : ℕ
-  pub network : List Placed
+  pub network : List PlacedToken
   pub input : Begins leaf 600 type_sort A behind type_end network
   pub network_end : ℕ
   pub body : Begins networks 600 network_sort f network network_end []
@@ -42,13 +42,13 @@ pub record IsFile (bs : List ℕ) (A : TypeTree) (f : Network Expression) : Type
 -- Why bytes with a header are no network file: no type stands behind it, or no network behind the type, or a token
 -- stands behind the network.
 pub data NoFile (bs : List ℕ) (e : Fault) : Type 0 where
-  no_type : (ts : List Placed) → Headed bs ts → Stops leaf (length bs) 600 type_sort ts e → NoFile bs e
-  no_network : (ts : List Placed) → Headed bs ts → (A : TypeTree) (n : ℕ) (us : List Placed) → Begins leaf 600 type_sort A ts n us → Stops networks (length bs) 600 network_sort us e → NoFile bs e
-  follows : (ts : List Placed) → Headed bs ts → (A : TypeTree) (n : ℕ) (us : List Placed) → Begins leaf 600 type_sort A ts n us → (f : Network Expression) (m : ℕ) (x : Placed) (after : List Placed) → Begins networks 600 network_sort f us m (x ∷ after) → e ≡ syntax x.0 → NoFile bs e
+  no_type : (ts : List PlacedToken) → HasHeader bs ts → Stops leaf (length bs) 600 type_sort ts e → NoFile bs e
+  no_network : (ts : List PlacedToken) → HasHeader bs ts → (A : TypeTree) (n : ℕ) (us : List PlacedToken) → Begins leaf 600 type_sort A ts n us → Stops networks (length bs) 600 network_sort us e → NoFile bs e
+  follows : (ts : List PlacedToken) → HasHeader bs ts → (A : TypeTree) (n : ℕ) (us : List PlacedToken) → Begins leaf 600 type_sort A ts n us → (f : Network Expression) (m : ℕ) (x : PlacedToken) (after : List PlacedToken) → Begins networks 600 network_sort f us m (x ∷ after) → e ≡ syntax x.0 → NoFile bs e
 
 -- why the bytes are no network file
 abbrev pub IsFileFault : List ℕ → NetTextFault → Type 0
-IsFileFault bs V.Header = (length bs ≤ 1048576) × ((ts : List Placed) → Headed bs ts → ⊥)
+IsFileFault bs V.Header = (length bs ≤ 1048576) × ((ts : List PlacedToken) → HasHeader bs ts → ⊥)
 IsFileFault bs (V.Syntax n) = (length bs ≤ 1048576) × NoFile bs (syntax n)
 IsFileFault bs (V.Number n) = (length bs ≤ 1048576) × NoFile bs (number n)
 IsFileFault bs (V.TooDeep n) = (length bs ≤ 1048576) × NoFile bs (too_deep n)
@@ -65,8 +65,8 @@ OneFileLaw = (bs : List ℕ) (A B : TypeTree) (f g : Network Expression) → IsF
 
 -- types and expressions inside networks are those that they are by themselves
 abbrev pub LeafMeaningLaw : Type 0
-LeafMeaningLaw = (s : Sort) (p : Part) → meaning networks (leaf_sort s) p ≡ meaning leaf s p
+LeafMeaningLaw = (s : Sort) (p : Sexpr) → meaning networks (leaf_sort s) p ≡ meaning leaf s p
 
 -- a printed file is read back, where it is within the limits of files
 abbrev pub PrintedFileLaw : Type 0
-PrintedFileLaw = (A : TypeTree) (f : Network Expression) → Writable f → depth (type_part A) ≤ 600 → depth (network_part f) ≤ 600 → length (file_spelling A f) ≤ 1048576 → IsFile (file_spelling A f) A f
+PrintedFileLaw = (A : TypeTree) (f : Network Expression) → Writable f → depth (type_sexpr A) ≤ 600 → depth (network_sexpr f) ≤ 600 → length (file_spelling A f) ≤ 1048576 → IsFile (file_spelling A f) A f

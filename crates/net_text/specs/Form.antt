@@ -1,6 +1,6 @@
 -- The code's forms as rows of the grammar.
 use Rattle.std.specs.Prelude.{ℕ, List, codes}
-use Rattle.leaf_core.specs.Expression.{Expression, unit_literal, then}
+use Rattle.leaf_core.specs.Expression.{Expression, unit_expr, then_expr}
 use Rattle.leaf_expr.specs.Language.{no_place}
 use Rattle.net_syntax.specs.Network.{Network, arr, seq, i_pre}
 use Rattle.net_text.specs.Grammar.{NetRow, row, e, f}
@@ -19,7 +19,7 @@ leaf_form_name L.Constant = codes "constant"
 abbrev pub leaf_form_of : LeafForm → Expression → Network Expression
 leaf_form_of L.Arr = arr
 leaf_form_of L.IPre = i_pre
-leaf_form_of L.Constant = λ c. arr ((then) unit_literal c)
+leaf_form_of L.Constant = λ c. arr (then_expr unit_expr c)
 
 -- a form of one expression as its row of the grammar
 abbrev pub leaf_form_row : LeafForm → NetRow

@@ -1,7 +1,7 @@
 -- The grammar of networks, on top of that of types and expressions: a table of words, and a table of forms.
 use Rattle.std.specs.Prelude.{ℕ, true, false, Bool, List, [], ◌∷◌, Option, Some, None, option_map, bytes_eq, codes, if◌then◌else◌}
-use Rattle.leaf_expr.specs.NumberPlace.{Reading, unfit}
-use Rattle.leaf_core.specs.Expression.{Expression, sample, unit_literal, then}
+use Rattle.leaf_expr.specs.WordReading.{WordReading, unfit}
+use Rattle.leaf_core.specs.Expression.{Expression, input, unit_expr, then_expr}
 use Rattle.leaf_expr.specs.Language.{Language, Places, Maker, Row, no_place, place, places}
 use Rattle.leaf_expr.specs.Grammar.{Sort, Tree, expression_sort, word_at, row_at, has_form, takes_number, word_among}
 use Rattle.net_syntax.specs.Network.{Network, arr, seq, i_pre}
@@ -25,24 +25,24 @@ abbrev pub f : Places NetSort → Places NetSort
 f ps = place network_sort ps
 
 -- the parts of a form of types or expressions
-abbrev pub carried : Places Sort → Places NetSort
-carried no_place = no_place
-carried (place s qs) = place (leaf_sort s) (carried qs)
-carried (places s) = places (leaf_sort s)
+abbrev pub leaf_places : Places Sort → Places NetSort
+leaf_places no_place = no_place
+leaf_places (place s qs) = place (leaf_sort s) (leaf_places qs)
+leaf_places (places s) = places (leaf_sort s)
 
 -- what a form of types or expressions makes of its parts
-abbrev pub carried_maker : (R : Type 0) (qs : Places Sort) → Maker Tree qs R → Maker NetTree (carried qs) R
-carried_maker R no_place r = r
-carried_maker R (place s qs) make = λ x. carried_maker R qs (make x)
-carried_maker R (places s) make = make
+abbrev pub leaf_maker : (R : Type 0) (qs : Places Sort) → Maker Tree qs R → Maker NetTree (leaf_places qs) R
+leaf_maker R no_place r = r
+leaf_maker R (place s qs) make = λ x. leaf_maker R qs (make x)
+leaf_maker R (places s) make = make
 
 -- a form of types or expressions
-abbrev pub carried_row : {R : Type 0} → Row Sort Tree R → Row NetSort NetTree R
-carried_row {R = R} r = record { name = r.name; takes = carried r.takes; makes = carried_maker R r.takes r.makes }
+abbrev pub leaf_row : {R : Type 0} → Row Sort Tree R → Row NetSort NetTree R
+leaf_row {R = R} r = record { name = r.name; takes = leaf_places r.takes; makes = leaf_maker R r.takes r.makes }
 
 -- words that are a network by themselves
 unfoldable pub net_words : List (List ℕ × Network Expression)
-net_words = (codes "identity", arr sample) ∷ []
+net_words = (codes "identity", arr input) ∷ []
 
 -- a row of the grammar that makes a network
 abbrev pub NetRow : Type 0
@@ -58,7 +58,7 @@ net_rows =
     row (codes "arr") (e no_place) arr
     ∷ row (codes "iPre") (e no_place) i_pre
     ∷ row (codes ">>>") (f (f no_place)) seq
-    ∷ row (codes "constant") (e no_place) (λ c. arr ((then) unit_literal c))
+    ∷ row (codes "constant") (e no_place) (λ c. arr (then_expr unit_expr c))
     ∷ []
 
 -- the row of a table that a word begins
@@ -67,13 +67,13 @@ net_row_among w [] = None
 net_row_among w (x ∷ xs) = if bytes_eq w x.name then Some x else net_row_among w xs
 
 -- what a word is where a tree of the sort stands
-unfoldable pub net_word_at : (s : NetSort) → List ℕ → Reading (NetTree s)
+unfoldable pub net_word_at : (s : NetSort) → List ℕ → WordReading (NetTree s)
 net_word_at (leaf_sort s) w = word_at s w
 net_word_at network_sort w = word_among w net_words unfit
 
 -- the form that a word begins
 unfoldable pub net_row_at : (s : NetSort) → List ℕ → Option (Row NetSort NetTree (NetTree s))
-net_row_at (leaf_sort s) w = option_map carried_row (row_at s w)
+net_row_at (leaf_sort s) w = option_map leaf_row (row_at s w)
 net_row_at network_sort w = net_row_among w net_rows
 
 -- whether a tree of the sort may be a form, which begins with a parenthesis

@@ -2,6 +2,6 @@ pub mod Grammar
 pub mod Form
 pub mod File
 pub mod ReadNet
-pub mod Printed
+pub mod Printing
 pub mod FileLaws
 pub mod FileRows

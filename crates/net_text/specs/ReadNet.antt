@@ -1,16 +1,16 @@
 -- What the code's reader of networks answers: what the reader of the grammar does on the tokens from some byte on.
 use Rattle.std.specs.Prelude.{◌≡◌, ℕ, List, length, slice_range, Result, Ok, Err}
 use Rattle.sample_core.specs.TypeTree.{TypeTree}
-use Rattle.sample_core.specs.SeenType.{type_of}
+use Rattle.sample_core.specs.TypeView.{type_of}
 use Rattle.sample_core.specs.declared.ty.Ty.{Ty}
 use Rattle.leaf_core.specs.Expression.{Expression}
 use Rattle.leaf_core.specs.declared.expr.Expr.{Expr}
 use Rattle.leaf_expr.specs.declared.text_fault.ExprTextFault.{ExprTextFault}
 use Rattle.leaf_expr.specs.declared.text_fault.ExprTextFault.TheVariants as E
-use Rattle.leaf_expr.specs.Token.{Placed, tokens_from}
-use Rattle.leaf_expr.specs.Reader.{Fault, ◌>>=◌, word_read, syntax, number, too_deep, Read, read, read_form, read_parts}
+use Rattle.leaf_expr.specs.Token.{PlacedToken, tokens_from}
+use Rattle.leaf_expr.specs.TreeReader.{Fault, ◌>>=◌, word_read, syntax, number, too_deep, Read, read, read_form, read_parts}
 use Rattle.net_syntax.specs.Network.{Network}
-use Rattle.net_syntax.specs.Seen.{tree_of}
+use Rattle.net_syntax.specs.NetworkView.{tree_of}
 use Rattle.net_syntax.specs.declared.net.Net.{Net}
 use Rattle.net_text.specs.Grammar.{networks, network_sort, net_word_at, NetRow}
 use Rattle.net_text.specs.File.{FileFault, header, too_long, at, at_end}
@@ -38,7 +38,7 @@ abbrev pub row_parts : NetRow → List ℕ → ℕ → ℕ → Read (Network Exp
 row_parts r text room n = read_parts networks (length text) (read networks (length text) room) room r.takes r.makes (tokens_from n text)
 
 -- a network, the byte behind it, and the tokens from there on
-abbrev pub network_left : List ℕ → Net Expr × ℕ → Network Expression × ℕ × List Placed
+abbrev pub network_left : List ℕ → Net Expr × ℕ → Network Expression × ℕ × List PlacedToken
 network_left text x = (tree_of x.0, x.1, tokens_from x.1 text)
 
 -- a fault of a tree as a fault of the file that it stands in
@@ -49,7 +49,7 @@ in_file (E.TooDeep n) = V.TooDeep n
 in_file E.TooLong = V.TooLong
 in_file E.Memory = V.Memory
 
--- a fault that reading has; want of memory says nothing of the file
+-- a fault that reading has; `Memory` says nothing of the file
 abbrev pub RefusesFile : {Y : Type 0} → NetTextFault → Result Y FileFault → Type 0
 RefusesFile V.Header read = read ≡ Err header
 RefusesFile (V.Syntax n) read = read ≡ Err (at (syntax n))

@@ -1,15 +1,15 @@
 // The forms of networks, by the word that each begins with.
 
 ghost use Rattle.std.specs.Prelude.{◌≡◌, IfOk, option_map};
-ghost use Rattle.leaf_core.specs.Expression.{unit_literal, then};
-ghost use Rattle.leaf_core.specs.Seen.{expression_of};
+ghost use Rattle.leaf_core.specs.Expression.{unit_expr, then_expr};
+ghost use Rattle.leaf_core.specs.ExpressionView.{expression_of};
 ghost use Rattle.net_syntax.specs.Network.{arr};
-ghost use Rattle.net_syntax.specs.Seen.{tree_of};
+ghost use Rattle.net_syntax.specs.NetworkView.{tree_of};
 ghost use Rattle.net_text.specs.Form.{form_row, leaf_form_of};
 ghost use Rattle.net_text.specs.Grammar.{net_row_at, net_word_at, network_sort};
 ghost use Rattle.leaf_expr.specs.ReadText.{fit};
 
-use leaf_expr::{Expr, Literal, Part, is_word};
+use leaf_expr::{Expr, ExprChild, Literal, is_word};
 use net_syntax::Net;
 use sample_core::Memory;
 use std::alloc::Global;
@@ -46,10 +46,10 @@ impl LeafForm {
 
 /// `(arr (then unit e))`.
 fn constant(alloc: Global, e: Expr) -> Result<Net<Expr>, Memory>
-    ensures { IfOk result (λ net. tree_of net ≡ arr (then unit_literal (expression_of e))) }
+    ensures { IfOk result (λ net. tree_of net ≡ arr (then_expr unit_expr (expression_of e))) }
 {
-    let value = Part::new(alloc, e)?;
-    let unit = Part::new(alloc, Expr::Literal(Literal::Unit))?;
+    let value = ExprChild::new(alloc, e)?;
+    let unit = ExprChild::new(alloc, Expr::Literal(Literal::Unit))?;
     Ok(Net::Arr(Expr::Then(unit, value)))
 }
 

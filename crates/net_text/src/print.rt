@@ -2,16 +2,16 @@
 
 ghost use Rattle.std.specs.Prelude.{◌≡◌, ◌++◌, ◌∷◌, [], IfOk, string_bytes};
 ghost use Rattle.sample_core.specs.Adding.{Adds};
-ghost use Rattle.sample_core.specs.SeenType.{type_of};
-ghost use Rattle.leaf_expr.specs.Part.{spelling};
-ghost use Rattle.leaf_expr.specs.Printed.{one, two, expression_part};
-ghost use Rattle.leaf_core.specs.Seen.{expression_of};
+ghost use Rattle.sample_core.specs.TypeView.{type_of};
+ghost use Rattle.leaf_expr.specs.Sexpr.{spelling};
+ghost use Rattle.leaf_expr.specs.Printing.{one, two, expression_sexpr};
+ghost use Rattle.leaf_core.specs.ExpressionView.{expression_of};
 ghost use Rattle.net_syntax.specs.Network.{map_network};
-ghost use Rattle.net_syntax.specs.Seen.{tree_of};
-ghost use Rattle.net_text.specs.Printed.{network_part, file_spelling};
+ghost use Rattle.net_syntax.specs.NetworkView.{tree_of};
+ghost use Rattle.net_text.specs.Printing.{network_sexpr, file_spelling};
 
 use leaf_expr::{Expr, push_expr};
-use net_syntax::{Net, Sub};
+use net_syntax::{Net, NetChild};
 use sample_core::{Memory, Ty, push_type};
 use std::alloc::Global;
 
@@ -34,7 +34,7 @@ pub fn print_net(alloc: Global, input: &Ty, net: &Net<Expr>) -> Result<String, M
 /// refused; the text may then end with a part of it.
 #[cycle(push_net)]
 pub fn push_net(text: &mut String, net: &Net<Expr>) -> Result<(), Memory>
-    ensures { Adds result (string_bytes text.old) (string_bytes text.new) (spelling (network_part (tree_of net.now))) }
+    ensures { Adds result (string_bytes text.old) (string_bytes text.new) (spelling (network_sexpr (tree_of net.now))) }
 {
     match net {
         Net::Arr(e) => push_leaf(text, "arr", e),
@@ -62,7 +62,7 @@ fn push_open(text: &mut String, name: &str) -> Result<(), Memory>
 
 /// A form of one expression.
 fn push_leaf(text: &mut String, name: &str, e: &Expr) -> Result<(), Memory>
-    ensures { Adds result (string_bytes text.old) (string_bytes text.new) (spelling (one name.now (expression_part (expression_of e.now)))) }
+    ensures { Adds result (string_bytes text.old) (string_bytes text.new) (spelling (one name.now (expression_sexpr (expression_of e.now)))) }
 {
     push_open(text, name)?;
     push_expr(text, e)?;
@@ -71,8 +71,13 @@ fn push_leaf(text: &mut String, name: &str, e: &Expr) -> Result<(), Memory>
 
 /// A form of two networks.
 #[cycle(push_net)]
-fn push_two(text: &mut String, name: &str, f: &Sub<Expr>, g: &Sub<Expr>) -> Result<(), Memory>
-    ensures { Adds result (string_bytes text.old) (string_bytes text.new) (spelling (two name.now (network_part (map_network expression_of f.now)) (network_part (map_network expression_of g.now)))) }
+fn push_two(
+    text: &mut String,
+    name: &str,
+    f: &NetChild<Expr>,
+    g: &NetChild<Expr>,
+) -> Result<(), Memory>
+    ensures { Adds result (string_bytes text.old) (string_bytes text.new) (spelling (two name.now (network_sexpr (map_network expression_of f.now)) (network_sexpr (map_network expression_of g.now)))) }
 {
     push_open(text, name)?;
     push_net(text, f.get())?;

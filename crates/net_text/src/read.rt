@@ -3,13 +3,13 @@
 ghost use Rattle.std.specs.Prelude.{◌≡◌, ◌<◌, ◌≤◌, Err, length, option_map, IfOk, IfErr};
 ghost use Rattle.leaf_expr.specs.Grammar.{expression_sort};
 ghost use Rattle.leaf_expr.specs.ReadText.{Gives, tree_at, expression_left};
-ghost use Rattle.leaf_core.specs.Seen.{expression_of};
+ghost use Rattle.leaf_core.specs.ExpressionView.{expression_of};
 ghost use Rattle.leaf_expr.specs.Token.{tokens, tokens_from};
 ghost use Rattle.leaf_core.specs.Expression.{Expression};
 ghost use Rattle.sample_core.specs.TypeTree.{TypeTree};
 ghost use Rattle.net_syntax.specs.Network.{Network, map_network};
-ghost use Rattle.net_syntax.specs.Seen.{tree_of};
-ghost use Rattle.sample_core.specs.SeenType.{type_of};
+ghost use Rattle.net_syntax.specs.NetworkView.{tree_of};
+ghost use Rattle.sample_core.specs.TypeView.{type_of};
 ghost use Rattle.net_text.specs.File.{behind_word, behind_header, read_body, read_behind, read_file};
 ghost use Rattle.net_text.specs.FileLaws.{IsFile, IsFileFault};
 ghost use Rattle.net_text.specs.Form.{form_row, leaf_form_row};
@@ -22,7 +22,7 @@ use leaf_expr::{
     Expr, ExprTextFault, Front, Lexeme, MAX_LENGTH, MAX_OPEN, form_end, form_head, front_at,
     lexeme_at, read_expr_at, read_type_at, token_at,
 };
-use net_syntax::{Net, Sub};
+use net_syntax::{Net, NetChild};
 use sample_core::Ty;
 use std::alloc::Global;
 
@@ -218,12 +218,12 @@ fn sub_at(
     text: &[u8],
     at: usize,
     room: usize,
-) -> Result<(Sub<Expr>, usize), ExprTextFault>
+) -> Result<(NetChild<Expr>, usize), ExprTextFault>
     requires { room ≤ 600 }
     ensures { Gives (λ x. (map_network expression_of x.0, x.1, tokens_from x.1 text.now)) result (network_read text.now room at) }
 {
     let (net, at) = network_at(alloc, text, at, room)?;
-    Ok((Sub::new(alloc, net)?, at))
+    Ok((NetChild::new(alloc, net)?, at))
 }
 
 /// One expression, and the end of the form.

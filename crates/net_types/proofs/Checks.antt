@@ -4,12 +4,12 @@ use Rattle.sample_core.specs.TypeTree.{TypeTree}
 use Rattle.leaf_core.specs.Expression.{Expression}
 use Rattle.leaf_core.specs.TypeLimits.{type_fits}
 use Rattle.leaf_core.specs.ExpressionCheck.{type_answer}
-use Rattle.leaf_core.specs.ExpressionLimits.{FullyChecked}
+use Rattle.leaf_core.specs.ExpressionLimits.{ExpressionTypedWithin}
 use Rattle.leaf_core.proofs.Exactness.{type_answer-exact}
 use Rattle.net_syntax.specs.Network.{Network}
 use Rattle.net_syntax.specs.Height.{height}
 use Rattle.net_syntax.specs.Weight.{weight}
-use Rattle.net_syntax.specs.Stream.{TypedNetwork}
+use Rattle.net_syntax.specs.TypedNetwork.{TypedNetwork}
 use Rattle.net_syntax.specs.WithinLimits.{WithinLimits}
 use Rattle.net_types.specs.declared.fault.TypeFault.TheVariants as Fault
 use Rattle.net_types.specs.Check.{net_walk, check}
@@ -18,21 +18,21 @@ use Rattle.net_types.proofs.WalkTests.{Holds, ok_holds, next, holding, goes_on, 
 use Rattle.net_types.proofs.WalkSound.{sound}
 use Rattle.net_types.proofs.WalkComplete.{complete}
 
-exact : IsExact (λ e Qs B. type_answer Qs B e) FullyChecked
+exact : IsExact (λ e Qs B. type_answer Qs B e) ExpressionTypedWithin
 exact e Ps A B = type_answer-exact Ps A e B
 
 pub walk_exact : WalkLaw
-walk_exact P Ps Os A net B = (λ e. holding (sound (λ e Qs B. type_answer Qs B e) FullyChecked exact P Ps Os A net) e, λ d. complete (λ e Qs B. type_answer Qs B e) FullyChecked exact P Ps Os A net B d)
+walk_exact P Ps Os A net B = (λ e. holding (sound (λ e Qs B. type_answer Qs B e) ExpressionTypedWithin exact P Ps Os A net) e, λ d. complete (λ e Qs B. type_answer Qs B e) ExpressionTypedWithin exact P Ps Os A net B d)
 
 -- what the check answers is within the limits, and of what was given
 pub check_sound : (A : TypeTree) (net : Network Expression) → Holds (λ t. (t.input ≡ A) × (t.net ≡ net) × WithinLimits t) (check A net)
 check_sound A net =
-    next (within_tells A) (λ Z w. next (sound (λ e Qs B. type_answer Qs B e) FullyChecked exact [] [] [] A net) (λ B d. next (tested (leb (height net []) 256) Fault.TooDeep) (λ u h. next (tested (leb (weight net []) 1000000) Fault.TooHeavy) (λ v k.
+    next (within_tells A) (λ Z w. next (sound (λ e Qs B. type_answer Qs B e) ExpressionTypedWithin exact [] [] [] A net) (λ B d. next (tested (leb (height net []) 256) Fault.TooDeep) (λ u h. next (tested (leb (weight net []) 1000000) Fault.TooHeavy) (λ v k.
     ok_holds (refl, refl, record { fits = record { input_fits = w.1; typed = d; low = leb-true (height net []) 256 h; light = leb-true (weight net []) 1000000 k }; its_weight = refl; its_height = refl })))))
 
 check_complete : (t : TypedNetwork) → WithinLimits t → check t.input t.net ≡ Ok t
 check_complete t h =
-    goes_on _ (within_passes t.input h.fits.input_fits) (goes_on _ (complete (λ e Qs B. type_answer Qs B e) FullyChecked exact [] [] [] t.input t.net t.output h.fits.typed) (goes_on _ (passes Fault.TooDeep (le-leb (height t.net []) 256 h.fits.low)) (goes_on _ (passes Fault.TooHeavy (le-leb (weight t.net []) 1000000 h.fits.light))
+    goes_on _ (within_passes t.input h.fits.input_fits) (goes_on _ (complete (λ e Qs B. type_answer Qs B e) ExpressionTypedWithin exact [] [] [] t.input t.net t.output h.fits.typed) (goes_on _ (passes Fault.TooDeep (le-leb (height t.net []) 256 h.fits.low)) (goes_on _ (passes Fault.TooHeavy (le-leb (weight t.net []) 1000000 h.fits.light))
     (λ i. Ok (record { input = t.input; output = t.output; net = t.net; weight = sym h.its_weight i; height = sym h.its_height i })))))
 
 pub check_exact : CheckLaw

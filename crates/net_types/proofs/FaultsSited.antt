@@ -10,12 +10,12 @@ use Rattle.net_syntax.specs.Typing.{Arrow, copies, members}
 use Rattle.net_syntax.specs.Height.{height}
 use Rattle.net_syntax.specs.Weight.{weight}
 use Rattle.net_syntax.specs.Place as place
-use Rattle.net_syntax.specs.Place.{a_network, a_leaf, member, part, part_child, member_part, event_part, continuation_part, child}
+use Rattle.net_syntax.specs.Place.{a_network, a_leaf, member, p_switch_child, child_network, member_child, event_child, continuation_child, child}
 use Rattle.net_types.specs.declared.fault.TypeFault.{TypeFault}
 use Rattle.net_types.specs.declared.fault.TypeFault.TheVariants as Fault
-use Rattle.net_types.specs.Walk.{LeafChecker, ◌>>=◌, ◌↓◌, test, within, same, as_pair, as_event, between, counted, frozen, all_same, one_output, placed, leaf, walk, walk_all}
+use Rattle.net_types.specs.Walk.{LeafChecker, ◌>>=◌, ◌↓◌, test, within, expect_same, as_pair, as_event, test_range, test_members, old_at, all_same, one_output, leaf_fault_at, leaf, walk, walk_all}
 use Rattle.net_types.specs.Check.{check}
-use Rattle.net_types.specs.FaultPlaces.{Sited, NetworkPlace, LeafPlace}
+use Rattle.net_types.specs.FaultPlaces.{FaultStandsIn, NetworkPlace, LeafPlace}
 use Rattle.net_types.specs.TypingLaws.{FaultLaw}
 
 asked : {A B : Type 0} {r : Option A} (k : A → Option B) {a : A} {v : Option B} → r ≡ Some a → k a ≡ v → place.◌>>=◌ r k ≡ v
@@ -51,29 +51,29 @@ module _ {L : Type 0} where
   par_child : (fs : Networks L) (i : ℕ) (f : Network L) → member fs i ≡ Some f → child (par fs) (from 0 i) ≡ Some (a_network f)
   par_child fs i f e = ap (λ k. option_map a_network (member fs k)) (from_zero i) ∙ ap (option_map a_network) e
 
-  member_is : (fs : Networks L) (i : ℕ) (f : Network L) → member fs i ≡ Some f → part fs i ≡ member_part
+  member_is : (fs : Networks L) (i : ℕ) (f : Network L) → member fs i ≡ Some f → p_switch_child fs i ≡ member_child
   member_is no_members i f e = absurd (cc)
   member_is (and_member g fs) zero f e = refl
   member_is (and_member g fs) (suc i) f e = member_is fs i f e
 
-  event_is : (fs : Networks L) → part fs (members fs) ≡ event_part
+  event_is : (fs : Networks L) → p_switch_child fs (members fs) ≡ event_child
   event_is no_members = refl
   event_is (and_member g fs) = event_is fs
 
-  after_is : (fs : Networks L) → part fs (suc (members fs)) ≡ continuation_part
+  after_is : (fs : Networks L) → p_switch_child fs (suc (members fs)) ≡ continuation_child
   after_is no_members = refl
   after_is (and_member g fs) = after_is fs
 
   switch_child : (r : L) (fs : Networks L) (e n : Network L) (i : ℕ) (f : Network L) → member fs i ≡ Some f → child (p_switch r fs e n) (from 1 i) ≡ Some (a_network f)
   switch_child r fs e n i f q =
       let to : from 1 i ≡ suc i = from_suc 0 i ∙ ap suc (from_zero i) in
-      ap (λ k. child (p_switch r fs e n) k) to ∙ (ap (λ w. option_map a_network (part_child w fs e n i)) (member_is fs i f q) ∙ ap (option_map a_network) q)
+      ap (λ k. child (p_switch r fs e n) k) to ∙ (ap (λ w. option_map a_network (child_network w fs e n i)) (member_is fs i f q) ∙ ap (option_map a_network) q)
 
-  event_child : (r : L) (fs : Networks L) (e n : Network L) → child (p_switch r fs e n) (suc (members fs)) ≡ Some (a_network e)
-  event_child r fs e n = ap (λ w. option_map a_network (part_child w fs e n (members fs))) (event_is fs)
+  event_net_child : (r : L) (fs : Networks L) (e n : Network L) → child (p_switch r fs e n) (suc (members fs)) ≡ Some (a_network e)
+  event_net_child r fs e n = ap (λ w. option_map a_network (child_network w fs e n (members fs))) (event_is fs)
 
   after_child : (r : L) (fs : Networks L) (e n : Network L) → child (p_switch r fs e n) (suc (suc (members fs))) ≡ Some (a_network n)
-  after_child r fs e n = ap (λ w. option_map a_network (part_child w fs e n (suc (members fs)))) (after_is fs)
+  after_child r fs e n = ap (λ w. option_map a_network (child_network w fs e n (suc (members fs)))) (after_is fs)
 
 module _ {L : Type 0} (t : LeafChecker L) where
   here : (net : Network L) (P : List ℕ) → NetworkPlace net P P
@@ -91,7 +91,7 @@ module _ {L : Type 0} (t : LeafChecker L) where
   up_leaf : (net : Network L) (P : List ℕ) (k : ℕ) (f : Network L) → child net k ≡ Some (a_network f) → (Q : List ℕ) → LeafPlace f (P ↓ k) Q → LeafPlace net P Q
   up_leaf net P k f e Q n = record { path = k ∷ n.path; rest = n.rest; is = n.is ∙ append_assoc P (k ∷ []) n.path; there = asked _ e n.there }
 
-  lifted : (net : Network L) (P : List ℕ) (k : ℕ) (f : Network L) → child net k ≡ Some (a_network f) → (x : TypeFault) → Sited f (P ↓ k) x → Sited net P x
+  lifted : (net : Network L) (P : List ℕ) (k : ℕ) (f : Network L) → child net k ≡ Some (a_network f) → (x : TypeFault) → FaultStandsIn f (P ↓ k) x → FaultStandsIn net P x
   lifted net P k f e (Fault.Expr Q x) s = up_leaf net P k f e Q s
   lifted net P k f e (Fault.Joint Q) s = up net P k f e Q s
   lifted net P k f e (Fault.NoOld Q) s = up net P k f e Q s
@@ -103,57 +103,57 @@ module _ {L : Type 0} (t : LeafChecker L) where
   lifted net P k f e Fault.TooHeavy s = tt
   lifted net P k f e Fault.Memory s = s
 
-  in_child : {A : Type 0} {Z : A → Type 0} {r : Result A TypeFault} (net : Network L) (P : List ℕ) (k : ℕ) (f : Network L) → child net k ≡ Some (a_network f) → Ends (Sited f (P ↓ k)) Z r → Ends (Sited net P) Z r
+  in_child : {A : Type 0} {Z : A → Type 0} {r : Result A TypeFault} (net : Network L) (P : List ℕ) (k : ℕ) (f : Network L) → child net k ≡ Some (a_network f) → Ends (FaultStandsIn f (P ↓ k)) Z r → Ends (FaultStandsIn net P) Z r
   in_child net P k f e (ended z) = ended z
   in_child net P k f e (failed {f = x} s) = failed (lifted net P k f e x s)
 
   module _ (net : Network L) (P : List ℕ) where
-    by_test : (b : Bool) (x : TypeFault) → Sited net P x → Ends (Sited net P) (λ u. Unit {0}) (test b x)
+    by_test : (b : Bool) (x : TypeFault) → FaultStandsIn net P x → Ends (FaultStandsIn net P) (λ u. Unit {0}) (test b x)
     by_test true x s = ended tt
     by_test false x s = failed s
 
-    by_within : (A : TypeTree) → Ends (Sited net P) (λ B. Unit {0}) (within A)
+    by_within : (A : TypeTree) → Ends (FaultStandsIn net P) (λ B. Unit {0}) (within A)
     by_within A = ends_next (by_test (type_fits A) Fault.TooDeep tt) (λ u v. ended tt)
 
-    by_same : (Q : List ℕ) (A B : TypeTree) → NetworkPlace net P Q → Ends (Sited net P) (λ B. Unit {0}) (same Q A B)
+    by_same : (Q : List ℕ) (A B : TypeTree) → NetworkPlace net P Q → Ends (FaultStandsIn net P) (λ B. Unit {0}) (expect_same Q A B)
     by_same Q A B n = ends_next (by_test (same_tree A B) (Fault.Joint Q) n) (λ u v. ended tt)
 
-    by_pair : (Q : List ℕ) (A : TypeTree) → NetworkPlace net P Q → Ends (Sited net P) (λ q. Unit {0}) (as_pair Q A)
+    by_pair : (Q : List ℕ) (A : TypeTree) → NetworkPlace net P Q → Ends (FaultStandsIn net P) (λ q. Unit {0}) (as_pair Q A)
     by_pair Q (pair_ty A B) n = ended tt
     by_pair Q _ n = failed n
 
-    by_event : (Q : List ℕ) (A : TypeTree) → NetworkPlace net P Q → Ends (Sited net P) (λ q. Unit {0}) (as_event Q A)
+    by_event : (Q : List ℕ) (A : TypeTree) → NetworkPlace net P Q → Ends (FaultStandsIn net P) (λ q. Unit {0}) (as_event Q A)
     by_event Q (event_ty A) n = ended tt
     by_event Q _ n = failed n
 
-    by_counted : {M : Type 0} (fs : Networks M) → Ends (Sited net P) (λ u. Unit {0}) (counted P fs)
+    by_counted : {M : Type 0} (fs : Networks M) → Ends (FaultStandsIn net P) (λ u. Unit {0}) (test_members P fs)
     by_counted fs = by_test (leb 1 (members fs) && leb (members fs) 64) (Fault.Members P) (here net P)
 
-    by_between : (low high q : ℕ) → Ends (Sited net P) (λ u. Unit {0}) (between P low high q)
+    by_between : (low high q : ℕ) → Ends (FaultStandsIn net P) (λ u. Unit {0}) (test_range P low high q)
     by_between low high q = by_test (leb low q && leb q high) (Fault.Number P) (here net P)
 
-    by_frozen : (Os : List Arrow) (k : ℕ) → Ends (Sited net P) (λ o. Unit {0}) (frozen P Os k)
+    by_frozen : (Os : List Arrow) (k : ℕ) → Ends (FaultStandsIn net P) (λ o. Unit {0}) (old_at P Os k)
     by_frozen [] k = failed (here net P)
     by_frozen (o ∷ Os) zero = ended tt
     by_frozen (o ∷ Os) (suc k) = by_frozen Os k
 
-    by_leaf : (k : ℕ) (Ps : List TypeTree) (A : TypeTree) (e : L) → child net k ≡ Some (a_leaf e) → Ends (Sited net P) (λ B. Unit {0}) (leaf t (P ↓ k) Ps A e)
+    by_leaf : (k : ℕ) (Ps : List TypeTree) (A : TypeTree) (e : L) → child net k ≡ Some (a_leaf e) → Ends (FaultStandsIn net P) (λ B. Unit {0}) (leaf t (P ↓ k) Ps A e)
     by_leaf k Ps A e i = go (t e Ps A)
       where
-        go : (r : Result TypeTree ExprFault) → Ends (Sited net P) (λ B. Unit {0}) (placed (P ↓ k) r)
+        go : (r : Result TypeTree ExprFault) → Ends (FaultStandsIn net P) (λ B. Unit {0}) (leaf_fault_at (P ↓ k) r)
         go (Ok B) = ended tt
         go (Err x) = failed (at_leaf net P k e i)
 
-    by_all_same : (k : ℕ) (fs : Networks L) (B : TypeTree) (Bs : List TypeTree) → ((i : ℕ) (f : Network L) → member fs i ≡ Some f → child net (from k i) ≡ Some (a_network f)) → AsMany fs Bs → Ends (Sited net P) (λ B. Unit {0}) (all_same P k B Bs)
+    by_all_same : (k : ℕ) (fs : Networks L) (B : TypeTree) (Bs : List TypeTree) → ((i : ℕ) (f : Network L) → member fs i ≡ Some f → child net (from k i) ≡ Some (a_network f)) → AsMany fs Bs → Ends (FaultStandsIn net P) (λ B. Unit {0}) (all_same P k B Bs)
     by_all_same k fs B Bs h no_more = ended tt
     by_all_same k fs B Bs h (one_each {f = f} {fs = gs} {B = C} {Bs = Cs} m) = ends_next (by_same (P ↓ k) B C (at_child net P k f (h 0 f refl))) (λ u v. by_all_same (suc k) gs B Cs (λ i. h (suc i)) m)
 
-    by_one_output : (k : ℕ) (fs : Networks L) (Bs : List TypeTree) → ((i : ℕ) (f : Network L) → member fs i ≡ Some f → child net (from k i) ≡ Some (a_network f)) → AsMany fs Bs → Ends (Sited net P) (λ B. Unit {0}) (one_output P k Bs)
+    by_one_output : (k : ℕ) (fs : Networks L) (Bs : List TypeTree) → ((i : ℕ) (f : Network L) → member fs i ≡ Some f → child net (from k i) ≡ Some (a_network f)) → AsMany fs Bs → Ends (FaultStandsIn net P) (λ B. Unit {0}) (one_output P k Bs)
     by_one_output k fs Bs h no_more = failed (here net P)
     by_one_output k fs Bs h (one_each {fs = gs} {B = B} {Bs = Cs} m) = by_all_same (suc k) gs B Cs (λ i. h (suc i)) m
 
   mutual
-    pub sited : (P : List ℕ) (Ps : List TypeTree) (Os : List Arrow) (A : TypeTree) (net : Network L) → Ends (Sited net P) (λ B. Unit {0}) (walk t P Ps Os A net)
+    pub sited : (P : List ℕ) (Ps : List TypeTree) (Os : List Arrow) (A : TypeTree) (net : Network L) → Ends (FaultStandsIn net P) (λ B. Unit {0}) (walk t P Ps Os A net)
     sited P Ps Os A (arr e) = by_leaf (arr e) P 0 Ps A e refl
     sited P Ps Os A (seq f g) = ends_next (in_child (seq f g) P 0 f refl (sited (P ↓ 0) Ps Os A f)) (λ B u. in_child (seq f g) P 1 g refl (sited (P ↓ 1) Ps Os B g))
     sited P Ps Os A (first f) = ends_next (by_pair (first f) P P A (here (first f) P)) (λ q u. ends_next (in_child (first f) P 0 f refl (sited (P ↓ 0) Ps Os q.0 f)) (λ D v. by_within (first f) P (pair_ty D q.1)))
@@ -179,10 +179,10 @@ module _ {L : Type 0} (t : LeafChecker L) where
     sited P Ps Os A (k_switch f e n) =
         ends_next (in_child (k_switch f e n) P 0 f refl (sited (P ↓ 0) Ps Os A f)) (λ B u. ends_next (by_within (k_switch f e n) P (pair_ty A B)) (λ N v. ends_next (in_child (k_switch f e n) P 1 e refl (sited (P ↓ 1) Ps Os (pair_ty A B) e)) (λ E w. ends_next (by_event (k_switch f e n) P (P ↓ 1) E (at_child (k_switch f e n) P 1 e refl)) (λ C i. ends_next (in_child (k_switch f e n) P 2 n refl (sited (P ↓ 2) (Ps ++ C ∷ []) (Os ++ record { input = A; output = B } ∷ []) A n)) (λ D j. by_same (k_switch f e n) P (P ↓ 2) B D (at_child (k_switch f e n) P 2 n refl))))))
     sited P Ps Os A (p_switch r fs e n) =
-        ends_next (by_counted (p_switch r fs e n) P fs) (λ u v. ends_next (by_within (p_switch r fs e n) P (pair_ty A int_ty)) (λ N w. ends_next (by_leaf (p_switch r fs e n) P 0 Ps (pair_ty A int_ty) r refl) (λ D i. ends_next (all_sited (p_switch r fs e n) P 1 Ps Os D fs (switch_child r fs e n)) (λ Bs m. ends_next (by_one_output (p_switch r fs e n) P 1 fs Bs (switch_child r fs e n) m) (λ B j. ends_next (by_within (p_switch r fs e n) P (pair_ty A (list_ty B))) (λ N k. ends_next (in_child (p_switch r fs e n) P (suc (members fs)) e (event_child r fs e n) (sited (P ↓ suc (members fs)) Ps Os (pair_ty A (list_ty B)) e)) (λ E a. ends_next (by_event (p_switch r fs e n) P (P ↓ suc (members fs)) E (at_child (p_switch r fs e n) P (suc (members fs)) e (event_child r fs e n))) (λ C b. ends_next (in_child (p_switch r fs e n) P (suc (suc (members fs))) n (after_child r fs e n) (sited (P ↓ suc (suc (members fs))) (Ps ++ C ∷ []) (Os ++ copies (members fs) (record { input = D; output = B })) A n)) (λ G c. by_same (p_switch r fs e n) P (P ↓ suc (suc (members fs))) (list_ty B) G (at_child (p_switch r fs e n) P (suc (suc (members fs))) n (after_child r fs e n)))))))))))
+        ends_next (by_counted (p_switch r fs e n) P fs) (λ u v. ends_next (by_within (p_switch r fs e n) P (pair_ty A int_ty)) (λ N w. ends_next (by_leaf (p_switch r fs e n) P 0 Ps (pair_ty A int_ty) r refl) (λ D i. ends_next (all_sited (p_switch r fs e n) P 1 Ps Os D fs (switch_child r fs e n)) (λ Bs m. ends_next (by_one_output (p_switch r fs e n) P 1 fs Bs (switch_child r fs e n) m) (λ B j. ends_next (by_within (p_switch r fs e n) P (pair_ty A (list_ty B))) (λ N k. ends_next (in_child (p_switch r fs e n) P (suc (members fs)) e (event_net_child r fs e n) (sited (P ↓ suc (members fs)) Ps Os (pair_ty A (list_ty B)) e)) (λ E a. ends_next (by_event (p_switch r fs e n) P (P ↓ suc (members fs)) E (at_child (p_switch r fs e n) P (suc (members fs)) e (event_net_child r fs e n))) (λ C b. ends_next (in_child (p_switch r fs e n) P (suc (suc (members fs))) n (after_child r fs e n) (sited (P ↓ suc (suc (members fs))) (Ps ++ C ∷ []) (Os ++ copies (members fs) (record { input = D; output = B })) A n)) (λ G c. by_same (p_switch r fs e n) P (P ↓ suc (suc (members fs))) (list_ty B) G (at_child (p_switch r fs e n) P (suc (suc (members fs))) n (after_child r fs e n)))))))))))
     sited P Ps Os A (old k) = ends_next (by_frozen (old k) P Os k) (λ o u. ends_next (by_same (old k) P P o.input A (here (old k) P)) (λ Z v. ended tt))
 
-    all_sited : (net : Network L) (P : List ℕ) (k : ℕ) (Ps : List TypeTree) (Os : List Arrow) (A : TypeTree) (fs : Networks L) → ((i : ℕ) (f : Network L) → member fs i ≡ Some f → child net (from k i) ≡ Some (a_network f)) → Ends (Sited net P) (λ Bs. AsMany fs Bs) (walk_all t P k Ps Os A fs)
+    all_sited : (net : Network L) (P : List ℕ) (k : ℕ) (Ps : List TypeTree) (Os : List Arrow) (A : TypeTree) (fs : Networks L) → ((i : ℕ) (f : Network L) → member fs i ≡ Some f → child net (from k i) ≡ Some (a_network f)) → Ends (FaultStandsIn net P) (λ Bs. AsMany fs Bs) (walk_all t P k Ps Os A fs)
     all_sited net P k Ps Os A no_members h = ended no_more
     all_sited net P k Ps Os A (and_member f fs) h = ends_next (in_child net P k f (h 0 f refl) (sited (P ↓ k) Ps Os A f)) (λ B u. ends_next (all_sited net P (suc k) Ps Os A fs (λ i. h (suc i))) (λ Bs m. ended (one_each m)))
 
@@ -194,7 +194,7 @@ faulting {A = A} {S = S} (failed {f = g} q) e = subst S (ap fault e) q
     fault (Ok a) = g
 faulting (ended p) e = absurd (cc)
 
-check_sited : (A : TypeTree) (net : Network Expression) → Ends (Sited net []) (λ t. Unit {0}) (check A net)
+check_sited : (A : TypeTree) (net : Network Expression) → Ends (FaultStandsIn net []) (λ t. Unit {0}) (check A net)
 check_sited A net =
     let t : LeafChecker Expression = λ e Qs B. type_answer Qs B e in
     ends_next (by_within t net [] A) (λ Z u. ends_next (sited t [] [] [] A net) (λ B v. ends_next (by_test t net [] (leb (height net []) 256) Fault.TooDeep tt) (λ w i. ends_next (by_test t net [] (leb (weight net []) 1000000) Fault.TooHeavy tt) (λ j k. ended tt))))

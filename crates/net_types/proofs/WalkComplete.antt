@@ -4,7 +4,7 @@ use Rattle.net_syntax.specs.Network.{Network, Networks, no_members, and_member}
 use Rattle.sample_core.specs.TypeTree.{TypeTree, unit_ty, int_ty, pair_ty, event_ty, list_ty}
 use Rattle.net_syntax.specs.Typing.{Arrow, LeafTyping, copies, members}
 use Rattle.leaf_core.specs.TypeLimits.{TypeFits}
-use Rattle.net_types.specs.Walk.{LeafChecker, ◌↓◌, all_same, one_output, placed, leaf, walk, walk_all}
+use Rattle.net_types.specs.Walk.{LeafChecker, ◌↓◌, all_same, one_output, leaf_fault_at, leaf, walk, walk_all}
 use Rattle.net_syntax.specs.TypedWithin.{TypedWithin, AllWithin, arr_within, seq_within, first_within, par_within, loop_within, i_pre_within, delay_within, hold_within, accum_within, after_within, repeatedly_within, time_within, integral_within, switch_within, d_switch_within, r_switch_within, k_switch_within, p_switch_within, old_within, no_members_within, and_member_within}
 use Rattle.net_types.proofs.WalkTests.{goes_on, within_passes, same_passes, between_passes, counted_passes, frozen_passes, IsExact}
 
@@ -23,7 +23,7 @@ one_output_passes P k B (and_member f fs) h = all_same_passes P (suc k) B fs
 
 module _ {L : Type 0} (t : LeafChecker L) (T : LeafTyping L) (ex : IsExact t T) where
   leaf_passes : (P : List ℕ) (Ps : List TypeTree) (A : TypeTree) (e : L) (B : TypeTree) → T e Ps A B → leaf t P Ps A e ≡ Ok B
-  leaf_passes P Ps A e B h = ap (placed P) ((ex e Ps A B).1 h)
+  leaf_passes P Ps A e B h = ap (leaf_fault_at P) ((ex e Ps A B).1 h)
 
   mutual
     pub complete : (P : List ℕ) (Ps : List TypeTree) (Os : List Arrow) (A : TypeTree) (net : Network L) (B : TypeTree) → TypedWithin T TypeFits Ps Os net A B → walk t P Ps Os A net ≡ Ok B

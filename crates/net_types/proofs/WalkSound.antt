@@ -5,7 +5,7 @@ use Rattle.sample_core.specs.TypeTree.{TypeTree, unit_ty, int_ty, pair_ty, event
 use Rattle.net_syntax.specs.Typing.{Arrow, LeafTyping, copies, members}
 use Rattle.leaf_core.specs.TypeLimits.{TypeFits}
 use Rattle.leaf_core.specs.declared.typing.ExprFault.{ExprFault}
-use Rattle.net_types.specs.Walk.{LeafChecker, ◌↓◌, within, same, all_same, one_output, placed, leaf, walk, walk_all}
+use Rattle.net_types.specs.Walk.{LeafChecker, ◌↓◌, within, expect_same, all_same, one_output, leaf_fault_at, leaf, walk, walk_all}
 use Rattle.net_syntax.specs.TypedWithin.{TypedWithin, AllWithin, arr_within, seq_within, first_within, par_within, loop_within, i_pre_within, delay_within, hold_within, accum_within, after_within, repeatedly_within, time_within, integral_within, switch_within, d_switch_within, r_switch_within, k_switch_within, p_switch_within, old_within, no_members_within, and_member_within}
 use Rattle.net_types.proofs.WalkTests.{Holds, ok_holds, err_holds, next, weaker, within_tells, same_tells, pair_tells, event_tells, between_tells, counted_tells, frozen_tells, IsExact}
 
@@ -17,7 +17,7 @@ pub data EachWithin {L : Type 0} (T : LeafTyping L) (M : TypeTree → Type 0) (P
 within_ends : {Q : TypeTree → Type 0} (A : TypeTree) → (TypeFits A → Q A) → Holds Q (within A)
 within_ends {Q = Q} A s = weaker (within_tells A) (λ B w. subst Q w.0 (s w.1))
 
-same_ends : {Q : TypeTree → Type 0} (M : TypeTree → Type 0) (P : List ℕ) (A B : TypeTree) → M B → (M A → Q A) → Holds Q (same P A B)
+same_ends : {Q : TypeTree → Type 0} (M : TypeTree → Type 0) (P : List ℕ) (A B : TypeTree) → M B → (M A → Q A) → Holds Q (expect_same P A B)
 same_ends {Q = Q} M P A B m s = weaker (same_tells P A B) (λ C w. subst Q w.0 (s (subst M w.1 m)))
 
 module _ {L : Type 0} (t : LeafChecker L) (T : LeafTyping L) (ex : IsExact t T) where
@@ -30,7 +30,7 @@ module _ {L : Type 0} (t : LeafChecker L) (T : LeafTyping L) (ex : IsExact t T) 
   leaf_tells : (P : List ℕ) (Ps : List TypeTree) (A : TypeTree) (e : L) → Holds (λ B. T e Ps A B) (leaf t P Ps A e)
   leaf_tells P Ps A e = go (t e Ps A) refl
     where
-      go : (r : Result TypeTree ExprFault) → t e Ps A ≡ r → Holds (λ B. T e Ps A B) (placed P r)
+      go : (r : Result TypeTree ExprFault) → t e Ps A ≡ r → Holds (λ B. T e Ps A B) (leaf_fault_at P r)
       go (Ok B) q = ok_holds ((ex e Ps A B).0 q)
       go (Err x) q = err_holds
 

@@ -6,7 +6,7 @@ use Rattle.net_syntax.specs.Typing.{Arrow, OldAt, old_here, old_after, members, 
 use Rattle.leaf_core.specs.TypeLimits.{depth_of, nodes_of, TypeFits, type_fits, same_tree}
 use Rattle.net_types.specs.declared.fault.TypeFault.{TypeFault}
 use Rattle.net_types.specs.declared.fault.TypeFault.TheVariants as Fault
-use Rattle.net_types.specs.Walk.{LeafChecker, ◌>>=◌, ◌>>◌, test, within, same, as_pair, as_event, between, counted, frozen}
+use Rattle.net_types.specs.Walk.{LeafChecker, ◌>>=◌, ◌>>◌, test, within, expect_same, as_pair, as_event, test_range, test_members, old_at}
 use Rattle.leaf_core.proofs.Exactness.{same_tree-true, same_tree-refl}
 
 -- the checker finds a leaf's type, and answers no other
@@ -70,19 +70,19 @@ within_tells A = next (tested (type_fits A) Fault.TooDeep) (λ u e. ok_holds (re
 pub within_passes : (A : TypeTree) → TypeFits A → within A ≡ Ok A
 within_passes A h = goes_on _ (passes Fault.TooDeep (TypeFits-type_fits A h)) refl
 
-pub same_tells : (P : List ℕ) (A B : TypeTree) → Holds (λ C. (A ≡ C) × (B ≡ A)) (same P A B)
+pub same_tells : (P : List ℕ) (A B : TypeTree) → Holds (λ C. (A ≡ C) × (B ≡ A)) (expect_same P A B)
 same_tells P A B = next (tested (same_tree A B) (Fault.Joint P)) (λ u e. ok_holds (refl, sym (same_tree-true A B e)))
 
-pub same_passes : (P : List ℕ) (A : TypeTree) → same P A A ≡ Ok A
+pub same_passes : (P : List ℕ) (A : TypeTree) → expect_same P A A ≡ Ok A
 same_passes P A = goes_on _ (passes (Fault.Joint P) (same_tree-refl A)) refl
 
-pub same_at_equal : (P : List ℕ) (A B : TypeTree) → A ≡ B → same P A B ≡ Ok B
-same_at_equal P A B e = subst (λ Z. same P A Z ≡ Ok Z) e (same_passes P A)
+pub same_at_equal : (P : List ℕ) (A B : TypeTree) → A ≡ B → expect_same P A B ≡ Ok B
+same_at_equal P A B e = subst (λ Z. expect_same P A Z ≡ Ok Z) e (same_passes P A)
 
-pub same_at_other : (P : List ℕ) (A B : TypeTree) → (A ≡ B → ⊥) → same P A B ≡ Err (Fault.Joint P)
+pub same_at_other : (P : List ℕ) (A B : TypeTree) → (A ≡ B → ⊥) → expect_same P A B ≡ Err (Fault.Joint P)
 same_at_other P A B n = go (same_tree A B) refl
   where
-    go : (b : Bool) → same_tree A B ≡ b → same P A B ≡ Err (Fault.Joint P)
+    go : (b : Bool) → same_tree A B ≡ b → expect_same P A B ≡ Err (Fault.Joint P)
     go true e = absurd (n (same_tree-true A B e))
     go false e = ap (λ b. test b (Fault.Joint P) >> Ok A) e
 
@@ -94,23 +94,23 @@ pub event_tells : (P : List ℕ) (A : TypeTree) → Holds (λ C. A ≡ event_ty 
 event_tells P (event_ty A) = ok_holds refl
 event_tells P _ = err_holds
 
-pub between_tells : (P : List ℕ) (low high q : ℕ) → Holds (λ u. (low ≤ q) × (q ≤ high)) (between P low high q)
+pub between_tells : (P : List ℕ) (low high q : ℕ) → Holds (λ u. (low ≤ q) × (q ≤ high)) (test_range P low high q)
 between_tells P low high q = weaker (tested (leb low q && leb q high) (Fault.Number P)) (λ u e. in_range low high q e)
 
-pub between_passes : (P : List ℕ) (low high q : ℕ) → low ≤ q → q ≤ high → between P low high q ≡ Ok tt
+pub between_passes : (P : List ℕ) (low high q : ℕ) → low ≤ q → q ≤ high → test_range P low high q ≡ Ok tt
 between_passes P low high q h k = passes (Fault.Number P) (range_in low high q h k)
 
-pub counted_tells : {L : Type 0} (P : List ℕ) (fs : Networks L) → Holds (λ u. (1 ≤ members fs) × (members fs ≤ 64)) (counted P fs)
+pub counted_tells : {L : Type 0} (P : List ℕ) (fs : Networks L) → Holds (λ u. (1 ≤ members fs) × (members fs ≤ 64)) (test_members P fs)
 counted_tells P fs = weaker (tested (leb 1 (members fs) && leb (members fs) 64) (Fault.Members P)) (λ u e. in_range 1 64 (members fs) e)
 
-pub counted_passes : {L : Type 0} (P : List ℕ) (fs : Networks L) → 1 ≤ members fs → members fs ≤ 64 → counted P fs ≡ Ok tt
+pub counted_passes : {L : Type 0} (P : List ℕ) (fs : Networks L) → 1 ≤ members fs → members fs ≤ 64 → test_members P fs ≡ Ok tt
 counted_passes P fs h k = passes (Fault.Members P) (range_in 1 64 (members fs) h k)
 
-pub frozen_tells : (P : List ℕ) (Os : List Arrow) (k : ℕ) → Holds (λ o. OldAt Os k o) (frozen P Os k)
+pub frozen_tells : (P : List ℕ) (Os : List Arrow) (k : ℕ) → Holds (λ o. OldAt Os k o) (old_at P Os k)
 frozen_tells P [] k = err_holds
 frozen_tells P (o ∷ Os) zero = ok_holds old_here
 frozen_tells P (o ∷ Os) (suc k) = weaker (frozen_tells P Os k) (λ q i. old_after i)
 
-pub frozen_passes : (P : List ℕ) (Os : List Arrow) (k : ℕ) (o : Arrow) → OldAt Os k o → frozen P Os k ≡ Ok o
+pub frozen_passes : (P : List ℕ) (Os : List Arrow) (k : ℕ) (o : Arrow) → OldAt Os k o → old_at P Os k ≡ Ok o
 frozen_passes P Os k o old_here = refl
 frozen_passes P Os k o (old_after {Os = Os'} {k = j} i) = frozen_passes P Os' j o i

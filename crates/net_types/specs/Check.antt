@@ -7,7 +7,7 @@ use Rattle.net_syntax.specs.Network.{Network}
 use Rattle.net_syntax.specs.Weight.{weight}
 use Rattle.net_syntax.specs.Height.{height}
 use Rattle.net_syntax.specs.Typing.{Arrow}
-use Rattle.net_syntax.specs.Stream.{TypedNetwork}
+use Rattle.net_syntax.specs.TypedNetwork.{TypedNetwork}
 use Rattle.net_types.specs.declared.fault.TypeFault.{TypeFault}
 use Rattle.net_types.specs.declared.fault.TypeFault.TheVariants as Fault
 use Rattle.net_types.specs.Walk.{◌>>=◌, ◌>>◌, test, within, walk}

@@ -19,15 +19,15 @@ pub record LeafPlace {L : Type 0} (net : Network L) (P Q : List ℕ) : Type 0 wh
   pub is : Q ≡ P ++ path
   pub there : at (a_network net) path ≡ Some (a_leaf rest, [])
 
--- the fault of a network at P stands where such a fault may stand; want of memory is no fault of a network
-abbrev pub Sited : {L : Type 0} → Network L → List ℕ → TypeFault → Type 0
-Sited net P (Fault.Expr Q x) = LeafPlace net P Q
-Sited net P (Fault.Joint Q) = NetworkPlace net P Q
-Sited net P (Fault.NoOld Q) = NetworkPlace net P Q
-Sited net P (Fault.NotEvent Q) = NetworkPlace net P Q
-Sited net P (Fault.NotPair Q) = NetworkPlace net P Q
-Sited net P (Fault.Members Q) = NetworkPlace net P Q
-Sited net P (Fault.Number Q) = NetworkPlace net P Q
-Sited net P Fault.TooDeep = Unit {0}
-Sited net P Fault.TooHeavy = Unit {0}
-Sited net P Fault.Memory = ⊥
+-- the fault of a network at P stands where such a fault may stand; `Memory` is no fault of a network
+abbrev pub FaultStandsIn : {L : Type 0} → Network L → List ℕ → TypeFault → Type 0
+FaultStandsIn net P (Fault.Expr Q x) = LeafPlace net P Q
+FaultStandsIn net P (Fault.Joint Q) = NetworkPlace net P Q
+FaultStandsIn net P (Fault.NoOld Q) = NetworkPlace net P Q
+FaultStandsIn net P (Fault.NotEvent Q) = NetworkPlace net P Q
+FaultStandsIn net P (Fault.NotPair Q) = NetworkPlace net P Q
+FaultStandsIn net P (Fault.Members Q) = NetworkPlace net P Q
+FaultStandsIn net P (Fault.Number Q) = NetworkPlace net P Q
+FaultStandsIn net P Fault.TooDeep = Unit {0}
+FaultStandsIn net P Fault.TooHeavy = Unit {0}
+FaultStandsIn net P Fault.Memory = ⊥

@@ -4,11 +4,11 @@ use Rattle.sample_core.specs.TypeTree.{TypeTree}
 use Rattle.leaf_core.specs.Expression.{Expression}
 use Rattle.net_syntax.specs.Network.{Network}
 use Rattle.net_syntax.specs.Typing.{Arrow}
-use Rattle.net_syntax.specs.Stream.{TypedNetwork}
+use Rattle.net_syntax.specs.TypedNetwork.{TypedNetwork}
 use Rattle.net_syntax.specs.NetworkLimits.{NetTypedWithin}
 use Rattle.net_syntax.specs.WithinLimits.{WithinLimits}
 use Rattle.net_types.specs.declared.fault.TypeFault.{TypeFault}
-use Rattle.net_types.specs.FaultPlaces.{Sited}
+use Rattle.net_types.specs.FaultPlaces.{FaultStandsIn}
 use Rattle.net_types.specs.Check.{net_walk, check}
 
 -- the walk answers an output type exactly where the network has it within the limits
@@ -19,6 +19,6 @@ WalkLaw = (P : List ℕ) (Ps : List TypeTree) (Os : List Arrow) (A : TypeTree) (
 abbrev pub CheckLaw : Type 0
 CheckLaw = (A : TypeTree) (net : Network Expression) (t : TypedNetwork) → (check A net ≡ Ok t) ↔ ((t.input ≡ A) × (t.net ≡ net) × WithinLimits t)
 
--- a refused expression stands at an expression of the network, and each other fault that has a position at a network in it; want of memory is never the check's answer
+-- a refused expression stands at an expression of the network, and each other fault that has a position at a network in it; `Memory` is never the check's answer
 abbrev pub FaultLaw : Type 0
-FaultLaw = (A : TypeTree) (net : Network Expression) (f : TypeFault) → check A net ≡ Err f → Sited net [] f
+FaultLaw = (A : TypeTree) (net : Network Expression) (f : TypeFault) → check A net ≡ Err f → FaultStandsIn net [] f

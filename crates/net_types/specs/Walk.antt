@@ -38,8 +38,8 @@ abbrev pub within : TypeTree → Result TypeTree TypeFault
 within A = test (type_fits A) Fault.TooDeep >> Ok A
 
 -- the type A, where B is the same
-abbrev pub same : List ℕ → TypeTree → TypeTree → Result TypeTree TypeFault
-same P A B = test (same_tree A B) (Fault.Joint P) >> Ok A
+abbrev pub expect_same : List ℕ → TypeTree → TypeTree → Result TypeTree TypeFault
+expect_same P A B = test (same_tree A B) (Fault.Joint P) >> Ok A
 
 -- the parts of a pair type
 abbrev pub as_pair : List ℕ → TypeTree → Result (TypeTree × TypeTree) TypeFault
@@ -52,23 +52,23 @@ as_event P (event_ty A) = Ok A
 as_event P _ = Err (Fault.NotEvent P)
 
 -- the test that q is from low to high
-abbrev pub between : List ℕ → ℕ → ℕ → ℕ → Result Unit TypeFault
-between P low high q = test (leb low q && leb q high) (Fault.Number P)
+abbrev pub test_range : List ℕ → ℕ → ℕ → ℕ → Result Unit TypeFault
+test_range P low high q = test (leb low q && leb q high) (Fault.Number P)
 
 -- the test that there are 1 to 64 members
-abbrev pub counted : {L : Type 0} → List ℕ → Networks L → Result Unit TypeFault
-counted P fs = test (leb 1 (members fs) && leb (members fs) 64) (Fault.Members P)
+abbrev pub test_members : {L : Type 0} → List ℕ → Networks L → Result Unit TypeFault
+test_members P fs = test (leb 1 (members fs) && leb (members fs) 64) (Fault.Members P)
 
 -- the frozen network of level k
-abbrev pub frozen : List ℕ → List Arrow → ℕ → Result Arrow TypeFault
-frozen P [] k = Err (Fault.NoOld P)
-frozen P (o ∷ Os) zero = Ok o
-frozen P (o ∷ Os) (suc k) = frozen P Os k
+abbrev pub old_at : List ℕ → List Arrow → ℕ → Result Arrow TypeFault
+old_at P [] k = Err (Fault.NoOld P)
+old_at P (o ∷ Os) zero = Ok o
+old_at P (o ∷ Os) (suc k) = old_at P Os k
 
 -- the outputs of the members from child k on are all B
 abbrev pub all_same : List ℕ → ℕ → TypeTree → List TypeTree → Result TypeTree TypeFault
 all_same P k B [] = Ok B
-all_same P k B (C ∷ Cs) = same (P ↓ k) B C >> all_same P (suc k) B Cs
+all_same P k B (C ∷ Cs) = expect_same (P ↓ k) B C >> all_same P (suc k) B Cs
 
 -- the one output of the members from child k on
 abbrev pub one_output : List ℕ → ℕ → List TypeTree → Result TypeTree TypeFault
@@ -76,13 +76,13 @@ one_output P k [] = Err (Fault.Members P)
 one_output P k (B ∷ Bs) = all_same P (suc k) B Bs
 
 -- what is found of the leaf at P
-abbrev pub placed : List ℕ → Result TypeTree ExprFault → Result TypeTree TypeFault
-placed P (Ok B) = Ok B
-placed P (Err x) = Err (Fault.Expr P x)
+abbrev pub leaf_fault_at : List ℕ → Result TypeTree ExprFault → Result TypeTree TypeFault
+leaf_fault_at P (Ok B) = Ok B
+leaf_fault_at P (Err x) = Err (Fault.Expr P x)
 
 -- the type of the leaf at P
 abbrev pub leaf : {L : Type 0} → LeafChecker L → List ℕ → List TypeTree → TypeTree → L → Result TypeTree TypeFault
-leaf t P Ps A e = placed P (t e Ps A)
+leaf t P Ps A e = leaf_fault_at P (t e Ps A)
 
 -- the output of the network at P, under parameters, frozen networks and an input, or the first fault in it
 abbrev mutual
@@ -96,7 +96,7 @@ abbrev mutual
     D ← walk t (P ↓ 0) Ps Os B f
     within (pair_ty D C)
   walk t P Ps Os A (par fs) = do
-    counted P fs
+    test_members P fs
     Bs ← walk_all t P 0 Ps Os A fs
     B ← one_output P 0 Bs
     within (list_ty B)
@@ -105,63 +105,63 @@ abbrev mutual
     within (pair_ty A C)
     E ← walk t (P ↓ 1) Ps Os (pair_ty A C) f
     (B, D) ← as_pair (P ↓ 1) E
-    same (P ↓ 1) C D
+    expect_same (P ↓ 1) C D
     Ok B
   walk t P Ps Os A (i_pre c) = do
     C ← leaf t (P ↓ 0) Ps unit_ty c
-    same P A C
+    expect_same P A C
   walk t P Ps Os A (delay q c) = do
-    between P 1 4096 q
+    test_range P 1 4096 q
     C ← leaf t (P ↓ 0) Ps unit_ty c
-    same P A C
+    expect_same P A C
   walk t P Ps Os A (hold c) = do
     B ← as_event P A
     C ← leaf t (P ↓ 0) Ps unit_ty c
-    same P B C
+    expect_same P B C
   walk t P Ps Os A (accum_by g z) = do
     V ← as_event P A
     Z ← leaf t (P ↓ 1) Ps unit_ty z
     within (pair_ty Z V)
     Y ← leaf t (P ↓ 0) Ps (pair_ty Z V) g
-    same P Z Y
+    expect_same P Z Y
     within (event_ty Z)
   walk t P Ps Os A (after q c) = do
-    between P 0 (2 ^ 62) q
+    test_range P 0 (2 ^ 62) q
     C ← leaf t (P ↓ 0) Ps unit_ty c
     within (event_ty C)
   walk t P Ps Os A (repeatedly q c) = do
-    between P 1 (2 ^ 62) q
+    test_range P 1 (2 ^ 62) q
     C ← leaf t (P ↓ 0) Ps unit_ty c
     within (event_ty C)
   walk t P Ps Os A time = Ok int_ty
-  walk t P Ps Os A integral = same P int_ty A
+  walk t P Ps Os A integral = expect_same P int_ty A
   walk t P Ps Os A (switch f n) = do
     F ← walk t (P ↓ 0) Ps Os A f
     (B, E) ← as_pair (P ↓ 0) F
     C ← as_event (P ↓ 0) E
     D ← walk t (P ↓ 1) (Ps ++ C ∷ []) Os A n
-    same (P ↓ 1) B D
+    expect_same (P ↓ 1) B D
   walk t P Ps Os A (d_switch f n) = do
     F ← walk t (P ↓ 0) Ps Os A f
     (B, E) ← as_pair (P ↓ 0) F
     C ← as_event (P ↓ 0) E
     D ← walk t (P ↓ 1) (Ps ++ C ∷ []) Os A n
-    same (P ↓ 1) B D
+    expect_same (P ↓ 1) B D
   walk t P Ps Os A (r_switch f n) = do
     (D, M) ← as_pair P A
     C ← as_event P M
     B ← walk t (P ↓ 0) Ps Os D f
     E ← walk t (P ↓ 1) (Ps ++ C ∷ []) Os D n
-    same (P ↓ 1) B E
+    expect_same (P ↓ 1) B E
   walk t P Ps Os A (k_switch f e n) = do
     B ← walk t (P ↓ 0) Ps Os A f
     within (pair_ty A B)
     E ← walk t (P ↓ 1) Ps Os (pair_ty A B) e
     C ← as_event (P ↓ 1) E
     D ← walk t (P ↓ 2) (Ps ++ C ∷ []) (Os ++ record { input = A; output = B } ∷ []) A n
-    same (P ↓ 2) B D
+    expect_same (P ↓ 2) B D
   walk t P Ps Os A (p_switch r fs e n) = do
-    counted P fs
+    test_members P fs
     within (pair_ty A int_ty)
     D ← leaf t (P ↓ 0) Ps (pair_ty A int_ty) r
     Bs ← walk_all t P 1 Ps Os D fs
@@ -170,10 +170,10 @@ abbrev mutual
     E ← walk t (P ↓ suc (members fs)) Ps Os (pair_ty A (list_ty B)) e
     C ← as_event (P ↓ suc (members fs)) E
     G ← walk t (P ↓ suc (suc (members fs))) (Ps ++ C ∷ []) (Os ++ copies (members fs) (record { input = D; output = B })) A n
-    same (P ↓ suc (suc (members fs))) (list_ty B) G
+    expect_same (P ↓ suc (suc (members fs))) (list_ty B) G
   walk t P Ps Os A (old k) = do
-    o ← frozen P Os k
-    same P o.input A
+    o ← old_at P Os k
+    expect_same P o.input A
     Ok o.output
 
   -- the outputs of the members from child k on

@@ -1,7 +1,7 @@
 // The check of a whole network.
 
-ghost use Rattle.sample_core.specs.SeenType.{type_of};
-ghost use Rattle.net_syntax.specs.Seen.{tree_of};
+ghost use Rattle.sample_core.specs.TypeView.{type_of};
+ghost use Rattle.net_syntax.specs.NetworkView.{tree_of};
 ghost use Rattle.net_types.specs.Check.{check, Gives};
 
 use crate::fault::TypeFault;

@@ -1,17 +1,17 @@
 // The walk over a network: its output type, or the first fault.
 
 ghost use Rattle.std.specs.Prelude.{◌≡◌, [], OnOk};
-ghost use Rattle.sample_core.specs.SeenType.{type_of};
-ghost use Rattle.leaf_core.specs.Seen.{expression_of};
+ghost use Rattle.sample_core.specs.TypeView.{type_of};
+ghost use Rattle.leaf_core.specs.ExpressionView.{expression_of};
 ghost use Rattle.leaf_core.specs.ExpressionCheck.{type_answer};
 ghost use Rattle.net_syntax.specs.Network.{seq, i_pre, map_network};
-ghost use Rattle.net_syntax.specs.Seen.{tree_of};
-ghost use Rattle.net_types.specs.Walk.{◌↓◌, placed, same};
+ghost use Rattle.net_syntax.specs.NetworkView.{tree_of};
+ghost use Rattle.net_types.specs.Walk.{◌↓◌, leaf_fault_at, expect_same};
 ghost use Rattle.net_types.specs.Check.{net_walk, Gives};
 
 use crate::fault::TypeFault;
 use leaf_core::{Expr, ExprFault, type_of_expr};
-use net_syntax::{Net, Position, Sub};
+use net_syntax::{Net, NetChild, Position};
 use sample_core::{Ty, same_type};
 use std::alloc::Global;
 
@@ -34,14 +34,14 @@ pub fn walk(
     }
 }
 
-/// The output type of two networks, the second of which gets what the first puts out.
+/// The output type of two networks, the second of which gets what the first outputs.
 #[cycle(walk)]
 fn walk_both(
     alloc: Global,
     path: &mut Vec<u32>,
     input: &Ty,
-    f: &Sub<Expr>,
-    g: &Sub<Expr>,
+    f: &NetChild<Expr>,
+    g: &NetChild<Expr>,
 ) -> Result<Ty, TypeFault>
     ensures answer { Gives type_of result (net_walk path.old.items [] [] (type_of input.now)
         (seq (map_network expression_of f.now) (map_network expression_of g.now))) }
@@ -60,7 +60,7 @@ fn walk_child(
     path: &mut Vec<u32>,
     k: u32,
     input: &Ty,
-    child: &Sub<Expr>,
+    child: &NetChild<Expr>,
 ) -> Result<Ty, TypeFault>
     ensures answer { Gives type_of result (net_walk (path.old.items ↓ k) [] [] (type_of input.now)
         (map_network expression_of child.now)) }
@@ -83,7 +83,7 @@ fn walk_constant(alloc: Global, path: &[u32], input: &Ty, c: &Expr) -> Result<Ty
 
 /// The type of the expression that is child 0 of the node at the path.
 fn leaf_type(alloc: Global, path: &[u32], input: &Ty, leaf: &Expr) -> Result<Ty, TypeFault>
-    ensures { Gives type_of result (placed (path.now ↓ 0) (type_answer [] (type_of input.now) (expression_of leaf.now))) }
+    ensures { Gives type_of result (leaf_fault_at (path.now ↓ 0) (type_answer [] (type_of input.now) (expression_of leaf.now))) }
 {
     match type_of_expr(alloc, &[], input, leaf) {
         Ok(ty) => Ok(ty),
@@ -97,7 +97,7 @@ fn leaf_type(alloc: Global, path: &[u32], input: &Ty, leaf: &Expr) -> Result<Ty,
 
 /// The second type, where it is the first; else the node at the path is at fault.
 fn same_at(alloc: Global, path: &[u32], wanted: &Ty, ty: Ty) -> Result<Ty, TypeFault>
-    ensures { Gives type_of result (same path.now (type_of wanted.now) (type_of ty)) }
+    ensures { Gives type_of result (expect_same path.now (type_of wanted.now) (type_of ty)) }
 {
     if same_type(wanted, &ty) {
         return Ok(ty);

@@ -3,7 +3,7 @@
 use crate::found::{Probe, all_are_found};
 use crate::texts::{bytes_in, numbered, say, say_at};
 use leaf_expr::{Expr, ExprFault};
-use net_syntax::{Net, Position, Sub, print_position, push_position, weight};
+use net_syntax::{Net, NetChild, Position, print_position, push_position, weight};
 use net_text::{NetTextFault, print_net, read_net};
 use net_types::{TypeFault, check_types};
 use sample_core::{Memory, Ty};
@@ -131,7 +131,7 @@ fn doubled(alloc: Global, times: usize) -> Option<Box<Net<Expr>>> {
 }
 
 fn twice(alloc: Global, net: Net<Expr>) -> Option<Box<Net<Expr>>> {
-    let half = Sub::new(alloc, net).ok()?;
+    let half = NetChild::new(alloc, net).ok()?;
     let copy = half.try_copy().ok()?;
     Box::new(alloc, Net::Seq(copy, half)).ok()
 }

@@ -4,8 +4,8 @@
 use crate::found::{Probe, all_are_found};
 use crate::texts::{bytes_in, expr_in, number_in, numbered, parted, say, say_at};
 use leaf_expr::{
-    Expr, ExprTextFault, Part, Parts, push_expr, read_expr, read_expr_at, read_type_at, same_expr,
-    type_fits,
+    Expr, ExprChild, ExprTextFault, Exprs, push_expr, read_expr, read_expr_at, read_type_at,
+    same_expr, type_fits,
 };
 use sample_core::{Memory, Ty, TyChild, push_type, same_type};
 use std::alloc::Global;
@@ -109,7 +109,7 @@ fn parts_are_copied(expr: &Expr) -> bool {
     }
 }
 
-fn part_is_copied(part: &Part) -> bool {
+fn part_is_copied(part: &ExprChild) -> bool {
     match part.try_copy() {
         Ok(copy) => same_expr(copy.get(), part.get()),
         Err(Memory) => false,
@@ -117,7 +117,7 @@ fn part_is_copied(part: &Part) -> bool {
 }
 
 /// Whether the copy of a list's elements has as many.
-fn items_are_copied(all: &Parts) -> bool {
+fn items_are_copied(all: &Exprs) -> bool {
     match all.try_copy() {
         Ok(copy) => copy.as_slice().len() == all.as_slice().len(),
         Err(Memory) => false,

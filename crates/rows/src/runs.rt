@@ -2,8 +2,8 @@
 
 ghost use Rattle.std.specs.Prelude.{IfErr};
 ghost use Rattle.leaf_table.specs.Rows.{rows_of};
-ghost use Rattle.step_core.specs.Bound.{FitsTable};
-ghost use Rattle.yampa_run.specs.Printed.{IsAnswered};
+ghost use Rattle.step_core.specs.Binding.{FitsTable};
+ghost use Rattle.yampa_run.specs.FaultLines.{EndsRun};
 
 use crate::commands::{refusal_told, status_told};
 use crate::found::{Probe, all_are_found};
@@ -136,7 +136,7 @@ fn written_told(alloc: Global, bound: &Bound, table: &LeafTable, stream: &str, o
 }
 
 fn ended_told(alloc: Global, ended: Result<RunReport, RunFault>, out: &mut String)
-    requires { IfErr ended IsAnswered }
+    requires { IfErr ended EndsRun }
 {
     if let Err(fault) = ended {
         failure_told(alloc, &fault, out);
@@ -144,7 +144,7 @@ fn ended_told(alloc: Global, ended: Result<RunReport, RunFault>, out: &mut Strin
 }
 
 fn failure_told(alloc: Global, fault: &RunFault, out: &mut String)
-    requires { IsAnswered fault.now }
+    requires { EndsRun fault.now }
 {
     match fault_line(alloc, fault) {
         Ok((status, line)) => status_told(status, line.as_str(), out),

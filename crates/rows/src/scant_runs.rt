@@ -2,10 +2,10 @@
 
 ghost use Rattle.std.specs.Prelude.{◌≡◌};
 ghost use Rattle.sample_core.specs.HasType.{HasType};
-ghost use Rattle.sample_core.specs.Seen.{datum_of};
+ghost use Rattle.sample_core.specs.ValueView.{datum_of};
 ghost use Rattle.leaf_table.specs.Rows.{rows_of};
-ghost use Rattle.step_core.specs.Bound.{FitsTable};
-ghost use Rattle.step_core.specs.SeenRunner.{running_of};
+ghost use Rattle.step_core.specs.Binding.{FitsTable};
+ghost use Rattle.step_core.specs.RunnerView.{runner_state};
 
 use crate::ballast::{TRIES, Tally, spare_at, take_all};
 use crate::found::{Probe, all_are_found};
@@ -19,8 +19,8 @@ use std::alloc::Global;
 use step_core::{Bound, Runner};
 
 /// Tells what the tries of a runner's push answer: of a network that begins with a list of no
-/// events, and puts out a list of a hundred events after it. Where the first push is want of
-/// memory, the same push with ample memory and the push after it are to answer as if nothing had
+/// events, and outputs a list of a hundred events after it. Where the first push answers
+/// `Memory`, the same push with ample memory and the push after it are to answer as if nothing had
 /// been refused.
 pub fn pushes_told(alloc: Global, bound: &Bound, table: &LeafTable, out: &mut String)
     requires { FitsTable (rows_of table.now) bound.now }
@@ -47,7 +47,7 @@ fn pushed(alloc: Global, bound: &Bound, table: &LeafTable, spare: usize, out: &m
 }
 
 /// Tells what a runner's first push answers where so many bytes are left to it; and where that is
-/// want of memory, what the same push and the next answer with ample memory.
+/// `Memory`, what the same push and the next answer with ample memory.
 fn push_told(
     alloc: Global,
     bound: &Bound,
@@ -71,10 +71,10 @@ fn push_told(
     }
 }
 
-/// Tells of the want of memory, and what the same push and the next then answer.
+/// Tells that it was `Memory`, and what the same push and the next then answer.
 fn retried_told(mut runner: Runner<'_>, sample: &Sample, out: &mut String)
-    requires typed { HasType (datum_of sample.now) (running_of runner).input }
-    requires fresh { (running_of runner).samples ≡ 0 }
+    requires typed { HasType (datum_of sample.now) (runner_state runner).input }
+    requires fresh { (runner_state runner).samples ≡ 0 }
 {
     say(out, "memory ");
     match runner.push(0, sample) {

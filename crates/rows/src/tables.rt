@@ -1,7 +1,7 @@
 // Tables of stored closures: how many rows they have, and what their closures answer.
 
 ghost use Rattle.std.specs.Prelude.{◌≡◌, IfSome, Ok, map};
-ghost use Rattle.sample_core.specs.Seen.{datum_of};
+ghost use Rattle.sample_core.specs.ValueView.{datum_of};
 ghost use Rattle.leaf_table.specs.Computes.{Computes};
 ghost use Rattle.leaf_table.specs.Rows.{rows_of};
 

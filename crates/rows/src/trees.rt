@@ -2,9 +2,9 @@
 
 use crate::found::{Probe, all_are_found};
 use crate::texts::say;
-use leaf_expr::{Expr, Part, Parts, push_expr};
+use leaf_expr::{Expr, ExprChild, Exprs, push_expr};
 use sample_core::{
-    Child, Memory, Sample, Samples, Ty, TyChild, has_type, print_type, print_value, same,
+    Memory, Sample, SampleChild, Samples, Ty, TyChild, has_type, print_type, print_value, same,
 };
 use std::alloc::Global;
 
@@ -46,7 +46,7 @@ fn is_taken_for_another(list: &Sample) -> bool {
 }
 
 fn event(alloc: Global) -> Option<Box<Sample>> {
-    let child = Child::new(alloc, Sample::Int(-5)).ok()?;
+    let child = SampleChild::new(alloc, Sample::Int(-5)).ok()?;
     Box::new(alloc, Sample::Event(child)).ok()
 }
 
@@ -66,11 +66,11 @@ fn printed_told(printed: Result<String, Memory>, out: &mut String) {
 
 fn exprs_told(alloc: Global, out: &mut String) {
     let mut all = Vec::new(alloc);
-    if let Ok(part) = Part::new(alloc, Expr::Input) {
+    if let Ok(part) = ExprChild::new(alloc, Expr::Input) {
         drop(all.push(Expr::Neg(part)));
     }
     drop(all.push(Expr::Param(7)));
-    if let Ok(all) = Parts::new(alloc, all) {
+    if let Ok(all) = Exprs::new(alloc, all) {
         let list = Expr::List(Ty::Int, all);
         drop(push_expr(out, &list));
         drop(list);

@@ -3,7 +3,7 @@
 use crate::found::{Probe, all_are_found};
 use crate::texts::{parted, say, say_at, type_in, value_in};
 use sample_core::{
-    Child, Memory, Sample, Samples, Ty, ValueFault, has_type, push_value, read_value, same,
+    Memory, Sample, SampleChild, Samples, Ty, ValueFault, has_type, push_value, read_value, same,
 };
 use std::alloc::Global;
 
@@ -91,7 +91,7 @@ fn parts_are_copied(sample: &Sample) -> bool {
     }
 }
 
-fn child_is_copied(child: &Child) -> bool {
+fn child_is_copied(child: &SampleChild) -> bool {
     match child.try_copy() {
         Ok(copy) => same(copy.get(), child.get()),
         Err(Memory) => false,

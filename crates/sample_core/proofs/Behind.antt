@@ -2,17 +2,17 @@
 use Rattle.std.proofs.Common.{◌≡◌, ℕ, ◌+◌, ◌≤◌, Bool, true, false, ◌&&◌, List, [], ◌∷◌, ◌++◌, length, refl, ap, sym, ◌∙◌, arith, append_assoc, length-append}
 use Rattle.std.specs.Prelude.{codes}
 use Rattle.std.specs.Fmt.{signed_decimal}
-use Rattle.sample_core.specs.Datum.{Datum, Datums, unit, truth, number, pair, no_event, event, list, end, more, elements, of_elements}
+use Rattle.sample_core.specs.Datum.{Datum, Datums, unit, bool, int, pair, no_event, event, list, end, more, elements, list_of}
 use Rattle.sample_core.specs.Spelling.{spelling, spellings}
-use Rattle.sample_core.specs.Spelled.{ends_in_word, row_ends_in_word}
+use Rattle.sample_core.specs.SpellsValue.{ends_in_word, row_ends_in_word}
 use Rattle.sample_core.specs.Words.{goes_on}
 
 abbrev mutual
   pub spelled : Datum → List ℕ → List ℕ
   spelled unit rest = codes "unit" ++ rest
-  spelled (truth true) rest = codes "true" ++ rest
-  spelled (truth false) rest = codes "false" ++ rest
-  spelled (number n) rest = signed_decimal n ++ rest
+  spelled (bool true) rest = codes "true" ++ rest
+  spelled (bool false) rest = codes "false" ++ rest
+  spelled (int n) rest = signed_decimal n ++ rest
   spelled (pair v w) rest = codes "(pair " ++ spelled v (32 ∷ spelled w (41 ∷ rest))
   spelled no_event rest = codes "none" ++ rest
   spelled (event v) rest = codes "(event " ++ spelled v (41 ∷ rest)
@@ -25,9 +25,9 @@ abbrev mutual
 mutual
   pub spelled_is : (v : Datum) (rest : List ℕ) → spelled v rest ≡ spelling v ++ rest
   spelled_is unit rest = refl
-  spelled_is (truth true) rest = refl
-  spelled_is (truth false) rest = refl
-  spelled_is (number n) rest = refl
+  spelled_is (bool true) rest = refl
+  spelled_is (bool false) rest = refl
+  spelled_is (int n) rest = refl
   spelled_is (pair v w) rest =
       ap (λ x. codes "(pair " ++ x) (spelled_is v (32 ∷ spelled w (41 ∷ rest)) ∙ ap (λ x. spelling v ++ 32 ∷ x) (spelled_is w (41 ∷ rest))) ∙ ap (λ x. codes "(pair " ++ x) (sym (append_assoc (spelling v) (32 ∷ spelling w ++ 41 ∷ []) rest ∙ ap (λ x. spelling v ++ 32 ∷ x) (append_assoc (spelling w) (41 ∷ []) rest)))
   spelled_is no_event rest = refl
@@ -45,7 +45,7 @@ pub row_longer : (vs : Datums) (rest : List ℕ) → length rest + length (eleme
 row_longer end rest = omega arith
 row_longer (more v vs) rest = omega (arith, longer v (all_spelled vs rest), row_longer vs rest)
 
-pub elements_back : (vs : Datums) → of_elements (elements vs) ≡ vs
+pub elements_back : (vs : Datums) → list_of (elements vs) ≡ vs
 elements_back end = refl
 elements_back (more v vs) = ap (more v) (elements_back vs)
 

@@ -1,28 +1,28 @@
 -- The elements of a list value: each is smaller than the value, and equal rows have equally many.
 use Rattle.std.proofs.Common.{◌≡◌, ℕ, zero, suc, ◌+◌, ◌<◌, List, [], ◌∷◌, length, get_or, drop, map, refl, ap, sym, ◌∙◌, arith}
 use Rattle.std.proofs.lemmas.List.{drop_more}
-use Rattle.sample_core.specs.Datum.{Datums, end, more, of_elements, datum_size, datums_size}
-use Rattle.sample_core.specs.Seen.{datum_of}
+use Rattle.sample_core.specs.Datum.{Datums, end, more, list_of, datum_size, datums_size}
+use Rattle.sample_core.specs.ValueView.{datum_of}
 use Rattle.sample_core.specs.declared.sample.Sample.{Sample}
 
 -- an element of a row is smaller than the row
-pub element_smaller : (all : List Sample) (i : ℕ) (s : Sample) → i < length all → datum_size (datum_of (get_or all i s)) < datums_size (of_elements (map datum_of all))
+pub element_smaller : (all : List Sample) (i : ℕ) (s : Sample) → i < length all → datum_size (datum_of (get_or all i s)) < datums_size (list_of (map datum_of all))
 element_smaller [] i s h = absurd (omega arith)
 element_smaller (x ∷ xs) zero s h = omega arith
 element_smaller (x ∷ xs) (suc i) s h = omega (arith, element_smaller xs i s (omega arith))
 
 -- the elements from the i-th on
-pub elements_from : (all : List Sample) (i : ℕ) (s : Sample) → i < length all → s ≡ get_or all i s → of_elements (map datum_of (drop i all)) ≡ more (datum_of s) (of_elements (map datum_of (drop (i + 1) all)))
-elements_from all i s h e = ap (λ x. of_elements (map datum_of x)) (drop_more all i s h) ∙ ap (λ x. more (datum_of x) (of_elements (map datum_of (drop (i + 1) all)))) (sym e)
+pub elements_from : (all : List Sample) (i : ℕ) (s : Sample) → i < length all → s ≡ get_or all i s → list_of (map datum_of (drop i all)) ≡ more (datum_of s) (list_of (map datum_of (drop (i + 1) all)))
+elements_from all i s h e = ap (λ x. list_of (map datum_of x)) (drop_more all i s h) ∙ ap (λ x. more (datum_of x) (list_of (map datum_of (drop (i + 1) all)))) (sym e)
 
 abbrev count : Datums → ℕ
 count end = 0
 count (more v vs) = suc (count vs)
 
-counted : (vs : List Sample) → count (of_elements (map datum_of vs)) ≡ length vs
+counted : (vs : List Sample) → count (list_of (map datum_of vs)) ≡ length vs
 counted [] = refl
 counted (v ∷ vs) = ap suc (counted vs)
 
 -- equal rows have equally many elements
-pub same_length : (vs us : List Sample) → of_elements (map datum_of vs) ≡ of_elements (map datum_of us) → length vs ≡ length us
+pub same_length : (vs us : List Sample) → list_of (map datum_of vs) ≡ list_of (map datum_of us) → length vs ≡ length us
 same_length vs us e = sym (counted vs) ∙ ap count e ∙ counted us

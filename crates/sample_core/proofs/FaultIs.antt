@@ -5,7 +5,7 @@ use Rattle.sample_core.specs.TypeTree.{TypeTree}
 use Rattle.sample_core.specs.Reading.{◌>>=◌, value_at, reading}
 use Rattle.sample_core.specs.Faults.{FirstFault}
 use Rattle.sample_core.specs.ReadingLaws.{FaultLaw, NoValueLaw}
-use Rattle.sample_core.specs.Spelled.{SpellsValue}
+use Rattle.sample_core.specs.SpellsValue.{SpellsValue}
 use Rattle.sample_core.specs.Spelling.{spelling}
 use Rattle.sample_core.proofs.ReadingIs.{reading_law, spells_read}
 use Rattle.sample_core.specs.declared.fault.ValueFault.{ValueFault}

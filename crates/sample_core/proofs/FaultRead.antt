@@ -4,10 +4,10 @@ use Rattle.std.specs.Prelude.{codes, bytes_eq}
 use Rattle.sample_core.specs.Datum.{Datums, elements}
 use Rattle.sample_core.specs.TypeTree.{TypeTree, unit_ty, bool_ty, int_ty, pair_ty, event_ty, list_ty}
 use Rattle.sample_core.specs.Number.{is_number, is_in_64}
-use Rattle.sample_core.specs.Spelled.{SpellsRow}
+use Rattle.sample_core.specs.SpellsValue.{SpellsRow}
 use Rattle.sample_core.specs.Words.{goes_on, word_of, form_word}
 use Rattle.sample_core.specs.Reading.{begins_value, wrong, behind_byte, behind_head, unit_at, truth_at, number_at, elements_at, value_at}
-use Rattle.sample_core.specs.Faults.{begins_type, Wanted, value_of, the_byte, space_or_close, Leads, at_front, behind_pair, in_first, behind_first, in_second, behind_second, behind_event, in_event, behind_inner, behind_elements, in_element, Wrong, no_value, another_type, too_large, no_byte, neither}
+use Rattle.sample_core.specs.Faults.{begins_type, Expectation, a_value, a_byte, a_space_or_close, Leads, at_front, behind_pair, in_first, behind_first, in_second, behind_second, behind_event, in_event, behind_inner, behind_elements, in_element, Wrong, no_value, another_type, too_large, no_byte, neither}
 use Rattle.sample_core.specs.declared.fault.ValueFault.{ValueFault}
 use Rattle.sample_core.specs.declared.fault.ValueFault.TheVariants as Fault
 use Rattle.sample_core.proofs.Behind.{all_spelled, all_spelled_is, row_longer, row_apart}
@@ -63,12 +63,12 @@ large_refused : (size : ℕ) (bs : List ℕ) → is_number (word_of bs) ≡ true
 unfolding value_at number_at
 large_refused size bs h e = rw (h, e) refl
 
-front_read : (size : ℕ) (A : TypeTree) (bs : List ℕ) (f : ValueFault) → Wrong (value_of A) bs (size - length bs) f → value_at size A bs ≡ Err f
+front_read : (size : ℕ) (A : TypeTree) (bs : List ℕ) (f : ValueFault) → Wrong (a_value A) bs (size - length bs) f → value_at size A bs ≡ Err f
 front_read size A bs f (no_value e) = front_refused size A bs (not_begun A bs e) ∙ ap Err (wrong_none size bs e)
 front_read size A bs f (another_type h e) = front_refused size A bs e ∙ ap Err (wrong_other size bs h)
 front_read size A bs f (too_large h e) = large_refused size bs h e
 
-byte_read : (size b : ℕ) (rest : List ℕ) (f : ValueFault) → Wrong (the_byte b) rest (size - length rest) f → behind_byte size b rest ≡ Err f
+byte_read : (size b : ℕ) (rest : List ℕ) (f : ValueFault) → Wrong (a_byte b) rest (size - length rest) f → behind_byte size b rest ≡ Err f
 byte_read size b rest f (no_byte e) = byte_missing size b rest e
 
 space_here : (size : ℕ) (cs : List ℕ) → behind_byte size 32 (32 ∷ cs) ≡ Ok cs
@@ -89,7 +89,7 @@ row_room vs A cs ds s =
     let e : length cs ≡ length (all_spelled vs (32 ∷ ds)) = ap length (s.spells ∙ sym (all_spelled_is vs (32 ∷ ds))) in
     omega (arith, row_longer vs (32 ∷ ds))
 
-end_read : (size : ℕ) (A : TypeTree) (vs : Datums) (cs rest : List ℕ) (f : ValueFault) → SpellsRow vs A cs rest → Wrong space_or_close rest (size - length rest) f → value_at size (list_ty A) (codes "(list" ++ cs) ≡ Err f
+end_read : (size : ℕ) (A : TypeTree) (vs : Datums) (cs rest : List ℕ) (f : ValueFault) → SpellsRow vs A cs rest → Wrong a_space_or_close rest (size - length rest) f → value_at size (list_ty A) (codes "(list" ++ cs) ≡ Err f
 unfolding value_at
 end_read size A vs cs rest f s (neither d e) =
     let h : behind_head size (codes "list") (codes "(list" ++ cs) ≡ Ok cs = head_only size (codes "list") cs refl (row_begins vs A cs rest s) in
@@ -97,7 +97,7 @@ end_read size A vs cs rest f s (neither d e) =
     let b : behind_byte size 41 rest ≡ Err (Fault.NotAValue (size - length rest)) = byte_missing size 41 rest e in
     rw (h, r, b) refl
 
-pub fault_read : (size : ℕ) (A : TypeTree) (bs : List ℕ) (w : Wanted) (rest : List ℕ) (f : ValueFault) → Leads A bs w rest → Wrong w rest (size - length rest) f → value_at size A bs ≡ Err f
+pub fault_read : (size : ℕ) (A : TypeTree) (bs : List ℕ) (w : Expectation) (rest : List ℕ) (f : ValueFault) → Leads A bs w rest → Wrong w rest (size - length rest) f → value_at size A bs ≡ Err f
 unfolding value_at
 fault_read size A bs w rest f at_front x = front_read size A bs f x
 fault_read size A bs w rest f (behind_pair g) x =

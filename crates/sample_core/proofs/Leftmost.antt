@@ -1,15 +1,15 @@
 -- The place of a fault is the leftmost.
 use Rattle.std.proofs.Common.{◌≡◌, ℕ, ◌-◌, Bool, true, false, ◌&&◌, ◌||◌, nat_eq, List, [], ◌∷◌, ◌++◌, length, take, refl, sym, ap, ◌∙◌, subst, arith, Ok, Err, append_assoc, append-nil, pos}
 use Rattle.std.specs.Prelude.{codes, bytes_eq}
-use Rattle.sample_core.specs.Datum.{Datum, Datums, unit, truth, number, pair, no_event, event, list, end, more}
+use Rattle.sample_core.specs.Datum.{Datum, Datums, unit, bool, int, pair, no_event, event, list, end, more}
 use Rattle.sample_core.specs.TypeTree.{TypeTree, unit_ty, bool_ty, int_ty, pair_ty, event_ty, list_ty}
-use Rattle.sample_core.specs.HasType.{HasType, HaveType, unit_has, truth_has, number_has, pair_has, none_has, event_has, list_has, end_has, more_has}
+use Rattle.sample_core.specs.HasType.{HasType, HaveType, unit_has, bool_has, int_has, pair_has, no_event_has, event_has, list_has, end_has, more_has}
 use Rattle.sample_core.specs.Number.{is_number, is_in_64}
 use Rattle.sample_core.specs.Spelling.{spelling, spellings}
-use Rattle.sample_core.specs.Spelled.{SpellsValue, SpellsRow, ends_in_word, row_ends_in_word}
+use Rattle.sample_core.specs.SpellsValue.{SpellsValue, SpellsRow, ends_in_word, row_ends_in_word}
 use Rattle.sample_core.specs.Words.{goes_on, word_of, form_word}
 use Rattle.sample_core.specs.Reading.{begins_value, begins_with, value_at}
-use Rattle.sample_core.specs.Faults.{begins_type, Wanted, the_byte, Leads, at_front, behind_pair, in_first, behind_first, in_second, behind_second, behind_event, in_event, behind_inner, behind_elements, in_element, Wrong, no_value, another_type, too_large, no_byte, neither, SameThere}
+use Rattle.sample_core.specs.Faults.{begins_type, Expectation, a_byte, Leads, at_front, behind_pair, in_first, behind_first, in_second, behind_second, behind_event, in_event, behind_inner, behind_elements, in_element, Wrong, no_value, another_type, too_large, no_byte, neither, SameThere}
 use Rattle.sample_core.specs.ReadingLaws.{LeftmostLaw}
 use Rattle.sample_core.specs.declared.fault.ValueFault.{ValueFault}
 use Rattle.sample_core.specs.declared.fault.ValueFault.TheVariants as Fault
@@ -18,7 +18,7 @@ use Rattle.sample_core.proofs.FaultRead.{fault_read}
 use Rattle.sample_core.proofs.ReadingIs.{spells_read}
 
 -- the bytes before the place
-before_of : {A : TypeTree} {bs rest : List ℕ} {w : Wanted} → Leads A bs w rest → List ℕ
+before_of : {A : TypeTree} {bs rest : List ℕ} {w : Expectation} → Leads A bs w rest → List ℕ
 before_of at_front = []
 before_of (behind_pair g) = codes "(pair"
 before_of (in_first l) = codes "(pair " ++ before_of l
@@ -31,7 +31,7 @@ before_of (behind_inner {v = v} s) = codes "(event " ++ spelling v
 before_of (behind_elements {vs = vs} s) = codes "(list" ++ spellings vs
 before_of (in_element {vs = vs} s l) = codes "(list" ++ (spellings vs ++ 32 ∷ before_of l)
 
-is_before : {A : TypeTree} {bs rest : List ℕ} {w : Wanted} (l : Leads A bs w rest) → bs ≡ before_of l ++ rest
+is_before : {A : TypeTree} {bs rest : List ℕ} {w : Expectation} (l : Leads A bs w rest) → bs ≡ before_of l ++ rest
 unfolding before_of
 is_before at_front = refl
 is_before (behind_pair g) = refl
@@ -61,7 +61,7 @@ apart_there : (b : Bool) (rest after : List ℕ) → take 1 after ≡ take 1 res
 apart_there b rest after e h = ap (λ p. b && p) (goes_on_there rest after e) ∙ h
 
 -- with other bytes of the same front behind, the bytes lead to the same place
-leads_there : {A : TypeTree} {bs rest : List ℕ} {w : Wanted} (l : Leads A bs w rest) (after : List ℕ) → SameThere w rest after → Leads A (before_of l ++ after) w after
+leads_there : {A : TypeTree} {bs rest : List ℕ} {w : Expectation} (l : Leads A bs w rest) (after : List ℕ) → SameThere w rest after → Leads A (before_of l ++ after) w after
 unfolding before_of
 leads_there at_front after s = at_front
 leads_there {rest = rest} (behind_pair g) after e = behind_pair (goes_on_there rest after e ∙ g)
@@ -73,7 +73,7 @@ leads_there {w = w} (in_second {A = A} {B = B} {v = v} s l) after e =
 leads_there {rest = rest} (behind_second {A = A} {B = B} {v = v} {x = y} s t) after e =
     let i : SpellsValue v A (spelling v ++ 32 ∷ (spelling y ++ after)) (32 ∷ (spelling y ++ after)) = record { typed = s.typed; spells = refl; apart = kept_apart v (32 ∷ (spelling y ++ after)) refl } in
     let j : SpellsValue y B (spelling y ++ after) after = record { typed = t.typed; spells = refl; apart = apart_there (ends_in_word y) rest after e t.apart } in
-    subst (λ x. Leads (pair_ty A B) (codes "(pair " ++ x) (the_byte 41) after) (sym (append_assoc (spelling v) (32 ∷ spelling y) after)) (behind_second i j)
+    subst (λ x. Leads (pair_ty A B) (codes "(pair " ++ x) (a_byte 41) after) (sym (append_assoc (spelling v) (32 ∷ spelling y) after)) (behind_second i j)
 leads_there {rest = rest} (behind_event g) after e = behind_event (goes_on_there rest after e ∙ g)
 leads_there (in_event l) after e = in_event (leads_there l after e)
 leads_there {rest = rest} (behind_inner {v = v} s) after e = behind_inner (record { typed = s.typed; spells = refl; apart = apart_there (ends_in_word v) rest after e s.apart })
@@ -94,7 +94,7 @@ value_there : (rest after : List ℕ) → word_of after ≡ word_of rest → for
 value_there rest after d e = ap (λ x. bytes_eq x (codes "unit") || bytes_eq x (codes "true") || bytes_eq x (codes "false") || bytes_eq x (codes "none") || is_number x || bytes_eq (form_word after) (codes "pair") || bytes_eq (form_word after) (codes "event") || bytes_eq (form_word after) (codes "list")) d ∙ ap (λ x. bytes_eq (word_of rest) (codes "unit") || bytes_eq (word_of rest) (codes "true") || bytes_eq (word_of rest) (codes "false") || bytes_eq (word_of rest) (codes "none") || is_number (word_of rest) || bytes_eq x (codes "pair") || bytes_eq x (codes "event") || bytes_eq x (codes "list")) e
 
 -- with other bytes of the same front, something is wrong at the place too
-wrong_there : {w : Wanted} {rest : List ℕ} {p : ℕ} {f : ValueFault} → Wrong w rest p f → (after : List ℕ) → SameThere w rest after → (q : ℕ) → (g : ValueFault) × Wrong w after q g
+wrong_there : {w : Expectation} {rest : List ℕ} {p : ℕ} {f : ValueFault} → Wrong w rest p f → (after : List ℕ) → SameThere w rest after → (q : ℕ) → (g : ValueFault) × Wrong w after q g
 wrong_there {rest = rest} (no_value e) after s q = (Fault.NotAValue q, no_value (value_there rest after s.0 s.1 ∙ e))
 wrong_there {rest = rest} (another_type {A = A} d e) after s q = (Fault.OtherType q, another_type (value_there rest after s.0 s.1 ∙ d) (type_there A rest after s.0 s.1 ∙ e))
 wrong_there (too_large d e) after s q = (Fault.NumberRange q, too_large (ap is_number s.0 ∙ d) (ap is_in_64 s.0 ∙ e))
@@ -103,8 +103,8 @@ wrong_there {rest = rest} (neither d e) after s q = (Fault.NotAValue q, neither 
 
 some_value : TypeTree → Datum
 some_value unit_ty = unit
-some_value bool_ty = truth true
-some_value int_ty = number (pos 0)
+some_value bool_ty = bool true
+some_value int_ty = int (pos 0)
 some_value (pair_ty A B) = pair (some_value A) (some_value B)
 some_value (event_ty A) = no_event
 some_value (list_ty A) = list end
@@ -112,10 +112,10 @@ some_value (list_ty A) = list end
 some_typed : (A : TypeTree) → HasType (some_value A) A
 unfolding some_value
 some_typed unit_ty = unit_has
-some_typed bool_ty = truth_has
-some_typed int_ty = number_has (record { sfits = omega arith })
+some_typed bool_ty = bool_has
+some_typed int_ty = int_has (record { sfits = omega arith })
 some_typed (pair_ty A B) = pair_has (some_typed A) (some_typed B)
-some_typed (event_ty A) = none_has
+some_typed (event_ty A) = no_event_has
 some_typed (list_ty A) = list_has end_has
 
 one_behind : Datums → Datum → Datums
@@ -139,7 +139,7 @@ record Completes (A : TypeTree) (before : List ℕ) : Type 0 where
   typed : HasType value A
   spells : spelling value ≡ before ++ more_bytes
 
-completed : {A : TypeTree} {bs rest : List ℕ} {w : Wanted} (l : Leads A bs w rest) → Completes A (before_of l)
+completed : {A : TypeTree} {bs rest : List ℕ} {w : Expectation} (l : Leads A bs w rest) → Completes A (before_of l)
 unfolding before_of
 completed {A = A} at_front = record { value = some_value A; more_bytes = spelling (some_value A); typed = some_typed A; spells = refl }
 completed (behind_pair {A = A} {B = B} g) = record { value = pair (some_value A) (some_value B); more_bytes = 32 ∷ (spelling (some_value A) ++ 32 ∷ (spelling (some_value B) ++ codes ")")); typed = pair_has (some_typed A) (some_typed B); spells = refl }
@@ -161,7 +161,7 @@ completed (in_element {A = A} {vs = vs} s l) =
     let c : Completes A (before_of l) = completed l in
     record { value = list (one_behind vs c.value); more_bytes = c.more_bytes ++ codes ")"; typed = list_has (all_typed vs c.value s.typed c.typed); spells = ap (λ x. codes "(list" ++ x) (ap (λ x. x ++ codes ")") (all_spellings vs c.value) ∙ append_assoc (spellings vs) (32 ∷ spelling c.value) (codes ")") ∙ ap (λ x. spellings vs ++ 32 ∷ (x ++ codes ")")) c.spells ∙ ap (λ x. spellings vs ++ 32 ∷ x) (append_assoc (before_of l) c.more_bytes (codes ")")) ∙ sym (append_assoc (spellings vs) (32 ∷ before_of l) (c.more_bytes ++ codes ")"))) }
 
-no_value_goes_on : {A : TypeTree} {bs rest : List ℕ} {w : Wanted} {p : ℕ} {f : ValueFault} (l : Leads A bs w rest) → Wrong w rest p f → (after : List ℕ) → SameThere w rest after → (v : Datum) (behind : List ℕ) → SpellsValue v A (before_of l ++ after) behind → ⊥
+no_value_goes_on : {A : TypeTree} {bs rest : List ℕ} {w : Expectation} {p : ℕ} {f : ValueFault} (l : Leads A bs w rest) → Wrong w rest p f → (after : List ℕ) → SameThere w rest after → (v : Datum) (behind : List ℕ) → SpellsValue v A (before_of l ++ after) behind → ⊥
 no_value_goes_on {A = A} {w = w} l x after s v behind h =
     let g : (g : ValueFault) × Wrong w after (0 - length after) g = wrong_there x after s (0 - length after) in
     let e : value_at 0 A (before_of l ++ after) ≡ Err g.0 = fault_read 0 A (before_of l ++ after) w after g.0 (leads_there l after s) g.1 in

@@ -3,10 +3,10 @@ use Rattle.std.proofs.Common.{◌≡◌, ℕ, List, length, drop, Result, Ok, Er
 use Rattle.std.specs.Prelude.{IfOk, IfErr}
 use Rattle.sample_core.specs.TypeTree.{TypeTree}
 use Rattle.sample_core.specs.Spelling.{spelling}
-use Rattle.sample_core.specs.Spelled.{SpellsValue}
+use Rattle.sample_core.specs.SpellsValue.{SpellsValue}
 use Rattle.sample_core.specs.Reading.{Gives, Refuses, reading}
 use Rattle.sample_core.specs.Faults.{FaultOf}
-use Rattle.sample_core.specs.Seen.{datum_of}
+use Rattle.sample_core.specs.ValueView.{datum_of}
 use Rattle.sample_core.specs.declared.sample.Sample.{Sample}
 use Rattle.sample_core.specs.declared.fault.ValueFault.{ValueFault}
 use Rattle.sample_core.specs.declared.fault.ValueFault.TheVariants as Fault

@@ -4,7 +4,7 @@ use Rattle.std.proofs.lemmas.List.{drop_at}
 use Rattle.sample_core.specs.Datum.{Datum}
 use Rattle.sample_core.specs.TypeTree.{TypeTree}
 use Rattle.sample_core.specs.Spelling.{spelling}
-use Rattle.sample_core.specs.Spelled.{SpellsValue}
+use Rattle.sample_core.specs.SpellsValue.{SpellsValue}
 use Rattle.sample_core.specs.Reading.{value_at, reading}
 use Rattle.sample_core.specs.ReadingLaws.{ReadingLaw, OneValueLaw, ReadAgainLaw}
 use Rattle.sample_core.specs.declared.fault.ValueFault.{ValueFault}

@@ -3,12 +3,12 @@ use Rattle.std.proofs.Common.{◌≡◌, ℕ, zero, suc, ◌-◌, ◌≤◌, ◌
 use Rattle.std.specs.Prelude.{codes, bytes_eq}
 use Rattle.std.specs.Fmt.{signed_decimal}
 use Rattle.std.proofs.lemmas.Bool.{eqb-true}
-use Rattle.sample_core.specs.Datum.{Datum, unit, truth, number, pair, no_event, event, list, of_elements}
+use Rattle.sample_core.specs.Datum.{Datum, unit, bool, int, pair, no_event, event, list, list_of}
 use Rattle.sample_core.specs.TypeTree.{TypeTree, unit_ty, bool_ty, int_ty, pair_ty, event_ty, list_ty}
-use Rattle.sample_core.specs.HasType.{HasType, HaveType, unit_has, truth_has, number_has, pair_has, none_has, event_has, list_has, end_has, more_has}
+use Rattle.sample_core.specs.HasType.{HasType, HaveType, unit_has, bool_has, int_has, pair_has, no_event_has, event_has, list_has, end_has, more_has}
 use Rattle.sample_core.specs.Number.{is_number, is_in_64, number_of}
 use Rattle.sample_core.specs.Reading.{◌>>=◌, begins_with, wrong, behind_byte, behind_head, unit_at, truth_at, number_at, elements_at, value_at}
-use Rattle.sample_core.specs.Spelled.{ends_in_word}
+use Rattle.sample_core.specs.SpellsValue.{ends_in_word}
 use Rattle.sample_core.specs.Words.{goes_on, word_of, after_word, form_word, after_form}
 use Rattle.sample_core.specs.declared.fault.ValueFault.{ValueFault}
 use Rattle.sample_core.specs.declared.fault.ValueFault.TheVariants as Fault
@@ -60,9 +60,9 @@ pub record Is (A : TypeTree) (bs : List ℕ) (y : Datum × List ℕ) : Type 0 wh
 
 -- the same of a row of elements, behind which there is no space
 pub record AreElements (A : TypeTree) (bs : List ℕ) (y : List Datum × List ℕ) : Type 0 where
-  pub typed : HaveType (of_elements y.0) A
-  pub spells : bs ≡ all_spelled (of_elements y.0) y.1
-  pub apart : (last_ends_in_word (of_elements y.0) && goes_on y.1) ≡ false
+  pub typed : HaveType (list_of y.0) A
+  pub spells : bs ≡ all_spelled (list_of y.0) y.1
+  pub apart : (last_ends_in_word (list_of y.0) && goes_on y.1) ≡ false
   pub ended : begins_with 32 y.1 ≡ false
 
 unit_found : (size : ℕ) (bs : List ℕ) (y : Datum × List ℕ) → unit_at size bs ≡ Ok y → Is unit_ty bs y
@@ -75,28 +75,28 @@ unit_found size bs y e = go (if_is (bytes_eq (word_of bs) (codes "unit")) (Ok (u
 
 truth_found : (size : ℕ) (bs : List ℕ) (y : Datum × List ℕ) → truth_at size bs ≡ Ok y → Is bool_ty bs y
 unfolding truth_at
-truth_found size bs y e = go (if_is (bytes_eq (word_of bs) (codes "true")) (Ok (truth true, after_word bs)) (if bytes_eq (word_of bs) (codes "false") then Ok (truth false, after_word bs) else Err (wrong size bs)) (Ok y) e)
+truth_found size bs y e = go (if_is (bytes_eq (word_of bs) (codes "true")) (Ok (bool true, after_word bs)) (if bytes_eq (word_of bs) (codes "false") then Ok (bool false, after_word bs) else Err (wrong size bs)) (Ok y) e)
   where
-    go2 : ((bytes_eq (word_of bs) (codes "false") ≡ true) × ◌≡◌ {A = Result (Datum × List ℕ) ValueFault} (Ok (truth false, after_word bs)) (Ok y)) ⊎ ((bytes_eq (word_of bs) (codes "false") ≡ false) × ◌≡◌ {A = Result (Datum × List ℕ) ValueFault} (Err (wrong size bs)) (Ok y)) → Is bool_ty bs y
-    go2 (inl p) = subst (Is bool_ty bs) (ok_is p.1) (record { typed = truth_has; spells = at_word bs (codes "false") p.0; apart = (split bs).1 })
+    go2 : ((bytes_eq (word_of bs) (codes "false") ≡ true) × ◌≡◌ {A = Result (Datum × List ℕ) ValueFault} (Ok (bool false, after_word bs)) (Ok y)) ⊎ ((bytes_eq (word_of bs) (codes "false") ≡ false) × ◌≡◌ {A = Result (Datum × List ℕ) ValueFault} (Err (wrong size bs)) (Ok y)) → Is bool_ty bs y
+    go2 (inl p) = subst (Is bool_ty bs) (ok_is p.1) (record { typed = bool_has; spells = at_word bs (codes "false") p.0; apart = (split bs).1 })
     go2 (inr p) = absurd (not_ok p.1)
 
-    go : ((bytes_eq (word_of bs) (codes "true") ≡ true) × ◌≡◌ {A = Result (Datum × List ℕ) ValueFault} (Ok (truth true, after_word bs)) (Ok y)) ⊎ ((bytes_eq (word_of bs) (codes "true") ≡ false) × ((if bytes_eq (word_of bs) (codes "false") then Ok (truth false, after_word bs) else Err (wrong size bs)) ≡ Ok y)) → Is bool_ty bs y
-    go (inl p) = subst (Is bool_ty bs) (ok_is p.1) (record { typed = truth_has; spells = at_word bs (codes "true") p.0; apart = (split bs).1 })
-    go (inr p) = go2 (if_is (bytes_eq (word_of bs) (codes "false")) (Ok (truth false, after_word bs)) (Err (wrong size bs)) (Ok y) p.1)
+    go : ((bytes_eq (word_of bs) (codes "true") ≡ true) × ◌≡◌ {A = Result (Datum × List ℕ) ValueFault} (Ok (bool true, after_word bs)) (Ok y)) ⊎ ((bytes_eq (word_of bs) (codes "true") ≡ false) × ((if bytes_eq (word_of bs) (codes "false") then Ok (bool false, after_word bs) else Err (wrong size bs)) ≡ Ok y)) → Is bool_ty bs y
+    go (inl p) = subst (Is bool_ty bs) (ok_is p.1) (record { typed = bool_has; spells = at_word bs (codes "true") p.0; apart = (split bs).1 })
+    go (inr p) = go2 (if_is (bytes_eq (word_of bs) (codes "false")) (Ok (bool false, after_word bs)) (Err (wrong size bs)) (Ok y) p.1)
 
 number_found : (size : ℕ) (bs : List ℕ) (y : Datum × List ℕ) → number_at size bs ≡ Ok y → Is int_ty bs y
 unfolding number_at
-number_found size bs y e = go (if_is (is_number (word_of bs)) (if is_in_64 (word_of bs) then Ok (number (number_of (word_of bs)), after_word bs) else Err (Fault.NumberRange (size - length bs))) (Err (wrong size bs)) (Ok y) e)
+number_found size bs y e = go (if_is (is_number (word_of bs)) (if is_in_64 (word_of bs) then Ok (int (number_of (word_of bs)), after_word bs) else Err (Fault.NumberRange (size - length bs))) (Err (wrong size bs)) (Ok y) e)
   where
-    go2 : is_number (word_of bs) ≡ true → ((is_in_64 (word_of bs) ≡ true) × ◌≡◌ {A = Result (Datum × List ℕ) ValueFault} (Ok (number (number_of (word_of bs)), after_word bs)) (Ok y)) ⊎ ((is_in_64 (word_of bs) ≡ false) × ◌≡◌ {A = Result (Datum × List ℕ) ValueFault} (Err (Fault.NumberRange (size - length bs))) (Ok y)) → Is int_ty bs y
+    go2 : is_number (word_of bs) ≡ true → ((is_in_64 (word_of bs) ≡ true) × ◌≡◌ {A = Result (Datum × List ℕ) ValueFault} (Ok (int (number_of (word_of bs)), after_word bs)) (Ok y)) ⊎ ((is_in_64 (word_of bs) ≡ false) × ◌≡◌ {A = Result (Datum × List ℕ) ValueFault} (Err (Fault.NumberRange (size - length bs))) (Ok y)) → Is int_ty bs y
     go2 h (inl p) =
         let i : FitsSigned w64 (number_of (word_of bs)) × (word_of bs ≡ signed_decimal (number_of (word_of bs))) = integer_back (word_of bs) h p.0 in
-        subst (Is int_ty bs) (ok_is p.1) (record { typed = number_has i.0; spells = (split bs).0 ∙ ap (λ x. x ++ after_word bs) i.1; apart = (split bs).1 })
+        subst (Is int_ty bs) (ok_is p.1) (record { typed = int_has i.0; spells = (split bs).0 ∙ ap (λ x. x ++ after_word bs) i.1; apart = (split bs).1 })
     go2 h (inr p) = absurd (not_ok p.1)
 
-    go : ((is_number (word_of bs) ≡ true) × ((if is_in_64 (word_of bs) then Ok (number (number_of (word_of bs)), after_word bs) else Err (Fault.NumberRange (size - length bs))) ≡ Ok y)) ⊎ ((is_number (word_of bs) ≡ false) × ◌≡◌ {A = Result (Datum × List ℕ) ValueFault} (Err (wrong size bs)) (Ok y)) → Is int_ty bs y
-    go (inl p) = go2 p.0 (if_is (is_in_64 (word_of bs)) (Ok (number (number_of (word_of bs)), after_word bs)) (Err (Fault.NumberRange (size - length bs))) (Ok y) p.1)
+    go : ((is_number (word_of bs) ≡ true) × ((if is_in_64 (word_of bs) then Ok (int (number_of (word_of bs)), after_word bs) else Err (Fault.NumberRange (size - length bs))) ≡ Ok y)) ⊎ ((is_number (word_of bs) ≡ false) × ◌≡◌ {A = Result (Datum × List ℕ) ValueFault} (Err (wrong size bs)) (Ok y)) → Is int_ty bs y
+    go (inl p) = go2 p.0 (if_is (is_in_64 (word_of bs)) (Ok (int (number_of (word_of bs)), after_word bs)) (Err (Fault.NumberRange (size - length bs))) (Ok y) p.1)
     go (inr p) = absurd (not_ok p.1)
 
 behind_shorter : (v : Datum) (r bs : List ℕ) (n : ℕ) → bs ≡ spelled v r → suc (length bs) ≤ suc n → length r ≤ n
@@ -117,8 +117,8 @@ elements_found size A h (suc n) (b ∷ bs) y l e = go (if_is (nat_eq b 32) (valu
         let f : Is A bs a.0 = h bs a.0 a.1 in
         let m : length a.0.1 ≤ n = behind_shorter a.0.0 a.0.1 bs n f.spells l in
         let g : AreElements A a.0.1 c.0 = next a.0.1 c.0 m c.1 in
-        let d : (ends_in_word a.0.0 && goes_on (all_spelled (of_elements c.0.0) c.0.1)) ≡ false = rw (← g.spells) f.apart in
-        subst (AreElements A (b ∷ bs)) (ok_is c.2) (record { typed = more_has f.typed g.typed; spells = ap (λ x. x ∷ bs) i ∙ ap (λ x. 32 ∷ x) (f.spells ∙ ap (spelled a.0.0) g.spells); apart = more_apart a.0.0 (of_elements c.0.0) c.0.1 d g.apart; ended = g.ended })
+        let d : (ends_in_word a.0.0 && goes_on (all_spelled (list_of c.0.0) c.0.1)) ≡ false = rw (← g.spells) f.apart in
+        subst (AreElements A (b ∷ bs)) (ok_is c.2) (record { typed = more_has f.typed g.typed; spells = ap (λ x. x ∷ bs) i ∙ ap (λ x. 32 ∷ x) (f.spells ∙ ap (spelled a.0.0) g.spells); apart = more_apart a.0.0 (list_of c.0.0) c.0.1 d g.apart; ended = g.ended })
     go (inr p) next = subst (AreElements A (b ∷ bs)) (ok_is p.1) (record { typed = end_has; spells = refl; apart = refl; ended = p.0 })
 
 pair_found : (size : ℕ) (A B : TypeTree) (bs hs vs cs rest : List ℕ) (v w : Datum × List ℕ) → behind_head size (codes "pair") bs ≡ Ok hs → behind_byte size 32 hs ≡ Ok vs → Is A vs v → behind_byte size 32 v.1 ≡ Ok cs → Is B cs w → behind_byte size 41 w.1 ≡ Ok rest → Is (pair_ty A B) bs (pair v.0 w.0, rest)
@@ -143,7 +143,7 @@ value_found size (pair_ty A B) bs y e =
 value_found size (event_ty A) bs y e = go (if_is (bytes_eq (word_of bs) (codes "none")) (Ok (no_event, after_word bs)) _ (Ok y) e) (value_found size A)
   where
     go : ((bytes_eq (word_of bs) (codes "none") ≡ true) × ◌≡◌ {A = Result (Datum × List ℕ) ValueFault} (Ok (no_event, after_word bs)) (Ok y)) ⊎ ((bytes_eq (word_of bs) (codes "none") ≡ false) × ((behind_head size (codes "event") bs >>= (λ cs. behind_byte size 32 cs >>= (λ ds. value_at size A ds >>= (λ v. behind_byte size 41 v.1 >>= (λ rest. Ok (event v.0, rest)))))) ≡ Ok y)) → ((cs : List ℕ) (z : Datum × List ℕ) → value_at size A cs ≡ Ok z → Is A cs z) → Is (event_ty A) bs y
-    go (inl p) inner = subst (Is (event_ty A) bs) (ok_is p.1) (record { typed = none_has; spells = at_word bs (codes "none") p.0; apart = (split bs).1 })
+    go (inl p) inner = subst (Is (event_ty A) bs) (ok_is p.1) (record { typed = no_event_has; spells = at_word bs (codes "none") p.0; apart = (split bs).1 })
     go (inr p) inner =
         let h : (hs : List ℕ) × (behind_head size (codes "event") bs ≡ Ok hs) × ((behind_byte size 32 hs >>= (λ ds. value_at size A ds >>= (λ v. behind_byte size 41 v.1 >>= (λ rest. Ok (event v.0, rest))))) ≡ Ok y) = bind_ok (behind_head size (codes "event") bs) _ y p.1 in
         let a : (cs : List ℕ) × (behind_byte size 32 h.0 ≡ Ok cs) × ((value_at size A cs >>= (λ v. behind_byte size 41 v.1 >>= (λ rest. Ok (event v.0, rest)))) ≡ Ok y) = bind_ok (behind_byte size 32 h.0) _ y h.2 in
@@ -153,9 +153,9 @@ value_found size (event_ty A) bs y e = go (if_is (bytes_eq (word_of bs) (codes "
         let s : bs ≡ spelled (event b.0.0) f.0 = (head_found size 101 (118 ∷ 101 ∷ 110 ∷ 116 ∷ []) bs h.0 h.1).0 ∙ ap (λ x. 40 ∷ 101 ∷ 118 ∷ 101 ∷ 110 ∷ 116 ∷ x) (byte_found size 32 h.0 a.0 a.1 ∙ ap (λ x. 32 ∷ x) (i.spells ∙ ap (spelled b.0.0) (byte_found size 41 b.0.1 f.0 f.1))) in
         subst (Is (event_ty A) bs) (ok_is f.2) (record { typed = event_has i.typed; spells = s; apart = refl })
 value_found size (list_ty A) bs y e =
-    let h : (hs : List ℕ) × (behind_head size (codes "list") bs ≡ Ok hs) × ((elements_at (value_at size A) (length hs) hs >>= (λ vs. behind_byte size 41 vs.1 >>= (λ rest. Ok (list (of_elements vs.0), rest)))) ≡ Ok y) = bind_ok (behind_head size (codes "list") bs) _ y e in
-    let a : (vs : List Datum × List ℕ) × (elements_at (value_at size A) (length h.0) h.0 ≡ Ok vs) × ((behind_byte size 41 vs.1 >>= (λ rest. Ok (list (of_elements vs.0), rest))) ≡ Ok y) = bind_ok (elements_at (value_at size A) (length h.0) h.0) _ y h.2 in
-    let f : (es : List ℕ) × (behind_byte size 41 a.0.1 ≡ Ok es) × ◌≡◌ {A = Result (Datum × List ℕ) ValueFault} (Ok (list (of_elements a.0.0), es)) (Ok y) = bind_ok (behind_byte size 41 a.0.1) _ y a.2 in
+    let h : (hs : List ℕ) × (behind_head size (codes "list") bs ≡ Ok hs) × ((elements_at (value_at size A) (length hs) hs >>= (λ vs. behind_byte size 41 vs.1 >>= (λ rest. Ok (list (list_of vs.0), rest)))) ≡ Ok y) = bind_ok (behind_head size (codes "list") bs) _ y e in
+    let a : (vs : List Datum × List ℕ) × (elements_at (value_at size A) (length h.0) h.0 ≡ Ok vs) × ((behind_byte size 41 vs.1 >>= (λ rest. Ok (list (list_of vs.0), rest))) ≡ Ok y) = bind_ok (elements_at (value_at size A) (length h.0) h.0) _ y h.2 in
+    let f : (es : List ℕ) × (behind_byte size 41 a.0.1 ≡ Ok es) × ◌≡◌ {A = Result (Datum × List ℕ) ValueFault} (Ok (list (list_of a.0.0), es)) (Ok y) = bind_ok (behind_byte size 41 a.0.1) _ y a.2 in
     let i : AreElements A h.0 a.0 = elements_found size A (value_found size A) (length h.0) h.0 a.0 (omega arith) a.1 in
-    let s : bs ≡ spelled (list (of_elements a.0.0)) f.0 = (head_found size 108 (105 ∷ 115 ∷ 116 ∷ []) bs h.0 h.1).0 ∙ ap (λ x. 40 ∷ 108 ∷ 105 ∷ 115 ∷ 116 ∷ x) (i.spells ∙ ap (all_spelled (of_elements a.0.0)) (byte_found size 41 a.0.1 f.0 f.1)) in
+    let s : bs ≡ spelled (list (list_of a.0.0)) f.0 = (head_found size 108 (105 ∷ 115 ∷ 116 ∷ []) bs h.0 h.1).0 ∙ ap (λ x. 40 ∷ 108 ∷ 105 ∷ 115 ∷ 116 ∷ x) (i.spells ∙ ap (all_spelled (list_of a.0.0)) (byte_found size 41 a.0.1 f.0 f.1)) in
     subst (Is (list_ty A) bs) (ok_is f.2) (record { typed = list_has i.typed; spells = s; apart = refl })

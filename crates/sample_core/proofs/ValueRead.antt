@@ -3,12 +3,12 @@ use Rattle.std.proofs.Common.{◌≡◌, ℕ, ◌-◌, ◌≤◌, true, false, �
 use Rattle.std.specs.Prelude.{codes, bytes_eq}
 use Rattle.std.specs.Fmt.{signed_decimal}
 use Rattle.std.proofs.lemmas.Slice.Eq.{bytes_eq-Decides}
-use Rattle.sample_core.specs.Datum.{Datum, Datums, number, list, elements}
+use Rattle.sample_core.specs.Datum.{Datum, Datums, int, list, elements}
 use Rattle.sample_core.specs.TypeTree.{TypeTree, int_ty}
-use Rattle.sample_core.specs.HasType.{HasType, HaveType, unit_has, truth_has, number_has, pair_has, none_has, event_has, list_has, end_has, more_has}
+use Rattle.sample_core.specs.HasType.{HasType, HaveType, unit_has, bool_has, int_has, pair_has, no_event_has, event_has, list_has, end_has, more_has}
 use Rattle.sample_core.specs.Number.{is_number, is_in_64}
 use Rattle.sample_core.specs.Reading.{begins_with, behind_byte, behind_head, unit_at, truth_at, number_at, elements_at, value_at}
-use Rattle.sample_core.specs.Spelled.{ends_in_word}
+use Rattle.sample_core.specs.SpellsValue.{ends_in_word}
 use Rattle.sample_core.specs.Words.{goes_on, word_of, after_word}
 use Rattle.sample_core.specs.declared.fault.ValueFault.TheVariants as Fault
 use Rattle.sample_core.proofs.Behind.{spelled, all_spelled, longer, elements_back, kept_apart, last_ends_in_word, row_parted, last_kept_apart, first_apart, others_apart}
@@ -29,7 +29,7 @@ unfolding behind_byte
 byte_missing size b [] e = ap (λ p. Err (Fault.NotAValue p)) (omega arith)
 byte_missing size b (c ∷ cs) e = rw e refl
 
-number_only : (size : ℕ) (z : ℤ) (rest : List ℕ) → FitsSigned w64 z → goes_on rest ≡ false → value_at size int_ty (signed_decimal z ++ rest) ≡ Ok (number z, rest)
+number_only : (size : ℕ) (z : ℤ) (rest : List ℕ) → FitsSigned w64 z → goes_on rest ≡ false → value_at size int_ty (signed_decimal z ++ rest) ≡ Ok (int z, rest)
 unfolding value_at number_at
 number_only size z rest f e =
     let w : word_of (signed_decimal z ++ rest) ≡ signed_decimal z = word_all (signed_decimal z) rest (number_is_word z f) e in
@@ -37,22 +37,22 @@ number_only size z rest f e =
     let s : Spells64 (signed_decimal z) z = integer_spelled z f in
     let s0 : is_number (signed_decimal z) ≡ true = s.word in
     let s1 : is_in_64 (signed_decimal z) ≡ true = s.fits in
-    rw (w, b) (rw (s0, s1) (ap (λ n. Ok (number n, rest)) s.value))
+    rw (w, b) (rw (s0, s1) (ap (λ n. Ok (int n, rest)) s.value))
 
 mutual
   unfolding value_at unit_at truth_at behind_byte
 
   pub value_only : (size : ℕ) (v : Datum) (A : TypeTree) (rest : List ℕ) → HasType v A → (ends_in_word v && goes_on rest) ≡ false → value_at size A (spelled v rest) ≡ Ok (v, rest)
   value_only size v A rest unit_has e = rw (no_word rest e, all_behind rest e) refl
-  value_only size v A rest (truth_has {b = true}) e = rw (no_word rest e, all_behind rest e) refl
-  value_only size v A rest (truth_has {b = false}) e = rw (no_word rest e, all_behind rest e) refl
-  value_only size v A rest (number_has {n = n} f) e = number_only size n rest f e
+  value_only size v A rest (bool_has {b = true}) e = rw (no_word rest e, all_behind rest e) refl
+  value_only size v A rest (bool_has {b = false}) e = rw (no_word rest e, all_behind rest e) refl
+  value_only size v A rest (int_has {n = n} f) e = number_only size n rest f e
   value_only size v A rest (pair_has {v = a} {w = b} {A = B} {B = C} h k) e =
       let g : behind_head size (codes "pair") (codes "(pair " ++ spelled a (32 ∷ spelled b (41 ∷ rest))) ≡ Ok (32 ∷ spelled a (32 ∷ spelled b (41 ∷ rest))) = head_only size (codes "pair") (32 ∷ spelled a (32 ∷ spelled b (41 ∷ rest))) refl refl in
       let i : value_at size B (spelled a (32 ∷ spelled b (41 ∷ rest))) ≡ Ok (a, 32 ∷ spelled b (41 ∷ rest)) = value_only size a B (32 ∷ spelled b (41 ∷ rest)) h (kept_apart a (32 ∷ spelled b (41 ∷ rest)) refl) in
       let j : value_at size C (spelled b (41 ∷ rest)) ≡ Ok (b, 41 ∷ rest) = value_only size b C (41 ∷ rest) k (kept_apart b (41 ∷ rest) refl) in
       rw (g, i, j) refl
-  value_only size v A rest none_has e = rw (no_word rest e, all_behind rest e) refl
+  value_only size v A rest no_event_has e = rw (no_word rest e, all_behind rest e) refl
   value_only size v A rest (event_has {v = a} {A = B} h) e =
       let g : behind_head size (codes "event") (codes "(event " ++ spelled a (41 ∷ rest)) ≡ Ok (32 ∷ spelled a (41 ∷ rest)) = head_only size (codes "event") (32 ∷ spelled a (41 ∷ rest)) refl refl in
       let i : value_at size B (spelled a (41 ∷ rest)) ≡ Ok (a, 41 ∷ rest) = value_only size a B (41 ∷ rest) h (kept_apart a (41 ∷ rest) refl) in

@@ -5,8 +5,8 @@ mutual
   -- a value: what a sample holds
   pub data Datum : Type 0 where
     unit : Datum
-    truth : Bool → Datum
-    number : ℤ → Datum
+    bool : Bool → Datum
+    int : ℤ → Datum
     pair : Datum → Datum → Datum
     no_event : Datum
     event : Datum → Datum
@@ -23,9 +23,9 @@ elements end = []
 elements (more v vs) = v ∷ elements vs
 
 -- a list as the elements of a list value
-abbrev pub of_elements : List Datum → Datums
-of_elements [] = end
-of_elements (v ∷ vs) = more v (of_elements vs)
+abbrev pub list_of : List Datum → Datums
+list_of [] = end
+list_of (v ∷ vs) = more v (list_of vs)
 
 -- the first part of a pair; a value that is no pair is its own part
 abbrev pub left : Datum → Datum
@@ -38,16 +38,16 @@ right (pair v w) = w
 right v = v
 
 -- the number of a number value; 0 of another
-abbrev pub whole : Datum → ℤ
-whole (number n) = n
-whole v = pos 0
+abbrev pub int_of : Datum → ℤ
+int_of (int n) = n
+int_of v = pos 0
 
 -- how many forms stand inside one another: what falls in a recursion
 abbrev mutual
   pub datum_size : Datum → ℕ
   datum_size unit = 0
-  datum_size (truth b) = 0
-  datum_size (number n) = 0
+  datum_size (bool b) = 0
+  datum_size (int n) = 0
   datum_size (pair v w) = suc (datum_size v + datum_size w)
   datum_size no_event = 0
   datum_size (event v) = suc (datum_size v)

@@ -4,16 +4,16 @@ use Rattle.std.proofs.Common.{ap}
 use Rattle.std.specs.Coded.{Coded, code_by}
 use base.Stored.{Gv, gnil, gnum, gcons, num}
 use denote.Struct.Codes.{itself}
-use Rattle.sample_core.specs.Datum.{Datum, Datums, unit, truth, number, pair, no_event, event, list, end, more}
+use Rattle.sample_core.specs.Datum.{Datum, Datums, unit, bool, int, pair, no_event, event, list, end, more}
 
 abbrev mutual
   -- a value's code: the number of its form, and then its parts
   pub to_code : Datum → Gv
   to_code unit = gcons (gnum 0) (gcons gnil gnil)
-  to_code (truth true) = gcons (gnum 1) (gcons gnil gnil)
-  to_code (truth false) = gcons (gnum 2) (gcons gnil gnil)
-  to_code (number (pos n)) = gcons (gnum 3) (gcons (gnum n) gnil)
-  to_code (number (negsuc n)) = gcons (gnum 4) (gcons (gnum n) gnil)
+  to_code (bool true) = gcons (gnum 1) (gcons gnil gnil)
+  to_code (bool false) = gcons (gnum 2) (gcons gnil gnil)
+  to_code (int (pos n)) = gcons (gnum 3) (gcons (gnum n) gnil)
+  to_code (int (negsuc n)) = gcons (gnum 4) (gcons (gnum n) gnil)
   to_code (pair v w) = gcons (gnum 5) (gcons (to_code v) (to_code w))
   to_code no_event = gcons (gnum 6) (gcons gnil gnil)
   to_code (event v) = gcons (gnum 7) (gcons (to_code v) gnil)
@@ -25,16 +25,16 @@ abbrev mutual
   to_codes (more v vs) = gcons (to_code v) (to_codes vs)
 
 -- the value of the form with that number, from the parts given
-abbrev pub made : ℕ → ℕ → Datum → Datum → Datums → Datum
-made zero n v w vs = unit
-made (suc zero) n v w vs = truth true
-made (suc (suc zero)) n v w vs = truth false
-made (suc (suc (suc zero))) n v w vs = number (pos n)
-made (suc (suc (suc (suc zero)))) n v w vs = number (negsuc n)
-made (suc (suc (suc (suc (suc zero))))) n v w vs = pair v w
-made (suc (suc (suc (suc (suc (suc zero)))))) n v w vs = no_event
-made (suc (suc (suc (suc (suc (suc (suc zero))))))) n v w vs = event v
-made (suc (suc (suc (suc (suc (suc (suc (suc k)))))))) n v w vs = list vs
+abbrev pub value_of_form : ℕ → ℕ → Datum → Datum → Datums → Datum
+value_of_form zero n v w vs = unit
+value_of_form (suc zero) n v w vs = bool true
+value_of_form (suc (suc zero)) n v w vs = bool false
+value_of_form (suc (suc (suc zero))) n v w vs = int (pos n)
+value_of_form (suc (suc (suc (suc zero)))) n v w vs = int (negsuc n)
+value_of_form (suc (suc (suc (suc (suc zero))))) n v w vs = pair v w
+value_of_form (suc (suc (suc (suc (suc (suc zero)))))) n v w vs = no_event
+value_of_form (suc (suc (suc (suc (suc (suc (suc zero))))))) n v w vs = event v
+value_of_form (suc (suc (suc (suc (suc (suc (suc (suc k)))))))) n v w vs = list vs
 
 abbrev mutual
   -- the value that a code stands for
@@ -43,7 +43,7 @@ abbrev mutual
   of_code (gnum n) = unit
   of_code (gcons t gnil) = unit
   of_code (gcons t (gnum n)) = unit
-  of_code (gcons t (gcons a b)) = made (num t) (num a) (of_code a) (of_code b) (of_codes a)
+  of_code (gcons t (gcons a b)) = value_of_form (num t) (num a) (of_code a) (of_code b) (of_codes a)
 
   -- the elements that a code stands for
   pub of_codes : Gv → Datums
@@ -55,10 +55,10 @@ mutual
   -- a value's code stands for that value
   pub of_code-to_code : (v : Datum) → of_code (to_code v) ≡ v
   of_code-to_code unit = refl
-  of_code-to_code (truth true) = refl
-  of_code-to_code (truth false) = refl
-  of_code-to_code (number (pos n)) = refl
-  of_code-to_code (number (negsuc n)) = refl
+  of_code-to_code (bool true) = refl
+  of_code-to_code (bool false) = refl
+  of_code-to_code (int (pos n)) = refl
+  of_code-to_code (int (negsuc n)) = refl
   of_code-to_code (pair v w) = λ i. pair (of_code-to_code v i) (of_code-to_code w i)
   of_code-to_code no_event = refl
   of_code-to_code (event v) = ap event (of_code-to_code v)

@@ -1,17 +1,17 @@
 -- Which values are of which type.
 use Rattle.std.specs.Prelude.{ℤ, Bool, FitsSigned, List, [], ◌∷◌}
 use Rattle.std.specs.Int.{w64}
-use Rattle.sample_core.specs.Datum.{Datum, Datums, unit, truth, number, pair, no_event, event, list, end, more}
+use Rattle.sample_core.specs.Datum.{Datum, Datums, unit, bool, int, pair, no_event, event, list, end, more}
 use Rattle.sample_core.specs.TypeTree.{TypeTree, unit_ty, bool_ty, int_ty, pair_ty, event_ty, list_ty}
 
 mutual
   -- a value is of a type: a number has 64 bits, signed; no event and the empty list are of every event and list type
   pub data HasType : Datum → TypeTree → Type 0 where
     unit_has : HasType unit unit_ty
-    truth_has : {b : Bool} → HasType (truth b) bool_ty
-    number_has : {n : ℤ} → FitsSigned w64 n → HasType (number n) int_ty
+    bool_has : {b : Bool} → HasType (bool b) bool_ty
+    int_has : {n : ℤ} → FitsSigned w64 n → HasType (int n) int_ty
     pair_has : {v w : Datum} {A B : TypeTree} → HasType v A → HasType w B → HasType (pair v w) (pair_ty A B)
-    none_has : {A : TypeTree} → HasType no_event (event_ty A)
+    no_event_has : {A : TypeTree} → HasType no_event (event_ty A)
     event_has : {v : Datum} {A : TypeTree} → HasType v A → HasType (event v) (event_ty A)
     list_has : {vs : Datums} {A : TypeTree} → HaveType vs A → HasType (list vs) (list_ty A)
 

@@ -1,6 +1,6 @@
 -- Reading one value off the front of bytes: the value and what is behind it, or the first fault.
 use Rattle.std.specs.Prelude.{◌≡◌, ℕ, zero, suc, ◌-◌, Bool, true, false, ◌||◌, nat_eq, List, [], ◌∷◌, length, Result, Ok, Err, if◌then◌else◌, bytes_eq, codes}
-use Rattle.sample_core.specs.Datum.{Datum, unit, truth, number, pair, no_event, event, list, of_elements}
+use Rattle.sample_core.specs.Datum.{Datum, unit, bool, int, pair, no_event, event, list, list_of}
 use Rattle.sample_core.specs.TypeTree.{TypeTree, unit_ty, bool_ty, int_ty, pair_ty, event_ty, list_ty}
 use Rattle.sample_core.specs.Number.{is_number, is_in_64, number_of}
 use Rattle.sample_core.specs.Words.{word_of, after_word, form_word, after_form}
@@ -13,7 +13,7 @@ abbrev pub ◌>>=◌ : {A B : Type 0} → Result A ValueFault → (A → Result 
 (Ok x) >>= f = f x
 (Err e) >>= f = Err e
 
--- a fault that reading has; want of memory says nothing of the bytes
+-- a fault that reading has; `Memory` says nothing of the bytes
 abbrev pub Refuses : {Y : Type 0} → ValueFault → Result Y ValueFault → Type 0
 Refuses Fault.Memory read = Unit {0}
 Refuses (Fault.NotAValue p) read = read ≡ Err (Fault.NotAValue p)
@@ -48,11 +48,11 @@ unit_at size bs = if bytes_eq (word_of bs) (codes "unit") then Ok (unit, after_w
 
 -- `true` or `false` at the front, and what is behind it
 unfoldable pub truth_at : ℕ → List ℕ → Result (Datum × List ℕ) ValueFault
-truth_at size bs = if bytes_eq (word_of bs) (codes "true") then Ok (truth true, after_word bs) else (if bytes_eq (word_of bs) (codes "false") then Ok (truth false, after_word bs) else Err (wrong size bs))
+truth_at size bs = if bytes_eq (word_of bs) (codes "true") then Ok (bool true, after_word bs) else (if bytes_eq (word_of bs) (codes "false") then Ok (bool false, after_word bs) else Err (wrong size bs))
 
 -- a number of 64 bits at the front, and what is behind it
 unfoldable pub number_at : ℕ → List ℕ → Result (Datum × List ℕ) ValueFault
-number_at size bs = if is_number (word_of bs) then (if is_in_64 (word_of bs) then Ok (number (number_of (word_of bs)), after_word bs) else Err (Fault.NumberRange (size - length bs))) else Err (wrong size bs)
+number_at size bs = if is_number (word_of bs) then (if is_in_64 (word_of bs) then Ok (int (number_of (word_of bs)), after_word bs) else Err (Fault.NumberRange (size - length bs))) else Err (wrong size bs)
 
 -- whether the byte b stands in front
 abbrev pub begins_with : ℕ → List ℕ → Bool
@@ -76,7 +76,7 @@ value_at size bool_ty bs = truth_at size bs
 value_at size int_ty bs = number_at size bs
 value_at size (pair_ty A B) bs = behind_head size (codes "pair") bs >>= (λ cs. behind_byte size 32 cs >>= (λ ds. value_at size A ds >>= (λ v. behind_byte size 32 v.1 >>= (λ es. value_at size B es >>= (λ w. behind_byte size 41 w.1 >>= (λ rest. Ok (pair v.0 w.0, rest)))))))
 value_at size (event_ty A) bs = if bytes_eq (word_of bs) (codes "none") then Ok (no_event, after_word bs) else (behind_head size (codes "event") bs >>= (λ cs. behind_byte size 32 cs >>= (λ ds. value_at size A ds >>= (λ v. behind_byte size 41 v.1 >>= (λ rest. Ok (event v.0, rest))))))
-value_at size (list_ty A) bs = behind_head size (codes "list") bs >>= (λ cs. elements_at (value_at size A) (length cs) cs >>= (λ vs. behind_byte size 41 vs.1 >>= (λ rest. Ok (list (of_elements vs.0), rest))))
+value_at size (list_ty A) bs = behind_head size (codes "list") bs >>= (λ cs. elements_at (value_at size A) (length cs) cs >>= (λ vs. behind_byte size 41 vs.1 >>= (λ rest. Ok (list (list_of vs.0), rest))))
 
 -- a space, and behind it the value of the type, and what is behind that
 abbrev pub part_at : ℕ → TypeTree → List ℕ → Result (Datum × List ℕ) ValueFault

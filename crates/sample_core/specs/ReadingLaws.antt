@@ -5,7 +5,7 @@ use Rattle.sample_core.specs.TypeTree.{TypeTree}
 use Rattle.sample_core.specs.HasType.{HasType}
 use Rattle.sample_core.specs.Spelling.{spelling}
 use Rattle.sample_core.specs.Words.{goes_on}
-use Rattle.sample_core.specs.Spelled.{SpellsValue, ends_in_word}
+use Rattle.sample_core.specs.SpellsValue.{SpellsValue, ends_in_word}
 use Rattle.sample_core.specs.Reading.{reading}
 use Rattle.sample_core.specs.Faults.{FirstFault, IsLeftmost}
 use Rattle.sample_core.specs.declared.fault.ValueFault.{ValueFault}

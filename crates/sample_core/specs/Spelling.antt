@@ -1,16 +1,16 @@
 -- The one spelling of a value, and of a type.
 use Rattle.std.specs.Prelude.{ℕ, List, [], ◌++◌, codes, true, false}
 use Rattle.std.specs.Fmt.{signed_decimal}
-use Rattle.sample_core.specs.Datum.{Datum, Datums, unit, truth, number, pair, no_event, event, list, end, more}
+use Rattle.sample_core.specs.Datum.{Datum, Datums, unit, bool, int, pair, no_event, event, list, end, more}
 use Rattle.sample_core.specs.TypeTree.{TypeTree, unit_ty, bool_ty, int_ty, pair_ty, event_ty, list_ty}
 
 abbrev mutual
   -- the bytes of a value: a number is '0', or an optional '-' and digits of which the first is not 0
   pub spelling : Datum → List ℕ
   spelling unit = codes "unit"
-  spelling (truth true) = codes "true"
-  spelling (truth false) = codes "false"
-  spelling (number n) = signed_decimal n
+  spelling (bool true) = codes "true"
+  spelling (bool false) = codes "false"
+  spelling (int n) = signed_decimal n
   spelling (pair v w) = codes "(pair " ++ (spelling v ++ (codes " " ++ (spelling w ++ codes ")")))
   spelling no_event = codes "none"
   spelling (event v) = codes "(event " ++ (spelling v ++ codes ")")

@@ -16,13 +16,13 @@ to_code (event_ty t) = gcons (gnum 4) (gcons (to_code t) gnil)
 to_code (list_ty t) = gcons (gnum 5) (gcons (to_code t) gnil)
 
 -- the type of the form with that number, from the parts given
-abbrev pub made : ℕ → TypeTree → TypeTree → TypeTree
-made zero t u = unit_ty
-made (suc zero) t u = bool_ty
-made (suc (suc zero)) t u = int_ty
-made (suc (suc (suc zero))) t u = pair_ty t u
-made (suc (suc (suc (suc zero)))) t u = event_ty t
-made (suc (suc (suc (suc (suc k))))) t u = list_ty t
+abbrev pub type_of_form : ℕ → TypeTree → TypeTree → TypeTree
+type_of_form zero t u = unit_ty
+type_of_form (suc zero) t u = bool_ty
+type_of_form (suc (suc zero)) t u = int_ty
+type_of_form (suc (suc (suc zero))) t u = pair_ty t u
+type_of_form (suc (suc (suc (suc zero)))) t u = event_ty t
+type_of_form (suc (suc (suc (suc (suc k))))) t u = list_ty t
 
 -- the type that a code stands for
 abbrev pub of_code : Gv → TypeTree
@@ -30,7 +30,7 @@ of_code gnil = unit_ty
 of_code (gnum n) = unit_ty
 of_code (gcons t gnil) = unit_ty
 of_code (gcons t (gnum n)) = unit_ty
-of_code (gcons t (gcons a b)) = made (num t) (of_code a) (of_code b)
+of_code (gcons t (gcons a b)) = type_of_form (num t) (of_code a) (of_code b)
 
 -- a type's code stands for that type
 pub of_code-to_code : (t : TypeTree) → of_code (to_code t) ≡ t

@@ -1,11 +1,11 @@
 // When two values, or two types, are the same.
 
 ghost use Rattle.std.specs.Prelude.{◌≡◌, ◌↔◌, IsTrue};
-ghost use Rattle.sample_core.specs.Datum.{of_elements};
-ghost use Rattle.sample_core.specs.Seen.{datum_of};
-ghost use Rattle.sample_core.specs.SeenType.{type_of};
+ghost use Rattle.sample_core.specs.Datum.{list_of};
+ghost use Rattle.sample_core.specs.ValueView.{datum_of};
+ghost use Rattle.sample_core.specs.TypeView.{type_of};
 
-use crate::sample::{Child, Sample, Samples};
+use crate::sample::{Sample, SampleChild, Samples};
 use crate::ty::Ty;
 
 /// Whether the two values are equal, all their parts included. It takes no memory.
@@ -27,7 +27,7 @@ pub fn same(a: &Sample, b: &Sample) -> bool
 
 /// Whether the parts of two pairs are equal.
 #[cycle(same)]
-fn same_pair(v: &Child, w: &Child, x: &Child, y: &Child) -> bool
+fn same_pair(v: &SampleChild, w: &SampleChild, x: &SampleChild, y: &SampleChild) -> bool
     ensures { IsTrue result ↔ ((v.now ≡ x.now) × (w.now ≡ y.now)) }
 {
     same(v.get(), x.get()) && same(w.get(), y.get())
@@ -36,7 +36,7 @@ fn same_pair(v: &Child, w: &Child, x: &Child, y: &Child) -> bool
 /// Whether the elements of two lists are equal.
 #[cycle(same)]
 fn same_elements(vs: &Samples, xs: &Samples) -> bool
-    ensures { IsTrue result ↔ (of_elements vs.now ≡ of_elements xs.now) }
+    ensures { IsTrue result ↔ (list_of vs.now ≡ list_of xs.now) }
 {
     let vs = vs.as_slice();
     let xs = xs.as_slice();

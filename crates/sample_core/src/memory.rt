@@ -1,8 +1,8 @@
-// Want of memory, the one refusal that every call which allocates has.
+// `Memory`, the one refusal that every call which allocates has.
 
 use std::alloc::{AllocError, AllocFailed};
 
-/// Want of memory: a growth was refused, or a count of references is full.
+/// `Memory`: a growth was refused, or a count of references is full.
 #[derive(Clone, Copy, PartialEq, Eq, Debug)]
 pub struct Memory;
 

@@ -2,14 +2,14 @@
 
 ghost use Rattle.std.specs.Prelude.{◌≡◌, ◌++◌, IfOk, codes, string_bytes};
 ghost use Rattle.sample_core.specs.Adding.{Adds};
-ghost use Rattle.sample_core.specs.Datum.{pair, list, of_elements};
+ghost use Rattle.sample_core.specs.Datum.{pair, list, list_of};
 ghost use Rattle.sample_core.specs.TypeTree.{pair_ty};
-ghost use Rattle.sample_core.specs.Seen.{datum_of};
-ghost use Rattle.sample_core.specs.SeenType.{type_of};
+ghost use Rattle.sample_core.specs.ValueView.{datum_of};
+ghost use Rattle.sample_core.specs.TypeView.{type_of};
 ghost use Rattle.sample_core.specs.Spelling.{spelling, type_spelling};
 
 use crate::memory::Memory;
-use crate::sample::{Child, Sample, Samples};
+use crate::sample::{Sample, SampleChild, Samples};
 use crate::ty::{Ty, TyChild};
 use itoa::Buffer;
 use std::alloc::Global;
@@ -60,7 +60,7 @@ fn push_word(text: &mut String, word: &str) -> Result<(), Memory>
 
 /// A pair.
 #[cycle(push_value)]
-fn push_pair(text: &mut String, v: &Child, w: &Child) -> Result<(), Memory>
+fn push_pair(text: &mut String, v: &SampleChild, w: &SampleChild) -> Result<(), Memory>
     ensures { Adds result (string_bytes text.old) (string_bytes text.new) (spelling (pair v.now w.now)) }
 {
     push_word(text, "(pair ")?;
@@ -70,7 +70,7 @@ fn push_pair(text: &mut String, v: &Child, w: &Child) -> Result<(), Memory>
 
 /// The last part of a value, behind a word.
 #[cycle(push_value)]
-fn push_last(text: &mut String, word: &str, v: &Child) -> Result<(), Memory>
+fn push_last(text: &mut String, word: &str, v: &SampleChild) -> Result<(), Memory>
     ensures { Adds result (string_bytes text.old) (string_bytes text.new) (word.now ++ (spelling v.now ++ codes ")")) }
 {
     push_word(text, word)?;
@@ -81,7 +81,7 @@ fn push_last(text: &mut String, word: &str, v: &Child) -> Result<(), Memory>
 /// A list.
 #[cycle(push_value)]
 fn push_list(text: &mut String, all: &Samples) -> Result<(), Memory>
-    ensures { Adds result (string_bytes text.old) (string_bytes text.new) (spelling (list (of_elements all.now))) }
+    ensures { Adds result (string_bytes text.old) (string_bytes text.new) (spelling (list (list_of all.now))) }
 {
     push_word(text, "(list")?;
     for v in all.as_slice() {

@@ -3,15 +3,15 @@
 ghost use Rattle.std.specs.Prelude.{◌≡◌, ◌-◌, ◌≤◌, ◌∷◌, false, MatchOption, length, drop, map, IfOk, IfErr};
 ghost use Rattle.sample_core.specs.Reading.{Gives, begins_value, begins_with, wrong, behind_byte, behind_head, unit_at, truth_at, number_at, elements_at, closed_at, part_at, value_at, reading};
 ghost use Rattle.sample_core.specs.Faults.{FaultOf};
-ghost use Rattle.sample_core.specs.Seen.{datum_of};
-ghost use Rattle.sample_core.specs.SeenType.{type_of};
+ghost use Rattle.sample_core.specs.ValueView.{datum_of};
+ghost use Rattle.sample_core.specs.TypeView.{type_of};
 ghost use Rattle.sample_core.specs.TypeTree.{pair_ty, event_ty, list_ty};
-ghost use Rattle.sample_core.specs.Spelled.{SpellsValue};
+ghost use Rattle.sample_core.specs.SpellsValue.{SpellsValue};
 ghost use Rattle.sample_core.specs.Spelling.{spelling};
 
 use crate::fault::ValueFault;
 use crate::number::{is_number_spelling, number};
-use crate::sample::{Child, Sample, Samples};
+use crate::sample::{Sample, SampleChild, Samples};
 use crate::ty::{Ty, TyChild};
 use crate::words::{is_word, split_form, split_word};
 use std::alloc::Global;
@@ -267,13 +267,13 @@ fn part<'t>(
     size: usize,
     text: &'t [u8],
     ty: &TyChild,
-) -> Result<(Child, &'t [u8]), ValueFault>
+) -> Result<(SampleChild, &'t [u8]), ValueFault>
     ensures exact { Gives (λ x. (x.0, x.1.now)) result (part_at size ty.now text.now) }
     ensures shorter { IfOk result (λ x. length x.1.now ≤ length text.now) }
 {
     let rest = after_byte(size, text, b' ')?;
     let (inner, rest) = value(alloc, size, rest, ty.get())?;
-    Ok((Child::new(alloc, inner)?, rest))
+    Ok((SampleChild::new(alloc, inner)?, rest))
 }
 
 /// Elements of the type, each behind a space, as long as a space stands there; and what is behind

@@ -1,7 +1,7 @@
 // Values.
 
 ghost use Rattle.std.specs.Prelude.{◌≡◌, IfOk, map};
-ghost use Rattle.sample_core.specs.Seen.{datum_of};
+ghost use Rattle.sample_core.specs.ValueView.{datum_of};
 
 use crate::memory::Memory;
 use std::alloc::Global;
@@ -19,11 +19,11 @@ pub enum Sample {
     /// A signed number of 64 bits.
     Int(i64),
     /// `(pair v w)`.
-    Pair(Child, Child),
+    Pair(SampleChild, SampleChild),
     /// `none`, no event.
     NoEvent,
     /// `(event v)`, an event that carries v.
-    Event(Child),
+    Event(SampleChild),
     /// `(list v1 .. vn)`, of any length.
     List(Samples),
 }
@@ -31,7 +31,7 @@ pub enum Sample {
 /// A value inside a value. Contracts see it as the value's tree; copies share it.
 #[cycle(sample)]
 #[derive(Drop)]
-pub struct Child {
+pub struct SampleChild {
     inner: Rc<Sample>,
 }
 
@@ -42,7 +42,7 @@ pub struct Samples {
     all: Rc<Vec<Sample>>,
 }
 
-impl Model for Child {
+impl Model for SampleChild {
     ghost use Rattle.sample_core.specs.Datum.{Datum, datum_size};
     ghost use Rattle.sample_core.specs.DatumCode.{datum_code};
 
@@ -50,13 +50,13 @@ impl Model for Child {
 
     ghost coded = { datum_code };
 
-    ghost use Rattle.sample_core.specs.Seen.{datum_of};
+    ghost use Rattle.sample_core.specs.ValueView.{datum_of};
 
     ghost view = { λ a. datum_of a.inner.value };
 
     ghost size = { datum_size };
 
-    ghost use Rattle.sample_core.specs.Falls.{depth_le};
+    ghost use Rattle.sample_core.specs.Depth.{depth_le};
 
     ghost size_decreases = { λ a h. depth_le a.inner.value };
 }
@@ -64,32 +64,32 @@ impl Model for Child {
 impl Model for Samples {
     ghost use Rattle.std.specs.Prelude.{List, map};
     ghost use Rattle.std.specs.Coded.{coded_list};
-    ghost use Rattle.sample_core.specs.Datum.{Datum, of_elements, datums_size};
+    ghost use Rattle.sample_core.specs.Datum.{Datum, list_of, datums_size};
     ghost use Rattle.sample_core.specs.DatumCode.{datum_code};
 
     ghost Value = { List Datum };
 
     ghost coded = { coded_list datum_code };
 
-    ghost use Rattle.sample_core.specs.Seen.{datum_of};
+    ghost use Rattle.sample_core.specs.ValueView.{datum_of};
 
     ghost view = { λ a. map datum_of a.all.value.items };
 
-    ghost size = { λ vs. datums_size (of_elements vs) };
+    ghost size = { λ vs. datums_size (list_of vs) };
 
-    ghost use Rattle.sample_core.specs.Falls.{depths_le};
+    ghost use Rattle.sample_core.specs.Depth.{depths_le};
     ghost use Rattle.std.proofs.Common.{arith};
 
     ghost size_decreases = { λ a h. Prim.omega (arith, depths_le a.all.value.items) };
 }
 
-impl Child {
+impl SampleChild {
     /// The value as a part of another. `Memory` where a growth was refused.
-    pub fn new(alloc: Global, sample: Sample) -> Result<Child, Memory>
+    pub fn new(alloc: Global, sample: Sample) -> Result<SampleChild, Memory>
         ensures { IfOk result (λ c. c ≡ datum_of sample) }
     {
         let inner = Rc::new(alloc, sample)?;
-        Ok(Child { inner })
+        Ok(SampleChild { inner })
     }
 
     /// The value itself.
@@ -101,11 +101,11 @@ impl Child {
 
     /// The same value, shared. It takes no memory; `Memory` only where a count of references is
     /// full.
-    pub fn try_copy(&self) -> Result<Child, Memory>
+    pub fn try_copy(&self) -> Result<SampleChild, Memory>
         ensures { IfOk result (λ c. c ≡ self.now) }
     {
         let inner = self.inner.clone()?;
-        Ok(Child { inner })
+        Ok(SampleChild { inner })
     }
 }
 

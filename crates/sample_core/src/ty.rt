@@ -1,7 +1,7 @@
 // Types of values.
 
 ghost use Rattle.std.specs.Prelude.{◌≡◌, IfOk};
-ghost use Rattle.sample_core.specs.SeenType.{type_of};
+ghost use Rattle.sample_core.specs.TypeView.{type_of};
 
 use crate::memory::Memory;
 use std::alloc::Global;
@@ -41,7 +41,7 @@ impl Model for TyChild {
 
     ghost coded = { type_code };
 
-    ghost use Rattle.sample_core.specs.SeenType.{type_of};
+    ghost use Rattle.sample_core.specs.TypeView.{type_of};
 
     ghost view = { λ a. type_of a.inner.value };
 

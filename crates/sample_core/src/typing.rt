@@ -1,18 +1,18 @@
 // Which values are of which type.
 
 ghost use Rattle.std.specs.Prelude.{◌↔◌, IsTrue};
-ghost use Rattle.sample_core.specs.Datum.{of_elements};
+ghost use Rattle.sample_core.specs.Datum.{list_of};
 ghost use Rattle.sample_core.specs.HasType.{HasType, HaveType};
-ghost use Rattle.sample_core.specs.Seen.{datum_of};
-ghost use Rattle.sample_core.specs.SeenType.{type_of};
+ghost use Rattle.sample_core.specs.ValueView.{datum_of};
+ghost use Rattle.sample_core.specs.TypeView.{type_of};
 
-use crate::sample::{Child, Sample, Samples};
+use crate::sample::{Sample, SampleChild, Samples};
 use crate::ty::{Ty, TyChild};
 
 /// Whether the value is of the type, all its parts included. `none` is of every event type, and
 /// the empty list of every list type. It takes no memory.
 #[cycle(has_type)]
-#[tactic(auto, using(crate::proofs::HasTypeCases::pair_is, crate::proofs::HasTypeCases::event_is, crate::proofs::HasTypeCases::list_is, crate::specs::HasType::unit_has, crate::specs::HasType::truth_has, crate::specs::HasType::number_has, crate::specs::HasType::none_has))]
+#[tactic(auto, using(crate::proofs::HasTypeCases::pair_is, crate::proofs::HasTypeCases::event_is, crate::proofs::HasTypeCases::list_is, crate::specs::HasType::unit_has, crate::specs::HasType::bool_has, crate::specs::HasType::int_has, crate::specs::HasType::no_event_has))]
 pub fn has_type(sample: &Sample, ty: &Ty) -> bool
     ensures { IsTrue result ↔ HasType (datum_of sample.now) (type_of ty.now) }
 {
@@ -34,7 +34,7 @@ pub fn has_type(sample: &Sample, ty: &Ty) -> bool
 
 /// Whether two values are each of its type.
 #[cycle(has_type)]
-fn have_types(v: &Child, w: &Child, a: &TyChild, b: &TyChild) -> bool
+fn have_types(v: &SampleChild, w: &SampleChild, a: &TyChild, b: &TyChild) -> bool
     ensures { IsTrue result ↔ (HasType v.now a.now × HasType w.now b.now) }
 {
     has_type(v.get(), a.get()) && has_type(w.get(), b.get())
@@ -43,7 +43,7 @@ fn have_types(v: &Child, w: &Child, a: &TyChild, b: &TyChild) -> bool
 /// Whether each element is of the type.
 #[cycle(has_type)]
 fn have_type(all: &Samples, a: &TyChild) -> bool
-    ensures { IsTrue result ↔ HaveType (of_elements all.now) a.now }
+    ensures { IsTrue result ↔ HaveType (list_of all.now) a.now }
 {
     for v in all.as_slice() {
         if !has_type(v, a.get()) {

@@ -4,8 +4,8 @@ use Rattle.std.proofs.lemmas.Option.{slice_get_within, get_or_from_slice_get}
 use Rattle.std.proofs.lemmas.List.Elements.{All-cons, All-nil, Contains-get_or}
 use Rattle.leaf_core.specs.Expression.{Expression}
 use Rattle.leaf_core.specs.KeyTree.{KeyTree}
-use Rattle.net_syntax.specs.SeenNeed.{need_of}
-use Rattle.net_syntax.specs.Stream.{TypedNetwork}
+use Rattle.net_syntax.specs.NeedView.{need_of}
+use Rattle.net_syntax.specs.TypedNetwork.{TypedNetwork}
 use Rattle.net_syntax.specs.declared.need.LeafNeed.{LeafNeed}
 use Rattle.step_core.specs.declared.fault.BindFault.{BindFault}
 use Rattle.step_core.specs.declared.fault.BindFault.TheVariants as F
@@ -13,7 +13,7 @@ use Rattle.net_syntax.specs.Leaves.{Need, LeavesOf, arr_leaves, seq_leaves, i_pr
 use Rattle.net_syntax.specs.Network.{Network, arr, seq, i_pre}
 use Rattle.net_syntax.specs.Typing.{arr_typed, seq_typed, i_pre_typed}
 use Rattle.step_core.specs.RowTyping.{RowsTyped, network_by, expression_in}
-use Rattle.step_core.specs.Found.{AllFound, FirstMissing, Misses, Names, RowsFor, IsFirstRow, Lowered}
+use Rattle.step_core.specs.Lookup.{AllFound, FirstMissing, Misses, Names, RowsFor, IsFirstRow, LowersTo}
 
 -- the rows of two lists of needs, one behind the other
 record Parted (keys : List KeyTree) (ms ns : List Need) (ks : List ℕ) : Type 0 where
@@ -30,7 +30,7 @@ parted keys (m ∷ ms) ns (k ∷ ks) h =
     let r : Parted keys ms ns ks = parted keys ms ns ks h.1 in
     record { one = k ∷ r.one; two = r.two; first_rows = (h.0, r.first_rows); second_rows = r.second_rows; both = ap (λ l. k ∷ l) r.both }
 
-pub lowered_arr : (e : Expression) (rows : List ℕ) (k : ℕ) (rest : List ℕ) → IsFirstRow rows k rest → Lowered (arr e) rows (arr k) rest
+pub lowered_arr : (e : Expression) (rows : List ℕ) (k : ℕ) (rest : List ℕ) → IsFirstRow rows k rest → LowersTo (arr e) rows (arr k) rest
 lowered_arr e rows k rest f keys at A B ns [] js (arr_leaves h) r q = absurd r
 lowered_arr e rows k rest f keys at A B ns (j ∷ i ∷ ks) js (arr_leaves h) r q = absurd r.1
 lowered_arr e [] k rest f keys at A B ns (j ∷ []) js (arr_leaves h) r q = absurd (cc)
@@ -39,7 +39,7 @@ lowered_arr e (i ∷ rows) k rest f keys at A B ns (j ∷ []) js (arr_leaves h) 
     let row : slice_get keys k ≡ Some (record { expr = e; params = []; input = A }) = ap (slice_get keys) same ∙ r.0 in
     (arr_typed (record { expr = e; is_row = row; is_typed = h }), ap (λ o. arr (expression_in o)) row, f.1 ∙ (let e : rows ≡ js = cc in e))
 
-pub lowered_i_pre : (e : Expression) (rows : List ℕ) (k : ℕ) (rest : List ℕ) → IsFirstRow rows k rest → Lowered (i_pre e) rows (i_pre k) rest
+pub lowered_i_pre : (e : Expression) (rows : List ℕ) (k : ℕ) (rest : List ℕ) → IsFirstRow rows k rest → LowersTo (i_pre e) rows (i_pre k) rest
 lowered_i_pre e rows k rest f keys at A B ns [] js (i_pre_leaves h) r q = absurd r
 lowered_i_pre e rows k rest f keys at A B ns (j ∷ i ∷ ks) js (i_pre_leaves h) r q = absurd r.1
 lowered_i_pre e [] k rest f keys at A B ns (j ∷ []) js (i_pre_leaves h) r q = absurd (cc)
@@ -48,7 +48,7 @@ lowered_i_pre e (i ∷ rows) k rest f keys at A B ns (j ∷ []) js (i_pre_leaves
     let row : slice_get keys k ≡ Some (record { expr = e; params = []; input = _ }) = ap (slice_get keys) same ∙ r.0 in
     (i_pre_typed (record { expr = e; is_row = row; is_typed = h }), ap (λ o. i_pre (expression_in o)) row, f.1 ∙ (let e : rows ≡ js = cc in e))
 
-pub lowered_seq : (f g : Network Expression) (rows middle rest : List ℕ) (a b : Network ℕ) → Lowered f rows a middle → Lowered g middle b rest → Lowered (seq f g) rows (seq a b) rest
+pub lowered_seq : (f g : Network Expression) (rows middle rest : List ℕ) (a b : Network ℕ) → LowersTo f rows a middle → LowersTo g middle b rest → LowersTo (seq f g) rows (seq a b) rest
 lowered_seq f g rows middle rest a b hf hg keys at A C ns ks js (seq_leaves {B = B} {ms = ms} {ns = ns'} lf lg) r q =
     let p : Parted keys ms ns' ks = parted keys ms ns' ks r in
     let one = hf keys _ A B ms p.one (p.two ++ js) lf p.first_rows (q ∙ ap (λ l. l ++ js) p.both ∙ append_assoc p.one p.two js) in
@@ -56,14 +56,14 @@ lowered_seq f g rows middle rest a b hf hg keys at A C ns ks js (seq_leaves {B =
     (seq_typed one.0 two.0, ap₂ seq one.1 two.1, two.2)
 
 -- the same for a network that is one of these forms by an equation, as an arm of a match has it
-pub arr_lowered : (net : Network Expression) (e : Expression) (rows : List ℕ) (low : Network ℕ) (k : ℕ) (rest : List ℕ) → net ≡ arr e → low ≡ arr k → IsFirstRow rows k rest → Lowered net rows low rest
-arr_lowered net e rows low k rest n m h = subst (λ o. Lowered o rows low rest) (sym n) (subst (λ o. Lowered (arr e) rows o rest) (sym m) (lowered_arr e rows k rest h))
+pub arr_lowered : (net : Network Expression) (e : Expression) (rows : List ℕ) (low : Network ℕ) (k : ℕ) (rest : List ℕ) → net ≡ arr e → low ≡ arr k → IsFirstRow rows k rest → LowersTo net rows low rest
+arr_lowered net e rows low k rest n m h = subst (λ o. LowersTo o rows low rest) (sym n) (subst (λ o. LowersTo (arr e) rows o rest) (sym m) (lowered_arr e rows k rest h))
 
-pub i_pre_lowered : (net : Network Expression) (e : Expression) (rows : List ℕ) (low : Network ℕ) (k : ℕ) (rest : List ℕ) → net ≡ i_pre e → low ≡ i_pre k → IsFirstRow rows k rest → Lowered net rows low rest
-i_pre_lowered net e rows low k rest n m h = subst (λ o. Lowered o rows low rest) (sym n) (subst (λ o. Lowered (i_pre e) rows o rest) (sym m) (lowered_i_pre e rows k rest h))
+pub i_pre_lowered : (net : Network Expression) (e : Expression) (rows : List ℕ) (low : Network ℕ) (k : ℕ) (rest : List ℕ) → net ≡ i_pre e → low ≡ i_pre k → IsFirstRow rows k rest → LowersTo net rows low rest
+i_pre_lowered net e rows low k rest n m h = subst (λ o. LowersTo o rows low rest) (sym n) (subst (λ o. LowersTo (i_pre e) rows o rest) (sym m) (lowered_i_pre e rows k rest h))
 
-pub seq_lowered : (net f g : Network Expression) (rows middle rest : List ℕ) (low a b : Network ℕ) → net ≡ seq f g → low ≡ seq a b → Lowered f rows a middle → Lowered g middle b rest → Lowered net rows low rest
-seq_lowered net f g rows middle rest low a b n m hf hg = subst (λ o. Lowered o rows low rest) (sym n) (subst (λ o. Lowered (seq f g) rows o rest) (sym m) (lowered_seq f g rows middle rest a b hf hg))
+pub seq_lowered : (net f g : Network Expression) (rows middle rest : List ℕ) (low a b : Network ℕ) → net ≡ seq f g → low ≡ seq a b → LowersTo f rows a middle → LowersTo g middle b rest → LowersTo net rows low rest
+seq_lowered net f g rows middle rest low a b n m hf hg = subst (λ o. LowersTo o rows low rest) (sym n) (subst (λ o. LowersTo (seq f g) rows o rest) (sym m) (lowered_seq f g rows middle rest a b hf hg))
 
 -- one need more is found
 rows_push : (keys : List KeyTree) (ns : List Need) (ks : List ℕ) (n : Need) (k : ℕ) → RowsFor keys ns ks → slice_get keys k ≡ Some n.key → RowsFor keys (ns ++ n ∷ []) (ks ++ k ∷ [])
@@ -105,8 +105,8 @@ missing_at keys all i x ks F.Memory is l h lacks names = tt
 missing_at keys all i x ks (F.MissingLeaf at) is l h lacks names = first_missing keys all i x ks at l h (subst (λ (m : LeafNeed). Contains keys (need_of m).key → ⊥) is lacks) (names ∙ ap (λ (m : LeafNeed). (need_of m).position) is)
 
 -- what was found and put in is bound
-pub bound_network : (keys : List KeyTree) (t : TypedNetwork) (net : Network Expression) (ms ns : List Need) (ks rows rest : List ℕ) (low : Network ℕ) → net ≡ t.net → ms ≡ ns → rows ≡ ks → LeavesOf t ns → RowsFor keys ms ks → Lowered net rows low rest → RowsTyped keys low t.input t.output × (network_by keys low ≡ t.net)
+pub bound_network : (keys : List KeyTree) (t : TypedNetwork) (net : Network Expression) (ms ns : List Need) (ks rows rest : List ℕ) (low : Network ℕ) → net ≡ t.net → ms ≡ ns → rows ≡ ks → LeavesOf t ns → RowsFor keys ms ks → LowersTo net rows low rest → RowsTyped keys low t.input t.output × (network_by keys low ≡ t.net)
 bound_network keys t net ms ns ks rows rest low n m r l found lowered =
-    let here : Lowered t.net ks low rest = subst (λ o. Lowered o ks low rest) n (subst (λ o. Lowered net o low rest) r lowered) in
+    let here : LowersTo t.net ks low rest = subst (λ o. LowersTo o ks low rest) n (subst (λ o. LowersTo net o low rest) r lowered) in
     let all = here keys [] t.input t.output ns ks [] l (subst (λ o. RowsFor keys o ks) m found) (sym (append-nil ks)) in
     (all.0, all.1)

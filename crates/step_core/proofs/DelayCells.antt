@@ -2,8 +2,8 @@
 use Rattle.std.proofs.Common.{◌≡◌, ℕ, suc, ◌+◌, ◌-◌, ◌≤◌, ◌<◌, if◌then◌else◌, nat_le, List, [], ◌∷◌, ◌++◌, refl, sym, ap, ap₂, ◌∙◌, arith, subst, inl, inr, append_assoc, length-append, le_refl}
 use Rattle.std.proofs.lemmas.Bool.{cases_lt, le-leb, lt-leb}
 use Rattle.sample_core.specs.Datum.{Datum}
-use Rattle.net_syntax.specs.Signal.{latest_by}
-use Rattle.step_core.specs.Cell.{Pending, none_pending, one_pending, Waits, due, count_down}
+use Rattle.net_syntax.specs.SignalFunction.{latest_by}
+use Rattle.step_core.specs.Cell.{Pending, none_pending, one_pending, QueueWaits, due, count_down}
 use Rattle.net_syntax.proofs.CellSteps.{latest_by-append}
 
 -- a choice by a comparison
@@ -28,11 +28,11 @@ pending-out q now o (one_pending {left = left} {t = t} {v = v} {ts = ts} {vs = v
     ap (λ b. latest_by q now (if b then v else o) ts vs) (lt-leb (t + q) now later) ∙ pending-out q now o rest (omega arith)
 
 -- those that become due
-due_waits : (q now d : ℕ) (out : Datum) {l : ℕ} {is : List (ℕ × Datum)} {ts : List ℕ} {vs : List Datum} → Pending q now l is ts vs → Waits q (now + d) out (due d out is).0 (due d out is).1 ts vs
+due_waits : (q now d : ℕ) (out : Datum) {l : ℕ} {is : List (ℕ × Datum)} {ts : List ℕ} {vs : List Datum} → Pending q now l is ts vs → QueueWaits q (now + d) out (due d out is).0 (due d out is).1 ts vs
 due_waits q now d out none_pending = record { early_times = []; late_times = []; early_values = []; late_values = []; all_times = refl; all_values = refl; matched = refl; is_out = λ later h. refl; waiting_ones = none_pending }
 due_waits q now d out (one_pending {left = left} {t = t} {v = v} {is = is} {ts = ts} {vs = vs} lo hi e rest) =
-    let w : Waits q (now + d) v (due d v is).0 (due d v is).1 ts vs = due_waits q now d v rest in
-    pick (λ r. Waits q (now + d) out r.0 r.1 (t ∷ ts) (v ∷ vs)) left d (due d v is) (out, count_down d ((left, v) ∷ is))
+    let w : QueueWaits q (now + d) v (due d v is).0 (due d v is).1 ts vs = due_waits q now d v rest in
+    pick (λ r. QueueWaits q (now + d) out r.0 r.1 (t ∷ ts) (v ∷ vs)) left d (due d v is) (out, count_down d ((left, v) ∷ is))
     (λ h. record {
       early_times = t ∷ w.early_times;
       late_times = w.late_times;
@@ -59,9 +59,9 @@ due_waits q now d out (one_pending {left = left} {t = t} {v = v} {is = is} {ts =
     })
 
 -- time goes on by d, and v comes
-pub waits_on : (q now d : ℕ) (c out v : Datum) (is : List (ℕ × Datum)) (ts : List ℕ) (vs : List Datum) → 1 ≤ q → Waits q now c out is ts vs → Waits q (now + d) c (due d out is).0 ((due d out is).1 ++ (q, v) ∷ []) (ts ++ (now + d) ∷ []) (vs ++ v ∷ [])
+pub waits_on : (q now d : ℕ) (c out v : Datum) (is : List (ℕ × Datum)) (ts : List ℕ) (vs : List Datum) → 1 ≤ q → QueueWaits q now c out is ts vs → QueueWaits q (now + d) c (due d out is).0 ((due d out is).1 ++ (q, v) ∷ []) (ts ++ (now + d) ∷ []) (vs ++ v ∷ [])
 waits_on q now d c out v is ts vs l k =
-    let w : Waits q (now + d) out (due d out is).0 (due d out is).1 k.late_times k.late_values = due_waits q now d out k.waiting_ones in
+    let w : QueueWaits q (now + d) out (due d out is).0 (due d out is).1 k.late_times k.late_values = due_waits q now d out k.waiting_ones in
     record {
       early_times = k.early_times ++ w.early_times;
       late_times = w.late_times ++ (now + d) ∷ [];
@@ -83,12 +83,12 @@ waits_on q now d c out v is ts vs l k =
     }
 
 -- what is out is what `delay` answers
-pub waits-out : (q now : ℕ) (c out : Datum) (is : List (ℕ × Datum)) (ts : List ℕ) (vs : List Datum) → Waits q now c out is ts vs → latest_by q now c ts vs ≡ out
+pub waits-out : (q now : ℕ) (c out : Datum) (is : List (ℕ × Datum)) (ts : List ℕ) (vs : List Datum) → QueueWaits q now c out is ts vs → latest_by q now c ts vs ≡ out
 waits-out q now c out is ts vs k =
     ap₂ (latest_by q now c) k.all_times k.all_values
     ∙ latest_by-append q now c k.early_times k.late_times k.early_values k.late_values k.matched
     ∙ ap (λ o. latest_by q now o k.late_times k.late_values) (k.is_out now (le_refl now))
     ∙ pending-out q now out k.waiting_ones (le_refl 1)
 
-pub waits_first : (q : ℕ) (c v : Datum) → Waits (suc q) 0 c c ((suc q, v) ∷ []) (0 ∷ []) (v ∷ [])
+pub waits_first : (q : ℕ) (c v : Datum) → QueueWaits (suc q) 0 c c ((suc q, v) ∷ []) (0 ∷ []) (v ∷ [])
 waits_first q c v = record { early_times = []; late_times = 0 ∷ []; early_values = []; late_values = v ∷ []; all_times = refl; all_values = refl; matched = refl; is_out = λ later h. refl; waiting_ones = one_pending (omega arith) (omega arith) refl none_pending }

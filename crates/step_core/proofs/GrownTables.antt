@@ -6,7 +6,7 @@ use Rattle.net_syntax.specs.Network.{Network, Networks, map_networks, arr, seq, 
 use Rattle.net_syntax.specs.Typing as T
 use Rattle.net_syntax.specs.Typing.{Arrow, Typed, AllTyped}
 use Rattle.step_core.specs.RowTyping.{RowTyped, row_expression, expression_in, network_by}
-use Rattle.step_core.specs.GrownTable.{GrownTableLaw}
+use Rattle.step_core.specs.BindingLaws.{GrownTableLaw}
 
 kept_at : {X : Type 0} (xs ys : List X) (k : ℕ) (x : X) → slice_get xs k ≡ Some x → slice_get (xs ++ ys) k ≡ Some x
 kept_at [] ys k x h = absurd (cc)

@@ -6,10 +6,10 @@ use Rattle.leaf_core.proofs.Uniqueness.{one_type}
 use Rattle.net_syntax.specs.Network.{Network, Networks}
 use Rattle.net_syntax.specs.Typing as T
 use Rattle.net_syntax.specs.Typing.{Arrow, OldAt, old_here, old_after, copies, members, AllTyped}
-use Rattle.net_syntax.specs.Stream.{NetTyped}
+use Rattle.net_syntax.specs.TypedNetwork.{NetTyped}
 use Rattle.net_syntax.specs.Leaves.{Need, need_at, Leaves, arr_leaves, seq_leaves, first_leaves, par_leaves, loop_leaves, i_pre_leaves, delay_leaves, hold_leaves, accum_leaves, after_leaves, repeatedly_leaves, time_leaves, integral_leaves, switch_leaves, d_switch_leaves, r_switch_leaves, k_switch_leaves, p_switch_leaves, old_leaves, MemberLeaves, no_member_leaves, and_member_leaves}
 use Rattle.leaf_core.specs.ExpressionTyping.{ExpressionTyped}
-use Rattle.step_core.specs.OneList.{OneListLaw}
+use Rattle.step_core.specs.BindingLaws.{OneListLaw}
 
 one_old : (Os : List Arrow) (k : ℕ) (o q : Arrow) → OldAt Os k o → OldAt Os k q → o ≡ q
 one_old Os k o q old_here old_here = refl

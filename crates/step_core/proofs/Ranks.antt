@@ -5,8 +5,8 @@ use Rattle.sample_core.specs.Datum.{Datum}
 use Rattle.net_syntax.specs.Network.{Network, Networks, arr, seq, first, par, loop_pre, i_pre, delay, hold, accum_by, after, repeatedly, time, integral, switch, d_switch, r_switch, k_switch, p_switch, old, no_members, and_member}
 use Rattle.net_syntax.specs.Weight.{weight, weights, weight_at, total}
 use Rattle.step_core.specs.State.{State, States, Scope, Frozens, Frozen, no_state, and_state, scope, no_frozen, and_frozen, unstarted, paused, append_frozens, frozens_of, frozen_at, push_param, push_olds, all_unstarted, all_paused}
-use Rattle.step_core.specs.Engine
-use Rattle.step_core.specs.Engine.{Starts, StartsEach, Resumes, Steps, StepsEach}
+use Rattle.step_core.specs.Stepping
+use Rattle.step_core.specs.Stepping.{Starts, StartsEach, Resumes, Steps, StepsEach}
 use Rattle.step_core.specs.Rank.{rank, ranks, ranks_in, frozen_ranks, frozen_rank}
 
 -- item by item
@@ -122,8 +122,8 @@ by_olds t s c gs ws r n e h = subst (λ us. Within r n (weight t us)) (ranks-old
 module _ {L : Type 0} (val : L → List Datum → Datum → Datum) where
   mutual
     pub starts_within : {net : Network L} {s : Scope L} {x : Datum} {a : State L} {y : Datum} {n : ℕ} → Starts val net s x a y n → Within (rank a) n (weight net (ranks_in s))
-    starts_within Engine.start_arr = record { kept = le_refl 1; visited = le_refl 1 }
-    starts_within (Engine.start_seq {f = f} {g = g} {s = s} {a = a} {b = b} {m = m} {n = n} kf kg) =
+    starts_within Stepping.start_arr = record { kept = le_refl 1; visited = le_refl 1 }
+    starts_within (Stepping.start_seq {f = f} {g = g} {s = s} {a = a} {b = b} {m = m} {n = n} kf kg) =
         let h0 : Within (rank a) m (weight f (ranks_in s)) = starts_within kf in
         let r0 : rank a ≤ weight f (ranks_in s) = h0.kept in
         let n0 : m ≤ weight f (ranks_in s) = h0.visited in
@@ -131,35 +131,35 @@ module _ {L : Type 0} (val : L → List Datum → Datum → Datum) where
         let r1 : rank b ≤ weight g (ranks_in s) = h1.kept in
         let n1 : n ≤ weight g (ranks_in s) = h1.visited in
         record { kept = omega arith; visited = omega arith }
-    starts_within (Engine.start_first {f = f} {s = s} {a = a} {n = n} kf) =
+    starts_within (Stepping.start_first {f = f} {s = s} {a = a} {n = n} kf) =
         let h0 : Within (rank a) n (weight f (ranks_in s)) = starts_within kf in
         let r0 : rank a ≤ weight f (ranks_in s) = h0.kept in
         let n0 : n ≤ weight f (ranks_in s) = h0.visited in
         record { kept = omega arith; visited = omega arith }
-    starts_within (Engine.start_par {fs = fs} {s = s} {as' = as'} {n = n} ks) =
+    starts_within (Stepping.start_par {fs = fs} {s = s} {as' = as'} {n = n} ks) =
         let h : EachWithin (ranks as') n (weights fs (ranks_in s)) = each_starts_within ks in
         let r : total (ranks as') ≤ total (weights fs (ranks_in s)) = total-mono (ranks as') (weights fs (ranks_in s)) h.kept in
         let v : n ≤ total (weights fs (ranks_in s)) = h.visited in
         record { kept = omega arith; visited = omega arith }
-    starts_within (Engine.start_loop {f = f} {s = s} {a = a} {n = n} kf) =
+    starts_within (Stepping.start_loop {f = f} {s = s} {a = a} {n = n} kf) =
         let h0 : Within (rank a) n (weight f (ranks_in s)) = starts_within kf in
         let r0 : rank a ≤ weight f (ranks_in s) = h0.kept in
         let n0 : n ≤ weight f (ranks_in s) = h0.visited in
         record { kept = omega arith; visited = omega arith }
-    starts_within Engine.start_i_pre = record { kept = le_refl 1; visited = le_refl 1 }
-    starts_within Engine.start_delay = record { kept = le_refl 1; visited = le_refl 1 }
-    starts_within Engine.start_hold = record { kept = le_refl 1; visited = le_refl 1 }
-    starts_within (Engine.start_accum e) = record { kept = le_refl 1; visited = le_refl 1 }
-    starts_within (Engine.start_after e) = record { kept = le_refl 1; visited = le_refl 1 }
-    starts_within Engine.start_repeatedly = record { kept = le_refl 1; visited = le_refl 1 }
-    starts_within Engine.start_time = record { kept = le_refl 1; visited = le_refl 1 }
-    starts_within Engine.start_integral = record { kept = le_refl 1; visited = le_refl 1 }
-    starts_within (Engine.start_switch {f = f} {t = t} {s = s} {a = a} {n = n} kf e) =
+    starts_within Stepping.start_i_pre = record { kept = le_refl 1; visited = le_refl 1 }
+    starts_within Stepping.start_delay = record { kept = le_refl 1; visited = le_refl 1 }
+    starts_within Stepping.start_hold = record { kept = le_refl 1; visited = le_refl 1 }
+    starts_within (Stepping.start_accum e) = record { kept = le_refl 1; visited = le_refl 1 }
+    starts_within (Stepping.start_after e) = record { kept = le_refl 1; visited = le_refl 1 }
+    starts_within Stepping.start_repeatedly = record { kept = le_refl 1; visited = le_refl 1 }
+    starts_within Stepping.start_time = record { kept = le_refl 1; visited = le_refl 1 }
+    starts_within Stepping.start_integral = record { kept = le_refl 1; visited = le_refl 1 }
+    starts_within (Stepping.start_switch {f = f} {t = t} {s = s} {a = a} {n = n} kf e) =
         let h0 : Within (rank a) n (weight f (ranks_in s)) = starts_within kf in
         let r0 : rank a ≤ weight f (ranks_in s) = h0.kept in
         let n0 : n ≤ weight f (ranks_in s) = h0.visited in
         record { kept = omega arith; visited = omega arith }
-    starts_within (Engine.fire_switch {f = f} {t = t} {s = s} {a = a} {b = b} {c = c} {m = m} {n = n} kf e kt) =
+    starts_within (Stepping.fire_switch {f = f} {t = t} {s = s} {a = a} {b = b} {c = c} {m = m} {n = n} kf e kt) =
         let h0 : Within (rank a) m (weight f (ranks_in s)) = starts_within kf in
         let r0 : rank a ≤ weight f (ranks_in s) = h0.kept in
         let n0 : m ≤ weight f (ranks_in s) = h0.visited in
@@ -167,12 +167,12 @@ module _ {L : Type 0} (val : L → List Datum → Datum → Datum) where
         let r1 : rank b ≤ weight t (ranks_in s) = h1.kept in
         let n1 : n ≤ weight t (ranks_in s) = h1.visited in
         record { kept = omega arith; visited = omega arith }
-    starts_within (Engine.start_d_switch {f = f} {t = t} {s = s} {a = a} {n = n} kf e) =
+    starts_within (Stepping.start_d_switch {f = f} {t = t} {s = s} {a = a} {n = n} kf e) =
         let h0 : Within (rank a) n (weight f (ranks_in s)) = starts_within kf in
         let r0 : rank a ≤ weight f (ranks_in s) = h0.kept in
         let n0 : n ≤ weight f (ranks_in s) = h0.visited in
         record { kept = omega arith; visited = omega arith }
-    starts_within (Engine.fire_d_switch {f = f} {t = t} {s = s} {a = a} {b = b} {c = c} {m = m} {n = n} kf e kt) =
+    starts_within (Stepping.fire_d_switch {f = f} {t = t} {s = s} {a = a} {b = b} {c = c} {m = m} {n = n} kf e kt) =
         let h0 : Within (rank a) m (weight f (ranks_in s)) = starts_within kf in
         let r0 : rank a ≤ weight f (ranks_in s) = h0.kept in
         let n0 : m ≤ weight f (ranks_in s) = h0.visited in
@@ -180,19 +180,19 @@ module _ {L : Type 0} (val : L → List Datum → Datum → Datum) where
         let r1 : rank b ≤ weight t (ranks_in s) = h1.kept in
         let n1 : n ≤ weight t (ranks_in s) = h1.visited in
         record { kept = omega arith; visited = omega arith }
-    starts_within (Engine.start_r_switch {f = f} {t = t} {s = s} {a = a} {n = n} e kf) =
+    starts_within (Stepping.start_r_switch {f = f} {t = t} {s = s} {a = a} {n = n} e kf) =
         let h0 : Within (rank a) n (weight f (ranks_in s)) = starts_within kf in
         let r0 : rank a ≤ weight f (ranks_in s) = h0.kept in
         let n0 : n ≤ weight f (ranks_in s) = h0.visited in
         let mx : max (rank a) (weight t (ranks_in s)) ≤ rank a + weight t (ranks_in s) = max-le (omega arith) (omega arith) in
         record { kept = omega arith; visited = omega arith }
-    starts_within (Engine.cut_r_switch {f = f} {t = t} {s = s} {a = a} {c = c} {n = n} e kt) =
+    starts_within (Stepping.cut_r_switch {f = f} {t = t} {s = s} {a = a} {c = c} {n = n} e kt) =
         let h0 : Within (rank a) n (weight t (ranks_in s)) = by_param t s c (rank a) n (starts_within kt) in
         let r0 : rank a ≤ weight t (ranks_in s) = h0.kept in
         let n0 : n ≤ weight t (ranks_in s) = h0.visited in
         let mx : max (rank a) (weight t (ranks_in s)) ≤ weight t (ranks_in s) = max-le r0 (le_refl (weight t (ranks_in s))) in
         record { kept = omega arith; visited = omega arith }
-    starts_within (Engine.start_k_switch {f = f} {e = e} {t = t} {s = s} {a = a} {b = b} {m = m} {n = n} kf ke i) =
+    starts_within (Stepping.start_k_switch {f = f} {e = e} {t = t} {s = s} {a = a} {b = b} {m = m} {n = n} kf ke i) =
         let h0 : Within (rank a) m (weight f (ranks_in s)) = starts_within kf in
         let r0 : rank a ≤ weight f (ranks_in s) = h0.kept in
         let n0 : m ≤ weight f (ranks_in s) = h0.visited in
@@ -201,7 +201,7 @@ module _ {L : Type 0} (val : L → List Datum → Datum → Datum) where
         let n1 : n ≤ weight e (ranks_in s) = h1.visited in
         let t1 : weight t (ranks_in s ++ rank a ∷ []) ≤ weight t (ranks_in s ++ weight f (ranks_in s) ∷ []) = weight-mono t (ranks_in s ++ rank a ∷ []) (ranks_in s ++ weight f (ranks_in s) ∷ []) (NoMore-append (ranks_in s) (ranks_in s) (rank a ∷ []) (weight f (ranks_in s) ∷ []) (same (ranks_in s)) (and_no_more r0 no_more)) in
         record { kept = omega arith; visited = omega arith }
-    starts_within (Engine.fire_k_switch {f = f} {e = e} {t = t} {s = s} {a = a} {b = b} {o = o} {c = c} {m = m} {n = n} {k = k} kf ke i kt) =
+    starts_within (Stepping.fire_k_switch {f = f} {e = e} {t = t} {s = s} {a = a} {b = b} {o = o} {c = c} {m = m} {n = n} {k = k} kf ke i kt) =
         let h0 : Within (rank a) m (weight f (ranks_in s)) = starts_within kf in
         let r0 : rank a ≤ weight f (ranks_in s) = h0.kept in
         let n0 : m ≤ weight f (ranks_in s) = h0.visited in
@@ -212,7 +212,7 @@ module _ {L : Type 0} (val : L → List Datum → Datum → Datum) where
         let r2 : rank o ≤ weight t (ranks_in s ++ weight f (ranks_in s) ∷ []) = h2.kept in
         let n2 : k ≤ weight t (ranks_in s ++ weight f (ranks_in s) ∷ []) = h2.visited in
         record { kept = omega arith; visited = omega arith }
-    starts_within (Engine.start_p_switch {fs = fs} {e = e} {t = t} {s = s} {as' = as'} {b = b} {m = m} {n = n} ks ke i) =
+    starts_within (Stepping.start_p_switch {fs = fs} {e = e} {t = t} {s = s} {as' = as'} {b = b} {m = m} {n = n} ks ke i) =
         let h0 : Within (rank b) n (weight e (ranks_in s)) = starts_within ke in
         let r0 : rank b ≤ weight e (ranks_in s) = h0.kept in
         let n0 : n ≤ weight e (ranks_in s) = h0.visited in
@@ -221,7 +221,7 @@ module _ {L : Type 0} (val : L → List Datum → Datum → Datum) where
         let v : m ≤ total (weights fs (ranks_in s)) = h.visited in
         let t1 : weight t (ranks_in s ++ ranks as') ≤ weight t (ranks_in s ++ weights fs (ranks_in s)) = weight-mono t (ranks_in s ++ ranks as') (ranks_in s ++ weights fs (ranks_in s)) (NoMore-append (ranks_in s) (ranks_in s) (ranks as') (weights fs (ranks_in s)) (same (ranks_in s)) h.kept) in
         record { kept = omega arith; visited = omega arith }
-    starts_within (Engine.fire_p_switch {fs = fs} {e = e} {t = t} {s = s} {as' = as'} {b = b} {o = o} {c = c} {m = m} {n = n} {k = k} ks ke i kt) =
+    starts_within (Stepping.fire_p_switch {fs = fs} {e = e} {t = t} {s = s} {as' = as'} {b = b} {o = o} {c = c} {m = m} {n = n} {k = k} ks ke i kt) =
         let h0 : Within (rank b) n (weight e (ranks_in s)) = starts_within ke in
         let r0 : rank b ≤ weight e (ranks_in s) = h0.kept in
         let n0 : n ≤ weight e (ranks_in s) = h0.visited in
@@ -232,7 +232,7 @@ module _ {L : Type 0} (val : L → List Datum → Datum → Datum) where
         let r : total (ranks as') ≤ total (weights fs (ranks_in s)) = total-mono (ranks as') (weights fs (ranks_in s)) h.kept in
         let v : m ≤ total (weights fs (ranks_in s)) = h.visited in
         record { kept = omega arith; visited = omega arith }
-    starts_within (Engine.start_old {k = k} {s = s} {f = f} {a = a} {n = n} e kr) =
+    starts_within (Stepping.start_old {k = k} {s = s} {f = f} {a = a} {n = n} e kr) =
         let h0 : Within (rank a) n (frozen_rank f) = resumes_within kr in
         let r0 : rank a ≤ frozen_rank f = h0.kept in
         let n0 : n ≤ frozen_rank f = h0.visited in
@@ -240,8 +240,8 @@ module _ {L : Type 0} (val : L → List Datum → Datum → Datum) where
         record { kept = omega arith; visited = omega arith }
 
     pub each_starts_within : {h : ℕ → Datum → Datum} {i : ℕ} {fs : Networks L} {s : Scope L} {x : Datum} {as' : States L} {ys : List Datum} {n : ℕ} → StartsEach val h i fs s x as' ys n → EachWithin (ranks as') n (weights fs (ranks_in s))
-    each_starts_within Engine.start_none = record { kept = no_more; visited = le_refl 0 }
-    each_starts_within (Engine.start_also {f = f} {fs = fs} {s = s} {a = a} {as' = as'} {m = m} {n = n} kf ks) =
+    each_starts_within Stepping.start_none = record { kept = no_more; visited = le_refl 0 }
+    each_starts_within (Stepping.start_also {f = f} {fs = fs} {s = s} {a = a} {as' = as'} {m = m} {n = n} kf ks) =
         let h0 : Within (rank a) m (weight f (ranks_in s)) = starts_within kf in
         let h1 : EachWithin (ranks as') n (weights fs (ranks_in s)) = each_starts_within ks in
         let v0 : m ≤ weight f (ranks_in s) = h0.visited in
@@ -249,12 +249,12 @@ module _ {L : Type 0} (val : L → List Datum → Datum → Datum) where
         record { kept = and_no_more h0.kept h1.kept; visited = omega arith }
 
     pub resumes_within : {f : Frozen L} {x : Datum} {a : State L} {y : Datum} {n : ℕ} → Resumes val f x a y n → Within (rank a) n (frozen_rank f)
-    resumes_within (Engine.resume_unstarted k) = starts_within k
-    resumes_within (Engine.resume_paused k) = steps_within k
+    resumes_within (Stepping.resume_unstarted k) = starts_within k
+    resumes_within (Stepping.resume_paused k) = steps_within k
 
     pub steps_within : {a b : State L} {x : ℕ × Datum} {y : Datum} {n : ℕ} → Steps val a x b y n → Within (rank b) n (rank a)
-    steps_within Engine.step_arr = record { kept = le_refl 1; visited = le_refl 1 }
-    steps_within (Engine.step_seq {a = a} {b = b} {a' = a'} {b' = b'} {m = m} {n = n} ka kb) =
+    steps_within Stepping.step_arr = record { kept = le_refl 1; visited = le_refl 1 }
+    steps_within (Stepping.step_seq {a = a} {b = b} {a' = a'} {b' = b'} {m = m} {n = n} ka kb) =
         let h0 : Within (rank a') m (rank a) = steps_within ka in
         let r0 : rank a' ≤ rank a = h0.kept in
         let n0 : m ≤ rank a = h0.visited in
@@ -262,29 +262,29 @@ module _ {L : Type 0} (val : L → List Datum → Datum → Datum) where
         let r1 : rank b' ≤ rank b = h1.kept in
         let n1 : n ≤ rank b = h1.visited in
         record { kept = omega arith; visited = omega arith }
-    steps_within (Engine.step_first {a = a} {a' = a'} {n = n} ka) =
+    steps_within (Stepping.step_first {a = a} {a' = a'} {n = n} ka) =
         let h0 : Within (rank a') n (rank a) = steps_within ka in
         let r0 : rank a' ≤ rank a = h0.kept in
         let n0 : n ≤ rank a = h0.visited in
         record { kept = omega arith; visited = omega arith }
-    steps_within (Engine.step_par {as' = as'} {bs = bs} {n = n} ks) =
+    steps_within (Stepping.step_par {as' = as'} {bs = bs} {n = n} ks) =
         let h : EachWithin (ranks bs) n (ranks as') = each_steps_within ks in
         let r : total (ranks bs) ≤ total (ranks as') = total-mono (ranks bs) (ranks as') h.kept in
         let v : n ≤ total (ranks as') = h.visited in
         record { kept = omega arith; visited = omega arith }
-    steps_within (Engine.step_loop {a = a} {a' = a'} {n = n} ka) =
+    steps_within (Stepping.step_loop {a = a} {a' = a'} {n = n} ka) =
         let h0 : Within (rank a') n (rank a) = steps_within ka in
         let r0 : rank a' ≤ rank a = h0.kept in
         let n0 : n ≤ rank a = h0.visited in
         record { kept = omega arith; visited = omega arith }
-    steps_within (Engine.step_cell e) = record { kept = le_refl 1; visited = le_refl 1 }
-    steps_within (Engine.step_accum e) = record { kept = le_refl 1; visited = le_refl 1 }
-    steps_within (Engine.step_switch {a = a} {a' = a'} {t = t} {s = s} {n = n} ka e) =
+    steps_within (Stepping.step_cell e) = record { kept = le_refl 1; visited = le_refl 1 }
+    steps_within (Stepping.step_accum e) = record { kept = le_refl 1; visited = le_refl 1 }
+    steps_within (Stepping.step_switch {a = a} {a' = a'} {t = t} {s = s} {n = n} ka e) =
         let h0 : Within (rank a') n (rank a) = steps_within ka in
         let r0 : rank a' ≤ rank a = h0.kept in
         let n0 : n ≤ rank a = h0.visited in
         record { kept = omega arith; visited = omega arith }
-    steps_within (Engine.step_switch_over {a = a} {a' = a'} {b = b} {t = t} {s = s} {c = c} {m = m} {n = n} ka e kt) =
+    steps_within (Stepping.step_switch_over {a = a} {a' = a'} {b = b} {t = t} {s = s} {c = c} {m = m} {n = n} ka e kt) =
         let h0 : Within (rank a') m (rank a) = steps_within ka in
         let r0 : rank a' ≤ rank a = h0.kept in
         let n0 : m ≤ rank a = h0.visited in
@@ -292,12 +292,12 @@ module _ {L : Type 0} (val : L → List Datum → Datum → Datum) where
         let r1 : rank b ≤ weight t (ranks_in s) = h1.kept in
         let n1 : n ≤ weight t (ranks_in s) = h1.visited in
         record { kept = omega arith; visited = omega arith }
-    steps_within (Engine.step_d_switch {a = a} {a' = a'} {t = t} {s = s} {n = n} ka e) =
+    steps_within (Stepping.step_d_switch {a = a} {a' = a'} {t = t} {s = s} {n = n} ka e) =
         let h0 : Within (rank a') n (rank a) = steps_within ka in
         let r0 : rank a' ≤ rank a = h0.kept in
         let n0 : n ≤ rank a = h0.visited in
         record { kept = omega arith; visited = omega arith }
-    steps_within (Engine.step_d_switch_over {a = a} {a' = a'} {b = b} {t = t} {s = s} {c = c} {m = m} {n = n} ka e kt) =
+    steps_within (Stepping.step_d_switch_over {a = a} {a' = a'} {b = b} {t = t} {s = s} {c = c} {m = m} {n = n} ka e kt) =
         let h0 : Within (rank a') m (rank a) = steps_within ka in
         let r0 : rank a' ≤ rank a = h0.kept in
         let n0 : m ≤ rank a = h0.visited in
@@ -305,21 +305,21 @@ module _ {L : Type 0} (val : L → List Datum → Datum → Datum) where
         let r1 : rank b ≤ weight t (ranks_in s) = h1.kept in
         let n1 : n ≤ weight t (ranks_in s) = h1.visited in
         record { kept = omega arith; visited = omega arith }
-    steps_within (Engine.step_r_switch {a = a} {a' = a'} {t = t} {s = s} {n = n} e ka) =
+    steps_within (Stepping.step_r_switch {a = a} {a' = a'} {t = t} {s = s} {n = n} e ka) =
         let h0 : Within (rank a') n (rank a) = steps_within ka in
         let r0 : rank a' ≤ rank a = h0.kept in
         let n0 : n ≤ rank a = h0.visited in
         let l : rank a ≤ max (rank a) (weight t (ranks_in s)) = le-max_left (rank a) (weight t (ranks_in s)) in
         let mx : max (rank a') (weight t (ranks_in s)) ≤ max (rank a) (weight t (ranks_in s)) = max-le (omega arith) (le-max_right (rank a) (weight t (ranks_in s))) in
         record { kept = omega arith; visited = omega arith }
-    steps_within (Engine.step_r_switch_over {a = a} {b = b} {t = t} {s = s} {c = c} {n = n} e kt) =
+    steps_within (Stepping.step_r_switch_over {a = a} {b = b} {t = t} {s = s} {c = c} {n = n} e kt) =
         let h0 : Within (rank b) n (weight t (ranks_in s)) = by_param t s c (rank b) n (starts_within kt) in
         let r0 : rank b ≤ weight t (ranks_in s) = h0.kept in
         let n0 : n ≤ weight t (ranks_in s) = h0.visited in
         let l : weight t (ranks_in s) ≤ max (rank a) (weight t (ranks_in s)) = le-max_right (rank a) (weight t (ranks_in s)) in
         let mx : max (rank b) (weight t (ranks_in s)) ≤ max (rank a) (weight t (ranks_in s)) = max-le (omega arith) l in
         record { kept = omega arith; visited = omega arith }
-    steps_within (Engine.step_k_switch {a = a} {b = b} {a' = a'} {b' = b'} {t = t} {s = s} {m = m} {n = n} ka kb i) =
+    steps_within (Stepping.step_k_switch {a = a} {b = b} {a' = a'} {b' = b'} {t = t} {s = s} {m = m} {n = n} ka kb i) =
         let h0 : Within (rank a') m (rank a) = steps_within ka in
         let r0 : rank a' ≤ rank a = h0.kept in
         let n0 : m ≤ rank a = h0.visited in
@@ -328,7 +328,7 @@ module _ {L : Type 0} (val : L → List Datum → Datum → Datum) where
         let n1 : n ≤ rank b = h1.visited in
         let t1 : weight t (ranks_in s ++ rank a' ∷ []) ≤ weight t (ranks_in s ++ rank a ∷ []) = weight-mono t (ranks_in s ++ rank a' ∷ []) (ranks_in s ++ rank a ∷ []) (NoMore-append (ranks_in s) (ranks_in s) (rank a' ∷ []) (rank a ∷ []) (same (ranks_in s)) (and_no_more r0 no_more)) in
         record { kept = omega arith; visited = omega arith }
-    steps_within (Engine.step_k_switch_over {a = a} {b = b} {a' = a'} {b' = b'} {o = o} {t = t} {s = s} {x = x} {c = c} {m = m} {n = n} {k = k} ka kb i kt) =
+    steps_within (Stepping.step_k_switch_over {a = a} {b = b} {a' = a'} {b' = b'} {o = o} {t = t} {s = s} {x = x} {c = c} {m = m} {n = n} {k = k} ka kb i kt) =
         let h0 : Within (rank a') m (rank a) = steps_within ka in
         let r0 : rank a' ≤ rank a = h0.kept in
         let n0 : m ≤ rank a = h0.visited in
@@ -339,7 +339,7 @@ module _ {L : Type 0} (val : L → List Datum → Datum → Datum) where
         let r2 : rank o ≤ weight t (ranks_in s ++ rank a ∷ []) = h2.kept in
         let n2 : k ≤ weight t (ranks_in s ++ rank a ∷ []) = h2.visited in
         record { kept = omega arith; visited = omega arith }
-    steps_within (Engine.step_p_switch {as' = as'} {bs = bs} {b = b} {b' = b'} {t = t} {s = s} {m = m} {n = n} ks kb i) =
+    steps_within (Stepping.step_p_switch {as' = as'} {bs = bs} {b = b} {b' = b'} {t = t} {s = s} {m = m} {n = n} ks kb i) =
         let h0 : Within (rank b') n (rank b) = steps_within kb in
         let r0 : rank b' ≤ rank b = h0.kept in
         let n0 : n ≤ rank b = h0.visited in
@@ -348,7 +348,7 @@ module _ {L : Type 0} (val : L → List Datum → Datum → Datum) where
         let v : m ≤ total (ranks as') = h.visited in
         let t1 : weight t (ranks_in s ++ ranks bs) ≤ weight t (ranks_in s ++ ranks as') = weight-mono t (ranks_in s ++ ranks bs) (ranks_in s ++ ranks as') (NoMore-append (ranks_in s) (ranks_in s) (ranks bs) (ranks as') (same (ranks_in s)) h.kept) in
         record { kept = omega arith; visited = omega arith }
-    steps_within (Engine.step_p_switch_over {as' = as'} {bs = bs} {b = b} {b' = b'} {o = o} {t = t} {s = s} {x = x} {c = c} {m = m} {n = n} {k = k} ks kb i kt) =
+    steps_within (Stepping.step_p_switch_over {as' = as'} {bs = bs} {b = b} {b' = b'} {o = o} {t = t} {s = s} {x = x} {c = c} {m = m} {n = n} {k = k} ks kb i kt) =
         let h0 : Within (rank b') n (rank b) = steps_within kb in
         let r0 : rank b' ≤ rank b = h0.kept in
         let n0 : n ≤ rank b = h0.visited in
@@ -361,8 +361,8 @@ module _ {L : Type 0} (val : L → List Datum → Datum → Datum) where
         record { kept = omega arith; visited = omega arith }
 
     pub each_steps_within : {h : ℕ → Datum → Datum} {i : ℕ} {as' : States L} {x : ℕ × Datum} {bs : States L} {ys : List Datum} {n : ℕ} → StepsEach val h i as' x bs ys n → EachWithin (ranks bs) n (ranks as')
-    each_steps_within Engine.step_none = record { kept = no_more; visited = le_refl 0 }
-    each_steps_within (Engine.step_also {a = a} {a' = a'} {as' = as'} {bs = bs} {m = m} {n = n} ka ks) =
+    each_steps_within Stepping.step_none = record { kept = no_more; visited = le_refl 0 }
+    each_steps_within (Stepping.step_also {a = a} {a' = a'} {as' = as'} {bs = bs} {m = m} {n = n} ka ks) =
         let h0 : Within (rank a') m (rank a) = steps_within ka in
         let h1 : EachWithin (ranks bs) n (ranks as') = each_steps_within ks in
         let v0 : m ≤ rank a = h0.visited in

@@ -1,20 +1,20 @@
 -- The visits of the last sample, by those of the parts.
 use Rattle.std.proofs.Common.{◌≡◌, ℕ, suc, ◌+◌, ◌<◌, List, [], ◌∷◌, ◌++◌, length, take, drop, refl, sym, ap, ◌∙◌, arith, length-drop, take-append-drop}
 use Rattle.sample_core.specs.Datum.{Datum}
-use Rattle.net_syntax.specs.Signal.{Timed, last_or}
-use Rattle.step_core.specs.Visits.{Counts, added, and_one, resumed_counts}
+use Rattle.net_syntax.specs.SignalFunction.{TimedList, last_or}
+use Rattle.step_core.specs.Visits.{VisitCounts, add_counts, and_one, resume_counts}
 
 -- the last count, 0 where there is none
 abbrev pub last_count : List ℕ → ℕ
 last_count ns = last_or 0 ns
 
-last-added_from : (a b : ℕ) (ms ns : List ℕ) → length ns ≡ length ms → last_or (a + b) (added ms ns) ≡ last_or a ms + last_or b ns
+last-added_from : (a b : ℕ) (ms ns : List ℕ) → length ns ≡ length ms → last_or (a + b) (add_counts ms ns) ≡ last_or a ms + last_or b ns
 last-added_from a b [] [] e = refl
 last-added_from a b [] (n ∷ ns) e = absurd (omega arith)
 last-added_from a b (m ∷ ms) [] e = absurd (omega arith)
 last-added_from a b (m ∷ ms) (n ∷ ns) e = let e' : length ns ≡ length ms = omega arith in last-added_from m n ms ns e'
 
-pub last-added : (ms ns : List ℕ) → length ns ≡ length ms → last_count (added ms ns) ≡ last_count ms + last_count ns
+pub last-added : (ms ns : List ℕ) → length ns ≡ length ms → last_count (add_counts ms ns) ≡ last_count ms + last_count ns
 last-added ms ns e = last-added_from 0 0 ms ns e
 
 last-and_one_from : (a : ℕ) (ns : List ℕ) → last_or (suc a) (and_one ns) ≡ suc (last_or a ns)
@@ -33,5 +33,5 @@ last-append_from a (m ∷ ms) ns l = last-append_from m ms ns l
 pub last-drop : (n : ℕ) (ns : List ℕ) → n < length ns → last_count (drop n ns) ≡ last_count ns
 last-drop n ns l = sym (last-append_from 0 (take n ns) (drop n ns) (omega (arith, length-drop n ns))) ∙ ap last_count (take-append-drop n ns)
 
-pub last-resumed_counts : (v : Counts) (p : Timed) (d : ℕ) (x : ℕ × Datum) (xs : Timed) → length p < length (v (p ++ (d, x.1) ∷ xs)) → last_count (resumed_counts v p d (x ∷ xs)) ≡ last_count (v (p ++ (d, x.1) ∷ xs))
-last-resumed_counts v p d x xs l = last-drop (length p) (v (p ++ (d, x.1) ∷ xs)) l
+pub last-resume_counts : (v : VisitCounts) (p : TimedList) (d : ℕ) (x : ℕ × Datum) (xs : TimedList) → length p < length (v (p ++ (d, x.1) ∷ xs)) → last_count (resume_counts v p d (x ∷ xs)) ≡ last_count (v (p ++ (d, x.1) ∷ xs))
+last-resume_counts v p d x xs l = last-drop (length p) (v (p ++ (d, x.1) ∷ xs)) l

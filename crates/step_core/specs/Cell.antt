@@ -1,8 +1,8 @@
 -- The cells: what they keep, how they start and step, and what they stand for.
 use Rattle.std.specs.Prelude.{◌≡◌, ℕ, suc, ◌+◌, ◌-◌, ◌*◌, ◌/◌, ◌%◌, ◌≤◌, ℤ, pos, ◌+ℤ◌, ◌*ℤ◌, nat_le, if◌then◌else◌, List, [], ◌∷◌, ◌++◌, length, map}
 use Rattle.std.specs.Int.{int_wrap, w64}
-use Rattle.sample_core.specs.Datum.{Datum, number, event, no_event, whole}
-use Rattle.net_syntax.specs.Signal.{Timed, values, times, time_at, last_or, previous_of, held, delayed, reached, repeated, clock, integrated, latest_by}
+use Rattle.sample_core.specs.Datum.{Datum, int, event, no_event, int_of}
+use Rattle.net_syntax.specs.SignalFunction.{TimedList, values, times, time_at, last_or, i_pre_value, latest_event, delay_value, after_value, repeatedly_value, time_value, integral_value, latest_by}
 
 -- what a cell keeps from one sample to the next
 pub data Cell : Type 0 where
@@ -33,8 +33,8 @@ due d out [] = (out, [])
 due d out (i ∷ is) = if nat_le i.0 d then due d i.1 is else (out, count_down d (i ∷ is))
 
 -- the queue after the new value v has joined it, and what is out
-abbrev pub queued : ℕ → Datum → Datum × List (ℕ × Datum) → Cell × Datum
-queued q v r = (queue q r.0 (r.1 ++ (q, v) ∷ []), r.0)
+abbrev pub enqueue : ℕ → Datum → Datum × List (ℕ × Datum) → Cell × Datum
+enqueue q v r = (queue q r.0 (r.1 ++ (q, v) ∷ []), r.0)
 
 -- the start of `after`: over at once where q is 0
 abbrev pub after_cell : ℕ → Datum → Cell × Datum
@@ -43,13 +43,13 @@ after_cell q c = if nat_le q 0 then (over, event c) else (waiting q c, no_event)
 -- the step of a cell
 abbrev pub cell_step : Cell → ℕ × Datum → Cell × Datum
 cell_step (previous v) x = (previous x.1, v)
-cell_step (queue q out is) x = queued q x.1 (due x.0 out is)
-cell_step (latest v) x = (latest (held v (x.1 ∷ [])), held v (x.1 ∷ []))
+cell_step (queue q out is) x = enqueue q x.1 (due x.0 out is)
+cell_step (latest v) x = (latest (latest_event v (x.1 ∷ [])), latest_event v (x.1 ∷ []))
 cell_step (waiting left c) x = if nat_le left x.0 then (over, event c) else (waiting (left - x.0) c, no_event)
 cell_step over x = (over, no_event)
 cell_step (recurring q left c) x = if nat_le left x.0 then (recurring q (q - (x.0 - left) % q) c, event c) else (recurring q (left - x.0) c, no_event)
-cell_step (ticking z) x = let z' = int_wrap w64 (z +ℤ pos x.0) in (ticking z', number z')
-cell_step (summing z before) x = let z' = int_wrap w64 (z +ℤ (pos x.0 *ℤ before)) in (summing z' (whole x.1), number z')
+cell_step (ticking z) x = let z' = int_wrap w64 (z +ℤ pos x.0) in (ticking z', int z')
+cell_step (summing z before) x = let z' = int_wrap w64 (z +ℤ (pos x.0 *ℤ before)) in (summing z' (int_of x.1), int z')
 
 -- what waits at now, by its time and value: at least l is left to it, and more to the later ones
 pub data Pending (q now : ℕ) : ℕ → List (ℕ × Datum) → List ℕ → List Datum → Type 0 where
@@ -57,7 +57,7 @@ pub data Pending (q now : ℕ) : ℕ → List (ℕ × Datum) → List ℕ → Li
   one_pending : {l left t : ℕ} {v : Datum} {is : List (ℕ × Datum)} {ts : List ℕ} {vs : List Datum} → l ≤ left → left ≤ q → now + left ≡ t + q → Pending q now left is ts vs → Pending q now l ((left, v) ∷ is) (t ∷ ts) (v ∷ vs)
 
 -- of these times and values the early ones are due, the late ones wait
-pub record Waits (q now : ℕ) (c out : Datum) (is : List (ℕ × Datum)) (ts : List ℕ) (vs : List Datum) : Type 0 where
+pub record QueueWaits (q now : ℕ) (c out : Datum) (is : List (ℕ × Datum)) (ts : List ℕ) (vs : List Datum) : Type 0 where
   pub early_times : List ℕ
   pub late_times : List ℕ
   pub early_values : List Datum
@@ -69,12 +69,12 @@ pub record Waits (q now : ℕ) (c out : Datum) (is : List (ℕ × Datum)) (ts : 
   pub waiting_ones : Pending q now 1 is late_times late_values
 
 -- h's formula after y and p is what the cell goes on with
-abbrev pub Keeps : Cell → (Timed → Datum) → ℕ × Datum → Timed → Type 0
-Keeps (previous v) h y p = (c : Datum) × (h ≡ previous_of c) × (v ≡ last_or c (values (y ∷ p)))
-Keeps (queue q out is) h y p = (c : Datum) × (h ≡ delayed q c) × (1 ≤ q) × Waits q (time_at (y ∷ p)) c out is (times (y ∷ p)) (values (y ∷ p))
-Keeps (latest v) h y p = (c : Datum) × (h ≡ (λ p. held c (values p))) × (v ≡ held c (values (y ∷ p)))
-Keeps (waiting left c) h y p = (q : ℕ) × (h ≡ reached q c) × (1 ≤ left) × (time_at (y ∷ p) + left ≡ q)
-Keeps over h y p = (q : ℕ) × (c : Datum) × (h ≡ reached q c) × (q ≤ time_at (y ∷ p))
-Keeps (recurring q left c) h y p = (h ≡ repeated q c) × (1 ≤ left) × (left ≤ q) × (time_at (y ∷ p) + left ≡ q * suc (time_at (y ∷ p) / q))
-Keeps (ticking z) h y p = (h ≡ clock) × (z ≡ int_wrap w64 (pos (time_at (y ∷ p))))
-Keeps (summing z before) h y p = (h ≡ integrated) × (number z ≡ integrated (y ∷ p)) × (before ≡ last_or (whole y.1) (map whole (values p)))
+abbrev pub Keeps : Cell → (TimedList → Datum) → ℕ × Datum → TimedList → Type 0
+Keeps (previous v) h y p = (c : Datum) × (h ≡ i_pre_value c) × (v ≡ last_or c (values (y ∷ p)))
+Keeps (queue q out is) h y p = (c : Datum) × (h ≡ delay_value q c) × (1 ≤ q) × QueueWaits q (time_at (y ∷ p)) c out is (times (y ∷ p)) (values (y ∷ p))
+Keeps (latest v) h y p = (c : Datum) × (h ≡ (λ p. latest_event c (values p))) × (v ≡ latest_event c (values (y ∷ p)))
+Keeps (waiting left c) h y p = (q : ℕ) × (h ≡ after_value q c) × (1 ≤ left) × (time_at (y ∷ p) + left ≡ q)
+Keeps over h y p = (q : ℕ) × (c : Datum) × (h ≡ after_value q c) × (q ≤ time_at (y ∷ p))
+Keeps (recurring q left c) h y p = (h ≡ repeatedly_value q c) × (1 ≤ left) × (left ≤ q) × (time_at (y ∷ p) + left ≡ q * suc (time_at (y ∷ p) / q))
+Keeps (ticking z) h y p = (h ≡ time_value) × (z ≡ int_wrap w64 (pos (time_at (y ∷ p))))
+Keeps (summing z before) h y p = (h ≡ integral_value) × (int z ≡ integral_value (y ∷ p)) × (before ≡ last_or (int_of y.1) (map int_of (values p)))

@@ -1,7 +1,7 @@
 -- Networks over the rows of a table of stored closures, which contracts see as the list of the rows' keys.
 use Rattle.std.specs.Prelude.{◌≡◌, ℕ, List, [], Option, Some, None, slice_get}
 use Rattle.sample_core.specs.TypeTree.{TypeTree}
-use Rattle.leaf_core.specs.Expression.{Expression, sample}
+use Rattle.leaf_core.specs.Expression.{Expression, input}
 use Rattle.leaf_core.specs.ExpressionTyping.{ExpressionTyped}
 use Rattle.leaf_core.specs.KeyTree.{KeyTree}
 use Rattle.net_syntax.specs.Network.{Network, map_network}
@@ -10,7 +10,7 @@ use Rattle.net_syntax.specs.Typing.{Typed}
 -- the expression of a key, `x` where there is no key
 abbrev pub expression_in : Option KeyTree → Expression
 expression_in (Some key) = key.expr
-expression_in None = sample
+expression_in None = input
 
 -- the expression of row k
 abbrev pub row_expression : List KeyTree → ℕ → Expression

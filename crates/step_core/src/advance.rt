@@ -3,12 +3,12 @@
 ghost use Rattle.std.specs.Prelude.{◌≡◌, ◌<◌, ◌++◌, ◌∷◌, [], IfOk, OnOk, Some, length, map, slice_get};
 ghost use Rattle.sample_core.specs.Datum.{unit};
 ghost use Rattle.sample_core.specs.HasType.{HasType, TypedParams};
-ghost use Rattle.sample_core.specs.Seen.{datum_of};
+ghost use Rattle.sample_core.specs.ValueView.{datum_of};
 ghost use Rattle.leaf_core.specs.ExpressionValue.{value_of};
 ghost use Rattle.leaf_core.specs.KeyTree.{KeyTree};
 ghost use Rattle.leaf_table.specs.Rows.{rows_of};
-ghost use Rattle.step_core.specs.SeenRows.{rows_in};
-ghost use Rattle.step_core.specs.Held.{BegunWhere, MovedWhere, IsFirst};
+ghost use Rattle.step_core.specs.RowsView.{rows_in};
+ghost use Rattle.step_core.specs.CellValues.{StartsTyped, StepsTyped, IsFirst};
 ghost use Rattle.step_core.specs.RowTyping.{FitsRows};
 
 use leaf_table::{LeafId, LeafTable};
@@ -27,7 +27,7 @@ pub(crate) fn start(
 ) -> Result<Sample, Memory>
     requires { FitsRows (rows_of table.now) (rows_in net.now) }
     ensures { IfOk result
-        (λ y. BegunWhere (rows_of table.now) (rows_in net.now) (datum_of sample.now) (datum_of y) (map datum_of next.old.items) (map datum_of next.new.items)) }
+        (λ y. StartsTyped (rows_of table.now) (rows_in net.now) (datum_of sample.now) (datum_of y) (map datum_of next.old.items) (map datum_of next.new.items)) }
 {
     match net {
         Net::Arr(e) => table.call(*e, &[], sample),
@@ -44,33 +44,33 @@ pub(crate) fn start(
     }
 }
 
-/// The network's answer to a further sample, `dt` after the one before, and what stands in `held`
-/// behind the values of its cells. The cells hold the values in front of `held` before the sample;
+/// The network's answer to a further sample, `dt` after the one before, and what stands in `cells`
+/// behind the values of its cells. The cells hold the values in front of `cells` before the sample;
 /// what they hold after it is added to `next`. `Memory` where a growth was refused.
 pub(crate) fn step<'a>(
     alloc: Global,
     table: &LeafTable,
     net: &Net<LeafId>,
-    held: &'a [Sample],
+    cells: &'a [Sample],
     next: &mut Vec<Sample>,
     dt: u64,
     sample: &Sample,
 ) -> Result<(Sample, &'a [Sample]), Memory>
     requires { FitsRows (rows_of table.now) (rows_in net.now) }
     ensures { IfOk result
-        (λ r. MovedWhere (rows_of table.now) (rows_in net.now) (map datum_of held.now) (dt, datum_of sample.now) (datum_of r.0) (map datum_of next.old.items) (map datum_of next.new.items) (map datum_of r.1.now)) }
+        (λ r. StepsTyped (rows_of table.now) (rows_in net.now) (map datum_of cells.now) (dt, datum_of sample.now) (datum_of r.0) (map datum_of next.old.items) (map datum_of next.new.items) (map datum_of r.1.now)) }
 {
     match net {
-        Net::Arr(e) => Ok((table.call(*e, &[], sample)?, held)),
+        Net::Arr(e) => Ok((table.call(*e, &[], sample)?, cells)),
         Net::Seq(f, g) => {
-            let (between, rest) = step(alloc, table, f.get(), held, next, dt, sample)?;
+            let (between, rest) = step(alloc, table, f.get(), cells, next, dt, sample)?;
             let answer = step(alloc, table, g.get(), rest, next, dt, &between);
             drop(between);
             answer
         }
         Net::IPre(_) => {
             keep(alloc, next, sample)?;
-            first_held(alloc, held)
+            first_cell(alloc, cells)
         }
     }
 }
@@ -103,12 +103,12 @@ fn constant(table: &LeafTable, row: LeafId) -> Result<Sample, Memory>
     value
 }
 
-/// The value that is held first, and the rest.
-fn first_held<'a>(alloc: Global, held: &'a [Sample]) -> Result<(Sample, &'a [Sample]), Memory>
-    ensures { IfOk result (λ r. IsFirst (map datum_of held.now) (datum_of r.0) (map datum_of r.1.now)) }
+/// The value of the first cell, and those of the rest.
+fn first_cell<'a>(alloc: Global, cells: &'a [Sample]) -> Result<(Sample, &'a [Sample]), Memory>
+    ensures { IfOk result (λ r. IsFirst (map datum_of cells.now) (datum_of r.0) (map datum_of r.1.now)) }
 {
-    match held.split_first() {
+    match cells.split_first() {
         Some((value, rest)) => Ok((value.try_copy(alloc)?, rest)),
-        None => Ok((Sample::Unit, held)),
+        None => Ok((Sample::Unit, cells)),
     }
 }

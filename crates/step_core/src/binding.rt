@@ -2,20 +2,20 @@
 
 ghost use Rattle.std.specs.Prelude.{◌≡◌, IfOk, IfErr, OnOk, map};
 ghost use Rattle.leaf_table.specs.Rows.{rows_of};
-ghost use Rattle.leaf_core.specs.Seen.{expression_of};
+ghost use Rattle.leaf_core.specs.ExpressionView.{expression_of};
 ghost use Rattle.net_syntax.specs.Network.{map_network};
-ghost use Rattle.net_syntax.specs.Seen.{tree_of};
-ghost use Rattle.net_syntax.specs.SeenNeed.{need_of};
-ghost use Rattle.step_core.specs.Bound.{FitsTable};
+ghost use Rattle.net_syntax.specs.NetworkView.{tree_of};
+ghost use Rattle.net_syntax.specs.NeedView.{need_of};
+ghost use Rattle.step_core.specs.Binding.{FitsTable};
 ghost use Rattle.step_core.specs.RowTyping.{network_by};
-ghost use Rattle.step_core.specs.SeenRows.{row_number, rows_in};
-ghost use Rattle.step_core.specs.Found.{FindsAll, IsFirstRow, Lowered, Misses, MissesIn, Names, RowsFor};
+ghost use Rattle.step_core.specs.RowsView.{row_number, rows_in};
+ghost use Rattle.step_core.specs.Lookup.{FindsAll, IsFirstRow, LowersTo, Misses, MissesIn, Names, RowsFor};
 
 use crate::bound::Bound;
 use crate::fault::BindFault;
 use leaf_core::Expr;
 use leaf_table::{LeafId, LeafTable};
-use net_syntax::{LeafNeed, Net, Position, Sub, TypedNet, leaves};
+use net_syntax::{LeafNeed, Net, NetChild, Position, TypedNet, leaves};
 use sample_core::Memory;
 use std::alloc::Global;
 
@@ -71,7 +71,7 @@ fn lower<'a>(
     net: &Net<Expr>,
     rows: &'a [LeafId],
 ) -> Result<(Net<LeafId>, &'a [LeafId]), Memory>
-    ensures { IfOk result (λ r. Lowered (tree_of net.now) (map row_number rows.now) (rows_in r.0) (map row_number r.1.now)) }
+    ensures { IfOk result (λ r. LowersTo (tree_of net.now) (map row_number rows.now) (rows_in r.0) (map row_number r.1.now)) }
 {
     match net {
         Net::Arr(_) => {
@@ -94,14 +94,14 @@ fn lower<'a>(
 #[cycle(lower)]
 fn lower_sub<'a>(
     alloc: Global,
-    sub: &Sub<Expr>,
+    sub: &NetChild<Expr>,
     rows: &'a [LeafId],
-) -> Result<(Sub<LeafId>, &'a [LeafId]), Memory>
-    ensures { IfOk result (λ r. Lowered (map_network expression_of sub.now) (map row_number rows.now)
+) -> Result<(NetChild<LeafId>, &'a [LeafId]), Memory>
+    ensures { IfOk result (λ r. LowersTo (map_network expression_of sub.now) (map row_number rows.now)
         (map_network row_number r.0) (map row_number r.1.now)) }
 {
     let (lowered, rest) = lower(alloc, sub.get(), rows)?;
-    let lowered = Sub::new(alloc, lowered)?;
+    let lowered = NetChild::new(alloc, lowered)?;
     Ok((lowered, rest))
 }
 

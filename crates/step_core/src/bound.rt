@@ -1,8 +1,8 @@
 // Networks that are bound to a table.
 
 ghost use Rattle.std.specs.Prelude.{◌≡◌};
-ghost use Rattle.sample_core.specs.SeenType.{type_of};
-ghost use Rattle.step_core.specs.SeenRows.{rows_in};
+ghost use Rattle.sample_core.specs.TypeView.{type_of};
+ghost use Rattle.step_core.specs.RowsView.{rows_in};
 
 use leaf_table::LeafId;
 use net_syntax::Net;
@@ -17,14 +17,14 @@ pub struct Bound {
 }
 
 impl Model for Bound {
-    ghost use Rattle.step_core.specs.Bound.{Binding, binding_code};
+    ghost use Rattle.step_core.specs.Binding.{Binding, binding_code};
 
     ghost Value = { Binding };
 
     ghost coded = { binding_code };
 
-    ghost use Rattle.sample_core.specs.SeenType.{type_of};
-    ghost use Rattle.step_core.specs.SeenRows.{rows_in};
+    ghost use Rattle.sample_core.specs.TypeView.{type_of};
+    ghost use Rattle.step_core.specs.RowsView.{rows_in};
 
     ghost view = { λ b. record { input = type_of b.input; rows = rows_in b.net } };
 }

@@ -2,9 +2,9 @@
 
 ghost use Rattle.std.specs.Prelude.{◌≡◌, ◌<◌, ◌≤◌, ◌+◌, ◌^◌, [], IfOk, OnOk, OnErr};
 ghost use Rattle.sample_core.specs.HasType.{HasType};
-ghost use Rattle.sample_core.specs.Seen.{datum_of};
+ghost use Rattle.sample_core.specs.ValueView.{datum_of};
 ghost use Rattle.leaf_table.specs.Rows.{rows_of};
-ghost use Rattle.step_core.specs.Bound.{FitsTable};
+ghost use Rattle.step_core.specs.Binding.{FitsTable};
 
 use crate::advance;
 use crate::bound::Bound;
@@ -20,31 +20,31 @@ pub struct Runner<'a> {
     alloc: Global,
     bound: &'a Bound,
     table: &'a LeafTable,
-    held: Vec<Sample>,
+    cells: Vec<Sample>,
     next: Vec<Sample>,
     samples: u64,
     ghost fits: { ∥ FitsTable (rows_of table.now) bound.now ∥₁ },
 }
 
 impl<'a> Runner<'a> {
-    ghost use Rattle.step_core.specs.Running.{Running, network_in, StandsFor, Pushed};
-    ghost use Rattle.step_core.specs.SeenRunner.{running_of};
+    ghost use Rattle.step_core.specs.RunnerState.{RunnerState, network_in, StandsFor, Pushes};
+    ghost use Rattle.step_core.specs.RunnerView.{runner_state};
     ghost use Rattle.step_core.specs.RowTyping.{network_by};
 
     /// The network before its first sample, on the table that it was bound to, or on that table
     /// with more rows. It takes no memory.
     pub fn new(alloc: Global, bound: &'a Bound, table: &'a LeafTable) -> Runner<'a>
         requires { FitsTable (rows_of table.now) bound.now }
-        ensures stands { StandsFor (running_of result) [] }
-        ensures input { (running_of result).input ≡ bound.now.input }
-        ensures network { network_in (running_of result) ≡ network_by (rows_of table.now) bound.now.rows }
-        ensures samples { (running_of result).samples ≡ 0 }
+        ensures stands { StandsFor (runner_state result) [] }
+        ensures input { (runner_state result).input ≡ bound.now.input }
+        ensures network { network_in (runner_state result) ≡ network_by (rows_of table.now) bound.now.rows }
+        ensures samples { (runner_state result).samples ≡ 0 }
     {
         Runner {
             alloc,
             bound,
             table,
-            held: Vec::new(alloc),
+            cells: Vec::new(alloc),
             next: Vec::new(alloc),
             samples: 0,
         }
@@ -56,14 +56,14 @@ impl<'a> Runner<'a> {
     ///
     /// `Memory` where a growth was refused; the runner is then as it was before the call.
     pub fn push(&mut self, step: u64, sample: &Sample) -> Result<Sample, Memory>
-        requires typed { HasType (datum_of sample.now) (running_of self.old).input }
-        requires later { 0 < (running_of self.old).samples → (1 ≤ step) × (step < 2 ^ 63) }
-        requires room { (running_of self.old).samples < 2 ^ 63 }
-        ensures pushed { IfOk result (λ y. Pushed (running_of self.old) (step, datum_of sample.now) (datum_of y) (running_of self.new)) }
-        ensures counted { OnOk result ((running_of self.new).samples ≡ (running_of self.old).samples + 1) }
-        ensures network { network_in (running_of self.new) ≡ network_in (running_of self.old) }
-        ensures input { (running_of self.new).input ≡ (running_of self.old).input }
-        ensures unchanged { OnErr result (running_of self.new ≡ running_of self.old) }
+        requires typed { HasType (datum_of sample.now) (runner_state self.old).input }
+        requires later { 0 < (runner_state self.old).samples → (1 ≤ step) × (step < 2 ^ 63) }
+        requires room { (runner_state self.old).samples < 2 ^ 63 }
+        ensures pushed { IfOk result (λ y. Pushes (runner_state self.old) (step, datum_of sample.now) (datum_of y) (runner_state self.new)) }
+        ensures counted { OnOk result ((runner_state self.new).samples ≡ (runner_state self.old).samples + 1) }
+        ensures network { network_in (runner_state self.new) ≡ network_in (runner_state self.old) }
+        ensures input { (runner_state self.new).input ≡ (runner_state self.old).input }
+        ensures unchanged { OnErr result (runner_state self.new ≡ runner_state self.old) }
     {
         self.next.clear();
         let net = self.bound.net();
@@ -74,21 +74,21 @@ impl<'a> Runner<'a> {
                 self.alloc,
                 self.table,
                 net,
-                &self.held,
+                &self.cells,
                 &mut self.next,
                 step,
                 sample,
             )?;
             answer
         };
-        mem::swap(&mut self.held, &mut self.next);
+        mem::swap(&mut self.cells, &mut self.next);
         self.samples += 1;
         Ok(answer)
     }
 
     /// How many samples the network has answered. One that was refused isn't counted.
     pub fn samples(&self) -> u64
-        ensures { result ≡ (running_of self.now).samples }
+        ensures { result ≡ (runner_state self.now).samples }
     {
         self.samples
     }

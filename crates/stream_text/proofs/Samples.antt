@@ -13,7 +13,7 @@ use Rattle.sample_core.specs.ReadingLaws.{ReadingLaw}
 use Rattle.sample_core.specs.TypeTree.{TypeTree}
 use Rattle.sample_core.specs.declared.fault.ValueFault.{ValueFault}
 use Rattle.sample_core.specs.declared.fault.ValueFault.TheVariants as V
-use Rattle.stream_text.specs.StepText.{behind, is_step, followed, step_at_front, step_if, stepped}
+use Rattle.stream_text.specs.StepText.{behind, is_step, step_then, step_at_front, step_if, step_in}
 use Rattle.stream_text.specs.StreamText.{IsBefore, if_whole, whole_value, with_step, is_some, first_line, later_line, line_after, line_read}
 use Rattle.stream_text.specs.declared.fault.StreamFault.{StreamFault}
 use Rattle.stream_text.specs.declared.fault.StreamFault.TheVariants as S
@@ -87,12 +87,12 @@ step_range (d ∷ ds) f h =
     let small : nat_lt (digits_value 10 (d ∷ ds)) (2 ^ 63) ≡ true = grind (arith, nat_tests) in
     (grind (arith, nat_tests), grind (arith, nat_tests))
 
-followed_is : (b : Bool) (d : ℕ) (o : Option (List ℕ)) (s : ℕ × List ℕ) → followed b d o ≡ Some s → (b ≡ true) × (d ≡ s.0)
+followed_is : (b : Bool) (d : ℕ) (o : Option (List ℕ)) (s : ℕ × List ℕ) → step_then b d o ≡ Some s → (b ≡ true) × (d ≡ s.0)
 followed_is true d (Some rest) s h = (refl, ap (λ y. y.0) (let e : (d, rest) ≡ s = cc in e))
 followed_is true d None s h = absurd (cc)
 followed_is false d o s h = absurd (cc)
 
-stepped_range : (line : List ℕ) (s : ℕ × List ℕ) → stepped line ≡ Some s → (1 ≤ s.0) × (s.0 < 2 ^ 63)
+stepped_range : (line : List ℕ) (s : ℕ × List ℕ) → step_in line ≡ Some s → (1 ≤ s.0) × (s.0 < 2 ^ 63)
 stepped_range line s h = go (behind 43 line) h
   where
     go : (o : Option (List ℕ)) → step_if o ≡ Some s → (1 ≤ s.0) × (s.0 < 2 ^ 63)
@@ -116,10 +116,10 @@ read_few A n before line x e = go (nat_lt 1000000 n) refl e
 
 pub read_typed : ReadingLaw → (A : TypeTree) (n taken : ℕ) (before : Option Datum) (line : List ℕ) (x : ℕ × Datum) → IsBefore A taken before → line_read A n before line ≡ Ok x → HasType x.1 A
 read_typed law A n taken None line x t h = first_typed law A n line x (after_limits A n None line x h)
-read_typed law A n taken (Some v) line x t h = (later_typed law A n v (stepped line) x t (after_limits A n (Some v) line x h)).0
+read_typed law A n taken (Some v) line x t h = (later_typed law A n v (step_in line) x t (after_limits A n (Some v) line x h)).0
 
 pub read_step : ReadingLaw → (A : TypeTree) (n taken : ℕ) (before : Option Datum) (line : List ℕ) (x : ℕ × Datum) → IsBefore A taken before → line_read A n before line ≡ Ok x → 0 < taken → (1 ≤ x.0) × (x.0 < 2 ^ 63)
 read_step law A n taken None line x t h l = absurd (omega (arith, t))
 read_step law A n taken (Some v) line x t h l =
-    let s : HasType x.1 A × ((rest : List ℕ) × (stepped line ≡ Some (x.0, rest))) = later_typed law A n v (stepped line) x t (after_limits A n (Some v) line x h) in
+    let s : HasType x.1 A × ((rest : List ℕ) × (step_in line ≡ Some (x.0, rest))) = later_typed law A n v (step_in line) x t (after_limits A n (Some v) line x h) in
     stepped_range line (x.0, s.1.0) s.1.1

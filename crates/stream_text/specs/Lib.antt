@@ -1,4 +1,4 @@
 pub mod TextLines
 pub mod StepText
-pub mod SeenStream
+pub mod StreamView
 pub mod StreamText

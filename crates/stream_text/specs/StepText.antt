@@ -15,14 +15,14 @@ is_step [] = false
 is_step (d ∷ ds) = not (nat_eq d 48) && nat_lt (digits_value 10 (d ∷ ds)) (2 ^ 63)
 
 -- a step and what follows it, where it is one and something may follow
-abbrev pub followed : Bool → ℕ → Option (List ℕ) → Option (ℕ × List ℕ)
-followed true d (Some rest) = Some (d, rest)
-followed _ d _ = None
+abbrev pub step_then : Bool → ℕ → Option (List ℕ) → Option (ℕ × List ℕ)
+step_then true d (Some rest) = Some (d, rest)
+step_then _ d _ = None
 
 -- the digits at the front as a step, and what stands behind them and a space
 abbrev pub step_at_front : List ℕ → Option (ℕ × List ℕ)
 step_at_front bs =
-    followed (is_step (take_while is_ascii_digit bs)) (digits_value 10 (take_while is_ascii_digit bs)) (behind 32 (drop (prefix_len is_ascii_digit bs) bs))
+    step_then (is_step (take_while is_ascii_digit bs)) (digits_value 10 (take_while is_ascii_digit bs)) (behind 32 (drop (prefix_len is_ascii_digit bs) bs))
 
 -- the step at the front, and what stands behind it and a space, where there are bytes
 abbrev pub step_if : Option (List ℕ) → Option (ℕ × List ℕ)
@@ -30,5 +30,5 @@ step_if None = None
 step_if (Some bs) = step_at_front bs
 
 -- The step of a line that begins with `+`, a step and a space, and what stands behind these.
-abbrev pub stepped : List ℕ → Option (ℕ × List ℕ)
-stepped line = step_if (behind 43 line)
+abbrev pub step_in : List ℕ → Option (ℕ × List ℕ)
+step_in line = step_if (behind 43 line)

@@ -6,7 +6,7 @@ use Rattle.sample_core.specs.TypeTree.{TypeTree}
 use Rattle.sample_core.specs.Reading.{reading}
 use Rattle.sample_core.specs.declared.fault.ValueFault.{ValueFault}
 use Rattle.sample_core.specs.declared.fault.ValueFault.TheVariants as V
-use Rattle.stream_text.specs.StepText.{behind, stepped}
+use Rattle.stream_text.specs.StepText.{behind, step_in}
 use Rattle.stream_text.specs.TextLines.{lines_of}
 use Rattle.stream_text.specs.declared.fault.StreamFault.{StreamFault}
 use Rattle.stream_text.specs.declared.fault.StreamFault.TheVariants as S
@@ -47,37 +47,37 @@ IsBefore A taken (Some v) = HasType v A
 -- line 1 where no value is before it, else a later line
 abbrev pub line_after : TypeTree → ℕ → Option Datum → List ℕ → Result (ℕ × Datum) StreamFault
 line_after A n None line = first_line A n line
-line_after A n (Some before) line = later_line A n before (stepped line)
+line_after A n (Some before) line = later_line A n before (step_in line)
 
 -- The sample of line n, where the value before it is given; or what is wrong with the line. The limits come first.
 abbrev pub line_read : TypeTree → ℕ → Option Datum → List ℕ → Result (ℕ × Datum) StreamFault
 line_read A n before line = if nat_lt 1000000 n then Err (S.TooManySamples n) else (if nat_lt 65536 (length line) then Err (S.LineTooLong n) else line_after A n before line)
 
 -- What a stream holds: the samples of the lines before the first faulty one, and that line's fault.
-pub record Held : Type 0 where
+pub record Samples : Type 0 where
   pub taken : List (ℕ × Datum)
   pub fault : Option StreamFault
 
 -- a sample and what the rest holds behind it, or the fault alone
-abbrev pub and_on : Result (ℕ × Datum) StreamFault → (ℕ × Datum → Held) → Held
-and_on (Err fault) rest = record { taken = []; fault = Some fault }
-and_on (Ok x) rest = record { taken = x ∷ (rest x).taken; fault = (rest x).fault }
+abbrev pub then_samples : Result (ℕ × Datum) StreamFault → (ℕ × Datum → Samples) → Samples
+then_samples (Err fault) rest = record { taken = []; fault = Some fault }
+then_samples (Ok x) rest = record { taken = x ∷ (rest x).taken; fault = (rest x).fault }
 
 -- what the lines from line n on hold, where the value before them is given
-abbrev pub held_from : TypeTree → ℕ → Option Datum → List (List ℕ) → Held
-held_from A n before [] = record { taken = []; fault = None }
-held_from A n before (line ∷ lines) = and_on (line_read A n before line) (λ x. held_from A (suc n) (Some x.1) lines)
+abbrev pub samples_from : TypeTree → ℕ → Option Datum → List (List ℕ) → Samples
+samples_from A n before [] = record { taken = []; fault = None }
+samples_from A n before (line ∷ lines) = then_samples (line_read A n before line) (λ x. samples_from A (suc n) (Some x.1) lines)
 
 -- What a text holds, as a stream of values of type A.
-abbrev pub samples : TypeTree → List ℕ → Held
-samples A text = held_from A 1 None (lines_of text)
+abbrev pub samples : TypeTree → List ℕ → Samples
+samples A text = samples_from A 1 None (lines_of text)
 
--- The fault is what reading has; want of memory says nothing of the text.
+-- The fault is what reading has; `Memory` says nothing of the text.
 abbrev pub Refuses : {Y : Type 0} → StreamFault → Result Y StreamFault → Type 0
 Refuses S.Memory read = ⊤
 Refuses fault read = read ≡ Err fault
 
 -- What a call returned, seen by view, is what reading gives, unless memory ran out.
-abbrev pub Tells : {X Y : Type 0} → (X → Y) → Result X StreamFault → Result Y StreamFault → Type 0
-Tells view (Ok x) read = read ≡ Ok (view x)
-Tells view (Err fault) read = Refuses fault read
+abbrev pub TellsLine : {X Y : Type 0} → (X → Y) → Result X StreamFault → Result Y StreamFault → Type 0
+TellsLine view (Ok x) read = read ≡ Ok (view x)
+TellsLine view (Err fault) read = Refuses fault read

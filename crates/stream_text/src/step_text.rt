@@ -5,8 +5,8 @@ ghost use Rattle.std.specs.Char.{is_ascii_digit};
 ghost use Rattle.std.specs.Option.{option_copied};
 ghost use Rattle.std.specs.List.{prefix_len};
 ghost use Rattle.std.specs.Str.Parse.{digits_value};
-ghost use Rattle.stream_text.specs.StepText.{behind, is_step, stepped};
-ghost use Rattle.stream_text.specs.SeenStream.{seen_step};
+ghost use Rattle.stream_text.specs.StepText.{behind, is_step, step_in};
+ghost use Rattle.stream_text.specs.StreamView.{step_view};
 
 /// The greatest step, 2^63 - 1.
 const MOST: u64 = 0x7fff_ffff_ffff_ffff;
@@ -49,7 +49,7 @@ fn step_value(digits: &[u8]) -> Option<u64>
 /// The step of a line that begins with `+`, a step and a space, and what stands behind these;
 /// `None` where it doesn't.
 pub fn split_step(line: &[u8]) -> Option<(u64, &[u8])>
-    ensures { seen_step result ≡ stepped line.now }
+    ensures { step_view result ≡ step_in line.now }
 {
     let text = strip(b'+', line)?;
     let (digits, behind) = text.split_at(digits_len(text));

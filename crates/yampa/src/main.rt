@@ -4,8 +4,8 @@
 
 ghost use Rattle.std.specs.Prelude.{IfErr};
 ghost use Rattle.leaf_table.specs.Rows.{rows_of};
-ghost use Rattle.step_core.specs.Bound.{FitsTable};
-ghost use Rattle.yampa_run.specs.Printed.{IsAnswered};
+ghost use Rattle.step_core.specs.Binding.{FitsTable};
+ghost use Rattle.yampa_run.specs.FaultLines.{EndsRun};
 
 mod host;
 
@@ -146,7 +146,7 @@ fn run_bound(rt: &HostRuntime, bound: &Bound, table: &LeafTable) -> u8
 
 /// All of standard input.
 fn read_stream(rt: &HostRuntime) -> Result<Vec<u8>, RunFault>
-    ensures { IfErr result IsAnswered }
+    ensures { IfErr result EndsRun }
 {
     let mut stream = Vec::new(rt.alloc());
     match rt.stdin().read_to_end(&mut stream) {
@@ -164,7 +164,7 @@ fn read_stream(rt: &HostRuntime) -> Result<Vec<u8>, RunFault>
 /// Prints the bytes on standard output. How many lines a refused write printed isn't known, and
 /// isn't told.
 fn print(rt: &HostRuntime, bytes: &[u8]) -> Result<(), RunFault>
-    ensures { IfErr result IsAnswered }
+    ensures { IfErr result EndsRun }
 {
     let mut stdout = rt.stdout();
     match stdout.write_all(bytes).and_then(|()| stdout.flush()) {
@@ -175,7 +175,7 @@ fn print(rt: &HostRuntime, bytes: &[u8]) -> Result<(), RunFault>
 
 /// Prints why a run ended early. Answers its exit status.
 fn tell(rt: &HostRuntime, fault: &RunFault) -> u8
-    requires { IsAnswered fault.now }
+    requires { EndsRun fault.now }
 {
     match fault_line(rt.alloc(), fault) {
         Ok((status, line)) => complain(rt, status, &line),

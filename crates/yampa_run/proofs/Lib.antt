@@ -1,3 +1,3 @@
 pub mod Allowed
-pub mod Course
+pub mod RunSteps
 mod Networks

@@ -3,15 +3,15 @@ use Rattle.std.proofs.Common.{◌≡◌, ◌≢◌, inr, ℕ, List, Some, Ok, Er
 use Rattle.sample_core.specs.TypeTree.{TypeTree}
 use Rattle.leaf_core.specs.Expression.{Expression}
 use Rattle.net_syntax.specs.Network.{Network}
-use Rattle.net_syntax.specs.Stream.{TypedNetwork}
+use Rattle.net_syntax.specs.TypedNetwork.{TypedNetwork}
 use Rattle.net_text.specs.FileLaws.{IsFile, IsFileFault}
 use Rattle.net_text.specs.declared.fault.NetTextFault.{NetTextFault}
 use Rattle.net_types.proofs.Checks.{check_exact}
 use Rattle.net_types.specs.Check.{check}
 use Rattle.net_types.specs.declared.fault.TypeFault.{TypeFault}
 use Rattle.net_types.specs.declared.fault.TypeFault.TheVariants as T
-use Rattle.command_line.specs.CommandLine.{Asked, asked}
-use Rattle.yampa_run.specs.Preparation.{HasNoNetwork, IsNetworkIn, IsRefusal, RefusesText, RefusesTypes, Told, by_text, by_types, file_of}
+use Rattle.command_line.specs.CommandLine.{RequestTree, request_in}
+use Rattle.yampa_run.specs.Preparation.{HasNoNetwork, IsNetworkIn, IsRefusal, RefusesText, RefusesTypes, KnownFiles, by_text, by_types, file_of}
 use Rattle.yampa_run.specs.declared.preparation.Refusal.{Refusal}
 use Rattle.yampa_run.specs.declared.preparation.Refusal.TheVariants as Refused
 
@@ -30,6 +30,6 @@ types_refused bytes A net f file e (Refused.Line status line) h = inr (h.1, by_t
 types_refused bytes A net f file e Refused.Memory h = tt
 
 -- what is asked of a file that has no network is refused
-pub lacking : (told : Told) (words : List (List ℕ)) (what : Asked) → asked words ≡ Some what → (r : Refusal) → HasNoNetwork (told (file_of what)) r → IsRefusal told words r
+pub lacking : (told : KnownFiles) (words : List (List ℕ)) (what : RequestTree) → request_in words ≡ Some what → (r : Refusal) → HasNoNetwork (told (file_of what)) r → IsRefusal told words r
 lacking told words what e (Refused.Line status line) h = inr (record { what = what; asks = e; lacks = h })
 lacking told words what e Refused.Memory h = tt

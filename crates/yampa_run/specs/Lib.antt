@@ -1,6 +1,6 @@
-pub mod Printed
+pub mod FaultLines
 pub mod Output
-pub mod Course
-pub mod Files
-pub mod Refused
+pub mod RunSteps
+pub mod KnownFiles
+pub mod RefusalLines
 pub mod Preparation

@@ -5,7 +5,7 @@ use Rattle.sample_core.specs.Spelling.{spelling}
 use Rattle.sample_core.specs.TypeTree.{TypeTree}
 use Rattle.leaf_core.specs.Expression.{Expression}
 use Rattle.net_syntax.specs.Network.{Network}
-use Rattle.net_syntax.specs.Stream.{stream_of}
+use Rattle.net_syntax.specs.TypedNetwork.{stream_of}
 use Rattle.stream_text.specs.StreamText.{samples}
 use Rattle.stream_text.specs.declared.fault.StreamFault.{StreamFault}
 

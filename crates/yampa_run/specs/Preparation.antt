@@ -5,7 +5,7 @@ use Rattle.sample_core.specs.TypeTree.{TypeTree}
 use Rattle.sample_core.specs.Spelling.{type_spelling}
 use Rattle.leaf_core.specs.Expression.{Expression}
 use Rattle.net_syntax.specs.Network.{Network}
-use Rattle.net_syntax.specs.Stream.{TypedNetwork}
+use Rattle.net_syntax.specs.TypedNetwork.{TypedNetwork}
 use Rattle.net_syntax.specs.WithinLimits.{WithinLimits}
 use Rattle.net_text.specs.FileLaws.{IsFile, IsFileFault}
 use Rattle.net_text.specs.declared.fault.NetTextFault.{NetTextFault}
@@ -15,16 +15,16 @@ use Rattle.net_types.specs.declared.fault.TypeFault.{TypeFault}
 use Rattle.net_types.specs.declared.fault.TypeFault.TheVariants as T
 use Rattle.leaf_table.specs.declared.fault.TableFault.{TableFault}
 use Rattle.leaf_table.specs.declared.fault.TableFault.TheVariants as A
-use Rattle.command_line.specs.CommandLine.{Asked, types_of, run_of, asked, AsksHelp, AsksNothing}
-use Rattle.yampa_run.specs.Refused.{text_words, type_words, unread_words}
+use Rattle.command_line.specs.CommandLine.{RequestTree, types, run, request_in, AsksHelp, AsksNothing}
+use Rattle.yampa_run.specs.RefusalLines.{text_words, type_words, unread_words}
 use Rattle.yampa_run.specs.declared.preparation.Job.{Job}
 use Rattle.yampa_run.specs.declared.preparation.Job.TheVariants as J
 use Rattle.yampa_run.specs.declared.preparation.Refusal.{Refusal}
 use Rattle.yampa_run.specs.declared.preparation.Refusal.TheVariants as Refused
 
 -- what is told of files by their names: their bytes, or nothing
-abbrev pub Told : Type 0
-Told = List ℕ → Option (List ℕ)
+abbrev pub KnownFiles : Type 0
+KnownFiles = List ℕ → Option (List ℕ)
 
 -- t is the typed network of the bytes: they are a network file of its input type and its tree, and it has its types, weight and height within the limits
 pub record IsNetworkIn (bytes : List ℕ) (t : TypedNetwork) : Type 0 where
@@ -80,37 +80,37 @@ pub record TellsTypes (told : Option (List ℕ)) (text : List ℕ) : Type 0 wher
   pub lines : text ≡ types_lines net
 
 -- the words ask for a run of a file, and t is its typed network
-pub record RunsNetwork (told : Told) (words : List (List ℕ)) (t : TypedNetwork) : Type 0 where
+pub record RunsNetwork (told : KnownFiles) (words : List (List ℕ)) (t : TypedNetwork) : Type 0 where
   pub name : List ℕ
-  pub asks : asked words ≡ Some (run_of name)
+  pub asks : request_in words ≡ Some (run name)
   pub network : IsNetworkOf (told name) t
 
 -- the words ask for the types of a file, and these are the lines on its typed network
-pub record PrintsTypes (told : Told) (words : List (List ℕ)) (text : List ℕ) : Type 0 where
+pub record PrintsTypes (told : KnownFiles) (words : List (List ℕ)) (text : List ℕ) : Type 0 where
   pub name : List ℕ
-  pub asks : asked words ≡ Some (types_of name)
+  pub asks : request_in words ≡ Some (types name)
   pub net : TypedNetwork
   pub network : IsNetworkOf (told name) net
   pub lines : text ≡ types_lines net
 
 -- what is to be done is what the words ask for: a run, or a text that is help or the lines on types
-abbrev pub IsAsked : Told → List (List ℕ) → Job → Type 0
-IsAsked told words (J.Run t) = RunsNetwork told words t
-IsAsked told words (J.Print text) = AsksHelp words ⊎ PrintsTypes told words (string_bytes text)
+abbrev pub IsRequested : KnownFiles → List (List ℕ) → Job → Type 0
+IsRequested told words (J.Run t) = RunsNetwork told words t
+IsRequested told words (J.Print text) = AsksHelp words ⊎ PrintsTypes told words (string_bytes text)
 
 -- the file that is asked of
-abbrev pub file_of : Asked → List ℕ
-file_of (types_of name) = name
-file_of (run_of name) = name
+abbrev pub file_of : RequestTree → List ℕ
+file_of (types name) = name
+file_of (run name) = name
 
 -- the words ask something of a file that has no network
-pub record LacksNetwork (told : Told) (words : List (List ℕ)) (refusal : Refusal) : Type 0 where
-  pub what : Asked
-  pub asks : asked words ≡ Some what
+pub record LacksNetwork (told : KnownFiles) (words : List (List ℕ)) (refusal : Refusal) : Type 0 where
+  pub what : RequestTree
+  pub asks : request_in words ≡ Some what
   pub lacks : HasNoNetwork (told (file_of what)) refusal
 
 -- why nothing is done: the words ask for nothing that is there, with status 2; or their file has no network; or memory was short
-abbrev pub IsRefusal : Told → List (List ℕ) → Refusal → Type 0
+abbrev pub IsRefusal : KnownFiles → List (List ℕ) → Refusal → Type 0
 IsRefusal told words (Refused.Line status line) = ((status ≡ 2) × AsksNothing words) ⊎ LacksNetwork told words (Refused.Line status line)
 IsRefusal told words Refused.Memory = ⊤
 

@@ -1,7 +1,7 @@
 // Where files are read from.
 
 ghost use Rattle.std.specs.Prelude.{◌≡◌, ℕ, List, Option, None, IfErr, IfOk};
-ghost use Rattle.yampa_run.specs.Files.{AgreesWith};
+ghost use Rattle.yampa_run.specs.KnownFiles.{AgreesWith};
 
 use std::alloc::Global;
 

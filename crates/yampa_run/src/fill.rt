@@ -5,7 +5,7 @@
 //! items.
 
 ghost use Rattle.std.specs.Prelude.{◌≡◌, [], ◌∷◌, ◌++◌, Contains, IfSome, Ok, OnErr, OnOk, map};
-ghost use Rattle.sample_core.specs.Seen.{datum_of};
+ghost use Rattle.sample_core.specs.ValueView.{datum_of};
 ghost use Rattle.leaf_table.specs.Computes.{Computes};
 ghost use Rattle.leaf_table.specs.Rows.{rows_of};
 ghost use Rattle.yampa_run.specs.Preparation.{RefusesTable};

@@ -1,8 +1,8 @@
 // From the words of a command line to what is to be done.
 
 ghost use Rattle.std.specs.Prelude.{◌≡◌, ◌++◌, ℕ, List, Err, IfErr, IfOk, OnOk, Some, map, string_bytes};
-ghost use Rattle.command_line.specs.CommandLine.{ReadsWords, asked, seen_request};
-ghost use Rattle.yampa_run.specs.Preparation.{HasNoNetwork, IsAsked, IsNetworkIn, IsNetworkOf, IsRefusal, RefusesText, RefusesTypes, TellsTypes, Told, arrow_line, size_lines, types_lines};
+ghost use Rattle.command_line.specs.CommandLine.{ReadsWords, request_in, request_view};
+ghost use Rattle.yampa_run.specs.Preparation.{HasNoNetwork, IsRequested, IsNetworkIn, IsNetworkOf, IsRefusal, RefusesText, RefusesTypes, TellsTypes, KnownFiles, arrow_line, size_lines, types_lines};
 
 use crate::files::{FileFault, Files};
 use crate::printed::{push_number, push_words};
@@ -47,7 +47,7 @@ impl From<Memory> for Refusal {
 /// Answers the text that is to be printed or the network that is to be run; else the first refusal.
 pub fn prepare<F: Files>(alloc: Global, words: &[&str], files: &F) -> Result<Job, Refusal>
     // A network is run only where the words ask for a run of a file, and where its bytes are told, it is their typed network.
-    ensures asked { IfOk result (IsAsked (F.told files.now) (map (λ w. w.now) words.now)) }
+    ensures asked { IfOk result (IsRequested (F.told files.now) (map (λ w. w.now) words.now)) }
     ensures refused { IfErr result (IsRefusal (F.told files.now) (map (λ w. w.now) words.now)) }
 {
     match parse(alloc, words) {
@@ -58,8 +58,8 @@ pub fn prepare<F: Files>(alloc: Global, words: &[&str], files: &F) -> Result<Job
 
 /// What a request asks for.
 fn job_of<F: Files>(alloc: Global, request: Request<'_>, files: &F) -> Result<Job, Refusal>
-    ensures asked { IfOk result (λ job. (words : List (List ℕ)) → asked words ≡ Some (seen_request request.entry) → IsAsked (F.told files.now) words job) }
-    ensures refused { IfErr result (λ e. (words : List (List ℕ)) → asked words ≡ Some (seen_request request.entry) → IsRefusal (F.told files.now) words e) }
+    ensures asked { IfOk result (λ job. (words : List (List ℕ)) → request_in words ≡ Some (request_view request.entry) → IsRequested (F.told files.now) words job) }
+    ensures refused { IfErr result (λ e. (words : List (List ℕ)) → request_in words ≡ Some (request_view request.entry) → IsRefusal (F.told files.now) words e) }
 {
     match request {
         Request::Types { net } => match types_of(alloc, net, files) {
@@ -75,8 +75,8 @@ fn job_of<F: Files>(alloc: Global, request: Request<'_>, files: &F) -> Result<Jo
 
 /// What a reply to the words leads to.
 fn told_by(reply: Reply) -> Result<Job, Refusal>
-    ensures asked { IfOk result (λ job. (told : Told) (words : List (List ℕ)) → ReadsWords words (Err reply) → IsAsked told words job) }
-    ensures refused { IfErr result (λ e. (told : Told) (words : List (List ℕ)) → ReadsWords words (Err reply) → IsRefusal told words e) }
+    ensures asked { IfOk result (λ job. (told : KnownFiles) (words : List (List ℕ)) → ReadsWords words (Err reply) → IsRequested told words job) }
+    ensures refused { IfErr result (λ e. (told : KnownFiles) (words : List (List ℕ)) → ReadsWords words (Err reply) → IsRefusal told words e) }
 {
     match reply {
         Reply::Help(text) => Ok(Job::Print(text)),

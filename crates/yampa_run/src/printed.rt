@@ -2,7 +2,7 @@
 
 ghost use Rattle.std.specs.Prelude.{◌≡◌, ◌++◌, IfOk, OnOk, string_bytes};
 ghost use Rattle.std.specs.Fmt.{decimal};
-ghost use Rattle.yampa_run.specs.Printed.{IsAnswered, IsMet, at_line, line_of, status_of, stream_words, value_words};
+ghost use Rattle.yampa_run.specs.FaultLines.{EndsRun, IsMet, at_line, line_of, status_of, stream_words, value_words};
 
 use crate::fault::RunFault;
 use itoa::Buffer;
@@ -14,7 +14,7 @@ use stream_text::StreamFault;
 /// for what is wrong with the stream's text, 3 for reading, writing and memory. The fault must be
 /// one that a run answers, so not `Ended`. `Memory` where a growth was refused.
 pub fn fault_line(alloc: Global, fault: &RunFault) -> Result<(u8, String), Memory>
-    requires { IsAnswered fault.now }
+    requires { EndsRun fault.now }
     ensures status { IfOk result (λ r. r.0 ≡ status_of fault.now) }
     ensures line { IfOk result (λ r. string_bytes r.1 ≡ line_of fault.now) }
 {
@@ -41,7 +41,7 @@ fn status(fault: &RunFault) -> u8
 }
 
 fn push_fault(out: &mut String, fault: &RunFault) -> Result<(), Memory>
-    requires { IsAnswered fault.now }
+    requires { EndsRun fault.now }
     ensures { OnOk result (string_bytes out.new ≡ string_bytes out.old ++ line_of fault.now) }
 {
     match fault {

@@ -1,7 +1,7 @@
 // What the program prints of a file that is refused.
 
 ghost use Rattle.std.specs.Prelude.{◌≡◌, codes, IfOk, string_bytes};
-ghost use Rattle.yampa_run.specs.Refused.{byte_words, expression_words, line_on, place_words, text_words, type_words, unread_words};
+ghost use Rattle.yampa_run.specs.RefusalLines.{byte_words, expression_words, line_on, place_words, text_words, type_words, unread_words};
 
 use crate::printed::{push_number, push_words};
 use leaf_core::ExprFault;

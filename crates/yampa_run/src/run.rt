@@ -3,14 +3,14 @@
 ghost use Rattle.std.specs.Prelude.{◌≡◌, ◌<◌, ◌≤◌, ◌^◌, [], ◌∷◌, ◌++◌, IfErr, IfOk, None, OnErr, OnOk, Some};
 ghost use Rattle.std.specs.Option.{option_map};
 ghost use Rattle.sample_core.specs.HasType.{HasType};
-ghost use Rattle.sample_core.specs.Seen.{datum_of};
-ghost use Rattle.sample_core.specs.SeenType.{type_of};
+ghost use Rattle.sample_core.specs.ValueView.{datum_of};
+ghost use Rattle.sample_core.specs.TypeView.{type_of};
 ghost use Rattle.sample_core.specs.Spelling.{spelling};
 ghost use Rattle.leaf_table.specs.Rows.{rows_of};
-ghost use Rattle.step_core.specs.Bound.{FitsTable};
-ghost use Rattle.step_core.specs.SeenRunner.{running_of};
-ghost use Rattle.yampa_run.specs.Course.{Answers, IsAt, RunsLine, Stops, ended_by, run_of, taken_by};
-ghost use Rattle.yampa_run.specs.Printed.{IsAnswered};
+ghost use Rattle.step_core.specs.Binding.{FitsTable};
+ghost use Rattle.step_core.specs.RunnerView.{runner_state};
+ghost use Rattle.yampa_run.specs.RunSteps.{Answers, IsAt, RunsLine, Stops, run_fault_of, run_of, samples_run};
+ghost use Rattle.yampa_run.specs.FaultLines.{EndsRun};
 ghost use Rattle.stream_text.specs.StreamText.{Refuses, line_read};
 
 use crate::fault::{RunFault, RunReport};
@@ -22,7 +22,7 @@ use stream_text::{StreamFault, read_line, split_line};
 
 /// What a run keeps from one line to the next, beside its runner.
 #[derive(Drop)]
-struct Course {
+struct LineState {
     /// The value of the line before.
     before: Option<Sample>,
     /// Room for a line of output.
@@ -31,7 +31,7 @@ struct Course {
 
 /// Runs the network on the text of a stream, over the table that it was bound to or that table
 /// with more rows. Adds a line for each sample to `out`, which must be empty: the spelling of what
-/// the network puts out, and a line feed. The report counts the lines.
+/// the network outputs, and a line feed. The report counts the lines.
 ///
 /// A refusal counts the lines before it; these are in `out`, each whole. `Stream`: the first line,
 /// counted from 1, that is no sample is refused, as `TooManySamples`, `LineTooLong`, `Step`,
@@ -47,14 +47,14 @@ pub fn run_whole(
     requires empty { out.old.items ≡ [] }
     ensures written { OnOk result (out.new.items ≡ (run_of (rows_of table.now) bound.now stream.now).bytes) }
     ensures faultless { OnOk result ((run_of (rows_of table.now) bound.now stream.now).fault ≡ None) }
-    ensures lines { IfOk result (λ report. report.lines ≡ taken_by bound.now stream.now) }
+    ensures lines { IfOk result (λ report. report.lines ≡ samples_run bound.now stream.now) }
     ensures stopped { IfErr result (Stops (rows_of table.now) bound.now stream.now out.new.items) }
-    ensures answered { IfErr result IsAnswered }
+    ensures answered { IfErr result EndsRun }
 {
     // By these laws the sample that was read off a line is of the type.
     reading_laws();
     let mut runner = Runner::new(alloc, bound, table);
-    let mut course = Course {
+    let mut state = LineState {
         before: None,
         text: String::new(alloc),
     };
@@ -68,12 +68,12 @@ pub fn run_whole(
             lines + 1,
             line,
             &mut runner,
-            &mut course,
+            &mut state,
             out,
         ) {
             Ok(()) => {}
             Err(fault) => {
-                drop(course);
+                drop(state);
                 drop(runner);
                 return Err(ended(lines, fault));
             }
@@ -81,14 +81,14 @@ pub fn run_whole(
         lines += 1;
         rest = after;
     }
-    drop(course);
+    drop(state);
     drop(runner);
     Ok(RunReport { lines })
 }
 
 /// What a fault of the stream ends a run with.
 fn ended(lines: u64, fault: StreamFault) -> RunFault
-    ensures { result ≡ ended_by lines fault }
+    ensures { result ≡ run_fault_of lines fault }
 {
     match fault {
         StreamFault::Memory => RunFault::Memory { lines },
@@ -103,18 +103,18 @@ fn run_line(
     number: u64,
     line: &[u8],
     runner: &mut Runner<'_>,
-    course: &mut Course,
+    state: &mut LineState,
     out: &mut Vec<u8>,
 ) -> Result<(), StreamFault>
-    requires { IsAt (running_of runner.old) (type_of ty.now) number (option_map datum_of course.old.before) }
-    ensures runs { OnOk result (RunsLine (running_of runner.old) number line.now (option_map datum_of course.old.before) out.old.items (running_of runner.new) (option_map datum_of course.new.before) out.new.items) }
-    ensures told { IfErr result (λ fault. Refuses fault (line_read (type_of ty.now) number (option_map datum_of course.old.before) line.now)) }
+    requires { IsAt (runner_state runner.old) (type_of ty.now) number (option_map datum_of state.old.before) }
+    ensures runs { OnOk result (RunsLine (runner_state runner.old) number line.now (option_map datum_of state.old.before) out.old.items (runner_state runner.new) (option_map datum_of state.new.before) out.new.items) }
+    ensures told { IfErr result (λ fault. Refuses fault (line_read (type_of ty.now) number (option_map datum_of state.old.before) line.now)) }
     ensures kept { OnErr result (out.new.items ≡ out.old.items) }
 {
     // By these laws the sample is of the type.
     reading_laws();
-    match read_line(alloc, ty, number, course.before.as_ref(), line) {
-        Ok((step, sample)) => run_sample(step, sample, runner, course, out),
+    match read_line(alloc, ty, number, state.before.as_ref(), line) {
+        Ok((step, sample)) => run_sample(step, sample, runner, state, out),
         Err(fault) => Err(fault),
     }
 }
@@ -124,22 +124,22 @@ fn run_sample(
     step: u64,
     sample: Sample,
     runner: &mut Runner<'_>,
-    course: &mut Course,
+    state: &mut LineState,
     out: &mut Vec<u8>,
 ) -> Result<(), StreamFault>
-    requires typed { HasType (datum_of sample) (running_of runner.old).input }
-    requires later { 0 < (running_of runner.old).samples → (1 ≤ step) × (step < 2 ^ 63) }
-    requires room { (running_of runner.old).samples < 2 ^ 63 }
-    ensures answers { OnOk result (Answers (running_of runner.old) (step, datum_of sample) out.old.items (running_of runner.new) out.new.items) }
-    ensures keeps { OnOk result (option_map datum_of course.new.before ≡ Some (datum_of sample)) }
+    requires typed { HasType (datum_of sample) (runner_state runner.old).input }
+    requires later { 0 < (runner_state runner.old).samples → (1 ≤ step) × (step < 2 ^ 63) }
+    requires room { (runner_state runner.old).samples < 2 ^ 63 }
+    ensures answers { OnOk result (Answers (runner_state runner.old) (step, datum_of sample) out.old.items (runner_state runner.new) out.new.items) }
+    ensures keeps { OnOk result (option_map datum_of state.new.before ≡ Some (datum_of sample)) }
     ensures memory { IfErr result (λ fault. fault ≡ StreamFault.Memory) }
     ensures kept { OnErr result (out.new.items ≡ out.old.items) }
 {
     // Samples are let go by calls: where a scope ends, a drop is written out in place, and proved
     // there.
-    match answer(step, &sample, runner, &mut course.text, out) {
+    match answer(step, &sample, runner, &mut state.text, out) {
         Ok(()) => {
-            drop(course.before.replace(sample));
+            drop(state.before.replace(sample));
             Ok(())
         }
         Err(Memory) => {
@@ -157,10 +157,10 @@ fn answer(
     text: &mut String,
     out: &mut Vec<u8>,
 ) -> Result<(), Memory>
-    requires typed { HasType (datum_of sample.now) (running_of runner.old).input }
-    requires later { 0 < (running_of runner.old).samples → (1 ≤ step) × (step < 2 ^ 63) }
-    requires room { (running_of runner.old).samples < 2 ^ 63 }
-    ensures answers { OnOk result (Answers (running_of runner.old) (step, datum_of sample.now) out.old.items (running_of runner.new) out.new.items) }
+    requires typed { HasType (datum_of sample.now) (runner_state runner.old).input }
+    requires later { 0 < (runner_state runner.old).samples → (1 ≤ step) × (step < 2 ^ 63) }
+    requires room { (runner_state runner.old).samples < 2 ^ 63 }
+    ensures answers { OnOk result (Answers (runner_state runner.old) (step, datum_of sample.now) out.old.items (runner_state runner.new) out.new.items) }
     ensures kept { OnErr result (out.new.items ≡ out.old.items) }
 {
     let answer = runner.push(step, sample)?;

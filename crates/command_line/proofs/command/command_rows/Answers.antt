@@ -1,10 +1,10 @@
 use Rattle.std.proofs.Common.{refl, inl}
 use Rattle.clap.proofs.OnLiterals.{clap_on_literals}
-use Rattle.command_line.specs.CommandLine.{asked, AsksHelp, AsksNothing}
+use Rattle.command_line.specs.CommandLine.{request_in, AsksHelp, AsksNothing}
 use Rattle.command_line.proofs.command.command_rows.Goals as goal
 
 pub returns-clause-asked : goal.returns-clause-asked
-unfolding clap_on_literals asked
+unfolding clap_on_literals request_in
 returns-clause-asked c = (refl, refl, refl)
 
 pub returns-clause-help : goal.returns-clause-help
@@ -12,5 +12,5 @@ unfolding clap_on_literals AsksHelp
 returns-clause-help c = (inl refl, inl refl)
 
 pub returns-clause-nothing : goal.returns-clause-nothing
-unfolding clap_on_literals asked AsksNothing
+unfolding clap_on_literals request_in AsksNothing
 returns-clause-nothing c = ((refl, λ e. cc), (refl, λ e. cc), (refl, λ e. cc), (refl, λ e. cc))

@@ -1,6 +1,6 @@
 use Rattle.std.proofs.Common.{◌≡◌, ◌↔◌, ◌+◌, ◌*◌, drop, map}
 use Rattle.leaf_core.specs.Expression.{expressions_of, expression_size, expressions_size}
-use Rattle.leaf_core.specs.Seen.{expression_of}
+use Rattle.leaf_core.specs.ExpressionView.{expression_of}
 use Rattle.leaf_core.proofs.equal.+same.Given as goal
 
 -- the elements to come are equal exactly where all are

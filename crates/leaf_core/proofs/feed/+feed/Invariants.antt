@@ -1,12 +1,12 @@
 use Rattle.std.proofs.Common.{◌≡◌, ◌+◌, ◌*◌, fold, drop, map}
-use Rattle.leaf_core.specs.Seen.{expression_of}
+use Rattle.leaf_core.specs.ExpressionView.{expression_of}
 use Rattle.leaf_core.specs.Expression.{expressions_of, expression_size, expressions_size}
-use Rattle.leaf_core.specs.Fed.{expressions_fed}
+use Rattle.leaf_core.specs.HashWrites.{expressions_writes}
 use Rattle.leaf_core.proofs.feed.+feed.Given as goal
 
 abbrev pub invariant-feed_all-loop-e : goal.invariant-feed_all-loop-e
 invariant-feed_all-loop-e g l =
-    fold g.H.Hasher.write l.state (expressions_fed (expressions_of (map expression_of (drop l.e-index l.e-items)))) ≡ fold g.H.Hasher.write l.initial.state (expressions_fed (expressions_of (map expression_of l.e-items)))
+    fold g.H.Hasher.write l.state (expressions_writes (expressions_of (map expression_of (drop l.e-index l.e-items)))) ≡ fold g.H.Hasher.write l.initial.state (expressions_writes (expressions_of (map expression_of l.e-items)))
 
 abbrev pub decreases-feed_expr : goal.decreases-feed_expr
 decreases-feed_expr g l = 6 * expression_size (expression_of l.expr.now) + 1

@@ -1,6 +1,6 @@
 use Rattle.std.proofs.Common.{◌≡◌, ◌+◌, ◌*◌, ◌≤◌, ◌↔◌, drop, map}
 use Rattle.leaf_core.specs.Expression.{expressions_of, expression_size, expressions_size}
-use Rattle.leaf_core.specs.Seen.{expression_of}
+use Rattle.leaf_core.specs.ExpressionView.{expression_of}
 use Rattle.leaf_core.specs.ExpressionLimits.{heights_of, nodes_in_all}
 use Rattle.leaf_core.proofs.limits.+left.Given as goal
 

@@ -1,6 +1,6 @@
 use Rattle.std.proofs.Common.{◌≡◌, arith, pos}
 use Rattle.std.proofs.lemmas.Grind.{common_steps}
-use Rattle.sample_core.specs.Seen.{datum_of}
+use Rattle.sample_core.specs.ValueView.{datum_of}
 use Rattle.leaf_core.proofs.Places.{element_found, element_missing}
 use Rattle.leaf_core.proofs.operations.element.Goals as goal
 

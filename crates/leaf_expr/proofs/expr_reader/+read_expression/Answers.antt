@@ -7,13 +7,12 @@ use Rattle.leaf_expr.specs.Front.{read_front, front_left}
 use Rattle.leaf_expr.specs.Grammar.{leaf, expression_sort, e}
 use Rattle.leaf_expr.specs.Language.{no_place}
 use Rattle.leaf_expr.specs.ReadText.{Gives, tree_at, form_at, row_parts, items_at, items_left, last_two_at, expression_left}
-use Rattle.leaf_core.specs.Seen.{expression_of}
+use Rattle.leaf_core.specs.ExpressionView.{expression_of}
 use Rattle.leaf_expr.specs.Token.{opening, word, tokens_from}
 use Rattle.leaf_expr.proofs.FrontSteps.{front_form, front_word, front_refused}
 use Rattle.leaf_expr.proofs.ItemSteps.{done, more, gone, list_parts, list_refuses, no_list_type}
 use Rattle.leaf_expr.proofs.ReadCounts.{read_shortens}
-use Rattle.leaf_expr.proofs.ReadSteps.{told, told_memory, headless, named, unnamed, no_part, no_end, one_part, no_second}
-use Rattle.leaf_expr.proofs.ReadSteps.{no_two_end, two_parts, two_refused, two_done, no_last_two, three_parts, no_typed, no_typed_two, typed_parts}
+use Rattle.leaf_expr.proofs.ReadSteps.{told, told_memory, headless, named, unnamed, no_part, no_end, one_part, no_second, no_two_end, two_parts, two_refused, two_done, no_last_two, three_parts, no_typed, no_typed_two, typed_parts}
 use Rattle.leaf_expr.specs.declared.form.Form.TheVariants as Form
 use Rattle.leaf_expr.proofs.expr_reader.+read_expression.Goals as goal
 

@@ -1,6 +1,6 @@
 use Rattle.std.proofs.Common.{◌≡◌, ◌+◌, ◌*◌, length, map}
 use Rattle.leaf_expr.specs.ReadText.{items_at}
-use Rattle.leaf_core.specs.Seen.{expression_of}
+use Rattle.leaf_core.specs.ExpressionView.{expression_of}
 use Rattle.leaf_expr.specs.Token.{tokens_from}
 use Rattle.leaf_expr.proofs.ItemSteps.{with_front}
 use Rattle.leaf_expr.proofs.expr_reader.+read_expression.Given as goal

@@ -1,5 +1,5 @@
 use Rattle.leaf_expr.specs.Grammar.{expression_sort}
-use Rattle.leaf_core.specs.Seen.{expression_of}
+use Rattle.leaf_core.specs.ExpressionView.{expression_of}
 use Rattle.leaf_expr.proofs.Answered.{whole_found, whole_only, whole_refused}
 use Rattle.leaf_expr.proofs.expr_reader.read_expr.Goals as goal
 

@@ -1,10 +1,10 @@
 use Rattle.std.proofs.Common.{◌≡◌, ◌++◌, ◌∷◌, [], subst, string_bytes, arith}
 use Rattle.std.specs.Prelude.{codes}
 use Rattle.std.proofs.lemmas.Grind.{common_steps}
-use Rattle.sample_core.specs.SeenType.{type_of}
+use Rattle.sample_core.specs.TypeView.{type_of}
 use Rattle.leaf_core.specs.Expression.{expressions_of}
-use Rattle.leaf_expr.specs.Part.{more, last, spelling, spellings}
-use Rattle.leaf_expr.specs.Printed.{type_part, expression_part, expression_parts}
+use Rattle.leaf_expr.specs.Sexpr.{more, last, spelling, spellings}
+use Rattle.leaf_expr.specs.Printing.{type_sexpr, expression_sexpr, expression_sexprs}
 use Rattle.leaf_expr.proofs.Joined.{adds_behind, adds_next, element_smaller}
 use Rattle.leaf_expr.proofs.print.+push_expr.Goals as goal
 
@@ -17,13 +17,13 @@ pub push_last-returns : goal.push_last-returns
 push_last-returns t c =
     let old = string_bytes c.args.text.now in
     let mid = string_bytes c.push_next.new.text in
-    let a = subst (λ e. mid ≡ old ++ (32 ∷ spelling (expression_part e))) c.get.ensures c.in_ok-push_next.ensures in
-    adds_next c.push_word.result old mid (string_bytes c.push_word.new.text) (expression_part c.args.a.now) last a c.push_word.ensures
+    let a = subst (λ e. mid ≡ old ++ (32 ∷ spelling (expression_sexpr e))) c.get.ensures c.in_ok-push_next.ensures in
+    adds_next c.push_word.result old mid (string_bytes c.push_word.new.text) (expression_sexpr c.args.a.now) last a c.push_word.ensures
 
 pub push_one-returns : goal.push_one-returns
 push_one-returns t c =
     adds_behind c.push_last.result (string_bytes c.args.text.now) (string_bytes c.push_open.new.text) (string_bytes c.push_last.new.text)
-    (40 ∷ c.args.name.now) (spellings (more (expression_part c.args.a.now) last) ++ 41 ∷ []) c.in_ok-push_open.ensures c.push_last.ensures
+    (40 ∷ c.args.name.now) (spellings (more (expression_sexpr c.args.a.now) last) ++ 41 ∷ []) c.in_ok-push_open.ensures c.push_last.ensures
 
 pub push_two-returns : goal.push_two-returns
 push_two-returns t c =
@@ -31,10 +31,10 @@ push_two-returns t c =
     let begun = string_bytes c.push_open.new.text in
     let mid = string_bytes c.push_next.new.text in
     let new = string_bytes c.push_last.new.text in
-    let b = more (expression_part c.args.b.now) last in
-    let a = subst (λ e. mid ≡ begun ++ (32 ∷ spelling (expression_part e))) c.get.ensures c.in_ok-push_next.ensures in
-    adds_behind c.push_last.result old begun new (40 ∷ c.args.name.now) (spellings (more (expression_part c.args.a.now) b) ++ 41 ∷ [])
-    c.in_ok-push_open.ensures (adds_next c.push_last.result begun mid new (expression_part c.args.a.now) b a c.push_last.ensures)
+    let b = more (expression_sexpr c.args.b.now) last in
+    let a = subst (λ e. mid ≡ begun ++ (32 ∷ spelling (expression_sexpr e))) c.get.ensures c.in_ok-push_next.ensures in
+    adds_behind c.push_last.result old begun new (40 ∷ c.args.name.now) (spellings (more (expression_sexpr c.args.a.now) b) ++ 41 ∷ [])
+    c.in_ok-push_open.ensures (adds_next c.push_last.result begun mid new (expression_sexpr c.args.a.now) b a c.push_last.ensures)
 
 pub push_three-returns : goal.push_three-returns
 push_three-returns t c =
@@ -43,13 +43,13 @@ push_three-returns t c =
     let one = string_bytes c.push_next.new.text in
     let two = string_bytes c.push_next-2.new.text in
     let new = string_bytes c.push_last.new.text in
-    let third = more (expression_part c.args.c.now) last in
-    let second = more (expression_part c.args.b.now) third in
-    let a = subst (λ e. one ≡ begun ++ (32 ∷ spelling (expression_part e))) c.get.ensures c.in_ok-push_next.ensures in
-    let b = subst (λ e. two ≡ one ++ (32 ∷ spelling (expression_part e))) c.get-2.ensures c.in_ok-push_next-2.ensures in
-    let rest = adds_next c.push_last.result one two new (expression_part c.args.b.now) third b c.push_last.ensures in
-    adds_behind c.push_last.result old begun new (40 ∷ c.args.name.now) (spellings (more (expression_part c.args.a.now) second) ++ 41 ∷ [])
-    c.in_ok-push_open.ensures (adds_next c.push_last.result begun one new (expression_part c.args.a.now) second a rest)
+    let third = more (expression_sexpr c.args.c.now) last in
+    let second = more (expression_sexpr c.args.b.now) third in
+    let a = subst (λ e. one ≡ begun ++ (32 ∷ spelling (expression_sexpr e))) c.get.ensures c.in_ok-push_next.ensures in
+    let b = subst (λ e. two ≡ one ++ (32 ∷ spelling (expression_sexpr e))) c.get-2.ensures c.in_ok-push_next-2.ensures in
+    let rest = adds_next c.push_last.result one two new (expression_sexpr c.args.b.now) third b c.push_last.ensures in
+    adds_behind c.push_last.result old begun new (40 ∷ c.args.name.now) (spellings (more (expression_sexpr c.args.a.now) second) ++ 41 ∷ [])
+    c.in_ok-push_open.ensures (adds_next c.push_last.result begun one new (expression_sexpr c.args.a.now) second a rest)
 
 pub push_list-returns : goal.push_list-returns
 push_list-returns t c =
@@ -57,8 +57,8 @@ push_list-returns t c =
     let begun = string_bytes c.push_word.new.text in
     let mid = string_bytes c.push_next_type.new.text in
     let new = string_bytes c.push_elements.new.text in
-    let T = type_part (type_of c.args.ty.now) in
-    let all = expression_parts (expressions_of c.args.all.now) in
+    let T = type_sexpr (type_of c.args.ty.now) in
+    let all = expression_sexprs (expressions_of c.args.all.now) in
     adds_behind c.push_elements.result old begun new
     (codes "(list") (spellings (more T all) ++ 41 ∷ []) c.in_ok-push_word.ensures
     (adds_next c.push_elements.result begun mid new T all c.in_ok-push_next_type.ensures c.push_elements.ensures)

@@ -1,9 +1,9 @@
 use Rattle.std.proofs.Common.{◌≡◌, ◌+◌, ◌*◌, ◌++◌, string_bytes, drop, map}
 use Rattle.sample_core.specs.Adding.{Extends}
 use Rattle.leaf_core.specs.Expression.{expression_size, expressions_size, expressions_of}
-use Rattle.leaf_expr.specs.Part.{spellings}
-use Rattle.leaf_expr.specs.Printed.{expression_parts}
-use Rattle.leaf_core.specs.Seen.{expression_of}
+use Rattle.leaf_expr.specs.Sexpr.{spellings}
+use Rattle.leaf_expr.specs.Printing.{expression_sexprs}
+use Rattle.leaf_core.specs.ExpressionView.{expression_of}
 use Rattle.leaf_expr.proofs.print.+push_expr.Given as goal
 
 abbrev pub decreases-push_expr : goal.decreases-push_expr
@@ -33,4 +33,4 @@ decreases-push_list l = 5 * expressions_size (expressions_of l.all.now) + 3
 -- the text begins as it did, and what stands there and the spelling of the elements to come is the whole
 abbrev pub invariant-push_elements-loop-e : goal.invariant-push_elements-loop-e
 invariant-push_elements-loop-e l =
-    Extends (string_bytes l.initial.text) (string_bytes l.text) × (string_bytes l.text ++ spellings (expression_parts (expressions_of (map expression_of (drop l.e-index l.e-items)))) ≡ string_bytes l.initial.text ++ spellings (expression_parts (expressions_of (map expression_of l.e-items))))
+    Extends (string_bytes l.initial.text) (string_bytes l.text) × (string_bytes l.text ++ spellings (expression_sexprs (expressions_of (map expression_of (drop l.e-index l.e-items)))) ≡ string_bytes l.initial.text ++ spellings (expression_sexprs (expressions_of (map expression_of l.e-items))))

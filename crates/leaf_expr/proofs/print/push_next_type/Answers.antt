@@ -1,6 +1,6 @@
 use Rattle.std.proofs.Common.{◌∷◌, [], sym, subst, string_bytes}
 use Rattle.sample_core.specs.Adding.{Adds}
-use Rattle.sample_core.specs.SeenType.{type_of}
+use Rattle.sample_core.specs.TypeView.{type_of}
 use Rattle.sample_core.specs.Spelling.{type_spelling}
 use Rattle.leaf_expr.proofs.Joined.{adds_behind, type_spelled}
 use Rattle.leaf_expr.proofs.print.push_next_type.Goals as goal

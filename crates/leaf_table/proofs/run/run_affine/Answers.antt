@@ -1,6 +1,6 @@
 use Rattle.std.proofs.Common.{◌≡◌, ◌+ℤ◌, ◌*ℤ◌, w64, to_z, of_z, rules}
 use Rattle.std.specs.Int.{int_wrap}
-use Rattle.sample_core.specs.Seen.{datum_of}
+use Rattle.sample_core.specs.ValueView.{datum_of}
 use Rattle.leaf_core.specs.declared.shape.Shape.TheVariants as S
 use Rattle.leaf_table.proofs.Shapes.{by_shape, affine_value}
 use Rattle.leaf_table.proofs.run.run_affine.Goals as goal

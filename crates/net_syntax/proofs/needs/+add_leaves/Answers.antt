@@ -1,10 +1,10 @@
 use Rattle.std.proofs.Common.{rules, ◌≡◌, ◌++◌, ◌∷◌, [], map, refl, ap, sym, subst, arith}
 use Rattle.std.proofs.lemmas.Grind.{common_steps}
-use Rattle.sample_core.specs.SeenType.{type_of}
-use Rattle.leaf_core.specs.Seen.{expression_of}
+use Rattle.sample_core.specs.TypeView.{type_of}
+use Rattle.leaf_core.specs.ExpressionView.{expression_of}
 use Rattle.net_syntax.specs.Leaves.{IsTyped}
 use Rattle.net_syntax.specs.Network.{seq, map_network}
-use Rattle.net_syntax.specs.Seen.{tree_of}
+use Rattle.net_syntax.specs.NetworkView.{tree_of}
 use Rattle.net_syntax.proofs.AddedLeaves.{adds_seq, if_ok, typed_first, typed_second}
 use Rattle.net_syntax.proofs.needs.+add_leaves.Goals as goal
 

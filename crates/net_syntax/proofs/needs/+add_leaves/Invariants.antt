@@ -1,6 +1,6 @@
 use Rattle.std.proofs.Common.{◌+◌, ◌*◌}
 use Rattle.net_syntax.specs.Network.{network_size}
-use Rattle.net_syntax.specs.Seen.{network_of}
+use Rattle.net_syntax.specs.NetworkView.{network_of}
 use Rattle.net_syntax.proofs.needs.+add_leaves.Given as goal
 
 abbrev pub decreases-add_leaves : goal.decreases-add_leaves

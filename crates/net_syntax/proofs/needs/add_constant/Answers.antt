@@ -1,5 +1,5 @@
 use Rattle.std.proofs.Common.{refl, ap}
-use Rattle.sample_core.specs.SeenType.{type_of}
+use Rattle.sample_core.specs.TypeView.{type_of}
 use Rattle.net_syntax.proofs.AddedLeaves.{adds_i_pre, if_ok, typed_i_pre}
 use Rattle.net_syntax.proofs.needs.add_constant.Goals as goal
 

@@ -1,5 +1,5 @@
 use Rattle.std.proofs.Common.{Ok, ap, sym, ◌∙◌}
-use Rattle.sample_core.specs.SeenType.{type_of}
+use Rattle.sample_core.specs.TypeView.{type_of}
 use Rattle.net_syntax.proofs.AddedLeaves.{answered_key}
 use Rattle.net_syntax.proofs.needs.first_need.Goals as goal
 

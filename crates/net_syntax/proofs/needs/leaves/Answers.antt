@@ -1,6 +1,6 @@
 use Rattle.std.proofs.Common.{map, ap, ◌∙◌}
-use Rattle.sample_core.specs.SeenType.{type_of}
-use Rattle.net_syntax.specs.SeenNeed.{need_of}
+use Rattle.sample_core.specs.TypeView.{type_of}
+use Rattle.net_syntax.specs.NeedView.{need_of}
 use Rattle.net_syntax.proofs.AddedLeaves.{whole_leaves, whole_typed}
 use Rattle.net_syntax.proofs.needs.leaves.Goals as goal
 

@@ -1,6 +1,6 @@
 use Rattle.std.proofs.Common.{◌+◌, ◌*◌}
 use Rattle.net_syntax.specs.Network.{network_size}
-use Rattle.net_syntax.specs.Seen.{network_of}
+use Rattle.net_syntax.specs.NetworkView.{network_of}
 use Rattle.net_text.proofs.print.+push_net.Given as goal
 
 abbrev pub decreases-push_net : goal.decreases-push_net

@@ -1,6 +1,6 @@
 use Rattle.std.proofs.Common.{◌∙◌, ap, length}
-use Rattle.sample_core.specs.SeenType.{type_of}
-use Rattle.leaf_expr.specs.Reader.{◌>>=◌}
+use Rattle.sample_core.specs.TypeView.{type_of}
+use Rattle.leaf_expr.specs.TreeReader.{◌>>=◌}
 use Rattle.leaf_expr.specs.Token.{tokens_from}
 use Rattle.net_text.specs.File.{read_network}
 use Rattle.net_text.proofs.ReadSteps.{body_read, body_refused}

@@ -1,6 +1,6 @@
 use Rattle.std.proofs.Common.{arith}
-use Rattle.sample_core.specs.SeenType.{type_of}
-use Rattle.net_syntax.specs.Seen.{tree_of}
+use Rattle.sample_core.specs.TypeView.{type_of}
+use Rattle.net_syntax.specs.NetworkView.{tree_of}
 use Rattle.net_types.proofs.Checks.{within_limits}
 use Rattle.net_types.proofs.check.check_types.Goals as goal
 

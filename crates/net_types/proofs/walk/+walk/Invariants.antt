@@ -1,6 +1,6 @@
 use Rattle.std.proofs.Common.{◌+◌, ◌*◌}
 use Rattle.net_syntax.specs.Network.{network_size}
-use Rattle.net_syntax.specs.Seen.{network_of}
+use Rattle.net_syntax.specs.NetworkView.{network_of}
 use Rattle.net_types.proofs.walk.+walk.Given as goal
 
 abbrev pub decreases-walk : goal.decreases-walk

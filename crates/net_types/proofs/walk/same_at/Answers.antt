@@ -1,6 +1,6 @@
 use Rattle.std.proofs.Common.{arith}
 use Rattle.std.proofs.lemmas.Grind.{common_steps}
-use Rattle.sample_core.specs.SeenType.{type_of}
+use Rattle.sample_core.specs.TypeView.{type_of}
 use Rattle.net_types.proofs.WalkTests.{same_at_equal, same_at_other}
 use Rattle.net_types.proofs.walk.same_at.Goals as goal
 

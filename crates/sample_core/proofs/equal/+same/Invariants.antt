@@ -1,11 +1,11 @@
 use Rattle.std.proofs.Common.{◌≡◌, ◌+◌, ◌*◌, ◌↔◌, drop, map}
-use Rattle.sample_core.specs.Seen.{datum_of}
-use Rattle.sample_core.specs.Datum.{of_elements, datum_size, datums_size}
+use Rattle.sample_core.specs.ValueView.{datum_of}
+use Rattle.sample_core.specs.Datum.{list_of, datum_size, datums_size}
 use Rattle.sample_core.proofs.equal.+same.Given as goal
 
 -- the elements to come are equal exactly where all are
 abbrev pub invariant-same_elements-loop-i : goal.invariant-same_elements-loop-i
-invariant-same_elements-loop-i l = (of_elements (map datum_of (drop l.i l.vs)) ≡ of_elements (map datum_of (drop l.i l.xs))) ↔ (of_elements (map datum_of l.vs) ≡ of_elements (map datum_of l.xs))
+invariant-same_elements-loop-i l = (list_of (map datum_of (drop l.i l.vs)) ≡ list_of (map datum_of (drop l.i l.xs))) ↔ (list_of (map datum_of l.vs) ≡ list_of (map datum_of l.xs))
 
 abbrev pub decreases-same : goal.decreases-same
 decreases-same l = 2 * datum_size (datum_of l.a.now)
@@ -14,4 +14,4 @@ abbrev pub decreases-same_pair : goal.decreases-same_pair
 decreases-same_pair l = 2 * (datum_size l.v.now + datum_size l.w.now) + 1
 
 abbrev pub decreases-same_elements : goal.decreases-same_elements
-decreases-same_elements l = 2 * datums_size (of_elements l.vs.now) + 1
+decreases-same_elements l = 2 * datums_size (list_of l.vs.now) + 1

@@ -1,5 +1,5 @@
 use Rattle.std.proofs.Common.{◌+◌, ◌*◌}
-use Rattle.sample_core.specs.SeenType.{type_of}
+use Rattle.sample_core.specs.TypeView.{type_of}
 use Rattle.sample_core.specs.TypeTree.{type_size}
 use Rattle.sample_core.proofs.print.+push_type.Given as goal
 

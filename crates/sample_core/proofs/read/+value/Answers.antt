@@ -1,8 +1,8 @@
 use Rattle.std.proofs.Common.{◌≡◌, ◌-◌, ◌∷◌, ◌++◌, [], length, map, ◌≤◌, length-append, rules, arith, sym, ap, ◌∙◌}
 use Rattle.std.proofs.lemmas.Grind.{common_steps}
 use Rattle.sample_core.specs.Reading.{Refuses, value_at, elements_at}
-use Rattle.sample_core.specs.Seen.{datum_of}
-use Rattle.sample_core.specs.SeenType.{type_of}
+use Rattle.sample_core.specs.ValueView.{datum_of}
+use Rattle.sample_core.specs.TypeView.{type_of}
 use Rattle.sample_core.proofs.ReadSteps.{with_front, front_alone, none_more, one_more, refused_inside}
 use Rattle.sample_core.proofs.read.+value.Goals as goal
 

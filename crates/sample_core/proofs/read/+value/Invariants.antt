@@ -1,7 +1,7 @@
 use Rattle.std.proofs.Common.{◌≡◌, ◌+◌, ◌-◌, ◌*◌, ◌≤◌, length, map}
 use Rattle.sample_core.specs.Reading.{elements_at, value_at}
-use Rattle.sample_core.specs.Seen.{datum_of}
-use Rattle.sample_core.specs.SeenType.{type_of}
+use Rattle.sample_core.specs.ValueView.{datum_of}
+use Rattle.sample_core.specs.TypeView.{type_of}
 use Rattle.sample_core.specs.TypeTree.{type_size}
 use Rattle.sample_core.proofs.ReadSteps.{with_front}
 use Rattle.sample_core.proofs.read.+value.Given as goal

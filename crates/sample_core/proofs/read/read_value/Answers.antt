@@ -1,4 +1,4 @@
-use Rattle.sample_core.specs.SeenType.{type_of}
+use Rattle.sample_core.specs.TypeView.{type_of}
 use Rattle.sample_core.proofs.ReadValue.{found_of, refused_of}
 use Rattle.sample_core.proofs.read.read_value.Goals as goal
 

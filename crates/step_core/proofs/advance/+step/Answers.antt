@@ -1,8 +1,8 @@
 use Rattle.std.proofs.Common.{rules, ap, sym, ◌∙◌, subst}
 use Rattle.net_syntax.specs.Network.{seq, map_network}
-use Rattle.step_core.specs.SeenRows.{row_number, rows_in}
+use Rattle.step_core.specs.RowsView.{row_number, rows_in}
 use Rattle.step_core.specs.RowTyping.{FitsRows}
-use Rattle.step_core.proofs.Advanced.{fits_arr, fits_first, fits_second, arr_moved, i_pre_moved, seq_moved, if_ok}
+use Rattle.step_core.proofs.Advancing.{fits_arr, fits_first, fits_second, arr_moved, i_pre_moved, seq_moved, if_ok}
 use Rattle.step_core.proofs.advance.+step.Goals as goal
 
 pub call-requires : goal.call-requires
@@ -24,4 +24,4 @@ returns-in_ok-between-in-Seq g t c =
 
 pub returns-in_ok-keep-in-IPre : goal.returns-in_ok-keep-in-IPre
 returns-in_ok-keep-in-IPre g t c =
-    if_ok c.first_held.result _ _ (λ r h. i_pre_moved _ _ _ _ _ _ _ _ _ _ (ap rows_in c.in-IPre.is) h c.in_ok-keep-in-IPre.ensures) c.first_held.ensures
+    if_ok c.first_cell.result _ _ (λ r h. i_pre_moved _ _ _ _ _ _ _ _ _ _ (ap rows_in c.in-IPre.is) h c.in_ok-keep-in-IPre.ensures) c.first_cell.ensures

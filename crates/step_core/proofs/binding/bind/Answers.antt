@@ -1,11 +1,11 @@
 use Rattle.std.proofs.Common.{◌≡◌, map, ap, sym, subst, ◌∙◌}
-use Rattle.sample_core.specs.SeenType.{type_of}
+use Rattle.sample_core.specs.TypeView.{type_of}
 use Rattle.leaf_table.specs.Rows.{rows_of}
-use Rattle.net_syntax.specs.SeenNeed.{need_of}
+use Rattle.net_syntax.specs.NeedView.{need_of}
 use Rattle.step_core.specs.RowTyping.{RowsTyped}
-use Rattle.step_core.specs.SeenRows.{row_number, rows_in}
+use Rattle.step_core.specs.RowsView.{row_number, rows_in}
 use Rattle.step_core.proofs.Bindings.{bound_network, found_all}
-use Rattle.step_core.specs.Found.{RowsFor}
+use Rattle.step_core.specs.Lookup.{RowsFor}
 use Rattle.step_core.proofs.binding.bind.Goals as goal
 
 pub returns-clause-network : goal.returns-clause-network

@@ -1,6 +1,6 @@
 use Rattle.std.proofs.Common.{map, ap, ◌∙◌}
 use Rattle.std.proofs.lemmas.List.{map_push}
-use Rattle.step_core.specs.SeenRows.{row_number}
+use Rattle.step_core.specs.RowsView.{row_number}
 use Rattle.step_core.proofs.Bindings.{rows_more, missing_at}
 use Rattle.step_core.proofs.binding.find_rows.Goals as goal
 

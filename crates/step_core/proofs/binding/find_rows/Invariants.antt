@@ -1,8 +1,8 @@
 use Rattle.std.proofs.Common.{map, take}
 use Rattle.leaf_table.specs.Rows.{rows_of}
-use Rattle.net_syntax.specs.SeenNeed.{need_of}
-use Rattle.step_core.specs.Found.{RowsFor}
-use Rattle.step_core.specs.SeenRows.{row_number}
+use Rattle.net_syntax.specs.NeedView.{need_of}
+use Rattle.step_core.specs.Lookup.{RowsFor}
+use Rattle.step_core.specs.RowsView.{row_number}
 use Rattle.step_core.proofs.binding.find_rows.Given as goal
 
 -- the needs so far have their rows

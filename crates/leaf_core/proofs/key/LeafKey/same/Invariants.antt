@@ -1,5 +1,5 @@
 use Rattle.std.proofs.Common.{◌≡◌, ◌↔◌, drop, map}
-use Rattle.sample_core.specs.SeenType.{type_of}
+use Rattle.sample_core.specs.TypeView.{type_of}
 use Rattle.leaf_core.proofs.key.LeafKey.same.Given as goal
 
 abbrev pub invariant-loop-i : goal.invariant-loop-i

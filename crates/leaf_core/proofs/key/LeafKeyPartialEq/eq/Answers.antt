@@ -1,5 +1,5 @@
 use Rattle.leaf_core.specs.KeyTree.{key_code}
-use Rattle.leaf_core.specs.SameByCode.{same_by_is}
+use Rattle.leaf_core.specs.EqualityByCode.{same_by_is}
 use Rattle.leaf_core.proofs.key.LeafKeyPartialEq.eq.Goals as goal
 
 pub returns : goal.returns

@@ -2,7 +2,7 @@ use Rattle.std.proofs.Common.{sym, map}
 use Rattle.std.proofs.Math.Logic.{∥∥₁_elim}
 use base.Stored.{Coded-set}
 use Rattle.sample_core.specs.DatumCode.{datum_code}
-use Rattle.sample_core.specs.Seen.{datum_of}
+use Rattle.sample_core.specs.ValueView.{datum_of}
 use Rattle.leaf_table.specs.Computes.{Computes}
 use Rattle.leaf_table.proofs.TableLemmas.{about_row}
 use Rattle.leaf_table.proofs.table.LeafTable.call.Goals as goal

@@ -1,7 +1,7 @@
 use Rattle.std.proofs.Common.{sym, ◌∙◌, true≢false}
 use Rattle.std.proofs.lemmas.Map.Views.{IsSome-lookup_from_Contains}
 use Rattle.leaf_core.specs.KeyTree.{key_code}
-use Rattle.leaf_core.specs.SameByCode.{same_by_laws}
+use Rattle.leaf_core.specs.EqualityByCode.{same_by_laws}
 use Rattle.leaf_table.proofs.KeyEquality.{key_same}
 use Rattle.leaf_table.proofs.TableLemmas.{key_at_position}
 use Rattle.leaf_table.proofs.table.LeafTable.find.Goals as goal

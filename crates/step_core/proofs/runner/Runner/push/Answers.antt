@@ -1,8 +1,8 @@
 use Rattle.std.proofs.Common.{◌≡◌, ℕ, zero, suc, ◌<◌, refl, sym, subst, ap, map, ◌∙◌, add-one, arith, Vec, Global}
-use Rattle.sample_core.specs.Seen.{datum_of}
+use Rattle.sample_core.specs.ValueView.{datum_of}
 use Rattle.sample_core.specs.declared.sample.Sample.{Sample}
 use Rattle.step_core.specs.RowTyping.{FitsRows}
-use Rattle.step_core.proofs.PushedOn.{fits_table, first_pushed_to, next_pushed_to}
+use Rattle.step_core.proofs.Pushing.{fits_table, first_pushed_to, next_pushed_to}
 use Rattle.step_core.proofs.runner.Runner.push.Goals.{then-self-eq0+in_ok-answer, else-self-eq0+in_ok-answer-2}
 use Rattle.step_core.proofs.runner.Runner.push.Goals as goal
 

@@ -1,0 +1,16 @@
+-- When the code gives the checking walk's answer.
+use Rattle.std.specs.Prelude.{◌≡◌, ◌≢◌, Result, Ok, Err, MatchResult}
+use Rattle.sample_core.specs.TypeView.{type_of}
+use Rattle.sample_core.specs.TypeTree.{TypeTree}
+use Rattle.sample_core.specs.declared.ty.Ty.{Ty}
+use Rattle.leaf_core.specs.declared.typing.ExprFault.{ExprFault}
+use Rattle.leaf_core.specs.declared.typing.ExprFault.TheVariants.{Memory}
+use Rattle.leaf_core.specs.ExpressionCheck.{TypeAnswer}
+
+-- the type or the fault that is answered; only `Memory`, where a growth was refused, says nothing of the answer
+abbrev pub Gives : Result Ty ExprFault → TypeAnswer → Type 0
+Gives result answer = MatchResult result (λ t. answer ≡ Ok (type_of t)) (λ f. f ≢ Memory → answer ≡ Err f)
+
+-- a test of an answer that it is the type, or the fault that is answered
+abbrev pub Passes : {X : Type 0} → Result X ExprFault → TypeAnswer → TypeTree → Type 0
+Passes result answer t = MatchResult result (λ _. answer ≡ Ok t) (λ f. f ≢ Memory → answer ≡ Err f)

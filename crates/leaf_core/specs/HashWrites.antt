@@ -1,0 +1,84 @@
+-- What a hasher is fed at an expression, a type and a key: the tag of each form, and then its parts.
+use Rattle.std.specs.Prelude.{ℕ, [], ◌++◌, true, false}
+use Rattle.std.specs.Hash as fed
+use Rattle.std.specs.List.{flat_map}
+use Rattle.sample_core.specs.TypeTree.{TypeTree, unit_ty, bool_ty, int_ty, pair_ty, event_ty, list_ty}
+use Rattle.leaf_core.specs.Expression.{Expression, Expressions, input, param, unit_expr, bool_expr, int_expr, pair_expr, fst, snd, then_expr, neg, add, sub, mul, less, equal, not_expr, and_expr, or_expr, if_expr, no_event_expr, event_expr, on, list_expr, nth, len, no_more, and_then}
+use Rattle.leaf_core.specs.KeyTree.{KeyTree}
+
+-- what a hasher is fed at a type
+abbrev pub type_writes : TypeTree → fed.HashWrites
+type_writes unit_ty = fed.u8 0
+type_writes bool_ty = fed.u8 1
+type_writes int_ty = fed.u8 2
+type_writes (pair_ty A B) = fed.u8 3 ++ (type_writes A ++ type_writes B)
+type_writes (event_ty A) = fed.u8 4 ++ type_writes A
+type_writes (list_ty A) = fed.u8 5 ++ type_writes A
+
+-- the number of an expression's form
+abbrev pub tag_of : Expression → ℕ
+tag_of input = 0
+tag_of (param k) = 1
+tag_of unit_expr = 2
+tag_of (bool_expr false) = 3
+tag_of (bool_expr true) = 4
+tag_of (int_expr n) = 5
+tag_of (pair_expr a b) = 6
+tag_of (fst a) = 7
+tag_of (snd a) = 8
+tag_of (then_expr a b) = 9
+tag_of (neg a) = 10
+tag_of (add a b) = 11
+tag_of (sub a b) = 12
+tag_of (mul a b) = 13
+tag_of (less a b) = 14
+tag_of (equal a b) = 15
+tag_of (not_expr a) = 16
+tag_of (and_expr a b) = 17
+tag_of (or_expr a b) = 18
+tag_of (if_expr a b c) = 19
+tag_of (no_event_expr t) = 20
+tag_of (event_expr a) = 21
+tag_of (on a b c) = 22
+tag_of (list_expr t es) = 23
+tag_of (nth a b c) = 24
+tag_of (len a) = 25
+
+abbrev mutual
+  -- what a hasher is fed at an expression
+  pub expression_writes : Expression → fed.HashWrites
+  expression_writes input = fed.u8 0
+  expression_writes (param k) = fed.u8 1 ++ fed.u32 k
+  expression_writes unit_expr = fed.u8 2
+  expression_writes (bool_expr false) = fed.u8 3
+  expression_writes (bool_expr true) = fed.u8 4
+  expression_writes (int_expr n) = fed.u8 5 ++ fed.i64 n
+  expression_writes (pair_expr a b) = fed.u8 6 ++ (expression_writes a ++ expression_writes b)
+  expression_writes (fst a) = fed.u8 7 ++ expression_writes a
+  expression_writes (snd a) = fed.u8 8 ++ expression_writes a
+  expression_writes (then_expr a b) = fed.u8 9 ++ (expression_writes a ++ expression_writes b)
+  expression_writes (neg a) = fed.u8 10 ++ expression_writes a
+  expression_writes (add a b) = fed.u8 11 ++ (expression_writes a ++ expression_writes b)
+  expression_writes (sub a b) = fed.u8 12 ++ (expression_writes a ++ expression_writes b)
+  expression_writes (mul a b) = fed.u8 13 ++ (expression_writes a ++ expression_writes b)
+  expression_writes (less a b) = fed.u8 14 ++ (expression_writes a ++ expression_writes b)
+  expression_writes (equal a b) = fed.u8 15 ++ (expression_writes a ++ expression_writes b)
+  expression_writes (not_expr a) = fed.u8 16 ++ expression_writes a
+  expression_writes (and_expr a b) = fed.u8 17 ++ (expression_writes a ++ expression_writes b)
+  expression_writes (or_expr a b) = fed.u8 18 ++ (expression_writes a ++ expression_writes b)
+  expression_writes (if_expr a b c) = fed.u8 19 ++ (expression_writes a ++ (expression_writes b ++ expression_writes c))
+  expression_writes (no_event_expr t) = fed.u8 20 ++ type_writes t
+  expression_writes (event_expr a) = fed.u8 21 ++ expression_writes a
+  expression_writes (on a b c) = fed.u8 22 ++ (expression_writes a ++ (expression_writes b ++ expression_writes c))
+  expression_writes (list_expr t es) = fed.u8 23 ++ (type_writes t ++ (expressions_writes es ++ fed.u8 26))
+  expression_writes (nth a b c) = fed.u8 24 ++ (expression_writes a ++ (expression_writes b ++ expression_writes c))
+  expression_writes (len a) = fed.u8 25 ++ expression_writes a
+
+  -- what a hasher is fed at the elements of a list
+  pub expressions_writes : Expressions → fed.HashWrites
+  expressions_writes no_more = []
+  expressions_writes (and_then e es) = expression_writes e ++ expressions_writes es
+
+-- what a hasher is fed at a key: its expression, and then its types
+abbrev pub key_writes : KeyTree → fed.HashWrites
+key_writes k = expression_writes k.expr ++ (flat_map type_writes k.params ++ type_writes k.input)

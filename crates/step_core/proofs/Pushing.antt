@@ -1,0 +1,81 @@
+-- A runner that takes a sample in stands for one sample more.
+use Rattle.std.proofs.Common.{◌≡◌, ℕ, suc, ◌<◌, List, [], ◌∷◌, ◌++◌, length, sym, subst, arith, length-append, append-nil}
+use Rattle.std.proofs.Math.Logic.{∥∥₁_map}
+use Rattle.sample_core.specs.Datum.{Datum}
+use Rattle.sample_core.specs.HasType.{HasType}
+use Rattle.leaf_core.specs.ExpressionValue.{value_of}
+use Rattle.net_syntax.specs.Network.{Network}
+use Rattle.net_syntax.specs.SignalFunction.{TimedList}
+use Rattle.net_syntax.specs.TypedNetwork.{stream_of}
+use Rattle.step_core.specs.CountedFunction.{TakesSample}
+use Rattle.step_core.specs.CountedContext.{counted_meaning}
+use Rattle.step_core.specs.Stands.{Stands}
+use Rattle.step_core.specs.EmptyScope.{empty_context}
+use Rattle.leaf_core.specs.KeyTree.{KeyTree}
+use Rattle.step_core.specs.Binding.{Binding, FitsTable}
+use Rattle.step_core.specs.RowTyping.{FitsRows}
+use Rattle.step_core.specs.CellValues.{HoldsCells, StartOf, StepOf, StartsTyped, StepsTyped}
+use Rattle.step_core.specs.RunnerState.{RunnerState, network_in, StandsAfter, StandsFor, Pushes}
+use Rattle.step_core.proofs.Runners as R
+
+-- the same network with other values in its cells, one sample on
+abbrev pub later : RunnerState → List Datum → RunnerState
+later r cells = record { input = r.input; keys = r.keys; rows = r.rows; cells = cells; samples = suc r.samples }
+
+-- what the cells hold then, and the answer
+abbrev OneMore : RunnerState → TimedList → ℕ × Datum → Datum → List Datum → Type 0
+OneMore r p x y cells = StandsAfter (later r cells) (p ++ x ∷ []) × (stream_of (network_in r) (p ++ x ∷ []) ≡ stream_of (network_in r) p ++ y ∷ [])
+
+all_pushed : (r : RunnerState) (p : TimedList) (x : ℕ × Datum) (y : Datum) (cells : List Datum) → StandsFor r p → OneMore r p x y cells → StandsFor (later r cells) (p ++ x ∷ []) × (stream_of (network_in r) (p ++ x ∷ []) ≡ stream_of (network_in r) p ++ y ∷ [])
+all_pushed r p x y cells s m = (
+  record {
+    counted = (let c : r.samples ≡ length p = s.counted in omega (arith, c, length-append p (x ∷ [])));
+    holds_past = m.0;
+  },
+  m.1,
+)
+
+pub first_pushed : (r : RunnerState) (d : ℕ) (x y : Datum) (cells : List Datum) → r.samples ≡ 0 → HasType x r.input → StartsTyped r.keys r.rows x y [] cells → Pushes r (d, x) y (later r cells)
+first_pushed r d x y cells none t begun (z ∷ p) s = absurd (let c : r.samples ≡ suc (length p) = s.counted in omega (arith, c, none))
+first_pushed r d x y cells none t begun [] s = all_pushed r [] (d, x) y cells s (one s.holds_past)
+  where
+    one : StandsAfter r [] → OneMore r [] (d, x) y cells
+    one (B, typed, no_cells) =
+        let b : StartOf r.keys r.rows r.input B x y [] cells = begun r.input B typed t in
+        let took : TakesSample (Stands value_of b.state) (counted_meaning value_of (network_in r) empty_context) [] (d, x) y b.visits = R.first_push value_of (network_in r) b.starts d in (
+          (B, b.state, subst (HoldsCells r.keys r.rows r.input B b.state) (sym b.added) b.holds, took.stands),
+          (R.pushed value_of (network_in r) {P = Stands value_of b.state} [] (d, x) y b.visits took).one_more,
+        )
+
+pub next_pushed : (r : RunnerState) (x : ℕ × Datum) (y : Datum) (cells rest : List Datum) → 0 < r.samples → HasType x.1 r.input → StepsTyped r.keys r.rows r.cells x y [] cells rest → Pushes r x y (later r cells)
+next_pushed r x y cells rest some t moved [] s = absurd (let c : r.samples ≡ 0 = s.counted in omega (arith, c, some))
+next_pushed r x y cells rest some t moved (z ∷ p) s = all_pushed r (z ∷ p) x y cells s (one s.holds_past)
+  where
+    one : StandsAfter r (z ∷ p) → OneMore r (z ∷ p) x y cells
+    one (B, a, holds, stands) =
+        let m : StepOf r.keys r.rows r.input B a x y [] cells = (moved r.input B a r.cells [] holds (sym (append-nil r.cells)) t).0 in
+        let took : TakesSample (Stands value_of m.state) (counted_meaning value_of (network_in r) empty_context) (z ∷ p) x y m.visits = R.next_push value_of (network_in r) m.steps (z ∷ p) stands in (
+          (B, m.state, subst (HoldsCells r.keys r.rows r.input B m.state) (sym m.added) m.holds, took.stands),
+          (R.pushed value_of (network_in r) {P = Stands value_of m.state} (z ∷ p) x y m.visits took).one_more,
+        )
+
+-- what is bound is a network of rows that are there
+pub fits_table : (keys : List KeyTree) (b : Binding) → ∥ FitsTable keys b ∥₁ → FitsRows keys b.rows
+fits_table keys b h = ∥∥₁_map h (λ t. (b.input, t.0, t.1))
+
+-- before its first sample
+pub new_stands : (r : RunnerState) → r.samples ≡ 0 → r.cells ≡ [] → FitsTable r.keys (record { input = r.input; rows = r.rows }) → StandsFor r []
+new_stands r none nothing h = record { counted = none; holds_past = (h.0, h.1, nothing) }
+
+-- the same for a runner whose values are these by equations
+pub first_pushed_to : (r : RunnerState) (rows : Network ℕ) (d n : ℕ) (x y y' : Datum) (cells cells' before : List Datum) → rows ≡ r.rows → cells' ≡ cells → n ≡ suc r.samples → y' ≡ y → before ≡ [] → r.samples ≡ 0 → HasType x r.input → StartsTyped r.keys rows x y before cells → Pushes r (d, x) y' (record { input = r.input; keys = r.keys; rows = r.rows; cells = cells'; samples = n })
+first_pushed_to r rows d n x y y' cells cells' before m e s a b none t begun =
+    subst (λ k. Pushes r (d, x) y' (record { input = r.input; keys = r.keys; rows = r.rows; cells = cells'; samples = k })) (sym s)
+    (subst (λ h. Pushes r (d, x) y' (later r h)) (sym e) (subst (λ w. Pushes r (d, x) w (later r cells)) (sym a)
+    (first_pushed r d x y cells none t (subst (λ o. StartsTyped r.keys r.rows x y o cells) b (subst (λ o. StartsTyped r.keys o x y before cells) m begun)))))
+
+pub next_pushed_to : (r : RunnerState) (rows : Network ℕ) (x : ℕ × Datum) (n : ℕ) (y y' : Datum) (was cells cells' before rest : List Datum) → rows ≡ r.rows → cells' ≡ cells → n ≡ suc r.samples → y' ≡ y → before ≡ [] → was ≡ r.cells → 0 < r.samples → HasType x.1 r.input → StepsTyped r.keys rows was x y before cells rest → Pushes r x y' (record { input = r.input; keys = r.keys; rows = r.rows; cells = cells'; samples = n })
+next_pushed_to r rows x n y y' was cells cells' before rest m e s a b w some t moved =
+    subst (λ k. Pushes r x y' (record { input = r.input; keys = r.keys; rows = r.rows; cells = cells'; samples = k })) (sym s)
+    (subst (λ h. Pushes r x y' (later r h)) (sym e) (subst (λ u. Pushes r x u (later r cells)) (sym a)
+    (next_pushed r x y cells rest some t (subst (λ o. StepsTyped r.keys r.rows r.cells x y o cells rest) b (subst (λ o. StepsTyped r.keys r.rows o x y before cells rest) w (subst (λ o. StepsTyped r.keys o was x y before cells rest) m moved))))))
