@@ -6,6 +6,7 @@ ghost use Rattle.clap.specs.declared.builder.command.Command.TheViews.{out-Comma
 ghost use Rattle.command_line.specs.CommandRows.{RequestRows, HelpRows, NothingRows};
 ghost use Rattle.command_line.specs.CommandLine.{IsNothing, ReadsWords, RepliesTo, request_by, command_line, file_command, request_view};
 
+use crate::help;
 use clap::error::{Error, ErrorKind};
 use clap::{Arg, ArgAction, ArgMatches, Command};
 use std::alloc::{AllocError, Global};
@@ -40,13 +41,22 @@ impl From<AllocError> for Reply {
     }
 }
 
-/// A subcommand of that name that takes a network file.
-fn on_network<'a>(alloc: Global, name: &'a str) -> Result<Command<'a>, AllocError>
+/// A subcommand of that name that takes a network file, and what help tells of it.
+fn on_network<'a>(
+    alloc: Global,
+    name: &'a str,
+    does: &'a str,
+    more: &'a str,
+) -> Result<Command<'a>, AllocError>
     ensures shape { IfOk result (λ c. shape_of c ≡ file_command name.entry.now) }
     ensures local { IfOk result (λ c. (out-Command c).has_globals ≡ false) }
 {
-    let net = Arg::new(alloc, "NET").required(true).action(ArgAction::Set);
-    Command::new(alloc, name).arg(net)
+    let net = Arg::new(alloc, "NET")
+        .required(true)
+        .action(ArgAction::Set)
+        .help(help::NET);
+    let command = Command::new(alloc, name).about(does).after_help(more);
+    command.arg(net)
 }
 
 /// The command with one more subcommand, which has that name and takes a network file.
@@ -54,10 +64,12 @@ fn with_network<'a>(
     alloc: Global,
     command: Command<'a>,
     name: &'a str,
+    does: &'a str,
+    more: &'a str,
 ) -> Result<Command<'a>, AllocError>
     ensures app { IfOk result (λ c. app_of c ≡ with_subcommand (app_of command.entry) (file_command name.entry.now)) }
 {
-    match on_network(alloc, name) {
+    match on_network(alloc, name, does, more) {
         Ok(subcommand) => command.subcommand(subcommand),
         Err(refused) => {
             drop(command);
@@ -70,9 +82,12 @@ fn with_network<'a>(
 fn make_command<'a>(alloc: Global) -> Result<Command<'a>, AllocError>
     ensures { IfOk result (λ c. app_of c ≡ command_line) }
 {
-    let command = Command::new(alloc, "yampa").subcommand_required(true);
-    let command = with_network(alloc, command, "types")?;
-    with_network(alloc, command, "run")
+    let command = Command::new(alloc, "yampa")
+        .subcommand_required(true)
+        .about(help::PROGRAM)
+        .after_help(help::PROGRAM_MORE);
+    let command = with_network(alloc, command, "types", help::TYPES, help::TYPES_MORE)?;
+    with_network(alloc, command, "run", help::RUN, help::RUN_MORE)
 }
 
 /// What the matches ask for.

@@ -3,5 +3,6 @@
 #![tactic(auto)]
 
 mod command;
+mod help;
 
 pub use command::{Reply, Request, command_rows, parse};

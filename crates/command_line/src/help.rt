@@ -1,0 +1,66 @@
+// What help tells of the program and of its commands.
+
+/// What the program does.
+pub const PROGRAM: &str = "Checks and runs networks of signal functions.";
+
+/// What help on the program ends with.
+pub const PROGRAM_MORE: &str = "\
+A network is a text file: its input's type, and how each sample of a timed stream leads to an
+output. `yampa types NET` tells what goes in and what comes out, `yampa run NET < STREAM` runs it.
+docs/LANGUAGE.md teaches the language. A small file NET, which outputs 0, and then each number
+plus one, a sample late:
+
+  yampa 1
+  input Int
+  (>>> (arr (add x 1)) (iPre 0))
+
+Exit status:
+  0  all is done
+  1  the file or the stream is refused, or the network has over 4,096 different expressions
+  2  the words of the command line are wrong
+  3  something can't be read or written, or memory is short
+Where it isn't 0, standard error says why.";
+
+/// What the file of a network is.
+pub const NET: &str = "The network's file: `yampa 1`, `input` and a type, and the network";
+
+/// What `types` does.
+pub const TYPES: &str = "Checks a network, and prints its types, its weight and its height";
+
+/// What help on `types` ends with.
+pub const TYPES_MORE: &str = "\
+It prints three lines: the types of the input and of the output, how many networks the network is
+made of, and how many stand in one another. It reads no stream.
+
+Example: where the file `net` holds `yampa 1 input Int (>>> (arr (less 9 x)) (iPre false))`,
+
+  $ yampa types net
+  Int -> Bool
+  weight 3
+  height 2
+
+Exit status: 0 where the network has types, 1 where the file is refused, 2 where the words of the
+command line are wrong, 3 where the file can't be read, the lines can't be written, or memory is
+short. Where it isn't 0, standard error says why.";
+
+/// What `run` does.
+pub const RUN: &str =
+    "Runs a network on the stream on standard input, and prints an output a sample";
+
+/// What help on `run` ends with.
+pub const RUN_MORE: &str = "\
+Standard input is lines. The first is a value of the network's input type; each later one is a step
+in time of at least 1 and a value, as `+1 6`, or `+1 =` for the value before. Standard output has a
+line for each, the network's output at it. A faulty line ends the run, behind the outputs before it.
+
+Example: where the file `net` holds `yampa 1 input Int (>>> (arr (add x 1)) (iPre 0))`,
+
+  $ printf '5\\n+1 6\\n+1 7\\n' | yampa run net
+  0
+  6
+  7
+
+Exit status: 0 where the whole stream is run, 1 where the file or the stream is refused or the
+network has over 4,096 different expressions, 2 where the words of the command line are wrong, 3
+where something can't be read or written, or memory is short. Where it isn't 0, standard error
+says why.";
