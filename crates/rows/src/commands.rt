@@ -32,18 +32,22 @@ fn words_of(alloc: Global, line: &str) -> Vec<&str> {
     words
 }
 
-/// Tells the text that is to be printed, or of a help or a run that it is one.
+/// Tells the text that is to be printed, or that it is a run.
 fn job_told(job: &Job, out: &mut String) {
     match job {
-        Job::Print(text) => say(
-            out,
-            if text.starts_with("Usage: ") {
-                "help"
-            } else {
-                text.as_str()
-            },
-        ),
+        Job::Print(text) => text_told(text.as_str(), out),
         Job::Run(_net) => say(out, "run"),
+    }
+}
+
+/// Tells the text; of a help what its line of usage is.
+fn text_told(text: &str, out: &mut String) {
+    match text.split_once("Usage: ") {
+        Some((_about, usage)) => {
+            say(out, "help on ");
+            say(out, usage.lines().next().unwrap_or(""))
+        }
+        None => say(out, text),
     }
 }
 
@@ -65,30 +69,32 @@ pub fn status_told(status: u8, line: &str, out: &mut String) {
 
 /// Command lines, and what they lead to.
 static COMMANDS: &str = "
--- Words, among them commands that aren't there yet, on the file of a network.
-yampa types net | yampa 1 input Int (>>> (arr (add x 1)) (iPre 0)) => Int -> Int␤weight 3␤height 2␤
-yampa types other | yampa 1 input Int (>>> (arr (add x 1)) (iPre 0)) => status 3 network: cannot be read
-yampa run other | yampa 1 input Int (>>> (arr (add x 1)) (iPre 0)) => status 3 network: cannot be read
-yampa --help | yampa 1 input Int (>>> (arr (add x 1)) (iPre 0)) => help
-yampa -h | yampa 1 input Int (>>> (arr (add x 1)) (iPre 0)) => help
-yampa run --help | yampa 1 input Int (>>> (arr (add x 1)) (iPre 0)) => help
-yampa types net -h | yampa 1 input Int (>>> (arr (add x 1)) (iPre 0)) => help
-yampa run -h other | yampa 1 input Int (>>> (arr (add x 1)) (iPre 0)) => help
- | yampa 1 input Int (>>> (arr (add x 1)) (iPre 0)) => wrong words
-yampa | yampa 1 input Int (>>> (arr (add x 1)) (iPre 0)) => wrong words
-yampa  | yampa 1 input Int (>>> (arr (add x 1)) (iPre 0)) => wrong words
-yampa net | yampa 1 input Int (>>> (arr (add x 1)) (iPre 0)) => wrong words
-yampa run | yampa 1 input Int (>>> (arr (add x 1)) (iPre 0)) => wrong words
-yampa types | yampa 1 input Int (>>> (arr (add x 1)) (iPre 0)) => wrong words
-yampa run net net | yampa 1 input Int (>>> (arr (add x 1)) (iPre 0)) => wrong words
-yampa run --fast net | yampa 1 input Int (>>> (arr (add x 1)) (iPre 0)) => wrong words
-yampa --version | yampa 1 input Int (>>> (arr (add x 1)) (iPre 0)) => wrong words
-yampa Run net | yampa 1 input Int (>>> (arr (add x 1)) (iPre 0)) => wrong words
-yampa optimise net | yampa 1 input Int (>>> (arr (add x 1)) (iPre 0)) => wrong words
-yampa optimise --certificate net | yampa 1 input Int (>>> (arr (add x 1)) (iPre 0)) => wrong words
-yampa check net net net | yampa 1 input Int (>>> (arr (add x 1)) (iPre 0)) => wrong words
-yampa run-checked net net net | yampa 1 input Int (>>> (arr (add x 1)) (iPre 0)) => wrong words
--- Files that are run, and why they are refused; the last two have bytes of no text.
+§ Words, among them commands that aren't there yet.
+yampa types net | ‹increment› => Int -> Int␤weight 3␤height 2␤
+yampa types other | ‹increment› => status 3 network: cannot be read
+yampa run other | ‹increment› => status 3 network: cannot be read
+yampa --help | ‹increment› => help on yampa <COMMAND>
+yampa -h | ‹increment› => help on yampa <COMMAND>
+yampa help | ‹increment› => help on yampa <COMMAND>
+yampa help types | ‹increment› => help on yampa types <NET>
+yampa run --help | ‹increment› => help on yampa run <NET>
+yampa types net -h | ‹increment› => help on yampa types <NET>
+yampa run -h other | ‹increment› => help on yampa run <NET>
+ | ‹increment› => wrong words
+yampa | ‹increment› => wrong words
+yampa  | ‹increment› => wrong words
+yampa net | ‹increment› => wrong words
+yampa run | ‹increment› => wrong words
+yampa types | ‹increment› => wrong words
+yampa run net net | ‹increment› => wrong words
+yampa run --fast net | ‹increment› => wrong words
+yampa --version | ‹increment› => wrong words
+yampa Run net | ‹increment› => wrong words
+yampa optimise net | ‹increment› => wrong words
+yampa optimise --certificate net | ‹increment› => wrong words
+yampa check net net net | ‹increment› => wrong words
+yampa run-checked net net net | ‹increment› => wrong words
+§ Files that are run, and why they are refused.
 yampa run net | yampa 3 input Int time => status 1 network: header
 yampa run net |  => status 1 network: header
 yampa run net | yampa 1 input Int (arr => status 1 network: syntax at byte 22
@@ -98,28 +104,28 @@ yampa run net | yampa 1 input Int time => status 1 network: syntax at byte 18
 yampa run net | yampa 1 input Int (iPre -0) ; -0 => status 1 network: number at byte 24
 yampa run net | yampa 1 input Int (arr (p -1)) => status 1 network: number at byte 26
 yampa run net | yampa 1 input Int (arr (fst x)) => status 1 network: mismatch in (at 0)
-yampa run net | yampa 1 input Int (arr (p 0)) => status 1 network: no parameter in (at 0)
+yampa run net | ‹parameter› => status 1 network: no parameter in (at 0)
 yampa run net | yampa 1 input (Pair Int Int) (>>> (arr (fst x)) (iPre (pair 1 2))) => status 1 network: types differ at (at 1)
-yampa run net | yampa 1 input Int (>>> (arr (less x 1)) (iPre 0)) => status 1 network: types differ at (at 1)
+yampa run net | ‹late truth› => status 1 network: types differ at (at 1)
 yampa run net | yampa 1 input Int (>>> (arr x) (>>> (arr x) (arr (add x true)))) => status 1 network: mismatch in (at 1 1 0)
-yampa run net | yampa 1 input Int (arr x) => run
+yampa run net | ‹same› => run
 yampa run net | ; a comment␤yampa 1 input Int identity => run
 yampa run net | yampa 1␉input␍␤Int␤(>>> (arr x)(iPre 3)) => run
 yampa run net | {10000*~} => status 1 network: header
 yampa run net | yampa 1 input Int ~(arr x) => status 1 network: syntax at byte 18
--- Long files.
-yampa run net | yampa 1 input Int {255*(>>> (arr x) }(arr x){255*)} => run
-yampa run net | yampa 1 input Int {256*(>>> (arr x) }(arr x){256*)} => status 1 network: too deep
+§ Long files.
+yampa run net | ‹tallest› => run
+yampa run net | ‹too tall› => status 1 network: too deep
 yampa run net | yampa 1 input Int (arr {255*(neg }x{255*)}) => run
 yampa run net | yampa 1 input Int (arr {256*(neg }x{256*)}) => status 1 network: expression too deep in (at 0)
 yampa run net | yampa 1 input {31*(Event }Int{31*)}(arr x) => run
-yampa run net | yampa 1 input {31*(Event }Int{31*)}(arr (event x)) => status 1 network: expression too deep in (at 0)
+yampa run net | ‹deep event› => status 1 network: expression too deep in (at 0)
 yampa run net | yampa 1 input {32*(Event }Int{32*)}(arr x) => status 1 network: too deep
 yampa run net | yampa 1 input Int {600*(>>> } => status 1 network: syntax at byte 3018
 yampa run net | yampa 1 input Int {601*(>>> } => status 1 network: nesting at byte 3018
 yampa run net | {1048551* }yampa 1 input Int (arr x) => run
 yampa run net | {1048552* }yampa 1 input Int (arr x) => status 1 network: too long
-yampa types net | yampa 1 input Int {255*(>>> (arr x) }(arr x){255*)} => Int -> Int␤weight 511␤height 256␤
+yampa types net | ‹tallest› => Int -> Int␤weight 511␤height 256␤
 ";
 
 #[test]

@@ -103,20 +103,29 @@ fn tell(alloc: Global, probe: Probe, given: &str, out: &mut String) {
 
 /// Asserts that the probe finds what is wanted of each row. A line is a row: what is given, with
 /// ` | ` between its parts, ` => `, and what is to be found; both in short forms, see `write_short`.
-/// A line without ` =>` is a comment.
+/// `§` begins the name of the rows behind it.
 pub fn all_are_found(rt: &impl Abort, alloc: Global, probe: Probe, rows: &str) {
+    for group in rows.split('§') {
+        let (name, named) = group.split_once('\n').unwrap_or((group, ""));
+        group_is_found(rt, alloc, probe, name, named);
+    }
+}
+
+/// Asserts the same of the rows of one name.
+fn group_is_found(rt: &impl Abort, alloc: Global, probe: Probe, name: &str, rows: &str) {
     for row in rows.lines() {
         if let Some((given, wanted)) = row.split_once(" =>") {
-            is_found(rt, alloc, probe, given, wanted.trim_start());
+            is_found(rt, alloc, probe, name, given, wanted.trim_start());
         }
     }
 }
 
-fn is_found(rt: &impl Abort, alloc: Global, probe: Probe, given: &str, short: &str) {
+/// Asserts that the probe finds what is wanted of the row.
+fn is_found(rt: &impl Abort, alloc: Global, probe: Probe, name: &str, given: &str, short: &str) {
     let found = found(alloc, probe, given);
     let wanted = written(alloc, short);
     let right = found.as_str() == wanted.as_str();
-    assert!(rt; right, "{given}: wanted {short}, found {found}");
+    assert!(rt; right, "{name} {given}: wanted {short}, found {found}");
 }
 
 /// What the probe finds of what is given in short form.

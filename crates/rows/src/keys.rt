@@ -46,6 +46,7 @@ fn told(alloc: Global, key: &LeafKey, out: &mut String) {
 
 /// How many parameters there are, and an expression.
 static KEYS: &str = "
+§ Copies of keys.
 0 | (add x 1) => equal
 1 | (add x 1) => equal
 5 | (add x 1) => equal

@@ -12,6 +12,8 @@ mod found;
 #[cfg(test)]
 mod keys;
 #[cfg(test)]
+mod named;
+#[cfg(test)]
 mod networks;
 #[cfg(test)]
 mod reading;

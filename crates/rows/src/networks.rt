@@ -150,7 +150,7 @@ pub fn position_told(alloc: Global, given: &str, out: &mut String) {
 
 /// Network files, how they are printed, and why they are refused.
 static FILES: &str = "
--- Files that are refused for their header, what follows one, or their length alone.
+§ Headers, what follows one, and lengths.
  => header
 yampa => header
 yampa 1 => header
@@ -170,7 +170,7 @@ yampa 1 input 5 identity => syntax at 14
 yampa 1 input identity => syntax at 14
 {1048576*(} => header
 {1048576*(}  => too long
--- Files in which no network stands. Bytes of no text, zeros and vertical tabs stand in words.
+§ Files in which no network stands: bytes of no text, zeros and vertical tabs are in words.
 yampa 1 input Int time => syntax at 18
 yampa 1 input Int integral => syntax at 18
 yampa 1 input Int edge => syntax at 18
@@ -214,16 +214,14 @@ yampa 1 input Int identity identity => syntax at 27
 yampa 1 input Int (iPre -0) => number at 24
 yampa 1 input Int (iPre 9223372036854775808) => number at 24
 yampa 1 input Int (arr (p 65536)) => number at 26
--- The 601st parenthesis, also where none fits: as a form's word, for its end, and inside an
--- expression.
+§ The 601st parenthesis, also where none fits.
 yampa 1 input Int {601*(>>> } => nesting at 3018
 yampa 1 input Int {600*(>>> } => syntax at 3018
 yampa 1 input Int {599*(>>> }(( => nesting at 3014
 yampa 1 input Int {599*(>>> }(arr x ( => nesting at 3020
 yampa 1 input Int {599*(>>> }(arr ( => nesting at 3018
 yampa 1 input Int {599*(>>> }(>>> ( => nesting at 3018
--- Files, and how they are printed: in three lines and in core forms. White space and comments
--- part tokens.
+§ Files as they are printed: in three lines and in core forms.
 yampa 1 input Int(>>>(arr(add x 1));␤(iPre 0)) => yampa 1␤input Int␤(>>> (arr (add x 1)) (iPre 0))␤
 yampa 1 input (Pair Int Bool) identity => yampa 1␤input (Pair Int Bool)␤(arr x)␤
 yampa 1 input Unit (constant -7) => yampa 1␤input Unit␤(arr (then unit -7))␤
@@ -232,7 +230,7 @@ yampa 1 input Int (arr (attach Int (event 1) 2)) => yampa 1␤input Int␤(arr (
 yampa 1 input Int (>>> (arr x) (iPre 0)) => yampa 1␤input Int␤(>>> (arr x) (iPre 0))␤
 ␉; first␍; (␤yampa␍1;)␤input;x␤(List Int)(>>>(arr x)(iPre(list Int)));end => yampa 1␤input (List Int)␤(>>> (arr x) (iPre (list Int)))␤
 yampa 1 input Int identity ; (time) => yampa 1␤input Int␤(arr x)␤
--- What is printed is read to the same.
+§ What is printed is read to the same.
 yampa 1␤input Int␤(>>> (arr (add x 1)) (iPre 0))␤ => yampa 1␤input Int␤(>>> (arr (add x 1)) (iPre 0))␤
 yampa 1␤input (Pair Int Bool)␤(arr x)␤ => yampa 1␤input (Pair Int Bool)␤(arr x)␤
 yampa 1␤input Unit␤(arr (then unit -7))␤ => yampa 1␤input Unit␤(arr (then unit -7))␤
@@ -250,18 +248,20 @@ fn network_files_are_read(rt: HostRuntime) {
 
 /// Networks at the limits and over them, and faults where they stand.
 static TYPINGS: &str = "
-yampa 1 input Int (>>> (arr (add x 1)) (iPre 0)) => weight 3 height 2
-yampa 1 input Int {255*(>>> (arr x) }(arr x){255*)} => weight 511 height 256
-yampa 1 input Int {256*(>>> (arr x) }(arr x){256*)} => too deep
+§ Networks at the limits and over them, and faults where they stand.
+‹increment› => weight 3 height 2
+‹tallest› => weight 511 height 256
+‹too tall› => too deep
 yampa 1 input {32*(Event }Int{32*)} (arr (p 0)) => too deep
-yampa 1 input Int (>>> (arr (less x 1)) (iPre 0)) => types differ (at 1)
-yampa 1 input Int (arr (p 0)) => no parameter (at 0)
-yampa 1 input {31*(Event }Int{31*)} (arr (event x)) => expression too deep (at 0)
+‹late truth› => types differ (at 1)
+‹parameter› => no parameter (at 0)
+‹deep event› => expression too deep (at 0)
 ";
 
 /// How often `(arr x)` is put before itself, and its weight, which is counted up to its limit, or
 /// its types.
 static DOUBLED: &str = "
+§ Shared halves.
 weight 18 => weight 524287
 weight 60 => weight 1000001
 types 18 => weight 524287 height 19
@@ -270,6 +270,7 @@ types 19 => too heavy
 
 /// Positions by their names.
 static POSITIONS: &str = "
+§ Positions.
 root => (at)
 child => (at 0 1 10)
 deep => (at 0 1 10 4294967295)

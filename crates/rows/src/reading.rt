@@ -164,8 +164,7 @@ fn type_child_is_copied(child: &TyChild) -> bool {
 
 /// Texts of expressions, how they are printed, and why they are refused.
 static EXPRESSIONS: &str = "
--- Texts, and what is printed of them: core forms are printed as they were read, short forms are
--- expanded, white space and comments part tokens.
+§ Texts as they are printed: short forms are written out, white space and comments part tokens.
 x => x
 unit => unit
 true => true
@@ -214,7 +213,7 @@ false => false
 ( add x 1 ) => (add x 1)
 (none(Event;Bool␤Int)) => (none (Event Int))
 x;x␍x => x
--- Texts that are refused, and so. The last has a word of bytes that are no text.
+§ Texts that are refused, and so. The last has a word of bytes that are no text.
 (add x 01) => number at 7
 (add x -0) => number at 7
 (add x -01) => number at 7
@@ -254,7 +253,7 @@ x x => syntax at 2
 (add x 1)) => syntax at 9
 (add x 1 2) => syntax at 9
 (add x ␀␋␌~ 1) => syntax at 7
--- Long texts, and texts with many open parentheses: the 601st is refused, also where none fits.
+§ Long texts, and texts with many open parentheses: the 601st is refused, also where none fits.
 {600*(neg } => syntax at 3000
 {600*(neg }01 => number at 3000
 {600*(neg }( => nesting at 3000
@@ -274,6 +273,7 @@ fn expressions_are_read(rt: HostRuntime) {
 
 /// A byte and how many parentheses are open, a text, and what expression is read from there.
 static EXPRESSIONS_AT: &str = "
+§ Expressions inside a text.
 0 1 | (add x 1)) => (add x 1) to 9
 5 1 | (arr (add x 1)) => (add x 1) to 14
 4 1 | (arr (add x 1)) => (add x 1) to 14
@@ -290,6 +290,7 @@ static EXPRESSIONS_AT: &str = "
 
 /// The same of types. A type of depth 33 is read, and is over the limits.
 static TYPES_AT: &str = "
+§ Types inside a text.
 0 0 | Int => Int to 3
 5 0 | input (Pair Int(List Bool)) x => (Pair Int (List Bool)) to 27
 0 1 | Unit) => Unit to 4

@@ -168,44 +168,45 @@ fn unfilled_told(alloc: Global, net: &TypedNet, out: &mut String) {
 
 /// Networks, streams, and all that is written.
 static RUNS: &str = "
--- Networks, streams, and all that is written.
-yampa 1 input Int (>>> (arr (add x 1)) (iPre 0)) | 5␤+1 6␤+1 7 => 0␤6␤7␤
-yampa 1 input Int (>>> (arr (add x 1)) (iPre 0)) | 5␤+1 6␤+1 =␤+9223372036854775807 1␤ => 0␤6␤7␤7␤
-yampa 1 input Int (arr (add x 1)) | 9223372036854775807 => -9223372036854775808␤
-yampa 1 input Int (>>> (arr (add x 1)) (iPre 0)) |  =>
-yampa 1 input Int (>>> (arr (add x 1)) (iPre 0)) | 5␤+1 6␤+0 7 => 0␤6␤status 1 stream: line 3: step
-yampa 1 input Int (>>> (arr (add x 1)) (iPre 0)) | = => status 1 stream: line 1: nothing before
-yampa 1 input Int (>>> (arr (add x 1)) (iPre 0)) | true => status 1 stream: line 1: other type at 0
-yampa 1 input Int (>>> (arr (add x 1)) (iPre 0)) | 9223372036854775808 => status 1 stream: line 1: number range at 0
-yampa 1 input Int (>>> (arr (add x 1)) (iPre 0)) | 007 => status 1 stream: line 1: no value at 0
-yampa 1 input Int (>>> (arr (add x 1)) (iPre 0)) | -0 => status 1 stream: line 1: no value at 0
-yampa 1 input Int (>>> (arr (add x 1)) (iPre 0)) | 5  => status 1 stream: line 1: no value at 1
-yampa 1 input Int (>>> (arr (add x 1)) (iPre 0)) | +1 5 => status 1 stream: line 1: step
-yampa 1 input Int (>>> (arr (add x 1)) (iPre 0)) | 5␤+9223372036854775808 6 => 0␤status 1 stream: line 2: step
-yampa 1 input Int (>>> (arr (add x 1)) (iPre 0)) | 5␤+1  6 => 0␤status 1 stream: line 2: no value at 0
-yampa 1 input Int (>>> (arr (add x 1)) (iPre 0)) | 5␤6 => 0␤status 1 stream: line 2: step
-yampa 1 input Int (>>> (arr (add x 1)) (iPre 0)) | 5␤+1 == => 0␤status 1 stream: line 2: no value at 0
-yampa 1 input Int (>>> (arr (add x 1)) (iPre 0)) | ␤ => status 1 stream: line 1: no value at 0
+§ Streams, and all that is written.
+‹increment› | 5␤+1 6␤+1 7 => 0␤6␤7␤
+‹increment› | 5␤+1 6␤+1 =␤+9223372036854775807 1␤ => 0␤6␤7␤7␤
+‹successor› | 9223372036854775807 => -9223372036854775808␤
+‹increment› |  =>
+‹increment› | 5␤+1 6␤+0 7 => 0␤6␤status 1 stream: line 3: step
+‹increment› | = => status 1 stream: line 1: nothing before
+‹increment› | true => status 1 stream: line 1: other type at 0
+‹increment› | 9223372036854775808 => status 1 stream: line 1: number range at 0
+‹increment› | 007 => status 1 stream: line 1: no value at 0
+‹increment› | -0 => status 1 stream: line 1: no value at 0
+‹increment› | 5  => status 1 stream: line 1: no value at 1
+‹increment› | +1 5 => status 1 stream: line 1: step
+‹increment› | 5␤+9223372036854775808 6 => 0␤status 1 stream: line 2: step
+‹increment› | 5␤+1  6 => 0␤status 1 stream: line 2: no value at 0
+‹increment› | 5␤6 => 0␤status 1 stream: line 2: step
+‹increment› | 5␤+1 == => 0␤status 1 stream: line 2: no value at 0
+‹increment› | ␤ => status 1 stream: line 1: no value at 0
 yampa 1 input (Pair Int Int) (>>> (iPre (pair 1 2)) (arr (sub (fst x) (mul (snd x) (neg 3))))) | (pair 10 -1)␤+2 (pair 0 0)␤+3 (pair 5 => 7␤7␤status 1 stream: line 3: no value at 7
--- A network of one expression for each shape that has a closure of its own, and one for all others.
-yampa 1 input Int (arr x) | 5␤+1 -6 => 5␤-6␤
+§ One expression for each shape that has a closure of its own, and one for all others.
+‹same› | 5␤+1 -6 => 5␤-6␤
 yampa 1 input Int (arr 7) | 5␤+1 6 => 7␤7␤
 yampa 1 input Int (arr true) | 5 => true␤
 yampa 1 input Int (arr unit) | 5 => unit␤
-yampa 1 input Int (arr (add x 1)) | 5␤+1 9223372036854775807 => 6␤-9223372036854775808␤
+‹successor› | 5␤+1 9223372036854775807 => 6␤-9223372036854775808␤
 yampa 1 input Int (arr (mul x 3)) | 5␤+1 -9223372036854775808 => 15␤-9223372036854775808␤
 yampa 1 input Int (arr (add (mul x 2) 5)) | -1␤+1 9223372036854775807 => 3␤3␤
 yampa 1 input (Pair Int Bool) (arr (pair (snd x) (fst x))) | (pair 1 true) => (pair true 1)␤
 yampa 1 input (Pair Int Int) (arr (fst x)) | (pair 1 2) => 1␤
-yampa 1 input (Pair Int Int) (arr (snd x)) | (pair 1 2) => 2␤
-yampa 1 input Int (arr (less x 6)) | 5␤+1 6 => true␤false␤
-yampa 1 input Int (arr (event x)) | 5 => (event 5)␤
+‹second› | (pair 1 2) => 2␤
+‹below six› | 5␤+1 6 => true␤false␤
+‹wrap› | 5 => (event 5)␤
 yampa 1 input Int (arr (neg x)) | 5 => -5␤
 ";
 
 /// Networks, and where the first expression without a row stands.
 static MISSING: &str = "
-yampa 1 input Int (>>> (arr (add x 1)) (iPre 0)) => (at 0 0)
+§ The first expression without a row.
+‹increment› => (at 0 0)
 ";
 
 #[test]

@@ -124,6 +124,7 @@ fn tried(alloc: Global, name: &str, ty: &Ty, sample: &Sample, value_text: &str, 
 
 /// Calls by their names. Copies share, and take no memory.
 static CALLS: &str = "
+§ Calls with little memory.
 reading a value => refused at first
 reading an expression => refused at first
 evaluating => refused at first

@@ -143,6 +143,7 @@ fn filled(alloc: Global, net: &TypedNet, spare: usize, out: &mut String) {
 
 /// Calls by their names.
 static CALLS: &str = "
+§ Tables and runners with little memory.
 pushing a sample => refused at first
 filling a table => refused at first
 ";

@@ -41,6 +41,7 @@ fn literal_told(literal: Literal, out: &mut String) {
 
 /// Expressions and their shapes: some that have one, and some that are near one.
 static SHAPES: &str = "
+§ Shapes.
 x => identity
 unit => constant unit
 true => constant true

@@ -167,6 +167,7 @@ pub fn row_told(table: &LeafTable, need: &LeafNeed, x: &Sample, out: &mut String
 
 /// One more expression than 4,096, and what the filling of a table finds.
 static FILLED: &str = "
+§ One expression more, for the filling of a table.
 (arr (add x 4096)) => status 1 table full
 (arr (add x 0)) => a row for each
 ";
@@ -174,16 +175,18 @@ static FILLED: &str = "
 /// The same, and what a table answers to it that has a row for each of the others: where the key is
 /// new the leaf comes back.
 static ADDED: &str = "
+§ One expression more, for a table that is full.
 (arr (add x 4096)) => full, and its leaf comes back
 (arr (add x 0)) => row 0
 ";
 
 /// A network, a value, and what the row of its expression answers, both ways.
 static CALLED: &str = "
-yampa 1 input Int (arr (add x 1)) | 5 => row 0 answers 6 and 6
-yampa 1 input Int (arr (less x 6)) | 5 => row 0 answers true and true
-yampa 1 input Int (arr (event x)) | 5 => row 0 answers (event 5) and (event 5)
-yampa 1 input (Pair Int Int) (arr (snd x)) | (pair 1 2) => row 0 answers 2 and 2
+§ Rows that are called.
+‹successor› | 5 => row 0 answers 6 and 6
+‹below six› | 5 => row 0 answers true and true
+‹wrap› | 5 => row 0 answers (event 5) and (event 5)
+‹second› | (pair 1 2) => row 0 answers 2 and 2
 ";
 
 #[test]

@@ -1,5 +1,6 @@
 // Texts in short forms, what is said of what is found, and what is read of texts.
 
+use crate::named::network_named;
 use leaf_expr::{Expr, read_expr, read_type_at};
 use sample_core::{Sample, Ty, read_value};
 use std::alloc::Global;
@@ -20,12 +21,15 @@ pub fn say_signed(out: &mut String, words: &str, number: i64) {
     drop(write!(out, "{words} {number}"));
 }
 
-/// Adds the text that its short form stands for: `{3*ab}` for `ababab`, and inside such a part
-/// `[3*ab]`; `␤` for a line feed, and likewise `␍`, `␉`, `␋`, `␌` and `␀` for what they show.
+/// Adds the text that its short form stands for: `‹increment›` for the file of the network of that
+/// name; `{3*ab}` for `ababab`, and inside such a part `[3*ab]`; `␤` for a line feed, and likewise
+/// `␍`, `␉`, `␋`, `␌` and `␀` for what they show.
 pub fn write_short(alloc: Global, short: &str, out: &mut String) {
+    let mut named = String::new(alloc);
     let mut outer = String::new(alloc);
     let mut inner = String::new(alloc);
-    push_controls(&mut outer, short);
+    push_named(&mut named, short);
+    push_controls(&mut outer, named.as_str());
     push_repeated(&mut inner, outer.as_str(), '{', '}');
     push_repeated(out, inner.as_str(), '[', ']');
 }
@@ -35,6 +39,15 @@ pub fn written(alloc: Global, short: &str) -> String {
     let mut text = String::new(alloc);
     write_short(alloc, short, &mut text);
     text
+}
+
+/// Adds the text with the files of networks in place of their names.
+fn push_named(out: &mut String, short: &str) {
+    for piece in short.split('‹') {
+        let (name, behind) = piece.split_once('›').unwrap_or(("", piece));
+        say(out, network_named(name));
+        say(out, behind);
+    }
 }
 
 fn push_controls(out: &mut String, short: &str) {

@@ -60,6 +60,7 @@ pub fn number_told(given: &str, out: &mut String) {
 
 /// A kind of thing, the byte from which it is sought, a text, and what is found.
 static TOKENS: &str = "
+§ Tokens.
 token 0 |  (ab;c)␤)␍-5 => from 1 to 2
 token 2 |  (ab;c)␤)␍-5 => from 2 to 4
 token 3 |  (ab;c)␤)␍-5 => from 3 to 4
@@ -83,6 +84,7 @@ end 4 | (p 0 => none
 
 /// Words, and what numbers they spell.
 static NUMBERS: &str = "
+§ Number words.
 0 => number 0
 -7 => number -7
 9223372036854775807 => number 9223372036854775807

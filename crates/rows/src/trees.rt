@@ -79,6 +79,7 @@ fn exprs_told(alloc: Global, out: &mut String) {
 
 /// Trees by their names, and how they are printed.
 static TREES: &str = "
+§ Trees that are built by calls.
 values => (list (event -5) none unit)
 types => (List Bool)
 expressions => (list Int (neg x) (p 7))

@@ -78,9 +78,11 @@ fn fault_told(fault: ExprFault, fits: bool, out: &mut String) {
     }
 }
 
-/// Expressions that have a type, and why others have none.
+/// Expressions that have a type, and why others have none. An expression's height and nodes are
+/// tested before all else; a type that a form names before the form's parts, and the form's own type
+/// after them.
 static TYPINGS: &str = "
--- Expressions that have a type that is not as wanted.
+§ Expressions that have a type that is not as wanted.
 Int | (fst x) => mismatch
 Int | (snd x) => mismatch
 Int | (then true (add x 1)) => mismatch
@@ -115,7 +117,7 @@ Int | (len (event x)) => mismatch
 Int | (lMerge (event 1) (event true)) => mismatch
 Int | (gate Bool (event 1) true) => mismatch
 Int | (tag Bool (event 1) 2) => mismatch
--- Of several faults the leftmost is answered: a part is tested before the next is walked.
+§ Of several faults the leftmost is answered: a part is tested before the next is walked.
 Int | (p 2) => no parameter
 Int | (p 65535) => no parameter
 Int | (add (p 2) true) => no parameter
@@ -129,9 +131,7 @@ Int | (nth (list Int) true (p 2)) => mismatch
 Int | (list Int (p 2) true) => no parameter
 Int | (list Int true (p 2)) => mismatch
 Int | (equal (p 2) (fst x)) => no parameter
--- At the limits: of an input's depth, 32; of a type's nodes, 256; of the types that forms name,
--- which are tested before the forms' parts, as the forms' own types are after them; and of the
--- expression's height, 256, and nodes, 100,000, which are tested before all else.
+§ Limits: a type's depth, 32, and nodes, 256; an expression's height, 256, and nodes, 100,000.
 {31*(Event }Int{31*)} | (event x) => type too deep
 {31*(Event }Int{31*)} | (pair x 1) => type too deep
 {31*(Event }Int{31*)} | (list Int (event x) (p 2)) => type too deep
@@ -160,6 +160,7 @@ Int | (list Int{100000* 0}) => expression too deep
 
 /// No parameter is in scope.
 static ALONE: &str = "
+§ Without parameters.
 Int | (p 0) => no parameter
 Int | x => typed
 ";

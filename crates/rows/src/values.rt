@@ -108,7 +108,7 @@ fn elements_are_copied(all: &Samples) -> bool {
 
 /// Values of each form, where reading stops, and faults, which are told from the left.
 static VALUES: &str = "
--- Numbers, and where reading them stops.
+§ Numbers, and where reading them stops.
 Int | 0 => 0 to 1
 Int | -1 => -1 to 2
 Int | -9 => -9 to 2
@@ -138,7 +138,7 @@ Int | (event 5) => other type at 0
 Int | 9223372036854775808 => number range at 0
 Int | -9223372036854775809 => number range at 0
 Int | {65000*9} => number range at 0
--- Values of each form of types, and faults in them. Faults are told from the left.
+§ Values of each form of types, and faults in them. Faults are told from the left.
 Unit | unit => unit to 4
 Bool | false => false to 5
 Bool | 9223372036854775808 => other type at 0
@@ -169,7 +169,7 @@ Int | 99999999999999999999 => number range at 0
 (Pair Int (Event Int)) | (pair 5 (event 99999999999999999999)) => number range at 15
 {30*(Pair (List Int) }Int{30*)} | {30*(pair (list[1000* 7]) }7{30*)} => {30*(pair (list[1000* 7]) }7{30*)} to 60421
 {31*(List }Int{31*)} | {31*(list }7{19999* 7}{31*)} => {31*(list }7{19999* 7}{31*)} to 40216
--- A value with every form of types in it, and faults in it.
+§ A value with every form of types in it, and faults in it.
 (Pair (List (Event Int)) (Pair Bool Unit)) | (pair (list (event 05) => no value at 19
 (Pair (List (Event Int)) (Pair Bool Unit)) | (pair (list (event 5 none) (pair true unit)) => no value at 20
 (Pair (List (Event Int)) (Pair Bool Unit)) | (pair (list (event 5) nope) => no value at 22

@@ -71,7 +71,7 @@ fn printed_told(printed: Result<String, Memory>, text: &str, out: &mut String) {
 
 /// Inputs, expressions, and their types and values.
 static WORKED: &str = "
--- Inputs, parameters, literals, pairs, and the order of work.
+§ Inputs, parameters, literals, pairs, and the order of work.
 Int | 3 | x => Int 3
 Int | 3 | (p 0) => Int 10
 Int | 3 | (p 1) => Bool true
@@ -86,7 +86,7 @@ Int | 3 | (pair x true) => (Pair Int Bool) (pair 3 true)
 (Pair Int Bool) | (pair 3 true) | (pair (snd x) (fst x)) => (Pair Bool Int) (pair true 3)
 Int | 3 | (then (add x 1) (mul x 2)) => Int 8
 Int | 3 | (then true (pair x (p 0))) => (Pair Bool Int) (pair true 10)
--- Numbers, which wrap, equality of whole values, and truth values.
+§ Numbers, which wrap, equality of whole values, and truth values.
 Int | 3 | (neg x) => Int -3
 Int | -9223372036854775808 | (neg x) => Int -9223372036854775808
 Int | 3 | (add x (p 0)) => Int 13
@@ -122,7 +122,7 @@ Bool | false | (or x true) => Bool true
 Bool | false | (or x false) => Bool false
 Bool | true | (if x 1 2) => Int 1
 Bool | false | (if x 1 2) => Int 2
--- Events and lists.
+§ Events and lists.
 Int | 3 | (none (List Int)) => (Event (List Int)) none
 Int | 5 | (event x) => (Event Int) (event 5)
 (Pair Int (Event Int)) | (pair 3 (event 5)) | (on (snd x) 7 (sub (fst (fst x)) (snd x))) => Int -2
@@ -139,7 +139,7 @@ Int | 3 | (list Bool) => (List Bool) (list)
 (List Int) | (list) | (nth x 0 7) => Int 7
 (List Int) | (list 10 11) | (len x) => Int 2
 (List Int) | (list) | (len x) => Int 0
--- Short forms, which mean what their core forms do.
+§ Short forms, which mean what their core forms do.
 (Pair (Event Int) (Event Int)) | (pair (event 1) (event 2)) | (lMerge (fst x) (snd x)) => (Event Int) (event 1) of (on (fst x) (snd x) (event (snd x)))
 (Pair (Event Int) (Event Int)) | (pair none (event 2)) | (lMerge (fst x) (snd x)) => (Event Int) (event 2) of (on (fst x) (snd x) (event (snd x)))
 (Pair (Event Int) (Event Int)) | (pair (event 1) none) | (lMerge (fst x) (snd x)) => (Event Int) (event 1) of (on (fst x) (snd x) (event (snd x)))
@@ -150,7 +150,7 @@ Int | 3 | (list Bool) => (List Bool) (list)
 (Pair (Event Bool) Int) | (pair none 9) | (tag Int (fst x) (snd x)) => (Event Int) none of (on (fst x) (none Int) (event (then (fst x) (snd x))))
 (Pair (Event Bool) Int) | (pair (event true) 9) | (attach (Pair Bool Int) (fst x) (snd x)) => (Event (Pair Bool Int)) (event (pair true 9)) of (on (fst x) (none (Pair Bool Int)) (event (pair (snd x) (then (fst x) (snd x)))))
 (Pair (Event Bool) Int) | (pair none 9) | (attach (Pair Bool Int) (fst x) (snd x)) => (Event (Pair Bool Int)) none of (on (fst x) (none (Pair Bool Int)) (event (pair (snd x) (then (fst x) (snd x)))))
--- The largest expressions: 100,000 nodes, and height 256 with 99,570 nodes.
+§ The largest expressions: 100,000 nodes, and height 256 with 99,570 nodes.
 Int | 3 | (len (list Int{99998* 0})) => Int 99998
 Int | 3 | (len (list Int{392* [253*(neg ]x[253*)]})) => Int 392
 ";
