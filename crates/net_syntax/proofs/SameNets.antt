@@ -164,41 +164,41 @@ module _ {L : Type 0} (val : L → List Datum → Datum → Datum) where
   same-leaf : (T : LeafTyping L) → LeavesTyped val T → (e : L) (Ps : List TypeTree) (A B : TypeTree) → T e Ps A B → SameLeaf val Ps A B e e
   same-leaf T lt e Ps A B h = record { leaf_same = λ ps x k i. refl; leaf_typed = λ ps x k i. lt e Ps A B h ps x k i }
 
-  module _ (T : LeafTyping L) (lt : LeavesTyped val T) where
+  olds_alone : (Os : List Arrow) (os os' : List SignalFunction) → AllOlds Os os os' → AllOlds Os os os
+  olds_alone Os os os' no_olds = no_olds
+  olds_alone Os os os' (and_old {Os = Os'} {f = f} {fs = fs} {gs = gs} sf sg h a) = and_old sf sf (SameAt-one f h.typed) (olds_alone Os' fs gs a)
+
+  module _ (T : LeafTyping L) {M : TypeTree → Type 0} (lt : LeavesTyped val T) where
     mutual
       -- a typed network in alike environments has equal, typed answers
-      pub same-typed : (Ps : List TypeTree) (Os : List Arrow) (net : Network L) (A B : TypeTree) → Typed T Ps Os net A B → SameNet val Ps Os A B net net
+      pub same-typed : (Ps : List TypeTree) (Os : List Arrow) (net : Network L) (A B : TypeTree) → Typed T M Ps Os net A B → SameNet val Ps Os A B net net
       same-typed Ps Os net A B (arr_typed {e = e} h) = same-arr e e (same-leaf T lt e Ps A B h)
       same-typed Ps Os net A C (seq_typed {f = f} {g = g} {B = B} df dg) = same-seq f f g g (same-typed Ps Os f A B df) (same-typed Ps Os g B C dg)
-      same-typed Ps Os net A B (first_typed {f = f} {A = A'} {B = B'} df) = same-first f f (same-typed Ps Os f A' B' df)
-      same-typed Ps Os net A B (par_typed {fs = fs} {B = B'} some l ds) = same-par fs fs (same-all_typed Ps Os fs A B' ds)
-      same-typed Ps Os net A B (loop_typed {c = c} {f = f} {C = C} h df) = same-loop_pre c c f f (same-leaf T lt c Ps unit_ty C h) (same-typed Ps Os f (pair_ty A C) (pair_ty B C) df)
+      same-typed Ps Os net A B (first_typed {f = f} {A = A'} {B = B'} df m) = same-first f f (same-typed Ps Os f A' B' df)
+      same-typed Ps Os net A B (par_typed {fs = fs} {B = B'} some l ds m) = same-par fs fs (same-all_typed Ps Os fs A B' ds)
+      same-typed Ps Os net A B (loop_typed {c = c} {f = f} {C = C} h m df) = same-loop_pre c c f f (same-leaf T lt c Ps unit_ty C h) (same-typed Ps Os f (pair_ty A C) (pair_ty B C) df)
       same-typed Ps Os net A B (i_pre_typed {c = c} h) = same-i_pre c c (same-leaf T lt c Ps unit_ty A h)
       same-typed Ps Os net A B (delay_typed {q = q} {c = c} low high h) = same-delay q c c (same-leaf T lt c Ps unit_ty A h)
       same-typed Ps Os net A B (hold_typed {c = c} h) = same-hold c c (same-leaf T lt c Ps unit_ty B h)
-      same-typed Ps Os net A B (accum_typed {g = g} {z = z} {V = V} {Z = Z} hz hg) = same-accum_by g g z z (same-leaf T lt z Ps unit_ty Z hz) (same-leaf T lt g Ps (pair_ty Z V) Z hg)
-      same-typed Ps Os net A B (after_typed {q = q} {c = c} {C = C} high h) = same-after q c c (same-leaf T lt c Ps unit_ty C h)
-      same-typed Ps Os net A B (repeatedly_typed {q = q} {c = c} {C = C} low high h) = same-repeatedly q c c (same-leaf T lt c Ps unit_ty C h)
+      same-typed Ps Os net A B (accum_typed {g = g} {z = z} {V = V} {Z = Z} hz m hg n) = same-accum_by g g z z (same-leaf T lt z Ps unit_ty Z hz) (same-leaf T lt g Ps (pair_ty Z V) Z hg)
+      same-typed Ps Os net A B (after_typed {q = q} {c = c} {C = C} high h m) = same-after q c c (same-leaf T lt c Ps unit_ty C h)
+      same-typed Ps Os net A B (repeatedly_typed {q = q} {c = c} {C = C} low high h m) = same-repeatedly q c c (same-leaf T lt c Ps unit_ty C h)
       same-typed Ps Os net A B time_typed = same-time
       same-typed Ps Os net A B integral_typed = same-integral
       same-typed Ps Os net A B (switch_typed {f = f} {t = t} {C = C} df dt) = same-switch f f t t (same-typed Ps Os f A (pair_ty B (event_ty C)) df) (same-typed (Ps ++ C ∷ []) Os t A B dt)
       same-typed Ps Os net A B (d_switch_typed {f = f} {t = t} {C = C} df dt) = same-d_switch f f t t (same-typed Ps Os f A (pair_ty B (event_ty C)) df) (same-typed (Ps ++ C ∷ []) Os t A B dt)
       same-typed Ps Os net A B (r_switch_typed {f = f} {t = t} {D = D} {C = C} df dt) = same-r_switch f f t t (same-typed Ps Os f D B df) (same-typed (Ps ++ C ∷ []) Os t D B dt)
-      same-typed Ps Os net A B (k_switch_typed {f = f} {e = e} {t = t} {C = C} df de dt) = same-k_switch f f e e t t (same-typed Ps Os f A B df) (same-typed Ps Os e (pair_ty A B) (event_ty C) de) (same-typed (Ps ++ C ∷ []) (Os ++ record { input = A; output = B } ∷ []) t A B dt)
-      same-typed Ps Os net A B (p_switch_typed {r = r} {fs = fs} {e = e} {t = t} {B = B'} {C = C} {D = D} some l h ds de dt) =
+      same-typed Ps Os net A B (k_switch_typed {f = f} {e = e} {t = t} {C = C} df m de dt) = same-k_switch f f e e t t (same-typed Ps Os f A B df) (same-typed Ps Os e (pair_ty A B) (event_ty C) de) (same-typed (Ps ++ C ∷ []) (Os ++ record { input = A; output = B } ∷ []) t A B dt)
+      same-typed Ps Os net A B (p_switch_typed {r = r} {fs = fs} {e = e} {t = t} {B = B'} {C = C} {D = D} some l m h ds n de dt) =
           same-p_switch r r fs fs e e t t l (same-leaf T lt r Ps (pair_ty A int_ty) D h) (same-all_typed Ps Os fs D B' ds) (same-typed Ps Os e (pair_ty A (list_ty B')) (event_ty C) de) (same-typed (Ps ++ C ∷ []) (Os ++ copies (members fs) (record { input = D; output = B' })) t A (list_ty B') dt)
       same-typed Ps Os net A B (old_typed {k = k} i) = same-old k i
 
-      pub same-all_typed : (Ps : List TypeTree) (Os : List Arrow) (fs : Networks L) (A B : TypeTree) → AllTyped T Ps Os fs A B → SameNets val Ps Os A B fs fs
+      pub same-all_typed : (Ps : List TypeTree) (Os : List Arrow) (fs : Networks L) (A B : TypeTree) → AllTyped T M Ps Os fs A B → SameNets val Ps Os A B fs fs
       same-all_typed Ps Os fs A B no_members_typed = same-no_members
       same-all_typed Ps Os fs A B (and_member_typed {f = f} {fs = fs'} df ds) = same-and_member f f fs' fs' (same-typed Ps Os f A B df) (same-all_typed Ps Os fs' A B ds)
 
-    olds_alone : (Os : List Arrow) (os os' : List SignalFunction) → AllOlds Os os os' → AllOlds Os os os
-    olds_alone Os os os' no_olds = no_olds
-    olds_alone Os os os' (and_old {Os = Os'} {f = f} {fs = fs} {gs = gs} sf sg h a) = and_old sf sf (SameAt-one f h.typed) (olds_alone Os' fs gs a)
-
     -- a law shown in each one environment holds across alike ones
-    pub same-from_law : (Ps : List TypeTree) (Os : List Arrow) (A B : TypeTree) (f g : Network L) → Typed T Ps Os f A B → Typed T Ps Os g A B
+    pub same-from_law : (Ps : List TypeTree) (Os : List Arrow) (A B : TypeTree) (f g : Network L) → Typed T M Ps Os f A B → Typed T M Ps Os g A B
         → ((ps : List Datum) (os : List SignalFunction) → TypedParams Ps ps → AllOlds Os os os → (xs : TimedList) → TypedSamples A xs → meaning val f (context ps os) xs ≡ meaning val g (context ps os) xs) → SameNet val Ps Os A B f g
     same-from_law Ps Os A B f g df dg law = record {
       here = λ ps os os' k a. record {

@@ -16,7 +16,7 @@ use Rattle.leaf_core.proofs.Uniqueness.{one_type}
 use Rattle.net_syntax.proofs.SameNets.{same-typed}
 use Rattle.net_syntax.specs.NetworkLimits.{NetTypedWithin}
 use Rattle.net_syntax.proofs.Unique.{unique}
-use Rattle.net_syntax.proofs.Unlimited.{free}
+use Rattle.net_syntax.proofs.TypingMap.{map_typed}
 use Rattle.net_syntax.proofs.TypedMeanings.{Holds, holds, typed_outputs, outputs_alike, alike_from_equal}
 
 -- a typed network in a typed environment outputs typed values
@@ -46,4 +46,4 @@ one-output-type = unique ExpressionTyped one_type
 
 -- a network that is typed within the limits is typed
 pub within-typed : (Ps : List TypeTree) (Os : List Arrow) (net : Network Expression) (A B : TypeTree) → NetTypedWithin Ps Os net A B → NetTyped Ps Os net A B
-within-typed Ps Os net A B h = free (λ e Qs X Y f. f.checked.given) h
+within-typed Ps Os net A B h = map_typed (λ e Qs X Y f. f.checked.given) (λ X m. tt) h

@@ -7,7 +7,7 @@ use Rattle.net_syntax.specs.Meaning.{Context, meaning, old_at}
 use Rattle.net_syntax.specs.Environment.{Environment, context_of, outputs}
 use Rattle.sample_core.specs.TypeTree.{TypeTree}
 use Rattle.sample_core.specs.HasType.{TypedParams, no_params, and_param}
-use Rattle.net_syntax.specs.Typing.{TypedValues, TypedSamples, Arrow, OldAt, old_here, old_after, LeafTyping, Typed}
+use Rattle.net_syntax.specs.Typing.{TypedValues, TypedSamples, Arrow, OldAt, old_here, old_after, LeafTyping, Typed, AnyType}
 use Rattle.net_syntax.specs.TypedEnvironment.{TypedEnvironment, closed_typed, param_typed, frozen_typed}
 use Rattle.net_syntax.proofs.Meanings.{IsSignal-meaning, AllSignals-context_of}
 use Rattle.net_syntax.proofs.Resumed.{IsSignal-resume}
@@ -38,7 +38,7 @@ module _ {L : Type 0} (val : L → List Datum → Datum → Datum) (T : LeafTypi
             (and_old sg sg (SameAt-resume g g ((same-typed val T lt Qs Rs net A B h).here (context_of val F).params (context_of val F).olds (context_of val F).olds q.scope_params q.scope_olds) p d k) no_olds);
       }
 
-  pub typed_outputs : (Ps : List TypeTree) (Os : List Arrow) (net : Network L) (A B : TypeTree) (E : Environment L) (xs : TimedList) → TypedEnvironment T Ps Os E → Typed T Ps Os net A B → TypedSamples A xs → TypedValues B (outputs val net E xs)
+  pub typed_outputs : (Ps : List TypeTree) (Os : List Arrow) (net : Network L) (A B : TypeTree) (E : Environment L) (xs : TimedList) → TypedEnvironment T Ps Os E → Typed T AnyType Ps Os net A B → TypedSamples A xs → TypedValues B (outputs val net E xs)
   typed_outputs Ps Os net A B E xs e h k =
       let r : Holds Ps Os (context_of val E) = holds Ps Os E e in
       ((same-typed val T lt Ps Os net A B h).here (context_of val E).params (context_of val E).olds (context_of val E).olds r.scope_params r.scope_olds).typed xs k

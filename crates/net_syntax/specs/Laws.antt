@@ -9,6 +9,7 @@ use Rattle.net_syntax.specs.Environment.{Environment}
 use Rattle.net_syntax.specs.Typing.{Arrow, TypedValues, TypedSamples}
 use Rattle.net_syntax.specs.TypedNetwork.{outputs_of, NetTyped}
 use Rattle.net_syntax.specs.NetworkLimits.{NetTypedWithin}
+use Rattle.net_syntax.specs.Leaves.{leaves_by}
 use Rattle.net_syntax.specs.Sameness.{SameNet}
 use Rattle.net_syntax.specs.AlikeEnvironments.{EnvironmentTyped, SameOutputs}
 
@@ -40,6 +41,12 @@ SameLaw = (Ps : List TypeTree) (Os : List Arrow) (f g : Network Expression) (A B
 -- a network has one output type at an input type
 abbrev pub OneTypeLaw : Type 0
 OneTypeLaw = (Ps : List TypeTree) (Os : List Arrow) (net : Network Expression) (A B C : TypeTree) → NetTyped Ps Os net A B → NetTyped Ps Os net A C → B ≡ C
+
+-- typings of a network at an input type give one list of its expressions
+abbrev pub OneListLaw : Type 0
+OneListLaw =
+    (Ps : List TypeTree) (Os : List Arrow) (at : List ℕ) (net : Network Expression) (A B C : TypeTree)
+    (d : NetTyped Ps Os net A B) (k : NetTyped Ps Os net A C) → leaves_by at d ≡ leaves_by at k
 
 -- a network that is typed within the limits is typed
 abbrev pub WithinLaw : Type 0

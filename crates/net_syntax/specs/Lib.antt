@@ -10,7 +10,6 @@ pub mod TypedNetworkCode
 pub mod Weight
 pub mod Height
 pub mod Typing
-pub mod TypedWithin
 pub mod NetworkLimits
 pub mod TypedEnvironment
 pub mod Sameness

@@ -5,14 +5,13 @@ use Rattle.leaf_core.specs.Expression.{Expression}
 use Rattle.leaf_core.specs.TypeLimits.{TypeFits}
 use Rattle.leaf_core.specs.ExpressionLimits.{ExpressionTypedWithin}
 use Rattle.net_syntax.specs.Network.{Network}
-use Rattle.net_syntax.specs.Typing.{Arrow}
-use Rattle.net_syntax.specs.TypedWithin.{TypedWithin}
+use Rattle.net_syntax.specs.Typing.{Arrow, Typed}
 use Rattle.net_syntax.specs.Weight.{weight}
 use Rattle.net_syntax.specs.Height.{height}
 
 -- the network is typed, its expressions are within their limits, and so is each type that arises
 abbrev pub NetTypedWithin : List TypeTree → List Arrow → Network Expression → TypeTree → TypeTree → Type 0
-NetTypedWithin = TypedWithin (λ e Ps A B. ExpressionTypedWithin e Ps A B) TypeFits
+NetTypedWithin = Typed (λ e Ps A B. ExpressionTypedWithin e Ps A B) TypeFits
 
 -- a whole network, with nothing in scope, is typed within all limits
 pub record NetworkFits (net : Network Expression) (A B : TypeTree) : Type 0 where

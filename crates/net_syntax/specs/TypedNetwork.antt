@@ -8,7 +8,7 @@ use Rattle.leaf_core.specs.ExpressionTyping.{ExpressionTyped}
 use Rattle.net_syntax.specs.SignalFunction.{TimedList}
 use Rattle.net_syntax.specs.Network.{Network}
 use Rattle.net_syntax.specs.Environment.{Environment, closed, outputs}
-use Rattle.net_syntax.specs.Typing.{Arrow, Typed}
+use Rattle.net_syntax.specs.Typing.{Arrow, Typed, AnyType}
 
 -- the outputs of a network in an environment, one for each sample
 abbrev pub outputs_of : Network Expression → Environment Expression → TimedList → List Datum
@@ -20,7 +20,7 @@ stream_of net xs = outputs_of net closed xs
 
 -- under parameters and frozen networks of these types, the network has this input type and this output type
 abbrev pub NetTyped : List TypeTree → List Arrow → Network Expression → TypeTree → TypeTree → Type 0
-NetTyped = Typed ExpressionTyped
+NetTyped = Typed ExpressionTyped AnyType
 
 -- a network with its types, its weight and its height
 pub record TypedNetwork : Type 0 where

@@ -8,6 +8,7 @@ ghost use Rattle.net_syntax.specs.Laws.{
   AlikeLaw,
   SameLaw,
   OneTypeLaw,
+  OneListLaw,
   WithinLaw,
 };
 ghost use Rattle.net_syntax.specs.SwitchLaws.{
@@ -56,12 +57,13 @@ pub fn stream_laws()
 {}
 
 /// A typed network outputs typed values, the same ones in alike environments, and it has one
-/// output type.
+/// output type and one list of expressions.
 pub fn typing_laws()
     ensures typed { TypedOutputsLaw }
     ensures alike { AlikeLaw }
     ensures same { SameLaw }
     ensures one_type { OneTypeLaw }
+    ensures one_list { OneListLaw }
     ensures within { WithinLaw }
 {}
 

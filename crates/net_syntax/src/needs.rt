@@ -73,34 +73,33 @@ fn add_both(
         (type_of input.now) (type_of t) (map need_of needs.old.items)
         (map need_of needs.new.items)) }
 {
-    path.push(0)?;
-    let between = add_leaves(alloc, f.get(), scope, input, path, needs)?;
-    path.pop();
-    let output = add_second(alloc, g, scope, &between, path, needs);
+    let between = add_child(alloc, 0, f, scope, input, path, needs)?;
+    let output = add_child(alloc, 1, g, scope, &between, path, needs);
     drop(between);
     output
 }
 
-/// Adds the expressions of the network that is child 1 of the node at the path.
+/// Adds the expressions of the network that is child k of the node at the path.
 #[cycle(add_leaves)]
-fn add_second(
+fn add_child(
     alloc: Global,
-    g: &NetChild<Expr>,
+    k: u32,
+    child: &NetChild<Expr>,
     scope: &[Ty],
     input: &Ty,
     path: &mut Vec<u32>,
     needs: &mut Vec<LeafNeed>,
 ) -> Result<Ty, Memory>
-    requires { IsTyped (map type_of scope.now) (map_network expression_of g.now)
+    requires { IsTyped (map type_of scope.now) (map_network expression_of child.now)
         (type_of input.now) }
     ensures path { OnOk result (path.new.items ≡ path.old.items) }
     ensures added { IfOk result
-        (λ t. AddsLeaves (map type_of scope.now) (path.old.items ++ 1 ∷ []) (map_network expression_of g.now)
-        (type_of input.now) (type_of t) (map need_of needs.old.items)
-        (map need_of needs.new.items)) }
+        (λ t. AddsLeaves (map type_of scope.now) (path.old.items ++ k ∷ [])
+        (map_network expression_of child.now) (type_of input.now) (type_of t)
+        (map need_of needs.old.items) (map need_of needs.new.items)) }
 {
-    path.push(1)?;
-    let output = add_leaves(alloc, g.get(), scope, input, path, needs);
+    path.push(k)?;
+    let output = add_leaves(alloc, child.get(), scope, input, path, needs);
     path.pop();
     output
 }

@@ -1,5 +1,5 @@
 -- What binding finds, and what it makes.
-use Rattle.std.proofs.Common.{◌≡◌, ℕ, zero, suc, ◌+◌, ◌<◌, List, [], ◌∷◌, ◌++◌, Some, slice_get, get_or, take, length, map, refl, sym, ap, ap₂, ◌∙◌, subst, arith, append_assoc, append-nil, add-one, Contains, inl, inr}
+use Rattle.std.proofs.Common.{◌≡◌, ℕ, zero, suc, ◌+◌, ◌<◌, List, [], ◌∷◌, ◌++◌, Some, slice_get, get_or, take, length, map, refl, sym, ap, ap₂, ◌∙◌, subst, arith, append_assoc, append-nil, add-one, Contains, inl, inr, Result, Ok, Err, IfErr}
 use Rattle.std.proofs.lemmas.Option.{slice_get_within, get_or_from_slice_get}
 use Rattle.std.proofs.lemmas.List.Elements.{All-cons, All-nil, Contains-get_or}
 use Rattle.leaf_core.specs.Expression.{Expression}
@@ -9,11 +9,11 @@ use Rattle.net_syntax.specs.TypedNetwork.{TypedNetwork}
 use Rattle.net_syntax.specs.declared.need.LeafNeed.{LeafNeed}
 use Rattle.step_core.specs.declared.fault.BindFault.{BindFault}
 use Rattle.step_core.specs.declared.fault.BindFault.TheVariants as F
-use Rattle.net_syntax.specs.Leaves.{Need, LeavesOf, arr_leaves, seq_leaves, i_pre_leaves}
+use Rattle.net_syntax.specs.Leaves.{Need, LeavesOf, leaves_by}
 use Rattle.net_syntax.specs.Network.{Network, arr, seq, i_pre}
 use Rattle.net_syntax.specs.Typing.{arr_typed, seq_typed, i_pre_typed}
 use Rattle.step_core.specs.RowTyping.{RowsTyped, network_by, expression_in}
-use Rattle.step_core.specs.Lookup.{AllFound, FirstMissing, Misses, Names, RowsFor, IsFirstRow, LowersTo}
+use Rattle.step_core.specs.Lookup.{AllFound, FirstMissing, Misses, MissesIn, Names, RowsFor, IsFirstRow, LowersTo}
 
 -- the rows of two lists of needs, one behind the other
 record Parted (keys : List KeyTree) (ms ns : List Need) (ks : List ℕ) : Type 0 where
@@ -31,28 +31,28 @@ parted keys (m ∷ ms) ns (k ∷ ks) h =
     record { one = k ∷ r.one; two = r.two; first_rows = (h.0, r.first_rows); second_rows = r.second_rows; both = ap (λ l. k ∷ l) r.both }
 
 pub lowered_arr : (e : Expression) (rows : List ℕ) (k : ℕ) (rest : List ℕ) → IsFirstRow rows k rest → LowersTo (arr e) rows (arr k) rest
-lowered_arr e rows k rest f keys at A B ns [] js (arr_leaves h) r q = absurd r
-lowered_arr e rows k rest f keys at A B ns (j ∷ i ∷ ks) js (arr_leaves h) r q = absurd r.1
-lowered_arr e [] k rest f keys at A B ns (j ∷ []) js (arr_leaves h) r q = absurd (cc)
-lowered_arr e (i ∷ rows) k rest f keys at A B ns (j ∷ []) js (arr_leaves h) r q =
+lowered_arr e rows k rest f keys at A B (arr_typed h) [] js r q = absurd r
+lowered_arr e rows k rest f keys at A B (arr_typed h) (j ∷ i ∷ ks) js r q = absurd r.1
+lowered_arr e [] k rest f keys at A B (arr_typed h) (j ∷ []) js r q = absurd (cc)
+lowered_arr e (i ∷ rows) k rest f keys at A B (arr_typed h) (j ∷ []) js r q =
     let same : k ≡ j = f.0 ∙ (let e : i ≡ j = cc in e) in
     let row : slice_get keys k ≡ Some (record { expr = e; params = []; input = A }) = ap (slice_get keys) same ∙ r.0 in
     (arr_typed (record { expr = e; is_row = row; is_typed = h }), ap (λ o. arr (expression_in o)) row, f.1 ∙ (let e : rows ≡ js = cc in e))
 
 pub lowered_i_pre : (e : Expression) (rows : List ℕ) (k : ℕ) (rest : List ℕ) → IsFirstRow rows k rest → LowersTo (i_pre e) rows (i_pre k) rest
-lowered_i_pre e rows k rest f keys at A B ns [] js (i_pre_leaves h) r q = absurd r
-lowered_i_pre e rows k rest f keys at A B ns (j ∷ i ∷ ks) js (i_pre_leaves h) r q = absurd r.1
-lowered_i_pre e [] k rest f keys at A B ns (j ∷ []) js (i_pre_leaves h) r q = absurd (cc)
-lowered_i_pre e (i ∷ rows) k rest f keys at A B ns (j ∷ []) js (i_pre_leaves h) r q =
+lowered_i_pre e rows k rest f keys at A B (i_pre_typed h) [] js r q = absurd r
+lowered_i_pre e rows k rest f keys at A B (i_pre_typed h) (j ∷ i ∷ ks) js r q = absurd r.1
+lowered_i_pre e [] k rest f keys at A B (i_pre_typed h) (j ∷ []) js r q = absurd (cc)
+lowered_i_pre e (i ∷ rows) k rest f keys at A B (i_pre_typed h) (j ∷ []) js r q =
     let same : k ≡ j = f.0 ∙ (let e : i ≡ j = cc in e) in
     let row : slice_get keys k ≡ Some (record { expr = e; params = []; input = _ }) = ap (slice_get keys) same ∙ r.0 in
     (i_pre_typed (record { expr = e; is_row = row; is_typed = h }), ap (λ o. i_pre (expression_in o)) row, f.1 ∙ (let e : rows ≡ js = cc in e))
 
 pub lowered_seq : (f g : Network Expression) (rows middle rest : List ℕ) (a b : Network ℕ) → LowersTo f rows a middle → LowersTo g middle b rest → LowersTo (seq f g) rows (seq a b) rest
-lowered_seq f g rows middle rest a b hf hg keys at A C ns ks js (seq_leaves {B = B} {ms = ms} {ns = ns'} lf lg) r q =
-    let p : Parted keys ms ns' ks = parted keys ms ns' ks r in
-    let one = hf keys _ A B ms p.one (p.two ++ js) lf p.first_rows (q ∙ ap (λ l. l ++ js) p.both ∙ append_assoc p.one p.two js) in
-    let two = hg keys _ B C ns' p.two js lg p.second_rows one.2 in
+lowered_seq f g rows middle rest a b hf hg keys at A C (seq_typed {B = B} df dg) ks js r q =
+    let p : Parted keys (leaves_by (at ++ 0 ∷ []) df) (leaves_by (at ++ 1 ∷ []) dg) ks = parted keys _ _ ks r in
+    let one = hf keys (at ++ 0 ∷ []) A B df p.one (p.two ++ js) p.first_rows (q ∙ ap (λ l. l ++ js) p.both ∙ append_assoc p.one p.two js) in
+    let two = hg keys (at ++ 1 ∷ []) B C dg p.two js p.second_rows one.2 in
     (seq_typed one.0 two.0, ap₂ seq one.1 two.1, two.2)
 
 -- the same for a network that is one of these forms by an equation, as an arm of a match has it
@@ -108,5 +108,14 @@ missing_at keys all i x ks (F.MissingLeaf at) is l h lacks names = first_missing
 pub bound_network : (keys : List KeyTree) (t : TypedNetwork) (net : Network Expression) (ms ns : List Need) (ks rows rest : List ℕ) (low : Network ℕ) → net ≡ t.net → ms ≡ ns → rows ≡ ks → LeavesOf t ns → RowsFor keys ms ks → LowersTo net rows low rest → RowsTyped keys low t.input t.output × (network_by keys low ≡ t.net)
 bound_network keys t net ms ns ks rows rest low n m r l found lowered =
     let here : LowersTo t.net ks low rest = subst (λ o. LowersTo o ks low rest) n (subst (λ o. LowersTo net o low rest) r lowered) in
-    let all = here keys [] t.input t.output ns ks [] l (subst (λ o. RowsFor keys o ks) m found) (sym (append-nil ks)) in
+    let all = here keys [] t.input t.output l.0 ks [] (subst (λ o. RowsFor keys o ks) (m ∙ l.1) found) (sym (append-nil ks)) in
     (all.0, all.1)
+
+-- what the search of the needs refuses is refused of the network
+pub missed_in : (keys : List KeyTree) (t : TypedNetwork) (ms ns : List Need) (fault : BindFault) → ms ≡ ns → LeavesOf t ns → Misses keys ms fault → MissesIn keys t fault
+missed_in keys t ms ns F.Memory m l h = tt
+missed_in keys t ms ns (F.MissingLeaf p) m l h = (ns, l, subst (λ o. FirstMissing keys o p) m h)
+
+pub if_err : {A E : Type 0} (r : Result A E) (P Q : E → Type 0) → ((x : E) → P x → Q x) → IfErr r P → IfErr r Q
+if_err (Ok x) P Q f h = h
+if_err (Err e) P Q f h = f e h

@@ -1,10 +1,11 @@
 -- What is bound to a table stays bound to it when it grows.
-use Rattle.std.proofs.Common.{◌≡◌, ℕ, zero, suc, List, [], ◌∷◌, ◌++◌, Some, slice_get, refl, sym, ap, ◌∙◌}
+use Rattle.std.proofs.Common.{◌≡◌, ℕ, zero, suc, List, [], ◌∷◌, ◌++◌, Some, slice_get, refl, sym, ap, ap₂, ◌∙◌}
 use Rattle.sample_core.specs.TypeTree.{TypeTree}
 use Rattle.leaf_core.specs.KeyTree.{KeyTree}
 use Rattle.net_syntax.specs.Network.{Network, Networks, map_networks, arr, seq, first, par, loop_pre, i_pre, delay, hold, accum_by, after, repeatedly, switch, d_switch, r_switch, k_switch, p_switch, and_member}
 use Rattle.net_syntax.specs.Typing as T
 use Rattle.net_syntax.specs.Typing.{Arrow, Typed, AllTyped}
+use Rattle.net_syntax.proofs.TypingMap.{map_typed}
 use Rattle.step_core.specs.RowTyping.{RowTyped, row_expression, expression_in, network_by}
 use Rattle.step_core.specs.BindingLaws.{GrownTableLaw}
 
@@ -21,30 +22,30 @@ module _ (keys more : List KeyTree) where
   row_kept {k} r = ap expression_in (kept_at keys more k _ r.is_row ∙ sym r.is_row)
 
   mutual
-    grown : {Ps : List TypeTree} {Os : List Arrow} {net : Network ℕ} {A B : TypeTree} → Typed (RowTyped keys) Ps Os net A B → Typed (RowTyped (keys ++ more)) Ps Os net A B × (network_by (keys ++ more) net ≡ network_by keys net)
-    grown (T.arr_typed e) = (T.arr_typed (row_grown e), λ i. arr (row_kept e i))
-    grown (T.seq_typed f g) = let a = grown f in let b = grown g in (T.seq_typed a.0 b.0, λ i. seq (a.1 i) (b.1 i))
-    grown (T.first_typed f) = let a = grown f in (T.first_typed a.0, λ i. first (a.1 i))
-    grown (T.par_typed l m fs) = let a = all_grown fs in (T.par_typed l m a.0, λ i. par (a.1 i))
-    grown (T.loop_typed c f) = let a = grown f in (T.loop_typed (row_grown c) a.0, λ i. loop_pre (row_kept c i) (a.1 i))
-    grown (T.i_pre_typed c) = (T.i_pre_typed (row_grown c), λ i. i_pre (row_kept c i))
-    grown (T.delay_typed {q = q} l m c) = (T.delay_typed l m (row_grown c), λ i. delay q (row_kept c i))
-    grown (T.hold_typed c) = (T.hold_typed (row_grown c), λ i. hold (row_kept c i))
-    grown (T.accum_typed z g) = (T.accum_typed (row_grown z) (row_grown g), λ i. accum_by (row_kept g i) (row_kept z i))
-    grown (T.after_typed {q = q} l c) = (T.after_typed l (row_grown c), λ i. after q (row_kept c i))
-    grown (T.repeatedly_typed {q = q} l m c) = (T.repeatedly_typed l m (row_grown c), λ i. repeatedly q (row_kept c i))
-    grown T.time_typed = (T.time_typed, refl)
-    grown T.integral_typed = (T.integral_typed, refl)
-    grown (T.switch_typed f t) = let a = grown f in let b = grown t in (T.switch_typed a.0 b.0, λ i. switch (a.1 i) (b.1 i))
-    grown (T.d_switch_typed f t) = let a = grown f in let b = grown t in (T.d_switch_typed a.0 b.0, λ i. d_switch (a.1 i) (b.1 i))
-    grown (T.r_switch_typed f t) = let a = grown f in let b = grown t in (T.r_switch_typed a.0 b.0, λ i. r_switch (a.1 i) (b.1 i))
-    grown (T.k_switch_typed f e t) = let a = grown f in let b = grown e in let c = grown t in (T.k_switch_typed a.0 b.0 c.0, λ i. k_switch (a.1 i) (b.1 i) (c.1 i))
-    grown (T.p_switch_typed l m r fs e t) = let a = all_grown fs in let b = grown e in let c = grown t in (T.p_switch_typed l m (row_grown r) a.0 b.0 c.0, λ i. p_switch (row_kept r i) (a.1 i) (b.1 i) (c.1 i))
-    grown (T.old_typed {k = k} o) = (T.old_typed o, refl)
+    kept : {M : TypeTree → Type 0} {Ps : List TypeTree} {Os : List Arrow} {net : Network ℕ} {A B : TypeTree} → Typed (RowTyped keys) M Ps Os net A B → network_by (keys ++ more) net ≡ network_by keys net
+    kept (T.arr_typed e) = ap arr (row_kept e)
+    kept (T.seq_typed f g) = ap₂ seq (kept f) (kept g)
+    kept (T.first_typed f m) = ap first (kept f)
+    kept (T.par_typed l u fs m) = ap par (all_kept fs)
+    kept (T.loop_typed c m f) = ap₂ loop_pre (row_kept c) (kept f)
+    kept (T.i_pre_typed c) = ap i_pre (row_kept c)
+    kept (T.delay_typed {q = q} l u c) = ap (delay q) (row_kept c)
+    kept (T.hold_typed c) = ap hold (row_kept c)
+    kept (T.accum_typed z m g n) = ap₂ accum_by (row_kept g) (row_kept z)
+    kept (T.after_typed {q = q} u c m) = ap (after q) (row_kept c)
+    kept (T.repeatedly_typed {q = q} l u c m) = ap (repeatedly q) (row_kept c)
+    kept T.time_typed = refl
+    kept T.integral_typed = refl
+    kept (T.switch_typed f t) = ap₂ switch (kept f) (kept t)
+    kept (T.d_switch_typed f t) = ap₂ d_switch (kept f) (kept t)
+    kept (T.r_switch_typed f t) = ap₂ r_switch (kept f) (kept t)
+    kept (T.k_switch_typed f m e t) = let a = kept f in let b = kept e in let c = kept t in λ i. k_switch (a i) (b i) (c i)
+    kept (T.p_switch_typed l u m r fs n e t) = let a = all_kept fs in let b = kept e in let c = kept t in λ i. p_switch (row_kept r i) (a i) (b i) (c i)
+    kept (T.old_typed o) = refl
 
-    all_grown : {Ps : List TypeTree} {Os : List Arrow} {fs : Networks ℕ} {A B : TypeTree} → AllTyped (RowTyped keys) Ps Os fs A B → AllTyped (RowTyped (keys ++ more)) Ps Os fs A B × (map_networks (row_expression (keys ++ more)) fs ≡ map_networks (row_expression keys) fs)
-    all_grown T.no_members_typed = (T.no_members_typed, refl)
-    all_grown (T.and_member_typed f fs) = let a = grown f in let b = all_grown fs in (T.and_member_typed a.0 b.0, λ i. and_member (a.1 i) (b.1 i))
+    all_kept : {M : TypeTree → Type 0} {Ps : List TypeTree} {Os : List Arrow} {fs : Networks ℕ} {A B : TypeTree} → AllTyped (RowTyped keys) M Ps Os fs A B → map_networks (row_expression (keys ++ more)) fs ≡ map_networks (row_expression keys) fs
+    all_kept T.no_members_typed = refl
+    all_kept (T.and_member_typed f fs) = ap₂ and_member (kept f) (all_kept fs)
 
 pub grown_table : GrownTableLaw
-grown_table keys more b h = let g = grown keys more h.1 in ((h.0, g.0), g.1)
+grown_table keys more b h = ((h.0, map_typed (λ k Ps A B r. row_grown keys more r) (λ A m. m) h.1), kept keys more h.1)

@@ -20,4 +20,3 @@ pub mod Advancing
 pub mod Pushing
 pub mod Bindings
 pub mod GrownTables
-pub mod OneList

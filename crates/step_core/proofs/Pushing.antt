@@ -1,5 +1,5 @@
 -- A runner that takes a sample in stands for one sample more.
-use Rattle.std.proofs.Common.{◌≡◌, ℕ, suc, ◌<◌, List, [], ◌∷◌, ◌++◌, length, sym, subst, arith, length-append, append-nil}
+use Rattle.std.proofs.Common.{◌≡◌, ℕ, suc, ◌<◌, List, [], ◌∷◌, ◌++◌, length, refl, sym, subst, arith, length-append, append-nil}
 use Rattle.std.proofs.Math.Logic.{∥∥₁_map}
 use Rattle.sample_core.specs.Datum.{Datum}
 use Rattle.sample_core.specs.HasType.{HasType}
@@ -26,7 +26,14 @@ later r cells = record { input = r.input; keys = r.keys; rows = r.rows; cells = 
 abbrev OneMore : RunnerState → TimedList → ℕ × Datum → Datum → List Datum → Type 0
 OneMore r p x y cells = StandsAfter (later r cells) (p ++ x ∷ []) × (stream_of (network_in r) (p ++ x ∷ []) ≡ stream_of (network_in r) p ++ y ∷ [])
 
-all_pushed : (r : RunnerState) (p : TimedList) (x : ℕ × Datum) (y : Datum) (cells : List Datum) → StandsFor r p → OneMore r p x y cells → StandsFor (later r cells) (p ++ x ∷ []) × (stream_of (network_in r) (p ++ x ∷ []) ≡ stream_of (network_in r) p ++ y ∷ [])
+-- what the runner stands for then, and the answer
+abbrev GoesOn : RunnerState → TimedList → ℕ × Datum → Datum → List Datum → Type 0
+GoesOn r p x y cells = StandsFor (later r cells) (p ++ x ∷ []) × (stream_of (network_in r) (p ++ x ∷ []) ≡ stream_of (network_in r) p ++ y ∷ [])
+
+pushed : (r : RunnerState) (x : ℕ × Datum) (y : Datum) (cells : List Datum) → ((p : TimedList) → StandsFor r p → GoesOn r p x y cells) → Pushes r x y (later r cells)
+pushed r x y cells goes = record { same_network = refl; same_input = refl; counted = refl; stands = λ p s. (goes p s).0; answers = λ p s. (goes p s).1 }
+
+all_pushed : (r : RunnerState) (p : TimedList) (x : ℕ × Datum) (y : Datum) (cells : List Datum) → StandsFor r p → OneMore r p x y cells → GoesOn r p x y cells
 all_pushed r p x y cells s m = (
   record {
     counted = (let c : r.samples ≡ length p = s.counted in omega (arith, c, length-append p (x ∷ [])));
@@ -36,8 +43,7 @@ all_pushed r p x y cells s m = (
 )
 
 pub first_pushed : (r : RunnerState) (d : ℕ) (x y : Datum) (cells : List Datum) → r.samples ≡ 0 → HasType x r.input → StartsTyped r.keys r.rows x y [] cells → Pushes r (d, x) y (later r cells)
-first_pushed r d x y cells none t begun (z ∷ p) s = absurd (let c : r.samples ≡ suc (length p) = s.counted in omega (arith, c, none))
-first_pushed r d x y cells none t begun [] s = all_pushed r [] (d, x) y cells s (one s.holds_past)
+first_pushed r d x y cells none t begun = pushed r (d, x) y cells goes
   where
     one : StandsAfter r [] → OneMore r [] (d, x) y cells
     one (B, typed, no_cells) =
@@ -47,17 +53,24 @@ first_pushed r d x y cells none t begun [] s = all_pushed r [] (d, x) y cells s 
           (R.pushed value_of (network_in r) {P = Stands value_of b.state} [] (d, x) y b.visits took).one_more,
         )
 
+    goes : (p : TimedList) → StandsFor r p → GoesOn r p (d, x) y cells
+    goes (z ∷ p) s = absurd (let c : r.samples ≡ suc (length p) = s.counted in omega (arith, c, none))
+    goes [] s = all_pushed r [] (d, x) y cells s (one s.holds_past)
+
 pub next_pushed : (r : RunnerState) (x : ℕ × Datum) (y : Datum) (cells rest : List Datum) → 0 < r.samples → HasType x.1 r.input → StepsTyped r.keys r.rows r.cells x y [] cells rest → Pushes r x y (later r cells)
-next_pushed r x y cells rest some t moved [] s = absurd (let c : r.samples ≡ 0 = s.counted in omega (arith, c, some))
-next_pushed r x y cells rest some t moved (z ∷ p) s = all_pushed r (z ∷ p) x y cells s (one s.holds_past)
+next_pushed r x y cells rest some t moved = pushed r x y cells goes
   where
-    one : StandsAfter r (z ∷ p) → OneMore r (z ∷ p) x y cells
-    one (B, a, holds, stands) =
+    one : (z : ℕ × Datum) (p : TimedList) → StandsAfter r (z ∷ p) → OneMore r (z ∷ p) x y cells
+    one z p (B, a, holds, stands) =
         let m : StepOf r.keys r.rows r.input B a x y [] cells = (moved r.input B a r.cells [] holds (sym (append-nil r.cells)) t).0 in
         let took : TakesSample (Stands value_of m.state) (counted_meaning value_of (network_in r) empty_context) (z ∷ p) x y m.visits = R.next_push value_of (network_in r) m.steps (z ∷ p) stands in (
           (B, m.state, subst (HoldsCells r.keys r.rows r.input B m.state) (sym m.added) m.holds, took.stands),
           (R.pushed value_of (network_in r) {P = Stands value_of m.state} (z ∷ p) x y m.visits took).one_more,
         )
+
+    goes : (p : TimedList) → StandsFor r p → GoesOn r p x y cells
+    goes [] s = absurd (let c : r.samples ≡ 0 = s.counted in omega (arith, c, some))
+    goes (z ∷ p) s = all_pushed r (z ∷ p) x y cells s (one z p s.holds_past)
 
 -- what is bound is a network of rows that are there
 pub fits_table : (keys : List KeyTree) (b : Binding) → ∥ FitsTable keys b ∥₁ → FitsRows keys b.rows

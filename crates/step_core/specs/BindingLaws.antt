@@ -3,13 +3,7 @@ use Rattle.std.specs.Prelude.{◌≡◌, List, ◌++◌}
 use Rattle.leaf_core.specs.KeyTree.{KeyTree}
 use Rattle.step_core.specs.Binding.{Binding, FitsTable}
 use Rattle.step_core.specs.RowTyping.{network_by}
-use Rattle.net_syntax.specs.Leaves.{Need, LeavesOf}
-use Rattle.net_syntax.specs.TypedNetwork.{TypedNetwork, HasItsTypes}
 
 -- what fits a table fits it with more rows, and is the same network
 abbrev pub GrownTableLaw : Type 0
 GrownTableLaw = (keys more : List KeyTree) (b : Binding) → FitsTable keys b → FitsTable (keys ++ more) b × (network_by (keys ++ more) b.rows ≡ network_by keys b.rows)
-
--- lists of the expressions of one network that has its types are equal
-abbrev pub OneListLaw : Type 0
-OneListLaw = (t : TypedNetwork) (ms ns : List Need) → HasItsTypes t → LeavesOf t ms → LeavesOf t ns → ms ≡ ns

@@ -3,8 +3,8 @@ use Rattle.std.specs.Prelude.{◌≡◌, ℕ, List, [], ◌∷◌, ◌++◌, All
 use Rattle.leaf_core.specs.Expression.{Expression}
 use Rattle.leaf_core.specs.KeyTree.{KeyTree}
 use Rattle.sample_core.specs.TypeTree.{TypeTree}
-use Rattle.net_syntax.specs.Leaves.{Need, Leaves, LeavesOf}
-use Rattle.net_syntax.specs.TypedNetwork.{TypedNetwork}
+use Rattle.net_syntax.specs.Leaves.{Need, leaves_by, LeavesOf}
+use Rattle.net_syntax.specs.TypedNetwork.{TypedNetwork, NetTyped}
 use Rattle.net_syntax.specs.Network.{Network}
 use Rattle.step_core.specs.RowTyping.{RowsTyped, network_by}
 use Rattle.step_core.specs.declared.fault.BindFault.{BindFault}
@@ -48,7 +48,8 @@ IsFirstRow (j ∷ js) k rest = (k ≡ j) × (rest ≡ js)
 -- where a network's needs have the first of these numbers as their rows, it became a network of these rows for the same types, whose expressions are the network's
 abbrev pub LowersTo : Network Expression → List ℕ → Network ℕ → List ℕ → Type 0
 LowersTo net rows low rest =
-    (keys : List KeyTree) (at : List ℕ) (A B : TypeTree) (ns : List Need) (ks js : List ℕ) → Leaves [] [] at net A B ns → RowsFor keys ns ks → rows ≡ ks ++ js → RowsTyped keys low A B × (network_by keys low ≡ net) × (rest ≡ js)
+    (keys : List KeyTree) (at : List ℕ) (A B : TypeTree) (d : NetTyped [] [] net A B) (ks js : List ℕ)
+    → RowsFor keys (leaves_by at d) ks → rows ≡ ks ++ js → RowsTyped keys low A B × (network_by keys low ≡ net) × (rest ≡ js)
 
 -- a refusal names this position, other than `Memory`
 abbrev pub Names : List ℕ → BindFault → Type 0

@@ -5,7 +5,7 @@ use Rattle.leaf_core.specs.Expression.{Expression, input}
 use Rattle.leaf_core.specs.ExpressionTyping.{ExpressionTyped}
 use Rattle.leaf_core.specs.KeyTree.{KeyTree}
 use Rattle.net_syntax.specs.Network.{Network, map_network}
-use Rattle.net_syntax.specs.Typing.{Typed}
+use Rattle.net_syntax.specs.Typing.{Typed, AnyType}
 
 -- the expression of a key, `x` where there is no key
 abbrev pub expression_in : Option KeyTree → Expression
@@ -28,7 +28,7 @@ pub record RowTyped (keys : List KeyTree) (k : ℕ) (Ps : List TypeTree) (A B : 
 
 -- with nothing in scope, the network is one from A to B: each row that it names is there, and kept for the types at its place
 abbrev pub RowsTyped : List KeyTree → Network ℕ → TypeTree → TypeTree → Type 0
-RowsTyped keys rows A B = Typed (RowTyped keys) [] [] rows A B
+RowsTyped keys rows A B = Typed (RowTyped keys) AnyType [] [] rows A B
 
 -- each row that the network names is there, and kept for the types at its place
 abbrev pub FitsRows : List KeyTree → Network ℕ → Type 0

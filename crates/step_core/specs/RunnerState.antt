@@ -1,5 +1,5 @@
 -- What a running network is to every contract, and what it stands for.
-use Rattle.std.specs.Prelude.{◌≡◌, ℕ, List, [], ◌∷◌, ◌++◌, length}
+use Rattle.std.specs.Prelude.{◌≡◌, ℕ, suc, List, [], ◌∷◌, ◌++◌, length}
 use Rattle.sample_core.specs.Datum.{Datum}
 use Rattle.sample_core.specs.TypeTree.{TypeTree}
 use Rattle.leaf_core.specs.Expression.{Expression}
@@ -37,6 +37,13 @@ pub record StandsFor (r : RunnerState) (p : TimedList) : Type 0 where
   pub counted : r.samples ≡ length p
   pub holds_past : StandsAfter r p
 
--- a sample x was taken in and y answered: whatever the samples so far were, the runner stands for them and x, and y is the next output of its network
-abbrev pub Pushes : RunnerState → ℕ × Datum → Datum → RunnerState → Type 0
-Pushes r x y now = (p : TimedList) → StandsFor r p → StandsFor now (p ++ x ∷ []) × (stream_of (network_in r) (p ++ x ∷ []) ≡ stream_of (network_in r) p ++ y ∷ [])
+-- A sample x was taken in and y answered. The same network runs, on inputs of the same type, and one sample more is
+-- counted. Whatever the samples so far were, the runner now stands for them and x, and y is the next value of the
+-- network's stream.
+pub record Pushes (r : RunnerState) (x : ℕ × Datum) (y : Datum) (now : RunnerState) : Type 0 where
+  pub same_network : network_in now ≡ network_in r
+  pub same_input : now.input ≡ r.input
+  pub counted : now.samples ≡ suc r.samples
+  pub stands : (p : TimedList) → StandsFor r p → StandsFor now (p ++ x ∷ [])
+  pub answers : (p : TimedList) → StandsFor r p
+      → stream_of (network_in r) (p ++ x ∷ []) ≡ stream_of (network_in r) p ++ y ∷ []

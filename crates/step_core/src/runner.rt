@@ -60,9 +60,6 @@ impl<'a> Runner<'a> {
         requires later { 0 < (runner_state self.old).samples → (1 ≤ step) × (step < 2 ^ 63) }
         requires room { (runner_state self.old).samples < 2 ^ 63 }
         ensures pushed { IfOk result (λ y. Pushes (runner_state self.old) (step, datum_of sample.now) (datum_of y) (runner_state self.new)) }
-        ensures counted { OnOk result ((runner_state self.new).samples ≡ (runner_state self.old).samples + 1) }
-        ensures network { network_in (runner_state self.new) ≡ network_in (runner_state self.old) }
-        ensures input { (runner_state self.new).input ≡ (runner_state self.old).input }
         ensures unchanged { OnErr result (runner_state self.new ≡ runner_state self.old) }
     {
         self.next.clear();

@@ -74,8 +74,8 @@ goes_on law keys b text lines n r r' before before' rest line after out out' i e
     let net : Network Expression = network_by keys b.rows in
     let reads : line_read b.input n before line ≡ Ok l.x = subst (λ A. line_read A n before line ≡ Ok l.x) g.of_type l.reads in
     let read : line_read b.input (suc lines) before line ≡ Ok l.x = subst (λ m. line_read b.input m before line ≡ Ok l.x) i reads in
-    let next : StandsFor r' (g.p ++ l.x ∷ []) × (stream_of (network_in r) (g.p ++ l.x ∷ []) ≡ stream_of (network_in r) g.p ++ l.answers.y ∷ []) = l.answers.pushes g.p g.stands in
-    let grown : stream_of net (g.p ++ l.x ∷ []) ≡ stream_of net g.p ++ l.answers.y ∷ [] = subst (λ m. stream_of m (g.p ++ l.x ∷ []) ≡ stream_of m g.p ++ l.answers.y ∷ []) g.of_network next.1 in
+    let next : stream_of (network_in r) (g.p ++ l.x ∷ []) ≡ stream_of (network_in r) g.p ++ l.answers.y ∷ [] = l.answers.pushes.answers g.p g.stands in
+    let grown : stream_of net (g.p ++ l.x ∷ []) ≡ stream_of net g.p ++ l.answers.y ∷ [] = subst (λ m. stream_of m (g.p ++ l.x ∷ []) ≡ stream_of m g.p ++ l.answers.y ∷ []) g.of_network next in
     let later : Option Datum → ℕ → Samples = λ v m. samples_from b.input (suc m) v (lines_of after) in
     record {
       p = g.p ++ l.x ∷ [];
@@ -85,9 +85,9 @@ goes_on law keys b text lines n r r' before before' rest line after out out' i e
           ∙ ap (λ ys. record { taken = ys; fault = (later (Some l.x.1) (suc lines)).fault }) (sym (append_assoc g.p (l.x ∷ []) (later (Some l.x.1) (suc lines)).taken))
           ∙ ap (λ v. then_held (g.p ++ l.x ∷ []) (later v (suc lines))) (sym l.keeps)
           ∙ ap (λ m. then_held (g.p ++ l.x ∷ []) (later before' m)) (sym i);
-      stands = next.0;
-      of_type = l.answers.same_type ∙ g.of_type;
-      of_network = l.answers.same_network ∙ g.of_network;
+      stands = l.answers.pushes.stands g.p g.stands;
+      of_type = l.answers.pushes.same_input ∙ g.of_type;
+      of_network = l.answers.pushes.same_network ∙ g.of_network;
       count = let k : length (g.p ++ l.x ∷ []) ≡ length g.p + length (l.x ∷ []) = length-append g.p (l.x ∷ []) in omega (arith, k, g.count, i);
       value = subst (IsBefore b.input n) (sym l.keeps) (read_typed law b.input n lines before line l.x g.value reads);
       wrote = l.answers.writes ∙ ap (λ o. o ++ (spelling l.answers.y ++ 10 ∷ [])) g.wrote ∙ sym (spelled_lines-push (stream_of net g.p) l.answers.y) ∙ ap spelled_lines (sym grown);
@@ -131,17 +131,23 @@ faulty keys b text lines n r before rest line after out out' fault i e g o h =
     ∙ ap (λ ls. then_held g.p (samples_from b.input (suc lines) before ls)) e
     ∙ ap (λ a. then_held g.p (then_samples a (λ x. samples_from b.input (suc (suc lines)) (Some x.1) (lines_of after)))) bad
     ∙ ap (λ p. record { taken = p; fault = Some fault }) (append-nil g.p) in
-    (o ∙ g.wrote ∙ ap (λ k. spelled_lines (stream_of (network_by keys b.rows) k.taken)) (sym all), ap (λ k. k.fault) all, subst OfText bad (read_of_text b.input (suc lines) before line), sym g.count ∙ ap (λ k. length k.taken) (sym all))
+    record {
+      bytes = o ∙ g.wrote ∙ ap (λ k. spelled_lines (stream_of (network_by keys b.rows) k.taken)) (sym all);
+      first = ap (λ k. k.fault) all;
+      of_text = subst OfText bad (read_of_text b.input (suc lines) before line);
+      counted = sym g.count ∙ ap (λ k. length k.taken) (sym all);
+    }
 
 -- `Memory` ends it
 short : (keys : List KeyTree) (b : Binding) (text : List ℕ) (lines : ℕ) (r : RunnerState) (before : Option Datum) (rest out out' : List ℕ) → Progress keys b text lines r before rest out → out' ≡ out → Stops keys b text out' (U.Memory lines)
 short keys b text lines r before rest out out' g o =
     let more : TimedList = (samples_from b.input (suc lines) before (lines_of rest)).taken in
     let all : (samples b.input text).taken ≡ g.p ++ more = ap (λ h. h.taken) g.told in
-    let front : take lines (g.p ++ more) ≡ g.p = take_at g.p more lines g.count in (
-      o ∙ g.wrote ∙ ap spelled_lines (ap (stream_of (network_by keys b.rows)) (sym front) ∙ outputs-take value_of (network_by keys b.rows) closed lines (g.p ++ more) ∙ ap (λ xs. take lines (stream_of (network_by keys b.rows) xs)) (sym all)),
-      let l : length (samples b.input text).taken ≡ length (g.p ++ more) = ap length all in omega (arith, l, length-append g.p more, g.count),
-    )
+    let front : take lines (g.p ++ more) ≡ g.p = take_at g.p more lines g.count in
+    record {
+      bytes = o ∙ g.wrote ∙ ap spelled_lines (ap (stream_of (network_by keys b.rows)) (sym front) ∙ outputs-take value_of (network_by keys b.rows) closed lines (g.p ++ more) ∙ ap (λ xs. take lines (stream_of (network_by keys b.rows) xs)) (sym all));
+      counted = let l : length (samples b.input text).taken ≡ length (g.p ++ more) = ap length all in omega (arith, l, length-append g.p more, g.count);
+    }
 
 pub stops : (keys : List KeyTree) (b : Binding) (text : List ℕ) (lines n : ℕ) (r : RunnerState) (before : Option Datum) (rest line after out out' : List ℕ) (fault : StreamFault) → n ≡ suc lines → lines_of rest ≡ line ∷ lines_of after → Progress keys b text lines r before rest out → out' ≡ out → Refuses fault (line_read b.input n before line) → Stops keys b text out' (run_fault_of lines fault)
 stops keys b text lines n r before rest line after out out' (S.Step k) i e g o h = faulty keys b text lines n r before rest line after out out' (S.Step k) i e g o h
@@ -164,6 +170,6 @@ answered keys b text out (U.Stream lines (S.TooManySamples n)) h = tt
 answered keys b text out (U.Stream lines S.ReadTurns) h = tt
 answered keys b text out (U.Stream lines S.Read) h = tt
 answered keys b text out (U.Stream lines S.Memory) h = tt
-answered keys b text out (U.Stream lines S.Ended) h = h.2
+answered keys b text out (U.Stream lines S.Ended) h = h.of_text
 answered keys b text out (U.Write lines) h = tt
 answered keys b text out (U.Memory lines) h = tt

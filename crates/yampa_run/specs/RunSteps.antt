@@ -25,8 +25,6 @@ pub record IsAt (r : RunnerState) (A : TypeTree) (n : ℕ) (before : Option Datu
 pub record Answers (r : RunnerState) (x : ℕ × Datum) (out : List ℕ) (r' : RunnerState) (out' : List ℕ) : Type 0 where
   pub y : Datum
   pub pushes : Pushes r x y r'
-  pub same_type : r'.input ≡ r.input
-  pub same_network : network_in r' ≡ network_in r
   pub writes : out' ≡ out ++ (spelling y ++ 10 ∷ [])
 
 -- Line n holds the sample x, which the network answers and whose value is kept: the runner, the value before and what is written, before the line and behind it.
@@ -49,17 +47,34 @@ IsOfText S.Memory = ⊥
 IsOfText S.Ended = ⊥
 IsOfText _ = ⊤
 
--- what a run of a network, bound to a table with these keys, writes on a text
-abbrev pub run_of : List KeyTree → Binding → List ℕ → Output
-run_of keys b text = output_of b.input (network_by keys b.rows) text
+-- what a run writes of a network that is bound to a table with these keys, on a text
+abbrev pub output_on : List KeyTree → Binding → List ℕ → Output
+output_on keys b text = output_of b.input (network_by keys b.rows) text
 
--- how many samples a run of it takes
-abbrev pub samples_run : Binding → List ℕ → ℕ
-samples_run b text = length (samples b.input text).taken
+-- so many samples stand before the text's first faulty line
+abbrev pub samples_before : Binding → List ℕ → ℕ
+samples_before b text = length (samples b.input text).taken
 
--- With all of its lines written, a run tells the stream's fault. Where memory is short, it has written some of its lines.
--- Nothing else ends it early.
+-- A run on a text without a fault: all of its lines are written, one for each sample.
+pub record RunsToEnd (keys : List KeyTree) (b : Binding) (text out : List ℕ) (lines : ℕ) : Type 0 where
+  pub bytes : out ≡ (output_on keys b text).bytes
+  pub faultless : (output_on keys b text).fault ≡ None
+  pub counted : lines ≡ samples_before b text
+
+-- A run that the text's first faulty line ends: the lines of the samples before it are written.
+pub record StopsAtFault (keys : List KeyTree) (b : Binding) (text out : List ℕ) (lines : ℕ) (fault : StreamFault) : Type 0 where
+  pub bytes : out ≡ (output_on keys b text).bytes
+  pub first : (output_on keys b text).fault ≡ Some fault
+  pub of_text : IsOfText fault
+  pub counted : lines ≡ samples_before b text
+
+-- A run that is refused memory: some of its lines are written, each whole.
+pub record StopsForMemory (keys : List KeyTree) (b : Binding) (text out : List ℕ) (lines : ℕ) : Type 0 where
+  pub bytes : out ≡ spelled_lines (take lines (stream_of (network_by keys b.rows) (samples b.input text).taken))
+  pub counted : lines ≤ samples_before b text
+
+-- what each fault of a run tells; nothing else ends one early
 abbrev pub Stops : List KeyTree → Binding → List ℕ → List ℕ → RunFault → Type 0
-Stops keys b text out (U.Stream lines fault) = (out ≡ (run_of keys b text).bytes) × ((run_of keys b text).fault ≡ Some fault) × IsOfText fault × (lines ≡ samples_run b text)
+Stops keys b text out (U.Stream lines fault) = StopsAtFault keys b text out lines fault
 Stops keys b text out (U.Write lines) = ⊥
-Stops keys b text out (U.Memory lines) = (out ≡ spelled_lines (take lines (stream_of (network_by keys b.rows) (samples b.input text).taken))) × (lines ≤ samples_run b text)
+Stops keys b text out (U.Memory lines) = StopsForMemory keys b text out lines

@@ -9,7 +9,7 @@ ghost use Rattle.sample_core.specs.Spelling.{spelling};
 ghost use Rattle.leaf_table.specs.Rows.{rows_of};
 ghost use Rattle.step_core.specs.Binding.{FitsTable};
 ghost use Rattle.step_core.specs.RunnerView.{runner_state};
-ghost use Rattle.yampa_run.specs.RunSteps.{Answers, IsAt, RunsLine, Stops, run_fault_of, run_of, samples_run};
+ghost use Rattle.yampa_run.specs.RunSteps.{Answers, IsAt, RunsLine, RunsToEnd, Stops, run_fault_of};
 ghost use Rattle.yampa_run.specs.FaultLines.{EndsRun};
 ghost use Rattle.stream_text.specs.StreamText.{Refuses, line_read};
 
@@ -45,9 +45,8 @@ pub fn run_whole(
 ) -> Result<RunReport, RunFault>
     requires fits { FitsTable (rows_of table.now) bound.now }
     requires empty { out.old.items ≡ [] }
-    ensures written { OnOk result (out.new.items ≡ (run_of (rows_of table.now) bound.now stream.now).bytes) }
-    ensures faultless { OnOk result ((run_of (rows_of table.now) bound.now stream.now).fault ≡ None) }
-    ensures lines { IfOk result (λ report. report.lines ≡ samples_run bound.now stream.now) }
+    ensures done { IfOk result (λ report.
+        RunsToEnd (rows_of table.now) bound.now stream.now out.new.items report.lines) }
     ensures stopped { IfErr result (Stops (rows_of table.now) bound.now stream.now out.new.items) }
     ensures answered { IfErr result EndsRun }
 {

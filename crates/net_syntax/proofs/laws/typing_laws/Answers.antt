@@ -1,4 +1,5 @@
 use Rattle.net_syntax.proofs.StreamLaws.{outputs-typed, alike-outputs, same-outputs, one-output-type, within-typed}
+use Rattle.net_syntax.proofs.OneList.{one-list}
 use Rattle.net_syntax.proofs.laws.typing_laws.Goals as goal
 
 pub returns-clause-typed : goal.returns-clause-typed
@@ -15,3 +16,6 @@ returns-clause-one_type c = one-output-type
 
 pub returns-clause-within : goal.returns-clause-within
 returns-clause-within c = within-typed
+
+pub returns-clause-one_list : goal.returns-clause-one_list
+returns-clause-one_list c = one-list

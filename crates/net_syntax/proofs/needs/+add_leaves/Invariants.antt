@@ -9,5 +9,5 @@ decreases-add_leaves l = 3 * network_size (network_of l.net.now)
 abbrev pub decreases-add_both : goal.decreases-add_both
 decreases-add_both l = 3 * (network_size l.f.now + network_size l.g.now) + 2
 
-abbrev pub decreases-add_second : goal.decreases-add_second
-decreases-add_second l = 3 * network_size l.g.now + 1
+abbrev pub decreases-add_child : goal.decreases-add_child
+decreases-add_child l = 3 * network_size l.child.now + 1

@@ -18,9 +18,7 @@ returns-in-Err g c =
     let told = subst (λ A. Refuses c.in-Err.fault (line_read A (c.loop-rest.lines + 1) (option_map datum_of c.loop-rest.state.before) c.split_line.result.0.now)) c.input.ensures c.in-Err.ensures.told in
     let stopped : Stops (rows_of c.args.table.now) c.args.bound.now c.args.stream.now c.run_line.new.out.items (run_fault_of c.loop-rest.lines c.in-Err.fault) = stops (rows_of c.args.table.now) c.args.bound.now c.args.stream.now c.loop-rest.lines _ _ _ _ _ c.split_line.result.1.now _ _ c.in-Err.fault (add-one c.loop-rest.lines) c.split_line.ensures.lines c.loop-rest.invariant c.in-Err.ensures.kept told in
     record {
-      written = tt;
-      faultless = tt;
-      lines = tt;
+      done = tt;
       stopped = rw c.ended.ensures stopped;
       answered = rw c.ended.ensures (answered (rows_of c.args.table.now) c.args.bound.now c.args.stream.now c.run_line.new.out.items (run_fault_of c.loop-rest.lines c.in-Err.fault) stopped);
     }
