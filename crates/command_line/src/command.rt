@@ -110,9 +110,19 @@ fn reply_to(alloc: Global, error: &Error) -> Reply
     match (error.kind(), format!(in alloc; "{error}")) {
         (ErrorKind::DisplayHelp, Ok(text)) => Reply::Help(text),
         (ErrorKind::OutOfMemory, _) => Reply::Memory,
-        (_, Ok(text)) => Reply::Wrong(text),
+        (_, Ok(text)) => Reply::Wrong(without_line_feed(text)),
         (_, Err(_)) => Reply::Memory,
     }
+}
+
+/// The text without the line feed at its end.
+fn without_line_feed(text: String) -> String
+{
+    let mut text = text;
+    if text.ends_with('\n') {
+        text.pop();
+    }
+    text
 }
 
 /// Reads the words of a command line. The first is the program's name. Answers what they ask for; else help, where it
