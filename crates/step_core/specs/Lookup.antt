@@ -33,23 +33,29 @@ abbrev pub MissesIn : List KeyTree → TypedNetwork → BindFault → Type 0
 MissesIn keys t (F.MissingLeaf p) = (ns : List Need) × LeavesOf t ns × FirstMissing keys ns p
 MissesIn keys t F.Memory = Unit {0}
 
--- each need's row, by its number
-abbrev pub RowsFor : List KeyTree → List Need → List ℕ → Type 0
-RowsFor keys [] [] = Unit {0}
-RowsFor keys [] (k ∷ ks) = ⊥
-RowsFor keys (n ∷ ns) [] = ⊥
-RowsFor keys (n ∷ ns) (k ∷ ks) = (slice_get keys k ≡ Some n.key) × RowsFor keys ns ks
+-- the number of the first need's row, and the needs behind it
+abbrev pub IsFirstRow : List KeyTree → List Need → ℕ → List Need → Type 0
+IsFirstRow keys [] k rest = ⊥
+IsFirstRow keys (n ∷ ns) k rest = (slice_get keys k ≡ Some n.key) × (rest ≡ ns)
 
--- the first of some numbers, and the rest of them
-abbrev pub IsFirstRow : List ℕ → ℕ → List ℕ → Type 0
-IsFirstRow [] k rest = Unit {0}
-IsFirstRow (j ∷ js) k rest = (k ≡ j) × (rest ≡ js)
+-- the needs of the network, by a typing of it with nothing in scope, come first
+abbrev pub BeginsWith : Network Expression → List Need → Type 0
+BeginsWith net ns =
+    ∥ ((at : List ℕ) × (A : TypeTree) × (B : TypeTree) × (d : NetTyped [] [] net A B)
+    × (rest : List Need) × (ns ≡ leaves_by at d ++ rest)) ∥₁
 
--- where a network's needs have the first of these numbers as their rows, it became a network of these rows for the same types, whose expressions are the network's
-abbrev pub LowersTo : Network Expression → List ℕ → Network ℕ → List ℕ → Type 0
-LowersTo net rows low rest =
-    (keys : List KeyTree) (at : List ℕ) (A B : TypeTree) (d : NetTyped [] [] net A B) (ks js : List ℕ)
-    → RowsFor keys (leaves_by at d) ks → rows ≡ ks ++ js → RowsTyped keys low A B × (network_by keys low ≡ net) × (rest ≡ js)
+-- where its needs come first, the network became one of rows for the same types, with the same expressions; each of its needs has a row, and those behind are left
+abbrev pub LowersTo : List KeyTree → Network Expression → List Need → Network ℕ → List Need → Type 0
+LowersTo keys net ns low left =
+    (at : List ℕ) (A B : TypeTree) (d : NetTyped [] [] net A B) (rest : List Need)
+    → ns ≡ leaves_by at d ++ rest
+    → RowsTyped keys low A B × (network_by keys low ≡ net) × AllFound keys (leaves_by at d) × (left ≡ rest)
+
+-- where its needs come first, a refusal, other than `Memory`, names the position of the first of its needs that has no row
+abbrev pub Refuses : List KeyTree → Network Expression → List Need → BindFault → Type 0
+Refuses keys net ns fault =
+    (at : List ℕ) (A B : TypeTree) (d : NetTyped [] [] net A B) (rest : List Need)
+    → ns ≡ leaves_by at d ++ rest → Misses keys (leaves_by at d) fault
 
 -- a refusal names this position, other than `Memory`
 abbrev pub Names : List ℕ → BindFault → Type 0

@@ -1,6 +1,6 @@
 // Binding a network to a table.
 
-ghost use Rattle.std.specs.Prelude.{◌≡◌, IfOk, IfErr, OnOk, map};
+ghost use Rattle.std.specs.Prelude.{◌≡◌, ◌<◌, IfOk, IfErr, OnOk, length, map, take};
 ghost use Rattle.leaf_table.specs.Rows.{rows_of};
 ghost use Rattle.leaf_core.specs.ExpressionView.{expression_of};
 ghost use Rattle.net_syntax.specs.Network.{map_network};
@@ -9,7 +9,7 @@ ghost use Rattle.net_syntax.specs.NeedView.{need_of};
 ghost use Rattle.step_core.specs.Binding.{FitsTable};
 ghost use Rattle.step_core.specs.RowTyping.{network_by};
 ghost use Rattle.step_core.specs.RowsView.{row_number, rows_in};
-ghost use Rattle.step_core.specs.Lookup.{FindsAll, IsFirstRow, LowersTo, Misses, MissesIn, Names, RowsFor};
+ghost use Rattle.step_core.specs.Lookup.{BeginsWith, FindsAll, IsFirstRow, LowersTo, Misses, MissesIn, Names, Refuses};
 
 use crate::bound::Bound;
 use crate::fault::BindFault;
@@ -29,28 +29,66 @@ pub fn bind(alloc: Global, net: &TypedNet, table: &LeafTable) -> Result<Bound, B
     ensures missing { IfErr result (λ fault. MissesIn (rows_of table.now) net.now fault) }
 {
     let needs = leaves(alloc, net)?;
-    let rows = find_rows(alloc, table, &needs)?;
     let input = net.input().try_copy(alloc)?;
-    let (lowered, _) = lower(alloc, net.net(), &rows)?;
+    let (lowered, _) = lower(alloc, table, net.net(), &needs)?;
     Ok(Bound {
         input,
         net: lowered,
     })
 }
 
-/// The row of each need in order.
-fn find_rows(alloc: Global, table: &LeafTable, needs: &[LeafNeed]) -> Result<Vec<LeafId>, BindFault>
-    ensures found { IfOk result (λ rows. RowsFor (rows_of table.now) (map need_of needs.now) (map row_number rows.items)) }
-    ensures missing { IfErr result (Misses (rows_of table.now) (map need_of needs.now)) }
+/// The network, whose needs come first, with a row in the place of each expression, and the needs
+/// behind its own. `MissingLeaf` at the first of its own that has no row.
+fn lower<'a>(
+    alloc: Global,
+    table: &LeafTable,
+    net: &Net<Expr>,
+    needs: &'a [LeafNeed],
+) -> Result<(Net<LeafId>, &'a [LeafNeed]), BindFault>
+    requires { BeginsWith (tree_of net.now) (map need_of needs.now) }
+    ensures lowered { IfOk result (λ r. LowersTo (rows_of table.now) (tree_of net.now)
+        (map need_of needs.now) (rows_in r.0) (map need_of r.1.now)) }
+    ensures missing { IfErr result
+        (Refuses (rows_of table.now) (tree_of net.now) (map need_of needs.now)) }
 {
-    let mut rows = Vec::with_capacity(alloc, needs.len())?;
-    for need in needs {
-        match table.find(&need.key) {
-            Some(row) => rows.push(row)?,
-            None => return Err(missing(alloc, &need.position)),
+    match net {
+        Net::Arr(_) => {
+            let (row, rest) = first_row(alloc, table, needs)?;
+            Ok((Net::Arr(row), rest))
+        }
+        Net::Seq(f, g) => {
+            let (first, rest) = lower(alloc, table, f.get(), needs)?;
+            let first = NetChild::new(alloc, first)?;
+            let (second, rest) = lower(alloc, table, g.get(), rest)?;
+            let second = NetChild::new(alloc, second)?;
+            Ok((Net::Seq(first, second), rest))
+        }
+        Net::IPre(_) => {
+            let (row, rest) = first_row(alloc, table, needs)?;
+            Ok((Net::IPre(row), rest))
         }
     }
-    Ok(rows)
+}
+
+/// The row of the first need, and the needs behind it. `MissingLeaf` where it has no row.
+fn first_row<'a>(
+    alloc: Global,
+    table: &LeafTable,
+    needs: &'a [LeafNeed],
+) -> Result<(LeafId, &'a [LeafNeed]), BindFault>
+    requires { 0 < length needs.now }
+    ensures found { IfOk result (λ r. IsFirstRow (rows_of table.now) (map need_of needs.now)
+        (row_number r.0) (map need_of r.1.now)) }
+    ensures missing { IfErr result
+        (Misses (rows_of table.now) (take 1 (map need_of needs.now))) }
+{
+    match needs.split_first() {
+        Some((need, rest)) => match table.find(&need.key) {
+            Some(row) => Ok((row, rest)),
+            None => Err(missing(alloc, &need.position)),
+        },
+        None => unreachable!(),
+    }
 }
 
 /// The refusal for an expression that has no row.
@@ -60,57 +98,5 @@ fn missing(alloc: Global, position: &Position) -> BindFault
     match position.try_copy(alloc) {
         Ok(position) => BindFault::MissingLeaf { position },
         Err(Memory) => BindFault::Memory,
-    }
-}
-
-/// The network with the first of these rows in the place of its expressions, and the rest of the
-/// rows.
-#[cycle(lower)]
-fn lower<'a>(
-    alloc: Global,
-    net: &Net<Expr>,
-    rows: &'a [LeafId],
-) -> Result<(Net<LeafId>, &'a [LeafId]), Memory>
-    ensures { IfOk result (λ r. LowersTo (tree_of net.now) (map row_number rows.now) (rows_in r.0) (map row_number r.1.now)) }
-{
-    match net {
-        Net::Arr(_) => {
-            let (row, rest) = first_row(rows);
-            Ok((Net::Arr(row), rest))
-        }
-        Net::Seq(f, g) => {
-            let (first, rest) = lower_sub(alloc, f, rows)?;
-            let (second, rest) = lower_sub(alloc, g, rest)?;
-            Ok((Net::Seq(first, second), rest))
-        }
-        Net::IPre(_) => {
-            let (row, rest) = first_row(rows);
-            Ok((Net::IPre(row), rest))
-        }
-    }
-}
-
-/// The same of a network inside a network.
-#[cycle(lower)]
-fn lower_sub<'a>(
-    alloc: Global,
-    sub: &NetChild<Expr>,
-    rows: &'a [LeafId],
-) -> Result<(NetChild<LeafId>, &'a [LeafId]), Memory>
-    ensures { IfOk result (λ r. LowersTo (map_network expression_of sub.now) (map row_number rows.now)
-        (map_network row_number r.0) (map row_number r.1.now)) }
-{
-    let (lowered, rest) = lower(alloc, sub.get(), rows)?;
-    let lowered = NetChild::new(alloc, lowered)?;
-    Ok((lowered, rest))
-}
-
-/// The first row, and the rest.
-fn first_row(rows: &[LeafId]) -> (LeafId, &[LeafId])
-    ensures { IsFirstRow (map row_number rows.now) (row_number result.0) (map row_number result.1.now) }
-{
-    match rows.split_first() {
-        Some((row, rest)) => (*row, rest),
-        None => (LeafId(0), rows),
     }
 }
