@@ -1,3 +1,4 @@
+pub mod Answer
 pub mod Datum
 pub mod DatumCode
 pub mod TypeTree

@@ -22,3 +22,4 @@ pub use read::read_value;
 pub use sample::{Sample, SampleChild, Samples};
 pub use ty::{Ty, TyChild, try_copy_types};
 pub use typing::has_type;
+pub use words::word_is;
