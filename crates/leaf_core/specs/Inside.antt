@@ -3,7 +3,7 @@ use Rattle.std.specs.Prelude.{ℕ, suc, ◌+◌, ℤ, true, false, [], ◌++◌}
 use Rattle.std.specs.Hash as fed
 use Rattle.sample_core.specs.TypeTree.{TypeTree}
 use Rattle.sample_core.specs.TypeView.{type_of}
-use Rattle.leaf_core.specs.Expression.{Expression, Expressions, expressions_of, expression_size, expressions_size, input, param, unit_expr, bool_expr, int_expr, pair_expr, fst, snd, then_expr, neg, add, sub, mul, less, equal, not_expr, and_expr, or_expr, if_expr, no_event_expr, event_expr, on, list_expr, nth, len}
+use Rattle.leaf_core.specs.Expression.{Expression, Expressions, expressions_of, counted, all_counted, input, param, unit_expr, bool_expr, int_expr, pair_expr, fst, snd, then_expr, neg, add, sub, mul, less, equal, not_expr, and_expr, or_expr, if_expr, no_event_expr, event_expr, on, list_expr, nth, len}
 use Rattle.leaf_core.specs.HashWrites.{type_writes, expression_writes, expressions_writes}
 use Rattle.leaf_core.specs.declared.inside.Contents.{Contents}
 use Rattle.leaf_core.specs.declared.inside.Contents.TheVariants as V
@@ -62,13 +62,13 @@ inside_in (V.Three a b c) = three a.now b.now c.now
 inside_in (V.Type t) = one_type (type_of t.now)
 inside_in (V.Elements t es) = row (type_of t.now) (expressions_of es.now)
 
--- how many forms stand inside one another, as of the expression
-abbrev pub inside_size : Inside → ℕ
-inside_size (one a) = suc (expression_size a)
-inside_size (two a b) = suc (expression_size a + expression_size b)
-inside_size (three a b c) = suc (expression_size a + expression_size b + expression_size c)
-inside_size (row t es) = suc (expressions_size es)
-inside_size _ = 0
+-- what is counted in an expression, by what stands inside it
+abbrev pub inside_counted : (ℕ → ℕ → ℕ) → Inside → ℕ
+inside_counted join (one a) = suc (counted join a)
+inside_counted join (two a b) = suc (join (counted join a) (counted join b))
+inside_counted join (three a b c) = suc (join (join (counted join a) (counted join b)) (counted join c))
+inside_counted join (row t es) = suc (all_counted join es)
+inside_counted join _ = 1
 
 -- what a hasher is fed behind the number of the form
 abbrev pub inside_fed : Inside → fed.HashWrites

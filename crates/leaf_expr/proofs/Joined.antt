@@ -4,7 +4,7 @@ use Rattle.std.proofs.lemmas.List.{append-nil}
 use Rattle.std.specs.Prelude.{codes}
 use Rattle.sample_core.specs.TypeTree.{TypeTree, unit_ty, bool_ty, int_ty, pair_ty, event_ty, list_ty}
 use Rattle.sample_core.specs.Spelling.{type_spelling}
-use Rattle.leaf_core.specs.Expression.{expression_size, expressions_size, expressions_of}
+use Rattle.leaf_core.specs.Expression.{nodes_in, nodes_in_all, expressions_of}
 use Rattle.leaf_core.specs.ExpressionView.{expression_of}
 use Rattle.leaf_core.specs.declared.expr.Expr.{Expr}
 use Rattle.sample_core.specs.Adding.{Extends, Adds}
@@ -46,7 +46,7 @@ extends_twice old mid new x y = extends_added old mid new x.behind x.joined y
 
 -- an element of a list expression is smaller than the elements
 pub element_smaller : (all : List Expr) (i : ℕ) (s : Expr) → i < length all →
-    expression_size (expression_of (get_or all i s)) < expressions_size (expressions_of (map expression_of all))
+    nodes_in (expression_of (get_or all i s)) < nodes_in_all (expressions_of (map expression_of all))
 element_smaller [] i s h = absurd (omega arith)
 element_smaller (x ∷ xs) zero s h = omega arith
 element_smaller (x ∷ xs) (suc i) s h = omega (arith, element_smaller xs i s (omega arith))
