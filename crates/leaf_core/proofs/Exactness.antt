@@ -4,10 +4,10 @@ use Rattle.std.specs.Int.{int_wrap}
 use Rattle.std.specs.Ordering.{int_eq}
 use Rattle.std.proofs.lemmas.Int.{SFits-int_wrap, int_wrap_fits}
 use Rattle.std.proofs.lemmas.Bool.Decides.{Decides-and, Decides-like, Decides-int_eq, same_from_decides}
-use Rattle.sample_core.specs.TypeTree.{TypeTree, unit_ty, bool_ty, int_ty, pair_ty, event_ty, list_ty}
+use Rattle.sample_core.specs.TypeTree.{TypeTree, depth_of, nodes_of, unit_ty, bool_ty, int_ty, pair_ty, event_ty, list_ty}
 use Rattle.leaf_core.specs.Expression.{Expression, Expressions, height_of, nodes_in, input, param, unit_expr, bool_expr, int_expr, pair_expr, fst, snd, then_expr, neg, add, sub, mul, less, equal, not_expr, and_expr, or_expr, if_expr, no_event_expr, event_expr, on, list_expr, nth, len, no_more, and_then}
 use Rattle.leaf_core.specs.ExpressionTyping.{ParamAt, param_here, param_after, ExpressionTyped, ExpressionsTyped, input_typed, param_typed, unit_typed, bool_typed, int_typed, pair_typed, fst_typed, snd_typed, then_typed, neg_typed, add_typed, sub_typed, mul_typed, less_typed, equal_typed, not_typed, and_typed, or_typed, if_typed, no_event_typed, event_typed, on_typed, list_typed, nth_typed, len_typed, no_more_typed, and_then_typed}
-use Rattle.leaf_core.specs.TypeLimits.{depth_of, nodes_of, TypeFits, type_fits, same_tree}
+use Rattle.leaf_core.specs.TypeLimits.{TypeFits, type_fits, same_tree}
 use Rattle.leaf_core.specs.ExpressionLimits.{ExpressionFits, expression_fits, Within, AllWithin, TypedWithin, ExpressionTypedWithin}
 use Rattle.sample_core.specs.Answer.{◌>>=◌}
 use Rattle.leaf_core.specs.ExpressionCheck.{TypeAnswer, check_that, expect, expect_then, within_limits, first_type, second_type, carried_type, element_type, type_of_param, type_walk, elements_walk, type_answer}

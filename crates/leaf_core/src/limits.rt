@@ -1,10 +1,11 @@
 // The limits of types and of expressions.
 
 ghost use Rattle.std.specs.Prelude.{◌≡◌, ◌+◌, ◌≤◌, max, MatchOption};
+ghost use Rattle.sample_core.specs.TypeTree.{depth_of, nodes_of};
 ghost use Rattle.sample_core.specs.TypeView.{type_of};
 ghost use Rattle.leaf_core.specs.ExpressionView.{expression_of};
 ghost use Rattle.leaf_core.specs.Expression.{expressions_of, height_of, heights_of, nodes_in, nodes_in_all};
-ghost use Rattle.leaf_core.specs.TypeLimits.{depth_of, nodes_of, type_fits};
+ghost use Rattle.leaf_core.specs.TypeLimits.{type_fits};
 ghost use Rattle.leaf_core.specs.ExpressionLimits.{expression_fits};
 
 use crate::expr::{Expr, ExprChild, Exprs};
