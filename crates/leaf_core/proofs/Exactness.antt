@@ -15,24 +15,8 @@ use Rattle.leaf_core.specs.declared.typing.ExprFault.{ExprFault}
 use Rattle.leaf_core.specs.declared.typing.ExprFault.TheVariants.{Mismatch, TooDeep}
 
 -- tests
-true_is_not_false : {P : Type 0} → true ≡ false → P
-true_is_not_false e = absurd (cc)
-
 false_is_not_true : {P : Type 0} → false ≡ true → P
 false_is_not_true e = absurd (cc)
-
-same_unit : Decides true (unit_ty ≡ unit_ty)
-same_unit = (λ e. refl, λ e. refl)
-
-left_ty : TypeTree → TypeTree
-left_ty (pair_ty A B) = A
-left_ty (event_ty A) = A
-left_ty (list_ty A) = A
-left_ty A = A
-
-right_ty : TypeTree → TypeTree
-right_ty (pair_ty A B) = B
-right_ty A = A
 
 pub same_tree-refl : (A : TypeTree) → same_tree A A ≡ true
 same_tree-refl unit_ty = refl
@@ -131,10 +115,6 @@ record Passed (r : TypeAnswer) (k : TypeTree → TypeAnswer) (b : TypeAnswer) : 
   before : r ≡ Ok type
   rest : k type ≡ b
 
-record BothEqual {X Y : Type 0} (r : X) (r' : X) (k : Y) (k' : Y) : Type 0 where
-  now : r ≡ r'
-  after : k ≡ k'
-
 step-passed : (r : TypeAnswer) (k : TypeTree → TypeAnswer) (B : TypeTree) → r >>= k ≡ Ok B → Passed r k (Ok B)
 step-passed (Ok t) k B e = record { type = t; before = refl; rest = e }
 step-passed (Err f) k B e = absurd (cc)
@@ -195,6 +175,28 @@ type_of_param-passed (P ∷ Ps) (suc k) B e = param_after (type_of_param-passed 
 as_answered : (e : Expression) (Ps : List TypeTree) (A t B : TypeTree) → t ≡ B → TypedWithin e Ps A t → TypedWithin e Ps A B
 as_answered e Ps A t B q h = subst (TypedWithin e Ps A) q h
 
+-- a form of one part that is wanted to be T, and that is U
+one-sound : {e a : Expression} {Ps : List TypeTree} {A B : TypeTree} (T U : TypeTree) →
+    (typed : ExpressionTyped a Ps A T → ExpressionTyped e Ps A U) →
+    ((h : ExpressionTyped a Ps A T) → Within h → TypeFits U → Within (typed h)) →
+    (type_walk Ps A a ≡ Ok T → TypedWithin a Ps A T) → expect_then (type_walk Ps A a) T (within_limits U) ≡ Ok B → TypedWithin e Ps A B
+one-sound {e = e} {Ps = Ps} {A = A} {B = B} T U typed fits sound q =
+    let p = of_type-passed _ T _ B q in
+    let l = limited-passed U B p.1 in
+    let h = sound p.0 in
+    as_answered e Ps A U B l.1 (record { given = typed h.given; fits = fits h.given h.fits l.0 })
+
+-- a form of two such parts
+two-sound : {e a b : Expression} {Ps : List TypeTree} {A B : TypeTree} (T U : TypeTree) →
+    (typed : ExpressionTyped a Ps A T → ExpressionTyped b Ps A T → ExpressionTyped e Ps A U) →
+    ((h : ExpressionTyped a Ps A T) (k : ExpressionTyped b Ps A T) → Within h → Within k → TypeFits U → Within (typed h k)) →
+    (type_walk Ps A a ≡ Ok T → TypedWithin a Ps A T) → (type_walk Ps A b ≡ Ok T → TypedWithin b Ps A T) →
+    expect_then (type_walk Ps A a) T (expect_then (type_walk Ps A b) T (within_limits U)) ≡ Ok B → TypedWithin e Ps A B
+two-sound T U typed fits sound sound' q =
+    let p = of_type-passed _ T _ _ q in
+    let h = sound p.0 in
+    one-sound T U (λ k. typed h.given k) (λ k w l. fits h.given k h.fits w l) sound' p.1
+
 mutual
   pub walk-sound : (e : Expression) (Ps : List TypeTree) (A B : TypeTree) → type_walk Ps A e ≡ Ok B → TypedWithin e Ps A B
   walk-sound input Ps A B q = let l = limited-passed A B q in as_answered input Ps A A B l.1 (record { given = input_typed; fits = l.0 })
@@ -236,39 +238,14 @@ mutual
       let h = walk-sound f Ps A p.type p.before in
       let k = walk-sound g Ps p.type p'.type p'.before in
       as_answered (then_expr f g) Ps A p'.type B l.1 (record { given = then_typed h.given k.given; fits = (h.fits, k.fits, l.0) })
-  walk-sound (neg a) Ps A B q =
-      let p = of_type-passed _ int_ty _ B q in
-      let l = limited-passed int_ty B p.1 in
-      let h = walk-sound a Ps A int_ty p.0 in
-      as_answered (neg a) Ps A int_ty B l.1 (record { given = neg_typed h.given; fits = (h.fits, l.0) })
-  walk-sound (add a b) Ps A B q =
-      let p = of_type-passed _ int_ty _ B q in
-      let p' = of_type-passed _ int_ty _ B p.1 in
-      let l = limited-passed int_ty B p'.1 in
-      let h = walk-sound a Ps A int_ty p.0 in
-      let k = walk-sound b Ps A int_ty p'.0 in
-      as_answered (add a b) Ps A int_ty B l.1 (record { given = add_typed h.given k.given; fits = (h.fits, k.fits, l.0) })
-  walk-sound (sub a b) Ps A B q =
-      let p = of_type-passed _ int_ty _ B q in
-      let p' = of_type-passed _ int_ty _ B p.1 in
-      let l = limited-passed int_ty B p'.1 in
-      let h = walk-sound a Ps A int_ty p.0 in
-      let k = walk-sound b Ps A int_ty p'.0 in
-      as_answered (sub a b) Ps A int_ty B l.1 (record { given = sub_typed h.given k.given; fits = (h.fits, k.fits, l.0) })
-  walk-sound (mul a b) Ps A B q =
-      let p = of_type-passed _ int_ty _ B q in
-      let p' = of_type-passed _ int_ty _ B p.1 in
-      let l = limited-passed int_ty B p'.1 in
-      let h = walk-sound a Ps A int_ty p.0 in
-      let k = walk-sound b Ps A int_ty p'.0 in
-      as_answered (mul a b) Ps A int_ty B l.1 (record { given = mul_typed h.given k.given; fits = (h.fits, k.fits, l.0) })
-  walk-sound (less a b) Ps A B q =
-      let p = of_type-passed _ int_ty _ B q in
-      let p' = of_type-passed _ int_ty _ B p.1 in
-      let l = limited-passed bool_ty B p'.1 in
-      let h = walk-sound a Ps A int_ty p.0 in
-      let k = walk-sound b Ps A int_ty p'.0 in
-      as_answered (less a b) Ps A bool_ty B l.1 (record { given = less_typed h.given k.given; fits = (h.fits, k.fits, l.0) })
+  walk-sound (neg a) Ps A B q = one-sound int_ty int_ty (λ h. neg_typed h) (λ h w l. (w, l)) (walk-sound a Ps A int_ty) q
+  walk-sound (not_expr a) Ps A B q = one-sound bool_ty bool_ty (λ h. not_typed h) (λ h w l. (w, l)) (walk-sound a Ps A bool_ty) q
+  walk-sound (add a b) Ps A B q = two-sound int_ty int_ty (λ h k. add_typed h k) (λ h k v w l. (v, w, l)) (walk-sound a Ps A int_ty) (walk-sound b Ps A int_ty) q
+  walk-sound (sub a b) Ps A B q = two-sound int_ty int_ty (λ h k. sub_typed h k) (λ h k v w l. (v, w, l)) (walk-sound a Ps A int_ty) (walk-sound b Ps A int_ty) q
+  walk-sound (mul a b) Ps A B q = two-sound int_ty int_ty (λ h k. mul_typed h k) (λ h k v w l. (v, w, l)) (walk-sound a Ps A int_ty) (walk-sound b Ps A int_ty) q
+  walk-sound (less a b) Ps A B q = two-sound int_ty bool_ty (λ h k. less_typed h k) (λ h k v w l. (v, w, l)) (walk-sound a Ps A int_ty) (walk-sound b Ps A int_ty) q
+  walk-sound (and_expr a b) Ps A B q = two-sound bool_ty bool_ty (λ h k. and_typed h k) (λ h k v w l. (v, w, l)) (walk-sound a Ps A bool_ty) (walk-sound b Ps A bool_ty) q
+  walk-sound (or_expr a b) Ps A B q = two-sound bool_ty bool_ty (λ h k. or_typed h k) (λ h k v w l. (v, w, l)) (walk-sound a Ps A bool_ty) (walk-sound b Ps A bool_ty) q
   walk-sound (equal a b) Ps A B q =
       let p = step-passed _ _ B q in
       let p' = of_type-passed _ p.type _ B p.rest in
@@ -276,25 +253,6 @@ mutual
       let h = walk-sound a Ps A p.type p.before in
       let k = walk-sound b Ps A p.type p'.0 in
       as_answered (equal a b) Ps A bool_ty B l.1 (record { given = equal_typed h.given k.given; fits = (h.fits, k.fits, l.0) })
-  walk-sound (not_expr a) Ps A B q =
-      let p = of_type-passed _ bool_ty _ B q in
-      let l = limited-passed bool_ty B p.1 in
-      let h = walk-sound a Ps A bool_ty p.0 in
-      as_answered (not_expr a) Ps A bool_ty B l.1 (record { given = not_typed h.given; fits = (h.fits, l.0) })
-  walk-sound (and_expr a b) Ps A B q =
-      let p = of_type-passed _ bool_ty _ B q in
-      let p' = of_type-passed _ bool_ty _ B p.1 in
-      let l = limited-passed bool_ty B p'.1 in
-      let h = walk-sound a Ps A bool_ty p.0 in
-      let k = walk-sound b Ps A bool_ty p'.0 in
-      as_answered (and_expr a b) Ps A bool_ty B l.1 (record { given = and_typed h.given k.given; fits = (h.fits, k.fits, l.0) })
-  walk-sound (or_expr a b) Ps A B q =
-      let p = of_type-passed _ bool_ty _ B q in
-      let p' = of_type-passed _ bool_ty _ B p.1 in
-      let l = limited-passed bool_ty B p'.1 in
-      let h = walk-sound a Ps A bool_ty p.0 in
-      let k = walk-sound b Ps A bool_ty p'.0 in
-      as_answered (or_expr a b) Ps A bool_ty B l.1 (record { given = or_typed h.given k.given; fits = (h.fits, k.fits, l.0) })
   walk-sound (if_expr c a b) Ps A B q =
       let p = of_type-passed _ bool_ty _ B q in
       let p' = step-passed _ _ B p.1 in

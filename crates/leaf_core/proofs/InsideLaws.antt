@@ -1,9 +1,9 @@
 -- An expression is the number of its form and what stands inside it.
-use Rattle.std.proofs.Common.{◌≡◌, ◌↔◌, ℕ, true, false, ◌+◌, max, nat_eq, if◌then◌else◌, ◌++◌, refl, ap, sym, ◌∙◌}
+use Rattle.std.proofs.Common.{◌≡◌, ◌↔◌, ℕ, true, false, nat_eq, if◌then◌else◌, ◌++◌, refl, ap, sym, ◌∙◌}
 use Rattle.std.specs.Hash as fed
-use Rattle.leaf_core.specs.Expression.{Expression, counted, height_of, nodes_in, input, param, unit_expr, bool_expr, int_expr, pair_expr, fst, snd, then_expr, neg, add, sub, mul, less, equal, not_expr, and_expr, or_expr, if_expr, no_event_expr, event_expr, on, list_expr, nth, len}
+use Rattle.leaf_core.specs.Expression.{Expression, nodes_in, input, param, unit_expr, bool_expr, int_expr, pair_expr, fst, snd, then_expr, neg, add, sub, mul, less, equal, not_expr, and_expr, or_expr, if_expr, no_event_expr, event_expr, on, list_expr, nth, len}
 use Rattle.leaf_core.specs.HashWrites.{tag_of, expression_writes}
-use Rattle.leaf_core.specs.Inside.{Inside, nothing, index, literal, one, two, three, one_type, row, inside_of, inside_counted, inside_fed}
+use Rattle.leaf_core.specs.Inside.{Inside, nothing, index, literal, one, two, three, one_type, row, inside_of, inside_nodes, inside_fed}
 
 -- the expression of a form with this inside
 abbrev form_with : ℕ → Inside → Expression
@@ -16,46 +16,45 @@ form_with n (three a b c) = if nat_eq n 19 then if_expr a b c else if nat_eq n 2
 form_with n (one_type t) = no_event_expr t
 form_with n (row t es) = list_expr t es
 
+-- what is said of an expression by its form and what stands inside it
 forms : (e : Expression) →
     (form_with (tag_of e) (inside_of e) ≡ e)
     × (expression_writes e ≡ fed.u8 (tag_of e) ++ inside_fed (inside_of e))
-    × ((join : ℕ → ℕ → ℕ) → counted join e ≡ inside_counted join (inside_of e))
-forms input = (refl, refl, λ join. refl)
-forms (param k) = (refl, refl, λ join. refl)
-forms unit_expr = (refl, refl, λ join. refl)
-forms (bool_expr false) = (refl, refl, λ join. refl)
-forms (bool_expr true) = (refl, refl, λ join. refl)
-forms (int_expr n) = (refl, refl, λ join. refl)
-forms (pair_expr a b) = (refl, refl, λ join. refl)
-forms (fst a) = (refl, refl, λ join. refl)
-forms (snd a) = (refl, refl, λ join. refl)
-forms (then_expr a b) = (refl, refl, λ join. refl)
-forms (neg a) = (refl, refl, λ join. refl)
-forms (add a b) = (refl, refl, λ join. refl)
-forms (sub a b) = (refl, refl, λ join. refl)
-forms (mul a b) = (refl, refl, λ join. refl)
-forms (less a b) = (refl, refl, λ join. refl)
-forms (equal a b) = (refl, refl, λ join. refl)
-forms (not_expr a) = (refl, refl, λ join. refl)
-forms (and_expr a b) = (refl, refl, λ join. refl)
-forms (or_expr a b) = (refl, refl, λ join. refl)
-forms (if_expr a b c) = (refl, refl, λ join. refl)
-forms (no_event_expr t) = (refl, refl, λ join. refl)
-forms (event_expr a) = (refl, refl, λ join. refl)
-forms (on a b c) = (refl, refl, λ join. refl)
-forms (list_expr t es) = (refl, refl, λ join. refl)
-forms (nth a b c) = (refl, refl, λ join. refl)
-forms (len a) = (refl, refl, λ join. refl)
+    × (nodes_in e ≡ inside_nodes (inside_of e))
+forms input = (refl, refl, refl)
+forms (param k) = (refl, refl, refl)
+forms unit_expr = (refl, refl, refl)
+forms (bool_expr false) = (refl, refl, refl)
+forms (bool_expr true) = (refl, refl, refl)
+forms (int_expr n) = (refl, refl, refl)
+forms (pair_expr a b) = (refl, refl, refl)
+forms (fst a) = (refl, refl, refl)
+forms (snd a) = (refl, refl, refl)
+forms (then_expr a b) = (refl, refl, refl)
+forms (neg a) = (refl, refl, refl)
+forms (add a b) = (refl, refl, refl)
+forms (sub a b) = (refl, refl, refl)
+forms (mul a b) = (refl, refl, refl)
+forms (less a b) = (refl, refl, refl)
+forms (equal a b) = (refl, refl, refl)
+forms (not_expr a) = (refl, refl, refl)
+forms (and_expr a b) = (refl, refl, refl)
+forms (or_expr a b) = (refl, refl, refl)
+forms (if_expr a b c) = (refl, refl, refl)
+forms (no_event_expr t) = (refl, refl, refl)
+forms (event_expr a) = (refl, refl, refl)
+forms (on a b c) = (refl, refl, refl)
+forms (list_expr t es) = (refl, refl, refl)
+forms (nth a b c) = (refl, refl, refl)
+forms (len a) = (refl, refl, refl)
 
 -- what a hasher is fed at an expression
 pub fed_inside : (e : Expression) → expression_writes e ≡ fed.u8 (tag_of e) ++ inside_fed (inside_of e)
 fed_inside e = (forms e).1
 
-pub nodes_inside : (e : Expression) → nodes_in e ≡ inside_counted ◌+◌ (inside_of e)
-nodes_inside e = (forms e).2 ◌+◌
-
-pub height_inside : (e : Expression) → height_of e ≡ inside_counted max (inside_of e)
-height_inside e = (forms e).2 max
+-- how many expressions it is made of
+pub nodes_inside : (e : Expression) → nodes_in e ≡ inside_nodes (inside_of e)
+nodes_inside e = (forms e).2
 
 pub same_inside_is : (a b : Expression) → ((tag_of a ≡ tag_of b) × (inside_of a ≡ inside_of b)) ↔ (a ≡ b)
 same_inside_is a b = (λ h. sym (forms a).0 ∙ (ap (λ n. form_with n (inside_of a)) h.0 ∙ ap (form_with (tag_of b)) h.1) ∙ (forms b).0, λ e. (ap tag_of e, ap inside_of e))

@@ -41,6 +41,11 @@ abbrev pub second_type : TypeTree → TypeAnswer
 second_type (pair_ty A B) = Ok B
 second_type _ = Err Mismatch
 
+-- the type of the first or the second part of a pair, as the form says
+abbrev pub part_type : Expression → TypeTree → TypeAnswer
+part_type (fst _) P = first_type P
+part_type _ P = second_type P
+
 -- the type of what an event carries
 abbrev pub carried_type : TypeTree → TypeAnswer
 carried_type (event_ty A) = Ok A

@@ -3,7 +3,7 @@ use Rattle.std.specs.Prelude.{ℕ, suc, ◌+◌, ℤ, true, false, [], ◌++◌}
 use Rattle.std.specs.Hash as fed
 use Rattle.sample_core.specs.TypeTree.{TypeTree}
 use Rattle.sample_core.specs.TypeView.{type_of}
-use Rattle.leaf_core.specs.Expression.{Expression, Expressions, expressions_of, counted, all_counted, input, param, unit_expr, bool_expr, int_expr, pair_expr, fst, snd, then_expr, neg, add, sub, mul, less, equal, not_expr, and_expr, or_expr, if_expr, no_event_expr, event_expr, on, list_expr, nth, len}
+use Rattle.leaf_core.specs.Expression.{Expression, Expressions, expressions_of, nodes_in, nodes_in_all, input, param, unit_expr, bool_expr, int_expr, pair_expr, fst, snd, then_expr, neg, add, sub, mul, less, equal, not_expr, and_expr, or_expr, if_expr, no_event_expr, event_expr, on, list_expr, nth, len}
 use Rattle.leaf_core.specs.HashWrites.{type_writes, expression_writes, expressions_writes}
 use Rattle.leaf_core.specs.declared.inside.Contents.{Contents}
 use Rattle.leaf_core.specs.declared.inside.Contents.TheVariants as V
@@ -62,13 +62,13 @@ inside_in (V.Three a b c) = three a.now b.now c.now
 inside_in (V.Type t) = one_type (type_of t.now)
 inside_in (V.Elements t es) = row (type_of t.now) (expressions_of es.now)
 
--- what is counted in an expression, by what stands inside it
-abbrev pub inside_counted : (ℕ → ℕ → ℕ) → Inside → ℕ
-inside_counted join (one a) = suc (counted join a)
-inside_counted join (two a b) = suc (join (counted join a) (counted join b))
-inside_counted join (three a b c) = suc (join (join (counted join a) (counted join b)) (counted join c))
-inside_counted join (row t es) = suc (all_counted join es)
-inside_counted join _ = 1
+-- how many expressions an expression is made of, by what stands inside it
+abbrev pub inside_nodes : Inside → ℕ
+inside_nodes (one a) = suc (nodes_in a)
+inside_nodes (two a b) = suc (nodes_in a + nodes_in b)
+inside_nodes (three a b c) = suc (nodes_in a + nodes_in b + nodes_in c)
+inside_nodes (row t es) = suc (nodes_in_all es)
+inside_nodes _ = 1
 
 -- what a hasher is fed behind the number of the form
 abbrev pub inside_fed : Inside → fed.HashWrites

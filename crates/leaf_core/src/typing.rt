@@ -4,9 +4,9 @@ ghost use Rattle.std.specs.Prelude.{◌≡◌, ◌≢◌, IfOk, MatchResult, Lis
 ghost use Rattle.sample_core.specs.Answer.{◌>>=◌ as on_ok, GivesUnless};
 ghost use Rattle.sample_core.specs.TypeTree.{TypeTree, bool_ty, int_ty, pair_ty, event_ty, list_ty};
 ghost use Rattle.sample_core.specs.TypeView.{type_of};
-ghost use Rattle.leaf_core.specs.Expression.{expressions_of, pair_expr, fst, snd, then_expr, equal, if_expr, event_expr, on, list_expr, nth, len};
+ghost use Rattle.leaf_core.specs.Expression.{expressions_of, pair_expr, then_expr, equal, if_expr, event_expr, on, list_expr, nth, len};
 ghost use Rattle.leaf_core.specs.ExpressionView.{expression_of, literal_of};
-ghost use Rattle.leaf_core.specs.ExpressionCheck.{carried_type, element_type, elements_walk, first_type, within_limits, expect_then, second_type, type_answer, type_of_param, type_walk, expect};
+ghost use Rattle.leaf_core.specs.ExpressionCheck.{carried_type, element_type, elements_walk, within_limits, expect_then, part_type, type_answer, type_of_param, type_walk, expect};
 ghost use Rattle.leaf_core.specs.ExpressionLimits.{ExpressionTypedWithin};
 ghost use Rattle.leaf_core.specs.CheckAnswer.{Gives, Passes};
 ghost use Rattle.leaf_core.specs.declared.typing.ExprFault.TheVariants as F;
@@ -87,8 +87,7 @@ fn walk(alloc: Global, params: &[Ty], input: &Ty, expr: &Expr) -> Result<Ty, Exp
         Expr::Param(k) => param_type(alloc, params, *k),
         Expr::Literal(literal) => limited(literal_type(*literal)),
         Expr::Pair(a, b) => walk_pair(alloc, params, input, a, b),
-        Expr::Fst(e) => walk_first(alloc, params, input, e),
-        Expr::Snd(e) => walk_second(alloc, params, input, e),
+        Expr::Fst(e) | Expr::Snd(e) => walk_part(alloc, params, input, expr, e),
         Expr::Then(f, g) => walk_then(alloc, params, input, f, g),
         Expr::Neg(a) => walk_one(alloc, params, input, a, &Ty::Int, &Ty::Int),
         Expr::Add(a, b) | Expr::Sub(a, b) | Expr::Mul(a, b) => walk_two(
@@ -138,26 +137,21 @@ fn walk_pair(
     limited(Ty::Pair(first, second))
 }
 
-/// The type of the first part of a pair.
+/// The type of the first or the second part of a pair, as the form says.
 #[cycle(walk)]
-fn walk_first(alloc: Global, params: &[Ty], input: &Ty, e: &ExprChild) -> Result<Ty, ExprFault>
-    ensures { Gives result (type_walk (map type_of params.now) (type_of input.now) (fst e.now)) }
+fn walk_part(
+    alloc: Global,
+    params: &[Ty],
+    input: &Ty,
+    form: &Expr,
+    e: &ExprChild,
+) -> Result<Ty, ExprFault>
+    ensures { Gives result (on_ok (type_walk (map type_of params.now) (type_of input.now) e.now) (λ P. on_ok (part_type (expression_of form.now) P) within_limits)) }
 {
     let pair = walk(alloc, params, input, e.get())?;
-    let first = first_type(alloc, &pair);
+    let part = part_type(alloc, form, &pair);
     drop(pair);
-    first
-}
-
-/// The type of the second part of a pair.
-#[cycle(walk)]
-fn walk_second(alloc: Global, params: &[Ty], input: &Ty, e: &ExprChild) -> Result<Ty, ExprFault>
-    ensures { Gives result (type_walk (map type_of params.now) (type_of input.now) (snd e.now)) }
-{
-    let pair = walk(alloc, params, input, e.get())?;
-    let second = second_type(alloc, &pair);
-    drop(pair);
-    second
+    part
 }
 
 /// The type of one expression behind another.
@@ -573,23 +567,16 @@ fn param_type(alloc: Global, params: &[Ty], k: u32) -> Result<Ty, ExprFault>
     }
 }
 
-/// The type of a pair's first part, where it is within the limits.
-fn first_type(alloc: Global, pair: &Ty) -> Result<Ty, ExprFault>
-    ensures { Gives result (on_ok (first_type (type_of pair.now)) within_limits) }
+/// The type of a pair's first or second part, as the form says, where it is within the limits.
+fn part_type(alloc: Global, form: &Expr, pair: &Ty) -> Result<Ty, ExprFault>
+    ensures { Gives result (on_ok (part_type (expression_of form.now) (type_of pair.now)) within_limits) }
 {
-    match pair {
-        Ty::Pair(first, _) => limited_copy(alloc, first.get()),
-        _ => Err(ExprFault::Mismatch),
-    }
-}
-
-/// The type of a pair's second part, where it is within the limits.
-fn second_type(alloc: Global, pair: &Ty) -> Result<Ty, ExprFault>
-    ensures { Gives result (on_ok (second_type (type_of pair.now)) within_limits) }
-{
-    match pair {
-        Ty::Pair(_, second) => limited_copy(alloc, second.get()),
-        _ => Err(ExprFault::Mismatch),
+    let Ty::Pair(first, second) = pair else {
+        return Err(ExprFault::Mismatch);
+    };
+    match form {
+        Expr::Fst(_) => limited_copy(alloc, first.get()),
+        _ => limited_copy(alloc, second.get()),
     }
 }
 

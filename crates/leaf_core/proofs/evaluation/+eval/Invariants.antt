@@ -16,11 +16,8 @@ decreases-eval l = 4 * nodes_in (expression_of l.expr.now)
 abbrev pub decreases-eval_pair : goal.decreases-eval_pair
 decreases-eval_pair l = 4 * (nodes_in l.a.now + nodes_in l.b.now) + 2
 
-abbrev pub decreases-eval_first : goal.decreases-eval_first
-decreases-eval_first l = 4 * nodes_in l.e.now + 2
-
-abbrev pub decreases-eval_second : goal.decreases-eval_second
-decreases-eval_second l = 4 * nodes_in l.e.now + 2
+abbrev pub decreases-eval_part : goal.decreases-eval_part
+decreases-eval_part l = 4 * nodes_in l.e.now + 2
 
 abbrev pub decreases-eval_then : goal.decreases-eval_then
 decreases-eval_then l = 4 * (nodes_in l.f.now + nodes_in l.g.now) + 2
@@ -28,11 +25,8 @@ decreases-eval_then l = 4 * (nodes_in l.f.now + nodes_in l.g.now) + 2
 abbrev pub decreases-eval_equal : goal.decreases-eval_equal
 decreases-eval_equal l = 4 * (nodes_in l.a.now + nodes_in l.b.now) + 3
 
-abbrev pub decreases-eval_and : goal.decreases-eval_and
-decreases-eval_and l = 4 * (nodes_in l.a.now + nodes_in l.b.now) + 2
-
-abbrev pub decreases-eval_or : goal.decreases-eval_or
-decreases-eval_or l = 4 * (nodes_in l.a.now + nodes_in l.b.now) + 2
+abbrev pub decreases-eval_truths : goal.decreases-eval_truths
+decreases-eval_truths l = 4 * (nodes_in l.a.now + nodes_in l.b.now) + 2
 
 abbrev pub decreases-eval_if : goal.decreases-eval_if
 decreases-eval_if l = 4 * (nodes_in l.c.now + nodes_in l.a.now + nodes_in l.b.now) + 2

@@ -16,11 +16,8 @@ decreases-walk l = 6 * nodes_in (expression_of l.expr.now)
 abbrev pub decreases-walk_pair : goal.decreases-walk_pair
 decreases-walk_pair l = 6 * (nodes_in l.a.now + nodes_in l.b.now) + 3
 
-abbrev pub decreases-walk_first : goal.decreases-walk_first
-decreases-walk_first l = 6 * nodes_in l.e.now + 3
-
-abbrev pub decreases-walk_second : goal.decreases-walk_second
-decreases-walk_second l = 6 * nodes_in l.e.now + 3
+abbrev pub decreases-walk_part : goal.decreases-walk_part
+decreases-walk_part l = 6 * nodes_in l.e.now + 3
 
 abbrev pub decreases-walk_then : goal.decreases-walk_then
 decreases-walk_then l = 6 * (nodes_in l.f.now + nodes_in l.g.now) + 3
