@@ -52,12 +52,13 @@ pub elements_of_elements : (vs : List Datum) → elements (list_of vs) ≡ vs
 elements_of_elements [] = refl
 elements_of_elements (v ∷ vs) = ap (λ t. v ∷ t) (elements_of_elements vs)
 
-element_falls : (all : List Expr) (i : ℕ) (e : Expr) → i < length all → nodes_in (expression_of (get_or all i e)) ≤ nodes_in_all (expressions_of (map expression_of all))
+-- an element of a list expression has at most as many nodes as the elements
+pub element_falls : (all : List Expr) (i : ℕ) (e : Expr) → i < length all → nodes_in (expression_of (get_or all i e)) ≤ nodes_in_all (expressions_of (map expression_of all))
 element_falls [] i e h = absurd (omega arith)
 element_falls (x ∷ xs) zero e h = omega arith
 element_falls (x ∷ xs) (suc i) e h = omega (arith, element_falls xs i e (omega arith))
 
--- an element of a list expression has at most as many nodes as the elements
+-- the same, where the elements are given as trees
 pub element_smaller : (all : List Expr) (es : List Expression) (i : ℕ) (e : Expr) → i < length all → e ≡ get_or all i e → map expression_of all ≡ es → nodes_in (expression_of e) ≤ nodes_in_all (expressions_of es)
 element_smaller all es i e h q p =
     subst (λ t. nodes_in (expression_of t) ≤ nodes_in_all (expressions_of es)) (sym q) (subst (λ t. nodes_in (expression_of (get_or all i e)) ≤ nodes_in_all (expressions_of t)) p (element_falls all i e h))
