@@ -1,65 +1,9 @@
 -- An expression is the number of its form and what stands inside it.
 use Rattle.std.proofs.Common.{◌≡◌, ◌↔◌, ℕ, true, false, nat_eq, if◌then◌else◌, ◌++◌, refl, ap, sym, ◌∙◌}
 use Rattle.std.specs.Hash as fed
-use Rattle.leaf_core.specs.Expression.{Expression, expression_size, input, param, unit_expr, bool_expr, int_expr, pair_expr, fst, snd, then_expr, neg, add, sub, mul, less, equal, not_expr, and_expr, or_expr, if_expr, no_event_expr, event_expr, on, list_expr, nth, len}
+use Rattle.leaf_core.specs.Expression.{Expression, nodes_in, input, param, unit_expr, bool_expr, int_expr, pair_expr, fst, snd, then_expr, neg, add, sub, mul, less, equal, not_expr, and_expr, or_expr, if_expr, no_event_expr, event_expr, on, list_expr, nth, len}
 use Rattle.leaf_core.specs.HashWrites.{tag_of, expression_writes}
-use Rattle.leaf_core.specs.Inside.{Inside, nothing, index, literal, one, two, three, one_type, row, inside_of, inside_size, inside_fed}
-
-pub sized : (e : Expression) → expression_size e ≡ inside_size (inside_of e)
-sized input = refl
-sized (param k) = refl
-sized unit_expr = refl
-sized (bool_expr false) = refl
-sized (bool_expr true) = refl
-sized (int_expr n) = refl
-sized (pair_expr a b) = refl
-sized (fst a) = refl
-sized (snd a) = refl
-sized (then_expr a b) = refl
-sized (neg a) = refl
-sized (add a b) = refl
-sized (sub a b) = refl
-sized (mul a b) = refl
-sized (less a b) = refl
-sized (equal a b) = refl
-sized (not_expr a) = refl
-sized (and_expr a b) = refl
-sized (or_expr a b) = refl
-sized (if_expr a b c) = refl
-sized (no_event_expr t) = refl
-sized (event_expr a) = refl
-sized (on a b c) = refl
-sized (list_expr t es) = refl
-sized (nth a b c) = refl
-sized (len a) = refl
-
-pub fed_inside : (e : Expression) → expression_writes e ≡ fed.u8 (tag_of e) ++ inside_fed (inside_of e)
-fed_inside input = refl
-fed_inside (param k) = refl
-fed_inside unit_expr = refl
-fed_inside (bool_expr false) = refl
-fed_inside (bool_expr true) = refl
-fed_inside (int_expr n) = refl
-fed_inside (pair_expr a b) = refl
-fed_inside (fst a) = refl
-fed_inside (snd a) = refl
-fed_inside (then_expr a b) = refl
-fed_inside (neg a) = refl
-fed_inside (add a b) = refl
-fed_inside (sub a b) = refl
-fed_inside (mul a b) = refl
-fed_inside (less a b) = refl
-fed_inside (equal a b) = refl
-fed_inside (not_expr a) = refl
-fed_inside (and_expr a b) = refl
-fed_inside (or_expr a b) = refl
-fed_inside (if_expr a b c) = refl
-fed_inside (no_event_expr t) = refl
-fed_inside (event_expr a) = refl
-fed_inside (on a b c) = refl
-fed_inside (list_expr t es) = refl
-fed_inside (nth a b c) = refl
-fed_inside (len a) = refl
+use Rattle.leaf_core.specs.Inside.{Inside, nothing, index, literal, one, two, three, one_type, row, inside_of, inside_nodes, inside_fed}
 
 -- the expression of a form with this inside
 abbrev form_with : ℕ → Inside → Expression
@@ -72,33 +16,45 @@ form_with n (three a b c) = if nat_eq n 19 then if_expr a b c else if nat_eq n 2
 form_with n (one_type t) = no_event_expr t
 form_with n (row t es) = list_expr t es
 
-made : (e : Expression) → form_with (tag_of e) (inside_of e) ≡ e
-made input = refl
-made (param k) = refl
-made unit_expr = refl
-made (bool_expr false) = refl
-made (bool_expr true) = refl
-made (int_expr n) = refl
-made (pair_expr a b) = refl
-made (fst a) = refl
-made (snd a) = refl
-made (then_expr a b) = refl
-made (neg a) = refl
-made (add a b) = refl
-made (sub a b) = refl
-made (mul a b) = refl
-made (less a b) = refl
-made (equal a b) = refl
-made (not_expr a) = refl
-made (and_expr a b) = refl
-made (or_expr a b) = refl
-made (if_expr a b c) = refl
-made (no_event_expr t) = refl
-made (event_expr a) = refl
-made (on a b c) = refl
-made (list_expr t es) = refl
-made (nth a b c) = refl
-made (len a) = refl
+-- what is said of an expression by its form and what stands inside it
+forms : (e : Expression) →
+    (form_with (tag_of e) (inside_of e) ≡ e)
+    × (expression_writes e ≡ fed.u8 (tag_of e) ++ inside_fed (inside_of e))
+    × (nodes_in e ≡ inside_nodes (inside_of e))
+forms input = (refl, refl, refl)
+forms (param k) = (refl, refl, refl)
+forms unit_expr = (refl, refl, refl)
+forms (bool_expr false) = (refl, refl, refl)
+forms (bool_expr true) = (refl, refl, refl)
+forms (int_expr n) = (refl, refl, refl)
+forms (pair_expr a b) = (refl, refl, refl)
+forms (fst a) = (refl, refl, refl)
+forms (snd a) = (refl, refl, refl)
+forms (then_expr a b) = (refl, refl, refl)
+forms (neg a) = (refl, refl, refl)
+forms (add a b) = (refl, refl, refl)
+forms (sub a b) = (refl, refl, refl)
+forms (mul a b) = (refl, refl, refl)
+forms (less a b) = (refl, refl, refl)
+forms (equal a b) = (refl, refl, refl)
+forms (not_expr a) = (refl, refl, refl)
+forms (and_expr a b) = (refl, refl, refl)
+forms (or_expr a b) = (refl, refl, refl)
+forms (if_expr a b c) = (refl, refl, refl)
+forms (no_event_expr t) = (refl, refl, refl)
+forms (event_expr a) = (refl, refl, refl)
+forms (on a b c) = (refl, refl, refl)
+forms (list_expr t es) = (refl, refl, refl)
+forms (nth a b c) = (refl, refl, refl)
+forms (len a) = (refl, refl, refl)
+
+-- what a hasher is fed at an expression
+pub fed_inside : (e : Expression) → expression_writes e ≡ fed.u8 (tag_of e) ++ inside_fed (inside_of e)
+fed_inside e = (forms e).1
+
+-- how many expressions it is made of
+pub nodes_inside : (e : Expression) → nodes_in e ≡ inside_nodes (inside_of e)
+nodes_inside e = (forms e).2
 
 pub same_inside_is : (a b : Expression) → ((tag_of a ≡ tag_of b) × (inside_of a ≡ inside_of b)) ↔ (a ≡ b)
-same_inside_is a b = (λ h. sym (made a) ∙ (ap (λ n. form_with n (inside_of a)) h.0 ∙ ap (form_with (tag_of b)) h.1) ∙ made b, λ e. (ap tag_of e, ap inside_of e))
+same_inside_is a b = (λ h. sym (forms a).0 ∙ (ap (λ n. form_with n (inside_of a)) h.0 ∙ ap (form_with (tag_of b)) h.1) ∙ (forms b).0, λ e. (ap tag_of e, ap inside_of e))

@@ -3,7 +3,7 @@ use Rattle.std.proofs.Common.{◌≡◌, ℕ, zero, suc, ◌<◌, ◌≤◌, ℤ
 use Rattle.sample_core.specs.Datum.{Datum, unit, list, elements, list_of}
 use Rattle.sample_core.specs.ValueView.{datum_of}
 use Rattle.sample_core.specs.declared.sample.Sample.{Sample}
-use Rattle.leaf_core.specs.Expression.{Expression, Expressions, no_more, and_then, expressions_of, expression_size, expressions_size}
+use Rattle.leaf_core.specs.Expression.{Expression, Expressions, no_more, and_then, expressions_of, nodes_in, nodes_in_all}
 use Rattle.leaf_core.specs.ExpressionView.{expression_of}
 use Rattle.leaf_core.specs.declared.expr.Expr.{Expr}
 use Rattle.sample_core.specs.TypeView.{type_of}
@@ -52,15 +52,16 @@ pub elements_of_elements : (vs : List Datum) → elements (list_of vs) ≡ vs
 elements_of_elements [] = refl
 elements_of_elements (v ∷ vs) = ap (λ t. v ∷ t) (elements_of_elements vs)
 
-element_falls : (all : List Expr) (i : ℕ) (e : Expr) → i < length all → expression_size (expression_of (get_or all i e)) < expressions_size (expressions_of (map expression_of all))
+-- an element of a list expression has at most as many nodes as the elements
+pub element_falls : (all : List Expr) (i : ℕ) (e : Expr) → i < length all → nodes_in (expression_of (get_or all i e)) ≤ nodes_in_all (expressions_of (map expression_of all))
 element_falls [] i e h = absurd (omega arith)
 element_falls (x ∷ xs) zero e h = omega arith
 element_falls (x ∷ xs) (suc i) e h = omega (arith, element_falls xs i e (omega arith))
 
--- an element of a list expression is smaller than the elements
-pub element_smaller : (all : List Expr) (es : List Expression) (i : ℕ) (e : Expr) → i < length all → e ≡ get_or all i e → map expression_of all ≡ es → expression_size (expression_of e) < expressions_size (expressions_of es)
+-- the same, where the elements are given as trees
+pub element_smaller : (all : List Expr) (es : List Expression) (i : ℕ) (e : Expr) → i < length all → e ≡ get_or all i e → map expression_of all ≡ es → nodes_in (expression_of e) ≤ nodes_in_all (expressions_of es)
 element_smaller all es i e h q p =
-    subst (λ t. expression_size (expression_of t) < expressions_size (expressions_of es)) (sym q) (subst (λ t. expression_size (expression_of (get_or all i e)) < expressions_size (expressions_of t)) p (element_falls all i e h))
+    subst (λ t. nodes_in (expression_of t) ≤ nodes_in_all (expressions_of es)) (sym q) (subst (λ t. nodes_in (expression_of (get_or all i e)) ≤ nodes_in_all (expressions_of t)) p (element_falls all i e h))
 
 abbrev count : Expressions → ℕ
 count no_more = 0

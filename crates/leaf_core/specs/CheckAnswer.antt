@@ -1,5 +1,6 @@
 -- When the code gives the checking walk's answer.
-use Rattle.std.specs.Prelude.{◌≡◌, ◌≢◌, Result, Ok, Err, MatchResult}
+use Rattle.std.specs.Prelude.{Result}
+use Rattle.sample_core.specs.Answer.{GivesUnless}
 use Rattle.sample_core.specs.TypeView.{type_of}
 use Rattle.sample_core.specs.TypeTree.{TypeTree}
 use Rattle.sample_core.specs.declared.ty.Ty.{Ty}
@@ -9,8 +10,8 @@ use Rattle.leaf_core.specs.ExpressionCheck.{TypeAnswer}
 
 -- the type or the fault that is answered; only `Memory`, where a growth was refused, says nothing of the answer
 abbrev pub Gives : Result Ty ExprFault → TypeAnswer → Type 0
-Gives result answer = MatchResult result (λ t. answer ≡ Ok (type_of t)) (λ f. f ≢ Memory → answer ≡ Err f)
+Gives result answer = GivesUnless Memory type_of result answer
 
 -- a test of an answer that it is the type, or the fault that is answered
 abbrev pub Passes : {X : Type 0} → Result X ExprFault → TypeAnswer → TypeTree → Type 0
-Passes result answer t = MatchResult result (λ _. answer ≡ Ok t) (λ f. f ≢ Memory → answer ≡ Err f)
+Passes result answer t = GivesUnless Memory (λ _. t) result answer

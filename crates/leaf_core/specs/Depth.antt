@@ -2,15 +2,15 @@
 use Rattle.std.specs.Prelude.{◌≤◌, max, List, [], ◌∷◌, map}
 use Rattle.std.proofs.Common.{arith}
 use denote.Param.Weighed.{most}
-use Rattle.leaf_core.specs.Expression.{expressions_of, expression_size, expressions_size}
+use Rattle.leaf_core.specs.Expression.{expressions_of, nodes_in, nodes_in_all}
 use Rattle.leaf_core.specs.declared.literal.Literal.TheVariants as C
 use Rattle.leaf_core.specs.declared.expr.Expr.{Expr}
 use Rattle.leaf_core.specs.declared.expr.Expr.TheVariants as V
 use Rattle.leaf_core.specs.declared.expr.ExprChild.TheDeep.{deep-Expr}
 use Rattle.leaf_core.specs.ExpressionView.{expression_of}
 
--- an expression's depth in the code is at most its size
-pub depth_le : (e : Expr) → max (deep-Expr e) 0 ≤ expression_size (expression_of e)
+-- an expression's depth in the code is at most the number of its nodes
+pub depth_le : (e : Expr) → max (deep-Expr e) 0 ≤ nodes_in (expression_of e)
 depth_le V.Input = omega arith
 depth_le (V.Param k) = omega arith
 depth_le (V.Literal C.Unit) = omega arith
@@ -37,7 +37,7 @@ depth_le (V.List t es) = omega arith
 depth_le (V.Nth a b c) = omega arith
 depth_le (V.Len a) = omega arith
 
--- each element's depth in the code is at most the size of all elements
-pub depths_le : (es : List Expr) → most deep-Expr es ≤ expressions_size (expressions_of (map expression_of es))
+-- each element's depth in the code is at most the number of their nodes
+pub depths_le : (es : List Expr) → most deep-Expr es ≤ nodes_in_all (expressions_of (map expression_of es))
 depths_le [] = omega arith
 depths_le (e ∷ es) = omega (arith, depth_le e, depths_le es)

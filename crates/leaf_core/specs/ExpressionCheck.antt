@@ -2,6 +2,7 @@
 use Rattle.std.specs.Prelude.{ℕ, zero, suc, Bool, true, false, List, [], ◌∷◌, Result, Ok, Err}
 use Rattle.std.specs.Int.{int_wrap, w64}
 use Rattle.std.specs.Ordering.{int_eq}
+use Rattle.sample_core.specs.Answer.{◌>>=◌}
 use Rattle.sample_core.specs.TypeTree.{TypeTree, unit_ty, bool_ty, int_ty, pair_ty, event_ty, list_ty}
 use Rattle.leaf_core.specs.TypeLimits.{type_fits, same_tree}
 use Rattle.leaf_core.specs.Expression.{Expression, Expressions, input, param, unit_expr, bool_expr, int_expr, pair_expr, fst, snd, then_expr, neg, add, sub, mul, less, equal, not_expr, and_expr, or_expr, if_expr, no_event_expr, event_expr, on, list_expr, nth, len, no_more, and_then}
@@ -13,11 +14,6 @@ use Rattle.leaf_core.specs.declared.typing.ExprFault.TheVariants.{Mismatch, NoPa
 abbrev pub TypeAnswer : Type 0
 TypeAnswer = Result TypeTree ExprFault
 
--- the rest, where the answer so far is no fault
-abbrev pub on_ok : TypeAnswer → (TypeTree → TypeAnswer) → TypeAnswer
-on_ok (Ok t) k = k t
-on_ok (Err f) k = Err f
-
 -- a test, its fault, and the rest
 abbrev pub check_that : Bool → ExprFault → TypeAnswer → TypeAnswer
 check_that true f r = r
@@ -25,11 +21,11 @@ check_that false f r = Err f
 
 -- a part's answer, where it is the type that is wanted of the part
 abbrev pub expect : TypeAnswer → TypeTree → TypeAnswer
-expect r t = on_ok r (λ s. check_that (same_tree s t) Mismatch (Ok s))
+expect r t = r >>= (λ s. check_that (same_tree s t) Mismatch (Ok s))
 
 -- a part's answer, the type that is wanted of the part, and the rest
 abbrev pub expect_then : TypeAnswer → TypeTree → TypeAnswer → TypeAnswer
-expect_then r t k = on_ok (expect r t) (λ s. k)
+expect_then r t k = expect r t >>= (λ s. k)
 
 -- a type, where it is within the limits
 abbrev pub within_limits : TypeTree → TypeAnswer
@@ -44,6 +40,11 @@ first_type _ = Err Mismatch
 abbrev pub second_type : TypeTree → TypeAnswer
 second_type (pair_ty A B) = Ok B
 second_type _ = Err Mismatch
+
+-- the type of the first or the second part of a pair, as the form says
+abbrev pub part_type : Expression → TypeTree → TypeAnswer
+part_type (fst _) P = first_type P
+part_type _ P = second_type P
 
 -- the type of what an event carries
 abbrev pub carried_type : TypeTree → TypeAnswer
@@ -65,30 +66,30 @@ abbrev mutual
   -- the parts in written order: each, once walked, is tested before the next is walked; a node's own type comes last
   pub type_walk : List TypeTree → TypeTree → Expression → TypeAnswer
   type_walk Ps A input = within_limits A
-  type_walk Ps A (param k) = on_ok (type_of_param Ps k) within_limits
+  type_walk Ps A (param k) = type_of_param Ps k >>= within_limits
   type_walk Ps A unit_expr = within_limits unit_ty
   type_walk Ps A (bool_expr b) = within_limits bool_ty
   type_walk Ps A (int_expr n) = check_that (int_eq (int_wrap w64 n) n) Mismatch (within_limits int_ty)
-  type_walk Ps A (pair_expr a b) = on_ok (type_walk Ps A a) (λ B. on_ok (type_walk Ps A b) (λ C. within_limits (pair_ty B C)))
-  type_walk Ps A (fst e) = on_ok (type_walk Ps A e) (λ P. on_ok (first_type P) within_limits)
-  type_walk Ps A (snd e) = on_ok (type_walk Ps A e) (λ P. on_ok (second_type P) within_limits)
-  type_walk Ps A (then_expr f g) = on_ok (type_walk Ps A f) (λ B. on_ok (type_walk Ps B g) within_limits)
+  type_walk Ps A (pair_expr a b) = type_walk Ps A a >>= (λ B. type_walk Ps A b >>= (λ C. within_limits (pair_ty B C)))
+  type_walk Ps A (fst e) = type_walk Ps A e >>= (λ P. first_type P >>= within_limits)
+  type_walk Ps A (snd e) = type_walk Ps A e >>= (λ P. second_type P >>= within_limits)
+  type_walk Ps A (then_expr f g) = type_walk Ps A f >>= (λ B. type_walk Ps B g >>= within_limits)
   type_walk Ps A (neg a) = expect_then (type_walk Ps A a) int_ty (within_limits int_ty)
   type_walk Ps A (add a b) = expect_then (type_walk Ps A a) int_ty (expect_then (type_walk Ps A b) int_ty (within_limits int_ty))
   type_walk Ps A (sub a b) = expect_then (type_walk Ps A a) int_ty (expect_then (type_walk Ps A b) int_ty (within_limits int_ty))
   type_walk Ps A (mul a b) = expect_then (type_walk Ps A a) int_ty (expect_then (type_walk Ps A b) int_ty (within_limits int_ty))
   type_walk Ps A (less a b) = expect_then (type_walk Ps A a) int_ty (expect_then (type_walk Ps A b) int_ty (within_limits bool_ty))
-  type_walk Ps A (equal a b) = on_ok (type_walk Ps A a) (λ B. expect_then (type_walk Ps A b) B (within_limits bool_ty))
+  type_walk Ps A (equal a b) = type_walk Ps A a >>= (λ B. expect_then (type_walk Ps A b) B (within_limits bool_ty))
   type_walk Ps A (not_expr a) = expect_then (type_walk Ps A a) bool_ty (within_limits bool_ty)
   type_walk Ps A (and_expr a b) = expect_then (type_walk Ps A a) bool_ty (expect_then (type_walk Ps A b) bool_ty (within_limits bool_ty))
   type_walk Ps A (or_expr a b) = expect_then (type_walk Ps A a) bool_ty (expect_then (type_walk Ps A b) bool_ty (within_limits bool_ty))
-  type_walk Ps A (if_expr c a b) = expect_then (type_walk Ps A c) bool_ty (on_ok (type_walk Ps A a) (λ B. expect_then (type_walk Ps A b) B (within_limits B)))
-  type_walk Ps A (no_event_expr t) = on_ok (within_limits t) (λ T. within_limits (event_ty T))
-  type_walk Ps A (event_expr e) = on_ok (type_walk Ps A e) (λ B. within_limits (event_ty B))
-  type_walk Ps A (on e d b) = on_ok (type_walk Ps A e) (λ E. on_ok (carried_type E) (λ V. on_ok (type_walk Ps A d) (λ C. on_ok (within_limits (pair_ty A V)) (λ I. expect_then (type_walk Ps I b) C (within_limits C)))))
-  type_walk Ps A (list_expr t es) = on_ok (within_limits t) (λ T. elements_walk Ps A T es)
-  type_walk Ps A (nth e i d) = on_ok (type_walk Ps A e) (λ L. on_ok (element_type L) (λ T. expect_then (type_walk Ps A i) int_ty (expect_then (type_walk Ps A d) T (within_limits T))))
-  type_walk Ps A (len e) = on_ok (type_walk Ps A e) (λ L. on_ok (element_type L) (λ T. within_limits int_ty))
+  type_walk Ps A (if_expr c a b) = expect_then (type_walk Ps A c) bool_ty (type_walk Ps A a >>= (λ B. expect_then (type_walk Ps A b) B (within_limits B)))
+  type_walk Ps A (no_event_expr t) = within_limits t >>= (λ T. within_limits (event_ty T))
+  type_walk Ps A (event_expr e) = type_walk Ps A e >>= (λ B. within_limits (event_ty B))
+  type_walk Ps A (on e d b) = type_walk Ps A e >>= (λ E. carried_type E >>= (λ V. type_walk Ps A d >>= (λ C. within_limits (pair_ty A V) >>= (λ I. expect_then (type_walk Ps I b) C (within_limits C)))))
+  type_walk Ps A (list_expr t es) = within_limits t >>= (λ T. elements_walk Ps A T es)
+  type_walk Ps A (nth e i d) = type_walk Ps A e >>= (λ L. element_type L >>= (λ T. expect_then (type_walk Ps A i) int_ty (expect_then (type_walk Ps A d) T (within_limits T))))
+  type_walk Ps A (len e) = type_walk Ps A e >>= (λ L. element_type L >>= (λ T. within_limits int_ty))
 
   -- the elements of a list in order, each tested against the type given
   pub elements_walk : List TypeTree → TypeTree → TypeTree → Expressions → TypeAnswer

@@ -1,68 +1,41 @@
 -- The code of an expression, by which the check tells expressions apart.
-use Rattle.std.specs.Prelude.{◌≡◌, ℕ, refl}
+use Rattle.std.specs.Prelude.{◌≡◌, refl}
 use Rattle.std.proofs.Common.{ap, arith}
 use Rattle.std.specs.Coded.{Coded, coded_ℤ, coded_bool}
 use base.Stored.{Gv, gnil, gnum, gcons, num, coded_via}
 use denote.Struct.Codes.{itself}
+use Rattle.sample_core.specs.CodeNode.{node, tag_of, part0, part1, part2, head_of, rest_of}
 use Rattle.sample_core.specs.TypeCode.{type_code}
 use Rattle.leaf_core.specs.Expression.{Expression, Expressions, input, param, unit_expr, bool_expr, int_expr, pair_expr, fst, snd, then_expr, neg, add, sub, mul, less, equal, not_expr, and_expr, or_expr, if_expr, no_event_expr, event_expr, on, list_expr, nth, len, no_more, and_then}
-
--- a tag, and three parts
-abbrev pub node : ℕ → Gv → Gv → Gv → Gv
-node tag a b c = gcons (gnum tag) (gcons a (gcons b c))
-
-abbrev tag_of : Gv → ℕ
-tag_of (gcons t r) = num t
-tag_of _ = 0
-
-abbrev part0 : Gv → Gv
-part0 (gcons t (gcons a r)) = a
-part0 _ = gnil
-
-abbrev part1 : Gv → Gv
-part1 (gcons t (gcons a (gcons b c))) = b
-part1 _ = gnil
-
-abbrev part2 : Gv → Gv
-part2 (gcons t (gcons a (gcons b c))) = c
-part2 _ = gnil
-
-abbrev head_of : Gv → Gv
-head_of (gcons a b) = a
-head_of _ = gnil
-
-abbrev rest_of : Gv → Gv
-rest_of (gcons a b) = b
-rest_of _ = gnil
 
 abbrev mutual
   -- an expression's code: the number of its form, and then its parts
   pub to_code : Expression → Gv
-  to_code input = node 0 gnil gnil gnil
-  to_code (param k) = node 1 (gnum k) gnil gnil
-  to_code unit_expr = node 2 gnil gnil gnil
-  to_code (bool_expr p) = node 3 (coded_bool.code p) gnil gnil
-  to_code (int_expr n) = node 4 (coded_ℤ.code n) gnil gnil
-  to_code (pair_expr a b) = node 5 (to_code a) (to_code b) gnil
-  to_code (fst a) = node 6 (to_code a) gnil gnil
-  to_code (snd a) = node 7 (to_code a) gnil gnil
-  to_code (then_expr a b) = node 8 (to_code a) (to_code b) gnil
-  to_code (neg a) = node 9 (to_code a) gnil gnil
-  to_code (add a b) = node 10 (to_code a) (to_code b) gnil
-  to_code (sub a b) = node 11 (to_code a) (to_code b) gnil
-  to_code (mul a b) = node 12 (to_code a) (to_code b) gnil
-  to_code (less a b) = node 13 (to_code a) (to_code b) gnil
-  to_code (equal a b) = node 14 (to_code a) (to_code b) gnil
-  to_code (not_expr a) = node 15 (to_code a) gnil gnil
-  to_code (and_expr a b) = node 16 (to_code a) (to_code b) gnil
-  to_code (or_expr a b) = node 17 (to_code a) (to_code b) gnil
-  to_code (if_expr a b c) = node 18 (to_code a) (to_code b) (to_code c)
-  to_code (no_event_expr t) = node 19 (type_code.code t) gnil gnil
-  to_code (event_expr a) = node 20 (to_code a) gnil gnil
-  to_code (on a b c) = node 21 (to_code a) (to_code b) (to_code c)
-  to_code (list_expr t es) = node 22 (type_code.code t) (to_codes es) gnil
-  to_code (nth a b c) = node 23 (to_code a) (to_code b) (to_code c)
-  to_code (len a) = node 24 (to_code a) gnil gnil
+  to_code input = node 0 gnil gnil gnil gnil
+  to_code (param k) = node 1 (gnum k) gnil gnil gnil
+  to_code unit_expr = node 2 gnil gnil gnil gnil
+  to_code (bool_expr p) = node 3 (coded_bool.code p) gnil gnil gnil
+  to_code (int_expr n) = node 4 (coded_ℤ.code n) gnil gnil gnil
+  to_code (pair_expr a b) = node 5 (to_code a) (to_code b) gnil gnil
+  to_code (fst a) = node 6 (to_code a) gnil gnil gnil
+  to_code (snd a) = node 7 (to_code a) gnil gnil gnil
+  to_code (then_expr a b) = node 8 (to_code a) (to_code b) gnil gnil
+  to_code (neg a) = node 9 (to_code a) gnil gnil gnil
+  to_code (add a b) = node 10 (to_code a) (to_code b) gnil gnil
+  to_code (sub a b) = node 11 (to_code a) (to_code b) gnil gnil
+  to_code (mul a b) = node 12 (to_code a) (to_code b) gnil gnil
+  to_code (less a b) = node 13 (to_code a) (to_code b) gnil gnil
+  to_code (equal a b) = node 14 (to_code a) (to_code b) gnil gnil
+  to_code (not_expr a) = node 15 (to_code a) gnil gnil gnil
+  to_code (and_expr a b) = node 16 (to_code a) (to_code b) gnil gnil
+  to_code (or_expr a b) = node 17 (to_code a) (to_code b) gnil gnil
+  to_code (if_expr a b c) = node 18 (to_code a) (to_code b) (to_code c) gnil
+  to_code (no_event_expr t) = node 19 (type_code.code t) gnil gnil gnil
+  to_code (event_expr a) = node 20 (to_code a) gnil gnil gnil
+  to_code (on a b c) = node 21 (to_code a) (to_code b) (to_code c) gnil
+  to_code (list_expr t es) = node 22 (type_code.code t) (to_codes es) gnil gnil
+  to_code (nth a b c) = node 23 (to_code a) (to_code b) (to_code c) gnil
+  to_code (len a) = node 24 (to_code a) gnil gnil gnil
 
   -- the code of the elements of a list
   pub to_codes : Expressions → Gv

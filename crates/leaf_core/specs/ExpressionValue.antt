@@ -72,6 +72,16 @@ of_ints (sub _ _) m n = wrap (m -ℤ n)
 of_ints (mul _ _) m n = wrap (m *ℤ n)
 of_ints _ m n = bool (int_lt m n)
 
+-- the first or the second part of a pair, as the form says
+abbrev pub part_of : Expression → Datum → Datum
+part_of (fst _) v = left v
+part_of _ v = right v
+
+-- whether both hold, or one or both, as the form says
+abbrev pub of_truths : Expression → Bool → Bool → Datum
+of_truths (and_expr _ _) p q = bool (p && q)
+of_truths _ p q = bool (p || q)
+
 -- the value under parameters ps at the input x; a default where it is ill typed
 abbrev mutual
   pub value_of : Expression → List Datum → Datum → Datum

@@ -44,35 +44,39 @@ tag_of (list_expr t es) = 23
 tag_of (nth a b c) = 24
 tag_of (len a) = 25
 
+-- what a hasher is fed at an expression: the number of its form, and then what is given
+abbrev pub tagged : Expression → fed.HashWrites → fed.HashWrites
+tagged e writes = fed.u8 (tag_of e) ++ writes
+
 abbrev mutual
   -- what a hasher is fed at an expression
   pub expression_writes : Expression → fed.HashWrites
-  expression_writes input = fed.u8 0
-  expression_writes (param k) = fed.u8 1 ++ fed.u32 k
-  expression_writes unit_expr = fed.u8 2
-  expression_writes (bool_expr false) = fed.u8 3
-  expression_writes (bool_expr true) = fed.u8 4
-  expression_writes (int_expr n) = fed.u8 5 ++ fed.i64 n
-  expression_writes (pair_expr a b) = fed.u8 6 ++ (expression_writes a ++ expression_writes b)
-  expression_writes (fst a) = fed.u8 7 ++ expression_writes a
-  expression_writes (snd a) = fed.u8 8 ++ expression_writes a
-  expression_writes (then_expr a b) = fed.u8 9 ++ (expression_writes a ++ expression_writes b)
-  expression_writes (neg a) = fed.u8 10 ++ expression_writes a
-  expression_writes (add a b) = fed.u8 11 ++ (expression_writes a ++ expression_writes b)
-  expression_writes (sub a b) = fed.u8 12 ++ (expression_writes a ++ expression_writes b)
-  expression_writes (mul a b) = fed.u8 13 ++ (expression_writes a ++ expression_writes b)
-  expression_writes (less a b) = fed.u8 14 ++ (expression_writes a ++ expression_writes b)
-  expression_writes (equal a b) = fed.u8 15 ++ (expression_writes a ++ expression_writes b)
-  expression_writes (not_expr a) = fed.u8 16 ++ expression_writes a
-  expression_writes (and_expr a b) = fed.u8 17 ++ (expression_writes a ++ expression_writes b)
-  expression_writes (or_expr a b) = fed.u8 18 ++ (expression_writes a ++ expression_writes b)
-  expression_writes (if_expr a b c) = fed.u8 19 ++ (expression_writes a ++ (expression_writes b ++ expression_writes c))
-  expression_writes (no_event_expr t) = fed.u8 20 ++ type_writes t
-  expression_writes (event_expr a) = fed.u8 21 ++ expression_writes a
-  expression_writes (on a b c) = fed.u8 22 ++ (expression_writes a ++ (expression_writes b ++ expression_writes c))
-  expression_writes (list_expr t es) = fed.u8 23 ++ (type_writes t ++ (expressions_writes es ++ fed.u8 26))
-  expression_writes (nth a b c) = fed.u8 24 ++ (expression_writes a ++ (expression_writes b ++ expression_writes c))
-  expression_writes (len a) = fed.u8 25 ++ expression_writes a
+  expression_writes input = tagged input []
+  expression_writes (param k) = tagged (param k) (fed.u32 k)
+  expression_writes unit_expr = tagged unit_expr []
+  expression_writes (bool_expr false) = tagged (bool_expr false) []
+  expression_writes (bool_expr true) = tagged (bool_expr true) []
+  expression_writes (int_expr n) = tagged (int_expr n) (fed.i64 n)
+  expression_writes (pair_expr a b) = tagged (pair_expr a b) (expression_writes a ++ expression_writes b)
+  expression_writes (fst a) = tagged (fst a) (expression_writes a)
+  expression_writes (snd a) = tagged (snd a) (expression_writes a)
+  expression_writes (then_expr a b) = tagged (then_expr a b) (expression_writes a ++ expression_writes b)
+  expression_writes (neg a) = tagged (neg a) (expression_writes a)
+  expression_writes (add a b) = tagged (add a b) (expression_writes a ++ expression_writes b)
+  expression_writes (sub a b) = tagged (sub a b) (expression_writes a ++ expression_writes b)
+  expression_writes (mul a b) = tagged (mul a b) (expression_writes a ++ expression_writes b)
+  expression_writes (less a b) = tagged (less a b) (expression_writes a ++ expression_writes b)
+  expression_writes (equal a b) = tagged (equal a b) (expression_writes a ++ expression_writes b)
+  expression_writes (not_expr a) = tagged (not_expr a) (expression_writes a)
+  expression_writes (and_expr a b) = tagged (and_expr a b) (expression_writes a ++ expression_writes b)
+  expression_writes (or_expr a b) = tagged (or_expr a b) (expression_writes a ++ expression_writes b)
+  expression_writes (if_expr a b c) = tagged (if_expr a b c) (expression_writes a ++ (expression_writes b ++ expression_writes c))
+  expression_writes (no_event_expr t) = tagged (no_event_expr t) (type_writes t)
+  expression_writes (event_expr a) = tagged (event_expr a) (expression_writes a)
+  expression_writes (on a b c) = tagged (on a b c) (expression_writes a ++ (expression_writes b ++ expression_writes c))
+  expression_writes (list_expr t es) = tagged (list_expr t es) (type_writes t ++ (expressions_writes es ++ fed.u8 26))
+  expression_writes (nth a b c) = tagged (nth a b c) (expression_writes a ++ (expression_writes b ++ expression_writes c))
+  expression_writes (len a) = tagged (len a) (expression_writes a)
 
   -- what a hasher is fed at the elements of a list
   pub expressions_writes : Expressions → fed.HashWrites

@@ -3,7 +3,7 @@ use Rattle.std.specs.Prelude.{ℕ, suc, ◌+◌, ℤ, true, false, [], ◌++◌}
 use Rattle.std.specs.Hash as fed
 use Rattle.sample_core.specs.TypeTree.{TypeTree}
 use Rattle.sample_core.specs.TypeView.{type_of}
-use Rattle.leaf_core.specs.Expression.{Expression, Expressions, expressions_of, expression_size, expressions_size, input, param, unit_expr, bool_expr, int_expr, pair_expr, fst, snd, then_expr, neg, add, sub, mul, less, equal, not_expr, and_expr, or_expr, if_expr, no_event_expr, event_expr, on, list_expr, nth, len}
+use Rattle.leaf_core.specs.Expression.{Expression, Expressions, expressions_of, nodes_in, nodes_in_all, input, param, unit_expr, bool_expr, int_expr, pair_expr, fst, snd, then_expr, neg, add, sub, mul, less, equal, not_expr, and_expr, or_expr, if_expr, no_event_expr, event_expr, on, list_expr, nth, len}
 use Rattle.leaf_core.specs.HashWrites.{type_writes, expression_writes, expressions_writes}
 use Rattle.leaf_core.specs.declared.inside.Contents.{Contents}
 use Rattle.leaf_core.specs.declared.inside.Contents.TheVariants as V
@@ -62,13 +62,13 @@ inside_in (V.Three a b c) = three a.now b.now c.now
 inside_in (V.Type t) = one_type (type_of t.now)
 inside_in (V.Elements t es) = row (type_of t.now) (expressions_of es.now)
 
--- how many forms stand inside one another, as of the expression
-abbrev pub inside_size : Inside → ℕ
-inside_size (one a) = suc (expression_size a)
-inside_size (two a b) = suc (expression_size a + expression_size b)
-inside_size (three a b c) = suc (expression_size a + expression_size b + expression_size c)
-inside_size (row t es) = suc (expressions_size es)
-inside_size _ = 0
+-- how many expressions an expression is made of, by what stands inside it
+abbrev pub inside_nodes : Inside → ℕ
+inside_nodes (one a) = suc (nodes_in a)
+inside_nodes (two a b) = suc (nodes_in a + nodes_in b)
+inside_nodes (three a b c) = suc (nodes_in a + nodes_in b + nodes_in c)
+inside_nodes (row t es) = suc (nodes_in_all es)
+inside_nodes _ = 1
 
 -- what a hasher is fed behind the number of the form
 abbrev pub inside_fed : Inside → fed.HashWrites

@@ -1,24 +1,6 @@
 -- How deep and how large types may be, and when two types are the same.
-use Rattle.std.specs.Prelude.{ℕ, suc, ◌+◌, ◌≤◌, max, Bool, true, false, ◌&&◌, leb}
-use Rattle.sample_core.specs.TypeTree.{TypeTree, unit_ty, bool_ty, int_ty, pair_ty, event_ty, list_ty}
-
--- how many types stand in one another, at most: `Int` has depth 1
-abbrev pub depth_of : TypeTree → ℕ
-depth_of unit_ty = 1
-depth_of bool_ty = 1
-depth_of int_ty = 1
-depth_of (pair_ty A B) = suc (max (depth_of A) (depth_of B))
-depth_of (event_ty A) = suc (depth_of A)
-depth_of (list_ty A) = suc (depth_of A)
-
--- how many types a type is made of, itself counted
-abbrev pub nodes_of : TypeTree → ℕ
-nodes_of unit_ty = 1
-nodes_of bool_ty = 1
-nodes_of int_ty = 1
-nodes_of (pair_ty A B) = suc (nodes_of A + nodes_of B)
-nodes_of (event_ty A) = suc (nodes_of A)
-nodes_of (list_ty A) = suc (nodes_of A)
+use Rattle.std.specs.Prelude.{◌≤◌, Bool, true, false, ◌&&◌, leb}
+use Rattle.sample_core.specs.TypeTree.{TypeTree, depth_of, nodes_of, unit_ty, bool_ty, int_ty, pair_ty, event_ty, list_ty}
 
 -- a type within the limits
 pub record TypeFits (t : TypeTree) : Type 0 where

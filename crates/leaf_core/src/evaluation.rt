@@ -1,15 +1,16 @@
 // The value of an expression.
 
-ghost use Rattle.std.specs.Prelude.{◌≡◌, ◌&&◌, ◌||◌, IfOk, map, pos};
-ghost use Rattle.sample_core.specs.Datum.{int_of, bool, pair, left, right};
+ghost use Rattle.std.specs.Prelude.{◌≡◌, IfOk, map, pos};
+ghost use Rattle.sample_core.specs.Datum.{int_of, bool, pair};
 ghost use Rattle.sample_core.specs.ValueView.{datum_of};
 ghost use Rattle.leaf_core.specs.Expression.{expressions_of, on};
 ghost use Rattle.leaf_core.specs.ExpressionView.{expression_of};
-ghost use Rattle.leaf_core.specs.ExpressionValue.{value_of, values_of, is_true, same_datum, choose, element_at, count_of, of_ints, on_event, wrap};
+ghost use Rattle.leaf_core.specs.ExpressionValue.{value_of, values_of, is_true, same_datum, choose, element_at, count_of, of_ints, of_truths, on_event, part_of, wrap};
 
 use crate::expr::{Expr, ExprChild, Exprs};
 use crate::operations::{
-    count, element, equal, first, literal_value, negated, number, of_numbers, param, second, truth,
+    count, element, equal, literal_value, negated, number, of_numbers, of_truths, param, part,
+    truth,
 };
 use sample_core::{Memory, Sample, SampleChild, Samples};
 use std::alloc::Global;
@@ -31,8 +32,7 @@ pub fn eval(alloc: Global, expr: &Expr, params: &[Sample], x: &Sample) -> Result
         Expr::Param(k) => param(alloc, params, *k),
         Expr::Literal(literal) => Ok(literal_value(*literal)),
         Expr::Pair(a, b) => eval_pair(alloc, a, b, params, x),
-        Expr::Fst(e) => eval_first(alloc, e, params, x),
-        Expr::Snd(e) => eval_second(alloc, e, params, x),
+        Expr::Fst(e) | Expr::Snd(e) => eval_part(alloc, expr, e, params, x),
         Expr::Then(f, g) => eval_then(alloc, f, g, params, x),
         Expr::Neg(a) => {
             let a = eval_number(alloc, a, params, x)?;
@@ -46,8 +46,7 @@ pub fn eval(alloc: Global, expr: &Expr, params: &[Sample], x: &Sample) -> Result
             let a = eval_truth(alloc, a, params, x)?;
             Ok(Sample::Bool(!a))
         }
-        Expr::And(a, b) => eval_and(alloc, a, b, params, x),
-        Expr::Or(a, b) => eval_or(alloc, a, b, params, x),
+        Expr::And(a, b) | Expr::Or(a, b) => eval_truths(alloc, expr, a, b, params, x),
         Expr::If(c, a, b) => eval_if(alloc, c, a, b, params, x),
         Expr::NoEvent(_) => Ok(Sample::NoEvent),
         Expr::Event(e) => {
@@ -80,29 +79,19 @@ fn eval_pair(
     Ok(Sample::Pair(a, b))
 }
 
-/// The first part of a value.
+/// The first or the second part of a value, as the form says.
 #[cycle(eval)]
-fn eval_first(alloc: Global, e: &ExprChild, params: &[Sample], x: &Sample) -> Result<Sample, Memory>
-    ensures { IfOk result (λ s. datum_of s ≡ left (value_of e.now (map datum_of params.now) (datum_of x.now))) }
-{
-    let pair = eval(alloc, e.get(), params, x)?;
-    let found = first(alloc, &pair);
-    drop(pair);
-    found
-}
-
-/// The second part of a value.
-#[cycle(eval)]
-fn eval_second(
+fn eval_part(
     alloc: Global,
+    form: &Expr,
     e: &ExprChild,
     params: &[Sample],
     x: &Sample,
 ) -> Result<Sample, Memory>
-    ensures { IfOk result (λ s. datum_of s ≡ right (value_of e.now (map datum_of params.now) (datum_of x.now))) }
+    ensures { IfOk result (λ s. datum_of s ≡ part_of (expression_of form.now) (value_of e.now (map datum_of params.now) (datum_of x.now))) }
 {
     let pair = eval(alloc, e.get(), params, x)?;
-    let found = second(alloc, &pair);
+    let found = part(alloc, form, &pair);
     drop(pair);
     found
 }
@@ -158,36 +147,21 @@ fn eval_same(
     Ok(Sample::Bool(same))
 }
 
-/// Whether both are true.
+/// Whether both hold, or one or both, as the form says.
 #[cycle(eval)]
-fn eval_and(
+fn eval_truths(
     alloc: Global,
+    form: &Expr,
     a: &ExprChild,
     b: &ExprChild,
     params: &[Sample],
     x: &Sample,
 ) -> Result<Sample, Memory>
-    ensures { IfOk result (λ s. datum_of s ≡ bool (is_true (value_of a.now (map datum_of params.now) (datum_of x.now)) && is_true (value_of b.now (map datum_of params.now) (datum_of x.now)))) }
+    ensures { IfOk result (λ s. datum_of s ≡ of_truths (expression_of form.now) (is_true (value_of a.now (map datum_of params.now) (datum_of x.now))) (is_true (value_of b.now (map datum_of params.now) (datum_of x.now)))) }
 {
     let a = eval_truth(alloc, a, params, x)?;
     let b = eval_truth(alloc, b, params, x)?;
-    Ok(Sample::Bool(a && b))
-}
-
-/// Whether one or both are true.
-#[cycle(eval)]
-fn eval_or(
-    alloc: Global,
-    a: &ExprChild,
-    b: &ExprChild,
-    params: &[Sample],
-    x: &Sample,
-) -> Result<Sample, Memory>
-    ensures { IfOk result (λ s. datum_of s ≡ bool (is_true (value_of a.now (map datum_of params.now) (datum_of x.now)) || is_true (value_of b.now (map datum_of params.now) (datum_of x.now)))) }
-{
-    let a = eval_truth(alloc, a, params, x)?;
-    let b = eval_truth(alloc, b, params, x)?;
-    Ok(Sample::Bool(a || b))
+    Ok(of_truths(form, a, b))
 }
 
 /// The value of one of two expressions.

@@ -80,7 +80,7 @@ pub struct Exprs {
 }
 
 impl Model for ExprChild {
-    ghost use Rattle.leaf_core.specs.Expression.{Expression, expression_size};
+    ghost use Rattle.leaf_core.specs.Expression.{Expression, nodes_in};
     ghost use Rattle.leaf_core.specs.ExpressionCode.{expression_code};
 
     ghost Value = { Expression };
@@ -91,7 +91,7 @@ impl Model for ExprChild {
 
     ghost view = { λ a. expression_of a.inner.value };
 
-    ghost size = { expression_size };
+    ghost size = { nodes_in };
 
     ghost use Rattle.leaf_core.specs.Depth.{depth_le};
 
@@ -101,7 +101,7 @@ impl Model for ExprChild {
 impl Model for Exprs {
     ghost use Rattle.std.specs.Prelude.{List, map};
     ghost use Rattle.std.specs.Coded.{coded_list};
-    ghost use Rattle.leaf_core.specs.Expression.{Expression, expressions_of, expressions_size};
+    ghost use Rattle.leaf_core.specs.Expression.{Expression, expressions_of, nodes_in_all};
     ghost use Rattle.leaf_core.specs.ExpressionCode.{expression_code};
 
     ghost Value = { List Expression };
@@ -112,7 +112,7 @@ impl Model for Exprs {
 
     ghost view = { λ a. map expression_of a.all.value.items };
 
-    ghost size = { λ es. expressions_size (expressions_of es) };
+    ghost size = { λ es. nodes_in_all (expressions_of es) };
 
     ghost use Rattle.leaf_core.specs.Depth.{depths_le};
     ghost use Rattle.std.proofs.Common.{arith};

@@ -1,13 +1,15 @@
 // The limits of types and of expressions.
 
 ghost use Rattle.std.specs.Prelude.{◌≡◌, ◌+◌, ◌≤◌, max, MatchOption};
+ghost use Rattle.sample_core.specs.TypeTree.{depth_of, nodes_of};
 ghost use Rattle.sample_core.specs.TypeView.{type_of};
 ghost use Rattle.leaf_core.specs.ExpressionView.{expression_of};
-ghost use Rattle.leaf_core.specs.Expression.{expressions_of};
-ghost use Rattle.leaf_core.specs.TypeLimits.{depth_of, nodes_of, type_fits};
-ghost use Rattle.leaf_core.specs.ExpressionLimits.{height_of, heights_of, nodes_in, nodes_in_all, expression_fits};
+ghost use Rattle.leaf_core.specs.Expression.{expressions_of, height_of, heights_of, nodes_in, nodes_in_all};
+ghost use Rattle.leaf_core.specs.TypeLimits.{type_fits};
+ghost use Rattle.leaf_core.specs.ExpressionLimits.{expression_fits};
 
 use crate::expr::{Expr, ExprChild, Exprs};
+use crate::inside::{Contents, inside};
 use sample_core::Ty;
 
 /// How many types may stand in one another; `Int` has depth 1.
@@ -63,23 +65,14 @@ fn nodes_left(expr: &Expr, height: u32, nodes: u32) -> Option<u32>
 {
     let height = height.checked_sub(1)?;
     let nodes = nodes.checked_sub(1)?;
-    match expr {
-        Expr::Input | Expr::Param(_) | Expr::Literal(_) | Expr::NoEvent(_) => Some(nodes),
-        Expr::Fst(a) | Expr::Snd(a) | Expr::Neg(a) | Expr::Not(a) | Expr::Event(a) | Expr::Len(a) =>
-            { nodes_left(a.get(), height, nodes) }
-        Expr::Pair(a, b)
-        | Expr::Then(a, b)
-        | Expr::Add(a, b)
-        | Expr::Sub(a, b)
-        | Expr::Mul(a, b)
-        | Expr::Less(a, b)
-        | Expr::Equal(a, b)
-        | Expr::And(a, b)
-        | Expr::Or(a, b) => nodes_left_of_two(a, b, height, nodes),
-        Expr::If(a, b, c) | Expr::On(a, b, c) | Expr::Nth(a, b, c) => nodes_left_of_three(
-            a, b, c, height, nodes,
+    match inside(expr) {
+        Contents::Nothing | Contents::Index(_) | Contents::Number(_) | Contents::Type(_) => Some(
+            nodes,
         ),
-        Expr::List(_, all) => nodes_left_of_all(all, height, nodes),
+        Contents::One(a) => nodes_left(a.get(), height, nodes),
+        Contents::Two(a, b) => nodes_left_of_two(a, b, height, nodes),
+        Contents::Three(a, b, c) => nodes_left_of_three(a, b, c, height, nodes),
+        Contents::Elements(_, all) => nodes_left_of_all(all, height, nodes),
     }
 }
 
@@ -101,7 +94,7 @@ fn nodes_left_of_three(
     height: u32,
     nodes: u32,
 ) -> Option<u32>
-    ensures { MatchOption result (max (height_of a.now) (max (height_of b.now) (height_of c.now)) ≤ height → nodes_in a.now + nodes_in b.now + nodes_in c.now ≤ nodes → ⊥) (λ left. (max (height_of a.now) (max (height_of b.now) (height_of c.now)) ≤ height) × (nodes_in a.now + nodes_in b.now + nodes_in c.now + left ≡ nodes)) }
+    ensures { MatchOption result (max (max (height_of a.now) (height_of b.now)) (height_of c.now) ≤ height → nodes_in a.now + nodes_in b.now + nodes_in c.now ≤ nodes → ⊥) (λ left. (max (max (height_of a.now) (height_of b.now)) (height_of c.now) ≤ height) × (nodes_in a.now + nodes_in b.now + nodes_in c.now + left ≡ nodes)) }
 {
     let nodes = nodes_left_of_two(a, b, height, nodes)?;
     nodes_left(c.get(), height, nodes)

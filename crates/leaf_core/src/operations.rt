@@ -2,10 +2,10 @@
 
 ghost use Rattle.std.specs.Prelude.{◌≡◌, IfOk, pos, neg_ℤ, map, []};
 ghost use Rattle.std.specs.Int.{int_wrap, w64};
-ghost use Rattle.sample_core.specs.Datum.{int_of, left, right, unit};
+ghost use Rattle.sample_core.specs.Datum.{int_of, unit};
 ghost use Rattle.sample_core.specs.ValueView.{datum_of};
 ghost use Rattle.leaf_core.specs.ExpressionView.{expression_of, literal_of};
-ghost use Rattle.leaf_core.specs.ExpressionValue.{value_of, wrap, is_true, of_ints, element_at, count_of, param_at, same_datum};
+ghost use Rattle.leaf_core.specs.ExpressionValue.{value_of, wrap, is_true, of_ints, of_truths, part_of, element_at, count_of, param_at, same_datum};
 
 use crate::expr::Expr;
 use crate::literal::Literal;
@@ -60,23 +60,26 @@ pub fn truth(value: &Sample) -> bool
     matches!(value, Sample::Bool(true))
 }
 
-/// The first part of a pair; another value itself.
-pub fn first(alloc: Global, value: &Sample) -> Result<Sample, Memory>
-    ensures { IfOk result (λ s. datum_of s ≡ left (datum_of value.now)) }
+/// Whether both hold, or one or both, as the form says.
+pub fn of_truths(form: &Expr, p: bool, q: bool) -> Sample
+    ensures { datum_of result ≡ of_truths (expression_of form.now) p q }
 {
-    match value {
-        Sample::Pair(a, _) => a.get().try_copy(alloc),
-        other => other.try_copy(alloc),
+    match form {
+        Expr::And(..) => Sample::Bool(p && q),
+        _ => Sample::Bool(p || q),
     }
 }
 
-/// The second part of a pair; another value itself.
-pub fn second(alloc: Global, value: &Sample) -> Result<Sample, Memory>
-    ensures { IfOk result (λ s. datum_of s ≡ right (datum_of value.now)) }
+/// The first or the second part of a pair, as the form says; another value itself.
+pub fn part(alloc: Global, form: &Expr, value: &Sample) -> Result<Sample, Memory>
+    ensures { IfOk result (λ s. datum_of s ≡ part_of (expression_of form.now) (datum_of value.now)) }
 {
-    match value {
-        Sample::Pair(_, b) => b.get().try_copy(alloc),
-        other => other.try_copy(alloc),
+    let Sample::Pair(a, b) = value else {
+        return value.try_copy(alloc);
+    };
+    match form {
+        Expr::Fst(_) => a.get().try_copy(alloc),
+        _ => b.get().try_copy(alloc),
     }
 }
 

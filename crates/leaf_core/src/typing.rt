@@ -1,11 +1,12 @@
 // The type of an expression.
 
 ghost use Rattle.std.specs.Prelude.{◌≡◌, ◌≢◌, IfOk, MatchResult, List, Ok, Err, map};
+ghost use Rattle.sample_core.specs.Answer.{◌>>=◌ as on_ok, GivesUnless};
 ghost use Rattle.sample_core.specs.TypeTree.{TypeTree, bool_ty, int_ty, pair_ty, event_ty, list_ty};
 ghost use Rattle.sample_core.specs.TypeView.{type_of};
-ghost use Rattle.leaf_core.specs.Expression.{expressions_of, pair_expr, fst, snd, then_expr, neg, add, less, equal, not_expr, and_expr, if_expr, event_expr, on, list_expr, nth, len};
+ghost use Rattle.leaf_core.specs.Expression.{expressions_of, pair_expr, then_expr, equal, if_expr, event_expr, on, list_expr, nth, len};
 ghost use Rattle.leaf_core.specs.ExpressionView.{expression_of, literal_of};
-ghost use Rattle.leaf_core.specs.ExpressionCheck.{carried_type, element_type, elements_walk, first_type, within_limits, expect_then, on_ok, second_type, type_answer, type_of_param, type_walk, expect};
+ghost use Rattle.leaf_core.specs.ExpressionCheck.{carried_type, element_type, elements_walk, within_limits, expect_then, part_type, type_answer, type_of_param, type_walk, expect};
 ghost use Rattle.leaf_core.specs.ExpressionLimits.{ExpressionTypedWithin};
 ghost use Rattle.leaf_core.specs.CheckAnswer.{Gives, Passes};
 ghost use Rattle.leaf_core.specs.declared.typing.ExprFault.TheVariants as F;
@@ -86,15 +87,30 @@ fn walk(alloc: Global, params: &[Ty], input: &Ty, expr: &Expr) -> Result<Ty, Exp
         Expr::Param(k) => param_type(alloc, params, *k),
         Expr::Literal(literal) => limited(literal_type(*literal)),
         Expr::Pair(a, b) => walk_pair(alloc, params, input, a, b),
-        Expr::Fst(e) => walk_first(alloc, params, input, e),
-        Expr::Snd(e) => walk_second(alloc, params, input, e),
+        Expr::Fst(e) | Expr::Snd(e) => walk_part(alloc, params, input, expr, e),
         Expr::Then(f, g) => walk_then(alloc, params, input, f, g),
-        Expr::Neg(a) => walk_negative(alloc, params, input, a),
-        Expr::Add(a, b) | Expr::Sub(a, b) | Expr::Mul(a, b) => walk_sum(alloc, params, input, a, b),
-        Expr::Less(a, b) => walk_less(alloc, params, input, a, b),
+        Expr::Neg(a) => walk_one(alloc, params, input, a, &Ty::Int, &Ty::Int),
+        Expr::Add(a, b) | Expr::Sub(a, b) | Expr::Mul(a, b) => walk_two(
+            alloc,
+            params,
+            input,
+            a,
+            b,
+            &Ty::Int,
+            &Ty::Int,
+        ),
+        Expr::Less(a, b) => walk_two(alloc, params, input, a, b, &Ty::Int, &Ty::Bool),
         Expr::Equal(a, b) => walk_equal(alloc, params, input, a, b),
-        Expr::Not(a) => walk_not(alloc, params, input, a),
-        Expr::And(a, b) | Expr::Or(a, b) => walk_both(alloc, params, input, a, b),
+        Expr::Not(a) => walk_one(alloc, params, input, a, &Ty::Bool, &Ty::Bool),
+        Expr::And(a, b) | Expr::Or(a, b) => walk_two(
+            alloc,
+            params,
+            input,
+            a,
+            b,
+            &Ty::Bool,
+            &Ty::Bool,
+        ),
         Expr::If(c, a, b) => walk_if(alloc, params, input, c, a, b),
         Expr::NoEvent(carried) => no_event_type(alloc, carried),
         Expr::Event(e) => walk_event(alloc, params, input, e),
@@ -121,26 +137,21 @@ fn walk_pair(
     limited(Ty::Pair(first, second))
 }
 
-/// The type of the first part of a pair.
+/// The type of the first or the second part of a pair, as the form says.
 #[cycle(walk)]
-fn walk_first(alloc: Global, params: &[Ty], input: &Ty, e: &ExprChild) -> Result<Ty, ExprFault>
-    ensures { Gives result (type_walk (map type_of params.now) (type_of input.now) (fst e.now)) }
+fn walk_part(
+    alloc: Global,
+    params: &[Ty],
+    input: &Ty,
+    form: &Expr,
+    e: &ExprChild,
+) -> Result<Ty, ExprFault>
+    ensures { Gives result (on_ok (type_walk (map type_of params.now) (type_of input.now) e.now) (λ P. on_ok (part_type (expression_of form.now) P) within_limits)) }
 {
     let pair = walk(alloc, params, input, e.get())?;
-    let first = first_type(alloc, &pair);
+    let part = part_type(alloc, form, &pair);
     drop(pair);
-    first
-}
-
-/// The type of the second part of a pair.
-#[cycle(walk)]
-fn walk_second(alloc: Global, params: &[Ty], input: &Ty, e: &ExprChild) -> Result<Ty, ExprFault>
-    ensures { Gives result (type_walk (map type_of params.now) (type_of input.now) (snd e.now)) }
-{
-    let pair = walk(alloc, params, input, e.get())?;
-    let second = second_type(alloc, &pair);
-    drop(pair);
-    second
+    part
 }
 
 /// The type of one expression behind another.
@@ -160,45 +171,37 @@ fn walk_then(
     limited(found?)
 }
 
-/// The type of a negative.
+/// The type that is answered where a part has the type that is wanted.
 #[cycle(walk)]
-fn walk_negative(alloc: Global, params: &[Ty], input: &Ty, a: &ExprChild) -> Result<Ty, ExprFault>
-    ensures { Gives result (type_walk (map type_of params.now) (type_of input.now) (neg a.now)) }
+fn walk_one(
+    alloc: Global,
+    params: &[Ty],
+    input: &Ty,
+    a: &ExprChild,
+    wanted: &Ty,
+    answer: &Ty,
+) -> Result<Ty, ExprFault>
+    ensures { Gives result (expect_then (type_walk (map type_of params.now) (type_of input.now) a.now) (type_of wanted.now) (within_limits (type_of answer.now))) }
 {
-    walk_int(alloc, params, input, a)?;
-    limited(Ty::Int)
+    walk_wanted(alloc, params, input, a.get(), wanted)?;
+    limited_copy(alloc, answer)
 }
 
-/// The type of a sum, a difference or a product.
+/// The type that is answered where two parts have the type that is wanted.
 #[cycle(walk)]
-fn walk_sum(
+fn walk_two(
     alloc: Global,
     params: &[Ty],
     input: &Ty,
     a: &ExprChild,
     b: &ExprChild,
+    wanted: &Ty,
+    answer: &Ty,
 ) -> Result<Ty, ExprFault>
-    ensures { Gives result (type_walk (map type_of params.now) (type_of input.now) (add a.now b.now)) }
+    ensures { Gives result (expect_then (type_walk (map type_of params.now) (type_of input.now) a.now) (type_of wanted.now) (expect_then (type_walk (map type_of params.now) (type_of input.now) b.now) (type_of wanted.now) (within_limits (type_of answer.now)))) }
 {
-    walk_int(alloc, params, input, a)?;
-    walk_int(alloc, params, input, b)?;
-    limited(Ty::Int)
-}
-
-/// The type of a comparison of numbers.
-#[cycle(walk)]
-fn walk_less(
-    alloc: Global,
-    params: &[Ty],
-    input: &Ty,
-    a: &ExprChild,
-    b: &ExprChild,
-) -> Result<Ty, ExprFault>
-    ensures { Gives result (type_walk (map type_of params.now) (type_of input.now) (less a.now b.now)) }
-{
-    walk_int(alloc, params, input, a)?;
-    walk_int(alloc, params, input, b)?;
-    limited(Ty::Bool)
+    walk_wanted(alloc, params, input, a.get(), wanted)?;
+    walk_one(alloc, params, input, b, wanted, answer)
 }
 
 /// The type of a comparison.
@@ -219,31 +222,6 @@ fn walk_equal(
     limited(Ty::Bool)
 }
 
-/// The type of what isn't so.
-#[cycle(walk)]
-fn walk_not(alloc: Global, params: &[Ty], input: &Ty, a: &ExprChild) -> Result<Ty, ExprFault>
-    ensures { Gives result (type_walk (map type_of params.now) (type_of input.now) (not_expr a.now)) }
-{
-    walk_bool(alloc, params, input, a)?;
-    limited(Ty::Bool)
-}
-
-/// The type of two truths in one.
-#[cycle(walk)]
-fn walk_both(
-    alloc: Global,
-    params: &[Ty],
-    input: &Ty,
-    a: &ExprChild,
-    b: &ExprChild,
-) -> Result<Ty, ExprFault>
-    ensures { Gives result (type_walk (map type_of params.now) (type_of input.now) (and_expr a.now b.now)) }
-{
-    walk_bool(alloc, params, input, a)?;
-    walk_bool(alloc, params, input, b)?;
-    limited(Ty::Bool)
-}
-
 /// The type of a choice.
 #[cycle(walk)]
 fn walk_if(
@@ -256,7 +234,7 @@ fn walk_if(
 ) -> Result<Ty, ExprFault>
     ensures { Gives result (type_walk (map type_of params.now) (type_of input.now) (if_expr c.now a.now b.now)) }
 {
-    walk_bool(alloc, params, input, c)?;
+    walk_wanted(alloc, params, input, c.get(), &Ty::Bool)?;
     walk_branches(alloc, params, input, a, b)
 }
 
@@ -421,9 +399,8 @@ fn walk_element(
 ) -> Result<Ty, ExprFault>
     ensures { Gives result (expect_then (type_walk (map type_of params.now) (type_of input.now) i.now) int_ty (expect_then (type_walk (map type_of params.now) (type_of input.now) d.now) (type_of element.now) (within_limits (type_of element.now)))) }
 {
-    walk_int(alloc, params, input, i)?;
-    walk_wanted(alloc, params, input, d.get(), element)?;
-    limited_copy(alloc, element)
+    walk_wanted(alloc, params, input, i.get(), &Ty::Int)?;
+    walk_one(alloc, params, input, d, element, element)
 }
 
 /// The type of a length.
@@ -445,7 +422,7 @@ fn walk_child(
     input: &Ty,
     part: &ExprChild,
 ) -> Result<TyChild, ExprFault>
-    ensures { MatchResult result (λ t. type_walk (map type_of params.now) (type_of input.now) part.now ≡ Ok t) (λ f. f ≢ F.Memory → type_walk (map type_of params.now) (type_of input.now) part.now ≡ Err f) }
+    ensures { GivesUnless F.Memory (λ t. t) result (type_walk (map type_of params.now) (type_of input.now) part.now) }
 {
     let found = walk(alloc, params, input, part.get())?;
     let child = TyChild::new(alloc, found)?;
@@ -467,22 +444,6 @@ fn walk_wanted(
     let tested = matching(&found, ty);
     drop(found);
     tested
-}
-
-/// Tests that a part is a number.
-#[cycle(walk)]
-fn walk_int(alloc: Global, params: &[Ty], input: &Ty, part: &ExprChild) -> Result<(), ExprFault>
-    ensures { Passes result (expect (type_walk (map type_of params.now) (type_of input.now) part.now) int_ty) int_ty }
-{
-    walk_wanted(alloc, params, input, part.get(), &Ty::Int)
-}
-
-/// Tests that a part is a truth.
-#[cycle(walk)]
-fn walk_bool(alloc: Global, params: &[Ty], input: &Ty, part: &ExprChild) -> Result<(), ExprFault>
-    ensures { Passes result (expect (type_walk (map type_of params.now) (type_of input.now) part.now) bool_ty) bool_ty }
-{
-    walk_wanted(alloc, params, input, part.get(), &Ty::Bool)
 }
 
 /// The type of a list of elements that are wanted to be of one type.
@@ -606,23 +567,16 @@ fn param_type(alloc: Global, params: &[Ty], k: u32) -> Result<Ty, ExprFault>
     }
 }
 
-/// The type of a pair's first part, where it is within the limits.
-fn first_type(alloc: Global, pair: &Ty) -> Result<Ty, ExprFault>
-    ensures { Gives result (on_ok (first_type (type_of pair.now)) within_limits) }
+/// The type of a pair's first or second part, as the form says, where it is within the limits.
+fn part_type(alloc: Global, form: &Expr, pair: &Ty) -> Result<Ty, ExprFault>
+    ensures { Gives result (on_ok (part_type (expression_of form.now) (type_of pair.now)) within_limits) }
 {
-    match pair {
-        Ty::Pair(first, _) => limited_copy(alloc, first.get()),
-        _ => Err(ExprFault::Mismatch),
-    }
-}
-
-/// The type of a pair's second part, where it is within the limits.
-fn second_type(alloc: Global, pair: &Ty) -> Result<Ty, ExprFault>
-    ensures { Gives result (on_ok (second_type (type_of pair.now)) within_limits) }
-{
-    match pair {
-        Ty::Pair(_, second) => limited_copy(alloc, second.get()),
-        _ => Err(ExprFault::Mismatch),
+    let Ty::Pair(first, second) = pair else {
+        return Err(ExprFault::Mismatch);
+    };
+    match form {
+        Expr::Fst(_) => limited_copy(alloc, first.get()),
+        _ => limited_copy(alloc, second.get()),
     }
 }
 

@@ -4,9 +4,11 @@ use Rattle.sample_core.specs.Number.{is_number_word}
 use Rattle.leaf_expr.specs.Token.{opening, closing, word, PlacedToken}
 use Rattle.leaf_expr.specs.Sexpr.{Sexprs, form, last, more, SpellAll, form_spells, last_spells, more_spells}
 use Rattle.leaf_expr.specs.Language.{Language, Places, Maker, Row, no_place, place, places, make_tree}
-use Rattle.leaf_expr.specs.TreeReader.{Fault, syntax, number, unfit_token}
+use Rattle.leaf_expr.specs.TreeReader.{unfit_token}
 use Rattle.leaf_expr.specs.ReadLaws.{Completes, Whole, LeadsIn, at_tree, at_word, in_form, at_end, in_part, behind, in_item, behind_item, fault_at, Misfit}
 use Rattle.leaf_expr.proofs.Proper.{Proper}
+use Rattle.leaf_expr.specs.declared.text_fault.ExprTextFault.{ExprTextFault}
+use Rattle.leaf_expr.specs.declared.text_fault.ExprTextFault.TheVariants.{Syntax, Number}
 
 module _ (L : Language) where
   -- as `Completes`, of the parts of a form
@@ -18,7 +20,7 @@ module _ (L : Language) where
     pub means : make_tree L s qs make parts ≡ Some tree
 
   -- as `Misfit`, of the parts of a form
-  pub record MisfitIn (room : ℕ) (qs : Places L.Sort) (before : List PlacedToken) (x : PlacedToken) (e : Fault) : Type 0 where
+  pub record MisfitIn (room : ℕ) (qs : Places L.Sort) (before : List PlacedToken) (x : PlacedToken) (e : ExprTextFault) : Type 0 where
     pub next : Option L.Sort
     pub opened : ℕ
     pub left : ℕ
@@ -42,19 +44,19 @@ module _ (L : Language) where
   pub completes_form : (s : L.Sort) (n m : ℕ) (w : List ℕ) (r : Row L.Sort L.Tree (L.Tree s)) (us : List PlacedToken) → L.row_at s w ≡ Some r → CompletesAll s r.takes r.makes us → Completes L s ((n, opening) ∷ (m, word w) ∷ us)
   completes_form s n m w r us a d = record { end = d.end ++ (0, closing) ∷ []; stop = 1; part = form w d.parts; tree = d.tree; spells = λ ts. form_spells {k = 0} (rw append_assoc (d.spell ((0, closing) ∷ ts))); means = rw a d.means }
 
-  pub misfit_form : (room : ℕ) (s : L.Sort) (n m : ℕ) (w : List ℕ) (r : Row L.Sort L.Tree (L.Tree s)) (us : List PlacedToken) (x : PlacedToken) (e : Fault) → L.has_form s ≡ true → L.row_at s w ≡ Some r → MisfitIn room r.takes us x e → Misfit L (suc room) s ((n, opening) ∷ (m, word w) ∷ us) x e
+  pub misfit_form : (room : ℕ) (s : L.Sort) (n m : ℕ) (w : List ℕ) (r : Row L.Sort L.Tree (L.Tree s)) (us : List PlacedToken) (x : PlacedToken) (e : ExprTextFault) → L.has_form s ≡ true → L.row_at s w ≡ Some r → MisfitIn room r.takes us x e → Misfit L (suc room) s ((n, opening) ∷ (m, word w) ∷ us) x e
   misfit_form room s n m w r us x e f a i = record { next = i.next; opened = suc i.opened; left = i.left; counts = let c : i.opened + i.left ≡ room = i.counts in omega arith; leads = in_form f a i.leads; called = i.called }
 
-  pub misfit_part : (room : ℕ) (q : L.Sort) (qs : Places L.Sort) (us : List PlacedToken) (x : PlacedToken) (e : Fault) → Misfit L room q us x e → MisfitIn room (place q qs) us x e
+  pub misfit_part : (room : ℕ) (q : L.Sort) (qs : Places L.Sort) (us : List PlacedToken) (x : PlacedToken) (e : ExprTextFault) → Misfit L room q us x e → MisfitIn room (place q qs) us x e
   misfit_part room q qs us x e i = record { next = i.next; opened = i.opened; left = i.left; counts = i.counts; leads = in_part i.leads; called = i.called }
 
-  pub misfit_item : (room : ℕ) (q : L.Sort) (us : List PlacedToken) (x : PlacedToken) (e : Fault) → Misfit L room q us x e → MisfitIn room (places q) us x e
+  pub misfit_item : (room : ℕ) (q : L.Sort) (us : List PlacedToken) (x : PlacedToken) (e : ExprTextFault) → Misfit L room q us x e → MisfitIn room (places q) us x e
   misfit_item room q us x e i = record { next = i.next; opened = i.opened; left = i.left; counts = i.counts; leads = in_item i.leads; called = i.called }
 
-  pub misfit_behind : (room : ℕ) (q : L.Sort) (qs : Places L.Sort) (t : L.Tree q) (front us : List PlacedToken) (x : PlacedToken) (e : Fault) → Whole L q t front → MisfitIn room qs us x e → MisfitIn room (place q qs) (front ++ us) x e
+  pub misfit_behind : (room : ℕ) (q : L.Sort) (qs : Places L.Sort) (t : L.Tree q) (front us : List PlacedToken) (x : PlacedToken) (e : ExprTextFault) → Whole L q t front → MisfitIn room qs us x e → MisfitIn room (place q qs) (front ++ us) x e
   misfit_behind room q qs t front us x e p i = record { next = i.next; opened = i.opened; left = i.left; counts = i.counts; leads = behind p i.leads; called = i.called }
 
-  pub misfit_behind_item : (room : ℕ) (q : L.Sort) (t : L.Tree q) (front us : List PlacedToken) (x : PlacedToken) (e : Fault) → Whole L q t front → MisfitIn room (places q) us x e → MisfitIn room (places q) (front ++ us) x e
+  pub misfit_behind_item : (room : ℕ) (q : L.Sort) (t : L.Tree q) (front us : List PlacedToken) (x : PlacedToken) (e : ExprTextFault) → Whole L q t front → MisfitIn room (places q) us x e → MisfitIn room (places q) (front ++ us) x e
   misfit_behind_item room q t front us x e p i = record { next = i.next; opened = i.opened; left = i.left; counts = i.counts; leads = behind_item p i.leads; called = i.called }
 
   -- what the reader calls a token that fits nowhere
@@ -66,13 +68,13 @@ module _ (L : Language) where
   unfit_called (suc room) (n, closing) = refl
   unfit_called (suc room) (n, word w) = refl
 
-  closing_called : (room n : ℕ) (q : Option L.Sort) → syntax n ≡ fault_at L room (n, closing) q
+  closing_called : (room n : ℕ) (q : Option L.Sort) → Syntax n ≡ fault_at L room (n, closing) q
   closing_called zero n q = refl
   closing_called (suc room) n q = refl
 
-  word_called : (room n : ℕ) (w : List ℕ) (q : L.Sort) (b : Bool) → (L.takes_number q && is_number_word w) ≡ b → (if b then number n else syntax n) ≡ fault_at L room (n, word w) (Some q)
-  word_called zero n w q b e = ap (λ c. if c then number n else syntax n) (sym e)
-  word_called (suc room) n w q b e = ap (λ c. if c then number n else syntax n) (sym e)
+  word_called : (room n : ℕ) (w : List ℕ) (q : L.Sort) (b : Bool) → (L.takes_number q && is_number_word w) ≡ b → (if b then Number n else Syntax n) ≡ fault_at L room (n, word w) (Some q)
+  word_called zero n w q b e = ap (λ c. if c then Number n else Syntax n) (sym e)
+  word_called (suc room) n w q b e = ap (λ c. if c then Number n else Syntax n) (sym e)
 
   pub misfit_end : (room : ℕ) (x : PlacedToken) → MisfitIn room no_place [] x (unfit_token room x)
   misfit_end room x = record { next = None; opened = 0; left = room; counts = omega arith; leads = at_end; called = unfit_called room x }
@@ -81,23 +83,23 @@ module _ (L : Language) where
   pub misfit_head : (room : ℕ) (s : L.Sort) (k : ℕ) (x : PlacedToken) → L.has_form s ≡ true → Misfit L (suc room) s ((k, opening) ∷ []) x (unfit_token room x)
   misfit_head room s k x f = record { next = None; opened = 1; left = room; counts = omega arith; leads = at_word f; called = unfit_called room x }
 
-  pub unfit_word : (room m : ℕ) (w : List ℕ) → unfit_token room (m, word w) ≡ syntax m
+  pub unfit_word : (room m : ℕ) (w : List ℕ) → unfit_token room (m, word w) ≡ Syntax m
   unfit_word zero m w = refl
   unfit_word (suc room) m w = refl
 
-  at_place : (room : ℕ) (s : L.Sort) (x : PlacedToken) (e : Fault) → e ≡ fault_at L room x (Some s) → Misfit L room s [] x e
+  at_place : (room : ℕ) (s : L.Sort) (x : PlacedToken) (e : ExprTextFault) → e ≡ fault_at L room x (Some s) → Misfit L room s [] x e
   at_place room s x e c = record { next = Some s; opened = 0; left = room; counts = omega arith; leads = at_tree; called = c }
 
-  pub misfit_word : (room : ℕ) (s : L.Sort) (n : ℕ) (w : List ℕ) (b : Bool) → (L.takes_number s && is_number_word w) ≡ b → Misfit L room s [] (n, word w) (if b then number n else syntax n)
+  pub misfit_word : (room : ℕ) (s : L.Sort) (n : ℕ) (w : List ℕ) (b : Bool) → (L.takes_number s && is_number_word w) ≡ b → Misfit L room s [] (n, word w) (if b then Number n else Syntax n)
   misfit_word room s n w b e = at_place room s (n, word w) _ (word_called room n w s b e)
 
-  pub misfit_closing : (room : ℕ) (s : L.Sort) (n : ℕ) → Misfit L room s [] (n, closing) (syntax n)
+  pub misfit_closing : (room : ℕ) (s : L.Sort) (n : ℕ) → Misfit L room s [] (n, closing) (Syntax n)
   misfit_closing room s n = at_place room s (n, closing) _ (closing_called room n (Some s))
 
   pub misfit_deep : (s : L.Sort) (n : ℕ) → Misfit L 0 s [] (n, opening) (unfit_token 0 (n, opening))
   misfit_deep s n = at_place 0 s (n, opening) _ refl
 
-  pub misfit_form_here : (room : ℕ) (s : L.Sort) (n : ℕ) → Misfit L (suc room) s [] (n, opening) (syntax n)
+  pub misfit_form_here : (room : ℕ) (s : L.Sort) (n : ℕ) → Misfit L (suc room) s [] (n, opening) (Syntax n)
   misfit_form_here room s n = at_place (suc room) s (n, opening) _ refl
 
   module _ (proper : Proper L) where

@@ -6,12 +6,12 @@ use Rattle.leaf_expr.specs.Token.{opening, closing, word, PlacedToken}
 use Rattle.leaf_core.specs.Expression.{Expression, list_expr, expressions_of}
 use Rattle.leaf_expr.specs.Language.{place, places}
 use Rattle.leaf_expr.specs.Grammar.{leaf, type_sort, expression_sort}
-use Rattle.leaf_expr.specs.TreeReader.{Fault, syntax, number, too_deep, Read, ◌>>=◌, read, read_all, read_parts}
-use Rattle.leaf_expr.specs.ReadText.{Refuses, begins_closing}
+use Rattle.leaf_expr.specs.TreeReader.{Read, read, read_all, read_parts}
+use Rattle.leaf_expr.specs.ReadText.{begins_closing}
 use Rattle.leaf_expr.specs.declared.text_fault.ExprTextFault.{ExprTextFault}
-use Rattle.leaf_expr.specs.declared.text_fault.ExprTextFault.TheVariants as V
-use Rattle.leaf_expr.proofs.ReadSteps.{with, with_bind, passed}
+use Rattle.leaf_expr.proofs.ReadSteps.{Refuses, with, with_bind, passed}
 use Rattle.leaf_expr.proofs.ReadCounts.{read_all_count, read_shortens}
+use Rattle.sample_core.specs.Answer.{◌>>=◌}
 
 -- what was read, behind what was read before
 abbrev pub with_front : List Expression → Read (List Expression) → Read (List Expression)
@@ -58,7 +58,7 @@ module _ (size room : ℕ) where
       let l : length us < length ts = short ts (x, n, us) e in
       items_on ts b ∙ rw e (longer (length ts) (λ xs. x ∷ xs) us (omega arith) ∙ with_all size (read leaf size room expression_sort) (λ xs. x ∷ xs) (length us) (λ xs. xs) us)
 
-  pub refused : (ts : List PlacedToken) (f : Fault) → begins_closing ts ≡ false → reader ts ≡ Err f → items ts ≡ Err f
+  pub refused : (ts : List PlacedToken) (f : ExprTextFault) → begins_closing ts ≡ false → reader ts ≡ Err f → items ts ≡ Err f
   refused ts f b e = items_on ts b ∙ rw e refl
 
 pub front_twice : (xs ys : List Expression) (r : Read (List Expression)) → with_front xs (with_front ys r) ≡ with_front (xs ++ ys) r
@@ -83,25 +83,17 @@ pub more : (size room n : ℕ) (front new : List Expression) (x : Expression) (t
 more size room n front new x ts us all e b r f = ap (λ es. with_front es (items size room us)) f ∙ sym (front_twice front (x ∷ []) (items size room us)) ∙ ap (with_front front) (sym (one_more size room ts us x n b r)) ∙ e
 
 pub gone : (size room : ℕ) (front : List Expression) (f : ExprTextFault) (ts : List PlacedToken) (all : Read (List Expression)) → with_front front (items size room ts) ≡ all → begins_closing ts ≡ false → Refuses f (read leaf size room expression_sort ts) → Refuses f all
-gone size room front (V.Syntax n) ts all e b r = sym e ∙ ap (with_front front) (refused size room ts (syntax n) b r)
-gone size room front (V.Number n) ts all e b r = sym e ∙ ap (with_front front) (refused size room ts (number n) b r)
-gone size room front (V.TooDeep n) ts all e b r = sym e ∙ ap (with_front front) (refused size room ts (too_deep n) b r)
-gone size room front V.TooLong ts all e b r = r
-gone size room front V.Memory ts all e b r = tt
+gone size room front f ts all e b r = λ m. sym e ∙ ap (with_front front) (refused size room ts f b (r m))
 
 -- a list expression by its type and its elements
 pub list_parts : {T : TypeTree} {es : List Expression} {n j : ℕ} {us ws : List PlacedToken} (size room : ℕ) (ts : List PlacedToken) → read leaf size room type_sort ts ≡ Ok (T, n, us) → read_all leaf size (read leaf size room expression_sort) (length us) (λ xs. xs) us ≡ Ok (es, j, ws) → read_parts leaf size (read leaf size room) room (place type_sort (places expression_sort)) (λ A xs. list_expr A (expressions_of xs)) ts ≡ Ok (list_expr T (expressions_of es), j, ws)
 list_parts {T = T} {us = us} size room ts p q = rw p (with_all size (read leaf size room expression_sort) (λ xs. list_expr T (expressions_of xs)) (length us) (λ xs. xs) us ∙ rw q refl)
 
-pub list_refused : {T : TypeTree} {n : ℕ} {us : List PlacedToken} (size room : ℕ) (f : Fault) (ts : List PlacedToken) → read leaf size room type_sort ts ≡ Ok (T, n, us) → read_all leaf size (read leaf size room expression_sort) (length us) (λ xs. xs) us ≡ Err f → read_parts leaf size (read leaf size room) room (place type_sort (places expression_sort)) (λ A xs. list_expr A (expressions_of xs)) ts ≡ Err f
+pub list_refused : {T : TypeTree} {n : ℕ} {us : List PlacedToken} (size room : ℕ) (f : ExprTextFault) (ts : List PlacedToken) → read leaf size room type_sort ts ≡ Ok (T, n, us) → read_all leaf size (read leaf size room expression_sort) (length us) (λ xs. xs) us ≡ Err f → read_parts leaf size (read leaf size room) room (place type_sort (places expression_sort)) (λ A xs. list_expr A (expressions_of xs)) ts ≡ Err f
 list_refused {T = T} {us = us} size room f ts p q = rw p (with_all size (read leaf size room expression_sort) (λ xs. list_expr T (expressions_of xs)) (length us) (λ xs. xs) us ∙ rw q refl)
 
 pub list_refuses : {T : TypeTree} {n : ℕ} {us : List PlacedToken} (size room : ℕ) (f : ExprTextFault) (ts : List PlacedToken) → read leaf size room type_sort ts ≡ Ok (T, n, us) → Refuses f (read_all leaf size (read leaf size room expression_sort) (length us) (λ xs. xs) us) → Refuses f (read_parts leaf size (read leaf size room) room (place type_sort (places expression_sort)) (λ A xs. list_expr A (expressions_of xs)) ts)
-list_refuses size room (V.Syntax n) ts p q = list_refused size room (syntax n) ts p q
-list_refuses size room (V.Number n) ts p q = list_refused size room (number n) ts p q
-list_refuses size room (V.TooDeep n) ts p q = list_refused size room (too_deep n) ts p q
-list_refuses size room V.TooLong ts p q = q
-list_refuses size room V.Memory ts p q = tt
+list_refuses size room f ts p q = λ m. list_refused size room f ts p (q m)
 
 pub no_list_type : (size room : ℕ) (f : ExprTextFault) (ts : List PlacedToken) → Refuses f (read leaf size room type_sort ts) → Refuses f (read_parts leaf size (read leaf size room) room (place type_sort (places expression_sort)) (λ A xs. list_expr A (expressions_of xs)) ts)
 no_list_type size room f ts p = passed f (read leaf size room type_sort ts) _ p

@@ -1,13 +1,10 @@
 -- What is printed part by part is the printed form.
-use Rattle.std.proofs.Common.{◌≡◌, ℕ, zero, suc, ◌<◌, List, [], ◌∷◌, ◌++◌, length, get_or, map, refl, sym, ap, ◌∙◌, subst, append_assoc, arith, Result, Ok, Err}
+use Rattle.std.proofs.Common.{◌≡◌, ℕ, List, [], ◌∷◌, ◌++◌, refl, sym, ap, ◌∙◌, subst, append_assoc, Result, Ok, Err}
 use Rattle.std.proofs.lemmas.List.{append-nil}
 use Rattle.std.specs.Prelude.{codes}
 use Rattle.sample_core.specs.TypeTree.{TypeTree, unit_ty, bool_ty, int_ty, pair_ty, event_ty, list_ty}
 use Rattle.sample_core.specs.Spelling.{type_spelling}
-use Rattle.leaf_core.specs.Expression.{expression_size, expressions_size, expressions_of}
-use Rattle.leaf_core.specs.ExpressionView.{expression_of}
-use Rattle.leaf_core.specs.declared.expr.Expr.{Expr}
-use Rattle.sample_core.specs.Adding.{Extends, Adds}
+use Rattle.sample_core.specs.Adding.{Adds}
 use Rattle.sample_core.proofs.Adding.{extends_added}
 use Rattle.leaf_expr.specs.Sexpr.{Sexpr, Sexprs, more, spelling, spellings}
 use Rattle.leaf_expr.specs.Printing.{type_sexpr}
@@ -39,14 +36,3 @@ next_behind p ps = sym (append_assoc (32 ∷ spelling p) (spellings ps) (41 ∷ 
 pub adds_next : {T E : Type 0} (r : Result T E) (old mid new : List ℕ) (p : Sexpr) (ps : Sexprs) → mid ≡ old ++ (32 ∷ spelling p) →
     Adds r mid new (spellings ps ++ 41 ∷ []) → Adds r old new (spellings (more p ps) ++ 41 ∷ [])
 adds_next r old mid new p ps e h = subst (Adds r old new) (next_behind p ps) (adds_behind r old mid new (32 ∷ spelling p) (spellings ps ++ 41 ∷ []) e h)
-
--- the text grew, and grew again
-pub extends_twice : (old mid new : List ℕ) → Extends old mid → Extends mid new → Extends old new
-extends_twice old mid new x y = extends_added old mid new x.behind x.joined y
-
--- an element of a list expression is smaller than the elements
-pub element_smaller : (all : List Expr) (i : ℕ) (s : Expr) → i < length all →
-    expression_size (expression_of (get_or all i s)) < expressions_size (expressions_of (map expression_of all))
-element_smaller [] i s h = absurd (omega arith)
-element_smaller (x ∷ xs) zero s h = omega arith
-element_smaller (x ∷ xs) (suc i) s h = omega (arith, element_smaller xs i s (omega arith))

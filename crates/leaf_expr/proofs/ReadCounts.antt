@@ -2,11 +2,13 @@
 use Rattle.std.proofs.Common.{◌≡◌, ℕ, zero, suc, ◌≤◌, ◌<◌, List, [], ◌∷◌, length, refl, arith, Result, Ok, Err}
 use Rattle.leaf_expr.specs.Token.{opening, closing, word, PlacedToken}
 use Rattle.leaf_expr.specs.Language.{Language, Begins}
-use Rattle.leaf_expr.specs.TreeReader.{Fault, Read, ◌>>=◌, read_all, read}
+use Rattle.leaf_expr.specs.TreeReader.{Read, read_all, read}
 use Rattle.leaf_expr.proofs.ReadFound.{found}
 use Rattle.leaf_expr.proofs.ReadOnly.{shorter}
+use Rattle.sample_core.specs.Answer.{◌>>=◌}
+use Rattle.leaf_expr.specs.declared.text_fault.ExprTextFault.{ExprTextFault}
 
-same_bind : {A B : Type 0} (r : Result A Fault) (g h : A → Result B Fault) → ((x : A) → r ≡ Ok x → g x ≡ h x) → (r >>= g) ≡ (r >>= h)
+same_bind : {A B : Type 0} (r : Result A ExprTextFault) (g h : A → Result B ExprTextFault) → ((x : A) → r ≡ Ok x → g x ≡ h x) → (r >>= g) ≡ (r >>= h)
 same_bind (Ok x) g h e = e x refl
 same_bind (Err f) g h e = refl
 

@@ -4,12 +4,15 @@ use Rattle.leaf_expr.specs.WordReading.{WordReading, reads, misspelt, unfit}
 use Rattle.leaf_expr.specs.Token.{opening, closing, word, PlacedToken}
 use Rattle.leaf_expr.specs.Sexpr.{Sexprs, atom, form, last, more, Spells, SpellAll, atom_spells, form_spells, last_spells, more_spells, depth, depths}
 use Rattle.leaf_expr.specs.Language.{Language, Begins, Places, Maker, Row, no_place, place, places, make_tree, read_word}
-use Rattle.leaf_expr.specs.TreeReader.{Fault, Read, syntax, ◌>>=◌, word_read, close, read_all, read_parts, read_row, read_form, read}
+use Rattle.leaf_expr.specs.TreeReader.{Read, word_read, close, read_all, read_parts, read_row, read_form, read}
+use Rattle.sample_core.specs.Answer.{◌>>=◌}
+use Rattle.leaf_expr.specs.declared.text_fault.ExprTextFault.{ExprTextFault}
+use Rattle.leaf_expr.specs.declared.text_fault.ExprTextFault.TheVariants.{Syntax}
 
-pub ok_is : {A : Type 0} {x y : A} → ◌≡◌ {A = Result A Fault} (Ok x) (Ok y) → x ≡ y
+pub ok_is : {A : Type 0} {x y : A} → ◌≡◌ {A = Result A ExprTextFault} (Ok x) (Ok y) → x ≡ y
 ok_is e = cc
 
-pub bind_ok : {A B : Type 0} (r : Result A Fault) (g : A → Result B Fault) (y : B) → (r >>= g) ≡ Ok y → (x : A) × (r ≡ Ok x) × (g x ≡ Ok y)
+pub bind_ok : {A B : Type 0} (r : Result A ExprTextFault) (g : A → Result B ExprTextFault) (y : B) → (r >>= g) ≡ Ok y → (x : A) × (r ≡ Ok x) × (g x ≡ Ok y)
 bind_ok (Ok x) g y e = (x, refl, e)
 bind_ok (Err f) g y e = absurd (cc)
 
@@ -69,7 +72,7 @@ module _ (L : Language) where
     found_form s n ((m, opening) ∷ ts) y e = absurd (cc)
     found_form s n ((m, closing) ∷ ts) y e = absurd (cc)
 
-    found_opened : (s : L.Sort) (b : Bool) (n : ℕ) (ts : List PlacedToken) (y : L.Tree s × ℕ × List PlacedToken) → (if b then read_form L size reader room s ts else Err (syntax n)) ≡ Ok y → Found (suc room) s y ((n, opening) ∷ ts)
+    found_opened : (s : L.Sort) (b : Bool) (n : ℕ) (ts : List PlacedToken) (y : L.Tree s × ℕ × List PlacedToken) → (if b then read_form L size reader room s ts else Err (Syntax n)) ≡ Ok y → Found (suc room) s y ((n, opening) ∷ ts)
     found_opened s true n ts y e = found_form s n ts y e
     found_opened s false n ts y e = absurd (cc)
 

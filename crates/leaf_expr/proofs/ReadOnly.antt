@@ -5,8 +5,10 @@ use Rattle.leaf_expr.specs.WordReading.{WordReading, reads, misspelt, unfit}
 use Rattle.leaf_expr.specs.Token.{closing, word, PlacedToken}
 use Rattle.leaf_expr.specs.Sexpr.{Sexpr, Sexprs, form, Spells, SpellAll, atom_spells, form_spells, last_spells, more_spells, depth, depths}
 use Rattle.leaf_expr.specs.Language.{Language, Places, Maker, Row, no_place, place, places, meaning, make_tree, read_word}
-use Rattle.leaf_expr.specs.TreeReader.{syntax, Read, ◌>>=◌, word_read, read_all, read_parts, read_row, read_form, read}
+use Rattle.leaf_expr.specs.TreeReader.{Read, word_read, read_all, read_parts, read_row, read_form, read}
 use Rattle.leaf_expr.proofs.Proper.{Proper}
+use Rattle.sample_core.specs.Answer.{◌>>=◌}
+use Rattle.leaf_expr.specs.declared.text_fault.ExprTextFault.TheVariants.{Syntax}
 
 mutual
   pub shorter : (p : Sexpr) (ts : List PlacedToken) (n : ℕ) (rest : List PlacedToken) → Spells p ts n rest → length rest < length ts
@@ -53,7 +55,7 @@ module _ (L : Language) where
       only_row s m k ps ts rest t (Some r) a e d = only_parts s k r.takes r.makes ps ts rest t a e d
 
       -- a sort without forms has no row
-      only_opened : (s : L.Sort) (b : Bool) (n m k : ℕ) (w : List ℕ) (ps : Sexprs) (ts rest : List PlacedToken) (t : L.Tree s) → L.has_form s ≡ b → SpellAll ps ts ((k, closing) ∷ rest) → meaning L s (form w ps) ≡ Some t → depths ps ≤ room → (if b then read_form L size reader room s ((m, word w) ∷ ts) else Err (syntax n)) ≡ Ok (t, suc k, rest)
+      only_opened : (s : L.Sort) (b : Bool) (n m k : ℕ) (w : List ℕ) (ps : Sexprs) (ts rest : List PlacedToken) (t : L.Tree s) → L.has_form s ≡ b → SpellAll ps ts ((k, closing) ∷ rest) → meaning L s (form w ps) ≡ Some t → depths ps ≤ room → (if b then read_form L size reader room s ((m, word w) ∷ ts) else Err (Syntax n)) ≡ Ok (t, suc k, rest)
       only_opened s true n m k w ps ts rest t f a e d = only_row s m k ps ts rest t (L.row_at s w) a e d
       only_opened s false n m k w ps ts rest t f a e d =
           absurd (go (L.row_at s w) (proper.formless s w f) e)

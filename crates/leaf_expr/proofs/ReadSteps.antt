@@ -6,44 +6,40 @@ use Rattle.sample_core.specs.TypeTree.{TypeTree}
 use Rattle.leaf_core.specs.Expression.{Expression, no_event_expr}
 use Rattle.leaf_expr.specs.Language.{Places, Maker, Row, no_place, place}
 use Rattle.leaf_expr.specs.Grammar.{leaf, Sort, Tree, type_sort, expression_sort, row_at, e}
-use Rattle.leaf_expr.specs.TreeReader.{Fault, syntax, number, too_deep, Read, unfit_token, ◌>>=◌, read, read_form, read_head, read_row, read_parts, read_end}
-use Rattle.leaf_expr.specs.ReadText.{Refuses, Gives}
+use Rattle.leaf_expr.specs.TreeReader.{Read, unfit_token, read, read_form, read_head, read_row, read_parts, read_end}
+use Rattle.leaf_expr.specs.ReadText.{Gives}
 use Rattle.leaf_expr.specs.declared.text_fault.ExprTextFault.{ExprTextFault}
-use Rattle.leaf_expr.specs.declared.text_fault.ExprTextFault.TheVariants as V
+use Rattle.sample_core.specs.Answer.{◌>>=◌}
+use Rattle.leaf_expr.specs.declared.text_fault.ExprTextFault.TheVariants.{Syntax, Memory}
 
-pub unfit_open : (room n : ℕ) → room ≢ 0 → unfit_token room (n, opening) ≡ syntax n
+pub unfit_open : (room n : ℕ) → room ≢ 0 → unfit_token room (n, opening) ≡ Syntax n
 unfit_open zero n h = absurd (h refl)
 unfit_open (suc room) n h = refl
 
 pub closed : (size room n : ℕ) (ts : List PlacedToken) → read_end leaf size room ((n, closing) ∷ ts) ≡ Ok (n + 1, ts)
 closed size room n ts = let i : suc n ≡ n + 1 = omega arith in ap (λ m. Ok (m, ts)) i
 
-pub ok_same : {A : Type 0} (x y : A) → ◌≡◌ {A = Result A Fault} (Ok x) (Ok y) → x ≡ y
+pub ok_same : {A : Type 0} (x y : A) → ◌≡◌ {A = Result A ExprTextFault} (Ok x) (Ok y) → x ≡ y
 ok_same x y p = cc
 
--- what is read is not refused, other than `Memory`
-pub refused_ok : {A B : Type 0} (x : ExprTextFault) (a : A) (r : Result B Fault) → Refuses x (Ok a) → Refuses x r
-refused_ok (V.Syntax n) a r p = absurd (cc)
-refused_ok (V.Number n) a r p = absurd (cc)
-refused_ok (V.TooDeep n) a r p = absurd (cc)
-refused_ok V.TooLong a r p = p
-refused_ok V.Memory a r p = p
+-- reading is refused by the fault x; `Memory` says nothing of it
+abbrev pub Refuses : {Y : Type 0} → ExprTextFault → Result Y ExprTextFault → Type 0
+Refuses x read = x ≢ Memory → read ≡ Err x
+
+err_same : {A : Type 0} (x y : ExprTextFault) → ◌≡◌ {A = Result A ExprTextFault} (Err x) (Err y) → x ≡ y
+err_same x y p = cc
+
+-- what is read is not refused, other than by `Memory`
+pub refused_ok : {A B : Type 0} (x : ExprTextFault) (a : A) (r : Result B ExprTextFault) → Refuses x (Ok a) → Refuses x r
+refused_ok {A = A} x a r p = λ m. absurd (let q : ◌≡◌ {A = Result A ExprTextFault} (Ok a) (Err x) = p m in cc)
 
 -- a refusal is the same whatever would have been read
-pub refused_same : (A B : Type 0) (x : ExprTextFault) (d : Fault) → Refuses {Y = A} x (Err d) → Refuses {Y = B} x (Err d)
-refused_same A B (V.Syntax n) d p = let i : d ≡ syntax n = cc in ap Err i
-refused_same A B (V.Number n) d p = let i : d ≡ number n = cc in ap Err i
-refused_same A B (V.TooDeep n) d p = let i : d ≡ too_deep n = cc in ap Err i
-refused_same A B V.TooLong d p = p
-refused_same A B V.Memory d p = p
+pub refused_same : (A B : Type 0) (x d : ExprTextFault) → Refuses {Y = A} x (Err d) → Refuses {Y = B} x (Err d)
+refused_same A B x d p = λ m. ap Err (err_same d x (p m))
 
 -- a refusal goes through what would follow
-pub passed : {A B : Type 0} (x : ExprTextFault) (r : Result A Fault) (g : A → Result B Fault) → Refuses x r → Refuses x (r >>= g)
-passed (V.Syntax n) r g p = ap (λ y. y >>= g) p
-passed (V.Number n) r g p = ap (λ y. y >>= g) p
-passed (V.TooDeep n) r g p = ap (λ y. y >>= g) p
-passed V.TooLong r g p = p
-passed V.Memory r g p = p
+pub passed : {A B : Type 0} (x : ExprTextFault) (r : Result A ExprTextFault) (g : A → Result B ExprTextFault) → Refuses x r → Refuses x (r >>= g)
+passed x r g p = λ m. ap (λ y. y >>= g) (p m)
 
 -- a form by its word
 pub named : {n : ℕ} {w : List ℕ} {ts : List PlacedToken} (size room m : ℕ) (s : Sort) (us : List PlacedToken) (r : Row Sort Tree (Tree s)) →
@@ -54,7 +50,7 @@ named {n = n} {ts = ts} size room m s us r e f =
     (λ o. read_row leaf size (read leaf size m) room n o ts) (sym f)
 
 pub unnamed : {n : ℕ} {w : List ℕ} {ts : List PlacedToken} (size room m : ℕ) (s : Sort) (us : List PlacedToken) → read_head leaf size room us ≡ Ok (n, w, ts) →
-    None ≡ row_at s w → read_form leaf size (read leaf size m) room s us ≡ Err (syntax n)
+    None ≡ row_at s w → read_form leaf size (read leaf size m) room s us ≡ Err (Syntax n)
 unnamed {n = n} {ts = ts} size room m s us e f =
     ap (λ h. h >>= (λ h. read_row leaf size (read leaf size m) room h.0 (row_at s h.1) h.2)) e ∙ ap
     (λ o. read_row leaf size (read leaf size m) room n o ts) (sym f)
@@ -68,26 +64,26 @@ headless x size room m s us p = passed x (read_head leaf size room us) _ p
 abbrev pub with : {T R : Type 0} → (T → R) → Read T → Read R
 with f r = r >>= (λ y. Ok (f y.0, y.1, y.2))
 
-pub with_bind : {A T R : Type 0} (f : T → R) (r : Result A Fault) (g : A → Read T) (h : A → Read R) → ((x : A) → h x ≡ with f (g x)) →
+pub with_bind : {A T R : Type 0} (f : T → R) (r : Result A ExprTextFault) (g : A → Read T) (h : A → Read R) → ((x : A) → h x ≡ with f (g x)) →
     (r >>= h) ≡ with f (r >>= g)
 with_bind f (Ok x) g h e = e x
 with_bind f (Err d) g h e = refl
 
 -- a refusal of what something was made into is one of it
-pub with_refused : {A T R : Type 0} (x : ExprTextFault) (f : T → R) (r : Read T) (g : T × ℕ × List PlacedToken → Result A Fault) → Refuses x (with f r) →
+pub with_refused : {A T R : Type 0} (x : ExprTextFault) (f : T → R) (r : Read T) (g : T × ℕ × List PlacedToken → Result A ExprTextFault) → Refuses x (with f r) →
     Refuses x (r >>= g)
 with_refused x f (Ok y) g p = refused_ok x _ _ p
 with_refused x f (Err d) g p = refused_same _ _ x d p
 
 -- what a `?` returns of a refusal
-pub told : {X Y : Type 0} (view : X → Y) (r : Result X ExprTextFault) (x : ExprTextFault) (read : Result Y Fault) → IsErrAnd r (λ y. y ≡ x) →
+pub told : {X Y : Type 0} (view : X → Y) (r : Result X ExprTextFault) (x : ExprTextFault) (read : Result Y ExprTextFault) → IsErrAnd r (λ y. y ≡ x) →
     Refuses x read → Gives view r read
 told view (Ok y) x read p q = absurd p
 told view (Err y) x read p q = subst (λ z. Refuses z read) (sym p) q
 
 -- what a `?` returns where memory ran out
-pub told_memory : {X Y : Type 0} (view : X → Y) (r : Result X ExprTextFault) (read : Result Y Fault) → IsErrAnd r (λ y. y ≡ V.Memory) → Gives view r read
-told_memory view r read p = told view r V.Memory read p tt
+pub told_memory : {X Y : Type 0} (view : X → Y) (r : Result X ExprTextFault) (read : Result Y ExprTextFault) → IsErrAnd r (λ y. y ≡ Memory) → Gives view r read
+told_memory view r read p = told view r Memory read p (λ m. absurd (m refl))
 
 -- the parts of a form one by one, and its end
 module _ (size room : ℕ) where

@@ -1,23 +1,25 @@
 -- Whole texts.
-use Rattle.std.proofs.Common.{arith, ◌≡◌, ℕ, ◌+◌, ◌≤◌, ◌≢◌, Bool, true, false, nat_lt, List, [], ◌∷◌, ◌++◌, length, refl, sym, ap, ◌∙◌, subst, Result, Ok, Err, if◌then◌else◌}
-use Rattle.std.proofs.lemmas.Bool.{ltb-false, le-ltb}
+use Rattle.std.proofs.Common.{arith, ◌≡◌, ℕ, ◌+◌, ◌≤◌, ◌<◌, ◌≢◌, Bool, true, false, nat_lt, List, [], ◌∷◌, ◌++◌, length, refl, sym, ap, ◌∙◌, subst, Result, Ok, Err, if◌then◌else◌}
+use Rattle.std.proofs.lemmas.Bool.{ltb-false, ltb-true, le-ltb}
 use Rattle.std.proofs.lemmas.List.{append-nil}
 use Rattle.sample_core.specs.TypeTree.{TypeTree}
-use Rattle.leaf_expr.specs.Token.{PlacedToken, tokens, tokens_in, begins_word}
+use Rattle.leaf_expr.specs.Token.{opening, closing, word, PlacedToken, tokens, tokens_in, begins_word}
 use Rattle.leaf_expr.specs.Sexpr.{Spells, spelling, depth}
 use Rattle.leaf_expr.specs.Language.{Begins}
 use Rattle.leaf_expr.specs.Grammar.{leaf, Sort, Tree, type_sort, expression_sort}
 use Rattle.leaf_expr.specs.Printing.{expression_sexpr, type_sexpr}
-use Rattle.leaf_expr.specs.TreeReader.{Fault, Read, unfit_token, read}
+use Rattle.leaf_expr.specs.TreeReader.{Read, unfit_token, read}
 use Rattle.leaf_expr.specs.ReadLaws.{Stops, too_short, at_token, Misfit}
-use Rattle.leaf_expr.specs.Text.{TextFault, too_long, at, whole, read_text, PrintedTypeLaw, PrintedTextLaw, IsText, NoText, ends, fails, follows, ReadTextLaw, OneTextLaw, TextFaultLaw, PrintedLaw}
+use Rattle.leaf_expr.specs.Text.{whole, read_text, PrintedTypeLaw, PrintedTextLaw, IsText, NoText, ends, fails, follows, ReadTextLaw, OneTextLaw, TextFaultLaw, PrintedLaw}
 use Rattle.leaf_expr.proofs.ReadFound.{found}
 use Rattle.leaf_expr.proofs.ReadOnly.{only}
-use Rattle.leaf_expr.proofs.ReadFaults.{framed, one_reading, stops}
+use Rattle.leaf_expr.proofs.ReadFaults.{framed, one_reading, stops, stops_not_long, err_is}
 use Rattle.leaf_expr.proofs.TokenLaws.{spells_printed}
 use Rattle.leaf_expr.proofs.PrintedMeans.{expression_means, expression_plain, type_means, type_plain}
 use Rattle.leaf_expr.proofs.LeafProper.{leaf_proper}
 use Rattle.leaf_expr.proofs.Joined.{type_spelled}
+use Rattle.leaf_expr.specs.declared.text_fault.ExprTextFault.{ExprTextFault}
+use Rattle.leaf_expr.specs.declared.text_fault.ExprTextFault.TheVariants.{TooLong}
 
 pub printed_begins : PrintedLaw
 printed_begins e room n bs r d b = record { part = expression_sexpr e; spells = spells_printed (expression_sexpr e) n bs (expression_plain e r) b; means = expression_means e r; within = d }
@@ -34,22 +36,22 @@ printed_type_begins t room n bs d b = subst (PrintedSo t room n bs) (type_spelle
 whole_ok : {T : Type 0} (r : Read T) (t : T) → whole r ≡ Ok t → (n : ℕ) × (r ≡ Ok (t, n, []))
 whole_ok {T = T} (Ok (u, n, [])) t e = (n, ap (λ x. Ok (x, n, [])) (inner e))
   where
-    inner : ◌≡◌ {A = Result T TextFault} (Ok u) (Ok t) → u ≡ t
+    inner : ◌≡◌ {A = Result T ExprTextFault} (Ok u) (Ok t) → u ≡ t
     inner p = cc
 whole_ok (Ok (u, n, x ∷ ts)) t e = absurd (cc)
 whole_ok (Err f) t e = absurd (cc)
 
-short_text : (s : Sort) (bs : List ℕ) (r : Result (Tree s) TextFault) → r ≢ Err too_long → read_text s bs ≡ r → (length bs ≤ 1048576) × (whole (read leaf (length bs) 600 s (tokens bs)) ≡ r)
+short_text : (s : Sort) (bs : List ℕ) (r : Result (Tree s) ExprTextFault) → r ≢ Err TooLong → read_text s bs ≡ r → (length bs ≤ 1048576) × (whole (read leaf (length bs) 600 s (tokens bs)) ≡ r)
 short_text s bs r d e = go (nat_lt 1048576 (length bs)) refl e
   where
-    go : (b : Bool) → nat_lt 1048576 (length bs) ≡ b → (if b then Err too_long else whole (read leaf (length bs) 600 s (tokens bs))) ≡ r → (length bs ≤ 1048576) × (whole (read leaf (length bs) 600 s (tokens bs)) ≡ r)
+    go : (b : Bool) → nat_lt 1048576 (length bs) ≡ b → (if b then Err TooLong else whole (read leaf (length bs) 600 s (tokens bs))) ≡ r → (length bs ≤ 1048576) × (whole (read leaf (length bs) 600 s (tokens bs)) ≡ r)
     go true q e' = absurd (d (sym e'))
     go false q e' = (ltb-false 1048576 (length bs) q, e')
 
 pub text_read : (s : Sort) (bs : List ℕ) (t : Tree s) → IsText s bs t → read_text s bs ≡ Ok t
 text_read s bs t h =
     let b : Begins leaf 600 s t (tokens bs) h.stop [] = h.begins in
-    ap (λ c. if c then Err too_long else whole (read leaf (length bs) 600 s (tokens bs))) (le-ltb 1048576 (length bs) h.short) ∙ ap whole (only leaf leaf_proper (length bs) 600 s b.part (tokens bs) h.stop [] t b.spells b.means b.within)
+    ap (λ c. if c then Err TooLong else whole (read leaf (length bs) 600 s (tokens bs))) (le-ltb 1048576 (length bs) h.short) ∙ ap whole (only leaf leaf_proper (length bs) 600 s b.part (tokens bs) h.stop [] t b.spells b.means b.within)
 
 pub text_found : (s : Sort) (bs : List ℕ) (t : Tree s) → read_text s bs ≡ Ok t → IsText s bs t
 text_found s bs t e =
@@ -63,7 +65,21 @@ read_text_law s bs t = (text_found s bs t, text_read s bs t)
 pub one_text : OneTextLaw
 one_text s bs t u a b = (one_reading leaf leaf_proper 600 600 s t u (tokens bs) a.stop b.stop [] [] a.begins b.begins).0
 
-no_text : (s : Sort) (bs : List ℕ) (e : Fault) (r : Read (Tree s)) → read leaf (length bs) 600 s (tokens bs) ≡ r → whole r ≡ Err (at e) → NoText s bs e
+pub longer : (s : Sort) (text : List ℕ) → read_text s text ≡ Err TooLong → 1048576 < length text
+longer s text h = go (nat_lt 1048576 (length text)) refl h
+  where
+    other : (r : Read (Tree s)) → read leaf (length text) 600 s (tokens text) ≡ r → whole r ≡ Err TooLong → ⊥
+    other (Ok (t, n, [])) p q = cc
+    other (Ok (t, n, (m, opening) ∷ ts)) p q = cc
+    other (Ok (t, n, (m, closing) ∷ ts)) p q = cc
+    other (Ok (t, n, (m, word w) ∷ ts)) p q = cc
+    other (Err f) p q = stops_not_long leaf (length text) 600 s (tokens text) (stops leaf leaf_proper (length text) 600 s (tokens text) TooLong (p ∙ ap Err (err_is q)))
+
+    go : (b : Bool) → nat_lt 1048576 (length text) ≡ b → (if b then Err TooLong else whole (read leaf (length text) 600 s (tokens text))) ≡ Err TooLong → 1048576 < length text
+    go true e h' = ltb-true 1048576 (length text) e
+    go false e h' = absurd (other _ refl h')
+
+no_text : (s : Sort) (bs : List ℕ) (e : ExprTextFault) (r : Read (Tree s)) → read leaf (length bs) 600 s (tokens bs) ≡ r → whole r ≡ Err e → NoText s bs e
 no_text s bs e (Ok (t, n, [])) p q = absurd (cc)
 no_text s bs e (Ok (t, n, x ∷ rest)) p q =
     let b : Begins leaf 600 s t (tokens bs) n (x ∷ rest) = found leaf (length bs) 600 s (tokens bs) (t, n, x ∷ rest) p in
@@ -83,8 +99,8 @@ no_text s bs e (Err f) p q = go (stops leaf leaf_proper (length bs) 600 s (token
     go (at_token before x after a h v m) = fails before x after a (λ us t n c. h us t n [] c) v (subst (λ z. Misfit leaf 600 s before x z) i m)
 
 pub text_fault : TextFaultLaw
-text_fault s bs e p =
-    let i : (length bs ≤ 1048576) × (whole (read leaf (length bs) 600 s (tokens bs)) ≡ Err (at e)) = short_text s bs (Err (at e)) (λ q. cc) p in
+text_fault s bs e d p =
+    let i : (length bs ≤ 1048576) × (whole (read leaf (length bs) 600 s (tokens bs)) ≡ Err e) = short_text s bs (Err e) (λ q. d (err_is q)) p in
     no_text s bs e (read leaf (length bs) 600 s (tokens bs)) refl i.1
 
 pub printed_text : PrintedTextLaw

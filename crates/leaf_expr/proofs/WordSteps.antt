@@ -2,7 +2,7 @@
 use Rattle.std.proofs.Common.{◌≡◌, ℕ, Bool, true, false, List, refl, sym, ◌∙◌}
 use Rattle.sample_core.specs.Number.{is_number, is_number_word, is_well_spelt, is_in_64, number_of}
 use Rattle.leaf_expr.specs.WordReading.{reads, misspelt, unfit, integer_at}
-use Rattle.leaf_expr.proofs.Numbers.{parts_of}
+use Rattle.sample_core.proofs.Numbers.{parts_of}
 
 pub no_number : (w : List ℕ) → is_number_word w ≡ false → unfit ≡ integer_at w
 no_number w e = rw e refl

@@ -4,7 +4,9 @@ use Rattle.sample_core.specs.Number.{is_number_word}
 use Rattle.leaf_expr.specs.Token.{opening, word, PlacedToken}
 use Rattle.leaf_expr.specs.Sexpr.{Sexpr, Spells}
 use Rattle.leaf_expr.specs.Language.{Language, Places, Row, no_place, place, places, Begins, meaning}
-use Rattle.leaf_expr.specs.TreeReader.{Fault, syntax, number, too_deep, read}
+use Rattle.leaf_expr.specs.TreeReader.{read}
+use Rattle.leaf_expr.specs.declared.text_fault.ExprTextFault.{ExprTextFault}
+use Rattle.leaf_expr.specs.declared.text_fault.ExprTextFault.TheVariants.{Syntax, Number, TooDeep}
 
 module _ (L : Language) where
   -- Some tokens behind us make it a tree, whatever follows; it may open more parentheses than there may be.
@@ -40,14 +42,14 @@ module _ (L : Language) where
       behind_item : {p : L.Sort} {t : L.Tree p} {front us : List PlacedToken} {q : Option L.Sort} {d : ℕ} → Whole p t front → LeadsIn (places p) us q d → LeadsIn (places p) (front ++ us) q d
 
   -- What a token that doesn't fit is called, where so many more parentheses may be opened: a parenthesis too
-  -- many, a number word where a number may stand, or a token that is none of these.
-  abbrev pub fault_at : ℕ → PlacedToken → Option L.Sort → Fault
-  fault_at zero (n, opening) q = too_deep n
-  fault_at left (n, word w) (Some q) = if L.takes_number q && is_number_word w then number n else syntax n
-  fault_at left x q = syntax x.0
+  -- many, a Number word where a Number may stand, or a token that is none of these.
+  abbrev pub fault_at : ℕ → PlacedToken → Option L.Sort → ExprTextFault
+  fault_at zero (n, opening) q = TooDeep n
+  fault_at left (n, word w) (Some q) = if L.takes_number q && is_number_word w then Number n else Syntax n
+  fault_at left x q = Syntax x.0
 
   -- The token x behind before is the fault e: by the place that is next, and the parentheses open there.
-  pub record Misfit (room : ℕ) (s : L.Sort) (before : List PlacedToken) (x : PlacedToken) (e : Fault) : Type 0 where
+  pub record Misfit (room : ℕ) (s : L.Sort) (before : List PlacedToken) (x : PlacedToken) (e : ExprTextFault) : Type 0 where
     pub next : Option L.Sort
     pub opened : ℕ
     pub left : ℕ
@@ -57,8 +59,8 @@ module _ (L : Language) where
 
   -- No tree stands at the front of ts: they end too early, or no tokens that go so far as x have one.
   -- What comes before could have gone on to one.
-  pub data Stops (size room : ℕ) (s : L.Sort) (ts : List PlacedToken) (e : Fault) : Type 0 where
-    too_short : e ≡ syntax size → ((t : L.Tree s) (n : ℕ) (rest : List PlacedToken) → Begins L room s t ts n rest → ⊥) → Completes s ts → Stops size room s ts e
+  pub data Stops (size room : ℕ) (s : L.Sort) (ts : List PlacedToken) (e : ExprTextFault) : Type 0 where
+    too_short : e ≡ Syntax size → ((t : L.Tree s) (n : ℕ) (rest : List PlacedToken) → Begins L room s t ts n rest → ⊥) → Completes s ts → Stops size room s ts e
     at_token : (before : List PlacedToken) (x : PlacedToken) (after : List PlacedToken) → ts ≡ before ++ x ∷ after → ((more : List PlacedToken) (t : L.Tree s) (n : ℕ) (rest : List PlacedToken) → Begins L room s t (before ++ x ∷ more) n rest → ⊥) → Completes s before → Misfit room s before x e → Stops size room s ts e
 
   -- a tree that is read stands at the front of the tokens
@@ -75,4 +77,4 @@ module _ (L : Language) where
 
   -- a fault that is answered is the first token that doesn't fit, or the end
   abbrev pub FaultLaw : Type 0
-  FaultLaw = (size room : ℕ) (s : L.Sort) (ts : List PlacedToken) (e : Fault) → read L size room s ts ≡ Err e → Stops size room s ts e
+  FaultLaw = (size room : ℕ) (s : L.Sort) (ts : List PlacedToken) (e : ExprTextFault) → read L size room s ts ≡ Err e → Stops size room s ts e

@@ -1,5 +1,5 @@
 -- What the code's readers answer: what the reader of the grammar does on the tokens from some byte on.
-use Rattle.std.specs.Prelude.{◌≡◌, ◌<◌, ℕ, Bool, true, false, List, [], ◌∷◌, length, slice_range, map, Result, Ok, Err, Option, Some, None}
+use Rattle.std.specs.Prelude.{◌≡◌, ◌≢◌, ◌<◌, ℕ, Bool, true, false, List, [], ◌∷◌, length, slice_range, map, Result, Ok, Err, Option, Some, None}
 use Rattle.sample_core.specs.TypeTree.{TypeTree}
 use Rattle.sample_core.specs.TypeView.{type_of}
 use Rattle.sample_core.specs.declared.ty.Ty.{Ty}
@@ -11,38 +11,17 @@ use Rattle.leaf_expr.specs.WordReading.{WordReading, reads, misspelt, unfit}
 use Rattle.leaf_expr.specs.declared.word.WordFault.{WordFault}
 use Rattle.leaf_expr.specs.declared.word.WordFault.TheVariants as W
 use Rattle.leaf_expr.specs.Grammar.{leaf, Tree, Sort, type_sort, expression_sort, e, word_at}
-use Rattle.leaf_expr.specs.TreeReader.{Fault, syntax, number, too_deep, Read, ◌>>=◌, word_read, read, read_form, read_parts, read_all}
+use Rattle.leaf_expr.specs.TreeReader.{Read, word_read, read, read_form, read_parts, read_all}
 use Rattle.leaf_expr.specs.Language.{Row, no_place, place}
 use Rattle.leaf_expr.specs.ReadLaws.{Stops}
-use Rattle.leaf_expr.specs.Text.{TextFault, too_long, at, NoText}
+use Rattle.leaf_expr.specs.Text.{NoText}
 use Rattle.leaf_expr.specs.declared.text_fault.ExprTextFault.{ExprTextFault}
-use Rattle.leaf_expr.specs.declared.text_fault.ExprTextFault.TheVariants as V
-
--- a fault that reading has; `Memory` says nothing of the text
-abbrev pub Refuses : {Y : Type 0} → ExprTextFault → Result Y Fault → Type 0
-Refuses (V.Syntax n) read = read ≡ Err (syntax n)
-Refuses (V.Number n) read = read ≡ Err (number n)
-Refuses (V.TooDeep n) read = read ≡ Err (too_deep n)
-Refuses V.TooLong read = ⊥
-Refuses V.Memory read = Unit {0}
+use Rattle.sample_core.specs.Answer.{◌>>=◌, GivesUnless}
+use Rattle.leaf_expr.specs.declared.text_fault.ExprTextFault.TheVariants.{TooLong, Memory}
 
 -- what a call returned, seen by view, is what reading gives, unless memory ran out
-abbrev pub Gives : {X Y : Type 0} → (X → Y) → Result X ExprTextFault → Result Y Fault → Type 0
-Gives view (Ok x) read = read ≡ Ok (view x)
-Gives view (Err e) read = Refuses e read
-
--- the same of a whole text
-abbrev pub RefusesText : {Y : Type 0} → ExprTextFault → Result Y TextFault → Type 0
-RefusesText (V.Syntax n) read = read ≡ Err (at (syntax n))
-RefusesText (V.Number n) read = read ≡ Err (at (number n))
-RefusesText (V.TooDeep n) read = read ≡ Err (at (too_deep n))
-RefusesText V.TooLong read = read ≡ Err too_long
-RefusesText V.Memory read = Unit {0}
-
--- the same of a whole text: what a call returned is what reading gives
-abbrev pub GivesText : {X Y : Type 0} → (X → Y) → Result X ExprTextFault → Result Y TextFault → Type 0
-GivesText view (Ok x) read = read ≡ Ok (view x)
-GivesText view (Err e) read = RefusesText e read
+abbrev pub Gives : {X Y : Type 0} → (X → Y) → Result X ExprTextFault → Result Y ExprTextFault → Type 0
+Gives view result read = GivesUnless Memory view result read
 
 -- a tree of the sort in the text from byte n on, with room for so many more parentheses
 abbrev pub tree_at : (s : Sort) → List ℕ → ℕ → ℕ → Read (Tree s)
@@ -106,18 +85,12 @@ begins_closing ((n, closing) ∷ ts) = true
 begins_closing (x ∷ ts) = false
 
 -- Why no tree of the sort stands in the text from byte n on, with room for so many parentheses: the first token
--- that doesn't fit, or the end.
+-- that doesn't fit, or the end. `Memory` says nothing of the text.
 abbrev pub IsFault : (s : Sort) → List ℕ → ℕ → ℕ → ExprTextFault → Type 0
-IsFault s text room n (V.Syntax k) = Stops leaf (length text) room s (tokens_from n text) (syntax k)
-IsFault s text room n (V.Number k) = Stops leaf (length text) room s (tokens_from n text) (number k)
-IsFault s text room n (V.TooDeep k) = Stops leaf (length text) room s (tokens_from n text) (too_deep k)
-IsFault s text room n V.TooLong = ⊥
-IsFault s text room n V.Memory = Unit {0}
+IsFault s text room n f = f ≢ Memory → Stops leaf (length text) room s (tokens_from n text) f
 
--- why the text is no tree of the sort
+-- why the text is no tree of the sort; `Memory` says nothing of the text
 abbrev pub IsTextFault : (s : Sort) → List ℕ → ExprTextFault → Type 0
-IsTextFault s text (V.Syntax k) = NoText s text (syntax k)
-IsTextFault s text (V.Number k) = NoText s text (number k)
-IsTextFault s text (V.TooDeep k) = NoText s text (too_deep k)
-IsTextFault s text V.TooLong = 1048576 < length text
-IsTextFault s text V.Memory = Unit {0}
+IsTextFault s text Memory = Unit {0}
+IsTextFault s text TooLong = 1048576 < length text
+IsTextFault s text f = NoText s text f

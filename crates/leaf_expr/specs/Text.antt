@@ -1,5 +1,5 @@
 -- Whole texts of one type or expression.
-use Rattle.std.specs.Prelude.{◌≡◌, ℕ, ◌+◌, ◌≤◌, nat_lt, false, List, [], ◌∷◌, ◌++◌, length, Result, Ok, Err, if◌then◌else◌}
+use Rattle.std.specs.Prelude.{◌≡◌, ◌≢◌, ℕ, ◌+◌, ◌≤◌, nat_lt, false, List, [], ◌∷◌, ◌++◌, length, Result, Ok, Err, if◌then◌else◌}
 use Rattle.sample_core.specs.TypeTree.{TypeTree}
 use Rattle.sample_core.specs.Spelling.{type_spelling}
 use Rattle.leaf_expr.specs.Token.{PlacedToken, tokens, tokens_in, begins_word}
@@ -9,22 +9,19 @@ use Rattle.leaf_expr.specs.Language.{Begins}
 use Rattle.leaf_expr.specs.Grammar.{leaf, Sort, Tree, type_sort, expression_sort}
 use Rattle.leaf_expr.specs.ReadLaws.{Completes, Misfit}
 use Rattle.leaf_expr.specs.Printing.{expression_sexpr, type_sexpr, InRange}
-use Rattle.leaf_expr.specs.TreeReader.{Fault, syntax, Read, unfit_token, read}
-
--- why bytes are no text of one tree
-pub data TextFault : Type 0 where
-  too_long : TextFault
-  at : Fault → TextFault
+use Rattle.leaf_expr.specs.TreeReader.{Read, unfit_token, read}
+use Rattle.leaf_expr.specs.declared.text_fault.ExprTextFault.{ExprTextFault}
+use Rattle.leaf_expr.specs.declared.text_fault.ExprTextFault.TheVariants.{Syntax, TooLong}
 
 -- the tree that was read, where no token follows it
-abbrev pub whole : {T : Type 0} → Read T → Result T TextFault
+abbrev pub whole : {T : Type 0} → Read T → Result T ExprTextFault
 whole (Ok (t, n, [])) = Ok t
-whole (Ok (t, n, x ∷ ts)) = Err (at (unfit_token 600 x))
-whole (Err e) = Err (at e)
+whole (Ok (t, n, x ∷ ts)) = Err (unfit_token 600 x)
+whole (Err e) = Err e
 
 -- the tree of the sort that the text is, or its first fault
-abbrev pub read_text : (s : Sort) → List ℕ → Result (Tree s) TextFault
-read_text s bs = if nat_lt 1048576 (length bs) then Err too_long else whole (read leaf (length bs) 600 s (tokens bs))
+abbrev pub read_text : (s : Sort) → List ℕ → Result (Tree s) ExprTextFault
+read_text s bs = if nat_lt 1048576 (length bs) then Err TooLong else whole (read leaf (length bs) 600 s (tokens bs))
 
 -- the text is one tree of the sort, with at most 600 parentheses open at once, in at most 1,048,576 bytes
 pub record IsText (s : Sort) (bs : List ℕ) (t : Tree s) : Type 0 where
@@ -33,10 +30,10 @@ pub record IsText (s : Sort) (bs : List ℕ) (t : Tree s) : Type 0 where
   pub begins : Begins leaf 600 s t (tokens bs) stop []
 
 -- No text is one tree: the tokens end too early, or a token doesn't fit where a tree goes on, or one follows a tree.
-pub data NoText (s : Sort) (bs : List ℕ) (e : Fault) : Type 0 where
-  ends : e ≡ syntax (length bs) → ((t : Tree s) (n : ℕ) → Begins leaf 600 s t (tokens bs) n [] → ⊥) → Completes leaf s (tokens bs) → NoText s bs e
+pub data NoText (s : Sort) (bs : List ℕ) (e : ExprTextFault) : Type 0 where
+  ends : e ≡ Syntax (length bs) → ((t : Tree s) (n : ℕ) → Begins leaf 600 s t (tokens bs) n [] → ⊥) → Completes leaf s (tokens bs) → NoText s bs e
   fails : (before : List PlacedToken) (x : PlacedToken) (after : List PlacedToken) → tokens bs ≡ before ++ x ∷ after → ((more : List PlacedToken) (t : Tree s) (n : ℕ) → Begins leaf 600 s t (before ++ x ∷ more) n [] → ⊥) → Completes leaf s before → Misfit leaf 600 s before x e → NoText s bs e
-  follows : (before : List PlacedToken) (x : PlacedToken) (after : List PlacedToken) → tokens bs ≡ before ++ x ∷ after → ((more : List PlacedToken) (t : Tree s) (n : ℕ) → Begins leaf 600 s t (before ++ x ∷ more) n [] → ⊥) → (t : Tree s) (n : ℕ) → Begins leaf 600 s t before n [] → e ≡ syntax x.0 → NoText s bs e
+  follows : (before : List PlacedToken) (x : PlacedToken) (after : List PlacedToken) → tokens bs ≡ before ++ x ∷ after → ((more : List PlacedToken) (t : Tree s) (n : ℕ) → Begins leaf 600 s t (before ++ x ∷ more) n [] → ⊥) → (t : Tree s) (n : ℕ) → Begins leaf 600 s t before n [] → e ≡ Syntax x.0 → NoText s bs e
 
 -- the reader of whole texts answers exactly the texts of a tree
 abbrev pub ReadTextLaw : Type 0
@@ -46,9 +43,9 @@ ReadTextLaw = (s : Sort) (bs : List ℕ) (t : Tree s) → (read_text s bs ≡ Ok
 abbrev pub OneTextLaw : Type 0
 OneTextLaw = (s : Sort) (bs : List ℕ) (t u : Tree s) → IsText s bs t → IsText s bs u → t ≡ u
 
--- a fault that is answered at a place tells why the text is no tree
+-- a fault that is answered, other than for its length, tells why the text is no tree
 abbrev pub TextFaultLaw : Type 0
-TextFaultLaw = (s : Sort) (bs : List ℕ) (e : Fault) → read_text s bs ≡ Err (at e) → NoText s bs e
+TextFaultLaw = (s : Sort) (bs : List ℕ) (e : ExprTextFault) → e ≢ TooLong → read_text s bs ≡ Err e → NoText s bs e
 
 -- a printed expression is read again before any bytes that do not go on its last word
 abbrev pub PrintedLaw : Type 0

@@ -7,8 +7,9 @@ use Rattle.leaf_expr.specs.Sexpr.{Sexpr, atom}
 use Rattle.leaf_expr.specs.Language.{meaning}
 use Rattle.leaf_expr.specs.Grammar.{leaf, type_sort, expression_sort}
 use Rattle.leaf_expr.specs.Printing.{one, two, three}
-use Rattle.leaf_expr.specs.TreeReader.{syntax, number, too_deep, read}
-use Rattle.leaf_expr.specs.Text.{at, read_text}
+use Rattle.leaf_expr.specs.TreeReader.{read}
+use Rattle.leaf_expr.specs.Text.{read_text}
+use Rattle.leaf_expr.specs.declared.text_fault.ExprTextFault.TheVariants.{Syntax, Number, TooDeep}
 
 -- the text is that type
 abbrev pub IsType : List ℕ → TypeTree → Type 0
@@ -95,15 +96,15 @@ AttachIs = (T a c : Sexpr) → meaning leaf expression_sort (three (codes "attac
 -- refusals: by place and kind
 abbrev pub FaultRows : Type 0
 FaultRows =
-    (read_text expression_sort (codes "(add x 01)") ≡ Err (at (number 7)))
-    × (read_text expression_sort (codes "(add x -0)") ≡ Err (at (number 7)))
-    × (read_text expression_sort (codes "(p 65536)") ≡ Err (at (number 3)))
-    × (read_text expression_sort (codes "(p -1)") ≡ Err (at (number 3)))
-    × (read_text expression_sort (codes "(p x)") ≡ Err (at (syntax 3)))
-    × (read_text expression_sort (codes "9223372036854775808") ≡ Err (at (number 0)))
-    × (read_text expression_sort (codes "(1 2)") ≡ Err (at (syntax 1)))
-    × (read_text expression_sort (codes "(x)") ≡ Err (at (syntax 1)))
-    × (read_text expression_sort (codes "(add x") ≡ Err (at (syntax 6)))
-    × (read_text expression_sort (codes "x ;)\n x") ≡ Err (at (syntax 6)))
-    × (read_text type_sort (codes "(List 5)") ≡ Err (at (syntax 6)))
-    × (read leaf 11 1 expression_sort ((0, opening) ∷ (1, word (codes "fst")) ∷ (5, opening) ∷ []) ≡ Err (too_deep 5))
+    (read_text expression_sort (codes "(add x 01)") ≡ Err (Number 7))
+    × (read_text expression_sort (codes "(add x -0)") ≡ Err (Number 7))
+    × (read_text expression_sort (codes "(p 65536)") ≡ Err (Number 3))
+    × (read_text expression_sort (codes "(p -1)") ≡ Err (Number 3))
+    × (read_text expression_sort (codes "(p x)") ≡ Err (Syntax 3))
+    × (read_text expression_sort (codes "9223372036854775808") ≡ Err (Number 0))
+    × (read_text expression_sort (codes "(1 2)") ≡ Err (Syntax 1))
+    × (read_text expression_sort (codes "(x)") ≡ Err (Syntax 1))
+    × (read_text expression_sort (codes "(add x") ≡ Err (Syntax 6))
+    × (read_text expression_sort (codes "x ;)\n x") ≡ Err (Syntax 6))
+    × (read_text type_sort (codes "(List 5)") ≡ Err (Syntax 6))
+    × (read leaf 11 1 expression_sort ((0, opening) ∷ (1, word (codes "fst")) ∷ (5, opening) ∷ []) ≡ Err (TooDeep 5))

@@ -3,45 +3,30 @@ use Rattle.std.specs.Prelude.{ℕ, zero, suc, ◌+◌, List, [], ◌∷◌, leng
 use Rattle.leaf_expr.specs.WordReading.{WordReading, reads, misspelt, unfit}
 use Rattle.leaf_expr.specs.Token.{opening, closing, word, PlacedToken}
 use Rattle.leaf_expr.specs.Language.{Language, Places, Maker, Row, no_place, place, places}
-
--- why no tree was read: a token that doesn't fit, a number that doesn't, or a parenthesis too many; each by its place
-pub data Fault : Type 0 where
-  syntax : ℕ → Fault
-  number : ℕ → Fault
-  too_deep : ℕ → Fault
-
--- the place of a fault
-abbrev pub fault_place : Fault → ℕ
-fault_place (syntax n) = n
-fault_place (number n) = n
-fault_place (too_deep n) = n
+use Rattle.sample_core.specs.Answer.{◌>>=◌}
+use Rattle.leaf_expr.specs.declared.text_fault.ExprTextFault.{ExprTextFault}
+use Rattle.leaf_expr.specs.declared.text_fault.ExprTextFault.TheVariants.{Syntax, Number, TooDeep}
 
 -- what was read, the byte behind it, and the tokens left
 abbrev pub Read : Type 0 → Type 0
-Read T = Result (T × ℕ × List PlacedToken) Fault
-
--- the next step where the one before read something, and else its fault
-infixl 10 ◌>>=◌
-abbrev pub ◌>>=◌ : {A B : Type 0} → Result A Fault → (A → Result B Fault) → Result B Fault
-(Ok x) >>= g = g x
-(Err e) >>= g = Err e
+Read T = Result (T × ℕ × List PlacedToken) ExprTextFault
 
 -- a token that fits nowhere here, with room for so many more parentheses
-abbrev pub unfit_token : ℕ → PlacedToken → Fault
-unfit_token zero (n, opening) = too_deep n
-unfit_token _ x = syntax x.0
+abbrev pub unfit_token : ℕ → PlacedToken → ExprTextFault
+unfit_token zero (n, opening) = TooDeep n
+unfit_token _ x = Syntax x.0
 
 -- the word w at n, as it was found: its tree, the byte behind it and the tokens left, or why it is none
 abbrev pub word_read : {T : Type 0} → ℕ → List ℕ → List PlacedToken → WordReading T → Read T
 word_read n w ts (reads x) = Ok (x, n + length w, ts)
-word_read n w ts misspelt = Err (number n)
-word_read n w ts unfit = Err (syntax n)
+word_read n w ts misspelt = Err (Number n)
+word_read n w ts unfit = Err (Syntax n)
 
 -- in a language, and a text of so many bytes
 module _ (L : Language) (size : ℕ) where
   -- the end of a form
-  abbrev pub read_end : ℕ → List PlacedToken → Result (ℕ × List PlacedToken) Fault
-  read_end room [] = Err (syntax size)
+  abbrev pub read_end : ℕ → List PlacedToken → Result (ℕ × List PlacedToken) ExprTextFault
+  read_end room [] = Err (Syntax size)
   read_end room ((n, closing) ∷ ts) = Ok (suc n, ts)
   read_end room (y ∷ ts) = Err (unfit_token room y)
 
@@ -50,15 +35,15 @@ module _ (L : Language) (size : ℕ) where
   close room x ts = read_end room ts >>= (λ y. Ok (x, y.0, y.1))
 
   -- the word of a form, and its place
-  abbrev pub read_head : ℕ → List PlacedToken → Result (ℕ × List ℕ × List PlacedToken) Fault
-  read_head room [] = Err (syntax size)
+  abbrev pub read_head : ℕ → List PlacedToken → Result (ℕ × List ℕ × List PlacedToken) ExprTextFault
+  read_head room [] = Err (Syntax size)
   read_head room ((n, word w) ∷ ts) = Ok (n, w, ts)
   read_head room (x ∷ ts) = Err (unfit_token room x)
 
   -- parts up to the end of the form, each by the reader given; it has no more of them than the count
   abbrev pub read_all : {T R : Type 0} → (List PlacedToken → Read T) → ℕ → (List T → R) → List PlacedToken → Read R
-  read_all reader zero make ts = Err (syntax size)
-  read_all reader (suc n) make [] = Err (syntax size)
+  read_all reader zero make ts = Err (Syntax size)
+  read_all reader (suc n) make [] = Err (Syntax size)
   read_all reader (suc n) make ((m, closing) ∷ ts) = Ok (make [], suc m, ts)
   read_all reader (suc n) make ts = reader ts >>= (λ x. read_all reader n (λ xs. make (x.0 ∷ xs)) x.2)
 
@@ -70,7 +55,7 @@ module _ (L : Language) (size : ℕ) where
 
   -- what is read behind the word at n of a form
   abbrev pub read_row : {R : Type 0} → ((q : L.Sort) → List PlacedToken → Read (L.Tree q)) → ℕ → ℕ → Option (Row L.Sort L.Tree R) → List PlacedToken → Read R
-  read_row reader room n None ts = Err (syntax n)
+  read_row reader room n None ts = Err (Syntax n)
   read_row reader room n (Some r) ts = read_parts reader room r.takes r.makes ts
 
   -- what is read behind the parenthesis of a form
@@ -79,8 +64,8 @@ module _ (L : Language) (size : ℕ) where
 
   -- a tree of the sort, with room for so many more parentheses
   abbrev pub read : ℕ → (s : L.Sort) → List PlacedToken → Read (L.Tree s)
-  read room s [] = Err (syntax size)
+  read room s [] = Err (Syntax size)
   read room s ((n, word w) ∷ ts) = word_read n w ts (L.word_at s w)
-  read room s ((n, closing) ∷ ts) = Err (syntax n)
-  read zero s ((n, opening) ∷ ts) = Err (too_deep n)
-  read (suc room) s ((n, opening) ∷ ts) = if L.has_form s then read_form (read room) room s ts else Err (syntax n)
+  read room s ((n, closing) ∷ ts) = Err (Syntax n)
+  read zero s ((n, opening) ∷ ts) = Err (TooDeep n)
+  read (suc room) s ((n, opening) ∷ ts) = if L.has_form s then read_form (read room) room s ts else Err (Syntax n)

@@ -7,7 +7,7 @@ ghost use Rattle.leaf_core.specs.Expression.{Expression};
 ghost use Rattle.leaf_expr.specs.Form.{form_row, unary_row, binary_row, ternary_row, typed_row};
 ghost use Rattle.leaf_expr.specs.Grammar.{leaf, expression_sort, index_sort, type_sort};
 ghost use Rattle.leaf_expr.specs.Language.{Begins};
-ghost use Rattle.leaf_expr.specs.ReadText.{Gives, GivesText, tree_at, word_tree, form_at, row_parts, last_two_at, none_at, expression_left, type_left, items_at, items_left, IsFault, IsTextFault};
+ghost use Rattle.leaf_expr.specs.ReadText.{Gives, tree_at, word_tree, form_at, row_parts, last_two_at, none_at, expression_left, type_left, items_at, items_left, IsFault, IsTextFault};
 ghost use Rattle.leaf_core.specs.ExpressionView.{expression_of};
 ghost use Rattle.leaf_expr.specs.Text.{read_text, whole, IsText};
 ghost use Rattle.leaf_expr.specs.Token.{PlacedToken, tokens_from};
@@ -319,7 +319,7 @@ fn expr_at(
 
 /// One expression and nothing else, in a text of whatever length.
 fn only_expr(alloc: Global, text: &[u8]) -> Result<Expr, ExprTextFault>
-    ensures { GivesText expression_of result (whole (tree_at expression_sort text.now 600 0)) }
+    ensures { Gives expression_of result (whole (tree_at expression_sort text.now 600 0)) }
 {
     let (expr, end) = read_expression(alloc, text, 0, MAX_OPEN)?;
     match token_at(text, end) {
@@ -335,7 +335,7 @@ fn only_expr(alloc: Global, text: &[u8]) -> Result<Expr, ExprTextFault>
 /// these.
 fn whole_expr(alloc: Global, text: &[u8]) -> Result<Expr, ExprTextFault>
     ensures long { 1048576 < length text.now → result ≡ Err Fault.TooLong }
-    ensures exact { GivesText expression_of result (read_text expression_sort text.now) }
+    ensures exact { Gives expression_of result (read_text expression_sort text.now) }
 {
     if text.len() > MAX_LENGTH {
         return Err(ExprTextFault::TooLong);
@@ -410,13 +410,13 @@ pub fn read_expr(alloc: Global, text: &[u8]) -> Result<Expr, ExprTextFault>
     // What is read is what the text says.
     ensures found { IfOk result (λ e. IsText expression_sort text.now (expression_of e)) }
     // A text of an expression is read, unless memory runs out.
-    ensures only { (e : Expression) → IsText expression_sort text.now e → GivesText expression_of result (Ok e) }
+    ensures only { (e : Expression) → IsText expression_sort text.now e → Gives expression_of result (Ok e) }
     // A text that is too long is refused as such, whatever its bytes are.
     ensures long { 1048576 < length text.now → result ≡ Err Fault.TooLong }
     // What is refused is so at the first token that doesn't fit, or for its length.
     ensures refused { IfErr result (IsTextFault expression_sort text.now) }
     // Which answer it is.
-    ensures exact { GivesText expression_of result (read_text expression_sort text.now) }
+    ensures exact { Gives expression_of result (read_text expression_sort text.now) }
 {
     whole_expr(alloc, text)
 }

@@ -1,13 +1,13 @@
 // The forms of types and expressions, by the word that each begins with.
 
-ghost use Rattle.std.specs.Prelude.{◌≡◌, IfOk, option_map, bytes_eq};
+ghost use Rattle.std.specs.Prelude.{◌≡◌, IfOk, option_map};
 ghost use Rattle.leaf_core.specs.Expression.{input, fst, snd, then_expr, pair_expr, event_expr, on};
 ghost use Rattle.leaf_core.specs.ExpressionView.{expression_of};
 ghost use Rattle.leaf_expr.specs.Form.{form_row, unary_row, binary_row, ternary_row, typed_row, type_row};
 ghost use Rattle.leaf_expr.specs.Grammar.{type_sort, expression_sort, row_at, row_among, other_rows, unary_rows, binary_rows, ternary_rows, typed_rows};
 
 use leaf_core::{Expr, ExprChild};
-use sample_core::Memory;
+use sample_core::{Memory, word_is};
 use std::alloc::Global;
 
 /// A form of types.
@@ -144,23 +144,16 @@ impl Typed {
     }
 }
 
-/// Whether the word is that name.
-pub fn is_word(word: &[u8], name: &str) -> bool
-    ensures { result ≡ bytes_eq word.now name.now }
-{
-    word == name.as_bytes()
-}
-
 /// The form of types that the word begins.
 #[tactic(auto, unfolding(crate::specs::Grammar::row_at, crate::specs::Grammar::rows))]
 pub(crate) fn type_form_named(word: &[u8]) -> Option<TypeForm>
     ensures { option_map type_row result ≡ row_at type_sort word.now }
 {
-    if is_word(word, "Pair") {
+    if word_is(word, "Pair") {
         Some(TypeForm::Pair)
-    } else if is_word(word, "Event") {
+    } else if word_is(word, "Event") {
         Some(TypeForm::Event)
-    } else if is_word(word, "List") {
+    } else if word_is(word, "List") {
         Some(TypeForm::List)
     } else {
         None
@@ -228,25 +221,25 @@ pub(crate) enum Form {
 fn binary_named(word: &[u8]) -> Option<Binary>
     ensures { option_map binary_row result ≡ row_among word.now binary_rows }
 {
-    if is_word(word, "pair") {
+    if word_is(word, "pair") {
         Some(Binary::Pair)
-    } else if is_word(word, "then") {
+    } else if word_is(word, "then") {
         Some(Binary::Then)
-    } else if is_word(word, "add") {
+    } else if word_is(word, "add") {
         Some(Binary::Add)
-    } else if is_word(word, "sub") {
+    } else if word_is(word, "sub") {
         Some(Binary::Sub)
-    } else if is_word(word, "mul") {
+    } else if word_is(word, "mul") {
         Some(Binary::Mul)
-    } else if is_word(word, "less") {
+    } else if word_is(word, "less") {
         Some(Binary::Less)
-    } else if is_word(word, "equal") {
+    } else if word_is(word, "equal") {
         Some(Binary::Equal)
-    } else if is_word(word, "and") {
+    } else if word_is(word, "and") {
         Some(Binary::And)
-    } else if is_word(word, "or") {
+    } else if word_is(word, "or") {
         Some(Binary::Or)
-    } else if is_word(word, "lMerge") {
+    } else if word_is(word, "lMerge") {
         Some(Binary::Merge)
     } else {
         None
@@ -257,17 +250,17 @@ fn binary_named(word: &[u8]) -> Option<Binary>
 fn unary_named(word: &[u8]) -> Option<Unary>
     ensures { option_map unary_row result ≡ row_among word.now unary_rows }
 {
-    if is_word(word, "fst") {
+    if word_is(word, "fst") {
         Some(Unary::Fst)
-    } else if is_word(word, "snd") {
+    } else if word_is(word, "snd") {
         Some(Unary::Snd)
-    } else if is_word(word, "neg") {
+    } else if word_is(word, "neg") {
         Some(Unary::Neg)
-    } else if is_word(word, "not") {
+    } else if word_is(word, "not") {
         Some(Unary::Not)
-    } else if is_word(word, "event") {
+    } else if word_is(word, "event") {
         Some(Unary::Event)
-    } else if is_word(word, "len") {
+    } else if word_is(word, "len") {
         Some(Unary::Len)
     } else {
         None
@@ -278,11 +271,11 @@ fn unary_named(word: &[u8]) -> Option<Unary>
 fn ternary_named(word: &[u8]) -> Option<Ternary>
     ensures { option_map ternary_row result ≡ row_among word.now ternary_rows }
 {
-    if is_word(word, "if") {
+    if word_is(word, "if") {
         Some(Ternary::If)
-    } else if is_word(word, "on") {
+    } else if word_is(word, "on") {
         Some(Ternary::On)
-    } else if is_word(word, "nth") {
+    } else if word_is(word, "nth") {
         Some(Ternary::Nth)
     } else {
         None
@@ -293,11 +286,11 @@ fn ternary_named(word: &[u8]) -> Option<Ternary>
 fn typed_named(word: &[u8]) -> Option<Typed>
     ensures { option_map typed_row result ≡ row_among word.now typed_rows }
 {
-    if is_word(word, "gate") {
+    if word_is(word, "gate") {
         Some(Typed::Gate)
-    } else if is_word(word, "tag") {
+    } else if word_is(word, "tag") {
         Some(Typed::Tag)
-    } else if is_word(word, "attach") {
+    } else if word_is(word, "attach") {
         Some(Typed::Attach)
     } else {
         None
@@ -308,11 +301,11 @@ fn typed_named(word: &[u8]) -> Option<Typed>
 fn other_named(word: &[u8]) -> Option<Form>
     ensures { option_map form_row result ≡ row_among word.now other_rows }
 {
-    if is_word(word, "p") {
+    if word_is(word, "p") {
         Some(Form::Param)
-    } else if is_word(word, "none") {
+    } else if word_is(word, "none") {
         Some(Form::NoEvent)
-    } else if is_word(word, "list") {
+    } else if word_is(word, "list") {
         Some(Form::List)
     } else {
         None

@@ -13,7 +13,6 @@ mod type_reader;
 mod word;
 
 pub use expr_reader::{MAX_LENGTH, read_expr, read_expr_at, read_type_at};
-pub use form::is_word;
 pub use leaf_core::{
     Expr, ExprChild, ExprFault, Exprs, LeafKey, Literal, Shape, eval, expr_fits, same_expr,
     shape_laws, shape_of, type_fits, type_of_expr, typing_laws,

@@ -7,9 +7,8 @@ ghost use Rattle.leaf_expr.specs.WordReading.{integer_at, index};
 ghost use Rattle.leaf_expr.specs.ReadText.{fit, word_reading};
 ghost use Rattle.leaf_core.specs.ExpressionView.{expression_of};
 
-use crate::form::is_word;
 use leaf_core::{Expr, Literal};
-use sample_core::Ty;
+use sample_core::{Ty, word_is};
 use sample_core::number::{is_number_spelling, is_number_word, number};
 
 /// The greatest number that a parameter is called by in a text.
@@ -29,11 +28,11 @@ pub(crate) enum WordFault {
 pub(crate) fn type_word(word: &[u8]) -> Option<Ty>
     ensures { word_at type_sort word.now ≡ fit (option_map type_of result) }
 {
-    if is_word(word, "Unit") {
+    if word_is(word, "Unit") {
         Some(Ty::Unit)
-    } else if is_word(word, "Bool") {
+    } else if word_is(word, "Bool") {
         Some(Ty::Bool)
-    } else if is_word(word, "Int") {
+    } else if word_is(word, "Int") {
         Some(Ty::Int)
     } else {
         None
@@ -85,13 +84,13 @@ pub(crate) fn index_word(word: &[u8]) -> Result<u32, WordFault>
 pub(crate) fn expr_word(word: &[u8]) -> Result<Expr, WordFault>
     ensures { word_reading expression_of result ≡ word_at expression_sort word.now }
 {
-    if is_word(word, "x") {
+    if word_is(word, "x") {
         Ok(Expr::Input)
-    } else if is_word(word, "unit") {
+    } else if word_is(word, "unit") {
         Ok(Expr::Literal(Literal::Unit))
-    } else if is_word(word, "true") {
+    } else if word_is(word, "true") {
         Ok(Expr::Literal(Literal::Bool(true)))
-    } else if is_word(word, "false") {
+    } else if word_is(word, "false") {
         Ok(Expr::Literal(Literal::Bool(false)))
     } else {
         let n = integer_word(word)?;

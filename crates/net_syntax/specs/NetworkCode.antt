@@ -1,42 +1,11 @@
 -- The code of a network, from a code of its leaves, by which the check tells networks apart.
-use Rattle.std.specs.Prelude.{◌≡◌, ℕ, refl}
+use Rattle.std.specs.Prelude.{◌≡◌, refl}
 use Rattle.std.proofs.Common.{ap, arith}
 use Rattle.std.specs.Coded.{Coded}
 use base.Stored.{Gv, gnil, gnum, gcons, num, coded_via}
 use denote.Struct.Codes.{itself}
+use Rattle.sample_core.specs.CodeNode.{node, tag_of, part0, part1, part2, part3, head_of, rest_of}
 use Rattle.net_syntax.specs.Network.{Network, Networks, arr, seq, first, par, loop_pre, i_pre, delay, hold, accum_by, after, repeatedly, time, integral, switch, d_switch, r_switch, k_switch, p_switch, old, no_members, and_member}
-
--- a tag, and four parts
-abbrev pub node : ℕ → Gv → Gv → Gv → Gv → Gv
-node tag a b c d = gcons (gnum tag) (gcons a (gcons b (gcons c d)))
-
-abbrev tag_of : Gv → ℕ
-tag_of (gcons t r) = num t
-tag_of _ = 0
-
-abbrev part0 : Gv → Gv
-part0 (gcons t (gcons a r)) = a
-part0 _ = gnil
-
-abbrev part1 : Gv → Gv
-part1 (gcons t (gcons a (gcons b r))) = b
-part1 _ = gnil
-
-abbrev part2 : Gv → Gv
-part2 (gcons t (gcons a (gcons b (gcons c d)))) = c
-part2 _ = gnil
-
-abbrev part3 : Gv → Gv
-part3 (gcons t (gcons a (gcons b (gcons c d)))) = d
-part3 _ = gnil
-
-abbrev head_of : Gv → Gv
-head_of (gcons a b) = a
-head_of _ = gnil
-
-abbrev rest_of : Gv → Gv
-rest_of (gcons a b) = b
-rest_of _ = gnil
 
 module _ {L : Type 0} (c : Coded L) where
   abbrev mutual

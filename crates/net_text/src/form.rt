@@ -9,9 +9,9 @@ ghost use Rattle.net_text.specs.Form.{form_row, leaf_form_of};
 ghost use Rattle.net_text.specs.Grammar.{net_row_at, net_word_at, network_sort};
 ghost use Rattle.leaf_expr.specs.ReadText.{fit};
 
-use leaf_expr::{Expr, ExprChild, Literal, is_word};
+use leaf_expr::{Expr, ExprChild, Literal};
 use net_syntax::Net;
-use sample_core::Memory;
+use sample_core::{Memory, word_is};
 use std::alloc::Global;
 
 /// A form of networks of one expression. `Constant` is sugar.
@@ -58,13 +58,13 @@ fn constant(alloc: Global, e: Expr) -> Result<Net<Expr>, Memory>
 pub(crate) fn form_named(word: &[u8]) -> Option<Form>
     ensures { option_map form_row result ≡ net_row_at network_sort word.now }
 {
-    if is_word(word, "arr") {
+    if word_is(word, "arr") {
         Some(Form::Leaf(LeafForm::Arr))
-    } else if is_word(word, "iPre") {
+    } else if word_is(word, "iPre") {
         Some(Form::Leaf(LeafForm::IPre))
-    } else if is_word(word, ">>>") {
+    } else if word_is(word, ">>>") {
         Some(Form::Seq)
-    } else if is_word(word, "constant") {
+    } else if word_is(word, "constant") {
         Some(Form::Leaf(LeafForm::Constant))
     } else {
         None
@@ -76,7 +76,7 @@ pub(crate) fn form_named(word: &[u8]) -> Option<Form>
 pub(crate) fn network_named(word: &[u8]) -> Option<Net<Expr>>
     ensures { net_word_at network_sort word.now ≡ fit (option_map tree_of result) }
 {
-    if is_word(word, "identity") {
+    if word_is(word, "identity") {
         Some(Net::Arr(Expr::Input))
     } else {
         None

@@ -1,9 +1,9 @@
 -- What the walk's tests tell where they pass, and where they do.
 use Rattle.std.proofs.Common.{◌≡◌, ◌∙◌, ℕ, zero, suc, ◌≤◌, Bool, true, false, ◌&&◌, leb, List, [], ◌∷◌, Result, Ok, Err, ◌↔◌, refl, sym, ap, subst, le-leb, leb-true}
 use Rattle.net_syntax.specs.Network.{Networks}
-use Rattle.sample_core.specs.TypeTree.{TypeTree, pair_ty, event_ty}
+use Rattle.sample_core.specs.TypeTree.{TypeTree, depth_of, nodes_of, pair_ty, event_ty}
 use Rattle.net_syntax.specs.Typing.{Arrow, OldAt, old_here, old_after, members, LeafTyping}
-use Rattle.leaf_core.specs.TypeLimits.{depth_of, nodes_of, TypeFits, type_fits, same_tree}
+use Rattle.leaf_core.specs.TypeLimits.{TypeFits, type_fits, same_tree}
 use Rattle.net_types.specs.declared.fault.TypeFault.{TypeFault}
 use Rattle.net_types.specs.declared.fault.TypeFault.TheVariants as Fault
 use Rattle.net_types.specs.Walk.{LeafChecker, ◌>>=◌, ◌>>◌, test, within, expect_same, as_pair, as_event, test_range, test_members, old_at}

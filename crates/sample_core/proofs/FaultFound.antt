@@ -9,7 +9,8 @@ use Rattle.sample_core.specs.Number.{is_number, is_in_64, number_of}
 use Rattle.sample_core.specs.Spelling.{spelling, spellings}
 use Rattle.sample_core.specs.SpellsValue.{SpellsValue, SpellsRow, row_ends_in_word}
 use Rattle.sample_core.specs.Words.{goes_on, word_of, after_word, form_word, after_form}
-use Rattle.sample_core.specs.Reading.{◌>>=◌, begins_value, begins_with, wrong, behind_byte, behind_head, unit_at, truth_at, number_at, elements_at, value_at}
+use Rattle.sample_core.specs.Answer.{◌>>=◌}
+use Rattle.sample_core.specs.Reading.{begins_value, begins_with, wrong, behind_byte, behind_head, unit_at, truth_at, number_at, elements_at, value_at}
 use Rattle.sample_core.specs.Faults.{begins_type, Expectation, a_value, a_byte, a_space_or_close, Leads, at_front, behind_pair, in_first, behind_first, in_second, behind_second, behind_event, in_event, behind_inner, behind_elements, in_element, Wrong, no_value, another_type, too_large, no_byte, neither}
 use Rattle.sample_core.specs.declared.fault.ValueFault.{ValueFault}
 use Rattle.sample_core.specs.declared.fault.ValueFault.TheVariants as Fault

@@ -2,7 +2,8 @@
 use Rattle.std.proofs.Common.{◌≡◌, ◌⊎◌, inl, inr, ℕ, ◌-◌, List, length, drop, refl, sym, ap, ◌∙◌, Result, Ok, Err}
 use Rattle.sample_core.specs.Datum.{Datum}
 use Rattle.sample_core.specs.TypeTree.{TypeTree}
-use Rattle.sample_core.specs.Reading.{◌>>=◌, value_at, reading}
+use Rattle.sample_core.specs.Answer.{◌>>=◌}
+use Rattle.sample_core.specs.Reading.{value_at, reading}
 use Rattle.sample_core.specs.Faults.{FirstFault}
 use Rattle.sample_core.specs.ReadingLaws.{FaultLaw, NoValueLaw}
 use Rattle.sample_core.specs.SpellsValue.{SpellsValue}

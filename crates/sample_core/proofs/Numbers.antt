@@ -9,11 +9,11 @@ use Rattle.std.proofs.lemmas.Str.Parse.{numerals_by_value, tells_all_ascii_digit
 use Rattle.sample_core.specs.Number.{is_minus, digits_part, is_number_word, begins_zero, is_well_spelt, is_number, magnitude, number_of, is_in_64}
 
 -- the digits of n
-record Digits (ds : List ℕ) (n : ℕ) : Type 0 where
-  some : 0 < length ds
-  all : all_ascii_digits ds ≡ true
-  first : begins_zero ds ≡ true → length ds ≡ 1
-  value : digits_value 10 ds ≡ n
+pub record Digits (ds : List ℕ) (n : ℕ) : Type 0 where
+  pub some : 0 < length ds
+  pub all : all_ascii_digits ds ≡ true
+  pub first : begins_zero ds ≡ true → length ds ≡ 1
+  pub value : digits_value 10 ds ≡ n
 
 begins_at : (ds : List ℕ) → begins_zero ds ≡ true → get_or ds 0 0 ≡ 48
 begins_at [] e = absurd (cc)
@@ -23,7 +23,7 @@ begins_from : (ds : List ℕ) → get_or ds 0 0 ≡ 48 → begins_zero ds ≡ tr
 begins_from [] e = absurd (omega arith)
 begins_from (d ∷ ds) e = grind arith
 
-decimal_has : (n : ℕ) → n < 2 ^ 64 → Digits (decimal n) n
+pub decimal_has : (n : ℕ) → n < 2 ^ 64 → Digits (decimal n) n
 decimal_has n h = record { some = decimal_nonempty n h; all = digits_decimal (numerals_by_value _ tells_all_ascii_digits) n h; first = first n h; value = digits_value-decimal (numerals_by_value _ tells_all_ascii_digits) n h }
   where
     first : (m : ℕ) → m < 2 ^ 64 → begins_zero (decimal m) ≡ true → length (decimal m) ≡ 1
@@ -64,7 +64,7 @@ are_number : (ds : List ℕ) (n : ℕ) → Digits ds n → (nat_lt 0 (length ds)
 are_number ds n d = both (nat_lt 0 (length ds)) (all_ascii_digits ds) (lt-ltb 0 (length ds) d.some) d.all
 
 -- without a '-'
-plain_digits : (ds : List ℕ) (n : ℕ) → Digits ds n → (is_minus ds ≡ false) × (is_number_word ds ≡ true) × (is_well_spelt ds ≡ true) × (magnitude ds ≡ n)
+pub plain_digits : (ds : List ℕ) (n : ℕ) → Digits ds n → (is_minus ds ≡ false) × (is_number_word ds ≡ true) × (is_well_spelt ds ≡ true) × (magnitude ds ≡ n)
 plain_digits ds n d =
     let m : is_minus ds ≡ false = no_minus ds d.all in
     let p : digits_part ds ≡ ds = no_minus_part ds m in
@@ -101,17 +101,18 @@ integer_spelled (negsuc n) f =
     let s : is_well_spelt (45 ∷ decimal (suc n)) ≡ true = spelt (nat_eq (length (45 ∷ decimal (suc n))) 1) (begins_zero (decimal (suc n))) (inl (positive_first (suc n) (omega arith) (omega arith))) in
     record { word = both (is_number_word (45 ∷ decimal (suc n))) (is_well_spelt (45 ∷ decimal (suc n))) (are_number (decimal (suc n)) (suc n) d) s; fits = r; value = ap (λ k. neg_ℤ (pos k)) d.value }
 
-record Word (w : List ℕ) : Type 0 where
-  some : 0 < length (digits_part w)
-  all : all_ascii_digits (digits_part w) ≡ true
-  first : begins_zero (digits_part w) ≡ true → length w ≡ 1
+-- a number word that is well spelt
+pub record Word (w : List ℕ) : Type 0 where
+  pub some : 0 < length (digits_part w)
+  pub all : all_ascii_digits (digits_part w) ≡ true
+  pub first : begins_zero (digits_part w) ≡ true → length w ≡ 1
 
-word_has : (w : List ℕ) → is_number_word w ≡ true → is_well_spelt w ≡ true → Word w
+pub word_has : (w : List ℕ) → is_number_word w ≡ true → is_well_spelt w ≡ true → Word w
 word_has w a b =
     let p : (nat_lt 0 (length (digits_part w)) ≡ true) × (all_ascii_digits (digits_part w) ≡ true) = parts_of (nat_lt 0 (length (digits_part w))) (all_ascii_digits (digits_part w)) a in
     record { some = ltb-true 0 (length (digits_part w)) p.0; all = p.1; first = λ e. eqb-true (length w) 1 (spelt_back (nat_eq (length w) 1) (begins_zero (digits_part w)) b e) }
 
-plain_back : (w : List ℕ) → is_minus w ≡ false → Word w → magnitude w < 2 ^ 64 → w ≡ decimal (magnitude w)
+pub plain_back : (w : List ℕ) → is_minus w ≡ false → Word w → magnitude w < 2 ^ 64 → w ≡ decimal (magnitude w)
 plain_back w m h l =
     let p : digits_part w ≡ w = no_minus_part w m in
     let d : Digits (digits_part w) (magnitude w) = record { some = h.some; all = h.all; first = λ e. ap length p ∙ h.first e; value = refl } in

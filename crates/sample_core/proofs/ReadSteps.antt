@@ -1,9 +1,9 @@
 -- The steps of reading a list's elements.
 use Rattle.std.proofs.Common.{◌≡◌, ℕ, zero, suc, ◌-◌, ◌<◌, false, List, [], ◌∷◌, ◌++◌, refl, sym, ap, ◌∙◌, arith, Result, Ok, Err, append_assoc, append-nil}
 use Rattle.sample_core.specs.Datum.{Datum}
-use Rattle.sample_core.specs.Reading.{◌>>=◌, Refuses, begins_with, elements_at}
+use Rattle.sample_core.specs.Answer.{◌>>=◌}
+use Rattle.sample_core.specs.Reading.{begins_with, elements_at}
 use Rattle.sample_core.specs.declared.fault.ValueFault.{ValueFault}
-use Rattle.sample_core.specs.declared.fault.ValueFault.TheVariants as Fault
 
 -- the elements found before, and those found now
 abbrev pub with_front : List Datum → Result (List Datum × List ℕ) ValueFault → Result (List Datum × List ℕ) ValueFault
@@ -22,18 +22,12 @@ one_more reader (suc n) front rest element after v e l h =
     let k : suc n - 1 ≡ n = omega arith in
     ap (λ r. with_front front (elements_at reader (suc n) r)) e ∙ ap (λ r. with_front front (r >>= (λ x. elements_at reader n x.1 >>= (λ y. Ok (x.0 ∷ y.0, y.1))))) h ∙ front_more front v (elements_at reader n after) ∙ ap (λ m. with_front (front ++ v ∷ []) (elements_at reader m after)) (sym k)
 
+-- a fault in an element is the list's
 pub fault_inside : (reader : List ℕ → Result (Datum × List ℕ) ValueFault) (n : ℕ) (front : List Datum) (rest element : List ℕ) (f : ValueFault) → rest ≡ 32 ∷ element → 0 < n → reader element ≡ Err f → with_front front (elements_at reader n rest) ≡ Err f
 unfolding elements_at
 fault_inside reader zero front rest element f e l h = absurd (omega arith)
 fault_inside reader (suc n) front rest element f e l h =
     ap (λ r. with_front front (elements_at reader (suc n) r)) e ∙ ap (λ r. with_front front (r >>= (λ x. elements_at reader n x.1 >>= (λ y. Ok (x.0 ∷ y.0, y.1))))) h
-
--- a fault in an element is the list's
-pub refused_inside : (reader : List ℕ → Result (Datum × List ℕ) ValueFault) (n : ℕ) (front : List Datum) (rest element : List ℕ) (f : ValueFault) (all : Result (List Datum × List ℕ) ValueFault) → with_front front (elements_at reader n rest) ≡ all → rest ≡ 32 ∷ element → 0 < n → Refuses f (reader element) → Refuses f all
-refused_inside reader n front rest element Fault.Memory all w e l h = tt
-refused_inside reader n front rest element (Fault.NotAValue p) all w e l h = sym w ∙ fault_inside reader n front rest element (Fault.NotAValue p) e l h
-refused_inside reader n front rest element (Fault.OtherType p) all w e l h = sym w ∙ fault_inside reader n front rest element (Fault.OtherType p) e l h
-refused_inside reader n front rest element (Fault.NumberRange p) all w e l h = sym w ∙ fault_inside reader n front rest element (Fault.NumberRange p) e l h
 
 -- no element more
 pub none_more : (reader : List ℕ → Result (Datum × List ℕ) ValueFault) (n : ℕ) (rest : List ℕ) → begins_with 32 rest ≡ false → elements_at reader n rest ≡ Ok ([], rest)

@@ -7,7 +7,8 @@ use Rattle.sample_core.specs.Datum.{Datum, unit, bool, int, pair, no_event, even
 use Rattle.sample_core.specs.TypeTree.{TypeTree, unit_ty, bool_ty, int_ty, pair_ty, event_ty, list_ty}
 use Rattle.sample_core.specs.HasType.{HasType, HaveType, unit_has, bool_has, int_has, pair_has, no_event_has, event_has, list_has, end_has, more_has}
 use Rattle.sample_core.specs.Number.{is_number, is_in_64, number_of}
-use Rattle.sample_core.specs.Reading.{◌>>=◌, begins_with, wrong, behind_byte, behind_head, unit_at, truth_at, number_at, elements_at, value_at}
+use Rattle.sample_core.specs.Answer.{◌>>=◌}
+use Rattle.sample_core.specs.Reading.{begins_with, wrong, behind_byte, behind_head, unit_at, truth_at, number_at, elements_at, value_at}
 use Rattle.sample_core.specs.SpellsValue.{ends_in_word}
 use Rattle.sample_core.specs.Words.{goes_on, word_of, after_word, form_word, after_form}
 use Rattle.sample_core.specs.declared.fault.ValueFault.{ValueFault}

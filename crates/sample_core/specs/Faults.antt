@@ -1,5 +1,5 @@
 -- Where bytes stop being the beginning of a value of a type, and what is wrong there.
-use Rattle.std.specs.Prelude.{◌≡◌, Bool, true, false, ◌||◌, ℕ, List, ◌∷◌, ◌++◌, length, take, ◌-◌, bytes_eq, codes}
+use Rattle.std.specs.Prelude.{◌≡◌, ◌≢◌, Bool, true, false, ◌||◌, ℕ, List, ◌∷◌, ◌++◌, length, take, ◌-◌, bytes_eq, codes}
 use Rattle.sample_core.specs.Datum.{Datum, Datums}
 use Rattle.sample_core.specs.TypeTree.{TypeTree, unit_ty, bool_ty, int_ty, pair_ty, event_ty, list_ty}
 use Rattle.sample_core.specs.HasType.{HasType}
@@ -73,10 +73,7 @@ pub record FirstFault (A : TypeTree) (bs : List ℕ) (f : ValueFault) : Type 0 w
 
 -- what a refusal says of the bytes: `Memory` says nothing
 abbrev pub FaultOf : ValueFault → TypeTree → List ℕ → Type 0
-FaultOf Fault.Memory A bs = Unit {0}
-FaultOf (Fault.NotAValue p) A bs = FirstFault A bs (Fault.NotAValue p)
-FaultOf (Fault.OtherType p) A bs = FirstFault A bs (Fault.OtherType p)
-FaultOf (Fault.NumberRange p) A bs = FirstFault A bs (Fault.NumberRange p)
+FaultOf f A bs = f ≢ Fault.Memory → FirstFault A bs f
 
 -- behind a place stands the same as far as it matters there: the same word, also behind a '(', or the same byte, if any
 abbrev pub SameThere : Expectation → List ℕ → List ℕ → Type 0

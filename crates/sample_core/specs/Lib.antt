@@ -1,3 +1,5 @@
+pub mod Answer
+pub mod CodeNode
 pub mod Datum
 pub mod DatumCode
 pub mod TypeTree

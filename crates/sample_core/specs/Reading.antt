@@ -1,5 +1,6 @@
 -- Reading one value off the front of bytes: the value and what is behind it, or the first fault.
 use Rattle.std.specs.Prelude.{◌≡◌, ℕ, zero, suc, ◌-◌, Bool, true, false, ◌||◌, nat_eq, List, [], ◌∷◌, length, Result, Ok, Err, if◌then◌else◌, bytes_eq, codes}
+use Rattle.sample_core.specs.Answer.{◌>>=◌, GivesUnless}
 use Rattle.sample_core.specs.Datum.{Datum, unit, bool, int, pair, no_event, event, list, list_of}
 use Rattle.sample_core.specs.TypeTree.{TypeTree, unit_ty, bool_ty, int_ty, pair_ty, event_ty, list_ty}
 use Rattle.sample_core.specs.Number.{is_number, is_in_64, number_of}
@@ -7,23 +8,9 @@ use Rattle.sample_core.specs.Words.{word_of, after_word, form_word, after_form}
 use Rattle.sample_core.specs.declared.fault.ValueFault.{ValueFault}
 use Rattle.sample_core.specs.declared.fault.ValueFault.TheVariants as Fault
 
--- the next step where the one before gave something, and else its fault
-infixl 10 ◌>>=◌
-abbrev pub ◌>>=◌ : {A B : Type 0} → Result A ValueFault → (A → Result B ValueFault) → Result B ValueFault
-(Ok x) >>= f = f x
-(Err e) >>= f = Err e
-
--- a fault that reading has; `Memory` says nothing of the bytes
-abbrev pub Refuses : {Y : Type 0} → ValueFault → Result Y ValueFault → Type 0
-Refuses Fault.Memory read = Unit {0}
-Refuses (Fault.NotAValue p) read = read ≡ Err (Fault.NotAValue p)
-Refuses (Fault.OtherType p) read = read ≡ Err (Fault.OtherType p)
-Refuses (Fault.NumberRange p) read = read ≡ Err (Fault.NumberRange p)
-
 -- what a call returned, seen by view, is what reading gives, unless memory ran out
 abbrev pub Gives : {X Y : Type 0} → (X → Y) → Result X ValueFault → Result Y ValueFault → Type 0
-Gives view (Ok x) read = read ≡ Ok (view x)
-Gives view (Err e) read = Refuses e read
+Gives view result read = GivesUnless Fault.Memory view result read
 
 -- whether a value of some type begins: one of the words, a number, or '(' and the word of a form
 abbrev pub begins_value : List ℕ → Bool

@@ -5,7 +5,7 @@ ghost use Rattle.sample_core.specs.Datum.{list_of};
 ghost use Rattle.sample_core.specs.ValueView.{datum_of};
 ghost use Rattle.sample_core.specs.TypeView.{type_of};
 
-use crate::sample::{Sample, SampleChild, Samples};
+use crate::sample::{Sample, Samples};
 use crate::ty::Ty;
 
 /// Whether the two values are equal, all their parts included. It takes no memory.
@@ -17,20 +17,12 @@ pub fn same(a: &Sample, b: &Sample) -> bool
         (Sample::Unit, Sample::Unit) => true,
         (Sample::Bool(x), Sample::Bool(y)) => x == y,
         (Sample::Int(x), Sample::Int(y)) => x == y,
-        (Sample::Pair(v, w), Sample::Pair(x, y)) => same_pair(v, w, x, y),
+        (Sample::Pair(v, w), Sample::Pair(x, y)) => same(v.get(), x.get()) && same(w.get(), y.get()),
         (Sample::NoEvent, Sample::NoEvent) => true,
         (Sample::Event(v), Sample::Event(x)) => same(v.get(), x.get()),
         (Sample::List(vs), Sample::List(xs)) => same_elements(vs, xs),
         _ => false,
     }
-}
-
-/// Whether the parts of two pairs are equal.
-#[cycle(same)]
-fn same_pair(v: &SampleChild, w: &SampleChild, x: &SampleChild, y: &SampleChild) -> bool
-    ensures { IsTrue result ↔ ((v.now ≡ x.now) × (w.now ≡ y.now)) }
-{
-    same(v.get(), x.get()) && same(w.get(), y.get())
 }
 
 /// Whether the elements of two lists are equal.

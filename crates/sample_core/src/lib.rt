@@ -3,6 +3,7 @@
 
 mod equal;
 mod fault;
+mod front_number;
 mod laws;
 mod memory;
 pub mod number;
@@ -22,3 +23,4 @@ pub use read::read_value;
 pub use sample::{Sample, SampleChild, Samples};
 pub use ty::{Ty, TyChild, try_copy_types};
 pub use typing::has_type;
+pub use words::word_is;

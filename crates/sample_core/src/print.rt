@@ -2,8 +2,7 @@
 
 ghost use Rattle.std.specs.Prelude.{◌≡◌, ◌++◌, IfOk, codes, string_bytes};
 ghost use Rattle.sample_core.specs.Adding.{Adds};
-ghost use Rattle.sample_core.specs.Datum.{pair, list, list_of};
-ghost use Rattle.sample_core.specs.TypeTree.{pair_ty};
+ghost use Rattle.sample_core.specs.Datum.{list, list_of};
 ghost use Rattle.sample_core.specs.ValueView.{datum_of};
 ghost use Rattle.sample_core.specs.TypeView.{type_of};
 ghost use Rattle.sample_core.specs.Spelling.{spelling, type_spelling};
@@ -43,7 +42,11 @@ pub fn push_value(text: &mut String, sample: &Sample) -> Result<(), Memory>
         Sample::Bool(true) => push_word(text, "true"),
         Sample::Bool(false) => push_word(text, "false"),
         Sample::Int(n) => push_word(text, Buffer::new().format(*n)),
-        Sample::Pair(v, w) => push_pair(text, v, w),
+        Sample::Pair(v, w) => {
+            push_word(text, "(pair ")?;
+            push_value(text, v.get())?;
+            push_last(text, " ", w)
+        }
         Sample::NoEvent => push_word(text, "none"),
         Sample::Event(v) => push_last(text, "(event ", v),
         Sample::List(all) => push_list(text, all),
@@ -56,16 +59,6 @@ fn push_word(text: &mut String, word: &str) -> Result<(), Memory>
 {
     text.push_str(word)?;
     Ok(())
-}
-
-/// A pair.
-#[cycle(push_value)]
-fn push_pair(text: &mut String, v: &SampleChild, w: &SampleChild) -> Result<(), Memory>
-    ensures { Adds result (string_bytes text.old) (string_bytes text.new) (spelling (pair v.now w.now)) }
-{
-    push_word(text, "(pair ")?;
-    push_value(text, v.get())?;
-    push_last(text, " ", w)
 }
 
 /// The last part of a value, behind a word.
@@ -109,20 +102,14 @@ pub fn push_type(text: &mut String, ty: &Ty) -> Result<(), Memory>
         Ty::Unit => push_word(text, "Unit"),
         Ty::Bool => push_word(text, "Bool"),
         Ty::Int => push_word(text, "Int"),
-        Ty::Pair(a, b) => push_pair_type(text, a, b),
+        Ty::Pair(a, b) => {
+            push_word(text, "(Pair ")?;
+            push_type(text, a.get())?;
+            push_last_type(text, " ", b)
+        }
         Ty::Event(a) => push_last_type(text, "(Event ", a),
         Ty::List(a) => push_last_type(text, "(List ", a),
     }
-}
-
-/// A type of pairs.
-#[cycle(push_type)]
-fn push_pair_type(text: &mut String, a: &TyChild, b: &TyChild) -> Result<(), Memory>
-    ensures { Adds result (string_bytes text.old) (string_bytes text.new) (type_spelling (pair_ty a.now b.now)) }
-{
-    push_word(text, "(Pair ")?;
-    push_type(text, a.get())?;
-    push_last_type(text, " ", b)
 }
 
 /// The last part of a type, behind a word.

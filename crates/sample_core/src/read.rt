@@ -10,10 +10,11 @@ ghost use Rattle.sample_core.specs.SpellsValue.{SpellsValue};
 ghost use Rattle.sample_core.specs.Spelling.{spelling};
 
 use crate::fault::ValueFault;
+use crate::front_number::front_number;
 use crate::number::{is_number_spelling, number};
 use crate::sample::{Sample, SampleChild, Samples};
 use crate::ty::{Ty, TyChild};
-use crate::words::{is_word, split_form, split_word};
+use crate::words::{split_form, split_word, word_is};
 use std::alloc::Global;
 
 /// Reads one value of the type at the front of the text. Answers the value and how many bytes it
@@ -59,14 +60,14 @@ fn begins_some_value(text: &[u8]) -> bool
 {
     let (word, _) = split_word(text);
     let (head, _) = split_form(text);
-    is_word(word, "unit")
-        || is_word(word, "true")
-        || is_word(word, "false")
-        || is_word(word, "none")
+    word_is(word, "unit")
+        || word_is(word, "true")
+        || word_is(word, "false")
+        || word_is(word, "none")
         || is_number_spelling(word)
-        || is_word(head, "pair")
-        || is_word(head, "event")
-        || is_word(head, "list")
+        || word_is(head, "pair")
+        || word_is(head, "event")
+        || word_is(head, "list")
 }
 
 /// The fault where no value of the wanted type begins.
@@ -113,7 +114,7 @@ fn after_head<'t>(size: usize, text: &'t [u8], name: &str) -> Result<&'t [u8], V
     ensures shorter { IfOk result (λ rest. length rest.now ≤ length text.now) }
 {
     let (head, rest) = split_form(text);
-    if !is_word(head, name) {
+    if !word_is(head, name) {
         return Err(wrong_value(size, text));
     }
     Ok(rest)
@@ -126,7 +127,7 @@ fn unit(size: usize, text: &[u8]) -> Result<(Sample, &[u8]), ValueFault>
     ensures shorter { IfOk result (λ x. length x.1.now ≤ length text.now) }
 {
     let (word, rest) = split_word(text);
-    if !is_word(word, "unit") {
+    if !word_is(word, "unit") {
         return Err(wrong_value(size, text));
     }
     Ok((Sample::Unit, rest))
@@ -139,9 +140,9 @@ fn truth(size: usize, text: &[u8]) -> Result<(Sample, &[u8]), ValueFault>
     ensures shorter { IfOk result (λ x. length x.1.now ≤ length text.now) }
 {
     let (word, rest) = split_word(text);
-    if is_word(word, "true") {
+    if word_is(word, "true") {
         Ok((Sample::Bool(true), rest))
-    } else if is_word(word, "false") {
+    } else if word_is(word, "false") {
         Ok((Sample::Bool(false), rest))
     } else {
         Err(wrong_value(size, text))
@@ -149,8 +150,19 @@ fn truth(size: usize, text: &[u8]) -> Result<(Sample, &[u8]), ValueFault>
 }
 
 /// A number.
-#[tactic(auto, unfolding(crate::specs::Reading::number_at))]
 fn integer(size: usize, text: &[u8]) -> Result<(Sample, &[u8]), ValueFault>
+    ensures exact { Gives (λ x. (datum_of x.0, x.1.now)) result (number_at size text.now) }
+    ensures shorter { IfOk result (λ x. length x.1.now ≤ length text.now) }
+{
+    match front_number(text) {
+        Some((n, rest)) => Ok((Sample::Int(n), rest)),
+        None => long_integer(size, text),
+    }
+}
+
+/// A number of whatever length, by its word.
+#[tactic(auto, unfolding(crate::specs::Reading::number_at))]
+fn long_integer(size: usize, text: &[u8]) -> Result<(Sample, &[u8]), ValueFault>
     ensures exact { Gives (λ x. (datum_of x.0, x.1.now)) result (number_at size text.now) }
     ensures shorter { IfOk result (λ x. length x.1.now ≤ length text.now) }
 {
@@ -234,7 +246,7 @@ fn event<'t>(
     ensures shorter { IfOk result (λ x. length x.1.now ≤ length text.now) }
 {
     let (word, rest) = split_word(text);
-    if is_word(word, "none") {
+    if word_is(word, "none") {
         return Ok((Sample::NoEvent, rest));
     }
     let rest = after_head(size, text, "event")?;

@@ -34,7 +34,7 @@ pub struct TyChild {
 }
 
 impl Model for TyChild {
-    ghost use Rattle.sample_core.specs.TypeTree.{TypeTree, type_size};
+    ghost use Rattle.sample_core.specs.TypeTree.{TypeTree, nodes_of};
     ghost use Rattle.sample_core.specs.TypeCode.{type_code};
 
     ghost Value = { TypeTree };
@@ -45,7 +45,7 @@ impl Model for TyChild {
 
     ghost view = { λ a. type_of a.inner.value };
 
-    ghost size = { type_size };
+    ghost size = { nodes_of };
 
     ghost use Rattle.std.proofs.Common.{arith};
 

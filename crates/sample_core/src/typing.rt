@@ -6,7 +6,7 @@ ghost use Rattle.sample_core.specs.HasType.{HasType, HaveType};
 ghost use Rattle.sample_core.specs.ValueView.{datum_of};
 ghost use Rattle.sample_core.specs.TypeView.{type_of};
 
-use crate::sample::{Sample, SampleChild, Samples};
+use crate::sample::{Sample, Samples};
 use crate::ty::{Ty, TyChild};
 
 /// Whether the value is of the type, all its parts included. `none` is of every event type, and
@@ -24,20 +24,13 @@ pub fn has_type(sample: &Sample, ty: &Ty) -> bool
             let _in_range = *n;
             true
         }
-        (Sample::Pair(v, w), Ty::Pair(a, b)) => have_types(v, w, a, b),
+        (Sample::Pair(v, w), Ty::Pair(a, b)) => has_type(v.get(), a.get())
+            && has_type(w.get(), b.get()),
         (Sample::NoEvent, Ty::Event(_)) => true,
         (Sample::Event(v), Ty::Event(a)) => has_type(v.get(), a.get()),
         (Sample::List(all), Ty::List(a)) => have_type(all, a),
         _ => false,
     }
-}
-
-/// Whether two values are each of its type.
-#[cycle(has_type)]
-fn have_types(v: &SampleChild, w: &SampleChild, a: &TyChild, b: &TyChild) -> bool
-    ensures { IsTrue result ↔ (HasType v.now a.now × HasType w.now b.now) }
-{
-    has_type(v.get(), a.get()) && has_type(w.get(), b.get())
 }
 
 /// Whether each element is of the type.

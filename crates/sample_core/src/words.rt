@@ -1,11 +1,11 @@
 // Words: longest runs of letters, digits and '-'.
 
 ghost use Rattle.std.specs.Prelude.{◌≡◌, ◌+◌, ◌≤◌, length, bytes_eq};
-ghost use Rattle.sample_core.specs.Words.{is_value_byte, word_of, after_word, form_word, after_form};
+ghost use Rattle.sample_core.specs.Words.{is_value_byte as is_byte_of_value, word_of, after_word, form_word, after_form};
 
 /// Whether the byte is a letter, a digit or `-`.
-fn is_word_byte(byte: u8) -> bool
-    ensures { result ≡ is_value_byte byte }
+pub(crate) fn is_value_byte(byte: u8) -> bool
+    ensures { result ≡ is_byte_of_value byte }
 {
     byte.is_ascii_alphanumeric() || byte == b'-'
 }
@@ -17,7 +17,7 @@ pub(crate) fn split_word(text: &[u8]) -> (&[u8], &[u8])
     ensures parts { length result.0.now + length result.1.now ≡ length text.now }
 {
     for (len, byte) in text.iter().enumerate() {
-        if !is_word_byte(*byte) {
+        if !is_value_byte(*byte) {
             return text.split_at(len);
         }
     }
@@ -38,7 +38,7 @@ pub(crate) fn split_form(text: &[u8]) -> (&[u8], &[u8])
 }
 
 /// Whether the word is that name.
-pub(crate) fn is_word(word: &[u8], name: &str) -> bool
+pub fn word_is(word: &[u8], name: &str) -> bool
     ensures { result ≡ bytes_eq word.now name.now }
 {
     word == name.as_bytes()

@@ -1,6 +1,6 @@
 use Rattle.std.proofs.Common.{◌≡◌, ◌+◌, ◌*◌, ◌++◌, drop, map}
 use Rattle.sample_core.specs.ValueView.{datum_of}
-use Rattle.leaf_core.specs.Expression.{expressions_of, expression_size, expressions_size}
+use Rattle.leaf_core.specs.Expression.{expressions_of, nodes_in, nodes_in_all}
 use Rattle.leaf_core.specs.ExpressionView.{expression_of}
 use Rattle.leaf_core.specs.ExpressionValue.{values_of}
 use Rattle.leaf_core.proofs.evaluation.+eval.Given as goal
@@ -11,64 +11,58 @@ invariant-eval_elements-loop-element l =
     map datum_of l.values.items ++ values_of (expressions_of (map expression_of (drop l.element-index l.element-items))) (map datum_of l.params) (datum_of l.x) ≡ values_of (expressions_of (map expression_of l.element-items)) (map datum_of l.params) (datum_of l.x)
 
 abbrev pub decreases-eval : goal.decreases-eval
-decreases-eval l = 4 * expression_size (expression_of l.expr.now)
+decreases-eval l = 4 * nodes_in (expression_of l.expr.now)
 
 abbrev pub decreases-eval_pair : goal.decreases-eval_pair
-decreases-eval_pair l = 4 * (expression_size l.a.now + expression_size l.b.now) + 2
+decreases-eval_pair l = 4 * (nodes_in l.a.now + nodes_in l.b.now) + 2
 
-abbrev pub decreases-eval_first : goal.decreases-eval_first
-decreases-eval_first l = 4 * expression_size l.e.now + 2
-
-abbrev pub decreases-eval_second : goal.decreases-eval_second
-decreases-eval_second l = 4 * expression_size l.e.now + 2
+abbrev pub decreases-eval_part : goal.decreases-eval_part
+decreases-eval_part l = 4 * nodes_in l.e.now + 2
 
 abbrev pub decreases-eval_then : goal.decreases-eval_then
-decreases-eval_then l = 4 * (expression_size l.f.now + expression_size l.g.now) + 2
+decreases-eval_then l = 4 * (nodes_in l.f.now + nodes_in l.g.now) + 2
 
 abbrev pub decreases-eval_equal : goal.decreases-eval_equal
-decreases-eval_equal l = 4 * (expression_size l.a.now + expression_size l.b.now) + 3
+decreases-eval_equal l = 4 * (nodes_in l.a.now + nodes_in l.b.now) + 3
 
-abbrev pub decreases-eval_and : goal.decreases-eval_and
-decreases-eval_and l = 4 * (expression_size l.a.now + expression_size l.b.now) + 2
-
-abbrev pub decreases-eval_or : goal.decreases-eval_or
-decreases-eval_or l = 4 * (expression_size l.a.now + expression_size l.b.now) + 2
+abbrev pub decreases-eval_truths : goal.decreases-eval_truths
+decreases-eval_truths l = 4 * (nodes_in l.a.now + nodes_in l.b.now) + 2
 
 abbrev pub decreases-eval_if : goal.decreases-eval_if
-decreases-eval_if l = 4 * (expression_size l.c.now + expression_size l.a.now + expression_size l.b.now) + 2
+decreases-eval_if l = 4 * (nodes_in l.c.now + nodes_in l.a.now + nodes_in l.b.now) + 2
 
 abbrev pub decreases-eval_on : goal.decreases-eval_on
-decreases-eval_on l = 4 * (expression_size l.e.now + expression_size l.d.now + expression_size l.b.now) + 3
+decreases-eval_on l = 4 * (nodes_in l.e.now + nodes_in l.d.now + nodes_in l.b.now) + 3
 
 abbrev pub decreases-eval_nth : goal.decreases-eval_nth
-decreases-eval_nth l = 4 * (expression_size l.e.now + expression_size l.i.now + expression_size l.d.now) + 3
+decreases-eval_nth l = 4 * (nodes_in l.e.now + nodes_in l.i.now + nodes_in l.d.now) + 3
 
 abbrev pub decreases-eval_len : goal.decreases-eval_len
-decreases-eval_len l = 4 * expression_size l.e.now + 2
+decreases-eval_len l = 4 * nodes_in l.e.now + 2
 
 abbrev pub decreases-eval_child : goal.decreases-eval_child
-decreases-eval_child l = 4 * expression_size l.part.now + 1
+decreases-eval_child l = 4 * nodes_in l.part.now + 1
 
 abbrev pub decreases-eval_numbers : goal.decreases-eval_numbers
-decreases-eval_numbers l = 4 * (expression_size l.a.now + expression_size l.b.now) + 2
+decreases-eval_numbers l = 4 * (nodes_in l.a.now + nodes_in l.b.now) + 2
 
 abbrev pub decreases-eval_number : goal.decreases-eval_number
-decreases-eval_number l = 4 * expression_size l.part.now + 1
+decreases-eval_number l = 4 * nodes_in l.part.now + 1
 
 abbrev pub decreases-eval_truth : goal.decreases-eval_truth
-decreases-eval_truth l = 4 * expression_size l.part.now + 1
+decreases-eval_truth l = 4 * nodes_in l.part.now + 1
 
 abbrev pub decreases-eval_elements : goal.decreases-eval_elements
-decreases-eval_elements l = 4 * expressions_size (expressions_of l.elements.now) + 1
+decreases-eval_elements l = 4 * nodes_in_all (expressions_of l.elements.now) + 1
 
 abbrev pub decreases-eval_body : goal.decreases-eval_body
-decreases-eval_body l = 4 * expression_size l.b.now + 1
+decreases-eval_body l = 4 * nodes_in l.b.now + 1
 
 abbrev pub decreases-eval_same : goal.decreases-eval_same
-decreases-eval_same l = 4 * expression_size l.part.now + 1
+decreases-eval_same l = 4 * nodes_in l.part.now + 1
 
 abbrev pub decreases-eval_on_event : goal.decreases-eval_on_event
-decreases-eval_on_event l = 4 * (expression_size l.d.now + expression_size l.b.now) + 2
+decreases-eval_on_event l = 4 * (nodes_in l.d.now + nodes_in l.b.now) + 2
 
 abbrev pub decreases-eval_element : goal.decreases-eval_element
-decreases-eval_element l = 4 * (expression_size l.i.now + expression_size l.d.now) + 2
+decreases-eval_element l = 4 * (nodes_in l.i.now + nodes_in l.d.now) + 2

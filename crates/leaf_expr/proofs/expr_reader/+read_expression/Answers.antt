@@ -127,7 +127,7 @@ pub form-returns-in-None : goal.form-returns-in-None
 form-returns-in-None t c =
     let text = c.args.text.now in
     let ts = tokens_from c.args.at text in
-    unnamed (length text) c.args.room c.args.room expression_sort ts c.in_ok-start.ensures.head c.in-None.ensures
+    λ m. unnamed (length text) c.args.room c.args.room expression_sort ts c.in_ok-start.ensures.head c.in-None.ensures
 
 pub part-returns-in_err-expr : goal.part-returns-in_err-expr
 part-returns-in_err-expr t c =
@@ -179,12 +179,7 @@ last_two-returns t c =
 
 pub unary-returns-in_err-a : goal.unary-returns-in_err-a
 unary-returns-in_err-a t c =
-    let text = c.args.text.now in
-    let room = c.args.room in
-    let ts = tokens_from c.args.at text in
-    let why = no_part (length text) room Expression expression_sort c.in_err-a.field-0.0 no_place (unary_of c.args.form) ts c.in_err-a.ensures in
-    told (expression_left text) c.from_residual.result c.in_err-a.field-0.0 (row_parts (unary_row c.args.form) text room c.args.at)
-    c.from_residual.ensures.1 why
+    told _ _ _ _ c.from_residual.ensures.1 (no_part _ _ _ expression_sort _ no_place (unary_of c.args.form) _ c.in_err-a.ensures)
 
 pub unary-returns-in_err-end : goal.unary-returns-in_err-end
 unary-returns-in_err-end t c =

@@ -5,12 +5,13 @@ use Rattle.sample_core.specs.TypeView.{type_of}
 use Rattle.leaf_core.specs.Expression.{expressions_of}
 use Rattle.leaf_expr.specs.Sexpr.{more, last, spelling, spellings}
 use Rattle.leaf_expr.specs.Printing.{type_sexpr, expression_sexpr, expression_sexprs}
-use Rattle.leaf_expr.proofs.Joined.{adds_behind, adds_next, element_smaller}
+use Rattle.leaf_core.proofs.Places.{element_falls}
+use Rattle.leaf_expr.proofs.Joined.{adds_behind, adds_next}
 use Rattle.leaf_expr.proofs.print.+push_expr.Goals as goal
 
 pub push_elements-push_next-requires : goal.push_elements-push_next-requires
 push_elements-push_next-requires t c =
-    let e = element_smaller c.as_slice-e-items.result.now c.loop-e.e-index c.e-item.result (omega arith) in
+    let e = element_falls c.as_slice-e-items.result.now c.loop-e.e-index c.e-item.result (omega arith) in
     grind (arith, common_steps, e)
 
 pub push_last-returns : goal.push_last-returns

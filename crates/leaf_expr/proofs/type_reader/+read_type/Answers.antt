@@ -76,7 +76,7 @@ pub type_form-returns-in-None : goal.type_form-returns-in-None
 type_form-returns-in-None t c =
     let text = c.args.text.now in
     let ts = tokens_from c.args.at text in
-    unnamed (length text) c.args.room c.args.room type_sort ts c.in_ok-start.ensures.head c.in-None.ensures
+    λ m. unnamed (length text) c.args.room c.args.room type_sort ts c.in_ok-start.ensures.head c.in-None.ensures
 
 pub type_part-returns-in_err-ty : goal.type_part-returns-in_err-ty
 type_part-returns-in_err-ty t c =

@@ -10,8 +10,5 @@ invariant-same_elements-loop-i l = (list_of (map datum_of (drop l.i l.vs)) ≡ l
 abbrev pub decreases-same : goal.decreases-same
 decreases-same l = 2 * datum_size (datum_of l.a.now)
 
-abbrev pub decreases-same_pair : goal.decreases-same_pair
-decreases-same_pair l = 2 * (datum_size l.v.now + datum_size l.w.now) + 1
-
 abbrev pub decreases-same_elements : goal.decreases-same_elements
 decreases-same_elements l = 2 * datums_size (list_of l.vs.now) + 1

@@ -13,9 +13,6 @@ invariant-push_list-loop-v l =
 abbrev pub decreases-push_value : goal.decreases-push_value
 decreases-push_value l = 3 * datum_size (datum_of l.sample.now)
 
-abbrev pub decreases-push_pair : goal.decreases-push_pair
-decreases-push_pair l = 3 * (datum_size l.v.now + datum_size l.w.now) + 2
-
 abbrev pub decreases-push_last : goal.decreases-push_last
 decreases-push_last l = 3 * datum_size l.v.now + 1
 

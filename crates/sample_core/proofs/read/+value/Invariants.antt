@@ -2,27 +2,27 @@ use Rattle.std.proofs.Common.{◌≡◌, ◌+◌, ◌-◌, ◌*◌, ◌≤◌, l
 use Rattle.sample_core.specs.Reading.{elements_at, value_at}
 use Rattle.sample_core.specs.ValueView.{datum_of}
 use Rattle.sample_core.specs.TypeView.{type_of}
-use Rattle.sample_core.specs.TypeTree.{type_size}
+use Rattle.sample_core.specs.TypeTree.{nodes_of}
 use Rattle.sample_core.proofs.ReadSteps.{with_front}
 use Rattle.sample_core.proofs.read.+value.Given as goal
 
 abbrev pub decreases-value : goal.decreases-value
-decreases-value l = 3 * type_size (type_of l.ty.now)
+decreases-value l = 3 * nodes_of (type_of l.ty.now)
 
 abbrev pub decreases-pair : goal.decreases-pair
-decreases-pair l = 3 * (type_size l.a.now + type_size l.b.now) + 2
+decreases-pair l = 3 * (nodes_of l.a.now + nodes_of l.b.now) + 2
 
 abbrev pub decreases-event : goal.decreases-event
-decreases-event l = 3 * type_size l.ty.now + 2
+decreases-event l = 3 * nodes_of l.ty.now + 2
 
 abbrev pub decreases-list : goal.decreases-list
-decreases-list l = 3 * type_size l.ty.now + 2
+decreases-list l = 3 * nodes_of l.ty.now + 2
 
 abbrev pub decreases-part : goal.decreases-part
-decreases-part l = 3 * type_size l.ty.now + 1
+decreases-part l = 3 * nodes_of l.ty.now + 1
 
 abbrev pub decreases-elements : goal.decreases-elements
-decreases-elements l = 3 * type_size (type_of l.ty.now) + 1
+decreases-elements l = 3 * nodes_of (type_of l.ty.now) + 1
 
 abbrev pub decreases-elements-loop-element : goal.decreases-elements-loop-element
 decreases-elements-loop-element l = length l.rest

@@ -32,15 +32,6 @@ have_type-returns t c =
 pub have_type-loop-v-init : goal.have_type-loop-v-init
 have_type-loop-v-init t c = grind (arith, common_steps)
 
-pub have_types-returns-then-has_type : goal.have_types-returns-then-has_type
-have_types-returns-then-has_type t c = grind (arith, common_steps)
-
-pub have_types-returns-else-has_type : goal.have_types-returns-else-has_type
-have_types-returns-else-has_type t c = grind (arith, common_steps)
-
-pub has_type-returns-in-Pair-Pair : goal.has_type-returns-in-Pair-Pair
-has_type-returns-in-Pair-Pair t c = grind (arith, common_steps, pair_is)
-
 pub has_type-returns-in-List-List : goal.has_type-returns-in-List-List
 has_type-returns-in-List-List t c = grind (arith, common_steps, list_is)
 

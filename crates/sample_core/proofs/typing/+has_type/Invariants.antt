@@ -11,8 +11,5 @@ invariant-have_type-loop-v l = HaveType (list_of (map datum_of (drop l.v-index l
 abbrev pub decreases-has_type : goal.decreases-has_type
 decreases-has_type l = 2 * datum_size (datum_of l.sample.now)
 
-abbrev pub decreases-have_types : goal.decreases-have_types
-decreases-have_types l = 2 * (datum_size l.v.now + datum_size l.w.now) + 1
-
 abbrev pub decreases-have_type : goal.decreases-have_type
 decreases-have_type l = 2 * datums_size (list_of l.all.now) + 1
