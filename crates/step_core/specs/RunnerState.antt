@@ -37,6 +37,10 @@ pub record StandsFor (r : RunnerState) (p : TimedList) : Type 0 where
   pub counted : r.samples ≡ length p
   pub holds_past : StandsAfter r p
 
+-- there are samples, just which the running network got
+abbrev pub HasPast : RunnerState → Type 0
+HasPast r = ∥ ((p : TimedList) × StandsFor r p) ∥₁
+
 -- a sample x was taken in and y answered: whatever the samples so far were, the runner stands for them and x, and y is the next output of its network
 abbrev pub Pushes : RunnerState → ℕ × Datum → Datum → RunnerState → Type 0
 Pushes r x y now = (p : TimedList) → StandsFor r p → StandsFor now (p ++ x ∷ []) × (stream_of (network_in r) (p ++ x ∷ []) ≡ stream_of (network_in r) p ++ y ∷ [])
