@@ -1,23 +1,24 @@
 -- What a start and a step of a network of rows do, form by form.
-use Rattle.std.proofs.Common.{◌≡◌, ℕ, suc, ◌+◌, ◌<◌, List, [], ◌∷◌, ◌++◌, Some, Result, Ok, Err, IfOk, length, slice_get, refl, sym, ap, ◌∙◌, subst, append_assoc, append-nil}
+use Rattle.std.proofs.Common.{◌≡◌, ℕ, suc, ◌+◌, ◌<◌, List, [], ◌∷◌, ◌++◌, Some, Result, Ok, Err, IfOk, length, slice_get, refl, sym, ap, ◌∙◌, subst, arith, append_assoc, append-nil}
 use Rattle.std.proofs.Math.Logic.{∥∥₁_elim, ∥∥₁_map}
 use Rattle.std.proofs.Math.Bridge.{le_prop}
 use Rattle.std.proofs.lemmas.Option.{slice_get_within}
 use Rattle.sample_core.specs.Datum.{Datum, unit}
 use Rattle.sample_core.specs.TypeTree.{TypeTree}
 use Rattle.sample_core.specs.HasType.{HasType, TypedParams, unit_has, no_params}
+use Rattle.leaf_core.specs.Expression.{Expression}
 use Rattle.leaf_core.specs.ExpressionValue.{value_of}
 use Rattle.leaf_core.specs.KeyTree.{KeyTree}
 use Rattle.net_syntax.specs.Network.{Network, arr, seq, i_pre}
 use Rattle.net_syntax.specs.Typing as T
 use Rattle.leaf_core.proofs.Soundness.{typed_value}
 use Rattle.step_core.specs.Cell.{previous}
-use Rattle.step_core.specs.State.{arr_state, seq_state, cell_state}
+use Rattle.step_core.specs.State.{State, arr_state, seq_state, cell_state}
 use Rattle.step_core.specs.Stepping as G
 use Rattle.step_core.specs.Stepping.{Starts, Steps}
 use Rattle.step_core.specs.EmptyScope.{empty_scope}
 use Rattle.step_core.specs.RowTyping.{RowTyped, RowsTyped, FitsRows, row_expression, expression_in}
-use Rattle.step_core.specs.CellValues.{arr_holds, seq_holds, i_pre_holds, StartOf, StepOf, StartsTyped, StepsTyped, IsFirst}
+use Rattle.step_core.specs.CellValues.{HoldsCells, arr_holds, seq_holds, i_pre_holds, BeginsWithState, StartOf, StepOf, StartsTyped, StepsTyped, IsFirst}
 
 module _ (keys : List KeyTree) where
   -- what a call of row k promises of its answer y at x
@@ -96,9 +97,38 @@ module _ (keys : List KeyTree) where
         added = two.added ∙ ap (λ vs. vs ++ two.cells) one.added ∙ append_assoc before one.cells two.cells;
       }
 
+  -- the cells that begin with a state's: a row is there, a cell is there, and the parts' states follow each other
+  abbrev Begins : Network ℕ → List Datum → Type 0
+  Begins rows cells = (A : TypeTree) × (B : TypeTree) × (a : State Expression) × (us : List Datum) × (vs : List Datum) × HoldsCells keys rows A B a us × (cells ≡ us ++ vs)
+
+  pub state_row : (k : ℕ) (cells : List Datum) → BeginsWithState keys (arr k) cells → k < length keys
+  state_row k cells h = ∥∥₁_elim h le_prop part
+    where
+      part : Begins (arr k) cells → k < length keys
+      part (A, B, a, us, vs, arr_holds r, e) = there k r
+
+  pub state_cell : (k : ℕ) (cells : List Datum) → BeginsWithState keys (i_pre k) cells → 0 < length cells
+  state_cell k (v ∷ cells) h = omega arith
+  state_cell k [] h = ∥∥₁_elim h le_prop part
+    where
+      part : Begins (i_pre k) [] → 0 < 0
+      part (A, B, a, us, vs, i_pre_holds t, e) = absurd (cc)
+
+  pub state_first : (f g : Network ℕ) (cells : List Datum) → BeginsWithState keys (seq f g) cells → BeginsWithState keys f cells
+  state_first f g cells h = ∥∥₁_map h part
+    where
+      part : Begins (seq f g) cells → Begins f cells
+      part (A, C, a, us, vs, seq_holds {B = B} {a = a₁} {us = us₁} {vs = us₂} af bg, e) = (A, B, a₁, us₁, us₂ ++ vs, af, e ∙ append_assoc us₁ us₂ vs)
+
+  pub state_second : (f g : Network ℕ) (cells middle : List Datum) (x : ℕ × Datum) (y : Datum) (before now : List Datum) → BeginsWithState keys (seq f g) cells → StepsTyped keys f cells x y before now middle → BeginsWithState keys g middle
+  state_second f g cells middle x y before now h hf = ∥∥₁_map h part
+    where
+      part : Begins (seq f g) cells → Begins g middle
+      part (A, C, a, us, vs, seq_holds {B = B} {a = a₁} {b = b₁} {us = us₁} {vs = us₂} af bg, e) = (B, C, b₁, us₂, vs, bg, (hf A B a₁ us₁ (us₂ ++ vs) af (e ∙ append_assoc us₁ us₂ vs)).1)
+
   pub moved_arr : (k : ℕ) (cells : List Datum) (d : ℕ) (x y : Datum) (before : List Datum) → Called k x y → StepsTyped keys (arr k) cells (d, x) y before before cells
-  moved_arr k cells d x y before h A B from us vs (arr_holds r) e t = (
-    record {
+  moved_arr k cells d x y before h A B from us vs (arr_holds r) e = (
+    λ t. record {
       state = arr_state (row_expression keys k) [];
       cells = [];
       visits = 1;
@@ -111,11 +141,11 @@ module _ (keys : List KeyTree) where
   )
 
   pub moved_i_pre : (k : ℕ) (cells : List Datum) (d : ℕ) (x y : Datum) (before now rest : List Datum) → IsFirst cells y rest → now ≡ before ++ x ∷ [] → StepsTyped keys (i_pre k) cells (d, x) y before now rest
-  moved_i_pre k [] d x y before now rest f n A B from us vs (i_pre_holds h) e t = absurd (cc)
-  moved_i_pre k (u ∷ cells) d x y before now rest f n A B from us vs (i_pre_holds {v = v} h) e t =
+  moved_i_pre k [] d x y before now rest f n A B from us vs h e = absurd f
+  moved_i_pre k (u ∷ cells) d x y before now rest f n A B from us vs (i_pre_holds {v = v} h) e =
       let same : u ≡ v = cc in
       let left : cells ≡ vs = cc in (
-        record {
+        λ t. record {
           state = cell_state (previous x);
           cells = x ∷ [];
           visits = 1;
@@ -127,19 +157,24 @@ module _ (keys : List KeyTree) where
         f.1 ∙ left,
       )
 
+  moved_both : (f g : Network ℕ) {A B C : TypeTree} (a b : State Expression) (d : ℕ) (x v y : Datum) (before between now : List Datum) → StepOf keys f A B a (d, x) v before between → (HasType v B → StepOf keys g B C b (d, v) y between now) → StepOf keys (seq f g) A C (seq_state a b) (d, x) y before now
+  moved_both f g a b d x v y before between now one to =
+      let two = to one.answer_typed in
+      record {
+        state = seq_state one.state two.state;
+        cells = one.cells ++ two.cells;
+        visits = suc (one.visits + two.visits);
+        steps = G.step_seq one.steps two.steps;
+        holds = seq_holds one.holds two.holds;
+        answer_typed = two.answer_typed;
+        added = two.added ∙ ap (λ ws. ws ++ two.cells) one.added ∙ append_assoc before one.cells two.cells;
+      }
+
   pub moved_seq : (f g : Network ℕ) (cells middle : List Datum) (d : ℕ) (x v y : Datum) (before between now rest : List Datum) → StepsTyped keys f cells (d, x) v before between middle → StepsTyped keys g middle (d, v) y between now rest → StepsTyped keys (seq f g) cells (d, x) y before now rest
-  moved_seq f g cells middle d x v y before between now rest hf hg A C from us vs (seq_holds {B = B} {a = a} {b = b} {us = us₁} {vs = us₂} af bg) e t =
-      let one : StepOf keys f A B a (d, x) v before between × (middle ≡ us₂ ++ vs) = hf A B a us₁ (us₂ ++ vs) af (e ∙ append_assoc us₁ us₂ vs) t in
-      let two : StepOf keys g B C b (d, v) y between now × (rest ≡ vs) = hg B C b us₂ vs bg one.1 one.0.answer_typed in (
-        record {
-          state = seq_state one.0.state two.0.state;
-          cells = one.0.cells ++ two.0.cells;
-          visits = suc (one.0.visits + two.0.visits);
-          steps = G.step_seq one.0.steps two.0.steps;
-          holds = seq_holds one.0.holds two.0.holds;
-          answer_typed = two.0.answer_typed;
-          added = two.0.added ∙ ap (λ ws. ws ++ two.0.cells) one.0.added ∙ append_assoc before one.0.cells two.0.cells;
-        },
+  moved_seq f g cells middle d x v y before between now rest hf hg A C from us vs (seq_holds {B = B} {a = a} {b = b} {us = us₁} {vs = us₂} af bg) e =
+      let one : (HasType x A → StepOf keys f A B a (d, x) v before between) × (middle ≡ us₂ ++ vs) = hf A B a us₁ (us₂ ++ vs) af (e ∙ append_assoc us₁ us₂ vs) in
+      let two : (HasType v B → StepOf keys g B C b (d, v) y between now) × (rest ≡ vs) = hg B C b us₂ vs bg one.1 in (
+        λ t. moved_both f g a b d x v y before between now (one.0 t) two.0,
         two.1,
       )
 

@@ -2,20 +2,23 @@
 use Rattle.std.proofs.Common.{◌≡◌, ℕ, suc, ◌<◌, List, [], ◌∷◌, ◌++◌, length, refl, sym, subst, arith, length-append, append-nil}
 use Rattle.std.proofs.Math.Logic.{∥∥₁_map}
 use Rattle.sample_core.specs.Datum.{Datum}
+use Rattle.sample_core.specs.TypeTree.{TypeTree}
 use Rattle.sample_core.specs.HasType.{HasType}
+use Rattle.leaf_core.specs.Expression.{Expression}
 use Rattle.leaf_core.specs.ExpressionValue.{value_of}
 use Rattle.net_syntax.specs.Network.{Network}
 use Rattle.net_syntax.specs.SignalFunction.{TimedList}
 use Rattle.net_syntax.specs.TypedNetwork.{stream_of}
 use Rattle.step_core.specs.CountedFunction.{TakesSample}
 use Rattle.step_core.specs.CountedContext.{counted_meaning}
+use Rattle.step_core.specs.State.{State}
 use Rattle.step_core.specs.Stands.{Stands}
 use Rattle.step_core.specs.EmptyScope.{empty_context}
 use Rattle.leaf_core.specs.KeyTree.{KeyTree}
 use Rattle.step_core.specs.Binding.{Binding, FitsTable}
-use Rattle.step_core.specs.RowTyping.{FitsRows}
-use Rattle.step_core.specs.CellValues.{HoldsCells, StartOf, StepOf, StartsTyped, StepsTyped}
-use Rattle.step_core.specs.RunnerState.{RunnerState, network_in, StandsAfter, StandsFor, Pushes}
+use Rattle.step_core.specs.RowTyping.{FitsRows, RowsTyped}
+use Rattle.step_core.specs.CellValues.{HoldsCells, BeginsWithState, StartOf, StepOf, StartsTyped, StepsTyped}
+use Rattle.step_core.specs.RunnerState.{RunnerState, network_in, StandsAfter, StandsFor, HasPast, Pushes}
 use Rattle.step_core.proofs.Runners as R
 
 -- the same network with other values in its cells, one sample on
@@ -62,7 +65,7 @@ next_pushed r x y cells rest some t moved = pushed r x y cells goes
   where
     one : (z : ℕ × Datum) (p : TimedList) → StandsAfter r (z ∷ p) → OneMore r (z ∷ p) x y cells
     one z p (B, a, holds, stands) =
-        let m : StepOf r.keys r.rows r.input B a x y [] cells = (moved r.input B a r.cells [] holds (sym (append-nil r.cells)) t).0 in
+        let m : StepOf r.keys r.rows r.input B a x y [] cells = (moved r.input B a r.cells [] holds (sym (append-nil r.cells))).0 t in
         let took : TakesSample (Stands value_of m.state) (counted_meaning value_of (network_in r) empty_context) (z ∷ p) x y m.visits = R.next_push value_of (network_in r) m.steps (z ∷ p) stands in (
           (B, m.state, subst (HoldsCells r.keys r.rows r.input B m.state) (sym m.added) m.holds, took.stands),
           (R.pushed value_of (network_in r) {P = Stands value_of m.state} (z ∷ p) x y m.visits took).one_more,
@@ -72,9 +75,25 @@ next_pushed r x y cells rest some t moved = pushed r x y cells goes
     goes [] s = absurd (let c : r.samples ≡ 0 = s.counted in omega (arith, c, some))
     goes (z ∷ p) s = all_pushed r (z ∷ p) x y cells s (one z p s.holds_past)
 
--- what is bound is a network of rows that are there
-pub fits_table : (keys : List KeyTree) (b : Binding) → ∥ FitsTable keys b ∥₁ → FitsRows keys b.rows
-fits_table keys b h = ∥∥₁_map h (λ t. (b.input, t.0, t.1))
+-- before the first sample the rows are there
+pub past_fits : (r : RunnerState) → HasPast r → r.samples ≡ 0 → FitsRows r.keys r.rows
+past_fits r h none = ∥∥₁_map h part
+  where
+    part : (p : TimedList) × StandsFor r p → (A : TypeTree) × (B : TypeTree) × RowsTyped r.keys r.rows A B
+    part ([], s) = (r.input, s.holds_past.0, s.holds_past.1)
+    part (z ∷ p, s) = absurd (let c : r.samples ≡ suc (length p) = s.counted in omega (arith, c, none))
+
+-- after some samples the cells hold a state of the network
+pub past_state : (r : RunnerState) → HasPast r → 0 < r.samples → BeginsWithState r.keys r.rows r.cells
+past_state r h some = ∥∥₁_map h part
+  where
+    part : (p : TimedList) × StandsFor r p → (A : TypeTree) × (B : TypeTree) × (a : State Expression) × (us : List Datum) × (vs : List Datum) × HoldsCells r.keys r.rows A B a us × (r.cells ≡ us ++ vs)
+    part ([], s) = absurd (let c : r.samples ≡ 0 = s.counted in omega (arith, c, some))
+    part (z ∷ p, s) = (r.input, s.holds_past.0, s.holds_past.1, r.cells, [], s.holds_past.2, sym (append-nil r.cells))
+
+-- one sample on there are samples still
+pub past_later : (r now : RunnerState) (x : ℕ × Datum) (y : Datum) → HasPast r → Pushes r x y now → HasPast now
+past_later r now x y h pushed = ∥∥₁_map h (λ s. (s.0 ++ x ∷ [], pushed.stands s.0 s.1))
 
 -- before its first sample
 pub new_stands : (r : RunnerState) → r.samples ≡ 0 → r.cells ≡ [] → FitsTable r.keys (record { input = r.input; rows = r.rows }) → StandsFor r []

@@ -37,6 +37,10 @@ pub record StandsFor (r : RunnerState) (p : TimedList) : Type 0 where
   pub counted : r.samples ≡ length p
   pub holds_past : StandsAfter r p
 
+-- there are samples, just which the running network got
+abbrev pub HasPast : RunnerState → Type 0
+HasPast r = ∥ ((p : TimedList) × StandsFor r p) ∥₁
+
 -- A sample x was taken in and y answered. The same network runs, on inputs of the same type, and one sample more is
 -- counted. Whatever the samples so far were, the runner now stands for them and x, and y is the next value of the
 -- network's stream.

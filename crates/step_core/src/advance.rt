@@ -8,7 +8,7 @@ ghost use Rattle.leaf_core.specs.ExpressionValue.{value_of};
 ghost use Rattle.leaf_core.specs.KeyTree.{KeyTree};
 ghost use Rattle.leaf_table.specs.Rows.{rows_of};
 ghost use Rattle.step_core.specs.RowsView.{rows_in};
-ghost use Rattle.step_core.specs.CellValues.{StartsTyped, StepsTyped, IsFirst};
+ghost use Rattle.step_core.specs.CellValues.{BeginsWithState, StartsTyped, StepsTyped, IsFirst};
 ghost use Rattle.step_core.specs.RowTyping.{FitsRows};
 
 use leaf_table::{LeafId, LeafTable};
@@ -27,7 +27,8 @@ pub(crate) fn start(
 ) -> Result<Sample, Memory>
     requires { FitsRows (rows_of table.now) (rows_in net.now) }
     ensures { IfOk result
-        (λ y. StartsTyped (rows_of table.now) (rows_in net.now) (datum_of sample.now) (datum_of y) (map datum_of next.old.items) (map datum_of next.new.items)) }
+        (λ y. StartsTyped (rows_of table.now) (rows_in net.now) (datum_of sample.now) (datum_of y)
+        (map datum_of next.old.items) (map datum_of next.new.items)) }
 {
     match net {
         Net::Arr(e) => table.call(*e, &[], sample),
@@ -45,8 +46,8 @@ pub(crate) fn start(
 }
 
 /// The network's answer to a further sample, `dt` after the one before, and what stands in `cells`
-/// behind the values of its cells. The cells hold the values in front of `cells` before the sample;
-/// what they hold after it is added to `next`. `Memory` where a growth was refused.
+/// behind the values of its cells. The values in front of `cells` must be those of its cells before
+/// the sample; what they hold after it is added to `next`. `Memory` where a growth was refused.
 pub(crate) fn step<'a>(
     alloc: Global,
     table: &LeafTable,
@@ -56,9 +57,11 @@ pub(crate) fn step<'a>(
     dt: u64,
     sample: &Sample,
 ) -> Result<(Sample, &'a [Sample]), Memory>
-    requires { FitsRows (rows_of table.now) (rows_in net.now) }
+    requires { BeginsWithState (rows_of table.now) (rows_in net.now) (map datum_of cells.now) }
     ensures { IfOk result
-        (λ r. StepsTyped (rows_of table.now) (rows_in net.now) (map datum_of cells.now) (dt, datum_of sample.now) (datum_of r.0) (map datum_of next.old.items) (map datum_of next.new.items) (map datum_of r.1.now)) }
+        (λ r. StepsTyped (rows_of table.now) (rows_in net.now) (map datum_of cells.now)
+        (dt, datum_of sample.now) (datum_of r.0) (map datum_of next.old.items)
+        (map datum_of next.new.items) (map datum_of r.1.now)) }
 {
     match net {
         Net::Arr(e) => Ok((table.call(*e, &[], sample)?, cells)),
@@ -103,12 +106,14 @@ fn constant(table: &LeafTable, row: LeafId) -> Result<Sample, Memory>
     value
 }
 
-/// The value of the first cell, and those of the rest.
+/// The value of the first cell, and those of the rest. There must be a cell.
 fn first_cell<'a>(alloc: Global, cells: &'a [Sample]) -> Result<(Sample, &'a [Sample]), Memory>
-    ensures { IfOk result (λ r. IsFirst (map datum_of cells.now) (datum_of r.0) (map datum_of r.1.now)) }
+    requires { 0 < length cells.now }
+    ensures { IfOk result
+        (λ r. IsFirst (map datum_of cells.now) (datum_of r.0) (map datum_of r.1.now)) }
 {
     match cells.split_first() {
         Some((value, rest)) => Ok((value.try_copy(alloc)?, rest)),
-        None => Ok((Sample::Unit, cells)),
+        None => unreachable!(),
     }
 }

@@ -1,10 +1,11 @@
 // Running a bound network, sample by sample.
 
-ghost use Rattle.std.specs.Prelude.{◌≡◌, ◌<◌, ◌≤◌, ◌+◌, ◌^◌, [], IfOk, OnOk, OnErr};
+ghost use Rattle.std.specs.Prelude.{◌≡◌, ◌<◌, ◌≤◌, ◌+◌, ◌^◌, [], IfOk, OnOk, OnErr, map};
 ghost use Rattle.sample_core.specs.HasType.{HasType};
 ghost use Rattle.sample_core.specs.ValueView.{datum_of};
 ghost use Rattle.leaf_table.specs.Rows.{rows_of};
 ghost use Rattle.step_core.specs.Binding.{FitsTable};
+ghost use Rattle.step_core.specs.RunnerState.{HasPast};
 
 use crate::advance;
 use crate::bound::Bound;
@@ -14,7 +15,7 @@ use std::alloc::Global;
 use std::mem;
 
 /// A network that runs. It borrows the network and the table, and holds what the network's cells
-/// keep from one sample to the next.
+/// keep from one sample to the next. What it holds stands for the samples that it got.
 #[derive(Drop)]
 pub struct Runner<'a> {
     alloc: Global,
@@ -23,7 +24,13 @@ pub struct Runner<'a> {
     cells: Vec<Sample>,
     next: Vec<Sample>,
     samples: u64,
-    ghost fits: { ∥ FitsTable (rows_of table.now) bound.now ∥₁ },
+    ghost past: { HasPast (record {
+      input = bound.now.input;
+      keys = rows_of table.now;
+      rows = bound.now.rows;
+      cells = map datum_of cells.items;
+      samples = samples;
+    }) },
 }
 
 impl<'a> Runner<'a> {

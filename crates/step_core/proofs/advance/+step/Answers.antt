@@ -1,18 +1,31 @@
-use Rattle.std.proofs.Common.{rules, ap, sym, ◌∙◌, subst}
+use Rattle.std.proofs.Common.{rules, map, ap, sym, ◌∙◌, subst, arith}
+use Rattle.std.proofs.lemmas.List.{length-map}
+use Rattle.sample_core.specs.ValueView.{datum_of}
+use Rattle.leaf_table.specs.Rows.{rows_of}
 use Rattle.net_syntax.specs.Network.{seq, map_network}
 use Rattle.step_core.specs.RowsView.{row_number, rows_in}
-use Rattle.step_core.specs.RowTyping.{FitsRows}
-use Rattle.step_core.proofs.Advancing.{fits_arr, fits_first, fits_second, arr_moved, i_pre_moved, seq_moved, if_ok}
+use Rattle.step_core.specs.CellValues.{BeginsWithState}
+use Rattle.step_core.proofs.Advancing.{state_row, state_cell, state_first, state_second, arr_moved, i_pre_moved, seq_moved, if_ok}
 use Rattle.step_core.proofs.advance.+step.Goals as goal
 
 pub call-requires : goal.call-requires
-call-requires g t c = fits_arr _ _ (subst (FitsRows _) (ap rows_in c.in-Arr.is) c.requires)
+call-requires g t c =
+    state_row _ _ _ (subst (λ n. BeginsWithState (rows_of c.args.table.now) n (map datum_of c.args.cells.now)) (ap rows_in c.in-Arr.is) c.requires)
+
+pub first_cell-requires : goal.first_cell-requires
+first_cell-requires g t c =
+    let some = state_cell _ _ _ (subst (λ n. BeginsWithState (rows_of c.args.table.now) n (map datum_of c.args.cells.now)) (ap rows_in c.in-IPre.is) c.requires) in
+    omega (arith, some, length-map c.args.cells.now datum_of)
 
 pub step-requires : goal.step-requires
-step-requires g t c = (search rules, fits_first _ _ (map_network row_number c.in-Seq.g) (subst (FitsRows _) (ap rows_in c.in-Seq.is ∙ (λ i. seq (map_network row_number (sym c.get.ensures i)) (map_network row_number c.in-Seq.g))) c.requires))
+step-requires g t c =
+    let form = ap rows_in c.in-Seq.is ∙ (λ i. seq (map_network row_number (sym c.get.ensures i)) (map_network row_number c.in-Seq.g)) in
+    (search rules, state_first _ _ (map_network row_number c.in-Seq.g) _ (subst (λ n. BeginsWithState (rows_of c.args.table.now) n (map datum_of c.args.cells.now)) form c.requires))
 
 pub step-answer-requires : goal.step-answer-requires
-step-answer-requires g t c = (search rules, fits_second _ (map_network row_number c.in-Seq.f) _ (subst (FitsRows _) (ap rows_in c.in-Seq.is ∙ (λ i. seq (map_network row_number c.in-Seq.f) (map_network row_number (sym c.get-in-Seq.ensures i)))) c.requires))
+step-answer-requires g t c =
+    let form = ap rows_in c.in-Seq.is ∙ (λ i. seq (map_network row_number (sym c.get.ensures i)) (map_network row_number (sym c.get-in-Seq.ensures i))) in
+    (search rules, state_second _ _ _ _ _ _ _ _ _ (subst (λ n. BeginsWithState (rows_of c.args.table.now) n (map datum_of c.args.cells.now)) form c.requires) c.in_ok-between-in-Seq.ensures)
 
 pub returns-in_ok-call-in-Arr : goal.returns-in_ok-call-in-Arr
 returns-in_ok-call-in-Arr g t c = arr_moved _ _ _ _ _ _ _ _ (ap rows_in c.in-Arr.is) c.in_ok-call-in-Arr.ensures
