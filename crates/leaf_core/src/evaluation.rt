@@ -12,7 +12,7 @@ use crate::operations::{
     count, element, equal, literal_value, negated, number, of_numbers, of_truths, param, part,
     truth,
 };
-use sample_core::{Memory, Sample, SampleChild, Samples};
+use sample_core::{Memory, Sample, SampleChild, Samples, push};
 use std::alloc::Global;
 
 /// The value of the expression at the input `x`, where `params[k]` is the value of parameter k.
@@ -370,7 +370,7 @@ fn eval_elements(
     let mut values = Vec::new(alloc);
     for element in elements.as_slice() {
         let value = eval(alloc, element, params, x)?;
-        values.push(value)?;
+        push(&mut values, value)?;
     }
     Samples::new(alloc, values)
 }
