@@ -1,15 +1,18 @@
 -- Steps from what a tree begins with.
-use Rattle.std.proofs.Common.{◌≡◌, ℕ, zero, suc, ◌-◌, ◌≤◌, true, List, [], ◌∷◌, length, refl, sym, ap, arith, Ok, Err}
+use Rattle.std.proofs.Common.{◌≡◌, ℕ, zero, suc, ◌+◌, ◌-◌, true, List, [], ◌∷◌, length, refl, sym, subst, ap, arith, Result, Ok, Err}
 use Rattle.std.specs.List.{slice_range}
-use Rattle.leaf_expr.specs.Token.{opening, closing, word, PlacedToken}
+use Rattle.leaf_expr.specs.Token.{opening, closing, word, PlacedToken, tokens_from}
 use Rattle.leaf_expr.specs.Language.{Language}
 use Rattle.leaf_expr.specs.WordReading.{WordReading, reads}
 use Rattle.leaf_expr.specs.Grammar.{leaf, index_sort, word_at}
 use Rattle.leaf_expr.specs.TreeReader.{word_read, read, read_form, read_head}
-use Rattle.leaf_expr.specs.Front.{read_front}
+use Rattle.leaf_expr.specs.Front.{read_front, front_from, front_left}
+use Rattle.leaf_expr.specs.ReadText.{Gives}
+use Rattle.leaf_expr.specs.declared.tree_front.Front.{Front}
+use Rattle.leaf_expr.specs.declared.tree_front.Front.TheVariants as F
 use Rattle.leaf_expr.specs.declared.text_fault.ExprTextFault.{ExprTextFault}
 use Rattle.leaf_expr.proofs.TokenSteps.{word_takes}
-use Rattle.leaf_expr.proofs.ReadSteps.{Refuses, ok_same, refused_ok, refused_same}
+use Rattle.leaf_expr.proofs.ReadSteps.{Refuses, given, ok_same, refused_ok, refused_same}
 use Rattle.leaf_expr.specs.declared.text_fault.ExprTextFault.TheVariants.{Syntax}
 
 -- a token, and those behind it
@@ -56,3 +59,16 @@ module _ (L : Language) (size : ℕ) where
   front_refused x room s ((m, closing) ∷ ts) p = refused_same _ _ x _ p
   front_refused x zero s ((m, opening) ∷ ts) p = refused_same _ _ x _ p
   front_refused x (suc room) s ((m, opening) ∷ ts) p = refused_ok x _ _ p
+
+-- what the code reads behind what it found a tree to begin with is the tree
+module _ (L : Language) (s : L.Sort) {X : Type 0} (view : X → L.Tree s × ℕ × List PlacedToken) (r : Result X ExprTextFault)
+    (text : List ℕ) (room at : ℕ) {front : Front} where
+  pub in_form : {start : ℕ} → L.has_form s ≡ true → front ≡ F.Form start → front_from text room at ≡ Ok (front_left text front) →
+      Gives view r (read_form L (length text) (read L (length text) (room - 1)) (room - 1) s (tokens_from (start + 1) text)) →
+      Gives view r (read L (length text) room s (tokens_from at text))
+  in_form f e p g = given view r (front_form L (length text) room s (tokens_from at text) f (subst (λ z. front_from text room at ≡ Ok (front_left text z)) e p)) g
+
+  pub in_word : {start end : ℕ} → front ≡ F.Word start end → front_from text room at ≡ Ok (front_left text front) →
+      Gives view r (word_read start (slice_range text start end) (tokens_from end text) (L.word_at s (slice_range text start end))) →
+      Gives view r (read L (length text) room s (tokens_from at text))
+  in_word e p g = given view r (front_word L (length text) room s (tokens_from at text) (subst (λ z. front_from text room at ≡ Ok (front_left text z)) e p)) g

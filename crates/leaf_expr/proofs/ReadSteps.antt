@@ -75,6 +75,14 @@ pub with_refused : {A T R : Type 0} (x : ExprTextFault) (f : T → R) (r : Read 
 with_refused x f (Ok y) g p = refused_ok x _ _ p
 with_refused x f (Err d) g p = refused_same _ _ x d p
 
+-- what a call gives is what reading gives where that is the same
+pub given : {X Y : Type 0} (view : X → Y) (r : Result X ExprTextFault) {a b : Result Y ExprTextFault} → a ≡ b → Gives view r b → Gives view r a
+given view r e g = subst (Gives view r) (sym e) g
+
+-- what was read is what was made of it
+pub made : {T : Type 0} {x y : T} {n : ℕ} {us : List PlacedToken} (r : Read T) → r ≡ Ok (x, n, us) → y ≡ x → r ≡ Ok (y, n, us)
+made {n = n} {us = us} r p e = p ∙ ap (λ z. Ok (z, n, us)) (sym e)
+
 -- what a `?` returns of a refusal
 pub told : {X Y : Type 0} (view : X → Y) (r : Result X ExprTextFault) (x : ExprTextFault) (read : Result Y ExprTextFault) → IsErrAnd r (λ y. y ≡ x) →
     Refuses x read → Gives view r read

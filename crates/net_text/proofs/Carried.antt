@@ -5,10 +5,13 @@ use Rattle.leaf_expr.specs.Token.{opening, closing, word, PlacedToken}
 use Rattle.leaf_expr.specs.Sexpr.{Sexpr, Sexprs, atom, form, last, more}
 use Rattle.leaf_expr.specs.Language.{Places, Maker, Row, no_place, place, places, meaning, make_tree}
 use Rattle.leaf_expr.specs.Grammar.{leaf, Sort, Tree, row_at, has_form}
-use Rattle.leaf_expr.specs.TreeReader.{Fault, syntax, Read, ◌>>=◌, read, read_form, read_head, read_row, read_parts, read_all, read_end}
+use Rattle.leaf_expr.specs.TreeReader.{Read, read, read_form, read_head, read_row, read_parts, read_all, read_end}
 use Rattle.net_text.specs.Grammar.{networks, NetSort, NetTree, leaf_sort, leaf_places, leaf_maker, leaf_row, net_word_at, net_row_at}
+use Rattle.sample_core.specs.Answer.{◌>>=◌}
+use Rattle.leaf_expr.specs.declared.text_fault.ExprTextFault.{ExprTextFault}
+use Rattle.leaf_expr.specs.declared.text_fault.ExprTextFault.TheVariants as E
 
-bind_same : {A B : Type 0} (r : Result A Fault) (g h : A → Result B Fault) → ((x : A) → g x ≡ h x) → (r >>= g) ≡ (r >>= h)
+bind_same : {A B : Type 0} (r : Result A ExprTextFault) (g h : A → Result B ExprTextFault) → ((x : A) → g x ≡ h x) → (r >>= g) ≡ (r >>= h)
 bind_same (Ok x) g h same = same x
 bind_same (Err e) g h same = refl
 
@@ -52,7 +55,7 @@ module _ (size : ℕ) where
   read_same room s ((n, word w) ∷ ts) = refl
   read_same room s ((n, closing) ∷ ts) = refl
   read_same zero s ((n, opening) ∷ ts) = refl
-  read_same (suc room) s ((n, opening) ∷ ts) = ap (λ r. if has_form s then r else Err (syntax n)) (form_same (read networks size room) (read leaf size room) (read_same room) room s ts)
+  read_same (suc room) s ((n, opening) ∷ ts) = ap (λ r. if has_form s then r else Err (E.Syntax n)) (form_same (read networks size room) (read leaf size room) (read_same room) room s ts)
 
 with_row : (s : Sort) (o : Option (Row Sort Tree (Tree s))) (ps : Sexprs) → ((qs : Places Sort) (make : Maker Tree qs (Tree s)) → make_tree networks (leaf_sort s) (leaf_places qs) (leaf_maker (Tree s) qs make) ps ≡ make_tree leaf s qs make ps) → option_and_then (λ r. make_tree networks (leaf_sort s) r.takes r.makes ps) (option_map leaf_row o) ≡ option_and_then (λ r. make_tree leaf s r.takes r.makes ps) o
 with_row s None ps same = refl

@@ -11,42 +11,76 @@ use Rattle.leaf_core.specs.declared.expr.Expr.{Expr}
 use Rattle.leaf_expr.specs.Token.{opening, closing, word, PlacedToken, tokens}
 use Rattle.leaf_expr.specs.Language.{Begins}
 use Rattle.leaf_expr.specs.Grammar.{leaf, type_sort}
-use Rattle.leaf_expr.specs.TreeReader.{Fault, syntax, number, too_deep, ◌>>=◌, read}
+use Rattle.leaf_expr.specs.TreeReader.{read}
 use Rattle.leaf_expr.proofs.ReadFound.{found, bind_ok}
 use Rattle.leaf_expr.proofs.ReadOnly.{only, some_bind}
-use Rattle.leaf_expr.proofs.ReadFaults.{stops}
+use Rattle.leaf_expr.proofs.ReadFaults.{stops, stops_not_long}
 use Rattle.leaf_expr.proofs.LeafProper.{leaf_proper}
 use Rattle.net_syntax.specs.Network.{Network}
 use Rattle.net_syntax.specs.NetworkView.{tree_of}
 use Rattle.net_syntax.specs.declared.net.Net.{Net}
 use Rattle.net_text.specs.Grammar.{networks, network_sort}
-use Rattle.net_text.specs.File.{FileFault, header, too_long, at, behind_word, behind_header, at_end, read_network, read_body, body_fault, read_behind, read_file}
+use Rattle.net_text.specs.File.{in_file, behind_word, behind_header, at_end, read_network, read_body, body_fault, read_behind, read_file}
 use Rattle.net_text.specs.FileLaws.{header_tokens, HasHeader, IsFile, NoFile, no_type, no_network, follows, IsFileFault, ReadFileLaw, OneFileLaw}
 use Rattle.net_text.specs.ReadNet.{GivesFile}
 use Rattle.net_text.specs.declared.fault.NetTextFault.{NetTextFault}
 use Rattle.net_text.specs.declared.fault.NetTextFault.TheVariants as V
 use Rattle.net_text.proofs.NetProper.{networks_proper}
+use Rattle.sample_core.specs.Answer.{◌>>=◌}
+use Rattle.leaf_expr.specs.declared.text_fault.ExprTextFault.{ExprTextFault}
+use Rattle.leaf_expr.specs.declared.text_fault.ExprTextFault.TheVariants as E
 
 some_is : {A : Type 0} {x y : A} → ◌≡◌ {A = Option A} (Some x) (Some y) → x ≡ y
 some_is p = cc
 
-err_is : {A : Type 0} {x y : Fault} → ◌≡◌ {A = Result A Fault} (Err x) (Err y) → x ≡ y
+err_is : {A : Type 0} {x y : ExprTextFault} → ◌≡◌ {A = Result A ExprTextFault} (Err x) (Err y) → x ≡ y
 err_is p = cc
 
-file_is : {A : Type 0} {x y : A} → ◌≡◌ {A = Result A FileFault} (Ok x) (Ok y) → x ≡ y
+file_is : {A : Type 0} {x y : A} → ◌≡◌ {A = Result A NetTextFault} (Ok x) (Ok y) → x ≡ y
 file_is p = cc
 
-ok_same : {A : Type 0} {x y : A} → ◌≡◌ {A = Result A Fault} (Ok x) (Ok y) → x ≡ y
+ok_same : {A : Type 0} {x y : A} → ◌≡◌ {A = Result A ExprTextFault} (Ok x) (Ok y) → x ≡ y
 ok_same p = cc
 
-body_ok : {A : Type 0} (r : Result A Fault) (x : A) → body_fault r ≡ Ok x → r ≡ Ok x
+fault_is : {A : Type 0} {x y : NetTextFault} → ◌≡◌ {A = Result A NetTextFault} (Err x) (Err y) → x ≡ y
+fault_is p = cc
+
+no_header : (e : ExprTextFault) → V.Header ≢ in_file e
+no_header (E.Syntax n) p = cc
+no_header (E.Number n) p = cc
+no_header (E.TooDeep n) p = cc
+no_header E.TooLong p = cc
+no_header E.Memory p = cc
+
+not_long : {bs : List ℕ} → NoFile bs E.TooLong → ⊥
+not_long {bs = bs} (no_type ts h s) = stops_not_long leaf (length bs) 600 type_sort ts s
+not_long {bs = bs} (no_network ts h A n us b s) = stops_not_long networks (length bs) 600 network_sort us s
+not_long (follows ts h A n us b f m x after c e) = cc
+
+body_ok : {A : Type 0} (r : Result A ExprTextFault) (x : A) → body_fault r ≡ Ok x → r ≡ Ok x
 body_ok (Ok y) x e = ap Ok (file_is e)
 body_ok (Err f) x e = absurd (cc)
 
-at_is : {A : Type 0} {x y : Fault} → ◌≡◌ {A = Result A FileFault} (Err (at x)) (Err (at y)) → x ≡ y
-at_is p = cc
+-- a fault of a tree is told by that of the file
+of_tree : NetTextFault → ExprTextFault
+of_tree (V.Syntax n) = E.Syntax n
+of_tree (V.Number n) = E.Number n
+of_tree (V.TooDeep n) = E.TooDeep n
+of_tree V.TooLong = E.TooLong
+of_tree _ = E.Memory
 
-body_err : {A : Type 0} (r : Result A Fault) (f : Fault) → body_fault r ≡ Err (at f) → r ≡ Err f
+of_tree-in_file : (e : ExprTextFault) → of_tree (in_file e) ≡ e
+unfolding of_tree
+of_tree-in_file (E.Syntax n) = refl
+of_tree-in_file (E.Number n) = refl
+of_tree-in_file (E.TooDeep n) = refl
+of_tree-in_file E.TooLong = refl
+of_tree-in_file E.Memory = refl
+
+at_is : {A : Type 0} {x y : ExprTextFault} → ◌≡◌ {A = Result A NetTextFault} (Err (in_file x)) (Err (in_file y)) → x ≡ y
+at_is {x = x} {y = y} p = let i : in_file x ≡ in_file y = cc in sym (of_tree-in_file x) ∙ ap of_tree i ∙ of_tree-in_file y
+
+body_err : {A : Type 0} (r : Result A ExprTextFault) (f : ExprTextFault) → body_fault r ≡ Err (in_file f) → r ≡ Err f
 body_err (Ok y) f e = absurd (cc)
 body_err (Err g) f e = ap Err (at_is e)
 
@@ -83,7 +117,7 @@ module _ (bs : List ℕ) where
       let c : Begins networks 600 network_sort f h.network h.network_end [] = h.body in
       let p : read leaf (length bs) 600 type_sort h.behind ≡ Ok (A, h.type_end, h.network) = only leaf leaf_proper (length bs) 600 type_sort b.part h.behind h.type_end h.network A b.spells b.means b.within in
       let q : read networks (length bs) 600 network_sort h.network ≡ Ok (f, h.network_end, []) = only networks networks_proper (length bs) 600 network_sort c.part h.network h.network_end [] f c.spells c.means c.within in
-      ap (λ l. if l then Err too_long else read_behind (length bs) (behind_header (tokens bs))) (le-ltb 1048576 (length bs) h.short)
+      ap (λ l. if l then Err V.TooLong else read_behind (length bs) (behind_header (tokens bs))) (le-ltb 1048576 (length bs) h.short)
       ∙ ap (read_behind (length bs)) (header_behind bs h.behind h.headed)
       ∙ ap (λ r. body_fault (r >>= read_network (length bs))) p
       ∙ ap (λ r. body_fault (r >>= (λ g. at_end (A, g.0) g.2))) q
@@ -97,25 +131,25 @@ module _ (bs : List ℕ) where
       let g : j.0.0 ≡ f = ap (λ z. z.1) k.0 in
       record { short = l; behind = ts; headed = h; type_end = i.0.1; network = i.0.2; input = subst (λ B. Begins leaf 600 type_sort B ts i.0.1 i.0.2) a (found leaf (length bs) 600 type_sort ts i.0 i.1); network_end = j.0.1; body = subst (λ r. Begins networks 600 network_sort f i.0.2 j.0.1 r) k.1 (subst (λ n. Begins networks 600 network_sort n i.0.2 j.0.1 j.0.2) g (found networks (length bs) 600 network_sort i.0.2 j.0 j.1)) }
 
-  body_refused : (ts : List PlacedToken) → HasHeader bs ts → (e : Fault) → read_body (length bs) ts ≡ Err e → NoFile bs e
+  body_refused : (ts : List PlacedToken) → HasHeader bs ts → (e : ExprTextFault) → read_body (length bs) ts ≡ Err e → NoFile bs e
   body_refused ts h e p = go (read leaf (length bs) 600 type_sort ts) refl p
     where
-      ended : TypeTree → Network Expression × ℕ × List PlacedToken → Result (TypeTree × Network Expression) Fault
+      ended : TypeTree → Network Expression × ℕ × List PlacedToken → Result (TypeTree × Network Expression) ExprTextFault
       ended A g = at_end (A, g.0) g.2
 
-      then_network : (A : TypeTree) (n : ℕ) (us : List PlacedToken) → read leaf (length bs) 600 type_sort ts ≡ Ok (A, n, us) → (r : Result (Network Expression × ℕ × List PlacedToken) Fault) → read networks (length bs) 600 network_sort us ≡ r → (r >>= ended A) ≡ Err e → NoFile bs e
+      then_network : (A : TypeTree) (n : ℕ) (us : List PlacedToken) → read leaf (length bs) 600 type_sort ts ≡ Ok (A, n, us) → (r : Result (Network Expression × ℕ × List PlacedToken) ExprTextFault) → read networks (length bs) 600 network_sort us ≡ r → (r >>= ended A) ≡ Err e → NoFile bs e
       then_network A n us i (Err f) j q = no_network ts h A n us (found leaf (length bs) 600 type_sort ts (A, n, us) i) (stops networks networks_proper (length bs) 600 network_sort us e (j ∙ ap Err (err_is q)))
       then_network A n us i (Ok (f, m, [])) j q = absurd (cc)
       then_network A n us i (Ok (f, m, x ∷ after)) j q = follows ts h A n us (found leaf (length bs) 600 type_sort ts (A, n, us) i) f m x after (found networks (length bs) 600 network_sort us (f, m, x ∷ after) j) (sym (err_is q))
 
-      go : (r : Result (TypeTree × ℕ × List PlacedToken) Fault) → read leaf (length bs) 600 type_sort ts ≡ r → (r >>= read_network (length bs)) ≡ Err e → NoFile bs e
+      go : (r : Result (TypeTree × ℕ × List PlacedToken) ExprTextFault) → read leaf (length bs) 600 type_sort ts ≡ r → (r >>= read_network (length bs)) ≡ Err e → NoFile bs e
       go (Err f) i q = no_type ts h (stops leaf leaf_proper (length bs) 600 type_sort ts e (i ∙ ap Err (err_is q)))
       go (Ok (A, n, us)) i q = then_network A n us i (read networks (length bs) 600 network_sort us) refl q
 
-  short_file : (r : Result (TypeTree × Network Expression) FileFault) → r ≢ Err too_long → read_file bs ≡ r → (length bs ≤ 1048576) × (read_behind (length bs) (behind_header (tokens bs)) ≡ r)
+  short_file : (r : Result (TypeTree × Network Expression) NetTextFault) → r ≢ Err V.TooLong → read_file bs ≡ r → (length bs ≤ 1048576) × (read_behind (length bs) (behind_header (tokens bs)) ≡ r)
   short_file r d e = go (nat_lt 1048576 (length bs)) refl e
     where
-      go : (b : Bool) → nat_lt 1048576 (length bs) ≡ b → (if b then Err too_long else read_behind (length bs) (behind_header (tokens bs))) ≡ r → (length bs ≤ 1048576) × (read_behind (length bs) (behind_header (tokens bs)) ≡ r)
+      go : (b : Bool) → nat_lt 1048576 (length bs) ≡ b → (if b then Err V.TooLong else read_behind (length bs) (behind_header (tokens bs))) ≡ r → (length bs ≤ 1048576) × (read_behind (length bs) (behind_header (tokens bs)) ≡ r)
       go true q e' = absurd (d (sym e'))
       go false q e' = (ltb-false 1048576 (length bs) q, e')
 
@@ -129,37 +163,33 @@ module _ (bs : List ℕ) where
       go l None p q = absurd (cc)
       go l (Some ts) p q = body_found ts (headed_by ts p) l A f (body_ok (read_body (length bs) ts) (A, f) q)
 
-  pub file_refused : (e : Fault) → read_file bs ≡ Err (at e) → (length bs ≤ 1048576) × NoFile bs e
-  file_refused e p = let i : (length bs ≤ 1048576) × (read_behind (length bs) (behind_header (tokens bs)) ≡ Err (at e)) = short_file (Err (at e)) (λ q. cc) p in (i.0, go (behind_header (tokens bs)) refl i.1)
+  -- what is wrong behind the header, where the fault is not the header's
+  behind_refused : (e : ExprTextFault) → ◌≢◌ {A = Result (TypeTree × Network Expression) NetTextFault} (Err V.Header) (Err (in_file e)) →
+      read_behind (length bs) (behind_header (tokens bs)) ≡ Err (in_file e) → NoFile bs e
+  behind_refused e d p = go (behind_header (tokens bs)) refl p
     where
-      go : (o : Option (List PlacedToken)) → behind_header (tokens bs) ≡ o → read_behind (length bs) o ≡ Err (at e) → NoFile bs e
-      go None h q = absurd (cc)
+      go : (o : Option (List PlacedToken)) → behind_header (tokens bs) ≡ o → read_behind (length bs) o ≡ Err (in_file e) → NoFile bs e
+      go None h q = absurd (d q)
       go (Some ts) h q = body_refused ts (headed_by ts h) e (body_err (read_body (length bs) ts) e q)
 
-  pub headless : read_file bs ≡ Err header → (length bs ≤ 1048576) × ((ts : List PlacedToken) → HasHeader bs ts → ⊥)
-  headless p = let i : (length bs ≤ 1048576) × (read_behind (length bs) (behind_header (tokens bs)) ≡ Err header) = short_file (Err header) (λ q. cc) p in (i.0, λ ts h. not_header ts (sym (ap (read_behind (length bs)) (header_behind bs ts h)) ∙ i.1))
+  pub file_refused : (e : ExprTextFault) → in_file e ≢ V.TooLong → read_file bs ≡ Err (in_file e) → (length bs ≤ 1048576) × NoFile bs e
+  file_refused e d p =
+      let i : (length bs ≤ 1048576) × (read_behind (length bs) (behind_header (tokens bs)) ≡ Err (in_file e)) = short_file (Err (in_file e)) (λ q. d (fault_is q)) p in
+      (i.0, behind_refused e (λ q. no_header e (fault_is q)) i.1)
+
+  pub headless : read_file bs ≡ Err V.Header → (length bs ≤ 1048576) × ((ts : List PlacedToken) → HasHeader bs ts → ⊥)
+  headless p = let i : (length bs ≤ 1048576) × (read_behind (length bs) (behind_header (tokens bs)) ≡ Err V.Header) = short_file (Err V.Header) (λ q. cc) p in (i.0, λ ts h. not_header (read_body (length bs) ts) (sym (ap (read_behind (length bs)) (header_behind bs ts h)) ∙ i.1))
     where
-      not_at : (r : Result (TypeTree × Network Expression) Fault) → body_fault r ≡ Err header → ⊥
-      not_at (Ok x) q = cc
-      not_at (Err f) q = cc
+      not_header : (r : Result (TypeTree × Network Expression) ExprTextFault) → body_fault r ≡ Err V.Header → ⊥
+      not_header (Ok x) q = cc
+      not_header (Err f) q = no_header f (fault_is (sym q))
 
-      not_header : (ts : List PlacedToken) → read_behind (length bs) (Some ts) ≡ Err header → ⊥
-      not_header ts q = not_at (read_body (length bs) ts) q
-
-  pub longer : read_file bs ≡ Err too_long → 1048576 < length bs
+  pub longer : read_file bs ≡ Err V.TooLong → 1048576 < length bs
   longer p = go (nat_lt 1048576 (length bs)) refl p
     where
-      not_at : (r : Result (TypeTree × Network Expression) Fault) → body_fault r ≡ Err too_long → ⊥
-      not_at (Ok x) q = cc
-      not_at (Err f) q = cc
-
-      other : (o : Option (List PlacedToken)) → read_behind (length bs) o ≡ Err too_long → ⊥
-      other None q = cc
-      other (Some ts) q = not_at (read_body (length bs) ts) q
-
-      go : (b : Bool) → nat_lt 1048576 (length bs) ≡ b → (if b then Err too_long else read_behind (length bs) (behind_header (tokens bs))) ≡ Err too_long → 1048576 < length bs
+      go : (b : Bool) → nat_lt 1048576 (length bs) ≡ b → (if b then Err V.TooLong else read_behind (length bs) (behind_header (tokens bs))) ≡ Err V.TooLong → 1048576 < length bs
       go true q e = ltb-true 1048576 (length bs) q
-      go false q e = absurd (other (behind_header (tokens bs)) e)
+      go false q e = absurd (not_long (behind_refused E.TooLong (λ r. cc) e))
 
   -- what the call returned, said by the grammar alone
   pub net_found : (r : Result (Ty × Net Expr) NetTextFault) → GivesFile r (read_file bs) → IfOk r (λ x. IsFile bs (type_of x.0) (tree_of x.1))
@@ -171,11 +201,11 @@ module _ (bs : List ℕ) where
 
   pub net_refused : (r : Result (Ty × Net Expr) NetTextFault) → GivesFile r (read_file bs) → IfErr r (IsFileFault bs)
   net_refused (Ok x) h = tt
-  net_refused (Err V.Header) h = headless h
-  net_refused (Err (V.Syntax n)) h = file_refused (syntax n) h
-  net_refused (Err (V.Number n)) h = file_refused (number n) h
-  net_refused (Err (V.TooDeep n)) h = file_refused (too_deep n) h
-  net_refused (Err V.TooLong) h = longer h
+  net_refused (Err V.Header) h = headless (h (λ q. cc))
+  net_refused (Err (V.Syntax n)) h = file_refused (E.Syntax n) (λ q. cc) (h (λ q. cc))
+  net_refused (Err (V.Number n)) h = file_refused (E.Number n) (λ q. cc) (h (λ q. cc))
+  net_refused (Err (V.TooDeep n)) h = file_refused (E.TooDeep n) (λ q. cc) (h (λ q. cc))
+  net_refused (Err V.TooLong) h = longer (h (λ q. cc))
   net_refused (Err V.Memory) h = tt
 
 pub read_file_law : ReadFileLaw

@@ -4,15 +4,16 @@ use Rattle.leaf_expr.specs.Token.{PlacedToken}
 use Rattle.leaf_core.specs.Expression.{Expression}
 use Rattle.leaf_expr.specs.Language.{no_place}
 use Rattle.leaf_expr.specs.Grammar.{leaf, expression_sort}
-use Rattle.leaf_expr.specs.TreeReader.{Fault, Read, syntax, ◌>>=◌, read, read_form, read_head, read_row, read_parts, read_end}
-use Rattle.leaf_expr.specs.ReadText.{Refuses}
-use Rattle.leaf_expr.proofs.ReadSteps.{passed}
+use Rattle.leaf_expr.specs.TreeReader.{Read, read, read_form, read_head, read_row, read_parts, read_end}
+use Rattle.leaf_expr.proofs.ReadSteps.{Refuses, passed}
 use Rattle.leaf_expr.specs.declared.text_fault.ExprTextFault.{ExprTextFault}
 use Rattle.sample_core.specs.TypeTree.{TypeTree}
 use Rattle.net_syntax.specs.Network.{Network, seq}
 use Rattle.net_text.specs.File.{at_end, read_network}
 use Rattle.net_text.specs.Grammar.{networks, network_sort, leaf_sort, net_row_at, NetRow, e, f}
 use Rattle.net_text.proofs.Carried.{end_same, head_same, read_same}
+use Rattle.sample_core.specs.Answer.{◌>>=◌}
+use Rattle.leaf_expr.specs.declared.text_fault.ExprTextFault.TheVariants as E
 
 module _ (size room m : ℕ) (us : List PlacedToken) where
   -- a form by its word
@@ -24,7 +25,7 @@ module _ (size room m : ℕ) (us : List PlacedToken) where
       ∙ ap (λ o. read_row networks size (read networks size m) room n o ts) (sym q)
 
   pub unnamed : {n : ℕ} {w : List ℕ} {ts : List PlacedToken} → read_head leaf size room us ≡ Ok (n, w, ts) → None ≡ net_row_at network_sort w →
-      read_form networks size (read networks size m) room network_sort us ≡ Err (syntax n)
+      read_form networks size (read networks size m) room network_sort us ≡ Err (E.Syntax n)
   unnamed {n = n} {ts = ts} p q =
       ap (λ h. h >>= (λ h. read_row networks size (read networks size m) room h.0 (net_row_at network_sort h.1) h.2)) (head_same size room us ∙ p)
       ∙ ap (λ o. read_row networks size (read networks size m) room n o ts) (sym q)
@@ -75,13 +76,13 @@ room_left room h = omega arith
 
 -- a network with nothing behind it, with the type before it
 module _ (A : TypeTree) where
-  beside : Network Expression → Result (TypeTree × Network Expression) Fault
+  beside : Network Expression → Result (TypeTree × Network Expression) ExprTextFault
   beside g = Ok (A, g)
 
-  behind : Network Expression × ℕ × List PlacedToken → Result (TypeTree × Network Expression) Fault
+  behind : Network Expression × ℕ × List PlacedToken → Result (TypeTree × Network Expression) ExprTextFault
   behind g = at_end (A, g.0) g.2
 
-  alone : Network Expression × ℕ × List PlacedToken → Result (Network Expression) Fault
+  alone : Network Expression × ℕ × List PlacedToken → Result (Network Expression) ExprTextFault
   alone g = at_end g.0 g.2
 
   with_type : (r : Read (Network Expression)) → (r >>= behind) ≡ ((r >>= alone) >>= beside)

@@ -7,7 +7,6 @@ use Rattle.leaf_expr.specs.Sexpr.{Sexpr, depth}
 use Rattle.leaf_expr.specs.Language.{Begins, meaning}
 use Rattle.leaf_expr.specs.Grammar.{leaf, Sort, type_sort}
 use Rattle.leaf_expr.specs.Printing.{type_sexpr}
-use Rattle.leaf_expr.specs.TreeReader.{Fault, syntax, number, too_deep}
 use Rattle.leaf_expr.specs.ReadLaws.{Stops}
 use Rattle.net_syntax.specs.Network.{Network}
 use Rattle.net_text.specs.Grammar.{networks, network_sort, leaf_sort}
@@ -15,6 +14,8 @@ use Rattle.net_text.specs.File.{read_file}
 use Rattle.net_text.specs.Printing.{network_sexpr, file_spelling, Writable}
 use Rattle.net_text.specs.declared.fault.NetTextFault.{NetTextFault}
 use Rattle.net_text.specs.declared.fault.NetTextFault.TheVariants as V
+use Rattle.leaf_expr.specs.declared.text_fault.ExprTextFault.{ExprTextFault}
+use Rattle.leaf_expr.specs.declared.text_fault.ExprTextFault.TheVariants as E
 
 -- the words `yampa 1 input` at those places, and then ts
 abbrev pub header_tokens : ℕ → ℕ → ℕ → List PlacedToken → List PlacedToken
@@ -41,17 +42,17 @@ pub record IsFile (bs : List ℕ) (A : TypeTree) (f : Network Expression) : Type
 
 -- Why bytes with a header are no network file: no type stands behind it, or no network behind the type, or a token
 -- stands behind the network.
-pub data NoFile (bs : List ℕ) (e : Fault) : Type 0 where
+pub data NoFile (bs : List ℕ) (e : ExprTextFault) : Type 0 where
   no_type : (ts : List PlacedToken) → HasHeader bs ts → Stops leaf (length bs) 600 type_sort ts e → NoFile bs e
   no_network : (ts : List PlacedToken) → HasHeader bs ts → (A : TypeTree) (n : ℕ) (us : List PlacedToken) → Begins leaf 600 type_sort A ts n us → Stops networks (length bs) 600 network_sort us e → NoFile bs e
-  follows : (ts : List PlacedToken) → HasHeader bs ts → (A : TypeTree) (n : ℕ) (us : List PlacedToken) → Begins leaf 600 type_sort A ts n us → (f : Network Expression) (m : ℕ) (x : PlacedToken) (after : List PlacedToken) → Begins networks 600 network_sort f us m (x ∷ after) → e ≡ syntax x.0 → NoFile bs e
+  follows : (ts : List PlacedToken) → HasHeader bs ts → (A : TypeTree) (n : ℕ) (us : List PlacedToken) → Begins leaf 600 type_sort A ts n us → (f : Network Expression) (m : ℕ) (x : PlacedToken) (after : List PlacedToken) → Begins networks 600 network_sort f us m (x ∷ after) → e ≡ E.Syntax x.0 → NoFile bs e
 
 -- why the bytes are no network file
 abbrev pub IsFileFault : List ℕ → NetTextFault → Type 0
 IsFileFault bs V.Header = (length bs ≤ 1048576) × ((ts : List PlacedToken) → HasHeader bs ts → ⊥)
-IsFileFault bs (V.Syntax n) = (length bs ≤ 1048576) × NoFile bs (syntax n)
-IsFileFault bs (V.Number n) = (length bs ≤ 1048576) × NoFile bs (number n)
-IsFileFault bs (V.TooDeep n) = (length bs ≤ 1048576) × NoFile bs (too_deep n)
+IsFileFault bs (V.Syntax n) = (length bs ≤ 1048576) × NoFile bs (E.Syntax n)
+IsFileFault bs (V.Number n) = (length bs ≤ 1048576) × NoFile bs (E.Number n)
+IsFileFault bs (V.TooDeep n) = (length bs ≤ 1048576) × NoFile bs (E.TooDeep n)
 IsFileFault bs V.TooLong = 1048576 < length bs
 IsFileFault bs V.Memory = Unit {0}
 

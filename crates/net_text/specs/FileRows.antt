@@ -5,10 +5,10 @@ use Rattle.leaf_core.specs.Expression.{Expression, input, unit_expr, int_expr}
 use Rattle.leaf_expr.specs.Sexpr.{Sexpr, atom}
 use Rattle.leaf_expr.specs.Language.{meaning}
 use Rattle.leaf_expr.specs.Printing.{one, two}
-use Rattle.leaf_expr.specs.TreeReader.{syntax, number}
 use Rattle.net_syntax.specs.Network.{Network, arr, seq, i_pre}
 use Rattle.net_text.specs.Grammar.{networks, network_sort}
-use Rattle.net_text.specs.File.{header, at, read_file}
+use Rattle.net_text.specs.File.{read_file}
+use Rattle.net_text.specs.declared.fault.NetTextFault.TheVariants as V
 
 -- the file of that network, with numbers as its input
 abbrev pub file_of : List ℕ → List ℕ
@@ -36,8 +36,8 @@ ConstantIs = (e : Sexpr) → meaning networks network_sort (one (codes "constant
 -- refusals: by place and kind
 abbrev pub FileFaultRows : Type 0
 FileFaultRows =
-    (read_file (codes "yampa 1 input Int (arr") ≡ Err (at (syntax 22)))
-    × (read_file (codes "yampa 1 input Int (arr 01)") ≡ Err (at (number 23)))
-    × (read_file (codes "yampa 3 input Int time") ≡ Err header)
-    × (read_file (codes "yampa 1 input Int time") ≡ Err (at (syntax 18)))
-    × (read_file (codes "yampa 1 input Int identity )") ≡ Err (at (syntax 27)))
+    (read_file (codes "yampa 1 input Int (arr") ≡ Err (V.Syntax 22))
+    × (read_file (codes "yampa 1 input Int (arr 01)") ≡ Err (V.Number 23))
+    × (read_file (codes "yampa 3 input Int time") ≡ Err V.Header)
+    × (read_file (codes "yampa 1 input Int time") ≡ Err (V.Syntax 18))
+    × (read_file (codes "yampa 1 input Int identity )") ≡ Err (V.Syntax 27))

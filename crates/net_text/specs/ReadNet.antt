@@ -1,28 +1,28 @@
 -- What the code's reader of networks answers: what the reader of the grammar does on the tokens from some byte on.
-use Rattle.std.specs.Prelude.{◌≡◌, ℕ, List, length, slice_range, Result, Ok, Err}
+use Rattle.std.specs.Prelude.{ℕ, List, length, slice_range, Result}
 use Rattle.sample_core.specs.TypeTree.{TypeTree}
 use Rattle.sample_core.specs.TypeView.{type_of}
 use Rattle.sample_core.specs.declared.ty.Ty.{Ty}
 use Rattle.leaf_core.specs.Expression.{Expression}
 use Rattle.leaf_core.specs.declared.expr.Expr.{Expr}
 use Rattle.leaf_expr.specs.declared.text_fault.ExprTextFault.{ExprTextFault}
-use Rattle.leaf_expr.specs.declared.text_fault.ExprTextFault.TheVariants as E
 use Rattle.leaf_expr.specs.Token.{PlacedToken, tokens_from}
-use Rattle.leaf_expr.specs.TreeReader.{Fault, ◌>>=◌, word_read, syntax, number, too_deep, Read, read, read_form, read_parts}
+use Rattle.leaf_expr.specs.TreeReader.{word_read, Read, read, read_form, read_parts}
 use Rattle.net_syntax.specs.Network.{Network}
 use Rattle.net_syntax.specs.NetworkView.{tree_of}
 use Rattle.net_syntax.specs.declared.net.Net.{Net}
 use Rattle.net_text.specs.Grammar.{networks, network_sort, net_word_at, NetRow}
-use Rattle.net_text.specs.File.{FileFault, header, too_long, at, at_end}
+use Rattle.net_text.specs.File.{at_end}
 use Rattle.net_text.specs.declared.fault.NetTextFault.{NetTextFault}
 use Rattle.net_text.specs.declared.fault.NetTextFault.TheVariants as V
+use Rattle.sample_core.specs.Answer.{◌>>=◌, GivesUnless}
 
 -- a network in the text from byte n on, with room for so many more parentheses
 abbrev pub network_at : List ℕ → ℕ → ℕ → Read (Network Expression)
 network_at text room n = read networks (length text) room network_sort (tokens_from n text)
 
 -- the same, and nothing behind it
-abbrev pub last_network_at : List ℕ → ℕ → Result (Network Expression) Fault
+abbrev pub last_network_at : List ℕ → ℕ → Result (Network Expression) ExprTextFault
 last_network_at text n = network_at text 600 n >>= (λ f. at_end f.0 f.2)
 
 -- the network that the word is from byte n up to and without byte m
@@ -41,24 +41,6 @@ row_parts r text room n = read_parts networks (length text) (read networks (leng
 abbrev pub network_left : List ℕ → Net Expr × ℕ → Network Expression × ℕ × List PlacedToken
 network_left text x = (tree_of x.0, x.1, tokens_from x.1 text)
 
--- a fault of a tree as a fault of the file that it stands in
-abbrev pub in_file : ExprTextFault → NetTextFault
-in_file (E.Syntax n) = V.Syntax n
-in_file (E.Number n) = V.Number n
-in_file (E.TooDeep n) = V.TooDeep n
-in_file E.TooLong = V.TooLong
-in_file E.Memory = V.Memory
-
--- a fault that reading has; `Memory` says nothing of the file
-abbrev pub RefusesFile : {Y : Type 0} → NetTextFault → Result Y FileFault → Type 0
-RefusesFile V.Header read = read ≡ Err header
-RefusesFile (V.Syntax n) read = read ≡ Err (at (syntax n))
-RefusesFile (V.Number n) read = read ≡ Err (at (number n))
-RefusesFile (V.TooDeep n) read = read ≡ Err (at (too_deep n))
-RefusesFile V.TooLong read = read ≡ Err too_long
-RefusesFile V.Memory read = Unit {0}
-
 -- what the call returned is what reading gives, unless memory ran out
-abbrev pub GivesFile : Result (Ty × Net Expr) NetTextFault → Result (TypeTree × Network Expression) FileFault → Type 0
-GivesFile (Ok x) read = read ≡ Ok (type_of x.0, tree_of x.1)
-GivesFile (Err e) read = RefusesFile e read
+abbrev pub GivesFile : Result (Ty × Net Expr) NetTextFault → Result (TypeTree × Network Expression) NetTextFault → Type 0
+GivesFile result read = GivesUnless V.Memory (λ x. (type_of x.0, tree_of x.1)) result read

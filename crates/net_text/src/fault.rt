@@ -31,7 +31,7 @@ pub enum NetTextFault {
 }
 
 impl From<ExprTextFault> for NetTextFault {
-    ghost use Rattle.net_text.specs.ReadNet.{in_file};
+    ghost use Rattle.net_text.specs.File.{in_file};
 
     ghost from_gives = { λ f e. e ≡ in_file f };
 

@@ -1,5 +1,6 @@
 -- The samples that the text of a stream holds, and its first fault.
-use Rattle.std.specs.Prelude.{◌≡◌, ℕ, suc, Bool, true, false, nat_eq, nat_lt, List, [], ◌∷◌, length, Option, Some, None, Result, Ok, Err, if◌then◌else◌, bytes_eq, codes, ⊤}
+use Rattle.std.specs.Prelude.{◌≡◌, ℕ, suc, nat_eq, nat_lt, List, [], ◌∷◌, length, Option, Some, None, Result, Ok, Err, if◌then◌else◌, bytes_eq, codes, is_some}
+use Rattle.sample_core.specs.Answer.{◌>>=◌, GivesUnless}
 use Rattle.sample_core.specs.Datum.{Datum}
 use Rattle.sample_core.specs.HasType.{HasType}
 use Rattle.sample_core.specs.TypeTree.{TypeTree}
@@ -22,13 +23,7 @@ whole_value A n bs = if_whole n (length bs) (reading A bs)
 
 -- the value as a sample with the step d
 abbrev pub with_step : ℕ → Result Datum StreamFault → Result (ℕ × Datum) StreamFault
-with_step d (Ok v) = Ok (d, v)
-with_step d (Err fault) = Err fault
-
--- whether something is there
-abbrev pub is_some : {T : Type 0} → Option T → Bool
-is_some None = false
-is_some (Some t) = true
+with_step d value = value >>= (λ v. Ok (d, v))
 
 -- line 1 is a value; its step is 0, since no network sees it
 abbrev pub first_line : TypeTree → ℕ → List ℕ → Result (ℕ × Datum) StreamFault
@@ -72,12 +67,6 @@ samples_from A n before (line ∷ lines) = then_samples (line_read A n before li
 abbrev pub samples : TypeTree → List ℕ → Samples
 samples A text = samples_from A 1 None (lines_of text)
 
--- The fault is what reading has; `Memory` says nothing of the text.
-abbrev pub Refuses : {Y : Type 0} → StreamFault → Result Y StreamFault → Type 0
-Refuses S.Memory read = ⊤
-Refuses fault read = read ≡ Err fault
-
 -- What a call returned, seen by view, is what reading gives, unless memory ran out.
-abbrev pub TellsLine : {X Y : Type 0} → (X → Y) → Result X StreamFault → Result Y StreamFault → Type 0
-TellsLine view (Ok x) read = read ≡ Ok (view x)
-TellsLine view (Err fault) read = Refuses fault read
+abbrev pub Gives : {X Y : Type 0} → (X → Y) → Result X StreamFault → Result Y StreamFault → Type 0
+Gives view result read = GivesUnless S.Memory view result read

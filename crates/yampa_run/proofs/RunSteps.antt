@@ -1,6 +1,6 @@
 -- A run, line by line.
 use Rattle.std.proofs.Common.{◌≡◌, ◌≤◌, ◌<◌, ◌+◌, ℕ, zero, suc, Bool, true, false, List, [], ◌∷◌, ◌++◌, length, take, Option, Some, None, Result, Ok, Err, refl, sym, ap, ◌∙◌, subst, arith, append_assoc, append-nil, length-append, nat_lt, nat_eq, if◌then◌else◌}
-use Rattle.std.specs.Prelude.{bytes_eq, codes, ⊤}
+use Rattle.std.specs.Prelude.{◌≢◌, bytes_eq, codes, is_some, ⊤}
 use Rattle.std.proofs.lemmas.List.{take_at}
 use Rattle.sample_core.specs.Datum.{Datum}
 use Rattle.sample_core.specs.Reading.{reading}
@@ -22,7 +22,7 @@ use Rattle.step_core.specs.RunnerState.{RunnerState, StandsFor, Pushes, network_
 use Rattle.yampa_run.specs.RunSteps.{IsAt, RunsLine, IsOfText, Stops, run_fault_of}
 use Rattle.yampa_run.specs.Output.{spelled_lines}
 use Rattle.stream_text.specs.StepText.{behind, step_in}
-use Rattle.stream_text.specs.StreamText.{Samples, IsBefore, then_samples, samples_from, if_whole, is_some, later_line, line_after, line_read, samples, with_step, Refuses}
+use Rattle.stream_text.specs.StreamText.{Samples, IsBefore, then_samples, samples_from, if_whole, later_line, line_after, line_read, samples, with_step}
 use Rattle.stream_text.specs.TextLines.{lines_of}
 use Rattle.yampa_run.specs.FaultLines.{EndsRun}
 use Rattle.stream_text.specs.declared.fault.StreamFault.{StreamFault}
@@ -149,16 +149,16 @@ short keys b text lines r before rest out out' g o =
       counted = let l : length (samples b.input text).taken ≡ length (g.p ++ more) = ap length all in omega (arith, l, length-append g.p more, g.count);
     }
 
-pub stops : (keys : List KeyTree) (b : Binding) (text : List ℕ) (lines n : ℕ) (r : RunnerState) (before : Option Datum) (rest line after out out' : List ℕ) (fault : StreamFault) → n ≡ suc lines → lines_of rest ≡ line ∷ lines_of after → Progress keys b text lines r before rest out → out' ≡ out → Refuses fault (line_read b.input n before line) → Stops keys b text out' (run_fault_of lines fault)
-stops keys b text lines n r before rest line after out out' (S.Step k) i e g o h = faulty keys b text lines n r before rest line after out out' (S.Step k) i e g o h
-stops keys b text lines n r before rest line after out out' (S.Value k v) i e g o h = faulty keys b text lines n r before rest line after out out' (S.Value k v) i e g o h
-stops keys b text lines n r before rest line after out out' (S.NothingBefore k) i e g o h = faulty keys b text lines n r before rest line after out out' (S.NothingBefore k) i e g o h
-stops keys b text lines n r before rest line after out out' (S.LineTooLong k) i e g o h = faulty keys b text lines n r before rest line after out out' (S.LineTooLong k) i e g o h
-stops keys b text lines n r before rest line after out out' (S.TooManySamples k) i e g o h = faulty keys b text lines n r before rest line after out out' (S.TooManySamples k) i e g o h
-stops keys b text lines n r before rest line after out out' S.ReadTurns i e g o h = faulty keys b text lines n r before rest line after out out' S.ReadTurns i e g o h
-stops keys b text lines n r before rest line after out out' S.Read i e g o h = faulty keys b text lines n r before rest line after out out' S.Read i e g o h
+pub stops : (keys : List KeyTree) (b : Binding) (text : List ℕ) (lines n : ℕ) (r : RunnerState) (before : Option Datum) (rest line after out out' : List ℕ) (fault : StreamFault) → n ≡ suc lines → lines_of rest ≡ line ∷ lines_of after → Progress keys b text lines r before rest out → out' ≡ out → (fault ≢ S.Memory → line_read b.input n before line ≡ Err fault) → Stops keys b text out' (run_fault_of lines fault)
+stops keys b text lines n r before rest line after out out' (S.Step k) i e g o h = faulty keys b text lines n r before rest line after out out' (S.Step k) i e g o (h (λ q. cc))
+stops keys b text lines n r before rest line after out out' (S.Value k v) i e g o h = faulty keys b text lines n r before rest line after out out' (S.Value k v) i e g o (h (λ q. cc))
+stops keys b text lines n r before rest line after out out' (S.NothingBefore k) i e g o h = faulty keys b text lines n r before rest line after out out' (S.NothingBefore k) i e g o (h (λ q. cc))
+stops keys b text lines n r before rest line after out out' (S.LineTooLong k) i e g o h = faulty keys b text lines n r before rest line after out out' (S.LineTooLong k) i e g o (h (λ q. cc))
+stops keys b text lines n r before rest line after out out' (S.TooManySamples k) i e g o h = faulty keys b text lines n r before rest line after out out' (S.TooManySamples k) i e g o (h (λ q. cc))
+stops keys b text lines n r before rest line after out out' S.ReadTurns i e g o h = faulty keys b text lines n r before rest line after out out' S.ReadTurns i e g o (h (λ q. cc))
+stops keys b text lines n r before rest line after out out' S.Read i e g o h = faulty keys b text lines n r before rest line after out out' S.Read i e g o (h (λ q. cc))
 stops keys b text lines n r before rest line after out out' S.Memory i e g o h = short keys b text lines r before rest out out' g o
-stops keys b text lines n r before rest line after out out' S.Ended i e g o h = faulty keys b text lines n r before rest line after out out' S.Ended i e g o h
+stops keys b text lines n r before rest line after out out' S.Ended i e g o h = faulty keys b text lines n r before rest line after out out' S.Ended i e g o (h (λ q. cc))
 
 -- what a run ends with is told by the program
 pub answered : (keys : List KeyTree) (b : Binding) (text out : List ℕ) (fault : RunFault) → Stops keys b text out fault → EndsRun fault

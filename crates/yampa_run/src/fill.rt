@@ -4,7 +4,7 @@
 //! The module is public for its macros alone: what they write in the caller's body names its
 //! items.
 
-ghost use Rattle.std.specs.Prelude.{◌≡◌, [], ◌∷◌, ◌++◌, Contains, IfSome, Ok, OnErr, OnOk, map};
+ghost use Rattle.std.specs.Prelude.{◌≡◌, [], ◌∷◌, ◌++◌, Contains, IfErr, IfSome, Ok, OnErr, OnOk, length, map};
 ghost use Rattle.sample_core.specs.ValueView.{datum_of};
 ghost use Rattle.leaf_table.specs.Computes.{Computes};
 ghost use Rattle.leaf_table.specs.Rows.{rows_of};
@@ -48,6 +48,9 @@ pub fn add_row(
     ensures known { Contains (rows_of table.old) need.now.key → rows_of table.new ≡ rows_of table.old }
     ensures grown { OnOk result ((Contains (rows_of table.old) need.now.key → ⊥) → rows_of table.new ≡ rows_of table.old ++ need.now.key ∷ []) }
     ensures unchanged { OnErr result (rows_of table.new ≡ rows_of table.old) }
+    ensures full { IfErr result (λ fault. fault ≡ TableFault.Full
+        → (length (rows_of table.old) ≡ 4096)
+        × (Contains (rows_of table.old) need.now.key → ⊥)) }
 {
     // What is let go here is dropped by calls: where a scope ends, its drop is written out in
     // place, and proved there.

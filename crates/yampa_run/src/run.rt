@@ -1,6 +1,6 @@
 // Runs of a network on a whole text.
 
-ghost use Rattle.std.specs.Prelude.{◌≡◌, ◌<◌, ◌≤◌, ◌^◌, [], ◌∷◌, ◌++◌, IfErr, IfOk, None, OnErr, OnOk, Some};
+ghost use Rattle.std.specs.Prelude.{◌≡◌, ◌≢◌, ◌<◌, ◌≤◌, ◌^◌, [], ◌∷◌, ◌++◌, Err, IfErr, IfOk, None, OnErr, OnOk, Some};
 ghost use Rattle.std.specs.Option.{option_map};
 ghost use Rattle.sample_core.specs.HasType.{HasType};
 ghost use Rattle.sample_core.specs.ValueView.{datum_of};
@@ -11,7 +11,8 @@ ghost use Rattle.step_core.specs.Binding.{FitsTable};
 ghost use Rattle.step_core.specs.RunnerView.{runner_state};
 ghost use Rattle.yampa_run.specs.RunSteps.{Answers, IsAt, RunsLine, RunsToEnd, Stops, run_fault_of};
 ghost use Rattle.yampa_run.specs.FaultLines.{EndsRun};
-ghost use Rattle.stream_text.specs.StreamText.{Refuses, line_read};
+ghost use Rattle.stream_text.specs.StreamText.{line_read};
+ghost use Rattle.stream_text.specs.declared.fault.StreamFault.TheVariants as Fault;
 
 use crate::fault::{RunFault, RunReport};
 use leaf_table::LeafTable;
@@ -107,7 +108,7 @@ fn run_line(
 ) -> Result<(), StreamFault>
     requires { IsAt (runner_state runner.old) (type_of ty.now) number (option_map datum_of state.old.before) }
     ensures runs { OnOk result (RunsLine (runner_state runner.old) number line.now (option_map datum_of state.old.before) out.old.items (runner_state runner.new) (option_map datum_of state.new.before) out.new.items) }
-    ensures told { IfErr result (λ fault. Refuses fault (line_read (type_of ty.now) number (option_map datum_of state.old.before) line.now)) }
+    ensures told { IfErr result (λ fault. fault ≢ Fault.Memory → line_read (type_of ty.now) number (option_map datum_of state.old.before) line.now ≡ Err fault) }
     ensures kept { OnErr result (out.new.items ≡ out.old.items) }
 {
     // By these laws the sample is of the type.

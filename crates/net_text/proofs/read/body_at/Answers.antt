@@ -1,10 +1,10 @@
 use Rattle.std.proofs.Common.{◌∙◌, ap, length}
 use Rattle.sample_core.specs.TypeView.{type_of}
-use Rattle.leaf_expr.specs.TreeReader.{◌>>=◌}
 use Rattle.leaf_expr.specs.Token.{tokens_from}
 use Rattle.net_text.specs.File.{read_network}
 use Rattle.net_text.proofs.ReadSteps.{body_read, body_refused}
 use Rattle.net_text.proofs.read.body_at.Goals as goal
+use Rattle.sample_core.specs.Answer.{◌>>=◌}
 
 pub returns-in-Ok : goal.returns-in-Ok
 returns-in-Ok c =
