@@ -15,7 +15,7 @@ use crate::operations::{
     copied_param, count, element, equal, literal_value, negated, number, of_numbers, of_truths,
     part, sum_of, truth,
 };
-use sample_core::{Memory, Sample, SampleChild, Samples, push};
+use sample_core::{Memory, Sample, SampleChild, Samples};
 use std::alloc::Global;
 
 /// The value of the expression at the input `x`, where `params[k]` is the value of parameter k.
@@ -459,7 +459,7 @@ fn eval_elements(
     let mut values = Vec::new(alloc);
     for element in elements.as_slice() {
         let value = eval(alloc, element, params, x)?;
-        push(&mut values, value)?;
+        values.push(value)?;
     }
     Samples::new(alloc, values)
 }

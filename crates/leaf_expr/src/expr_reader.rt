@@ -20,7 +20,7 @@ use crate::tree_front::{Front, closing_at, form_end, form_head, front_at};
 use crate::type_reader::{MAX_OPEN, read_type};
 use crate::word::{WordFault, expr_word, index_word};
 use leaf_core::{Expr, ExprChild, Exprs};
-use sample_core::{Ty, push};
+use sample_core::Ty;
 use std::alloc::Global;
 
 /// The most bytes that a text may have.
@@ -286,7 +286,7 @@ fn items(
             return Ok((all, end));
         }
         let (expr, behind) = read_expression(alloc, text, next, room)?;
-        push(&mut all, expr)?;
+        all.push(expr)?;
         next = behind;
     }
 }

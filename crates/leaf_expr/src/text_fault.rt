@@ -3,7 +3,7 @@
 ghost use Rattle.std.specs.Prelude.{◌≡◌};
 
 use sample_core::Memory;
-use std::alloc::AllocError;
+use std::alloc::{AllocError, AllocFailed};
 use thiserror::Error;
 
 /// Why a text is no type or expression. Each `at` is the first byte of the first token that
@@ -44,6 +44,16 @@ impl From<AllocError> for ExprTextFault {
     ghost from_gives = { λ _ e. e ≡ Fault.Memory };
 
     fn from(_: AllocError) -> ExprTextFault {
+        ExprTextFault::Memory
+    }
+}
+
+impl<T: Drop> From<AllocFailed<T>> for ExprTextFault {
+    ghost use Rattle.leaf_expr.specs.declared.text_fault.ExprTextFault.TheVariants as Fault;
+
+    ghost from_gives = { λ _ e. e ≡ Fault.Memory };
+
+    fn from(_failed: AllocFailed<T>) -> ExprTextFault {
         ExprTextFault::Memory
     }
 }

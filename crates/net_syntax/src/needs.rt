@@ -14,7 +14,7 @@ use crate::net::{Net, NetChild};
 use crate::position::Position;
 use crate::typed_net::TypedNet;
 use leaf_core::{Expr, ExprFault, LeafKey, type_of_expr};
-use sample_core::{Memory, Ty, push, try_copy_types};
+use sample_core::{Memory, Ty, try_copy_types};
 use std::alloc::Global;
 
 /// Every expression that is a child of a network, from the root on, children in written order.
@@ -98,7 +98,7 @@ fn add_child(
         (map_network expression_of child.now) (type_of input.now) (type_of t)
         (map need_of needs.old.items) (map need_of needs.new.items)) }
 {
-    push(path, k)?;
+    path.push(k)?;
     let output = add_leaves(alloc, child.get(), scope, input, path, needs);
     path.pop();
     output
@@ -170,7 +170,13 @@ fn add_need(
         (type_of input.now) (type_of output.now) ∷ []) }
 {
     let need = first_need(alloc, expr, scope, input, path, output)?;
-    push(needs, need)
+    match needs.push(need) {
+        Ok(()) => Ok(()),
+        Err(failed) => {
+            drop(failed);
+            Err(Memory)
+        }
+    }
 }
 
 /// What the expression needs that is the first child of the node at the path, and has that type.

@@ -9,7 +9,7 @@ ghost use Rattle.sample_core.specs.Adding.{Adds};
 ghost use Rattle.net_syntax.specs.Position.{position_spelling};
 
 use itoa::Buffer;
-use sample_core::{Memory, push};
+use sample_core::Memory;
 use std::alloc::Global;
 use std::marker::Model;
 
@@ -50,7 +50,7 @@ impl Position {
     {
         let mut numbers = Vec::with_capacity(alloc, path.len() + 1)?;
         numbers.extend_from_slice(path)?;
-        push(&mut numbers, k)?;
+        numbers.push(k)?;
         Ok(Position::new(numbers))
     }
 

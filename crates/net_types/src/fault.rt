@@ -5,7 +5,7 @@ ghost use Rattle.std.specs.Prelude.{◌≡◌};
 use leaf_core::ExprFault;
 use net_syntax::Position;
 use sample_core::Memory;
-use std::alloc::AllocError;
+use std::alloc::{AllocError, AllocFailed};
 use thiserror::Error;
 
 /// Why a network has no types within the limits. A position is that of the node or of the
@@ -76,6 +76,16 @@ impl From<AllocError> for TypeFault {
     ghost from_gives = { λ _ e. e ≡ Fault.Memory };
 
     fn from(_: AllocError) -> TypeFault {
+        TypeFault::Memory
+    }
+}
+
+impl<T: Drop> From<AllocFailed<T>> for TypeFault {
+    ghost use Rattle.net_types.specs.declared.fault.TypeFault.TheVariants as Fault;
+
+    ghost from_gives = { λ _ e. e ≡ Fault.Memory };
+
+    fn from(_failed: AllocFailed<T>) -> TypeFault {
         TypeFault::Memory
     }
 }

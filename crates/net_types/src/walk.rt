@@ -12,7 +12,7 @@ ghost use Rattle.net_types.specs.Check.{net_walk, Gives};
 use crate::fault::TypeFault;
 use leaf_core::{Expr, ExprFault, type_of_expr};
 use net_syntax::{Net, NetChild, Position};
-use sample_core::{Ty, push, same_type};
+use sample_core::{Ty, same_type};
 use std::alloc::Global;
 
 /// The output type of the network at the path under an input of this type, with nothing in scope.
@@ -66,7 +66,7 @@ fn walk_child(
         (map_network expression_of child.now)) }
     ensures path { OnOk result (path.new.items ≡ path.old.items) }
 {
-    push(path, k)?;
+    path.push(k)?;
     let output = walk(alloc, path, input, child.get());
     path.pop();
     output

@@ -3,7 +3,7 @@
 ghost use Rattle.std.specs.Prelude.{◌≡◌};
 
 use crate::memory::Memory;
-use std::alloc::AllocError;
+use std::alloc::{AllocError, AllocFailed};
 use thiserror::Error;
 
 /// Why no value of the type was read. Each `at` is a byte of the text, counted from 0.
@@ -40,6 +40,16 @@ impl From<AllocError> for ValueFault {
     ghost from_gives = { λ _ e. e ≡ Fault.Memory };
 
     fn from(_: AllocError) -> ValueFault {
+        ValueFault::Memory
+    }
+}
+
+impl<T: Drop> From<AllocFailed<T>> for ValueFault {
+    ghost use Rattle.sample_core.specs.declared.fault.ValueFault.TheVariants as Fault;
+
+    ghost from_gives = { λ _ e. e ≡ Fault.Memory };
+
+    fn from(_failed: AllocFailed<T>) -> ValueFault {
         ValueFault::Memory
     }
 }

@@ -11,7 +11,6 @@ ghost use Rattle.sample_core.specs.Spelling.{spelling};
 
 use crate::fault::ValueFault;
 use crate::front_number::front_number;
-use crate::memory::push;
 use crate::number::{is_number_spelling, number};
 use crate::sample::{Sample, SampleChild, Samples};
 use crate::ty::{Ty, TyChild};
@@ -305,7 +304,7 @@ fn elements<'t>(
     let mut rest = text;
     while let Some(element) = after_space(rest) {
         let (sample, after) = value(alloc, size, element, ty)?;
-        push(&mut all, sample)?;
+        all.push(sample)?;
         rest = after;
     }
     Ok((all, rest))

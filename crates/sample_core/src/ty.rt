@@ -3,7 +3,7 @@
 ghost use Rattle.std.specs.Prelude.{◌≡◌, IfOk};
 ghost use Rattle.sample_core.specs.TypeView.{type_of};
 
-use crate::memory::{Memory, push};
+use crate::memory::Memory;
 use std::alloc::Global;
 use std::marker::Model;
 use std::rc::Rc;
@@ -112,7 +112,7 @@ pub fn try_copy_types(alloc: Global, types: &[Ty]) -> Result<Vec<Ty>, Memory>
     let mut copies = Vec::with_capacity(alloc, types.len())?;
     for ty in types {
         let copy = ty.try_copy(alloc)?;
-        push(&mut copies, copy)?;
+        copies.push(copy)?;
     }
     Ok(copies)
 }

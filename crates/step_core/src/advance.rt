@@ -13,7 +13,7 @@ ghost use Rattle.step_core.specs.RowTyping.{FitsRows};
 
 use leaf_table::{LeafId, LeafTable};
 use net_syntax::Net;
-use sample_core::{Memory, Sample, push};
+use sample_core::{Memory, Sample};
 use std::alloc::Global;
 
 /// The network's answer to its first sample. Adds to `next` what its cells hold after it. `Memory`
@@ -84,7 +84,13 @@ fn keep(alloc: Global, next: &mut Vec<Sample>, sample: &Sample) -> Result<(), Me
         (map datum_of next.new.items ≡ map datum_of next.old.items ++ datum_of sample.now ∷ []) }
 {
     let copy = sample.try_copy(alloc)?;
-    push(next, copy)
+    match next.push(copy) {
+        Ok(()) => Ok(()),
+        Err(failed) => {
+            drop(failed);
+            Err(Memory)
+        }
+    }
 }
 
 /// The value of the row of a constant place, whose input is `unit`.

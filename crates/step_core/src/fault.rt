@@ -4,7 +4,7 @@ ghost use Rattle.std.specs.Prelude.{◌≡◌};
 
 use net_syntax::Position;
 use sample_core::Memory;
-use std::alloc::AllocError;
+use std::alloc::{AllocError, AllocFailed};
 use thiserror::Error;
 
 /// Why a network is not bound to a table.
@@ -37,6 +37,16 @@ impl From<AllocError> for BindFault {
     ghost from_gives = { λ _ e. e ≡ Fault.Memory };
 
     fn from(_: AllocError) -> BindFault {
+        BindFault::Memory
+    }
+}
+
+impl<T: Drop> From<AllocFailed<T>> for BindFault {
+    ghost use Rattle.step_core.specs.declared.fault.BindFault.TheVariants as Fault;
+
+    ghost from_gives = { λ _ e. e ≡ Fault.Memory };
+
+    fn from(_failed: AllocFailed<T>) -> BindFault {
         BindFault::Memory
     }
 }
