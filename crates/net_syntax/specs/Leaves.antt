@@ -1,6 +1,6 @@
 -- The expressions that are children of a network, from the root on, each with where it stands and its types.
 use Rattle.std.specs.Prelude.{◌≡◌, ℕ, suc, List, [], ◌∷◌, ◌++◌}
-use Rattle.sample_core.specs.TypeTree.{TypeTree, unit_ty, int_ty, pair_ty, event_ty, list_ty}
+use Rattle.sample_core.specs.TypeTree.{TypeTree, unit_ty, int_ty, pair_ty}
 use Rattle.leaf_core.specs.Expression.{Expression}
 use Rattle.leaf_core.specs.ExpressionLimits.{ExpressionTypedWithin}
 use Rattle.leaf_core.specs.KeyTree.{KeyTree}

@@ -170,13 +170,8 @@ fn add_need(
         (type_of input.now) (type_of output.now) ∷ []) }
 {
     let need = first_need(alloc, expr, scope, input, path, output)?;
-    match needs.push(need) {
-        Ok(()) => Ok(()),
-        Err(failed) => {
-            drop(failed);
-            Err(Memory)
-        }
-    }
+    needs.push(need)?;
+    Ok(())
 }
 
 /// What the expression needs that is the first child of the node at the path, and has that type.

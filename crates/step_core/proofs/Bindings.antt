@@ -1,5 +1,5 @@
 -- What binding finds, and what it makes.
-use Rattle.std.proofs.Common.{◌≡◌, ℕ, ◌<◌, List, [], ◌∷◌, ◌++◌, Some, slice_get, take, length, map, sym, ap, ap₂, ◌∙◌, subst, arith, append_assoc, append-nil, Contains, inl, inr, Result, Ok, Err, IfOk, IfErr}
+use Rattle.std.proofs.Common.{◌≡◌, ℕ, ◌<◌, List, [], ◌∷◌, ◌++◌, Some, slice_get, take, length, map, sym, ap, ap₂, ◌∙◌, subst, arith, append_assoc, append-nil, Contains, inl, inr, Result, Ok, Err, IfErr}
 use Rattle.std.proofs.Math.Logic.{∥∥₁_elim, ∥∥₁_map}
 use Rattle.std.proofs.Math.Bridge.{le_prop}
 use Rattle.std.proofs.lemmas.Option.{slice_get_within, get_or_from_slice_get}
@@ -120,10 +120,6 @@ begins_second keys f g ns middle a h hf = ∥∥₁_map h part
     part (at, A, C, seq_typed {B = B} df dg, rest, q) =
         let one = hf (at ++ 0 ∷ []) A B df (leaves_by (at ++ 1 ∷ []) dg ++ rest) (behind ns (leaves_by (at ++ 0 ∷ []) df) (leaves_by (at ++ 1 ∷ []) dg) rest q) in
         (at ++ 1 ∷ [], B, C, dg, rest, one.3)
-
-pub if_ok : {A E : Type 0} (r : Result A E) (P Q : A → Type 0) → ((x : A) → P x → Q x) → IfOk r P → IfOk r Q
-if_ok (Ok x) P Q f h = f x h
-if_ok (Err e) P Q f h = h
 
 pub if_err : {A E : Type 0} (r : Result A E) (P Q : E → Type 0) → ((x : E) → P x → Q x) → IfErr r P → IfErr r Q
 if_err (Ok x) P Q f h = h

@@ -14,8 +14,7 @@ use Rattle.step_core.specs.CountedContext.{counted_meaning}
 use Rattle.step_core.specs.State.{State}
 use Rattle.step_core.specs.Stands.{Stands}
 use Rattle.step_core.specs.EmptyScope.{empty_context}
-use Rattle.leaf_core.specs.KeyTree.{KeyTree}
-use Rattle.step_core.specs.Binding.{Binding, FitsTable}
+use Rattle.step_core.specs.Binding.{FitsTable}
 use Rattle.step_core.specs.RowTyping.{FitsRows, RowsTyped}
 use Rattle.step_core.specs.CellValues.{HoldsCells, BeginsWithState, StartOf, StepOf, StartsTyped, StepsTyped}
 use Rattle.step_core.specs.RunnerState.{RunnerState, network_in, StandsAfter, StandsFor, HasPast, Pushes}

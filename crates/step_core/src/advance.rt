@@ -84,13 +84,8 @@ fn keep(alloc: Global, next: &mut Vec<Sample>, sample: &Sample) -> Result<(), Me
         (map datum_of next.new.items ≡ map datum_of next.old.items ++ datum_of sample.now ∷ []) }
 {
     let copy = sample.try_copy(alloc)?;
-    match next.push(copy) {
-        Ok(()) => Ok(()),
-        Err(failed) => {
-            drop(failed);
-            Err(Memory)
-        }
-    }
+    next.push(copy)?;
+    Ok(())
 }
 
 /// The value of the row of a constant place, whose input is `unit`.
