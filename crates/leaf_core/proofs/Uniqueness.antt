@@ -4,13 +4,9 @@ use Rattle.sample_core.specs.TypeTree.{TypeTree, pair_ty, event_ty}
 use Rattle.leaf_core.specs.Expression.{Expression}
 use Rattle.leaf_core.specs.ExpressionTyping.{ParamAt, param_here, param_after, ExpressionTyped, input_typed, param_typed, unit_typed, bool_typed, int_typed, pair_typed, fst_typed, snd_typed, then_typed, neg_typed, add_typed, sub_typed, mul_typed, less_typed, equal_typed, not_typed, and_typed, or_typed, if_typed, no_event_typed, event_typed, on_typed, list_typed, nth_typed, len_typed}
 
-abbrev left_ty : TypeTree → TypeTree
-left_ty (pair_ty A B) = A
-left_ty A = A
-
-abbrev right_ty : TypeTree → TypeTree
-right_ty (pair_ty A B) = B
-right_ty A = A
+-- equal types of pairs have equal parts
+parts_same : {A B C D : TypeTree} → pair_ty A B ≡ pair_ty C D → (A ≡ C) × (B ≡ D)
+parts_same p = (cc, cc)
 
 one_param : (Ps : List TypeTree) (k : ℕ) (B B' : TypeTree) → ParamAt Ps k B → ParamAt Ps k B' → B ≡ B'
 one_param Ps k B B' param_here param_here = refl
@@ -23,8 +19,8 @@ one_type e Ps A B B' unit_typed unit_typed = refl
 one_type e Ps A B B' bool_typed bool_typed = refl
 one_type e Ps A B B' (int_typed f) (int_typed g) = refl
 one_type e Ps A B B' (pair_typed {B = C} {C = D} {a = a} {b = b} h k) (pair_typed {B = C'} {C = D'} h' k') = ap (λ T. pair_ty T D) (one_type a Ps A C C' h h') ∙ ap (λ T. pair_ty C' T) (one_type b Ps A D D' k k')
-one_type e Ps A B B' (fst_typed {C = C} {e = e'} h) (fst_typed {C = D} k) = ap left_ty (one_type e' Ps A (pair_ty B C) (pair_ty B' D) h k)
-one_type e Ps A B B' (snd_typed {B = C} {e = e'} h) (snd_typed {B = D} k) = ap right_ty (one_type e' Ps A (pair_ty C B) (pair_ty D B') h k)
+one_type e Ps A B B' (fst_typed {C = C} {e = e'} h) (fst_typed {C = D} k) = (parts_same (one_type e' Ps A (pair_ty B C) (pair_ty B' D) h k)).0
+one_type e Ps A B B' (snd_typed {B = C} {e = e'} h) (snd_typed {B = D} k) = (parts_same (one_type e' Ps A (pair_ty C B) (pair_ty D B') h k)).1
 one_type e Ps A B B' (then_typed {B = C} {f = f} {g = g} h k) (then_typed {B = D} h' k') = one_type g Ps C B B' k (subst (λ T. ExpressionTyped g Ps T B') (sym (one_type f Ps A C D h h')) k')
 one_type e Ps A B B' (neg_typed h) (neg_typed h') = refl
 one_type e Ps A B B' (not_typed h) (not_typed h') = refl

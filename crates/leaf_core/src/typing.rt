@@ -22,17 +22,17 @@ use thiserror::Error;
 #[derive(Debug, Drop, PartialEq, Eq, Error)]
 pub enum ExprFault {
     /// A type is not as wanted.
-    #[error("a type is not as wanted")]
+    #[error("mismatch")]
     Mismatch,
     /// There is no parameter of that number.
-    #[error("there is no such parameter")]
+    #[error("no parameter")]
     NoParam,
     /// The expression's height is over 256, or it has more than 100,000 nodes; or a type has a
     /// depth over 32, or more than 256 nodes.
-    #[error("too deep or too large")]
+    #[error("expression too deep")]
     TooDeep,
     /// A growth was refused.
-    #[error("out of memory")]
+    #[error("memory")]
     Memory,
 }
 

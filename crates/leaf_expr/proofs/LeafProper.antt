@@ -1,5 +1,5 @@
 -- The language of types and expressions is proper.
-use Rattle.std.proofs.Common.{◌≡◌, ℕ, Bool, true, false, ◌&&◌, List, [], ◌∷◌, refl, None}
+use Rattle.std.proofs.Common.{◌≡◌, ◌≢◌, ℕ, Bool, true, false, ◌&&◌, List, [], ◌∷◌, refl, None}
 use Rattle.std.specs.Prelude.{codes, bytes_eq, if◌then◌else◌}
 use Rattle.sample_core.specs.TypeTree.{unit_ty, event_ty}
 use Rattle.sample_core.specs.Number.{is_number_word}
@@ -17,21 +17,13 @@ formless type_sort w h = absurd (cc)
 formless expression_sort w h = absurd (cc)
 formless index_sort w h = refl
 
--- a table of words never says that one is misspelt, nor that it is unfit
-among_misspelt : {T : Type 0} (w : List ℕ) (xs : List (List ℕ × T)) (r : WordReading T) → word_among w xs r ≡ misspelt → r ≡ misspelt
-among_misspelt w [] r e = e
-among_misspelt {T = T} w (x ∷ xs) r e = go (bytes_eq w x.0) (λ p. among_misspelt w xs r p) e
+-- where a table of words reads nothing, what is given stands
+among_unread : {T : Type 0} (w : List ℕ) (xs : List (List ℕ × T)) (r v : WordReading T) → ((x : T) → reads x ≢ v) → word_among w xs r ≡ v → r ≡ v
+among_unread w [] r v n e = e
+among_unread {T = T} w (x ∷ xs) r v n e = go (bytes_eq w x.0) (λ p. among_unread w xs r v n p) e
   where
-    go : (b : Bool) → (word_among w xs r ≡ misspelt → r ≡ misspelt) → (if b then reads x.1 else word_among w xs r) ≡ misspelt → r ≡ misspelt
-    go true f p = absurd (cc)
-    go false f p = f p
-
-among_unfit : {T : Type 0} (w : List ℕ) (xs : List (List ℕ × T)) (r : WordReading T) → word_among w xs r ≡ unfit → r ≡ unfit
-among_unfit w [] r e = e
-among_unfit {T = T} w (x ∷ xs) r e = go (bytes_eq w x.0) (λ p. among_unfit w xs r p) e
-  where
-    go : (b : Bool) → (word_among w xs r ≡ unfit → r ≡ unfit) → (if b then reads x.1 else word_among w xs r) ≡ unfit → r ≡ unfit
-    go true f p = absurd (cc)
+    go : (b : Bool) → (word_among w xs r ≡ v → r ≡ v) → (if b then reads x.1 else word_among w xs r) ≡ v → r ≡ v
+    go true f p = absurd (n x.1 p)
     go false f p = f p
 
 chosen_misspelt : {T : Type 0} (a b : Bool) (x : T) → (if a then (if b then reads x else misspelt) else unfit) ≡ misspelt → a ≡ true
@@ -55,15 +47,15 @@ mapped_unfit f unfit e = refl
 
 spoilt : (s : Sort) (w : List ℕ) → word_at s w ≡ misspelt → (takes_number s && is_number_word w) ≡ true
 unfolding word_at
-spoilt type_sort w e = absurd (let i : number_at type_sort w ≡ misspelt = among_misspelt w (words type_sort) _ e in cc)
-spoilt expression_sort w e = chosen_misspelt (is_number_word w) _ _ (mapped_misspelt int_expr (integer_at w) (among_misspelt w (words expression_sort) _ e))
-spoilt index_sort w e = chosen_misspelt (is_number_word w) _ _ (among_misspelt w (words index_sort) _ e)
+spoilt type_sort w e = absurd (let i : number_at type_sort w ≡ misspelt = among_unread w (words type_sort) _ misspelt (λ x q. cc) e in cc)
+spoilt expression_sort w e = chosen_misspelt (is_number_word w) _ _ (mapped_misspelt int_expr (integer_at w) (among_unread w (words expression_sort) _ misspelt (λ x q. cc) e))
+spoilt index_sort w e = chosen_misspelt (is_number_word w) _ _ (among_unread w (words index_sort) _ misspelt (λ x q. cc) e)
 
 foreign : (s : Sort) (w : List ℕ) → word_at s w ≡ unfit → (takes_number s && is_number_word w) ≡ false
 unfolding word_at
 foreign type_sort w e = refl
-foreign expression_sort w e = chosen_unfit (is_number_word w) _ _ (mapped_unfit int_expr (integer_at w) (among_unfit w (words expression_sort) _ e))
-foreign index_sort w e = chosen_unfit (is_number_word w) _ _ (among_unfit w (words index_sort) _ e)
+foreign expression_sort w e = chosen_unfit (is_number_word w) _ _ (mapped_unfit int_expr (integer_at w) (among_unread w (words expression_sort) _ unfit (λ x q. cc) e))
+foreign index_sort w e = chosen_unfit (is_number_word w) _ _ (among_unread w (words index_sort) _ unfit (λ x q. cc) e)
 
 filler : (s : Sort) → Completes leaf s []
 unfolding word_at words row_at rows

@@ -50,41 +50,6 @@ unfolding items
 items_are no_more = refl
 items_are (and_then e es) = ap (and_then e) (items_are es)
 
-mutual
-  unfolding word_at words row_at rows items
-
-  pub expression_means : (e : Expression) → InRange e → meaning leaf expression_sort (expression_sexpr e) ≡ Some e
-  expression_means input r = refl
-  expression_means (param k) r = let i : meaning leaf index_sort (atom (decimal k)) ≡ Some k = index_means k r in rw i refl
-  expression_means unit_expr r = refl
-  expression_means (bool_expr true) r = refl
-  expression_means (bool_expr false) r = refl
-  expression_means (int_expr n) r = ap read_word (not_among n r)
-  expression_means (fst a) r = rw (expression_means a r) refl
-  expression_means (snd a) r = rw (expression_means a r) refl
-  expression_means (neg a) r = rw (expression_means a r) refl
-  expression_means (not_expr a) r = rw (expression_means a r) refl
-  expression_means (event_expr a) r = rw (expression_means a r) refl
-  expression_means (len a) r = rw (expression_means a r) refl
-  expression_means (pair_expr a b) r = rw (expression_means a r.0, expression_means b r.1) refl
-  expression_means (then_expr a b) r = rw (expression_means a r.0, expression_means b r.1) refl
-  expression_means (add a b) r = rw (expression_means a r.0, expression_means b r.1) refl
-  expression_means (sub a b) r = rw (expression_means a r.0, expression_means b r.1) refl
-  expression_means (mul a b) r = rw (expression_means a r.0, expression_means b r.1) refl
-  expression_means (less a b) r = rw (expression_means a r.0, expression_means b r.1) refl
-  expression_means (equal a b) r = rw (expression_means a r.0, expression_means b r.1) refl
-  expression_means (and_expr a b) r = rw (expression_means a r.0, expression_means b r.1) refl
-  expression_means (or_expr a b) r = rw (expression_means a r.0, expression_means b r.1) refl
-  expression_means (if_expr a b c) r = rw (expression_means a r.0, expression_means b r.1, expression_means c r.2) refl
-  expression_means (on a b c) r = rw (expression_means a r.0, expression_means b r.1, expression_means c r.2) refl
-  expression_means (nth a b c) r = rw (expression_means a r.0, expression_means b r.1, expression_means c r.2) refl
-  expression_means (no_event_expr t) r = rw (type_means t) refl
-  expression_means (list_expr t es) r = rw (type_means t) (list_means es (λ xs. list_expr t (expressions_of xs)) r ∙ ap (λ xs. Some (list_expr t xs)) (items_are es))
-
-  list_means : (es : Expressions) (make : List Expression → Expression) → AllInRange es → make_tree leaf expression_sort (places expression_sort) make (expression_sexprs es) ≡ Some (make (items es))
-  list_means no_more make r = refl
-  list_means (and_then e es) make r = rw (expression_means e r.0) (list_means es (λ xs. make (e ∷ xs)) r.1)
-
 pub type_plain : (t : TypeTree) → plain (type_sexpr t) ≡ true
 type_plain unit_ty = refl
 type_plain bool_ty = refl
@@ -93,35 +58,51 @@ type_plain (pair_ty a b) = rw (type_plain a, type_plain b) refl
 type_plain (event_ty a) = rw (type_plain a) refl
 type_plain (list_ty a) = rw (type_plain a) refl
 
+-- a printed expression means the expression, and its words are words
 mutual
-  pub expression_plain : (e : Expression) → InRange e → plain (expression_sexpr e) ≡ true
-  expression_plain input r = refl
-  expression_plain (param k) r = rw (decimal_is_word k (omega arith)) refl
-  expression_plain unit_expr r = refl
-  expression_plain (bool_expr true) r = refl
-  expression_plain (bool_expr false) r = refl
-  expression_plain (int_expr n) r = signed_is_word n r
-  expression_plain (fst a) r = rw (expression_plain a r) refl
-  expression_plain (snd a) r = rw (expression_plain a r) refl
-  expression_plain (neg a) r = rw (expression_plain a r) refl
-  expression_plain (not_expr a) r = rw (expression_plain a r) refl
-  expression_plain (event_expr a) r = rw (expression_plain a r) refl
-  expression_plain (len a) r = rw (expression_plain a r) refl
-  expression_plain (pair_expr a b) r = rw (expression_plain a r.0, expression_plain b r.1) refl
-  expression_plain (then_expr a b) r = rw (expression_plain a r.0, expression_plain b r.1) refl
-  expression_plain (add a b) r = rw (expression_plain a r.0, expression_plain b r.1) refl
-  expression_plain (sub a b) r = rw (expression_plain a r.0, expression_plain b r.1) refl
-  expression_plain (mul a b) r = rw (expression_plain a r.0, expression_plain b r.1) refl
-  expression_plain (less a b) r = rw (expression_plain a r.0, expression_plain b r.1) refl
-  expression_plain (equal a b) r = rw (expression_plain a r.0, expression_plain b r.1) refl
-  expression_plain (and_expr a b) r = rw (expression_plain a r.0, expression_plain b r.1) refl
-  expression_plain (or_expr a b) r = rw (expression_plain a r.0, expression_plain b r.1) refl
-  expression_plain (if_expr a b c) r = rw (expression_plain a r.0, expression_plain b r.1, expression_plain c r.2) refl
-  expression_plain (on a b c) r = rw (expression_plain a r.0, expression_plain b r.1, expression_plain c r.2) refl
-  expression_plain (nth a b c) r = rw (expression_plain a r.0, expression_plain b r.1, expression_plain c r.2) refl
-  expression_plain (no_event_expr t) r = rw (type_plain t) refl
-  expression_plain (list_expr t es) r = rw (type_plain t) (list_plain es r)
+  unfolding word_at words row_at rows items
 
-  list_plain : (es : Expressions) → AllInRange es → all_plain (expression_sexprs es) ≡ true
-  list_plain no_more r = refl
-  list_plain (and_then e es) r = rw (expression_plain e r.0) (list_plain es r.1)
+  printed : (e : Expression) → InRange e → (meaning leaf expression_sort (expression_sexpr e) ≡ Some e) × (plain (expression_sexpr e) ≡ true)
+  printed input r = (refl, refl)
+  printed (param k) r = (let i : meaning leaf index_sort (atom (decimal k)) ≡ Some k = index_means k r in rw i refl, rw (decimal_is_word k (omega arith)) refl)
+  printed unit_expr r = (refl, refl)
+  printed (bool_expr true) r = (refl, refl)
+  printed (bool_expr false) r = (refl, refl)
+  printed (int_expr n) r = (ap read_word (not_among n r), signed_is_word n r)
+  printed (fst a) r = let i = printed a r in (rw i.0 refl, rw i.1 refl)
+  printed (snd a) r = let i = printed a r in (rw i.0 refl, rw i.1 refl)
+  printed (neg a) r = let i = printed a r in (rw i.0 refl, rw i.1 refl)
+  printed (not_expr a) r = let i = printed a r in (rw i.0 refl, rw i.1 refl)
+  printed (event_expr a) r = let i = printed a r in (rw i.0 refl, rw i.1 refl)
+  printed (len a) r = let i = printed a r in (rw i.0 refl, rw i.1 refl)
+  printed (pair_expr a b) r = let i = printed a r.0 in let j = printed b r.1 in (rw (i.0, j.0) refl, rw (i.1, j.1) refl)
+  printed (then_expr a b) r = let i = printed a r.0 in let j = printed b r.1 in (rw (i.0, j.0) refl, rw (i.1, j.1) refl)
+  printed (add a b) r = let i = printed a r.0 in let j = printed b r.1 in (rw (i.0, j.0) refl, rw (i.1, j.1) refl)
+  printed (sub a b) r = let i = printed a r.0 in let j = printed b r.1 in (rw (i.0, j.0) refl, rw (i.1, j.1) refl)
+  printed (mul a b) r = let i = printed a r.0 in let j = printed b r.1 in (rw (i.0, j.0) refl, rw (i.1, j.1) refl)
+  printed (less a b) r = let i = printed a r.0 in let j = printed b r.1 in (rw (i.0, j.0) refl, rw (i.1, j.1) refl)
+  printed (equal a b) r = let i = printed a r.0 in let j = printed b r.1 in (rw (i.0, j.0) refl, rw (i.1, j.1) refl)
+  printed (and_expr a b) r = let i = printed a r.0 in let j = printed b r.1 in (rw (i.0, j.0) refl, rw (i.1, j.1) refl)
+  printed (or_expr a b) r = let i = printed a r.0 in let j = printed b r.1 in (rw (i.0, j.0) refl, rw (i.1, j.1) refl)
+  printed (if_expr a b c) r = let i = printed a r.0 in let j = printed b r.1 in let k = printed c r.2 in (rw (i.0, j.0, k.0) refl, rw (i.1, j.1, k.1) refl)
+  printed (on a b c) r = let i = printed a r.0 in let j = printed b r.1 in let k = printed c r.2 in (rw (i.0, j.0, k.0) refl, rw (i.1, j.1, k.1) refl)
+  printed (nth a b c) r = let i = printed a r.0 in let j = printed b r.1 in let k = printed c r.2 in (rw (i.0, j.0, k.0) refl, rw (i.1, j.1, k.1) refl)
+  printed (no_event_expr t) r = (rw (type_means t) refl, rw (type_plain t) refl)
+  printed (list_expr t es) r =
+      let h = list_printed es r in
+      (rw (type_means t) (h.0 (λ xs. list_expr t (expressions_of xs)) ∙ ap (λ xs. Some (list_expr t xs)) (items_are es)), rw (type_plain t) h.1)
+
+  list_printed : (es : Expressions) → AllInRange es →
+      ((make : List Expression → Expression) → make_tree leaf expression_sort (places expression_sort) make (expression_sexprs es) ≡ Some (make (items es)))
+      × (all_plain (expression_sexprs es) ≡ true)
+  list_printed no_more r = (λ make. refl, refl)
+  list_printed (and_then e es) r =
+      let i = printed e r.0 in
+      let h = list_printed es r.1 in
+      (λ make. rw i.0 (h.0 (λ xs. make (e ∷ xs))), rw i.1 h.1)
+
+pub expression_means : (e : Expression) → InRange e → meaning leaf expression_sort (expression_sexpr e) ≡ Some e
+expression_means e r = (printed e r).0
+
+pub expression_plain : (e : Expression) → InRange e → plain (expression_sexpr e) ≡ true
+expression_plain e r = (printed e r).1

@@ -2,8 +2,7 @@
 
 ghost use Rattle.std.specs.Prelude.{◌≡◌};
 
-use sample_core::Memory;
-use std::alloc::{AllocError, AllocFailed};
+use sample_core::OutOfMemory;
 use thiserror::Error;
 
 /// Why a text is no type or expression. Each `at` is the first byte of the first token that
@@ -24,36 +23,16 @@ pub enum ExprTextFault {
     #[error("too long")]
     TooLong,
     /// A growth was refused.
-    #[error("out of memory")]
+    #[error("memory")]
     Memory,
 }
 
-impl From<Memory> for ExprTextFault {
+impl<E: OutOfMemory> From<E> for ExprTextFault {
     ghost use Rattle.leaf_expr.specs.declared.text_fault.ExprTextFault.TheVariants as Fault;
 
     ghost from_gives = { λ _ e. e ≡ Fault.Memory };
 
-    fn from(_: Memory) -> ExprTextFault {
-        ExprTextFault::Memory
-    }
-}
-
-impl From<AllocError> for ExprTextFault {
-    ghost use Rattle.leaf_expr.specs.declared.text_fault.ExprTextFault.TheVariants as Fault;
-
-    ghost from_gives = { λ _ e. e ≡ Fault.Memory };
-
-    fn from(_: AllocError) -> ExprTextFault {
-        ExprTextFault::Memory
-    }
-}
-
-impl<T: Drop> From<AllocFailed<T>> for ExprTextFault {
-    ghost use Rattle.leaf_expr.specs.declared.text_fault.ExprTextFault.TheVariants as Fault;
-
-    ghost from_gives = { λ _ e. e ≡ Fault.Memory };
-
-    fn from(_failed: AllocFailed<T>) -> ExprTextFault {
+    fn from(_: E) -> ExprTextFault {
         ExprTextFault::Memory
     }
 }

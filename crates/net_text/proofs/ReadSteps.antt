@@ -1,5 +1,5 @@
 -- Steps of reading networks, as the code takes them.
-use Rattle.std.proofs.Common.{◌≡◌, ℕ, ◌-◌, ◌≤◌, List, [], ◌∷◌, refl, sym, ap, subst, ◌∙◌, arith, Result, Ok, Err, Some, None}
+use Rattle.std.proofs.Common.{◌≡◌, ℕ, List, [], ◌∷◌, refl, sym, ap, subst, ◌∙◌, Result, Ok, Err, Some, None}
 use Rattle.leaf_expr.specs.Token.{PlacedToken}
 use Rattle.leaf_core.specs.Expression.{Expression}
 use Rattle.leaf_expr.specs.Language.{no_place}
@@ -8,10 +8,10 @@ use Rattle.leaf_expr.specs.TreeReader.{Read, read, read_form, read_head, read_ro
 use Rattle.leaf_expr.proofs.ReadSteps.{Refuses, passed}
 use Rattle.leaf_expr.specs.declared.text_fault.ExprTextFault.{ExprTextFault}
 use Rattle.sample_core.specs.TypeTree.{TypeTree}
-use Rattle.net_syntax.specs.Network.{Network, seq}
+use Rattle.net_syntax.specs.Network.{Network}
 use Rattle.net_text.specs.File.{at_end, read_network}
-use Rattle.net_text.specs.Grammar.{networks, network_sort, leaf_sort, net_row_at, NetRow, e, f}
-use Rattle.net_text.proofs.Carried.{end_same, head_same, read_same}
+use Rattle.net_text.specs.Grammar.{networks, network_sort, leaf_sort, net_row_at, NetRow, e}
+use Rattle.net_text.proofs.Carried.{head_same, read_same}
 use Rattle.sample_core.specs.Answer.{◌>>=◌}
 use Rattle.leaf_expr.specs.declared.text_fault.ExprTextFault.TheVariants as E
 
@@ -34,45 +34,11 @@ module _ (size room m : ℕ) (us : List PlacedToken) where
   pub headless : (x : ExprTextFault) → Refuses x (read_head leaf size room us) → Refuses x (read_form networks size (read networks size m) room network_sort us)
   headless x p = passed x (read_head networks size room us) _ (subst (Refuses x) (sym (head_same size room us)) p)
 
--- the parts of a form one by one, and its end
+-- a form of one expression
 module _ (size room : ℕ) where
-  pub two_networks : {a b : Network Expression} {n k j : ℕ} {us vs ws : List PlacedToken} (ts : List PlacedToken) →
-      read networks size room network_sort ts ≡ Ok (a, n, us) → read networks size room network_sort us ≡ Ok (b, k, vs) →
-      read_end leaf size room vs ≡ Ok (j, ws) → read_parts networks size (read networks size room) room (f (f no_place)) seq ts ≡ Ok (seq a b, j, ws)
-  two_networks {vs = vs} ts p q r = let i = end_same size room vs ∙ r in rw (p, q, i) refl
-
-  pub no_first : (x : ExprTextFault) (ts : List PlacedToken) → Refuses x (read networks size room network_sort ts) →
-      Refuses x (read_parts networks size (read networks size room) room (f (f no_place)) seq ts)
-  no_first x ts p = passed x (read networks size room network_sort ts) _ p
-
-  pub no_second : {a : Network Expression} {n : ℕ} {us : List PlacedToken} (x : ExprTextFault) (ts : List PlacedToken) →
-      read networks size room network_sort ts ≡ Ok (a, n, us) → Refuses x (read networks size room network_sort us) →
-      Refuses x (read_parts networks size (read networks size room) room (f (f no_place)) seq ts)
-  no_second {us = us} x ts p q = rw p (passed x (read networks size room network_sort us) _ q)
-
-  pub no_end : {a b : Network Expression} {n k : ℕ} {us vs : List PlacedToken} (x : ExprTextFault) (ts : List PlacedToken) →
-      read networks size room network_sort ts ≡ Ok (a, n, us) → read networks size room network_sort us ≡ Ok (b, k, vs) →
-      Refuses x (read_end leaf size room vs) → Refuses x (read_parts networks size (read networks size room) room (f (f no_place)) seq ts)
-  no_end {vs = vs} x ts p q r = rw (p, q) (passed x (read_end networks size room vs) _ (subst (Refuses x) (sym (end_same size room vs)) r))
-
-  pub one_leaf : {a : Expression} {n j : ℕ} {us ws : List PlacedToken} (make : Expression → Network Expression) (ts : List PlacedToken) →
-      read leaf size room expression_sort ts ≡ Ok (a, n, us) → read_end leaf size room us ≡ Ok (j, ws) →
-      read_parts networks size (read networks size room) room (e no_place) make ts ≡ Ok (make a, j, ws)
-  one_leaf {us = us} make ts p q = let i = read_same size room expression_sort ts ∙ p in let k = end_same size room us ∙ q in rw (i, k) refl
-
   pub no_leaf : (x : ExprTextFault) (make : Expression → Network Expression) (ts : List PlacedToken) → Refuses x (read leaf size room expression_sort ts) →
       Refuses x (read_parts networks size (read networks size room) room (e no_place) make ts)
   no_leaf x make ts p = passed x (read networks size room (leaf_sort expression_sort) ts) _ (subst (Refuses x) (sym (read_same size room expression_sort ts)) p)
-
-  pub no_leaf_end : {a : Expression} {n : ℕ} {us : List PlacedToken} (x : ExprTextFault) (make : Expression → Network Expression) (ts : List PlacedToken) →
-      read leaf size room expression_sort ts ≡ Ok (a, n, us) → Refuses x (read_end leaf size room us) →
-      Refuses x (read_parts networks size (read networks size room) room (e no_place) make ts)
-  no_leaf_end {us = us} x make ts p q = let i =
-      read_same size room expression_sort ts ∙ p in rw i (passed x (read_end networks size room us) _ (subst (Refuses x) (sym (end_same size room us)) q))
-
--- with no more open than there may be
-pub room_left : (room : ℕ) → room ≤ 600 → 600 - (600 - room) ≡ room
-room_left room h = omega arith
 
 -- a network with nothing behind it, with the type before it
 module _ (A : TypeTree) where

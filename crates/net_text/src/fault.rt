@@ -26,7 +26,7 @@ pub enum NetTextFault {
     #[error("too long")]
     TooLong,
     /// A growth was refused.
-    #[error("out of memory")]
+    #[error("memory")]
     Memory,
 }
 

@@ -1,5 +1,6 @@
 -- The check of a whole network.
-use Rattle.std.specs.Prelude.{◌≡◌, ◌≢◌, ℕ, leb, List, [], Result, Ok, Err, MatchResult}
+use Rattle.std.specs.Prelude.{ℕ, leb, List, [], Result, Ok}
+use Rattle.sample_core.specs.Answer.{GivesUnless}
 use Rattle.sample_core.specs.TypeTree.{TypeTree}
 use Rattle.leaf_core.specs.Expression.{Expression}
 use Rattle.leaf_core.specs.ExpressionCheck.{type_answer}
@@ -27,4 +28,4 @@ check A net = do
 
 -- the call's result, seen by view, is the answer; only `Memory`, where a growth was refused, says nothing of it
 abbrev pub Gives : {X Y : Type 0} → (X → Y) → Result X TypeFault → Result Y TypeFault → Type 0
-Gives view result answer = MatchResult result (λ x. answer ≡ Ok (view x)) (λ f. f ≢ Fault.Memory → answer ≡ Err f)
+Gives view result answer = GivesUnless Fault.Memory view result answer

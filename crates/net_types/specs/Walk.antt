@@ -1,5 +1,6 @@
 -- The walk of the type checker: each node's tests in their order, and the first that fails.
 use Rattle.std.specs.Prelude.{ℕ, zero, suc, Bool, true, false, ◌&&◌, leb, List, [], ◌∷◌, ◌++◌, ◌^◌, Result, Ok, Err}
+pub use Rattle.sample_core.specs.Answer.{◌>>=◌}
 use Rattle.sample_core.specs.TypeTree.{TypeTree, unit_ty, int_ty, pair_ty, event_ty, list_ty}
 use Rattle.leaf_core.specs.TypeLimits.{type_fits, same_tree}
 use Rattle.leaf_core.specs.declared.typing.ExprFault.{ExprFault}
@@ -8,17 +9,11 @@ use Rattle.net_syntax.specs.Typing.{Arrow, copies, members}
 use Rattle.net_types.specs.declared.fault.TypeFault.{TypeFault}
 use Rattle.net_types.specs.declared.fault.TypeFault.TheVariants as Fault
 
-infixl 20 ◌>>=◌
 infixl 20 ◌>>◌
 infixl 60 ◌↓◌
 -- how a leaf's type is found: under parameters and an input
 abbrev pub LeafChecker : Type 0 → Type 0
 LeafChecker L = L → List TypeTree → TypeTree → Result TypeTree ExprFault
-
--- the next step where the one before has an answer, and else its fault
-abbrev pub ◌>>=◌ : {A B : Type 0} → Result A TypeFault → (A → Result B TypeFault) → Result B TypeFault
-◌>>=◌ (Ok a) k = k a
-◌>>=◌ (Err f) k = Err f
 
 -- the next step, where the test before it is passed
 abbrev pub ◌>>◌ : {A B : Type 0} → Result A TypeFault → Result B TypeFault → Result B TypeFault

@@ -4,8 +4,7 @@ ghost use Rattle.std.specs.Prelude.{◌≡◌};
 
 use leaf_core::ExprFault;
 use net_syntax::Position;
-use sample_core::Memory;
-use std::alloc::{AllocError, AllocFailed};
+use sample_core::OutOfMemory;
 use thiserror::Error;
 
 /// Why a network has no types within the limits. A position is that of the node or of the
@@ -24,27 +23,27 @@ pub enum TypeFault {
         position: Position,
     },
     /// No frozen network has the node's level.
-    #[error("no frozen network has that level")]
+    #[error("no old")]
     NoOld {
         position: Position,
     },
     /// The node wants an event type.
-    #[error("an event type is wanted")]
+    #[error("no event")]
     NotEvent {
         position: Position,
     },
     /// The node wants a pair type.
-    #[error("a pair type is wanted")]
+    #[error("no pair")]
     NotPair {
         position: Position,
     },
     /// The node has no members, or more than 64.
-    #[error("no members, or more than 64")]
+    #[error("members")]
     Members {
         position: Position,
     },
     /// A number of the node is outside the range of its place.
-    #[error("a number is out of range")]
+    #[error("number")]
     Number {
         position: Position,
     },
@@ -56,36 +55,16 @@ pub enum TypeFault {
     #[error("too heavy")]
     TooHeavy,
     /// A growth was refused.
-    #[error("out of memory")]
+    #[error("memory")]
     Memory,
 }
 
-impl From<Memory> for TypeFault {
+impl<E: OutOfMemory> From<E> for TypeFault {
     ghost use Rattle.net_types.specs.declared.fault.TypeFault.TheVariants as Fault;
 
     ghost from_gives = { λ _ e. e ≡ Fault.Memory };
 
-    fn from(_: Memory) -> TypeFault {
-        TypeFault::Memory
-    }
-}
-
-impl From<AllocError> for TypeFault {
-    ghost use Rattle.net_types.specs.declared.fault.TypeFault.TheVariants as Fault;
-
-    ghost from_gives = { λ _ e. e ≡ Fault.Memory };
-
-    fn from(_: AllocError) -> TypeFault {
-        TypeFault::Memory
-    }
-}
-
-impl<T: Drop> From<AllocFailed<T>> for TypeFault {
-    ghost use Rattle.net_types.specs.declared.fault.TypeFault.TheVariants as Fault;
-
-    ghost from_gives = { λ _ e. e ≡ Fault.Memory };
-
-    fn from(_failed: AllocFailed<T>) -> TypeFault {
+    fn from(_: E) -> TypeFault {
         TypeFault::Memory
     }
 }

@@ -17,7 +17,7 @@ mod words;
 pub use equal::{same, same_type};
 pub use fault::ValueFault;
 pub use laws::reading_laws;
-pub use memory::Memory;
+pub use memory::{Memory, OutOfMemory};
 pub use print::{print_type, print_value, push_type, push_value};
 pub use read::read_value;
 pub use sample::{Sample, SampleChild, Samples};

@@ -17,3 +17,13 @@ impl<T: Drop> From<AllocFailed<T>> for Memory {
         Memory
     }
 }
+
+/// A refusal that tells of memory and nothing else, as the library's or as `Memory`: each fault
+/// that may come of it has one conversion from all of these.
+pub trait OutOfMemory: Drop {}
+
+impl OutOfMemory for Memory {}
+
+impl OutOfMemory for AllocError {}
+
+impl<T: Drop> OutOfMemory for AllocFailed<T> {}

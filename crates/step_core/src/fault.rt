@@ -3,8 +3,7 @@
 ghost use Rattle.std.specs.Prelude.{◌≡◌};
 
 use net_syntax::Position;
-use sample_core::Memory;
-use std::alloc::{AllocError, AllocFailed};
+use sample_core::OutOfMemory;
 use thiserror::Error;
 
 /// Why a network is not bound to a table.
@@ -17,36 +16,16 @@ pub enum BindFault {
         position: Position,
     },
     /// A growth was refused.
-    #[error("out of memory")]
+    #[error("memory")]
     Memory,
 }
 
-impl From<Memory> for BindFault {
+impl<E: OutOfMemory> From<E> for BindFault {
     ghost use Rattle.step_core.specs.declared.fault.BindFault.TheVariants as Fault;
 
     ghost from_gives = { λ _ e. e ≡ Fault.Memory };
 
-    fn from(_: Memory) -> BindFault {
-        BindFault::Memory
-    }
-}
-
-impl From<AllocError> for BindFault {
-    ghost use Rattle.step_core.specs.declared.fault.BindFault.TheVariants as Fault;
-
-    ghost from_gives = { λ _ e. e ≡ Fault.Memory };
-
-    fn from(_: AllocError) -> BindFault {
-        BindFault::Memory
-    }
-}
-
-impl<T: Drop> From<AllocFailed<T>> for BindFault {
-    ghost use Rattle.step_core.specs.declared.fault.BindFault.TheVariants as Fault;
-
-    ghost from_gives = { λ _ e. e ≡ Fault.Memory };
-
-    fn from(_failed: AllocFailed<T>) -> BindFault {
+    fn from(_: E) -> BindFault {
         BindFault::Memory
     }
 }

@@ -1,7 +1,6 @@
 // What is wrong with a stream.
 
-use sample_core::{Memory, ValueFault};
-use std::alloc::AllocError;
+use sample_core::{OutOfMemory, ValueFault};
 use thiserror::Error;
 
 /// What is wrong with a stream. Lines are counted from 1.
@@ -31,31 +30,20 @@ pub enum StreamFault {
     #[error("cannot be read")]
     Read,
     /// A growth was refused.
-    #[error("out of memory")]
+    #[error("memory")]
     Memory,
     /// An earlier call answered a fault. No run answers it.
     #[error("ended")]
     Ended,
 }
 
-impl From<Memory> for StreamFault {
+impl<E: OutOfMemory> From<E> for StreamFault {
     ghost use Rattle.std.specs.Prelude.{◌≡◌};
     ghost use Rattle.stream_text.specs.declared.fault.StreamFault.TheVariants as Fault;
 
     ghost from_gives = { λ _ e. e ≡ Fault.Memory };
 
-    fn from(_: Memory) -> StreamFault {
-        StreamFault::Memory
-    }
-}
-
-impl From<AllocError> for StreamFault {
-    ghost use Rattle.std.specs.Prelude.{◌≡◌};
-    ghost use Rattle.stream_text.specs.declared.fault.StreamFault.TheVariants as Fault;
-
-    ghost from_gives = { λ _ e. e ≡ Fault.Memory };
-
-    fn from(_: AllocError) -> StreamFault {
+    fn from(_: E) -> StreamFault {
         StreamFault::Memory
     }
 }

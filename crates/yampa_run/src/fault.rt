@@ -11,10 +11,10 @@ pub enum RunFault {
     Stream { lines: u64, fault: StreamFault },
     /// A write of the output failed. Where it isn't known how many lines were written, `lines` is
     /// 0.
-    #[error("a write failed")]
+    #[error("cannot be written")]
     Write { lines: u64 },
     /// A growth was refused.
-    #[error("out of memory")]
+    #[error("memory")]
     Memory { lines: u64 },
 }
 
