@@ -35,7 +35,8 @@ module _ (keys : List KeyTree) where
 
   called_typed : (k : ℕ) (x y : Datum) {A B : TypeTree} → Called k x y → RowTyped keys k [] A B → HasType x A → HasType y B
   called_typed k x y {A} {B} h r t =
-      subst (λ v. HasType v B) (sym (called_value k x y h r t ∙ ap (λ o. value_of (expression_in o) [] x) r.is_row)) (typed_value r.expr [] A B r.is_typed [] x no_params t)
+      subst (λ v. HasType v B) (sym (called_value k x y h r t ∙ ap (λ o. value_of (expression_in o) [] x) r.is_row))
+      (typed_value r.expr [] A B r.is_typed [] x no_params t)
 
   pub fits_arr : (k : ℕ) → FitsRows keys (arr k) → k < length keys
   fits_arr k h = ∥∥₁_elim h le_prop (λ t. arr_there t.2)
@@ -66,7 +67,8 @@ module _ (keys : List KeyTree) where
     state = arr_state (row_expression keys k) [];
     cells = [];
     visits = 1;
-    starts = subst (λ v. Starts value_of (arr (row_expression keys k)) empty_scope x (arr_state (row_expression keys k) []) v 1) (sym (called_value k x y h r t)) G.start_arr;
+    starts = subst (λ v. Starts value_of (arr (row_expression keys k)) empty_scope x (arr_state (row_expression keys k) []) v 1)
+        (sym (called_value k x y h r t)) G.start_arr;
     holds = arr_holds r;
     answer_typed = called_typed k x y h r t;
     added = sym (append-nil before);
@@ -77,13 +79,15 @@ module _ (keys : List KeyTree) where
     state = cell_state (previous x);
     cells = x ∷ [];
     visits = 1;
-    starts = subst (λ v. Starts value_of (i_pre (row_expression keys k)) empty_scope x (cell_state (previous x)) v 1) (sym (called_value k unit y h r unit_has)) G.start_i_pre;
+    starts = subst (λ v. Starts value_of (i_pre (row_expression keys k)) empty_scope x (cell_state (previous x)) v 1)
+        (sym (called_value k unit y h r unit_has)) G.start_i_pre;
     holds = i_pre_holds t;
     answer_typed = called_typed k unit y h r unit_has;
     added = n;
   }
 
-  pub begun_seq : (f g : Network ℕ) (x v y : Datum) (before between now : List Datum) → StartsTyped keys f x v before between → StartsTyped keys g v y between now → StartsTyped keys (seq f g) x y before now
+  pub begun_seq : (f g : Network ℕ) (x v y : Datum) (before between now : List Datum) → StartsTyped keys f x v before between
+      → StartsTyped keys g v y between now → StartsTyped keys (seq f g) x y before now
   begun_seq f g x v y before between now hf hg A C (T.seq_typed {B = B} tf tg) t =
       let one : StartOf keys f A B x v before between = hf A B tf t in
       let two : StartOf keys g B C v y between now = hg B C tg one.answer_typed in
@@ -99,7 +103,8 @@ module _ (keys : List KeyTree) where
 
   -- the cells that begin with a state's: a row is there, a cell is there, and the parts' states follow each other
   abbrev Begins : Network ℕ → List Datum → Type 0
-  Begins rows cells = (A : TypeTree) × (B : TypeTree) × (a : State Expression) × (us : List Datum) × (vs : List Datum) × HoldsCells keys rows A B a us × (cells ≡ us ++ vs)
+  Begins rows cells = (A : TypeTree) × (B : TypeTree) × (a : State Expression) × (us : List Datum) ×
+      (vs : List Datum) × HoldsCells keys rows A B a us × (cells ≡ us ++ vs)
 
   pub state_row : (k : ℕ) (cells : List Datum) → BeginsWithState keys (arr k) cells → k < length keys
   state_row k cells h = ∥∥₁_elim h le_prop part
@@ -120,19 +125,23 @@ module _ (keys : List KeyTree) where
       part : Begins (seq f g) cells → Begins f cells
       part (A, C, a, us, vs, seq_holds {B = B} {a = a₁} {us = us₁} {vs = us₂} af bg, e) = (A, B, a₁, us₁, us₂ ++ vs, af, e ∙ append_assoc us₁ us₂ vs)
 
-  pub state_second : (f g : Network ℕ) (cells middle : List Datum) (x : ℕ × Datum) (y : Datum) (before now : List Datum) → BeginsWithState keys (seq f g) cells → StepsTyped keys f cells x y before now middle → BeginsWithState keys g middle
+  pub state_second : (f g : Network ℕ) (cells middle : List Datum) (x : ℕ × Datum) (y : Datum) (before now : List Datum)
+      → BeginsWithState keys (seq f g) cells → StepsTyped keys f cells x y before now middle → BeginsWithState keys g middle
   state_second f g cells middle x y before now h hf = ∥∥₁_map h part
     where
       part : Begins (seq f g) cells → Begins g middle
-      part (A, C, a, us, vs, seq_holds {B = B} {a = a₁} {b = b₁} {us = us₁} {vs = us₂} af bg, e) = (B, C, b₁, us₂, vs, bg, (hf A B a₁ us₁ (us₂ ++ vs) af (e ∙ append_assoc us₁ us₂ vs)).1)
+      part (A, C, a, us, vs, seq_holds {B = B} {a = a₁} {b = b₁} {us = us₁} {vs = us₂} af bg, e) =
+          (B, C, b₁, us₂, vs, bg, (hf A B a₁ us₁ (us₂ ++ vs) af (e ∙ append_assoc us₁ us₂ vs)).1)
 
-  pub moved_arr : (k : ℕ) (cells : List Datum) (d : ℕ) (x y : Datum) (before : List Datum) → Called k x y → StepsTyped keys (arr k) cells (d, x) y before before cells
+  pub moved_arr : (k : ℕ) (cells : List Datum) (d : ℕ) (x y : Datum) (before : List Datum) → Called k x y
+      → StepsTyped keys (arr k) cells (d, x) y before before cells
   moved_arr k cells d x y before h A B from us vs (arr_holds r) e = (
     λ t. record {
       state = arr_state (row_expression keys k) [];
       cells = [];
       visits = 1;
-      steps = subst (λ v. Steps value_of (arr_state (row_expression keys k) []) (d, x) (arr_state (row_expression keys k) []) v 1) (sym (called_value k x y h r t)) G.step_arr;
+      steps = subst (λ v. Steps value_of (arr_state (row_expression keys k) []) (d, x) (arr_state (row_expression keys k) []) v 1)
+          (sym (called_value k x y h r t)) G.step_arr;
       holds = arr_holds r;
       answer_typed = called_typed k x y h r t;
       added = sym (append-nil before);
@@ -140,7 +149,8 @@ module _ (keys : List KeyTree) where
     e,
   )
 
-  pub moved_i_pre : (k : ℕ) (cells : List Datum) (d : ℕ) (x y : Datum) (before now rest : List Datum) → IsFirst cells y rest → now ≡ before ++ x ∷ [] → StepsTyped keys (i_pre k) cells (d, x) y before now rest
+  pub moved_i_pre : (k : ℕ) (cells : List Datum) (d : ℕ) (x y : Datum) (before now rest : List Datum) → IsFirst cells y rest → now ≡ before ++ x ∷ []
+      → StepsTyped keys (i_pre k) cells (d, x) y before now rest
   moved_i_pre k [] d x y before now rest f n A B from us vs h e = absurd f
   moved_i_pre k (u ∷ cells) d x y before now rest f n A B from us vs (i_pre_holds {v = v} h) e =
       let same : u ≡ v = cc in
@@ -157,7 +167,9 @@ module _ (keys : List KeyTree) where
         f.1 ∙ left,
       )
 
-  moved_both : (f g : Network ℕ) {A B C : TypeTree} (a b : State Expression) (d : ℕ) (x v y : Datum) (before between now : List Datum) → StepOf keys f A B a (d, x) v before between → (HasType v B → StepOf keys g B C b (d, v) y between now) → StepOf keys (seq f g) A C (seq_state a b) (d, x) y before now
+  moved_both : (f g : Network ℕ) {A B C : TypeTree} (a b : State Expression) (d : ℕ) (x v y : Datum) (before between now : List Datum)
+      → StepOf keys f A B a (d, x) v before between → (HasType v B → StepOf keys g B C b (d, v) y between now)
+      → StepOf keys (seq f g) A C (seq_state a b) (d, x) y before now
   moved_both f g a b d x v y before between now one to =
       let two = to one.answer_typed in
       record {
@@ -170,9 +182,12 @@ module _ (keys : List KeyTree) where
         added = two.added ∙ ap (λ ws. ws ++ two.cells) one.added ∙ append_assoc before one.cells two.cells;
       }
 
-  pub moved_seq : (f g : Network ℕ) (cells middle : List Datum) (d : ℕ) (x v y : Datum) (before between now rest : List Datum) → StepsTyped keys f cells (d, x) v before between middle → StepsTyped keys g middle (d, v) y between now rest → StepsTyped keys (seq f g) cells (d, x) y before now rest
+  pub moved_seq : (f g : Network ℕ) (cells middle : List Datum) (d : ℕ) (x v y : Datum) (before between now rest : List Datum)
+      → StepsTyped keys f cells (d, x) v before between middle → StepsTyped keys g middle (d, v) y between now rest
+      → StepsTyped keys (seq f g) cells (d, x) y before now rest
   moved_seq f g cells middle d x v y before between now rest hf hg A C from us vs (seq_holds {B = B} {a = a} {b = b} {us = us₁} {vs = us₂} af bg) e =
-      let one : (HasType x A → StepOf keys f A B a (d, x) v before between) × (middle ≡ us₂ ++ vs) = hf A B a us₁ (us₂ ++ vs) af (e ∙ append_assoc us₁ us₂ vs) in
+      let one : (HasType x A → StepOf keys f A B a (d, x) v before between) × (middle ≡ us₂ ++ vs) = hf A B a us₁ (us₂ ++ vs) af
+      (e ∙ append_assoc us₁ us₂ vs) in
       let two : (HasType v B → StepOf keys g B C b (d, v) y between now) × (rest ≡ vs) = hg B C b us₂ vs bg one.1 in (
         λ t. moved_both f g a b d x v y before between now (one.0 t) two.0,
         two.1,
@@ -182,20 +197,28 @@ module _ (keys : List KeyTree) where
   pub arr_begun : (net : Network ℕ) (k : ℕ) (x y : Datum) (before : List Datum) → net ≡ arr k → Called k x y → StartsTyped keys net x y before before
   arr_begun net k x y before n h = subst (λ m. StartsTyped keys m x y before before) (sym n) (begun_arr k x y before h)
 
-  pub i_pre_begun : (net : Network ℕ) (k : ℕ) (x y : Datum) (before now : List Datum) → net ≡ i_pre k → Called k unit y → now ≡ before ++ x ∷ [] → StartsTyped keys net x y before now
+  pub i_pre_begun : (net : Network ℕ) (k : ℕ) (x y : Datum) (before now : List Datum) → net ≡ i_pre k → Called k unit y → now ≡ before ++ x ∷ []
+      → StartsTyped keys net x y before now
   i_pre_begun net k x y before now n h e = subst (λ m. StartsTyped keys m x y before now) (sym n) (begun_i_pre k x y before now h e)
 
-  pub seq_begun : (net f g : Network ℕ) (x v y : Datum) (before between now : List Datum) → net ≡ seq f g → StartsTyped keys f x v before between → StartsTyped keys g v y between now → StartsTyped keys net x y before now
+  pub seq_begun : (net f g : Network ℕ) (x v y : Datum) (before between now : List Datum) → net ≡ seq f g → StartsTyped keys f x v before between
+      → StartsTyped keys g v y between now → StartsTyped keys net x y before now
   seq_begun net f g x v y before between now n hf hg = subst (λ m. StartsTyped keys m x y before now) (sym n) (begun_seq f g x v y before between now hf hg)
 
-  pub arr_moved : (net : Network ℕ) (k : ℕ) (cells : List Datum) (d : ℕ) (x y : Datum) (before : List Datum) → net ≡ arr k → Called k x y → StepsTyped keys net cells (d, x) y before before cells
+  pub arr_moved : (net : Network ℕ) (k : ℕ) (cells : List Datum) (d : ℕ) (x y : Datum) (before : List Datum) → net ≡ arr k → Called k x y
+      → StepsTyped keys net cells (d, x) y before before cells
   arr_moved net k cells d x y before n h = subst (λ m. StepsTyped keys m cells (d, x) y before before cells) (sym n) (moved_arr k cells d x y before h)
 
-  pub i_pre_moved : (net : Network ℕ) (k : ℕ) (cells : List Datum) (d : ℕ) (x y : Datum) (before now rest : List Datum) → net ≡ i_pre k → IsFirst cells y rest → now ≡ before ++ x ∷ [] → StepsTyped keys net cells (d, x) y before now rest
-  i_pre_moved net k cells d x y before now rest n f e = subst (λ m. StepsTyped keys m cells (d, x) y before now rest) (sym n) (moved_i_pre k cells d x y before now rest f e)
+  pub i_pre_moved : (net : Network ℕ) (k : ℕ) (cells : List Datum) (d : ℕ) (x y : Datum) (before now rest : List Datum) → net ≡ i_pre k
+      → IsFirst cells y rest → now ≡ before ++ x ∷ [] → StepsTyped keys net cells (d, x) y before now rest
+  i_pre_moved net k cells d x y before now rest n f e = subst (λ m. StepsTyped keys m cells (d, x) y before now rest) (sym n)
+      (moved_i_pre k cells d x y before now rest f e)
 
-  pub seq_moved : (net f g : Network ℕ) (cells middle : List Datum) (d : ℕ) (x v y : Datum) (before between now rest : List Datum) → net ≡ seq f g → StepsTyped keys f cells (d, x) v before between middle → StepsTyped keys g middle (d, v) y between now rest → StepsTyped keys net cells (d, x) y before now rest
-  seq_moved net f g cells middle d x v y before between now rest n hf hg = subst (λ m. StepsTyped keys m cells (d, x) y before now rest) (sym n) (moved_seq f g cells middle d x v y before between now rest hf hg)
+  pub seq_moved : (net f g : Network ℕ) (cells middle : List Datum) (d : ℕ) (x v y : Datum) (before between now rest : List Datum) → net ≡ seq f g
+      → StepsTyped keys f cells (d, x) v before between middle → StepsTyped keys g middle (d, v) y between now rest
+      → StepsTyped keys net cells (d, x) y before now rest
+  seq_moved net f g cells middle d x v y before between now rest n hf hg = subst (λ m. StepsTyped keys m cells (d, x) y before now rest) (sym n)
+      (moved_seq f g cells middle d x v y before between now rest hf hg)
 
 pub if_ok : {A E : Type 0} (r : Result A E) (P Q : A → Type 0) → ((x : A) → P x → Q x) → IfOk r P → IfOk r Q
 if_ok (Ok x) P Q f h = f x h

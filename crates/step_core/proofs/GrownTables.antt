@@ -22,7 +22,8 @@ module _ (keys more : List KeyTree) where
   row_kept {k} r = ap expression_in (kept_at keys more k _ r.is_row ∙ sym r.is_row)
 
   mutual
-    kept : {M : TypeTree → Type 0} {Ps : List TypeTree} {Os : List Arrow} {net : Network ℕ} {A B : TypeTree} → Typed (RowTyped keys) M Ps Os net A B → network_by (keys ++ more) net ≡ network_by keys net
+    kept : {M : TypeTree → Type 0} {Ps : List TypeTree} {Os : List Arrow} {net : Network ℕ} {A B : TypeTree} → Typed (RowTyped keys) M Ps Os net A B
+        → network_by (keys ++ more) net ≡ network_by keys net
     kept (T.arr_typed e) = ap arr (row_kept e)
     kept (T.seq_typed f g) = ap₂ seq (kept f) (kept g)
     kept (T.first_typed f m) = ap first (kept f)
@@ -43,7 +44,8 @@ module _ (keys more : List KeyTree) where
     kept (T.p_switch_typed l u m r fs n e t) = let a = all_kept fs in let b = kept e in let c = kept t in λ i. p_switch (row_kept r i) (a i) (b i) (c i)
     kept (T.old_typed o) = refl
 
-    all_kept : {M : TypeTree → Type 0} {Ps : List TypeTree} {Os : List Arrow} {fs : Networks ℕ} {A B : TypeTree} → AllTyped (RowTyped keys) M Ps Os fs A B → map_networks (row_expression (keys ++ more)) fs ≡ map_networks (row_expression keys) fs
+    all_kept : {M : TypeTree → Type 0} {Ps : List TypeTree} {Os : List Arrow} {fs : Networks ℕ} {A B : TypeTree}
+        → AllTyped (RowTyped keys) M Ps Os fs A B → map_networks (row_expression (keys ++ more)) fs ≡ map_networks (row_expression keys) fs
     all_kept T.no_members_typed = refl
     all_kept (T.and_member_typed f fs) = ap₂ and_member (kept f) (all_kept fs)
 

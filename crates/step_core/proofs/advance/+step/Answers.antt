@@ -14,18 +14,25 @@ call-requires g t c =
 
 pub first_cell-requires : goal.first_cell-requires
 first_cell-requires g t c =
-    let some = state_cell _ _ _ (subst (λ n. BeginsWithState (rows_of c.args.table.now) n (map datum_of c.args.cells.now)) (ap rows_in c.in-IPre.is) c.requires) in
+    let some = state_cell _ _ _ (subst (λ n. BeginsWithState (rows_of c.args.table.now) n (map datum_of c.args.cells.now))
+    (ap rows_in c.in-IPre.is) c.requires) in
     omega (arith, some, length-map c.args.cells.now datum_of)
 
 pub step-requires : goal.step-requires
 step-requires g t c =
-    let form = ap rows_in c.in-Seq.is ∙ (λ i. seq (map_network row_number (sym c.get.ensures i)) (map_network row_number c.in-Seq.g)) in
-    (search rules, state_first _ _ (map_network row_number c.in-Seq.g) _ (subst (λ n. BeginsWithState (rows_of c.args.table.now) n (map datum_of c.args.cells.now)) form c.requires))
+    let form = ap rows_in c.in-Seq.is ∙ (λ i. seq (map_network row_number (sym c.get.ensures i)) (map_network row_number c.in-Seq.g)) in (
+      search rules,
+      state_first _ _ (map_network row_number c.in-Seq.g) _
+          (subst (λ n. BeginsWithState (rows_of c.args.table.now) n (map datum_of c.args.cells.now)) form c.requires),
+    )
 
 pub step-answer-requires : goal.step-answer-requires
 step-answer-requires g t c =
-    let form = ap rows_in c.in-Seq.is ∙ (λ i. seq (map_network row_number (sym c.get.ensures i)) (map_network row_number (sym c.get-in-Seq.ensures i))) in
-    (search rules, state_second _ _ _ _ _ _ _ _ _ (subst (λ n. BeginsWithState (rows_of c.args.table.now) n (map datum_of c.args.cells.now)) form c.requires) c.in_ok-between-in-Seq.ensures)
+    let form = ap rows_in c.in-Seq.is ∙ (λ i. seq (map_network row_number (sym c.get.ensures i)) (map_network row_number (sym c.get-in-Seq.ensures i))) in (
+      search rules,
+      state_second _ _ _ _ _ _ _ _ _ (subst
+          (λ n. BeginsWithState (rows_of c.args.table.now) n (map datum_of c.args.cells.now)) form c.requires) c.in_ok-between-in-Seq.ensures,
+    )
 
 pub returns-in_ok-call-in-Arr : goal.returns-in_ok-call-in-Arr
 returns-in_ok-call-in-Arr g t c = arr_moved _ _ _ _ _ _ _ _ (ap rows_in c.in-Arr.is) c.in_ok-call-in-Arr.ensures

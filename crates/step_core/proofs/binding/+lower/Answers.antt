@@ -29,12 +29,14 @@ pub returns-in_ok-row-in-Arr-clause-lowered : goal.returns-in_ok-row-in-Arr-clau
 returns-in_ok-row-in-Arr-clause-lowered g t c = lowers_as _ _ _ _ _ _ _ (ap tree_of c.in-Arr.is) refl (lowered_arr _ _ _ _ _ c.in_ok-row-in-Arr.ensures.found)
 
 pub returns-in_ok-row-in-IPre-clause-lowered : goal.returns-in_ok-row-in-IPre-clause-lowered
-returns-in_ok-row-in-IPre-clause-lowered g t c = lowers_as _ _ _ _ _ _ _ (ap tree_of c.in-IPre.is) refl (lowered_i_pre _ _ _ _ _ c.in_ok-row-in-IPre.ensures.found)
+returns-in_ok-row-in-IPre-clause-lowered g t c = lowers_as _ _ _ _ _ _ _ (ap tree_of c.in-IPre.is) refl
+    (lowered_i_pre _ _ _ _ _ c.in_ok-row-in-IPre.ensures.found)
 
 pub returns-in_ok-second-in-Seq-2-clause-lowered : goal.returns-in_ok-second-in-Seq-2-clause-lowered
 returns-in_ok-second-in-Seq-2-clause-lowered g t c =
     let form = ap tree_of c.in-Seq.is ∙ (λ i. seq (map_network expression_of (sym c.get.ensures i)) (map_network expression_of (sym c.get-in-Seq.ensures i))) in
-    lowers_as _ _ _ _ _ _ _ form (λ i. seq (map_network row_number (c.in_ok-first-in-Seq-2.ensures i)) (map_network row_number (c.in_ok-second-in-Seq-2.ensures i)))
+    lowers_as _ _ _ _ _ _ _ form (λ i. seq (map_network row_number (c.in_ok-first-in-Seq-2.ensures i))
+    (map_network row_number (c.in_ok-second-in-Seq-2.ensures i)))
     (lowered_seq _ _ _ _ _ _ _ _ c.in_ok-first-in-Seq.ensures.lowered c.in_ok-second-in-Seq.ensures.lowered)
 
 pub returns-in_err-row-in-Arr-clause-missing : goal.returns-in_err-row-in-Arr-clause-missing
@@ -50,11 +52,13 @@ returns-in_err-row-in-IPre-clause-missing g t c =
 pub returns-in_err-first-in-Seq-clause-missing : goal.returns-in_err-first-in-Seq-clause-missing
 returns-in_err-first-in-Seq-clause-missing g t c =
     let form = ap tree_of c.in-Seq.is ∙ (λ i. seq (map_network expression_of (sym c.get.ensures i)) (map_network expression_of c.in-Seq.g)) in
-    let refused : IfErr c.from_residual-in_err-first-in-Seq.result (Refuses (rows_of c.args.table.now) (tree_of c.get.result.now) (map need_of c.args.needs.now)) = search rules in
+    let refused : IfErr c.from_residual-in_err-first-in-Seq.result
+    (Refuses (rows_of c.args.table.now) (tree_of c.get.result.now) (map need_of c.args.needs.now)) = search rules in
     refuses_as c.from_residual-in_err-first-in-Seq.result _ _ _ _ _ form (λ f h. refused_first _ _ _ _ f h) refused
 
 pub returns-in_err-second-in-Seq-clause-missing : goal.returns-in_err-second-in-Seq-clause-missing
 returns-in_err-second-in-Seq-clause-missing g t c =
     let form = ap tree_of c.in-Seq.is ∙ (λ i. seq (map_network expression_of (sym c.get.ensures i)) (map_network expression_of (sym c.get-in-Seq.ensures i))) in
-    let refused : IfErr c.from_residual-in_err-second-in-Seq.result (Refuses (rows_of c.args.table.now) (tree_of c.get-in-Seq.result.now) (map need_of c.in_ok-first-in-Seq.rest.now)) = search rules in
+    let refused : IfErr c.from_residual-in_err-second-in-Seq.result
+    (Refuses (rows_of c.args.table.now) (tree_of c.get-in-Seq.result.now) (map need_of c.in_ok-first-in-Seq.rest.now)) = search rules in
     refuses_as c.from_residual-in_err-second-in-Seq.result _ _ _ _ _ form (λ f h. refused_second _ _ _ _ _ _ f c.in_ok-first-in-Seq.ensures.lowered h) refused
