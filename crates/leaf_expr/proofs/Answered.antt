@@ -1,15 +1,16 @@
 -- What the code's readers answer, said by the grammar alone.
-use Rattle.std.proofs.Common.{ℕ, List, length, subst, IfOk, Result, Ok, Err}
+use Rattle.std.proofs.Common.{◌≡◌, ℕ, List, length, subst, IfOk, Result, Ok, Err}
 use Rattle.std.specs.Prelude.{IfErr}
 use Rattle.leaf_expr.specs.Token.{PlacedToken, tokens_from}
 use Rattle.leaf_expr.specs.Language.{Begins}
 use Rattle.leaf_expr.specs.Grammar.{leaf, Sort, Tree}
 use Rattle.leaf_expr.specs.Text.{read_text, IsText}
+use Rattle.leaf_expr.specs.ReadLaws.{Stops}
 use Rattle.leaf_expr.specs.ReadText.{Gives, IsFault, IsTextFault, tree_at}
 use Rattle.leaf_expr.specs.declared.text_fault.ExprTextFault.{ExprTextFault}
 use Rattle.leaf_expr.proofs.ReadFound.{found}
 use Rattle.leaf_expr.proofs.ReadOnly.{only}
-use Rattle.leaf_expr.proofs.ReadFaults.{stops}
+use Rattle.leaf_expr.proofs.ReadFaults.{stops, stops_not_long}
 use Rattle.leaf_expr.proofs.LeafProper.{leaf_proper}
 use Rattle.leaf_expr.proofs.TextLaws.{text_found, text_read, text_fault, longer}
 use Rattle.leaf_expr.specs.declared.text_fault.ExprTextFault.TheVariants.{Syntax, Number, TooDeep, TooLong, Memory}
@@ -23,9 +24,16 @@ module _ (s : Sort) (text : List ℕ) where
     pub tree_only : (r : Result X ExprTextFault) → Gives view r (tree_at s text room n) → (t : Tree s) (m : ℕ) (rest : List PlacedToken) → Begins leaf room s t (tokens_from n text) m rest → Gives view r (Ok (t, m, rest))
     tree_only r h t m rest b = subst (λ z. Gives view r z) (only leaf leaf_proper (length text) room s b.part (tokens_from n text) m rest t b.spells b.means b.within) h
 
+    stopped : (e : ExprTextFault) → tree_at s text room n ≡ Err e → Stops leaf (length text) room s (tokens_from n text) e
+    stopped e h = stops leaf leaf_proper (length text) room s (tokens_from n text) e h
+
     pub tree_refused : (r : Result X ExprTextFault) → Gives view r (tree_at s text room n) → IfErr r (IsFault s text room n)
     tree_refused (Ok x) h = tt
-    tree_refused (Err e) h = λ m. stops leaf leaf_proper (length text) room s (tokens_from n text) e (h m)
+    tree_refused (Err Memory) h = tt
+    tree_refused (Err TooLong) h = stops_not_long leaf (length text) room s (tokens_from n text) (stopped TooLong (h (λ q. cc)))
+    tree_refused (Err (Syntax k)) h = stopped (Syntax k) (h (λ q. cc))
+    tree_refused (Err (Number k)) h = stopped (Number k) (h (λ q. cc))
+    tree_refused (Err (TooDeep k)) h = stopped (TooDeep k) (h (λ q. cc))
 
   module _ {X : Type 0} (view : X → Tree s) where
     pub whole_found : (r : Result X ExprTextFault) → Gives view r (read_text s text) → IfOk r (λ x. IsText s text (view x))

@@ -85,9 +85,11 @@ begins_closing ((n, closing) ∷ ts) = true
 begins_closing (x ∷ ts) = false
 
 -- Why no tree of the sort stands in the text from byte n on, with room for so many parentheses: the first token
--- that doesn't fit, or the end. `Memory` says nothing of the text.
+-- that doesn't fit, or the end. `TooLong` doesn't come, and `Memory` says nothing of the text.
 abbrev pub IsFault : (s : Sort) → List ℕ → ℕ → ℕ → ExprTextFault → Type 0
-IsFault s text room n f = f ≢ Memory → Stops leaf (length text) room s (tokens_from n text) f
+IsFault s text room n Memory = Unit {0}
+IsFault s text room n TooLong = ⊥
+IsFault s text room n f = Stops leaf (length text) room s (tokens_from n text) f
 
 -- why the text is no tree of the sort; `Memory` says nothing of the text
 abbrev pub IsTextFault : (s : Sort) → List ℕ → ExprTextFault → Type 0
