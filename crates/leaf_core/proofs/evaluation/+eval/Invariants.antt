@@ -31,14 +31,11 @@ decreases-look l = 6 * nodes_in l.expr.now + 1
 abbrev pub decreases-eval_then : goal.decreases-eval_then
 decreases-eval_then l = 6 * (nodes_in l.f.now + nodes_in l.g.now) + 2
 
-abbrev pub decreases-eval_equal : goal.decreases-eval_equal
-decreases-eval_equal l = 6 * (nodes_in l.a.now + nodes_in l.b.now) + 3
+abbrev pub decreases-eval_two : goal.decreases-eval_two
+decreases-eval_two l = 6 * (nodes_in l.a.now + nodes_in l.b.now) + 3
 
-abbrev pub decreases-eval_same : goal.decreases-eval_same
-decreases-eval_same l = 6 * nodes_in l.part.now + 2
-
-abbrev pub decreases-eval_truths : goal.decreases-eval_truths
-decreases-eval_truths l = 6 * (nodes_in l.a.now + nodes_in l.b.now) + 3
+abbrev pub decreases-eval_with : goal.decreases-eval_with
+decreases-eval_with l = 6 * nodes_in l.part.now + 2
 
 abbrev pub decreases-eval_if : goal.decreases-eval_if
 decreases-eval_if l = 6 * (nodes_in l.c.now + nodes_in l.a.now + nodes_in l.b.now) + 3
