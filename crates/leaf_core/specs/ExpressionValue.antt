@@ -77,10 +77,12 @@ abbrev pub part_of : Expression → Datum → Datum
 part_of (fst _) v = left v
 part_of _ v = right v
 
--- whether both hold, or one or both, as the form says
-abbrev pub of_truths : Expression → Bool → Bool → Datum
-of_truths (and_expr _ _) p q = bool (p && q)
-of_truths _ p q = bool (p || q)
+-- what the form makes of two values: whether they are the same, whether both or one of them hold, or of_ints
+abbrev pub of_two : Expression → Datum → Datum → Datum
+of_two (equal _ _) v w = bool (same_datum v w)
+of_two (and_expr _ _) v w = bool (is_true v && is_true w)
+of_two (or_expr _ _) v w = bool (is_true v || is_true w)
+of_two form v w = of_ints form (int_of v) (int_of w)
 
 -- the value under parameters ps at the input x; a default where it is ill typed
 abbrev mutual

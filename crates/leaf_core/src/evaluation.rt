@@ -1,16 +1,15 @@
 // The value of an expression.
 
 ghost use Rattle.std.specs.Prelude.{◌≡◌, IfOk, map, pos};
-ghost use Rattle.sample_core.specs.Datum.{int_of, bool, pair};
+ghost use Rattle.sample_core.specs.Datum.{int_of, pair};
 ghost use Rattle.sample_core.specs.ValueView.{datum_of};
 ghost use Rattle.leaf_core.specs.Expression.{expressions_of, on};
 ghost use Rattle.leaf_core.specs.ExpressionView.{expression_of};
-ghost use Rattle.leaf_core.specs.ExpressionValue.{value_of, values_of, is_true, same_datum, choose, element_at, count_of, of_ints, of_truths, on_event, part_of, wrap};
+ghost use Rattle.leaf_core.specs.ExpressionValue.{value_of, values_of, is_true, choose, element_at, count_of, of_two, on_event, part_of, wrap};
 
 use crate::expr::{Expr, ExprChild, Exprs};
 use crate::operations::{
-    count, element, equal, literal_value, negated, number, of_numbers, of_truths, param, part,
-    truth,
+    count, element, literal_value, negated, number, of_two, param, part, truth,
 };
 use sample_core::{Memory, Sample, SampleChild, Samples};
 use std::alloc::Global;
@@ -38,15 +37,17 @@ pub fn eval(alloc: Global, expr: &Expr, params: &[Sample], x: &Sample) -> Result
             let a = eval_number(alloc, a, params, x)?;
             Ok(negated(a))
         }
-        Expr::Add(a, b) | Expr::Sub(a, b) | Expr::Mul(a, b) | Expr::Less(a, b) => {
-            eval_numbers(alloc, expr, a, b, params, x)
-        }
-        Expr::Equal(a, b) => eval_equal(alloc, a, b, params, x),
+        Expr::Add(a, b)
+        | Expr::Sub(a, b)
+        | Expr::Mul(a, b)
+        | Expr::Less(a, b)
+        | Expr::Equal(a, b)
+        | Expr::And(a, b)
+        | Expr::Or(a, b) => eval_two(alloc, expr, a, b, params, x),
         Expr::Not(a) => {
             let a = eval_truth(alloc, a, params, x)?;
             Ok(Sample::Bool(!a))
         }
-        Expr::And(a, b) | Expr::Or(a, b) => eval_truths(alloc, expr, a, b, params, x),
         Expr::If(c, a, b) => eval_if(alloc, c, a, b, params, x),
         Expr::NoEvent(_) => Ok(Sample::NoEvent),
         Expr::Event(e) => {
@@ -113,43 +114,9 @@ fn eval_then(
     found
 }
 
-/// Whether two values are the same.
+/// What the form makes of the values of two parts.
 #[cycle(eval)]
-fn eval_equal(
-    alloc: Global,
-    a: &ExprChild,
-    b: &ExprChild,
-    params: &[Sample],
-    x: &Sample,
-) -> Result<Sample, Memory>
-    ensures { IfOk result (λ s. datum_of s ≡ bool (same_datum (value_of a.now (map datum_of params.now) (datum_of x.now)) (value_of b.now (map datum_of params.now) (datum_of x.now)))) }
-{
-    let first = eval(alloc, a.get(), params, x)?;
-    let found = eval_same(alloc, &first, b, params, x);
-    drop(first);
-    found
-}
-
-/// Whether a part has the value.
-#[cycle(eval)]
-fn eval_same(
-    alloc: Global,
-    value: &Sample,
-    part: &ExprChild,
-    params: &[Sample],
-    x: &Sample,
-) -> Result<Sample, Memory>
-    ensures { IfOk result (λ s. datum_of s ≡ bool (same_datum (datum_of value.now) (value_of part.now (map datum_of params.now) (datum_of x.now)))) }
-{
-    let other = eval(alloc, part.get(), params, x)?;
-    let same = equal(value, &other);
-    drop(other);
-    Ok(Sample::Bool(same))
-}
-
-/// Whether both hold, or one or both, as the form says.
-#[cycle(eval)]
-fn eval_truths(
+fn eval_two(
     alloc: Global,
     form: &Expr,
     a: &ExprChild,
@@ -157,11 +124,30 @@ fn eval_truths(
     params: &[Sample],
     x: &Sample,
 ) -> Result<Sample, Memory>
-    ensures { IfOk result (λ s. datum_of s ≡ of_truths (expression_of form.now) (is_true (value_of a.now (map datum_of params.now) (datum_of x.now))) (is_true (value_of b.now (map datum_of params.now) (datum_of x.now)))) }
+    ensures { IfOk result (λ s. datum_of s ≡ of_two (expression_of form.now) (value_of a.now (map datum_of params.now) (datum_of x.now)) (value_of b.now (map datum_of params.now) (datum_of x.now))) }
 {
-    let a = eval_truth(alloc, a, params, x)?;
-    let b = eval_truth(alloc, b, params, x)?;
-    Ok(of_truths(form, a, b))
+    let first = eval(alloc, a.get(), params, x)?;
+    let found = eval_with(alloc, form, &first, b, params, x);
+    drop(first);
+    found
+}
+
+/// What the form makes of a value and the value of a part.
+#[cycle(eval)]
+fn eval_with(
+    alloc: Global,
+    form: &Expr,
+    value: &Sample,
+    part: &ExprChild,
+    params: &[Sample],
+    x: &Sample,
+) -> Result<Sample, Memory>
+    ensures { IfOk result (λ s. datum_of s ≡ of_two (expression_of form.now) (datum_of value.now) (value_of part.now (map datum_of params.now) (datum_of x.now))) }
+{
+    let other = eval(alloc, part.get(), params, x)?;
+    let found = of_two(form, value, &other);
+    drop(other);
+    Ok(found)
 }
 
 /// The value of one of two expressions.
@@ -306,23 +292,6 @@ fn eval_child(
 {
     let value = eval(alloc, part.get(), params, x)?;
     SampleChild::new(alloc, value)
-}
-
-/// A sum, a difference, a product or a comparison of numbers.
-#[cycle(eval)]
-fn eval_numbers(
-    alloc: Global,
-    form: &Expr,
-    a: &ExprChild,
-    b: &ExprChild,
-    params: &[Sample],
-    x: &Sample,
-) -> Result<Sample, Memory>
-    ensures { IfOk result (λ s. datum_of s ≡ of_ints (expression_of form.now) (int_of (value_of a.now (map datum_of params.now) (datum_of x.now))) (int_of (value_of b.now (map datum_of params.now) (datum_of x.now)))) }
-{
-    let a = eval_number(alloc, a, params, x)?;
-    let b = eval_number(alloc, b, params, x)?;
-    Ok(of_numbers(form, a, b))
 }
 
 /// The number that a part has as its value; 0 where that is no number.

@@ -5,7 +5,7 @@ ghost use Rattle.std.specs.Int.{int_wrap, w64};
 ghost use Rattle.sample_core.specs.Datum.{int_of, unit};
 ghost use Rattle.sample_core.specs.ValueView.{datum_of};
 ghost use Rattle.leaf_core.specs.ExpressionView.{expression_of, literal_of};
-ghost use Rattle.leaf_core.specs.ExpressionValue.{value_of, wrap, is_true, of_ints, of_truths, part_of, element_at, count_of, param_at, same_datum};
+ghost use Rattle.leaf_core.specs.ExpressionValue.{value_of, wrap, is_true, of_ints, of_two, part_of, element_at, count_of, param_at, same_datum};
 
 use crate::expr::Expr;
 use crate::literal::Literal;
@@ -42,7 +42,7 @@ pub fn negated(n: i64) -> Sample
 
 /// The sum, the difference, the product or the comparison of two numbers, as the form says. The
 /// first three are taken modulo 2^64 and read as signed.
-pub fn of_numbers(form: &Expr, m: i64, n: i64) -> Sample
+fn of_numbers(form: &Expr, m: i64, n: i64) -> Sample
     ensures { datum_of result ≡ of_ints (expression_of form.now) m n }
 {
     match form {
@@ -60,13 +60,16 @@ pub fn truth(value: &Sample) -> bool
     matches!(value, Sample::Bool(true))
 }
 
-/// Whether both hold, or one or both, as the form says.
-pub fn of_truths(form: &Expr, p: bool, q: bool) -> Sample
-    ensures { datum_of result ≡ of_truths (expression_of form.now) p q }
+/// What the form makes of two values: whether they are the same, whether both or one of them
+/// hold, or what `of_numbers` does.
+pub fn of_two(form: &Expr, v: &Sample, w: &Sample) -> Sample
+    ensures { datum_of result ≡ of_two (expression_of form.now) (datum_of v.now) (datum_of w.now) }
 {
     match form {
-        Expr::And(..) => Sample::Bool(p && q),
-        _ => Sample::Bool(p || q),
+        Expr::Equal(..) => Sample::Bool(equal(v, w)),
+        Expr::And(..) => Sample::Bool(truth(v) && truth(w)),
+        Expr::Or(..) => Sample::Bool(truth(v) || truth(w)),
+        _ => of_numbers(form, number(v), number(w)),
     }
 }
 
@@ -120,7 +123,7 @@ pub fn count(value: &Sample) -> i64
 }
 
 /// Whether two values are the same.
-pub fn equal(a: &Sample, b: &Sample) -> bool
+fn equal(a: &Sample, b: &Sample) -> bool
     ensures { result ≡ same_datum (datum_of a.now) (datum_of b.now) }
 {
     same(a, b)

@@ -4,7 +4,6 @@ use Rattle.std.specs.Prelude.{IfErr}
 use Rattle.leaf_expr.specs.Token.{PlacedToken, tokens_from}
 use Rattle.leaf_expr.specs.Language.{Begins}
 use Rattle.leaf_expr.specs.Grammar.{leaf, Sort, Tree}
-use Rattle.leaf_expr.specs.TreeReader.{read}
 use Rattle.leaf_expr.specs.Text.{read_text, IsText}
 use Rattle.leaf_expr.specs.ReadText.{Gives, IsFault, IsTextFault, tree_at}
 use Rattle.leaf_expr.specs.declared.text_fault.ExprTextFault.{ExprTextFault}

@@ -1,19 +1,16 @@
 -- Steps from what a tree begins with.
-use Rattle.std.proofs.Common.{◌≡◌, ℕ, zero, suc, ◌+◌, ◌-◌, true, List, [], ◌∷◌, length, refl, sym, subst, ap, arith, Result, Ok, Err}
+use Rattle.std.proofs.Common.{◌≡◌, ℕ, zero, suc, ◌+◌, ◌-◌, true, List, [], ◌∷◌, length, refl, sym, subst, ap, arith, Result, Ok}
 use Rattle.std.specs.List.{slice_range}
 use Rattle.leaf_expr.specs.Token.{opening, closing, word, PlacedToken, tokens_from}
 use Rattle.leaf_expr.specs.Language.{Language}
-use Rattle.leaf_expr.specs.WordReading.{WordReading, reads}
-use Rattle.leaf_expr.specs.Grammar.{leaf, index_sort, word_at}
-use Rattle.leaf_expr.specs.TreeReader.{word_read, read, read_form, read_head}
+use Rattle.leaf_expr.specs.Grammar.{word_at}
+use Rattle.leaf_expr.specs.TreeReader.{word_read, read, read_form}
 use Rattle.leaf_expr.specs.Front.{read_front, front_from, front_left}
 use Rattle.leaf_expr.specs.ReadText.{Gives}
 use Rattle.leaf_expr.specs.declared.tree_front.Front.{Front}
 use Rattle.leaf_expr.specs.declared.tree_front.Front.TheVariants as F
 use Rattle.leaf_expr.specs.declared.text_fault.ExprTextFault.{ExprTextFault}
-use Rattle.leaf_expr.proofs.TokenSteps.{word_takes}
 use Rattle.leaf_expr.proofs.ReadSteps.{Refuses, given, ok_same, refused_ok, refused_same}
-use Rattle.leaf_expr.specs.declared.text_fault.ExprTextFault.TheVariants.{Syntax}
 
 -- a token, and those behind it
 abbrev Fronted : Type 0

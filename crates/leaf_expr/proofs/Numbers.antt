@@ -1,5 +1,5 @@
 -- A number word that is read is the one spelling of its number, and that spelling is read.
-use Rattle.std.proofs.Common.{◌≡◌, ℕ, suc, ◌^◌, ◌≤◌, ◌<◌, Bool, true, false, ◌&&◌, not, if◌then◌else◌, nat_le, List, [], ◌∷◌, length, refl, sym, ap, ◌∙◌, subst, arith, nat_eq, ℤ, pos, negsuc, w64, FitsSigned}
+use Rattle.std.proofs.Common.{◌≡◌, ℕ, suc, ◌^◌, ◌≤◌, ◌<◌, Bool, true, false, ◌&&◌, not, if◌then◌else◌, nat_le, List, [], ◌∷◌, length, refl, ap, ◌∙◌, subst, arith, nat_eq, ℤ, pos, negsuc, w64, FitsSigned}
 use Rattle.std.specs.Fmt.{decimal, signed_decimal}
 use Rattle.std.specs.Str.{all_ascii_digits}
 use Rattle.std.proofs.lemmas.Bool.{le-leb, ne_eqb, leb-true}

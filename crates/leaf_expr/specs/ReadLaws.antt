@@ -42,7 +42,7 @@ module _ (L : Language) where
       behind_item : {p : L.Sort} {t : L.Tree p} {front us : List PlacedToken} {q : Option L.Sort} {d : ℕ} → Whole p t front → LeadsIn (places p) us q d → LeadsIn (places p) (front ++ us) q d
 
   -- What a token that doesn't fit is called, where so many more parentheses may be opened: a parenthesis too
-  -- many, a Number word where a Number may stand, or a token that is none of these.
+  -- many, a number word where a number may stand, or a token that is none of these.
   abbrev pub fault_at : ℕ → PlacedToken → Option L.Sort → ExprTextFault
   fault_at zero (n, opening) q = TooDeep n
   fault_at left (n, word w) (Some q) = if L.takes_number q && is_number_word w then Number n else Syntax n

@@ -1,5 +1,5 @@
 -- What the code's readers answer: what the reader of the grammar does on the tokens from some byte on.
-use Rattle.std.specs.Prelude.{◌≡◌, ◌≢◌, ◌<◌, ℕ, Bool, true, false, List, [], ◌∷◌, length, slice_range, map, Result, Ok, Err, Option, Some, None}
+use Rattle.std.specs.Prelude.{◌≢◌, ◌<◌, ℕ, Bool, true, false, List, [], ◌∷◌, length, slice_range, map, Result, Ok, Err, Option, Some, None}
 use Rattle.sample_core.specs.TypeTree.{TypeTree}
 use Rattle.sample_core.specs.TypeView.{type_of}
 use Rattle.sample_core.specs.declared.ty.Ty.{Ty}

@@ -8,8 +8,8 @@ ghost use Rattle.leaf_expr.specs.ReadText.{fit, word_reading};
 ghost use Rattle.leaf_core.specs.ExpressionView.{expression_of};
 
 use leaf_core::{Expr, Literal};
-use sample_core::{Ty, word_is};
 use sample_core::number::{is_number_spelling, is_number_word, number};
+use sample_core::{Ty, word_is};
 
 /// The greatest number that a parameter is called by in a text.
 const MAX_INDEX: i64 = 65_535;

@@ -4,7 +4,7 @@ use Rattle.leaf_expr.specs.Token.{PlacedToken}
 use Rattle.leaf_core.specs.Expression.{Expression}
 use Rattle.leaf_expr.specs.Language.{no_place}
 use Rattle.leaf_expr.specs.Grammar.{leaf, expression_sort}
-use Rattle.leaf_expr.specs.TreeReader.{Read, read, read_form, read_head, read_row, read_parts, read_end}
+use Rattle.leaf_expr.specs.TreeReader.{Read, read, read_form, read_head, read_row, read_parts}
 use Rattle.leaf_expr.proofs.ReadSteps.{Refuses, passed}
 use Rattle.leaf_expr.specs.declared.text_fault.ExprTextFault.{ExprTextFault}
 use Rattle.sample_core.specs.TypeTree.{TypeTree}

@@ -1,5 +1,5 @@
 -- Reading one value off the front of bytes: the value and what is behind it, or the first fault.
-use Rattle.std.specs.Prelude.{◌≡◌, ℕ, zero, suc, ◌-◌, Bool, true, false, ◌||◌, nat_eq, List, [], ◌∷◌, length, Result, Ok, Err, if◌then◌else◌, bytes_eq, codes}
+use Rattle.std.specs.Prelude.{ℕ, zero, suc, ◌-◌, Bool, true, false, ◌||◌, nat_eq, List, [], ◌∷◌, length, Result, Ok, Err, if◌then◌else◌, bytes_eq, codes}
 use Rattle.sample_core.specs.Answer.{◌>>=◌, GivesUnless}
 use Rattle.sample_core.specs.Datum.{Datum, unit, bool, int, pair, no_event, event, list, list_of}
 use Rattle.sample_core.specs.TypeTree.{TypeTree, unit_ty, bool_ty, int_ty, pair_ty, event_ty, list_ty}

@@ -22,11 +22,11 @@ decreases-eval_part l = 4 * nodes_in l.e.now + 2
 abbrev pub decreases-eval_then : goal.decreases-eval_then
 decreases-eval_then l = 4 * (nodes_in l.f.now + nodes_in l.g.now) + 2
 
-abbrev pub decreases-eval_equal : goal.decreases-eval_equal
-decreases-eval_equal l = 4 * (nodes_in l.a.now + nodes_in l.b.now) + 3
+abbrev pub decreases-eval_two : goal.decreases-eval_two
+decreases-eval_two l = 4 * (nodes_in l.a.now + nodes_in l.b.now) + 3
 
-abbrev pub decreases-eval_truths : goal.decreases-eval_truths
-decreases-eval_truths l = 4 * (nodes_in l.a.now + nodes_in l.b.now) + 2
+abbrev pub decreases-eval_with : goal.decreases-eval_with
+decreases-eval_with l = 4 * nodes_in l.part.now + 1
 
 abbrev pub decreases-eval_if : goal.decreases-eval_if
 decreases-eval_if l = 4 * (nodes_in l.c.now + nodes_in l.a.now + nodes_in l.b.now) + 2
@@ -43,9 +43,6 @@ decreases-eval_len l = 4 * nodes_in l.e.now + 2
 abbrev pub decreases-eval_child : goal.decreases-eval_child
 decreases-eval_child l = 4 * nodes_in l.part.now + 1
 
-abbrev pub decreases-eval_numbers : goal.decreases-eval_numbers
-decreases-eval_numbers l = 4 * (nodes_in l.a.now + nodes_in l.b.now) + 2
-
 abbrev pub decreases-eval_number : goal.decreases-eval_number
 decreases-eval_number l = 4 * nodes_in l.part.now + 1
 
@@ -57,9 +54,6 @@ decreases-eval_elements l = 4 * nodes_in_all (expressions_of l.elements.now) + 1
 
 abbrev pub decreases-eval_body : goal.decreases-eval_body
 decreases-eval_body l = 4 * nodes_in l.b.now + 1
-
-abbrev pub decreases-eval_same : goal.decreases-eval_same
-decreases-eval_same l = 4 * nodes_in l.part.now + 1
 
 abbrev pub decreases-eval_on_event : goal.decreases-eval_on_event
 decreases-eval_on_event l = 4 * (nodes_in l.d.now + nodes_in l.b.now) + 2

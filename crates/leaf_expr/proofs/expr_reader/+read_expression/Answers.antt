@@ -1,14 +1,11 @@
-use Rattle.std.proofs.Common.{◌≡◌, ◌∷◌, ◌++◌, ◌+◌, ◌∙◌, [], length, map, refl, sym, ap, subst, arith, Ok}
-use Rattle.std.specs.List.{slice_range}
+use Rattle.std.proofs.Common.{◌≡◌, ◌∷◌, ◌++◌, ◌+◌, [], length, map, refl, arith}
 use Rattle.std.proofs.lemmas.Grind.{common_steps}
 use Rattle.leaf_core.specs.Expression.{Expression}
-use Rattle.leaf_expr.specs.Form.{form_row, unary_row, binary_row, ternary_row, typed_row, unary_of, binary_of, ternary_of, typed_by}
-use Rattle.leaf_expr.specs.Front.{read_front, front_left}
+use Rattle.leaf_expr.specs.Form.{form_row, unary_of, binary_of, ternary_of, typed_by}
 use Rattle.leaf_expr.specs.Grammar.{leaf, expression_sort, e}
 use Rattle.leaf_expr.specs.Language.{no_place}
-use Rattle.leaf_expr.specs.ReadText.{Gives, tree_at, form_at, row_parts, items_at, items_left, last_two_at, expression_left}
 use Rattle.leaf_core.specs.ExpressionView.{expression_of}
-use Rattle.leaf_expr.specs.Token.{opening, word, tokens_from}
+use Rattle.leaf_expr.specs.Token.{tokens_from}
 use Rattle.leaf_expr.proofs.FrontSteps.{in_form, in_word, front_refused}
 use Rattle.leaf_expr.proofs.ItemSteps.{done, more, gone, list_parts, list_refuses, no_list_type}
 use Rattle.leaf_expr.proofs.ReadCounts.{read_shortens}

@@ -17,7 +17,7 @@ elements-returns-in_err-sample-clause-exact t c =
     let s : c.loop-element.rest.now ≡ 32 ∷ c.in-Some.element.now = c.in-Some.ensures in
     let l : length c.loop-element.rest.now ≡ length (32 ∷ c.in-Some.element.now) = ap length s in
     let o : c.in_err-sample.field-0.0 ≢ Memory → elements_at (value_at c.args.size (type_of c.args.ty.now)) (length c.args.text.now) c.args.text.now ≡ Err c.in_err-sample.field-0.0 =
-        λ h. sym c.loop-element.invariant.0 ∙ fault_inside (value_at c.args.size (type_of c.args.ty.now)) _ (map datum_of c.loop-element.all.items) c.loop-element.rest.now c.in-Some.element.now c.in_err-sample.field-0.0 s (omega arith) (c.in_err-sample.ensures.exact h) in
+    λ h. sym c.loop-element.invariant.0 ∙ fault_inside (value_at c.args.size (type_of c.args.ty.now)) _ (map datum_of c.loop-element.all.items) c.loop-element.rest.now c.in-Some.element.now c.in_err-sample.field-0.0 s (omega arith) (c.in_err-sample.ensures.exact h) in
     first_of (search (rules, o), grind (arith, common_steps, o))
 
 pub elements-loop-element-preserved : goal.elements-loop-element-preserved

@@ -4,7 +4,7 @@ use Rattle.sample_core.specs.Datum.{list_of, end}
 use Rattle.sample_core.specs.HasType.{HaveType, end_has}
 use Rattle.sample_core.specs.ValueView.{datum_of}
 use Rattle.sample_core.proofs.Elements.{element_smaller, elements_from}
-use Rattle.sample_core.proofs.HasTypeCases.{more_is, pair_is, event_is, list_is}
+use Rattle.sample_core.proofs.HasTypeCases.{more_is, event_is, list_is}
 use Rattle.sample_core.proofs.typing.+has_type.Goals as goal
 
 pub have_type-has_type-requires : goal.have_type-has_type-requires

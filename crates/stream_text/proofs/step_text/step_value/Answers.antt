@@ -1,5 +1,4 @@
-use Rattle.std.proofs.Common.{rules, arith, ◌+◌, ◌*◌, ◌≤◌, ◌^◌, ◌<◌, length, get_or}
-use Rattle.std.proofs.lemmas.Grind.{common_steps}
+use Rattle.std.proofs.Common.{rules, arith, ◌+◌, ◌<◌, length}
 use Rattle.stream_text.proofs.Steps.{next_value, no_step}
 use Rattle.stream_text.proofs.step_text.step_value.Goals as goal
 

@@ -1,4 +1,4 @@
-use Rattle.std.proofs.Common.{arith, rules, ◌<◌, length}
+use Rattle.std.proofs.Common.{arith}
 use Rattle.std.proofs.lemmas.Grind.{common_steps}
 use Rattle.stream_text.proofs.Lines.{first_line, one_line}
 use Rattle.stream_text.proofs.text_lines.split_line.Goals as goal
