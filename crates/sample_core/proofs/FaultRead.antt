@@ -1,7 +1,8 @@
 -- Where the bytes lead to a place at which the wanted does not stand, reading answers that fault.
-use Rattle.std.proofs.Common.{◌≡◌, ℕ, ◌-◌, ◌<◌, ◌≤◌, Bool, true, false, ◌||◌, List, [], ◌∷◌, ◌++◌, length, refl, sym, ap, ◌∙◌, arith, Ok, Err}
+use Rattle.std.proofs.Common.{◌≡◌, ℕ, ◌-◌, ◌<◌, ◌≤◌, Bool, true, false, ◌||◌, List, [], ◌∷◌, ◌++◌, length, refl, sym, ap, ◌∙◌, arith, Result, Ok, Err}
 use Rattle.std.specs.Prelude.{codes, bytes_eq}
-use Rattle.sample_core.specs.Datum.{Datums, elements}
+use Rattle.sample_core.specs.Answer.{◌>>=◌}
+use Rattle.sample_core.specs.Datum.{Datum, Datums, elements}
 use Rattle.sample_core.specs.TypeTree.{TypeTree, unit_ty, bool_ty, int_ty, pair_ty, event_ty, list_ty}
 use Rattle.sample_core.specs.Number.{is_number, is_in_64}
 use Rattle.sample_core.specs.SpellsValue.{SpellsRow}
@@ -97,6 +98,17 @@ end_read size A vs cs rest f s (neither d e) =
     let b : behind_byte size 41 rest ≡ Err (Fault.NotAValue (size - length rest)) = byte_missing size 41 rest e in
     rw (h, r, b) refl
 
+-- a form behind whose word and a space a part is read: the part's fault, and what follows the part
+module _ {R : Type 0} (size : ℕ) (A : TypeTree) (name bs cs : List ℕ) where
+  part_fails : (f : ValueFault) (k : Datum × List ℕ → Result R ValueFault) → behind_head size name bs ≡ Ok (32 ∷ cs) → value_at size A cs ≡ Err f →
+      (behind_head size name bs >>= (λ ds. behind_byte size 32 ds >>= (λ es. value_at size A es >>= k))) ≡ Err f
+  part_fails f k h i = rw (h, space_here size cs, i) refl
+
+  part_read : (rest : List ℕ) (v : Datum) (f : ValueFault) (k : Datum × List ℕ → Result R ValueFault) → behind_head size name bs ≡ Ok (32 ∷ cs) →
+      value_at size A cs ≡ Ok (v, rest) → k (v, rest) ≡ Err f →
+      (behind_head size name bs >>= (λ ds. behind_byte size 32 ds >>= (λ es. value_at size A es >>= k))) ≡ Err f
+  part_read rest v f k h i e = rw (h, space_here size cs, i) e
+
 pub fault_read : (size : ℕ) (A : TypeTree) (bs : List ℕ) (w : Expectation) (rest : List ℕ) (f : ValueFault) → Leads A bs w rest → Wrong w rest (size - length rest) f → value_at size A bs ≡ Err f
 unfolding value_at
 fault_read size A bs w rest f at_front x = front_read size A bs f x
@@ -105,38 +117,28 @@ fault_read size A bs w rest f (behind_pair g) x =
     let b : behind_byte size 32 rest ≡ Err f = byte_read size 32 rest f x in
     rw (h, b) refl
 fault_read size A bs w rest f (in_first {A = B} {bs = cs} l) x =
-    let h : behind_head size (codes "pair") (codes "(pair " ++ cs) ≡ Ok (32 ∷ cs) = head_only size (codes "pair") (32 ∷ cs) refl refl in
-    let i : value_at size B cs ≡ Err f = fault_read size B cs w rest f l x in
-    rw (h, space_here size cs, i) refl
+    part_fails size B (codes "pair") (codes "(pair " ++ cs) cs f _ (head_only size (codes "pair") (32 ∷ cs) refl refl) (fault_read size B cs w rest f l x)
 fault_read size A bs w rest f (behind_first {A = B} {v = v} {bs = cs} s) x =
-    let h : behind_head size (codes "pair") (codes "(pair " ++ cs) ≡ Ok (32 ∷ cs) = head_only size (codes "pair") (32 ∷ cs) refl refl in
-    let i : value_at size B cs ≡ Ok (v, rest) = spells_read size B cs v rest s in
-    let b : behind_byte size 32 rest ≡ Err f = byte_read size 32 rest f x in
-    rw (h, space_here size cs, i, b) refl
+    part_read size B (codes "pair") (codes "(pair " ++ cs) cs rest v f _ (head_only size (codes "pair") (32 ∷ cs) refl refl) (spells_read size B cs v rest s)
+    (let b : behind_byte size 32 rest ≡ Err f = byte_read size 32 rest f x in rw b refl)
 fault_read size A bs w rest f (in_second {A = B} {B = C} {v = v} {bs = cs} {cs = ds} s l) x =
-    let h : behind_head size (codes "pair") (codes "(pair " ++ cs) ≡ Ok (32 ∷ cs) = head_only size (codes "pair") (32 ∷ cs) refl refl in
-    let i : value_at size B cs ≡ Ok (v, 32 ∷ ds) = spells_read size B cs v (32 ∷ ds) s in
     let j : value_at size C ds ≡ Err f = fault_read size C ds w rest f l x in
-    rw (h, space_here size cs, i, space_here size ds, j) refl
+    part_read size B (codes "pair") (codes "(pair " ++ cs) cs (32 ∷ ds) v f _ (head_only size (codes "pair") (32 ∷ cs) refl refl)
+    (spells_read size B cs v (32 ∷ ds) s) (rw (space_here size ds, j) refl)
 fault_read size A bs w rest f (behind_second {A = B} {B = C} {v = v} {x = y} {bs = cs} {cs = ds} s t) x =
-    let h : behind_head size (codes "pair") (codes "(pair " ++ cs) ≡ Ok (32 ∷ cs) = head_only size (codes "pair") (32 ∷ cs) refl refl in
-    let i : value_at size B cs ≡ Ok (v, 32 ∷ ds) = spells_read size B cs v (32 ∷ ds) s in
     let j : value_at size C ds ≡ Ok (y, rest) = spells_read size C ds y rest t in
     let b : behind_byte size 41 rest ≡ Err f = byte_read size 41 rest f x in
-    rw (h, space_here size cs, i, space_here size ds, j, b) refl
+    part_read size B (codes "pair") (codes "(pair " ++ cs) cs (32 ∷ ds) v f _ (head_only size (codes "pair") (32 ∷ cs) refl refl)
+    (spells_read size B cs v (32 ∷ ds) s) (rw (space_here size ds, j, b) refl)
 fault_read size A bs w rest f (behind_event g) x =
     let h : behind_head size (codes "event") (codes "(event" ++ rest) ≡ Ok rest = head_only size (codes "event") rest refl g in
     let b : behind_byte size 32 rest ≡ Err f = byte_read size 32 rest f x in
     rw (h, b) refl
 fault_read size A bs w rest f (in_event {A = B} {bs = cs} l) x =
-    let h : behind_head size (codes "event") (codes "(event " ++ cs) ≡ Ok (32 ∷ cs) = head_only size (codes "event") (32 ∷ cs) refl refl in
-    let i : value_at size B cs ≡ Err f = fault_read size B cs w rest f l x in
-    rw (h, space_here size cs, i) refl
+    part_fails size B (codes "event") (codes "(event " ++ cs) cs f _ (head_only size (codes "event") (32 ∷ cs) refl refl) (fault_read size B cs w rest f l x)
 fault_read size A bs w rest f (behind_inner {A = B} {v = v} {bs = cs} s) x =
-    let h : behind_head size (codes "event") (codes "(event " ++ cs) ≡ Ok (32 ∷ cs) = head_only size (codes "event") (32 ∷ cs) refl refl in
-    let i : value_at size B cs ≡ Ok (v, rest) = spells_read size B cs v rest s in
-    let b : behind_byte size 41 rest ≡ Err f = byte_read size 41 rest f x in
-    rw (h, space_here size cs, i, b) refl
+    part_read size B (codes "event") (codes "(event " ++ cs) cs rest v f _ (head_only size (codes "event") (32 ∷ cs) refl refl) (spells_read size B cs v rest s)
+    (let b : behind_byte size 41 rest ≡ Err f = byte_read size 41 rest f x in rw b refl)
 fault_read size A bs w rest f (behind_elements {A = B} {vs = vs} {bs = cs} s) x = end_read size B vs cs rest f s x
 fault_read size A bs w rest f (in_element {A = B} {vs = vs} {bs = cs} {cs = ds} s l) x =
     let h : behind_head size (codes "list") (codes "(list" ++ cs) ≡ Ok cs = head_only size (codes "list") cs refl (row_begins vs B cs (32 ∷ ds) s) in
