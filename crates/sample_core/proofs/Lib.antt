@@ -2,6 +2,7 @@ pub mod Adding
 pub mod Elements
 pub mod HasTypeCases
 pub mod Numbers
+mod FrontNumber
 mod NumberParse
 mod ReadSteps
 pub mod WordLemmas

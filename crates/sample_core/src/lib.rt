@@ -3,6 +3,7 @@
 
 mod equal;
 mod fault;
+mod front_number;
 mod laws;
 mod memory;
 pub mod number;

@@ -10,6 +10,7 @@ ghost use Rattle.sample_core.specs.SpellsValue.{SpellsValue};
 ghost use Rattle.sample_core.specs.Spelling.{spelling};
 
 use crate::fault::ValueFault;
+use crate::front_number::front_number;
 use crate::number::{is_number_spelling, number};
 use crate::sample::{Sample, SampleChild, Samples};
 use crate::ty::{Ty, TyChild};
@@ -149,8 +150,19 @@ fn truth(size: usize, text: &[u8]) -> Result<(Sample, &[u8]), ValueFault>
 }
 
 /// A number.
-#[tactic(auto, unfolding(crate::specs::Reading::number_at))]
 fn integer(size: usize, text: &[u8]) -> Result<(Sample, &[u8]), ValueFault>
+    ensures exact { Gives (λ x. (datum_of x.0, x.1.now)) result (number_at size text.now) }
+    ensures shorter { IfOk result (λ x. length x.1.now ≤ length text.now) }
+{
+    match front_number(text) {
+        Some((n, rest)) => Ok((Sample::Int(n), rest)),
+        None => long_integer(size, text),
+    }
+}
+
+/// A number of whatever length, by its word.
+#[tactic(auto, unfolding(crate::specs::Reading::number_at))]
+fn long_integer(size: usize, text: &[u8]) -> Result<(Sample, &[u8]), ValueFault>
     ensures exact { Gives (λ x. (datum_of x.0, x.1.now)) result (number_at size text.now) }
     ensures shorter { IfOk result (λ x. length x.1.now ≤ length text.now) }
 {

@@ -4,7 +4,7 @@ ghost use Rattle.std.specs.Prelude.{◌≡◌, ◌+◌, ◌≤◌, length, bytes
 ghost use Rattle.sample_core.specs.Words.{is_value_byte as is_byte_of_value, word_of, after_word, form_word, after_form};
 
 /// Whether the byte is a letter, a digit or `-`.
-fn is_value_byte(byte: u8) -> bool
+pub(crate) fn is_value_byte(byte: u8) -> bool
     ensures { result ≡ is_byte_of_value byte }
 {
     byte.is_ascii_alphanumeric() || byte == b'-'

@@ -1,0 +1,90 @@
+// A number at the front of a text, read in one pass.
+
+ghost use Rattle.std.specs.Prelude.{◌≡◌, ◌<◌, ◌≤◌, ◌^◌, ◌++◌, IfSome, IsTrue, true, false, length, take, slice_index};
+ghost use Rattle.std.specs.Fmt.{decimal};
+ghost use Rattle.std.specs.Str.{all_ascii_digits};
+ghost use Rattle.std.specs.Str.Parse.{digits_value};
+ghost use Rattle.sample_core.specs.Datum.{int};
+ghost use Rattle.sample_core.specs.TypeTree.{int_ty};
+ghost use Rattle.sample_core.specs.SpellsValue.{SpellsValue};
+ghost use Rattle.sample_core.specs.Words.{goes_on as is_longer};
+
+use crate::words::is_value_byte;
+
+/// Where no further digit is taken: so a number has at most 18 of them.
+const FULL: u64 = 100_000_000_000_000_000;
+
+/// The number at the front, and what is behind it. `None` says nothing of the text: what is no
+/// number, and one of more than 18 digits, are left to the reader of words.
+pub(crate) fn front_number(text: &[u8]) -> Option<(i64, &[u8])>
+    ensures spelled { IfSome result (λ x. SpellsValue (int x.0) int_ty text.now x.1.now) }
+    ensures shorter { IfSome result (λ x. length x.1.now ≤ length text.now) }
+{
+    match text {
+        [b'-', digits @ ..] => {
+            let (n, rest) = front_natural(digits)?;
+            if n == 0 {
+                None
+            } else {
+                Some((-(n as i64), rest))
+            }
+        }
+        _ => {
+            let (n, rest) = front_natural(text)?;
+            Some((n as i64, rest))
+        }
+    }
+}
+
+/// The same of a number with no `-`.
+fn front_natural(text: &[u8]) -> Option<(u64, &[u8])>
+    ensures spelled { IfSome result (λ x. text.now ≡ decimal x.0 ++ x.1.now) }
+    ensures apart { IfSome result (λ x. is_longer x.1.now ≡ false) }
+    ensures small { IfSome result (λ x. x.0 < 10 ^ 18) }
+{
+    let (len, n) = front_digits(text);
+    let (digits, rest) = text.split_at(len);
+    if !is_one_spelling(digits) || goes_on(rest) {
+        return None;
+    }
+    Some((n, rest))
+}
+
+/// Whether digits spell their number in the one way: there are some, and no 0 in front of others.
+fn is_one_spelling(digits: &[u8]) -> bool
+    ensures some { IsTrue result → 0 < length digits.now }
+    ensures first { IsTrue result → slice_index digits.now 0 ≡ 48 → length digits.now ≡ 1 }
+{
+    match digits {
+        [] => false,
+        [first, rest @ ..] => *first != b'0' || rest.is_empty(),
+    }
+}
+
+/// Whether a word goes on there.
+fn goes_on(text: &[u8]) -> bool
+    ensures { result ≡ is_longer text.now }
+{
+    match text {
+        [] => false,
+        [byte, ..] => is_value_byte(*byte),
+    }
+}
+
+/// How many digits are at the front, at most 18 of them after zeros, and the number that they
+/// write.
+fn front_digits(text: &[u8]) -> (usize, u64)
+    ensures within { result.0 ≤ length text.now }
+    ensures digits { all_ascii_digits (take result.0 text.now) ≡ true }
+    ensures value { result.1 ≡ digits_value 10 (take result.0 text.now) }
+    ensures small { result.1 < 10 ^ 18 }
+{
+    let mut n: u64 = 0;
+    for (len, byte) in text.iter().enumerate() {
+        if n >= FULL || !byte.is_ascii_digit() {
+            return (len, n);
+        }
+        n = n * 10 + u64::from(*byte - b'0');
+    }
+    (text.len(), n)
+}
