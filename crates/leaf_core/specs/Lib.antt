@@ -14,3 +14,4 @@ pub mod ExpressionLimits
 pub mod ExpressionCheck
 pub mod TypingLaws
 pub mod CheckAnswer
+pub mod LookedView

@@ -5,11 +5,15 @@ ghost use Rattle.sample_core.specs.Datum.{int_of, pair};
 ghost use Rattle.sample_core.specs.ValueView.{datum_of};
 ghost use Rattle.leaf_core.specs.Expression.{expressions_of, on};
 ghost use Rattle.leaf_core.specs.ExpressionView.{expression_of};
-ghost use Rattle.leaf_core.specs.ExpressionValue.{value_of, values_of, is_true, choose, element_at, count_of, of_two, on_event, part_of, wrap};
+ghost use Rattle.leaf_core.specs.ExpressionValue.{value_of, values_of, is_true, choose, element_at, count_of, of_ints, of_two, on_event, part_of, wrap};
+ghost use Rattle.leaf_core.specs.LookedView.{looked_value};
 
 use crate::expr::{Expr, ExprChild, Exprs};
+use crate::literal::Literal;
+use crate::looked::{Looked, path_at};
 use crate::operations::{
-    count, element, literal_value, negated, number, of_two, param, part, truth,
+    copied_param, count, element, literal_value, negated, number, of_numbers, of_two, part, sum_of,
+    truth,
 };
 use sample_core::{Memory, Sample, SampleChild, Samples};
 use std::alloc::Global;
@@ -28,7 +32,7 @@ pub fn eval(alloc: Global, expr: &Expr, params: &[Sample], x: &Sample) -> Result
 {
     match expr {
         Expr::Input => x.try_copy(alloc),
-        Expr::Param(k) => param(alloc, params, *k),
+        Expr::Param(k) => copied_param(alloc, params, *k),
         Expr::Literal(literal) => Ok(literal_value(*literal)),
         Expr::Pair(a, b) => eval_pair(alloc, a, b, params, x),
         Expr::Fst(e) | Expr::Snd(e) => eval_part(alloc, expr, e, params, x),
@@ -37,13 +41,12 @@ pub fn eval(alloc: Global, expr: &Expr, params: &[Sample], x: &Sample) -> Result
             let a = eval_number(alloc, a, params, x)?;
             Ok(negated(a))
         }
-        Expr::Add(a, b)
-        | Expr::Sub(a, b)
-        | Expr::Mul(a, b)
-        | Expr::Less(a, b)
-        | Expr::Equal(a, b)
-        | Expr::And(a, b)
-        | Expr::Or(a, b) => eval_two(alloc, expr, a, b, params, x),
+        Expr::Add(a, b) | Expr::Sub(a, b) | Expr::Mul(a, b) | Expr::Less(a, b) => {
+            eval_numbers(alloc, expr, a, b, params, x)
+        }
+        Expr::Equal(a, b) | Expr::And(a, b) | Expr::Or(a, b) => {
+            eval_two(alloc, expr, a, b, params, x)
+        }
         Expr::Not(a) => {
             let a = eval_truth(alloc, a, params, x)?;
             Ok(Sample::Bool(!a))
@@ -91,10 +94,59 @@ fn eval_part(
 ) -> Result<Sample, Memory>
     ensures { IfOk result (λ s. datum_of s ≡ part_of (expression_of form.now) (value_of e.now (map datum_of params.now) (datum_of x.now))) }
 {
-    let pair = eval(alloc, e.get(), params, x)?;
-    let found = part(alloc, form, &pair);
+    match path_at(e.get(), params, x) {
+        Some(pair) => part(form, pair).try_copy(alloc),
+        None => eval_part_off(alloc, form, e, params, x),
+    }
+}
+
+/// The same, where the value is on no path. No part of a part of it is looked for on a path again.
+#[cycle(eval)]
+fn eval_part_off(
+    alloc: Global,
+    form: &Expr,
+    e: &ExprChild,
+    params: &[Sample],
+    x: &Sample,
+) -> Result<Sample, Memory>
+    ensures { IfOk result (λ s. datum_of s ≡ part_of (expression_of form.now) (value_of e.now (map datum_of params.now) (datum_of x.now))) }
+{
+    let pair = eval_off(alloc, e, params, x)?;
+    let found = part(form, &pair).try_copy(alloc);
     drop(pair);
     found
+}
+
+/// The value of an expression that is on no path.
+#[cycle(eval)]
+fn eval_off(alloc: Global, e: &ExprChild, params: &[Sample], x: &Sample) -> Result<Sample, Memory>
+    ensures { IfOk result (λ s. datum_of s ≡ value_of e.now (map datum_of params.now) (datum_of x.now)) }
+{
+    let form = e.get();
+    match form {
+        Expr::Fst(e) | Expr::Snd(e) => eval_part_off(alloc, form, e, params, x),
+        _ => eval(alloc, form, params, x),
+    }
+}
+
+/// What the value of an expression is read off: the value itself, where that stands on a path, else
+/// a new one.
+#[cycle(eval)]
+fn look<'v>(
+    alloc: Global,
+    expr: &ExprChild,
+    params: &'v [Sample],
+    x: &'v Sample,
+) -> Result<Looked<'v>, Memory>
+    ensures { IfOk result (λ l. looked_value l ≡ value_of expr.now (map datum_of params.now) (datum_of x.now)) }
+{
+    match path_at(expr.get(), params, x) {
+        Some(value) => Ok(Looked::There(value)),
+        None => {
+            let value = eval(alloc, expr.get(), params, x)?;
+            Ok(Looked::Made(value))
+        }
+    }
 }
 
 /// The value of one expression at that of another.
@@ -108,8 +160,8 @@ fn eval_then(
 ) -> Result<Sample, Memory>
     ensures { IfOk result (λ s. datum_of s ≡ value_of g.now (map datum_of params.now) (value_of f.now (map datum_of params.now) (datum_of x.now))) }
 {
-    let between = eval(alloc, f.get(), params, x)?;
-    let found = eval(alloc, g.get(), params, &between);
+    let between = look(alloc, f, params, x)?;
+    let found = eval(alloc, g.get(), params, between.get());
     drop(between);
     found
 }
@@ -126,8 +178,8 @@ fn eval_two(
 ) -> Result<Sample, Memory>
     ensures { IfOk result (λ s. datum_of s ≡ of_two (expression_of form.now) (value_of a.now (map datum_of params.now) (datum_of x.now)) (value_of b.now (map datum_of params.now) (datum_of x.now))) }
 {
-    let first = eval(alloc, a.get(), params, x)?;
-    let found = eval_with(alloc, form, &first, b, params, x);
+    let first = look(alloc, a, params, x)?;
+    let found = eval_with(alloc, form, first.get(), b, params, x);
     drop(first);
     found
 }
@@ -144,8 +196,8 @@ fn eval_with(
 ) -> Result<Sample, Memory>
     ensures { IfOk result (λ s. datum_of s ≡ of_two (expression_of form.now) (datum_of value.now) (value_of part.now (map datum_of params.now) (datum_of x.now))) }
 {
-    let other = eval(alloc, part.get(), params, x)?;
-    let found = of_two(form, value, &other);
+    let other = look(alloc, part, params, x)?;
+    let found = of_two(form, value, other.get());
     drop(other);
     Ok(found)
 }
@@ -181,8 +233,8 @@ fn eval_on(
 ) -> Result<Sample, Memory>
     ensures { IfOk result (λ s. datum_of s ≡ value_of (on e.now d.now b.now) (map datum_of params.now) (datum_of x.now)) }
 {
-    let event = eval(alloc, e.get(), params, x)?;
-    let found = eval_on_event(alloc, &event, d, b, params, x);
+    let event = look(alloc, e, params, x)?;
+    let found = eval_on_event(alloc, event.get(), d, b, params, x);
     drop(event);
     found
 }
@@ -244,8 +296,8 @@ fn eval_nth(
 ) -> Result<Sample, Memory>
     ensures { IfOk result (λ s. datum_of s ≡ element_at (value_of e.now (map datum_of params.now) (datum_of x.now)) (int_of (value_of i.now (map datum_of params.now) (datum_of x.now))) (value_of d.now (map datum_of params.now) (datum_of x.now))) }
 {
-    let list = eval(alloc, e.get(), params, x)?;
-    let found = eval_element(alloc, &list, i, d, params, x);
+    let list = look(alloc, e, params, x)?;
+    let found = eval_element(alloc, list.get(), i, d, params, x);
     drop(list);
     found
 }
@@ -263,10 +315,10 @@ fn eval_element(
     ensures { IfOk result (λ s. datum_of s ≡ element_at (datum_of list.now) (int_of (value_of i.now (map datum_of params.now) (datum_of x.now))) (value_of d.now (map datum_of params.now) (datum_of x.now))) }
 {
     let at = eval_number(alloc, i, params, x)?;
-    let default = eval(alloc, d.get(), params, x)?;
-    let found = element(alloc, list, at, &default);
-    drop(default);
-    found
+    match element(list, at) {
+        Some(found) => found.try_copy(alloc),
+        None => eval(alloc, d.get(), params, x),
+    }
 }
 
 /// The value of a length.
@@ -274,8 +326,8 @@ fn eval_element(
 fn eval_len(alloc: Global, e: &ExprChild, params: &[Sample], x: &Sample) -> Result<Sample, Memory>
     ensures { IfOk result (λ s. datum_of s ≡ wrap (pos (count_of (value_of e.now (map datum_of params.now) (datum_of x.now))))) }
 {
-    let list = eval(alloc, e.get(), params, x)?;
-    let elements = count(&list);
+    let list = look(alloc, e, params, x)?;
+    let elements = count(list.get());
     drop(list);
     Ok(Sample::Int(elements))
 }
@@ -294,6 +346,23 @@ fn eval_child(
     SampleChild::new(alloc, value)
 }
 
+/// A sum, a difference, a product or a comparison of numbers.
+#[cycle(eval)]
+fn eval_numbers(
+    alloc: Global,
+    form: &Expr,
+    a: &ExprChild,
+    b: &ExprChild,
+    params: &[Sample],
+    x: &Sample,
+) -> Result<Sample, Memory>
+    ensures { IfOk result (λ s. datum_of s ≡ of_ints (expression_of form.now) (int_of (value_of a.now (map datum_of params.now) (datum_of x.now))) (int_of (value_of b.now (map datum_of params.now) (datum_of x.now)))) }
+{
+    let a = eval_number(alloc, a, params, x)?;
+    let b = eval_number(alloc, b, params, x)?;
+    Ok(of_numbers(form, a, b))
+}
+
 /// The number that a part has as its value; 0 where that is no number.
 #[cycle(eval)]
 fn eval_number(
@@ -304,8 +373,45 @@ fn eval_number(
 ) -> Result<i64, Memory>
     ensures { IfOk result (λ n. n ≡ int_of (value_of part.now (map datum_of params.now) (datum_of x.now))) }
 {
-    let value = eval(alloc, part.get(), params, x)?;
-    let number = number(&value);
+    let form = part.get();
+    match form {
+        Expr::Literal(Literal::Int(n)) => Ok(*n),
+        Expr::Add(a, b) | Expr::Sub(a, b) | Expr::Mul(a, b) => {
+            eval_sum(alloc, form, a, b, params, x)
+        }
+        _ => look_number(alloc, part, params, x),
+    }
+}
+
+/// The number that a sum, a difference or a product is.
+#[cycle(eval)]
+fn eval_sum(
+    alloc: Global,
+    form: &Expr,
+    a: &ExprChild,
+    b: &ExprChild,
+    params: &[Sample],
+    x: &Sample,
+) -> Result<i64, Memory>
+    ensures { IfOk result (λ n. n ≡ int_of (of_ints (expression_of form.now) (int_of (value_of a.now (map datum_of params.now) (datum_of x.now))) (int_of (value_of b.now (map datum_of params.now) (datum_of x.now))))) }
+{
+    let a = eval_number(alloc, a, params, x)?;
+    let b = eval_number(alloc, b, params, x)?;
+    Ok(sum_of(form, a, b))
+}
+
+/// The number that a part of another form has as its value.
+#[cycle(eval)]
+fn look_number(
+    alloc: Global,
+    part: &ExprChild,
+    params: &[Sample],
+    x: &Sample,
+) -> Result<i64, Memory>
+    ensures { IfOk result (λ n. n ≡ int_of (value_of part.now (map datum_of params.now) (datum_of x.now))) }
+{
+    let value = look(alloc, part, params, x)?;
+    let number = number(value.get());
     drop(value);
     Ok(number)
 }
@@ -320,8 +426,8 @@ fn eval_truth(
 ) -> Result<bool, Memory>
     ensures { IfOk result (λ b. b ≡ is_true (value_of part.now (map datum_of params.now) (datum_of x.now))) }
 {
-    let value = eval(alloc, part.get(), params, x)?;
-    let truth = truth(&value);
+    let value = look(alloc, part, params, x)?;
+    let truth = truth(value.get());
     drop(value);
     Ok(truth)
 }

@@ -11,6 +11,7 @@ mod key;
 mod laws;
 mod limits;
 mod literal;
+mod looked;
 mod operations;
 mod shape;
 mod typing;

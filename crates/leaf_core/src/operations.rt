@@ -1,8 +1,8 @@
 // What the forms of expressions do with the values of their parts.
 
-ghost use Rattle.std.specs.Prelude.{◌≡◌, IfOk, pos, neg_ℤ, map, []};
+ghost use Rattle.std.specs.Prelude.{◌≡◌, IfOk, MatchOption, pos, neg_ℤ, map, []};
 ghost use Rattle.std.specs.Int.{int_wrap, w64};
-ghost use Rattle.sample_core.specs.Datum.{int_of, unit};
+ghost use Rattle.sample_core.specs.Datum.{Datum, int_of, unit};
 ghost use Rattle.sample_core.specs.ValueView.{datum_of};
 ghost use Rattle.leaf_core.specs.ExpressionView.{expression_of, literal_of};
 ghost use Rattle.leaf_core.specs.ExpressionValue.{value_of, wrap, is_true, of_ints, of_two, part_of, element_at, count_of, param_at, same_datum};
@@ -42,14 +42,25 @@ pub fn negated(n: i64) -> Sample
 
 /// The sum, the difference, the product or the comparison of two numbers, as the form says. The
 /// first three are taken modulo 2^64 and read as signed.
-fn of_numbers(form: &Expr, m: i64, n: i64) -> Sample
+pub fn of_numbers(form: &Expr, m: i64, n: i64) -> Sample
     ensures { datum_of result ≡ of_ints (expression_of form.now) m n }
 {
     match form {
-        Expr::Add(..) => Sample::Int(m.wrapping_add(n)),
-        Expr::Sub(..) => Sample::Int(m.wrapping_sub(n)),
-        Expr::Mul(..) => Sample::Int(m.wrapping_mul(n)),
+        Expr::Add(..) | Expr::Sub(..) | Expr::Mul(..) => Sample::Int(sum_of(form, m, n)),
         _ => Sample::Bool(m < n),
+    }
+}
+
+/// The sum, the difference or the product of two numbers, as the form says, modulo 2^64 and read as
+/// signed; 0 under another form.
+pub fn sum_of(form: &Expr, m: i64, n: i64) -> i64
+    ensures { result ≡ int_of (of_ints (expression_of form.now) m n) }
+{
+    match form {
+        Expr::Add(..) => m.wrapping_add(n),
+        Expr::Sub(..) => m.wrapping_sub(n),
+        Expr::Mul(..) => m.wrapping_mul(n),
+        _ => 0,
     }
 }
 
@@ -74,41 +85,51 @@ pub fn of_two(form: &Expr, v: &Sample, w: &Sample) -> Sample
 }
 
 /// The first or the second part of a pair, as the form says; another value itself.
-pub fn part(alloc: Global, form: &Expr, value: &Sample) -> Result<Sample, Memory>
-    ensures { IfOk result (λ s. datum_of s ≡ part_of (expression_of form.now) (datum_of value.now)) }
+pub fn part<'v>(form: &Expr, value: &'v Sample) -> &'v Sample
+    ensures { datum_of result.now ≡ part_of (expression_of form.now) (datum_of value.now) }
 {
     let Sample::Pair(a, b) = value else {
-        return value.try_copy(alloc);
+        return value;
     };
     match form {
-        Expr::Fst(_) => a.get().try_copy(alloc),
-        _ => b.get().try_copy(alloc),
+        Expr::Fst(_) => a.get(),
+        _ => b.get(),
     }
 }
 
-/// Parameter k, from 0; `unit` where there is none.
-pub fn param(alloc: Global, params: &[Sample], k: u32) -> Result<Sample, Memory>
-    ensures { IfOk result (λ s. datum_of s ≡ param_at (map datum_of params.now) k) }
+/// Parameter k, from 0; `None` where there is none.
+pub fn param(params: &[Sample], k: u32) -> Option<&Sample>
+    ensures { MatchOption result (param_at (map datum_of params.now) k ≡ unit) (λ v. param_at (map datum_of params.now) k ≡ datum_of v.now) }
 {
     match params.get(k as usize) {
+        Some(value) => Some(value),
+        None => None,
+    }
+}
+
+/// A copy of parameter k, from 0; `unit` where there is none.
+pub fn copied_param(alloc: Global, params: &[Sample], k: u32) -> Result<Sample, Memory>
+    ensures { IfOk result (λ s. datum_of s ≡ param_at (map datum_of params.now) k) }
+{
+    match param(params, k) {
         Some(value) => value.try_copy(alloc),
         None => Ok(Sample::Unit),
     }
 }
 
-/// The element of a list value at a place, from 0; `default` outside.
-pub fn element(alloc: Global, value: &Sample, at: i64, default: &Sample) -> Result<Sample, Memory>
-    ensures { IfOk result (λ s. datum_of s ≡ element_at (datum_of value.now) at (datum_of default.now)) }
+/// The element of a list value at a place, from 0; `None` outside.
+pub fn element(value: &Sample, at: i64) -> Option<&Sample>
+    ensures { MatchOption result ((d : Datum) → element_at (datum_of value.now) at d ≡ d) (λ found. (d : Datum) → element_at (datum_of value.now) at d ≡ datum_of found.now) }
 {
     let Sample::List(all) = value else {
-        return default.try_copy(alloc);
+        return None;
     };
     let Ok(at) = usize::try_from(at) else {
-        return default.try_copy(alloc);
+        return None;
     };
     match all.as_slice().get(at) {
-        Some(found) => found.try_copy(alloc),
-        None => default.try_copy(alloc),
+        Some(found) => Some(found),
+        None => None,
     }
 }
 

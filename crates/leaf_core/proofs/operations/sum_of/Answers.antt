@@ -1,7 +1,7 @@
 use Rattle.std.proofs.Common.{w64, arith}
 use Rattle.std.proofs.lemmas.Grind.{common_steps}
 use Rattle.std.proofs.lemmas.Int.{wrapping_add_is, wrapping_sub_is}
-use Rattle.leaf_core.proofs.operations.of_numbers.Goals as goal
+use Rattle.leaf_core.proofs.operations.sum_of.Goals as goal
 
 pub returns-in-Add : goal.returns-in-Add
 returns-in-Add c =

@@ -1,0 +1,48 @@
+// Values that an expression only looks at.
+
+ghost use Rattle.std.specs.Prelude.{◌≡◌, IfSome, map};
+ghost use Rattle.sample_core.specs.ValueView.{datum_of};
+ghost use Rattle.leaf_core.specs.ExpressionView.{expression_of};
+ghost use Rattle.leaf_core.specs.ExpressionValue.{value_of};
+ghost use Rattle.leaf_core.specs.LookedView.{looked_value};
+
+use crate::expr::Expr;
+use crate::operations::{param, part};
+use sample_core::Sample;
+
+/// A value that is looked at.
+#[derive(Drop)]
+pub enum Looked<'v> {
+    /// One that stands elsewhere.
+    There(&'v Sample),
+    /// One that was made to be looked at.
+    Made(Sample),
+}
+
+impl<'v> Looked<'v> {
+    /// The value.
+    pub fn get(&self) -> &Sample
+        ensures { datum_of result.now ≡ looked_value self.now }
+    {
+        match self {
+            Looked::There(value) => value,
+            Looked::Made(value) => value,
+        }
+    }
+}
+
+/// Where the value of a path stands: of the input, of a parameter, or of a part of what stands on a
+/// path. `None` for another expression, and where there is no such parameter.
+pub fn path_at<'v>(expr: &Expr, params: &'v [Sample], x: &'v Sample) -> Option<&'v Sample>
+    ensures { IfSome result (λ v. datum_of v.now ≡ value_of (expression_of expr.now) (map datum_of params.now) (datum_of x.now)) }
+{
+    match expr {
+        Expr::Input => Some(x),
+        Expr::Param(k) => param(params, *k),
+        Expr::Fst(e) | Expr::Snd(e) => {
+            let value = path_at(e.get(), params, x)?;
+            Some(part(expr, value))
+        }
+        _ => None,
+    }
+}
