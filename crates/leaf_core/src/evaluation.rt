@@ -15,7 +15,7 @@ use crate::operations::{
     copied_param, count, element, literal_value, negated, number, of_numbers, of_two, part, sum_of,
     truth,
 };
-use sample_core::{Memory, Sample, SampleChild, Samples};
+use sample_core::{Memory, Sample, SampleChild, SamplePair, Samples};
 use std::alloc::Global;
 
 /// The value of the expression at the input `x`, where `params[k]` is the value of parameter k.
@@ -78,9 +78,22 @@ fn eval_pair(
 ) -> Result<Sample, Memory>
     ensures { IfOk result (λ s. datum_of s ≡ pair (value_of a.now (map datum_of params.now) (datum_of x.now)) (value_of b.now (map datum_of params.now) (datum_of x.now))) }
 {
-    let a = eval_child(alloc, a, params, x)?;
-    let b = eval_child(alloc, b, params, x)?;
-    Ok(Sample::Pair(a, b))
+    let first = eval(alloc, a.get(), params, x)?;
+    match eval(alloc, b.get(), params, x) {
+        Ok(second) => paired(alloc, first, second),
+        Err(Memory) => {
+            drop(first);
+            Err(Memory)
+        }
+    }
+}
+
+/// The pair of the two values.
+fn paired(alloc: Global, first: Sample, second: Sample) -> Result<Sample, Memory>
+    ensures { IfOk result (λ s. datum_of s ≡ pair (datum_of first) (datum_of second)) }
+{
+    let parts = SamplePair::new(alloc, first, second)?;
+    Ok(Sample::Pair(parts))
 }
 
 /// The first or the second part of a value, as the form says.
@@ -278,10 +291,14 @@ fn eval_body(
 fn with_carried(alloc: Global, x: &Sample, carried: &SampleChild) -> Result<Sample, Memory>
     ensures { IfOk result (λ s. datum_of s ≡ pair (datum_of x.now) carried.now) }
 {
-    let copy = x.try_copy(alloc)?;
-    let input = SampleChild::new(alloc, copy)?;
-    let carried = carried.try_copy()?;
-    Ok(Sample::Pair(input, carried))
+    let input = x.try_copy(alloc)?;
+    match carried.get().try_copy(alloc) {
+        Ok(carried) => paired(alloc, input, carried),
+        Err(Memory) => {
+            drop(input);
+            Err(Memory)
+        }
+    }
 }
 
 /// The value of an element of a list.

@@ -88,12 +88,12 @@ pub fn of_two(form: &Expr, v: &Sample, w: &Sample) -> Sample
 pub fn part<'v>(form: &Expr, value: &'v Sample) -> &'v Sample
     ensures { datum_of result.now ≡ part_of (expression_of form.now) (datum_of value.now) }
 {
-    let Sample::Pair(a, b) = value else {
+    let Sample::Pair(parts) = value else {
         return value;
     };
     match form {
-        Expr::Fst(_) => a.get(),
-        _ => b.get(),
+        Expr::Fst(_) => parts.first(),
+        _ => parts.second(),
     }
 }
 

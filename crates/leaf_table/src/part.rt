@@ -2,10 +2,10 @@
 
 ghost use Rattle.std.specs.Prelude.{◌≡◌, ◌+ℤ◌, ◌*ℤ◌, IfOk};
 ghost use Rattle.std.specs.Int.{int_wrap, w64};
-ghost use Rattle.sample_core.specs.Datum.{left, right, int_of};
+ghost use Rattle.sample_core.specs.Datum.{pair, left, right, int_of};
 ghost use Rattle.sample_core.specs.ValueView.{datum_of};
 
-use sample_core::{Memory, Sample, SampleChild};
+use sample_core::{Memory, Sample, SampleChild, SamplePair};
 use std::alloc::{AllocError, Global};
 
 /// The number of a number value; 0 of another.
@@ -37,7 +37,7 @@ pub fn first(value: &Sample) -> &Sample
     ensures { datum_of result.now ≡ left (datum_of value.now) }
 {
     match value {
-        Sample::Pair(v, _) => v.get(),
+        Sample::Pair(parts) => parts.first(),
         _ => value,
     }
 }
@@ -47,7 +47,7 @@ pub fn second(value: &Sample) -> &Sample
     ensures { datum_of result.now ≡ right (datum_of value.now) }
 {
     match value {
-        Sample::Pair(_, w) => w.get(),
+        Sample::Pair(parts) => parts.second(),
         _ => value,
     }
 }
@@ -59,6 +59,30 @@ pub fn copied(alloc: Global, value: &Sample) -> Result<Sample, AllocError>
 {
     match value.try_copy(alloc) {
         Ok(copy) => Ok(copy),
+        Err(Memory) => Err(AllocError),
+    }
+}
+
+/// A pair of copies of the values. `AllocError` where a growth was refused.
+pub fn paired(alloc: Global, first: &Sample, second: &Sample) -> Result<Sample, AllocError>
+    ensures { IfOk result (λ s. datum_of s ≡ pair (datum_of first.now) (datum_of second.now)) }
+{
+    let first = copied(alloc, first)?;
+    match copied(alloc, second) {
+        Ok(second) => joined(alloc, first, second),
+        Err(AllocError) => {
+            drop(first);
+            Err(AllocError)
+        }
+    }
+}
+
+/// The pair of the values. `AllocError` where a growth was refused.
+fn joined(alloc: Global, first: Sample, second: Sample) -> Result<Sample, AllocError>
+    ensures { IfOk result (λ s. datum_of s ≡ pair (datum_of first) (datum_of second)) }
+{
+    match SamplePair::new(alloc, first, second) {
+        Ok(parts) => Ok(Sample::Pair(parts)),
         Err(Memory) => Err(AllocError),
     }
 }

@@ -8,7 +8,7 @@ ghost use Rattle.leaf_core.specs.declared.shape.Shape.TheVariants as S;
 ghost use Rattle.leaf_core.specs.KeyTree.{KeyTree};
 ghost use Rattle.leaf_table.specs.Computes.{Computes};
 
-use crate::part::{child, copied, first, number, product, second, sum};
+use crate::part::{child, copied, first, number, paired, product, second, sum};
 use leaf_core::{LeafKey, Literal, eval};
 use sample_core::{Memory, Sample};
 use std::alloc::{AllocError, Global};
@@ -72,9 +72,7 @@ pub fn run_swap(alloc: Global, params: &[Sample], x: &Sample) -> Result<Sample, 
         (λ v. (key : KeyTree) → shape key.expr ≡ S.Swap → Computes key (map datum_of params.now) (datum_of x.now) (datum_of v)) }
 {
     let _ = params;
-    let right = child(alloc, second(x))?;
-    let left = child(alloc, first(x))?;
-    Ok(Sample::Pair(right, left))
+    paired(alloc, second(x), first(x))
 }
 
 /// The input's first part, for an expression of the shape `Left`; another input than a pair

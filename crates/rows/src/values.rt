@@ -3,7 +3,7 @@
 use crate::found::{Probe, all_are_found};
 use crate::texts::{parted, say, say_at, type_in, value_in};
 use sample_core::{
-    Memory, Sample, SampleChild, Samples, Ty, ValueFault, has_type, push_value, read_value, same,
+    Memory, Sample, SampleChild, SamplePair, Samples, Ty, ValueFault, has_type, push_value, read_value, same,
 };
 use std::alloc::Global;
 
@@ -84,10 +84,17 @@ fn is_copied(alloc: Global, sample: &Sample) -> bool {
 
 fn parts_are_copied(sample: &Sample) -> bool {
     match sample {
-        Sample::Pair(a, b) => child_is_copied(a) && child_is_copied(b),
+        Sample::Pair(parts) => pair_is_copied(parts),
         Sample::Event(a) => child_is_copied(a),
         Sample::List(all) => elements_are_copied(all),
         _ => true,
+    }
+}
+
+fn pair_is_copied(parts: &SamplePair) -> bool {
+    match parts.try_copy() {
+        Ok(copy) => same(copy.first(), parts.first()) && same(copy.second(), parts.second()),
+        Err(Memory) => false,
     }
 }
 

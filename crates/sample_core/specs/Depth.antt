@@ -13,7 +13,7 @@ pub depth_le : (n : Sample) → max (deep-Sample n) 0 ≤ datum_size (datum_of n
 depth_le V.Unit = omega arith
 depth_le (V.Bool b) = omega arith
 depth_le (V.Int n) = omega arith
-depth_le (V.Pair a b) = omega arith
+depth_le (V.Pair p) = omega arith
 depth_le V.NoEvent = omega arith
 depth_le (V.Event a) = omega arith
 depth_le (V.List vs) = omega arith

@@ -8,7 +8,7 @@ abbrev pub datum_of : Sample → Datum
 datum_of V.Unit = unit
 datum_of (V.Bool b) = bool b
 datum_of (V.Int n) = int n
-datum_of (V.Pair a b) = pair a b
+datum_of (V.Pair p) = pair p.0 p.1
 datum_of V.NoEvent = no_event
 datum_of (V.Event a) = event a
 datum_of (V.List vs) = list (list_of vs)

@@ -17,8 +17,8 @@ pub fn same(a: &Sample, b: &Sample) -> bool
         (Sample::Unit, Sample::Unit) => true,
         (Sample::Bool(x), Sample::Bool(y)) => x == y,
         (Sample::Int(x), Sample::Int(y)) => x == y,
-        (Sample::Pair(v, w), Sample::Pair(x, y)) => same(v.get(), x.get())
-            && same(w.get(), y.get()),
+        (Sample::Pair(v), Sample::Pair(w)) => same(v.first(), w.first())
+            && same(v.second(), w.second()),
         (Sample::NoEvent, Sample::NoEvent) => true,
         (Sample::Event(v), Sample::Event(x)) => same(v.get(), x.get()),
         (Sample::List(vs), Sample::List(xs)) => same_elements(vs, xs),

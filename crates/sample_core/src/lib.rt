@@ -20,7 +20,7 @@ pub use laws::reading_laws;
 pub use memory::{Memory, OutOfMemory};
 pub use print::{print_type, print_value, push_type, push_value};
 pub use read::read_value;
-pub use sample::{Sample, SampleChild, Samples};
+pub use sample::{Sample, SampleChild, SamplePair, Samples};
 pub use ty::{Ty, TyChild, try_copy_types};
 pub use typing::has_type;
 pub use words::word_is;

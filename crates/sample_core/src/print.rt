@@ -8,7 +8,7 @@ ghost use Rattle.sample_core.specs.TypeView.{type_of};
 ghost use Rattle.sample_core.specs.Spelling.{spelling, type_spelling};
 
 use crate::memory::Memory;
-use crate::sample::{Sample, SampleChild, Samples};
+use crate::sample::{Sample, Samples};
 use crate::ty::{Ty, TyChild};
 use itoa::Buffer;
 use std::alloc::Global;
@@ -42,13 +42,13 @@ pub fn push_value(text: &mut String, sample: &Sample) -> Result<(), Memory>
         Sample::Bool(true) => push_word(text, "true"),
         Sample::Bool(false) => push_word(text, "false"),
         Sample::Int(n) => push_word(text, Buffer::new().format(*n)),
-        Sample::Pair(v, w) => {
+        Sample::Pair(parts) => {
             push_word(text, "(pair ")?;
-            push_value(text, v.get())?;
-            push_last(text, " ", w)
+            push_value(text, parts.first())?;
+            push_last(text, " ", parts.second())
         }
         Sample::NoEvent => push_word(text, "none"),
-        Sample::Event(v) => push_last(text, "(event ", v),
+        Sample::Event(v) => push_last(text, "(event ", v.get()),
         Sample::List(all) => push_list(text, all),
     }
 }
@@ -63,11 +63,11 @@ fn push_word(text: &mut String, word: &str) -> Result<(), Memory>
 
 /// The last part of a value, behind a word.
 #[cycle(push_value)]
-fn push_last(text: &mut String, word: &str, v: &SampleChild) -> Result<(), Memory>
-    ensures { Adds result (string_bytes text.old) (string_bytes text.new) (word.now ++ (spelling v.now ++ codes ")")) }
+fn push_last(text: &mut String, word: &str, v: &Sample) -> Result<(), Memory>
+    ensures { Adds result (string_bytes text.old) (string_bytes text.new) (word.now ++ (spelling (datum_of v.now) ++ codes ")")) }
 {
     push_word(text, word)?;
-    push_value(text, v.get())?;
+    push_value(text, v)?;
     push_word(text, ")")
 }
 

@@ -3,6 +3,7 @@
 ghost use Rattle.std.specs.Prelude.{◌≡◌, ◌-◌, ◌≤◌, ◌∷◌, false, MatchOption, length, drop, map, IfOk, IfErr};
 ghost use Rattle.sample_core.specs.Reading.{Gives, begins_value, begins_with, wrong, behind_byte, behind_head, unit_at, truth_at, number_at, elements_at, closed_at, part_at, value_at, reading};
 ghost use Rattle.sample_core.specs.Faults.{FaultOf};
+ghost use Rattle.sample_core.specs.Datum.{pair};
 ghost use Rattle.sample_core.specs.ValueView.{datum_of};
 ghost use Rattle.sample_core.specs.TypeView.{type_of};
 ghost use Rattle.sample_core.specs.TypeTree.{pair_ty, event_ty, list_ty};
@@ -12,7 +13,7 @@ ghost use Rattle.sample_core.specs.Spelling.{spelling};
 use crate::fault::ValueFault;
 use crate::front_number::front_number;
 use crate::number::{is_number_spelling, number};
-use crate::sample::{Sample, SampleChild, Samples};
+use crate::sample::{Sample, SampleChild, SamplePair, Samples};
 use crate::ty::{Ty, TyChild};
 use crate::words::{split_form, split_word, word_is};
 use std::alloc::Global;
@@ -229,8 +230,28 @@ fn pair<'t>(
 {
     let rest = after_head(size, text, "pair")?;
     let (first, rest) = part(alloc, size, rest, a)?;
-    let (second, rest) = part(alloc, size, rest, b)?;
-    closed(size, rest, Sample::Pair(first, second))
+    match part(alloc, size, rest, b) {
+        Ok((second, rest)) => paired(alloc, size, rest, first, second),
+        Err(fault) => {
+            drop(first);
+            Err(fault)
+        }
+    }
+}
+
+/// The pair of the values, where a `)` ends it, and what is behind that.
+fn paired<'t>(
+    alloc: Global,
+    size: usize,
+    text: &'t [u8],
+    first: Sample,
+    second: Sample,
+) -> Result<(Sample, &'t [u8]), ValueFault>
+    ensures exact { Gives (λ x. (datum_of x.0, x.1.now)) result (closed_at size (pair (datum_of first) (datum_of second)) text.now) }
+    ensures shorter { IfOk result (λ x. length x.1.now ≤ length text.now) }
+{
+    let parts = SamplePair::new(alloc, first, second)?;
+    closed(size, text, Sample::Pair(parts))
 }
 
 /// An event of the type, or none.
@@ -251,6 +272,7 @@ fn event<'t>(
     }
     let rest = after_head(size, text, "event")?;
     let (inner, rest) = part(alloc, size, rest, ty)?;
+    let inner = SampleChild::new(alloc, inner)?;
     closed(size, rest, Sample::Event(inner))
 }
 
@@ -272,20 +294,19 @@ fn list<'t>(
     closed(size, rest, Sample::List(all))
 }
 
-/// A space and a value of the type, as a part of another.
+/// A space and a value of the type.
 #[cycle(value)]
 fn part<'t>(
     alloc: Global,
     size: usize,
     text: &'t [u8],
     ty: &TyChild,
-) -> Result<(SampleChild, &'t [u8]), ValueFault>
-    ensures exact { Gives (λ x. (x.0, x.1.now)) result (part_at size ty.now text.now) }
+) -> Result<(Sample, &'t [u8]), ValueFault>
+    ensures exact { Gives (λ x. (datum_of x.0, x.1.now)) result (part_at size ty.now text.now) }
     ensures shorter { IfOk result (λ x. length x.1.now ≤ length text.now) }
 {
     let rest = after_byte(size, text, b' ')?;
-    let (inner, rest) = value(alloc, size, rest, ty.get())?;
-    Ok((SampleChild::new(alloc, inner)?, rest))
+    value(alloc, size, rest, ty.get())
 }
 
 /// Elements of the type, each behind a space, as long as a space stands there; and what is behind

@@ -19,13 +19,20 @@ pub enum Sample {
     /// A signed number of 64 bits.
     Int(i64),
     /// `(pair v w)`.
-    Pair(SampleChild, SampleChild),
+    Pair(SamplePair),
     /// `none`, no event.
     NoEvent,
     /// `(event v)`, an event that carries v.
     Event(SampleChild),
     /// `(list v1 .. vn)`, of any length.
     List(Samples),
+}
+
+/// The two parts of a pair, in one place. Contracts see them as two trees; copies share them.
+#[cycle(sample)]
+#[derive(Drop)]
+pub struct SamplePair {
+    parts: Rc<(Sample, Sample)>,
 }
 
 /// A value inside a value. Contracts see it as the value's tree; copies share it.
@@ -40,6 +47,28 @@ pub struct SampleChild {
 #[derive(Drop)]
 pub struct Samples {
     all: Rc<Vec<Sample>>,
+}
+
+impl Model for SamplePair {
+    ghost use Rattle.std.specs.Prelude.{◌+◌};
+    ghost use Rattle.std.specs.Coded.{coded×};
+    ghost use Rattle.sample_core.specs.Datum.{Datum, datum_size};
+    ghost use Rattle.sample_core.specs.DatumCode.{datum_code};
+
+    ghost Value = { Datum × Datum };
+
+    ghost coded = { coded× datum_code datum_code };
+
+    ghost use Rattle.sample_core.specs.ValueView.{datum_of};
+
+    ghost view = { λ a. (datum_of a.parts.value.0, datum_of a.parts.value.1) };
+
+    ghost size = { λ p. datum_size p.0 + datum_size p.1 };
+
+    ghost use Rattle.sample_core.specs.Depth.{depth_le};
+    ghost use Rattle.std.proofs.Common.{arith};
+
+    ghost size_decreases = { λ a h. Prim.omega (arith, depth_le a.parts.value.0, depth_le a.parts.value.1) };
 }
 
 impl Model for SampleChild {
@@ -81,6 +110,39 @@ impl Model for Samples {
     ghost use Rattle.std.proofs.Common.{arith};
 
     ghost size_decreases = { λ a h. Prim.omega (arith, depths_le a.all.value.items) };
+}
+
+impl SamplePair {
+    /// The values as the parts of a pair. `Memory` where a growth was refused.
+    pub fn new(alloc: Global, first: Sample, second: Sample) -> Result<SamplePair, Memory>
+        ensures { IfOk result (λ p. p ≡ (datum_of first, datum_of second)) }
+    {
+        let parts = Rc::new(alloc, (first, second))?;
+        Ok(SamplePair { parts })
+    }
+
+    /// The first part.
+    pub fn first(&self) -> &Sample
+        ensures { datum_of result.now ≡ self.now.0 }
+    {
+        &self.parts.0
+    }
+
+    /// The second part.
+    pub fn second(&self) -> &Sample
+        ensures { datum_of result.now ≡ self.now.1 }
+    {
+        &self.parts.1
+    }
+
+    /// The same parts, shared. It takes no memory; `Memory` only where a count of references is
+    /// full.
+    pub fn try_copy(&self) -> Result<SamplePair, Memory>
+        ensures { IfOk result (λ p. p ≡ self.now) }
+    {
+        let parts = self.parts.clone()?;
+        Ok(SamplePair { parts })
+    }
 }
 
 impl SampleChild {
@@ -145,10 +207,9 @@ impl Sample {
             Sample::Unit => Ok(Sample::Unit),
             Sample::Bool(b) => Ok(Sample::Bool(*b)),
             Sample::Int(n) => Ok(Sample::Int(*n)),
-            Sample::Pair(a, b) => {
-                let a = a.try_copy()?;
-                let b = b.try_copy()?;
-                Ok(Sample::Pair(a, b))
+            Sample::Pair(parts) => {
+                let parts = parts.try_copy()?;
+                Ok(Sample::Pair(parts))
             }
             Sample::NoEvent => Ok(Sample::NoEvent),
             Sample::Event(a) => {

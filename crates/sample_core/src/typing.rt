@@ -24,8 +24,8 @@ pub fn has_type(sample: &Sample, ty: &Ty) -> bool
             let _in_range = *n;
             true
         }
-        (Sample::Pair(v, w), Ty::Pair(a, b)) => has_type(v.get(), a.get())
-            && has_type(w.get(), b.get()),
+        (Sample::Pair(v), Ty::Pair(a, b)) => has_type(v.first(), a.get())
+            && has_type(v.second(), b.get()),
         (Sample::NoEvent, Ty::Event(_)) => true,
         (Sample::Event(v), Ty::Event(a)) => has_type(v.get(), a.get()),
         (Sample::List(all), Ty::List(a)) => have_type(all, a),

@@ -14,7 +14,7 @@ abbrev pub decreases-push_value : goal.decreases-push_value
 decreases-push_value l = 3 * datum_size (datum_of l.sample.now)
 
 abbrev pub decreases-push_last : goal.decreases-push_last
-decreases-push_last l = 3 * datum_size l.v.now + 1
+decreases-push_last l = 3 * datum_size (datum_of l.v.now) + 1
 
 abbrev pub decreases-push_next : goal.decreases-push_next
 decreases-push_next l = 3 * datum_size (datum_of l.v.now) + 1
