@@ -309,6 +309,24 @@ fn part<'t>(
     value(alloc, size, rest, ty.get())
 }
 
+/// A value of the type, as an element of a list: a number is read at once.
+#[cycle(value)]
+#[tactic(auto, unfolding(crate::specs::Reading::value_at))]
+fn element_value<'t>(
+    alloc: Global,
+    size: usize,
+    text: &'t [u8],
+    ty: &Ty,
+) -> Result<(Sample, &'t [u8]), ValueFault>
+    ensures exact { Gives (λ x. (datum_of x.0, x.1.now)) result (value_at size (type_of ty.now) text.now) }
+    ensures shorter { IfOk result (λ x. length x.1.now ≤ length text.now) }
+{
+    match ty {
+        Ty::Int => integer(size, text),
+        _ => value(alloc, size, text, ty),
+    }
+}
+
 /// Elements of the type, each behind a space, as long as a space stands there; and what is behind
 /// them.
 #[cycle(value)]
@@ -324,7 +342,7 @@ fn elements<'t>(
     let mut all = Vec::new(alloc);
     let mut rest = text;
     while let Some(element) = after_space(rest) {
-        let (sample, after) = value(alloc, size, element, ty)?;
+        let (sample, after) = element_value(alloc, size, element, ty)?;
         all.push(sample)?;
         rest = after;
     }
