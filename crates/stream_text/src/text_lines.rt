@@ -3,6 +3,8 @@
 ghost use Rattle.std.specs.Prelude.{◌≡◌, ◌≢◌, ◌∷◌, ◌<◌, ℕ, IfSome, IfNone, length, slice_index};
 ghost use Rattle.stream_text.specs.TextLines.{lines_of};
 
+use memchr::memchr;
+
 const LINE_FEED: u8 = b'\n';
 
 /// The place of the first line feed.
@@ -12,12 +14,7 @@ fn line_feed_at(text: &[u8]) -> Option<usize>
     ensures first { IfSome result (λ at. (k : ℕ) → k < at → slice_index text.now k ≢ LINE_FEED) }
     ensures none { IfNone result ((k : ℕ) → k < length text.now → slice_index text.now k ≢ LINE_FEED) }
 {
-    for (at, b) in text.iter().enumerate() {
-        if *b == LINE_FEED {
-            return Some(at);
-        }
-    }
-    None
+    memchr(LINE_FEED, text)
 }
 
 /// The first line of a text that isn't empty, without its line feed, and what stands behind it:
