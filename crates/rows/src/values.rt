@@ -3,7 +3,8 @@
 use crate::found::{Probe, all_are_found};
 use crate::texts::{parted, say, say_at, type_in, value_in};
 use sample_core::{
-    Memory, Sample, SampleChild, SamplePair, Samples, Ty, ValueFault, has_type, push_value, read_value, same,
+    Memory, Sample, SampleChild, SamplePair, Samples, Ty, ValueFault, has_type, push_value,
+    read_value, same,
 };
 use std::alloc::Global;
 
