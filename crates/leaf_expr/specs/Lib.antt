@@ -8,7 +8,6 @@ pub mod Grammar
 pub mod Printing
 pub mod Text
 pub mod TextRows
-pub mod NumberLaws
 pub mod Lexeme
 pub mod Front
 pub mod Form

@@ -1,6 +1,8 @@
 -- What a word is where a number may stand.
-use Rattle.std.specs.Prelude.{ℕ, Bool, ◌&&◌, not, nat_le, List, ℤ, pos, negsuc, Option, Some, None, if◌then◌else◌}
+use Rattle.std.specs.Prelude.{ℕ, Bool, ◌&&◌, not, nat_le, List, ℤ, pos, negsuc, Option, Some, None, if◌then◌else◌, ◌≡◌, ◌≤◌, ◌<◌, ◌^◌, FitsSigned}
 use Rattle.sample_core.specs.Number.{is_minus, is_number_word, is_well_spelt, magnitude, number_of, is_in_64}
+use Rattle.std.specs.Int.{w64}
+use Rattle.std.specs.Fmt.{decimal, signed_decimal}
 
 -- What a word is at a place: a tree, a number word that is badly spelt or out of range, or neither.
 pub data WordReading (T : Type 0) : Type 0 where
@@ -30,3 +32,11 @@ map_reading f unfit = unfit
 abbrev pub index : ℤ → Option ℕ
 index (pos k) = if nat_le k 65535 then Some k else None
 index (negsuc k) = None
+
+-- a number word that is read is the one spelling of its number, and each number in range is read from it
+abbrev pub NumberLaw : Type 0
+NumberLaw = (w : List ℕ) (z : ℤ) → (integer_at w ≡ reads z → FitsSigned w64 z × (w ≡ signed_decimal z)) × (FitsSigned w64 z → integer_at (signed_decimal z) ≡ reads z)
+
+-- the same for natural numbers from low to high
+abbrev pub NaturalLaw : Type 0
+NaturalLaw = (low high n : ℕ) (w : List ℕ) → high < 2 ^ 64 → (natural_at low high w ≡ reads n → (low ≤ n) × (n ≤ high) × (w ≡ decimal n)) × (low ≤ n → n ≤ high → natural_at low high (decimal n) ≡ reads n)

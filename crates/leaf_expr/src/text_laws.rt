@@ -1,7 +1,7 @@
 // What texts of types and expressions mean, as laws of the definitions.
 
 ghost use Rattle.leaf_expr.specs.Grammar.{leaf};
-ghost use Rattle.leaf_expr.specs.NumberLaws.{NumberLaw, NaturalLaw};
+ghost use Rattle.leaf_expr.specs.WordReading.{NumberLaw, NaturalLaw};
 ghost use Rattle.leaf_expr.specs.ReadLaws.{FoundLaw, OnlyLaw, OneReadingLaw, FaultLaw};
 ghost use Rattle.leaf_expr.specs.Text.{ReadTextLaw, OneTextLaw, TextFaultLaw, PrintedLaw, PrintedTypeLaw, PrintedTextLaw};
 ghost use Rattle.leaf_expr.specs.TextRows.{TypeRows, WordRows, UnaryRows, BinaryRows, LongRows, MergeIs, GateIs, TagIs, AttachIs, FaultRows};

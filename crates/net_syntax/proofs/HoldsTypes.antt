@@ -1,6 +1,6 @@
 -- A network within the limits is typed.
 use Rattle.net_syntax.specs.TypedNetwork.{TypedNetwork, HasItsTypes}
-use Rattle.net_syntax.specs.WithinLimits.{WithinLimits}
+use Rattle.net_syntax.specs.NetworkLimits.{WithinLimits}
 use Rattle.net_syntax.proofs.TypingMap.{map_typed}
 
 pub holds_types : (t : TypedNetwork) → WithinLimits t → HasItsTypes t

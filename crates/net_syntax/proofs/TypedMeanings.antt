@@ -4,11 +4,10 @@ use Rattle.sample_core.specs.Datum.{Datum}
 use Rattle.net_syntax.specs.SignalFunction.{TimedList, SignalFunction}
 use Rattle.net_syntax.specs.Network.{Network}
 use Rattle.net_syntax.specs.Meaning.{Context, meaning, old_at}
-use Rattle.net_syntax.specs.Environment.{Environment, context_of, outputs}
+use Rattle.net_syntax.specs.Environment.{Environment, context_of, outputs, TypedEnvironment, closed_typed, param_typed, frozen_typed}
 use Rattle.sample_core.specs.TypeTree.{TypeTree}
 use Rattle.sample_core.specs.HasType.{TypedParams, no_params, and_param}
 use Rattle.net_syntax.specs.Typing.{TypedValues, TypedSamples, Arrow, OldAt, old_here, old_after, LeafTyping, Typed, AnyType}
-use Rattle.net_syntax.specs.TypedEnvironment.{TypedEnvironment, closed_typed, param_typed, frozen_typed}
 use Rattle.net_syntax.proofs.Meanings.{IsSignal-meaning, AllSignals-context_of}
 use Rattle.net_syntax.proofs.Resumed.{IsSignal-resume}
 use Rattle.net_syntax.proofs.SameAt.{SameAt-resume}

@@ -6,9 +6,8 @@ use Rattle.leaf_core.specs.ExpressionValue.{value_of}
 use Rattle.leaf_core.specs.ExpressionTyping.{ExpressionTyped}
 use Rattle.net_syntax.specs.SignalFunction.{TimedList}
 use Rattle.net_syntax.specs.Network.{Network, old}
-use Rattle.net_syntax.specs.Environment.{Environment, context_of}
+use Rattle.net_syntax.specs.Environment.{Environment, context_of, TypedEnvironment}
 use Rattle.net_syntax.specs.Typing.{Arrow, OldAt, TypedSamples}
-use Rattle.net_syntax.specs.TypedEnvironment.{TypedEnvironment}
 use Rattle.net_syntax.specs.TypedNetwork.{outputs_of}
 
 -- the environment holds values of the types Ps, and frozen networks that are typed as Os says

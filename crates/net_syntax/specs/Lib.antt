@@ -11,13 +11,11 @@ pub mod Weight
 pub mod Height
 pub mod Typing
 pub mod NetworkLimits
-pub mod TypedEnvironment
 pub mod Sameness
 pub mod AlikeEnvironments
 pub mod Laws
 pub mod SwitchLaws
 pub mod Examples
-pub mod WithinLimits
 pub mod Position
 pub mod Place
 pub mod Leaves

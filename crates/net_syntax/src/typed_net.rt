@@ -4,7 +4,7 @@ ghost use Rattle.std.specs.Prelude.{◌≡◌};
 ghost use Rattle.sample_core.specs.TypeView.{type_of};
 ghost use Rattle.net_syntax.specs.NetworkView.{tree_of};
 ghost use Rattle.net_syntax.specs.TypedNetwork.{HasItsTypes};
-ghost use Rattle.net_syntax.specs.WithinLimits.{WithinLimits};
+ghost use Rattle.net_syntax.specs.NetworkLimits.{WithinLimits};
 
 use crate::net::Net;
 use leaf_core::Expr;
@@ -32,7 +32,7 @@ impl Model for TypedNet {
 
     ghost use Rattle.sample_core.specs.TypeView.{type_of};
     ghost use Rattle.net_syntax.specs.NetworkView.{tree_of};
-    ghost use Rattle.net_syntax.specs.WithinLimits.{WithinLimits};
+    ghost use Rattle.net_syntax.specs.NetworkLimits.{WithinLimits};
 
     ghost view = { λ a. record { input = type_of a.input; output = type_of a.output; net = tree_of a.net; weight = a.weight; height = a.height } };
 

@@ -10,7 +10,7 @@ use Rattle.net_syntax.specs.Network.{Network}
 use Rattle.net_syntax.specs.Height.{height}
 use Rattle.net_syntax.specs.Weight.{weight}
 use Rattle.net_syntax.specs.TypedNetwork.{TypedNetwork}
-use Rattle.net_syntax.specs.WithinLimits.{WithinLimits}
+use Rattle.net_syntax.specs.NetworkLimits.{WithinLimits}
 use Rattle.net_types.specs.declared.fault.TypeFault.TheVariants as Fault
 use Rattle.net_types.specs.Check.{net_walk, check}
 use Rattle.net_types.specs.TypingLaws.{WalkLaw, CheckLaw}

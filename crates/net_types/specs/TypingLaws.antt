@@ -5,8 +5,7 @@ use Rattle.leaf_core.specs.Expression.{Expression}
 use Rattle.net_syntax.specs.Network.{Network}
 use Rattle.net_syntax.specs.Typing.{Arrow}
 use Rattle.net_syntax.specs.TypedNetwork.{TypedNetwork}
-use Rattle.net_syntax.specs.NetworkLimits.{NetTypedWithin}
-use Rattle.net_syntax.specs.WithinLimits.{WithinLimits}
+use Rattle.net_syntax.specs.NetworkLimits.{NetTypedWithin, WithinLimits}
 use Rattle.net_types.specs.declared.fault.TypeFault.{TypeFault}
 use Rattle.net_types.specs.FaultPlaces.{FaultStandsIn}
 use Rattle.net_types.specs.Check.{net_walk, check}

@@ -6,7 +6,7 @@ use Rattle.sample_core.specs.Spelling.{type_spelling}
 use Rattle.leaf_core.specs.Expression.{Expression}
 use Rattle.net_syntax.specs.Network.{Network}
 use Rattle.net_syntax.specs.TypedNetwork.{TypedNetwork}
-use Rattle.net_syntax.specs.WithinLimits.{WithinLimits}
+use Rattle.net_syntax.specs.NetworkLimits.{WithinLimits}
 use Rattle.net_text.specs.FileLaws.{IsFile, IsFileFault}
 use Rattle.net_text.specs.declared.fault.NetTextFault.{NetTextFault}
 use Rattle.net_text.specs.declared.fault.NetTextFault.TheVariants as V
