@@ -25,7 +25,8 @@ refused k [] h x = absurd h
 refused k (j ∷ ks) h x = refl
 
 -- a parse that succeeds asks for what its matches do
-pub taken : (a : App) (words : List (List ℕ)) (m : ArgMatches) → a ≡ command_line → HasMatchesOf a words m → (is_simple_and_free a ≡ true → fault_of a words ≡ [])
+pub taken : (a : App) (words : List (List ℕ)) (m : ArgMatches) → a ≡ command_line → HasMatchesOf a words m
+    → (is_simple_and_free a ≡ true → fault_of a words ≡ [])
     → request_in words ≡ request_by (subcommand_rows_of m)
 unfolding request_in
 taken a words m e h free =
@@ -33,18 +34,25 @@ taken a words m e h free =
     ∙ ap request_by (ap (λ (b : App). subcommand_of b words) (sym e) ∙ sym (h (ap is_simple e ∙ simple)).1)
 
 -- matches that ask for nothing
-pub nothing : (a : App) (words : List (List ℕ)) (m : ArgMatches) → a ≡ command_line → HasMatchesOf a words m → (is_simple_and_free a ≡ true → fault_of a words ≡ [])
+pub nothing : (a : App) (words : List (List ℕ)) (m : ArgMatches) → a ≡ command_line → HasMatchesOf a words m
+    → (is_simple_and_free a ≡ true → fault_of a words ≡ [])
     → None ≡ request_by (subcommand_rows_of m) → AsksNothing words
 unfolding AsksNothing
-nothing a words m e h free none =
-    (taken a words m e h free ∙ sym none, λ (l : fault_of command_line words ≡ (kind.DisplayHelp ∷ [])). no_fault (sym (ap (λ (b : App). fault_of b words) (sym e) ∙ free (ap is_simple_and_free e ∙ simple_and_free)) ∙ l))
+nothing a words m e h free none = (
+  taken a words m e h free
+      ∙ sym none,
+  λ (l : fault_of command_line words ≡ (kind.DisplayHelp ∷ [])).
+      no_fault (sym (ap (λ (b : App). fault_of b words) (sym e) ∙ free (ap is_simple_and_free e ∙ simple_and_free)) ∙ l),
+)
   where
     no_fault : [] ≡ (kind.DisplayHelp ∷ []) → ⊥
     no_fault q = cc
 
 -- the kind of a refusal is one of the faults, or memory was short
-among : (a : App) (words : List (List ℕ)) (error : Error) → a ≡ command_line → (is_simple_and_free a ≡ true → HasKind (fault_of a words) error) → HasKind (fault_of command_line words) error
-among a words error e free = let there : is_simple_and_free command_line ≡ true → HasKind (fault_of command_line words) error = rw e at free in there simple_and_free
+among : (a : App) (words : List (List ℕ)) (error : Error) → a ≡ command_line → (is_simple_and_free a ≡ true → HasKind (fault_of a words) error)
+    → HasKind (fault_of command_line words) error
+among a words error e free = let there : is_simple_and_free command_line ≡ true → HasKind (fault_of command_line words) error = rw e at free in
+    there simple_and_free
 
 -- where help is the only fault, a kind among the faults is help's
 only_help : (k : ErrorKind) (ks : Kinds) → IsAmong k ks → k ≢ kind.DisplayHelp → ks ≢ (kind.DisplayHelp ∷ [])
@@ -61,13 +69,15 @@ asks_help words k help (inl memory) = absurd (help_is_memory (sym help ∙ memor
     help_is_memory e = cc
 asks_help words k help (inr h) = let there : IsAmong kind.DisplayHelp (fault_of command_line words) = rw help at h in there
 
-asks_nothing : (words : List (List ℕ)) (k : ErrorKind) → k ≢ kind.DisplayHelp → k ≢ kind.OutOfMemory → (k ≡ kind.OutOfMemory) ⊎ IsAmong k (fault_of command_line words) → AsksNothing words
+asks_nothing : (words : List (List ℕ)) (k : ErrorKind) → k ≢ kind.DisplayHelp → k ≢ kind.OutOfMemory
+    → (k ≡ kind.OutOfMemory) ⊎ IsAmong k (fault_of command_line words) → AsksNothing words
 unfolding AsksNothing request_in
 asks_nothing words k help memory (inl e) = absurd (memory e)
 asks_nothing words k help memory (inr h) = (refused k (fault_of command_line words) h _, only_help k (fault_of command_line words) h help)
 
 -- what is replied to a refusal
-pub replied : (a : App) (words : List (List ℕ)) (error : Error) → a ≡ command_line → (is_simple_and_free a ≡ true → HasKind (fault_of a words) error) → (reply : Reply) → RepliesTo (kind_of error) reply → ReadsWords words (Err reply)
+pub replied : (a : App) (words : List (List ℕ)) (error : Error) → a ≡ command_line → (is_simple_and_free a ≡ true → HasKind (fault_of a words) error)
+    → (reply : Reply) → RepliesTo (kind_of error) reply → ReadsWords words (Err reply)
 replied a words error e free (R.Help text) r = asks_help words (kind_of error) r (among a words error e free)
 replied a words error e free (R.Wrong text) r = asks_nothing words (kind_of error) r.0 r.1 (among a words error e free)
 replied a words error e free R.Memory r = tt

@@ -20,7 +20,11 @@ file_command name = (with_rule (new_app name) net_name).top
 
 -- the program's command line: `types NET` or `run NET`, of which one must be there
 abbrev pub command_line : App
-command_line = with_subcommand (with_subcommand (on_top (λ s. record s { subcommand_required = true }) (new_app (codes "yampa"))) (file_command (codes "types"))) (file_command (codes "run"))
+command_line =
+    with_subcommand
+    (with_subcommand
+    (on_top (λ s. record s { subcommand_required = true }) (new_app (codes "yampa")))
+    (file_command (codes "types"))) (file_command (codes "run"))
 
 -- what a command line asks for: the types of the network in the file of that name, or a run of it
 pub data RequestTree : Type 0 where
@@ -30,7 +34,8 @@ pub data RequestTree : Type 0 where
 -- what a subcommand asks for on a file
 abbrev pub request_on : List ℕ → Option (List ℕ) → Option RequestTree
 request_on command None = None
-request_on command (Some net) = if bytes_eq command (codes "types") then Some (types net) else (if bytes_eq command (codes "run") then Some (run net) else None)
+request_on command (Some net) = if bytes_eq command (codes "types") then Some (types net)
+    else (if bytes_eq command (codes "run") then Some (run net) else None)
 
 -- what the subcommand and its matches ask for
 abbrev pub request_by : Option (List ℕ × List Row) → Option RequestTree
@@ -44,7 +49,8 @@ unless_faulty (k ∷ ks) what = None
 
 -- what the words ask for, where the command line takes them
 unfoldable pub request_in : List (List ℕ) → Option RequestTree
-request_in words = unless_faulty (fault_of command_line words) (request_by (subcommand_of command_line words))
+request_in words = unless_faulty (fault_of command_line words)
+    (request_by (subcommand_of command_line words))
 
 -- the words ask for help
 unfoldable pub AsksHelp : List (List ℕ) → Type 0
@@ -52,7 +58,8 @@ AsksHelp words = IsAmong kind.DisplayHelp (fault_of command_line words)
 
 -- the words ask for nothing that is there, and not for help alone
 unfoldable pub AsksNothing : List (List ℕ) → Type 0
-AsksNothing words = (request_in words ≡ None) × (fault_of command_line words ≢ (kind.DisplayHelp ∷ []))
+AsksNothing words = (request_in words ≡ None)
+    × (fault_of command_line words ≢ (kind.DisplayHelp ∷ []))
 
 -- the code's request as one
 abbrev pub request_view : Request → RequestTree
@@ -71,7 +78,8 @@ IsNothing (R.Help text) = ⊥
 IsNothing (R.Wrong text) = ⊤
 IsNothing R.Memory = ⊤
 
--- a request is what the words ask for; a reply is help that they ask for, or they ask for nothing that is there, or memory was short
+-- a request is what the words ask for; a reply is help that they ask for, or they ask for nothing
+-- that is there, or memory was short
 abbrev pub ReadsWords : List (List ℕ) → Result Request Reply → Type 0
 ReadsWords words (Ok request) = request_in words ≡ Some (request_view request)
 ReadsWords words (Err (R.Help text)) = AsksHelp words

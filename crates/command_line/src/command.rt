@@ -67,7 +67,8 @@ fn with_network<'a>(
     does: &'a str,
     more: &'a str,
 ) -> Result<Command<'a>, AllocError>
-    ensures app { IfOk result (λ c. app_of c ≡ with_subcommand (app_of command.entry) (file_command name.entry.now)) }
+    ensures app { IfOk result
+        (λ c. app_of c ≡ with_subcommand (app_of command.entry) (file_command name.entry.now)) }
 {
     match on_network(alloc, name, does, more) {
         Ok(subcommand) => command.subcommand(subcommand),
@@ -116,8 +117,7 @@ fn reply_to(alloc: Global, error: &Error) -> Reply
 }
 
 /// The text without the line feed at its end.
-fn without_line_feed(text: String) -> String
-{
+fn without_line_feed(text: String) -> String {
     let mut text = text;
     if text.ends_with('\n') {
         text.pop();

@@ -48,13 +48,16 @@ Decides-leb : (a b : ℕ) → Decides (leb a b) (a ≤ b)
 Decides-leb a b = (leb-true a b, le-leb a b)
 
 pub Decides-type_fits : (t : TypeTree) → Decides (type_fits t) (TypeFits t)
-Decides-type_fits t = Decides-like (type_fits t) (λ h. record { shallow = h.0; small = h.1 }) (λ h. (h.shallow, h.small)) (Decides-and _ _ (Decides-leb (depth_of t) 32) (Decides-leb (nodes_of t) 256))
+Decides-type_fits t = Decides-like (type_fits t) (λ h. record { shallow = h.0; small = h.1 }) (λ h. (h.shallow, h.small))
+    (Decides-and _ _ (Decides-leb (depth_of t) 32) (Decides-leb (nodes_of t) 256))
 
 Decides-expression_fits : (e : Expression) → Decides (expression_fits e) (ExpressionFits e)
-Decides-expression_fits e = Decides-like (expression_fits e) (λ h. record { shallow = h.0; small = h.1 }) (λ h. (h.shallow, h.small)) (Decides-and _ _ (Decides-leb (height_of e) 256) (Decides-leb (nodes_in e) 100000))
+Decides-expression_fits e = Decides-like (expression_fits e) (λ h. record { shallow = h.0; small = h.1 }) (λ h. (h.shallow, h.small))
+    (Decides-and _ _ (Decides-leb (height_of e) 256) (Decides-leb (nodes_in e) 100000))
 
 Decides-number : (n : ℤ) → Decides (int_eq (int_wrap w64 n) n) (FitsSigned w64 n)
-Decides-number n = Decides-like (int_eq (int_wrap w64 n) n) (λ e. subst (FitsSigned w64) e (SFits-int_wrap w64 n)) (int_wrap_fits w64 n) (Decides-int_eq (int_wrap w64 n) n)
+Decides-number n = Decides-like (int_eq (int_wrap w64 n) n) (λ e. subst (FitsSigned w64) e (SFits-int_wrap w64 n)) (int_wrap_fits w64 n)
+    (Decides-int_eq (int_wrap w64 n) n)
 
 -- what each step answers where its test holds
 step-is : (r : TypeAnswer) (k : TypeTree → TypeAnswer) (t : TypeTree) {b : TypeAnswer} → r ≡ Ok t → k t ≡ b → r >>= k ≡ b
@@ -96,16 +99,21 @@ mutual
   walk-complete {B = B} (not_typed h) w = of_type-is _ _ _ (walk-complete h w.0) (limited-is B w.1)
   walk-complete {B = B} (and_typed h k) w = of_type-is _ _ _ (walk-complete h w.0) (of_type-is _ _ _ (walk-complete k w.1) (limited-is B w.2))
   walk-complete {B = B} (or_typed h k) w = of_type-is _ _ _ (walk-complete h w.0) (of_type-is _ _ _ (walk-complete k w.1) (limited-is B w.2))
-  walk-complete {B = B} (if_typed h k l) w = of_type-is _ _ _ (walk-complete h w.0) (step-is _ _ _ (walk-complete k w.1) (of_type-is _ _ _ (walk-complete l w.2) (limited-is B w.3)))
+  walk-complete {B = B} (if_typed h k l) w = of_type-is _ _ _ (walk-complete h w.0)
+      (step-is _ _ _ (walk-complete k w.1) (of_type-is _ _ _ (walk-complete l w.2) (limited-is B w.3)))
   walk-complete {B = B} (no_event_typed {T = T}) w = step-is _ _ T (limited-is T w.0) (limited-is B w.1)
   walk-complete {B = B} (event_typed h) w = step-is _ _ _ (walk-complete h w.0) (limited-is B w.1)
   walk-complete {B = B} (on_typed {A = A} {V = V} h k l) w =
-      step-is _ _ _ (walk-complete h w.0) (step-is _ _ _ (walk-complete k w.1) (step-is _ _ (pair_ty A V) (limited-is (pair_ty A V) w.2) (of_type-is _ _ _ (walk-complete l w.3) (limited-is B w.4))))
+      step-is _ _ _ (walk-complete h w.0)
+      (step-is _ _ _ (walk-complete k w.1)
+      (step-is _ _ (pair_ty A V) (limited-is (pair_ty A V) w.2) (of_type-is _ _ _ (walk-complete l w.3) (limited-is B w.4))))
   walk-complete (list_typed {T = T} hs) w = step-is _ _ T (limited-is T w.0) (elements-complete hs w.1 w.2)
-  walk-complete {B = B} (nth_typed h k l) w = step-is _ _ _ (walk-complete h w.0) (of_type-is _ _ _ (walk-complete k w.1) (of_type-is _ _ _ (walk-complete l w.2) (limited-is B w.3)))
+  walk-complete {B = B} (nth_typed h k l) w = step-is _ _ _ (walk-complete h w.0)
+      (of_type-is _ _ _ (walk-complete k w.1) (of_type-is _ _ _ (walk-complete l w.2) (limited-is B w.3)))
   walk-complete {B = B} (len_typed h) w = step-is _ _ _ (walk-complete h w.0) (limited-is B w.1)
 
-  elements-complete : {es : Expressions} {Ps : List TypeTree} {A T : TypeTree} (hs : ExpressionsTyped es Ps A T) → AllWithin hs → TypeFits (list_ty T) → elements_walk Ps A T es ≡ Ok (list_ty T)
+  elements-complete : {es : Expressions} {Ps : List TypeTree} {A T : TypeTree} (hs : ExpressionsTyped es Ps A T) → AllWithin hs → TypeFits (list_ty T)
+      → elements_walk Ps A T es ≡ Ok (list_ty T)
   elements-complete {T = T} no_more_typed w f = limited-is (list_ty T) f
   elements-complete {T = T} (and_then_typed h hs) w f = of_type-is _ _ _ (walk-complete h w.0) (elements-complete hs w.1 f)
 
@@ -205,7 +213,8 @@ mutual
       let l = limited-passed p.type B p.rest in
       as_answered (param k) Ps A p.type B l.1 (record { given = param_typed (type_of_param-passed Ps k p.type p.before); fits = l.0 })
   walk-sound unit_expr Ps A B q = let l = limited-passed unit_ty B q in as_answered unit_expr Ps A unit_ty B l.1 (record { given = unit_typed; fits = l.0 })
-  walk-sound (bool_expr b) Ps A B q = let l = limited-passed bool_ty B q in as_answered (bool_expr b) Ps A bool_ty B l.1 (record { given = bool_typed; fits = l.0 })
+  walk-sound (bool_expr b) Ps A B q = let l = limited-passed bool_ty B q in
+      as_answered (bool_expr b) Ps A bool_ty B l.1 (record { given = bool_typed; fits = l.0 })
   walk-sound (int_expr n) Ps A B q =
       let p = tested-passed (int_eq (int_wrap w64 n) n) Mismatch (within_limits int_ty) B q in
       let l = limited-passed int_ty B p.1 in
@@ -240,12 +249,18 @@ mutual
       as_answered (then_expr f g) Ps A p'.type B l.1 (record { given = then_typed h.given k.given; fits = (h.fits, k.fits, l.0) })
   walk-sound (neg a) Ps A B q = one-sound int_ty int_ty (λ h. neg_typed h) (λ h w l. (w, l)) (walk-sound a Ps A int_ty) q
   walk-sound (not_expr a) Ps A B q = one-sound bool_ty bool_ty (λ h. not_typed h) (λ h w l. (w, l)) (walk-sound a Ps A bool_ty) q
-  walk-sound (add a b) Ps A B q = two-sound int_ty int_ty (λ h k. add_typed h k) (λ h k v w l. (v, w, l)) (walk-sound a Ps A int_ty) (walk-sound b Ps A int_ty) q
-  walk-sound (sub a b) Ps A B q = two-sound int_ty int_ty (λ h k. sub_typed h k) (λ h k v w l. (v, w, l)) (walk-sound a Ps A int_ty) (walk-sound b Ps A int_ty) q
-  walk-sound (mul a b) Ps A B q = two-sound int_ty int_ty (λ h k. mul_typed h k) (λ h k v w l. (v, w, l)) (walk-sound a Ps A int_ty) (walk-sound b Ps A int_ty) q
-  walk-sound (less a b) Ps A B q = two-sound int_ty bool_ty (λ h k. less_typed h k) (λ h k v w l. (v, w, l)) (walk-sound a Ps A int_ty) (walk-sound b Ps A int_ty) q
-  walk-sound (and_expr a b) Ps A B q = two-sound bool_ty bool_ty (λ h k. and_typed h k) (λ h k v w l. (v, w, l)) (walk-sound a Ps A bool_ty) (walk-sound b Ps A bool_ty) q
-  walk-sound (or_expr a b) Ps A B q = two-sound bool_ty bool_ty (λ h k. or_typed h k) (λ h k v w l. (v, w, l)) (walk-sound a Ps A bool_ty) (walk-sound b Ps A bool_ty) q
+  walk-sound (add a b) Ps A B q = two-sound int_ty int_ty (λ h k. add_typed h k) (λ h k v w l. (v, w, l)) (walk-sound a Ps A int_ty) (walk-sound b Ps A int_ty)
+      q
+  walk-sound (sub a b) Ps A B q = two-sound int_ty int_ty (λ h k. sub_typed h k) (λ h k v w l. (v, w, l)) (walk-sound a Ps A int_ty) (walk-sound b Ps A int_ty)
+      q
+  walk-sound (mul a b) Ps A B q = two-sound int_ty int_ty (λ h k. mul_typed h k) (λ h k v w l. (v, w, l)) (walk-sound a Ps A int_ty) (walk-sound b Ps A int_ty)
+      q
+  walk-sound (less a b) Ps A B q = two-sound int_ty bool_ty (λ h k. less_typed h k) (λ h k v w l. (v, w, l)) (walk-sound a Ps A int_ty)
+      (walk-sound b Ps A int_ty) q
+  walk-sound (and_expr a b) Ps A B q = two-sound bool_ty bool_ty (λ h k. and_typed h k) (λ h k v w l. (v, w, l)) (walk-sound a Ps A bool_ty)
+      (walk-sound b Ps A bool_ty) q
+  walk-sound (or_expr a b) Ps A B q = two-sound bool_ty bool_ty (λ h k. or_typed h k) (λ h k v w l. (v, w, l)) (walk-sound a Ps A bool_ty)
+      (walk-sound b Ps A bool_ty) q
   walk-sound (equal a b) Ps A B q =
       let p = step-passed _ _ B q in
       let p' = of_type-passed _ p.type _ B p.rest in

@@ -42,7 +42,8 @@ nth_missing [] n d h = refl
 nth_missing (p ∷ ps) zero d h = absurd (omega arith)
 nth_missing (p ∷ ps) (suc k) d h = nth_missing ps k d (omega arith)
 
-pub element_found : (all : List Sample) (at : ℤ) (n : ℕ) (d : Datum) (s : Sample) → at ≡ pos n → n < length all → element_at (list (list_of (map datum_of all))) at d ≡ datum_of (get_or all n s)
+pub element_found : (all : List Sample) (at : ℤ) (n : ℕ) (d : Datum) (s : Sample) → at ≡ pos n → n < length all
+    → element_at (list (list_of (map datum_of all))) at d ≡ datum_of (get_or all n s)
 element_found all at n d s e h = ap (λ t. element_at (list (list_of (map datum_of all))) t d) e ∙ nth_found all n d s h
 
 pub element_missing : (all : List Sample) (at : ℤ) (n : ℕ) (d : Datum) → at ≡ pos n → length all ≤ n → element_at (list (list_of (map datum_of all))) at d ≡ d
@@ -53,15 +54,18 @@ elements_of_elements [] = refl
 elements_of_elements (v ∷ vs) = ap (λ t. v ∷ t) (elements_of_elements vs)
 
 -- an element of a list expression has at most as many nodes as the elements
-pub element_falls : (all : List Expr) (i : ℕ) (e : Expr) → i < length all → nodes_in (expression_of (get_or all i e)) ≤ nodes_in_all (expressions_of (map expression_of all))
+pub element_falls : (all : List Expr) (i : ℕ) (e : Expr) → i < length all
+    → nodes_in (expression_of (get_or all i e)) ≤ nodes_in_all (expressions_of (map expression_of all))
 element_falls [] i e h = absurd (omega arith)
 element_falls (x ∷ xs) zero e h = omega arith
 element_falls (x ∷ xs) (suc i) e h = omega (arith, element_falls xs i e (omega arith))
 
 -- the same, where the elements are given as trees
-pub element_smaller : (all : List Expr) (es : List Expression) (i : ℕ) (e : Expr) → i < length all → e ≡ get_or all i e → map expression_of all ≡ es → nodes_in (expression_of e) ≤ nodes_in_all (expressions_of es)
+pub element_smaller : (all : List Expr) (es : List Expression) (i : ℕ) (e : Expr) → i < length all → e ≡ get_or all i e → map expression_of all ≡ es
+    → nodes_in (expression_of e) ≤ nodes_in_all (expressions_of es)
 element_smaller all es i e h q p =
-    subst (λ t. nodes_in (expression_of t) ≤ nodes_in_all (expressions_of es)) (sym q) (subst (λ t. nodes_in (expression_of (get_or all i e)) ≤ nodes_in_all (expressions_of t)) p (element_falls all i e h))
+    subst (λ t. nodes_in (expression_of t) ≤ nodes_in_all (expressions_of es)) (sym q)
+    (subst (λ t. nodes_in (expression_of (get_or all i e)) ≤ nodes_in_all (expressions_of t)) p (element_falls all i e h))
 
 abbrev count : Expressions → ℕ
 count no_more = 0

@@ -22,7 +22,8 @@ typed_chosen : {B : TypeTree} (b : Bool) {v w : Datum} → HasType v B → HasTy
 typed_chosen true h k = h
 typed_chosen false h k = k
 
-typed_on_event : {V C : TypeTree} {v d : Datum} (b : Datum → Datum) → HasType v (event_ty V) → HasType d C → ((w : Datum) → HasType w V → HasType (b w) C) → HasType (on_event v d b) C
+typed_on_event : {V C : TypeTree} {v d : Datum} (b : Datum → Datum) → HasType v (event_ty V) → HasType d C → ((w : Datum) → HasType w V → HasType (b w) C)
+    → HasType (on_event v d b) C
 typed_on_event b no_event_has k s = k
 typed_on_event b (event_has {v = w} h) k s = s w h
 
@@ -40,13 +41,15 @@ typed_param_at ps param_here (and_param h hs) = h
 typed_param_at ps (param_after i) (and_param {ps = ps'} h hs) = typed_param_at ps' i hs
 
 mutual
-  pub typed_value : (e : Expression) (Ps : List TypeTree) (A B : TypeTree) → ExpressionTyped e Ps A B → (ps : List Datum) (x : Datum) → TypedParams Ps ps → HasType x A → HasType (value_of e ps x) B
+  pub typed_value : (e : Expression) (Ps : List TypeTree) (A B : TypeTree) → ExpressionTyped e Ps A B → (ps : List Datum) (x : Datum) → TypedParams Ps ps
+      → HasType x A → HasType (value_of e ps x) B
   typed_value e Ps A B input_typed ps x k j = j
   typed_value e Ps A B (param_typed i) ps x k j = typed_param_at ps i k
   typed_value e Ps A B unit_typed ps x k j = unit_has
   typed_value e Ps A B bool_typed ps x k j = bool_has
   typed_value e Ps A B (int_typed f) ps x k j = int_has f
-  typed_value e Ps A B (pair_typed {B = B'} {C = C} {a = a} {b = b} h h') ps x k j = pair_has (typed_value a Ps A B' h ps x k j) (typed_value b Ps A C h' ps x k j)
+  typed_value e Ps A B (pair_typed {B = B'} {C = C} {a = a} {b = b} h h') ps x k j =
+      pair_has (typed_value a Ps A B' h ps x k j) (typed_value b Ps A C h' ps x k j)
   typed_value e Ps A B (fst_typed {C = C} {e = e'} h) ps x k j = typed_left (typed_value e' Ps A _ h ps x k j)
   typed_value e Ps A B (snd_typed {B = B'} {e = e'} h) ps x k j = typed_right (typed_value e' Ps A _ h ps x k j)
   typed_value e Ps A B (then_typed {B = C} {f = f} {g = g} h h') ps x k j = typed_value g Ps C B h' ps (value_of f ps x) k (typed_value f Ps A C h ps x k j)
@@ -62,11 +65,16 @@ mutual
   typed_value e Ps A B (if_typed {a = a} {b = b} h h' h'') ps x k j = typed_chosen _ (typed_value a Ps A B h' ps x k j) (typed_value b Ps A B h'' ps x k j)
   typed_value e Ps A B no_event_typed ps x k j = no_event_has
   typed_value e Ps A B (event_typed {B = B'} {e = e'} h) ps x k j = event_has (typed_value e' Ps A B' h ps x k j)
-  typed_value e Ps A B (on_typed {V = V} {e = e'} {d = d} {b = b} h h' h'') ps x k j = typed_on_event (λ v. value_of b ps (pair x v)) (typed_value e' Ps A _ h ps x k j) (typed_value d Ps A B h' ps x k j) (λ v i. typed_value b Ps _ B h'' ps (pair x v) k (pair_has j i))
+  typed_value e Ps A B (on_typed {V = V} {e = e'} {d = d} {b = b} h h' h'') ps x k j =
+      typed_on_event (λ v. value_of b ps (pair x v)) (typed_value e' Ps A _ h ps x k j) (typed_value d Ps A B h' ps x k j)
+      (λ v i. typed_value b Ps _ B h'' ps (pair x v) k (pair_has j i))
   typed_value e Ps A B (list_typed {T = T} {es = es} hs) ps x k j = list_has (typed_values_of es Ps A T hs ps x k j)
-  typed_value e Ps A B (nth_typed {e = e'} {d = d} h h' h'') ps x k j = typed_element_at _ (typed_value e' Ps A _ h ps x k j) (typed_value d Ps A B h'' ps x k j)
+  typed_value e Ps A B (nth_typed {e = e'} {d = d} h h' h'') ps x k j =
+      typed_element_at _ (typed_value e' Ps A _ h ps x k j) (typed_value d Ps A B h'' ps x k j)
   typed_value e Ps A B (len_typed h) ps x k j = typed_wrapped _
 
-  pub typed_values_of : (es : Expressions) (Ps : List TypeTree) (A T : TypeTree) → ExpressionsTyped es Ps A T → (ps : List Datum) (x : Datum) → TypedParams Ps ps → HasType x A → HaveType (list_of (values_of es ps x)) T
+  pub typed_values_of : (es : Expressions) (Ps : List TypeTree) (A T : TypeTree) → ExpressionsTyped es Ps A T → (ps : List Datum) (x : Datum)
+      → TypedParams Ps ps → HasType x A → HaveType (list_of (values_of es ps x)) T
   typed_values_of es Ps A T no_more_typed ps x k j = end_has
-  typed_values_of es Ps A T (and_then_typed {e = e} {es = es'} h hs) ps x k j = more_has (typed_value e Ps A T h ps x k j) (typed_values_of es' Ps A T hs ps x k j)
+  typed_values_of es Ps A T (and_then_typed {e = e} {es = es'} h hs) ps x k j =
+      more_has (typed_value e Ps A T h ps x k j) (typed_values_of es' Ps A T hs ps x k j)

@@ -18,10 +18,12 @@ one_type e Ps A B B' (param_typed {k = k} i) (param_typed j) = one_param Ps k B 
 one_type e Ps A B B' unit_typed unit_typed = refl
 one_type e Ps A B B' bool_typed bool_typed = refl
 one_type e Ps A B B' (int_typed f) (int_typed g) = refl
-one_type e Ps A B B' (pair_typed {B = C} {C = D} {a = a} {b = b} h k) (pair_typed {B = C'} {C = D'} h' k') = ap (λ T. pair_ty T D) (one_type a Ps A C C' h h') ∙ ap (λ T. pair_ty C' T) (one_type b Ps A D D' k k')
+one_type e Ps A B B' (pair_typed {B = C} {C = D} {a = a} {b = b} h k) (pair_typed {B = C'} {C = D'} h' k') = ap (λ T. pair_ty T D) (one_type a Ps A C C' h h')
+    ∙ ap (λ T. pair_ty C' T) (one_type b Ps A D D' k k')
 one_type e Ps A B B' (fst_typed {C = C} {e = e'} h) (fst_typed {C = D} k) = (parts_same (one_type e' Ps A (pair_ty B C) (pair_ty B' D) h k)).0
 one_type e Ps A B B' (snd_typed {B = C} {e = e'} h) (snd_typed {B = D} k) = (parts_same (one_type e' Ps A (pair_ty C B) (pair_ty D B') h k)).1
-one_type e Ps A B B' (then_typed {B = C} {f = f} {g = g} h k) (then_typed {B = D} h' k') = one_type g Ps C B B' k (subst (λ T. ExpressionTyped g Ps T B') (sym (one_type f Ps A C D h h')) k')
+one_type e Ps A B B' (then_typed {B = C} {f = f} {g = g} h k) (then_typed {B = D} h' k') =
+    one_type g Ps C B B' k (subst (λ T. ExpressionTyped g Ps T B') (sym (one_type f Ps A C D h h')) k')
 one_type e Ps A B B' (neg_typed h) (neg_typed h') = refl
 one_type e Ps A B B' (not_typed h) (not_typed h') = refl
 one_type e Ps A B B' (add_typed h k) (add_typed h' k') = refl

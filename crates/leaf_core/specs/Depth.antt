@@ -38,6 +38,7 @@ depth_le (V.Nth a b c) = omega arith
 depth_le (V.Len a) = omega arith
 
 -- each element's depth in the code is at most the number of their nodes
-pub depths_le : (es : List Expr) → most deep-Expr es ≤ nodes_in_all (expressions_of (map expression_of es))
+pub depths_le : (es : List Expr)
+    → most deep-Expr es ≤ nodes_in_all (expressions_of (map expression_of es))
 depths_le [] = omega arith
 depths_le (e ∷ es) = omega (arith, depth_le e, depths_le es)

@@ -41,7 +41,8 @@ abbrev pub expressions_of : List Expression → Expressions
 expressions_of [] = no_more
 expressions_of (e ∷ es) = and_then e (expressions_of es)
 
--- what is counted in an expression: 1 where it has no parts, else 1 more than what the counts of its parts join to
+-- what is counted in an expression: 1 where it has no parts, else 1 more than what the counts of
+-- its parts join to
 abbrev mutual
   pub counted : (ℕ → ℕ → ℕ) → Expression → ℕ
   counted join input = 1
@@ -62,7 +63,8 @@ abbrev mutual
   counted join (not_expr a) = suc (counted join a)
   counted join (and_expr a b) = suc (join (counted join a) (counted join b))
   counted join (or_expr a b) = suc (join (counted join a) (counted join b))
-  counted join (if_expr c a b) = suc (join (join (counted join c) (counted join a)) (counted join b))
+  counted join (if_expr c a b) =
+      suc (join (join (counted join c) (counted join a)) (counted join b))
   counted join (no_event_expr t) = 1
   counted join (event_expr e) = suc (counted join e)
   counted join (on e d b) = suc (join (join (counted join e) (counted join d)) (counted join b))

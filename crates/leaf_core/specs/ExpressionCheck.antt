@@ -10,7 +10,8 @@ use Rattle.leaf_core.specs.ExpressionLimits.{expression_fits}
 use Rattle.leaf_core.specs.declared.typing.ExprFault.{ExprFault}
 use Rattle.leaf_core.specs.declared.typing.ExprFault.TheVariants.{Mismatch, NoParam, TooDeep}
 
--- a type, or the first fault: `Mismatch` where a type is not as wanted, `NoParam` where there is no such parameter, `TooDeep` where a type or the expression is over its limits
+-- a type, or the first fault: `Mismatch` where a type is not as wanted, `NoParam` where there is no
+-- such parameter, `TooDeep` where a type or the expression is over its limits
 abbrev pub TypeAnswer : Type 0
 TypeAnswer = Result TypeTree ExprFault
 
@@ -63,33 +64,56 @@ type_of_param (P ∷ Ps) zero = Ok P
 type_of_param (P ∷ Ps) (suc k) = type_of_param Ps k
 
 abbrev mutual
-  -- the parts in written order: each, once walked, is tested before the next is walked; a node's own type comes last
+  -- the parts in written order: each, once walked, is tested before the next is walked; a node's
+  -- own type comes last
   pub type_walk : List TypeTree → TypeTree → Expression → TypeAnswer
   type_walk Ps A input = within_limits A
   type_walk Ps A (param k) = type_of_param Ps k >>= within_limits
   type_walk Ps A unit_expr = within_limits unit_ty
   type_walk Ps A (bool_expr b) = within_limits bool_ty
-  type_walk Ps A (int_expr n) = check_that (int_eq (int_wrap w64 n) n) Mismatch (within_limits int_ty)
-  type_walk Ps A (pair_expr a b) = type_walk Ps A a >>= (λ B. type_walk Ps A b >>= (λ C. within_limits (pair_ty B C)))
+  type_walk Ps A (int_expr n) =
+      check_that (int_eq (int_wrap w64 n) n) Mismatch (within_limits int_ty)
+  type_walk Ps A (pair_expr a b) =
+      type_walk Ps A a >>= (λ B. type_walk Ps A b >>= (λ C. within_limits (pair_ty B C)))
   type_walk Ps A (fst e) = type_walk Ps A e >>= (λ P. first_type P >>= within_limits)
   type_walk Ps A (snd e) = type_walk Ps A e >>= (λ P. second_type P >>= within_limits)
   type_walk Ps A (then_expr f g) = type_walk Ps A f >>= (λ B. type_walk Ps B g >>= within_limits)
   type_walk Ps A (neg a) = expect_then (type_walk Ps A a) int_ty (within_limits int_ty)
-  type_walk Ps A (add a b) = expect_then (type_walk Ps A a) int_ty (expect_then (type_walk Ps A b) int_ty (within_limits int_ty))
-  type_walk Ps A (sub a b) = expect_then (type_walk Ps A a) int_ty (expect_then (type_walk Ps A b) int_ty (within_limits int_ty))
-  type_walk Ps A (mul a b) = expect_then (type_walk Ps A a) int_ty (expect_then (type_walk Ps A b) int_ty (within_limits int_ty))
-  type_walk Ps A (less a b) = expect_then (type_walk Ps A a) int_ty (expect_then (type_walk Ps A b) int_ty (within_limits bool_ty))
-  type_walk Ps A (equal a b) = type_walk Ps A a >>= (λ B. expect_then (type_walk Ps A b) B (within_limits bool_ty))
+  type_walk Ps A (add a b) = expect_then (type_walk Ps A a) int_ty
+      (expect_then (type_walk Ps A b) int_ty (within_limits int_ty))
+  type_walk Ps A (sub a b) = expect_then (type_walk Ps A a) int_ty
+      (expect_then (type_walk Ps A b) int_ty (within_limits int_ty))
+  type_walk Ps A (mul a b) = expect_then (type_walk Ps A a) int_ty
+      (expect_then (type_walk Ps A b) int_ty (within_limits int_ty))
+  type_walk Ps A (less a b) = expect_then (type_walk Ps A a) int_ty
+      (expect_then (type_walk Ps A b) int_ty (within_limits bool_ty))
+  type_walk Ps A (equal a b) =
+      type_walk Ps A a >>= (λ B. expect_then (type_walk Ps A b) B (within_limits bool_ty))
   type_walk Ps A (not_expr a) = expect_then (type_walk Ps A a) bool_ty (within_limits bool_ty)
-  type_walk Ps A (and_expr a b) = expect_then (type_walk Ps A a) bool_ty (expect_then (type_walk Ps A b) bool_ty (within_limits bool_ty))
-  type_walk Ps A (or_expr a b) = expect_then (type_walk Ps A a) bool_ty (expect_then (type_walk Ps A b) bool_ty (within_limits bool_ty))
-  type_walk Ps A (if_expr c a b) = expect_then (type_walk Ps A c) bool_ty (type_walk Ps A a >>= (λ B. expect_then (type_walk Ps A b) B (within_limits B)))
+  type_walk Ps A (and_expr a b) =
+      expect_then (type_walk Ps A a) bool_ty
+      (expect_then (type_walk Ps A b) bool_ty (within_limits bool_ty))
+  type_walk Ps A (or_expr a b) =
+      expect_then (type_walk Ps A a) bool_ty
+      (expect_then (type_walk Ps A b) bool_ty (within_limits bool_ty))
+  type_walk Ps A (if_expr c a b) =
+      expect_then (type_walk Ps A c) bool_ty
+      (type_walk Ps A a >>= (λ B. expect_then (type_walk Ps A b) B (within_limits B)))
   type_walk Ps A (no_event_expr t) = within_limits t >>= (λ T. within_limits (event_ty T))
   type_walk Ps A (event_expr e) = type_walk Ps A e >>= (λ B. within_limits (event_ty B))
-  type_walk Ps A (on e d b) = type_walk Ps A e >>= (λ E. carried_type E >>= (λ V. type_walk Ps A d >>= (λ C. within_limits (pair_ty A V) >>= (λ I. expect_then (type_walk Ps I b) C (within_limits C)))))
+  type_walk Ps A (on e d b) = type_walk Ps A e >>=
+      (λ E. carried_type E >>=
+      (λ V. type_walk Ps A d >>=
+      (λ C. within_limits (pair_ty A V) >>=
+      (λ I. expect_then (type_walk Ps I b) C (within_limits C)))))
   type_walk Ps A (list_expr t es) = within_limits t >>= (λ T. elements_walk Ps A T es)
-  type_walk Ps A (nth e i d) = type_walk Ps A e >>= (λ L. element_type L >>= (λ T. expect_then (type_walk Ps A i) int_ty (expect_then (type_walk Ps A d) T (within_limits T))))
-  type_walk Ps A (len e) = type_walk Ps A e >>= (λ L. element_type L >>= (λ T. within_limits int_ty))
+  type_walk Ps A (nth e i d) =
+      type_walk Ps A e >>=
+      (λ L. element_type L >>=
+      (λ T. expect_then (type_walk Ps A i) int_ty
+      (expect_then (type_walk Ps A d) T (within_limits T))))
+  type_walk Ps A (len e) = type_walk Ps A e >>=
+      (λ L. element_type L >>= (λ T. within_limits int_ty))
 
   -- the elements of a list in order, each tested against the type given
   pub elements_walk : List TypeTree → TypeTree → TypeTree → Expressions → TypeAnswer

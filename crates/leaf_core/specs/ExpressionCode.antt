@@ -50,32 +50,50 @@ mutual
   to_code_inj unit_expr unit_expr e = refl
   to_code_inj (bool_expr p) (bool_expr p') e = ap bool_expr (coded_bool.inj p p' (ap part0 e))
   to_code_inj (int_expr n) (int_expr n') e = ap int_expr (coded_ℤ.inj n n' (ap part0 e))
-  to_code_inj (pair_expr a b) (pair_expr a' b') e = λ i. pair_expr (to_code_inj a a' (ap part0 e) i) (to_code_inj b b' (ap part1 e) i)
+  to_code_inj (pair_expr a b) (pair_expr a' b') e = λ i.
+      pair_expr (to_code_inj a a' (ap part0 e) i) (to_code_inj b b' (ap part1 e) i)
   to_code_inj (fst a) (fst a') e = ap fst (to_code_inj a a' (ap part0 e))
   to_code_inj (snd a) (snd a') e = ap snd (to_code_inj a a' (ap part0 e))
-  to_code_inj (then_expr a b) (then_expr a' b') e = λ i. then_expr (to_code_inj a a' (ap part0 e) i) (to_code_inj b b' (ap part1 e) i)
+  to_code_inj (then_expr a b) (then_expr a' b') e = λ i.
+      then_expr (to_code_inj a a' (ap part0 e) i) (to_code_inj b b' (ap part1 e) i)
   to_code_inj (neg a) (neg a') e = ap neg (to_code_inj a a' (ap part0 e))
-  to_code_inj (add a b) (add a' b') e = λ i. add (to_code_inj a a' (ap part0 e) i) (to_code_inj b b' (ap part1 e) i)
-  to_code_inj (sub a b) (sub a' b') e = λ i. sub (to_code_inj a a' (ap part0 e) i) (to_code_inj b b' (ap part1 e) i)
-  to_code_inj (mul a b) (mul a' b') e = λ i. mul (to_code_inj a a' (ap part0 e) i) (to_code_inj b b' (ap part1 e) i)
-  to_code_inj (less a b) (less a' b') e = λ i. less (to_code_inj a a' (ap part0 e) i) (to_code_inj b b' (ap part1 e) i)
-  to_code_inj (equal a b) (equal a' b') e = λ i. equal (to_code_inj a a' (ap part0 e) i) (to_code_inj b b' (ap part1 e) i)
+  to_code_inj (add a b) (add a' b') e = λ i.
+      add (to_code_inj a a' (ap part0 e) i) (to_code_inj b b' (ap part1 e) i)
+  to_code_inj (sub a b) (sub a' b') e = λ i.
+      sub (to_code_inj a a' (ap part0 e) i) (to_code_inj b b' (ap part1 e) i)
+  to_code_inj (mul a b) (mul a' b') e = λ i.
+      mul (to_code_inj a a' (ap part0 e) i) (to_code_inj b b' (ap part1 e) i)
+  to_code_inj (less a b) (less a' b') e = λ i.
+      less (to_code_inj a a' (ap part0 e) i) (to_code_inj b b' (ap part1 e) i)
+  to_code_inj (equal a b) (equal a' b') e = λ i.
+      equal (to_code_inj a a' (ap part0 e) i) (to_code_inj b b' (ap part1 e) i)
   to_code_inj (not_expr a) (not_expr a') e = ap not_expr (to_code_inj a a' (ap part0 e))
-  to_code_inj (and_expr a b) (and_expr a' b') e = λ i. and_expr (to_code_inj a a' (ap part0 e) i) (to_code_inj b b' (ap part1 e) i)
-  to_code_inj (or_expr a b) (or_expr a' b') e = λ i. or_expr (to_code_inj a a' (ap part0 e) i) (to_code_inj b b' (ap part1 e) i)
-  to_code_inj (if_expr a b c) (if_expr a' b' c') e = λ i. if_expr (to_code_inj a a' (ap part0 e) i) (to_code_inj b b' (ap part1 e) i) (to_code_inj c c' (ap part2 e) i)
-  to_code_inj (no_event_expr t) (no_event_expr t') e = ap no_event_expr (type_code.inj t t' (ap part0 e))
+  to_code_inj (and_expr a b) (and_expr a' b') e = λ i.
+      and_expr (to_code_inj a a' (ap part0 e) i) (to_code_inj b b' (ap part1 e) i)
+  to_code_inj (or_expr a b) (or_expr a' b') e = λ i.
+      or_expr (to_code_inj a a' (ap part0 e) i) (to_code_inj b b' (ap part1 e) i)
+  to_code_inj (if_expr a b c) (if_expr a' b' c') e = λ i.
+      if_expr (to_code_inj a a' (ap part0 e) i) (to_code_inj b b' (ap part1 e) i)
+      (to_code_inj c c' (ap part2 e) i)
+  to_code_inj (no_event_expr t) (no_event_expr t') e =
+      ap no_event_expr (type_code.inj t t' (ap part0 e))
   to_code_inj (event_expr a) (event_expr a') e = ap event_expr (to_code_inj a a' (ap part0 e))
-  to_code_inj (on a b c) (on a' b' c') e = λ i. on (to_code_inj a a' (ap part0 e) i) (to_code_inj b b' (ap part1 e) i) (to_code_inj c c' (ap part2 e) i)
-  to_code_inj (list_expr t es) (list_expr t' es') e = λ i. list_expr (type_code.inj t t' (ap part0 e) i) (to_codes_inj es es' (ap part1 e) i)
-  to_code_inj (nth a b c) (nth a' b' c') e = λ i. nth (to_code_inj a a' (ap part0 e) i) (to_code_inj b b' (ap part1 e) i) (to_code_inj c c' (ap part2 e) i)
+  to_code_inj (on a b c) (on a' b' c') e = λ i.
+      on (to_code_inj a a' (ap part0 e) i) (to_code_inj b b' (ap part1 e) i)
+      (to_code_inj c c' (ap part2 e) i)
+  to_code_inj (list_expr t es) (list_expr t' es') e = λ i.
+      list_expr (type_code.inj t t' (ap part0 e) i) (to_codes_inj es es' (ap part1 e) i)
+  to_code_inj (nth a b c) (nth a' b' c') e = λ i.
+      nth (to_code_inj a a' (ap part0 e) i) (to_code_inj b b' (ap part1 e) i)
+      (to_code_inj c c' (ap part2 e) i)
   to_code_inj (len a) (len a') e = ap len (to_code_inj a a' (ap part0 e))
   to_code_inj _ _ e = absurd (omega (arith, ap tag_of e))
 
   -- elements with one code are the same
   pub to_codes_inj : (x y : Expressions) → to_codes x ≡ to_codes y → x ≡ y
   to_codes_inj no_more no_more e = refl
-  to_codes_inj (and_then x es) (and_then y fs) e = λ i. and_then (to_code_inj x y (ap head_of e) i) (to_codes_inj es fs (ap rest_of e) i)
+  to_codes_inj (and_then x es) (and_then y fs) e = λ i.
+      and_then (to_code_inj x y (ap head_of e) i) (to_codes_inj es fs (ap rest_of e) i)
   to_codes_inj _ _ e = cc
 
 -- expressions told apart by their codes

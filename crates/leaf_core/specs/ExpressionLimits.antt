@@ -14,9 +14,11 @@ pub record ExpressionFits (e : Expression) : Type 0 where
 abbrev pub expression_fits : Expression → Bool
 expression_fits e = leb (height_of e) 256 && leb (nodes_in e) 100000
 
--- every type that arises is within the limits: each node's own, the one that a list or `none` is given, and the input of the last part of `on`
+-- every type that arises is within the limits: each node's own, the one that a list or `none` is
+-- given, and the input of the last part of `on`
 abbrev mutual
-  pub Within : {e : Expression} {Ps : List TypeTree} {A B : TypeTree} → ExpressionTyped e Ps A B → Type 0
+  pub Within : {e : Expression} {Ps : List TypeTree} {A B : TypeTree} → ExpressionTyped e Ps A B
+      → Type 0
   Within {B = B} input_typed = TypeFits B
   Within {B = B} (param_typed i) = TypeFits B
   Within {B = B} unit_typed = TypeFits B
@@ -38,13 +40,15 @@ abbrev mutual
   Within {B = B} (if_typed h k l) = Within h × Within k × Within l × TypeFits B
   Within {B = B} (no_event_typed {T = T}) = TypeFits T × TypeFits B
   Within {B = B} (event_typed h) = Within h × TypeFits B
-  Within {B = B} (on_typed {A = A} {V = V} h k l) = Within h × Within k × TypeFits (pair_ty A V) × Within l × TypeFits B
+  Within {B = B} (on_typed {A = A} {V = V} h k l) = Within h × Within k × TypeFits (pair_ty A V)
+      × Within l × TypeFits B
   Within {B = B} (list_typed {T = T} hs) = TypeFits T × AllWithin hs × TypeFits B
   Within {B = B} (nth_typed h k l) = Within h × Within k × Within l × TypeFits B
   Within {B = B} (len_typed h) = Within h × TypeFits B
 
   -- the same of the elements of a list
-  pub AllWithin : {es : Expressions} {Ps : List TypeTree} {A T : TypeTree} → ExpressionsTyped es Ps A T → Type 0
+  pub AllWithin : {es : Expressions} {Ps : List TypeTree} {A T : TypeTree}
+      → ExpressionsTyped es Ps A T → Type 0
   AllWithin no_more_typed = Unit {0}
   AllWithin (and_then_typed h hs) = Within h × AllWithin hs
 
@@ -54,6 +58,7 @@ pub record TypedWithin (e : Expression) (Ps : List TypeTree) (A B : TypeTree) : 
   pub fits : Within given
 
 -- the same of an expression that is within the limits too
-pub record ExpressionTypedWithin (e : Expression) (Ps : List TypeTree) (A B : TypeTree) : Type 0 where
-  pub whole_fits : ExpressionFits e
-  pub checked : TypedWithin e Ps A B
+pub record ExpressionTypedWithin (e : Expression) (Ps : List TypeTree) (A B : TypeTree) : Type 0
+  where
+    pub whole_fits : ExpressionFits e
+    pub checked : TypedWithin e Ps A B

@@ -77,7 +77,8 @@ abbrev pub part_of : Expression → Datum → Datum
 part_of (fst _) v = left v
 part_of _ v = right v
 
--- what the form makes of two values: whether they are the same, whether both or one of them hold, or of_ints
+-- what the form makes of two values: whether they are the same, whether both or one of them hold,
+-- or of_ints
 abbrev pub of_two : Expression → Datum → Datum → Datum
 of_two (equal _ _) v w = bool (same_datum v w)
 of_two (and_expr _ _) v w = bool (is_true v && is_true w)
@@ -105,12 +106,15 @@ abbrev mutual
   value_of (not_expr a) ps x = bool (not (is_true (value_of a ps x)))
   value_of (and_expr a b) ps x = bool (is_true (value_of a ps x) && is_true (value_of b ps x))
   value_of (or_expr a b) ps x = bool (is_true (value_of a ps x) || is_true (value_of b ps x))
-  value_of (if_expr c a b) ps x = choose (is_true (value_of c ps x)) (value_of a ps x) (value_of b ps x)
+  value_of (if_expr c a b) ps x =
+      choose (is_true (value_of c ps x)) (value_of a ps x) (value_of b ps x)
   value_of (no_event_expr t) ps x = no_event
   value_of (event_expr e) ps x = event (value_of e ps x)
-  value_of (on e d b) ps x = on_event (value_of e ps x) (value_of d ps x) (λ v. value_of b ps (pair x v))
+  value_of (on e d b) ps x = on_event (value_of e ps x) (value_of d ps x)
+      (λ v. value_of b ps (pair x v))
   value_of (list_expr t es) ps x = list (list_of (values_of es ps x))
-  value_of (nth e i d) ps x = element_at (value_of e ps x) (int_of (value_of i ps x)) (value_of d ps x)
+  value_of (nth e i d) ps x = element_at (value_of e ps x) (int_of (value_of i ps x))
+      (value_of d ps x)
   value_of (len e) ps x = wrap (pos (count_of (value_of e ps x)))
 
   -- the values of the elements of a list, in order

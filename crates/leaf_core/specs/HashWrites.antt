@@ -1,4 +1,5 @@
--- What a hasher is fed at an expression, a type and a key: the tag of each form, and then its parts.
+-- What a hasher is fed at an expression, a type and a key: the tag of each form, and then its
+-- parts.
 use Rattle.std.specs.Prelude.{ℕ, [], ◌++◌, true, false}
 use Rattle.std.specs.Hash as fed
 use Rattle.std.specs.List.{flat_map}
@@ -57,10 +58,12 @@ abbrev mutual
   expression_writes (bool_expr false) = tagged (bool_expr false) []
   expression_writes (bool_expr true) = tagged (bool_expr true) []
   expression_writes (int_expr n) = tagged (int_expr n) (fed.i64 n)
-  expression_writes (pair_expr a b) = tagged (pair_expr a b) (expression_writes a ++ expression_writes b)
+  expression_writes (pair_expr a b) =
+      tagged (pair_expr a b) (expression_writes a ++ expression_writes b)
   expression_writes (fst a) = tagged (fst a) (expression_writes a)
   expression_writes (snd a) = tagged (snd a) (expression_writes a)
-  expression_writes (then_expr a b) = tagged (then_expr a b) (expression_writes a ++ expression_writes b)
+  expression_writes (then_expr a b) =
+      tagged (then_expr a b) (expression_writes a ++ expression_writes b)
   expression_writes (neg a) = tagged (neg a) (expression_writes a)
   expression_writes (add a b) = tagged (add a b) (expression_writes a ++ expression_writes b)
   expression_writes (sub a b) = tagged (sub a b) (expression_writes a ++ expression_writes b)
@@ -68,14 +71,20 @@ abbrev mutual
   expression_writes (less a b) = tagged (less a b) (expression_writes a ++ expression_writes b)
   expression_writes (equal a b) = tagged (equal a b) (expression_writes a ++ expression_writes b)
   expression_writes (not_expr a) = tagged (not_expr a) (expression_writes a)
-  expression_writes (and_expr a b) = tagged (and_expr a b) (expression_writes a ++ expression_writes b)
-  expression_writes (or_expr a b) = tagged (or_expr a b) (expression_writes a ++ expression_writes b)
-  expression_writes (if_expr a b c) = tagged (if_expr a b c) (expression_writes a ++ (expression_writes b ++ expression_writes c))
+  expression_writes (and_expr a b) =
+      tagged (and_expr a b) (expression_writes a ++ expression_writes b)
+  expression_writes (or_expr a b) =
+      tagged (or_expr a b) (expression_writes a ++ expression_writes b)
+  expression_writes (if_expr a b c) =
+      tagged (if_expr a b c) (expression_writes a ++ (expression_writes b ++ expression_writes c))
   expression_writes (no_event_expr t) = tagged (no_event_expr t) (type_writes t)
   expression_writes (event_expr a) = tagged (event_expr a) (expression_writes a)
-  expression_writes (on a b c) = tagged (on a b c) (expression_writes a ++ (expression_writes b ++ expression_writes c))
-  expression_writes (list_expr t es) = tagged (list_expr t es) (type_writes t ++ (expressions_writes es ++ fed.u8 26))
-  expression_writes (nth a b c) = tagged (nth a b c) (expression_writes a ++ (expression_writes b ++ expression_writes c))
+  expression_writes (on a b c) =
+      tagged (on a b c) (expression_writes a ++ (expression_writes b ++ expression_writes c))
+  expression_writes (list_expr t es) =
+      tagged (list_expr t es) (type_writes t ++ (expressions_writes es ++ fed.u8 26))
+  expression_writes (nth a b c) =
+      tagged (nth a b c) (expression_writes a ++ (expression_writes b ++ expression_writes c))
   expression_writes (len a) = tagged (len a) (expression_writes a)
 
   -- what a hasher is fed at the elements of a list

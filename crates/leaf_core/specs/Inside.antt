@@ -11,7 +11,8 @@ use Rattle.leaf_core.specs.declared.expr.Expr.{Expr}
 use Rattle.leaf_core.specs.declared.expr.Expr.TheVariants as E
 use Rattle.leaf_core.specs.declared.literal.Literal.TheVariants as C
 
--- nothing, a parameter's number, a literal's number, parts in their order, a type, or a type and elements
+-- nothing, a parameter's number, a literal's number, parts in their order, a type, or a type and
+-- elements
 pub data Inside : Type 0 where
   nothing : Inside
   index : ℕ → Inside

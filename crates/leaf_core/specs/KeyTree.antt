@@ -14,4 +14,7 @@ pub record KeyTree : Type 0 where
 
 -- the code of a key, by which the check tells keys apart
 abbrev pub key_code : Coded KeyTree
-key_code = code_by (Expression × (List TypeTree × TypeTree)) (coded× expression_code (coded× (coded_list type_code) type_code)) (λ k. (k.expr, (k.params, k.input))) (λ p. record { expr = p.0; params = p.1.0; input = p.1.1 }) (λ _. refl)
+key_code = code_by (Expression × (List TypeTree × TypeTree))
+    (coded× expression_code (coded× (coded_list type_code) type_code))
+    (λ k. (k.expr, (k.params, k.input))) (λ p. record { expr = p.0; params = p.1.0; input = p.1.1 })
+    (λ _. refl)

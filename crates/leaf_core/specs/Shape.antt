@@ -1,4 +1,5 @@
--- The shapes of the expressions that have code of their own, and what their names and parts tell of the value.
+-- The shapes of the expressions that have code of their own, and what their names and parts tell of
+-- the value.
 use Rattle.std.specs.Prelude.{◌≡◌, pos, ◌+ℤ◌, ◌*ℤ◌, int_lt, List, Option, Some, None}
 use Rattle.sample_core.specs.Datum.{Datum, unit, bool, int, pair, event, left, right, int_of}
 use Rattle.leaf_core.specs.Expression.{Expression, input, unit_expr, bool_expr, int_expr, pair_expr, fst, snd, add, mul, less, event_expr}
@@ -44,4 +45,5 @@ value_by_shape S.General x = None
 
 -- an expression whose shape gives a value has that value, under whatever parameters
 abbrev pub ShapeValueLaw : Type 0
-ShapeValueLaw = (e : Expression) (ps : List Datum) (x v : Datum) → value_by_shape (shape e) x ≡ Some v → value_of e ps x ≡ v
+ShapeValueLaw = (e : Expression) (ps : List Datum) (x v : Datum)
+    → value_by_shape (shape e) x ≡ Some v → value_of e ps x ≡ v

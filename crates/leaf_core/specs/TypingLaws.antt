@@ -15,12 +15,15 @@ EqualityLaw = (v w : Datum) → IsTrue (same_datum v w) ↔ (v ≡ w)
 
 -- a typed expression has a value of its type, at all parameters and inputs of theirs
 abbrev pub SoundnessLaw : Type 0
-SoundnessLaw = (e : Expression) (Ps : List TypeTree) (A B : TypeTree) → ExpressionTyped e Ps A B → (ps : List Datum) (x : Datum) → TypedParams Ps ps → HasType x A → HasType (value_of e ps x) B
+SoundnessLaw = (e : Expression) (Ps : List TypeTree) (A B : TypeTree) → ExpressionTyped e Ps A B
+    → (ps : List Datum) (x : Datum) → TypedParams Ps ps → HasType x A → HasType (value_of e ps x) B
 
 -- an expression has at most one type
 abbrev pub OneTypeLaw : Type 0
-OneTypeLaw = (e : Expression) (Ps : List TypeTree) (A B C : TypeTree) → ExpressionTyped e Ps A B → ExpressionTyped e Ps A C → B ≡ C
+OneTypeLaw = (e : Expression) (Ps : List TypeTree) (A B C : TypeTree) → ExpressionTyped e Ps A B
+    → ExpressionTyped e Ps A C → B ≡ C
 
 -- the checking walk answers a type exactly where the expression has it within all limits
 abbrev pub ExactnessLaw : Type 0
-ExactnessLaw = (e : Expression) (Ps : List TypeTree) (A B : TypeTree) → (type_answer Ps A e ≡ Ok B) ↔ ExpressionTypedWithin e Ps A B
+ExactnessLaw = (e : Expression) (Ps : List TypeTree) (A B : TypeTree)
+    → (type_answer Ps A e ≡ Ok B) ↔ ExpressionTypedWithin e Ps A B

@@ -72,7 +72,8 @@ fn same_three(
 /// Whether the types and the elements of two list expressions are equal.
 #[cycle(same)]
 fn same_list(t: &Ty, all: &Exprs, u: &Ty, others: &Exprs) -> bool
-    ensures { IsTrue result ↔ ((type_of t.now ≡ type_of u.now) × (expressions_of all.now ≡ expressions_of others.now)) }
+    ensures { IsTrue result
+        ↔ ((type_of t.now ≡ type_of u.now) × (expressions_of all.now ≡ expressions_of others.now)) }
 {
     same_type(t, u) && same_parts(all, others)
 }

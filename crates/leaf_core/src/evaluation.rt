@@ -28,7 +28,9 @@ use std::alloc::Global;
 /// list would give.
 #[cycle(eval)]
 pub fn eval(alloc: Global, expr: &Expr, params: &[Sample], x: &Sample) -> Result<Sample, Memory>
-    ensures { IfOk result (λ s. datum_of s ≡ value_of (expression_of expr.now) (map datum_of params.now) (datum_of x.now)) }
+    ensures { IfOk result
+        (λ s. datum_of s ≡ value_of (expression_of expr.now) (map datum_of params.now)
+        (datum_of x.now)) }
 {
     match expr {
         Expr::Input => x.try_copy(alloc),
@@ -76,7 +78,9 @@ fn eval_pair(
     params: &[Sample],
     x: &Sample,
 ) -> Result<Sample, Memory>
-    ensures { IfOk result (λ s. datum_of s ≡ pair (value_of a.now (map datum_of params.now) (datum_of x.now)) (value_of b.now (map datum_of params.now) (datum_of x.now))) }
+    ensures { IfOk result
+        (λ s. datum_of s ≡ pair (value_of a.now (map datum_of params.now) (datum_of x.now))
+        (value_of b.now (map datum_of params.now) (datum_of x.now))) }
 {
     let first = eval(alloc, a.get(), params, x)?;
     match eval(alloc, b.get(), params, x) {
@@ -105,7 +109,9 @@ fn eval_part(
     params: &[Sample],
     x: &Sample,
 ) -> Result<Sample, Memory>
-    ensures { IfOk result (λ s. datum_of s ≡ part_of (expression_of form.now) (value_of e.now (map datum_of params.now) (datum_of x.now))) }
+    ensures { IfOk result
+        (λ s. datum_of s ≡ part_of (expression_of form.now)
+        (value_of e.now (map datum_of params.now) (datum_of x.now))) }
 {
     match path_at(e.get(), params, x) {
         Some(pair) => part(form, pair).try_copy(alloc),
@@ -122,7 +128,9 @@ fn eval_part_off(
     params: &[Sample],
     x: &Sample,
 ) -> Result<Sample, Memory>
-    ensures { IfOk result (λ s. datum_of s ≡ part_of (expression_of form.now) (value_of e.now (map datum_of params.now) (datum_of x.now))) }
+    ensures { IfOk result
+        (λ s. datum_of s ≡ part_of (expression_of form.now)
+        (value_of e.now (map datum_of params.now) (datum_of x.now))) }
 {
     let pair = eval_off(alloc, e, params, x)?;
     let found = part(form, &pair).try_copy(alloc);
@@ -133,7 +141,8 @@ fn eval_part_off(
 /// The value of an expression that is on no path.
 #[cycle(eval)]
 fn eval_off(alloc: Global, e: &ExprChild, params: &[Sample], x: &Sample) -> Result<Sample, Memory>
-    ensures { IfOk result (λ s. datum_of s ≡ value_of e.now (map datum_of params.now) (datum_of x.now)) }
+    ensures { IfOk result
+        (λ s. datum_of s ≡ value_of e.now (map datum_of params.now) (datum_of x.now)) }
 {
     let form = e.get();
     match form {
@@ -151,7 +160,8 @@ fn look<'v>(
     params: &'v [Sample],
     x: &'v Sample,
 ) -> Result<Looked<'v>, Memory>
-    ensures { IfOk result (λ l. looked_value l ≡ value_of expr.now (map datum_of params.now) (datum_of x.now)) }
+    ensures { IfOk result
+        (λ l. looked_value l ≡ value_of expr.now (map datum_of params.now) (datum_of x.now)) }
 {
     match path_at(expr.get(), params, x) {
         Some(value) => Ok(Looked::There(value)),
@@ -171,7 +181,9 @@ fn eval_then(
     params: &[Sample],
     x: &Sample,
 ) -> Result<Sample, Memory>
-    ensures { IfOk result (λ s. datum_of s ≡ value_of g.now (map datum_of params.now) (value_of f.now (map datum_of params.now) (datum_of x.now))) }
+    ensures { IfOk result
+        (λ s. datum_of s ≡ value_of g.now (map datum_of params.now)
+        (value_of f.now (map datum_of params.now) (datum_of x.now))) }
 {
     let between = look(alloc, f, params, x)?;
     let found = eval(alloc, g.get(), params, between.get());
@@ -189,7 +201,10 @@ fn eval_two(
     params: &[Sample],
     x: &Sample,
 ) -> Result<Sample, Memory>
-    ensures { IfOk result (λ s. datum_of s ≡ of_two (expression_of form.now) (value_of a.now (map datum_of params.now) (datum_of x.now)) (value_of b.now (map datum_of params.now) (datum_of x.now))) }
+    ensures { IfOk result
+        (λ s. datum_of s ≡ of_two (expression_of form.now)
+        (value_of a.now (map datum_of params.now) (datum_of x.now))
+        (value_of b.now (map datum_of params.now) (datum_of x.now))) }
 {
     let first = look(alloc, a, params, x)?;
     let found = eval_with(alloc, form, first.get(), b, params, x);
@@ -207,7 +222,9 @@ fn eval_with(
     params: &[Sample],
     x: &Sample,
 ) -> Result<Sample, Memory>
-    ensures { IfOk result (λ s. datum_of s ≡ of_two (expression_of form.now) (datum_of value.now) (value_of part.now (map datum_of params.now) (datum_of x.now))) }
+    ensures { IfOk result
+        (λ s. datum_of s ≡ of_two (expression_of form.now) (datum_of value.now)
+        (value_of part.now (map datum_of params.now) (datum_of x.now))) }
 {
     let other = look(alloc, part, params, x)?;
     let found = of_two(form, value, other.get());
@@ -225,7 +242,11 @@ fn eval_if(
     params: &[Sample],
     x: &Sample,
 ) -> Result<Sample, Memory>
-    ensures { IfOk result (λ s. datum_of s ≡ choose (is_true (value_of c.now (map datum_of params.now) (datum_of x.now))) (value_of a.now (map datum_of params.now) (datum_of x.now)) (value_of b.now (map datum_of params.now) (datum_of x.now))) }
+    ensures { IfOk result
+        (λ s. datum_of s
+        ≡ choose (is_true (value_of c.now (map datum_of params.now) (datum_of x.now)))
+        (value_of a.now (map datum_of params.now) (datum_of x.now))
+        (value_of b.now (map datum_of params.now) (datum_of x.now))) }
 {
     if eval_truth(alloc, c, params, x)? {
         eval(alloc, a.get(), params, x)
@@ -244,7 +265,9 @@ fn eval_on(
     params: &[Sample],
     x: &Sample,
 ) -> Result<Sample, Memory>
-    ensures { IfOk result (λ s. datum_of s ≡ value_of (on e.now d.now b.now) (map datum_of params.now) (datum_of x.now)) }
+    ensures { IfOk result
+        (λ s. datum_of s ≡ value_of (on e.now d.now b.now) (map datum_of params.now)
+        (datum_of x.now)) }
 {
     let event = look(alloc, e, params, x)?;
     let found = eval_on_event(alloc, event.get(), d, b, params, x);
@@ -262,7 +285,10 @@ fn eval_on_event(
     params: &[Sample],
     x: &Sample,
 ) -> Result<Sample, Memory>
-    ensures { IfOk result (λ s. datum_of s ≡ on_event (datum_of event.now) (value_of d.now (map datum_of params.now) (datum_of x.now)) (λ v. value_of b.now (map datum_of params.now) (pair (datum_of x.now) v))) }
+    ensures { IfOk result
+        (λ s. datum_of s ≡ on_event (datum_of event.now)
+        (value_of d.now (map datum_of params.now) (datum_of x.now))
+        (λ v. value_of b.now (map datum_of params.now) (pair (datum_of x.now) v))) }
 {
     match event {
         Sample::Event(carried) => eval_body(alloc, b, carried, params, x),
@@ -279,7 +305,9 @@ fn eval_body(
     params: &[Sample],
     x: &Sample,
 ) -> Result<Sample, Memory>
-    ensures { IfOk result (λ s. datum_of s ≡ value_of b.now (map datum_of params.now) (pair (datum_of x.now) carried.now)) }
+    ensures { IfOk result
+        (λ s. datum_of s ≡ value_of b.now (map datum_of params.now)
+        (pair (datum_of x.now) carried.now)) }
 {
     let input = with_carried(alloc, x, carried)?;
     let found = eval(alloc, b.get(), params, &input);
@@ -311,7 +339,10 @@ fn eval_nth(
     params: &[Sample],
     x: &Sample,
 ) -> Result<Sample, Memory>
-    ensures { IfOk result (λ s. datum_of s ≡ element_at (value_of e.now (map datum_of params.now) (datum_of x.now)) (int_of (value_of i.now (map datum_of params.now) (datum_of x.now))) (value_of d.now (map datum_of params.now) (datum_of x.now))) }
+    ensures { IfOk result
+        (λ s. datum_of s ≡ element_at (value_of e.now (map datum_of params.now) (datum_of x.now))
+        (int_of (value_of i.now (map datum_of params.now) (datum_of x.now)))
+        (value_of d.now (map datum_of params.now) (datum_of x.now))) }
 {
     let list = look(alloc, e, params, x)?;
     let found = eval_element(alloc, list.get(), i, d, params, x);
@@ -329,7 +360,10 @@ fn eval_element(
     params: &[Sample],
     x: &Sample,
 ) -> Result<Sample, Memory>
-    ensures { IfOk result (λ s. datum_of s ≡ element_at (datum_of list.now) (int_of (value_of i.now (map datum_of params.now) (datum_of x.now))) (value_of d.now (map datum_of params.now) (datum_of x.now))) }
+    ensures { IfOk result
+        (λ s. datum_of s ≡ element_at (datum_of list.now)
+        (int_of (value_of i.now (map datum_of params.now) (datum_of x.now)))
+        (value_of d.now (map datum_of params.now) (datum_of x.now))) }
 {
     let at = eval_number(alloc, i, params, x)?;
     match element(list, at) {
@@ -341,7 +375,9 @@ fn eval_element(
 /// The value of a length.
 #[cycle(eval)]
 fn eval_len(alloc: Global, e: &ExprChild, params: &[Sample], x: &Sample) -> Result<Sample, Memory>
-    ensures { IfOk result (λ s. datum_of s ≡ wrap (pos (count_of (value_of e.now (map datum_of params.now) (datum_of x.now))))) }
+    ensures { IfOk result
+        (λ s. datum_of s
+        ≡ wrap (pos (count_of (value_of e.now (map datum_of params.now) (datum_of x.now))))) }
 {
     let list = look(alloc, e, params, x)?;
     let elements = count(list.get());
@@ -373,7 +409,10 @@ fn eval_numbers(
     params: &[Sample],
     x: &Sample,
 ) -> Result<Sample, Memory>
-    ensures { IfOk result (λ s. datum_of s ≡ of_ints (expression_of form.now) (int_of (value_of a.now (map datum_of params.now) (datum_of x.now))) (int_of (value_of b.now (map datum_of params.now) (datum_of x.now)))) }
+    ensures { IfOk result
+        (λ s. datum_of s ≡ of_ints (expression_of form.now)
+        (int_of (value_of a.now (map datum_of params.now) (datum_of x.now)))
+        (int_of (value_of b.now (map datum_of params.now) (datum_of x.now)))) }
 {
     let a = eval_number(alloc, a, params, x)?;
     let b = eval_number(alloc, b, params, x)?;
@@ -388,7 +427,8 @@ fn eval_number(
     params: &[Sample],
     x: &Sample,
 ) -> Result<i64, Memory>
-    ensures { IfOk result (λ n. n ≡ int_of (value_of part.now (map datum_of params.now) (datum_of x.now))) }
+    ensures { IfOk result
+        (λ n. n ≡ int_of (value_of part.now (map datum_of params.now) (datum_of x.now))) }
 {
     let form = part.get();
     match form {
@@ -410,7 +450,12 @@ fn eval_sum(
     params: &[Sample],
     x: &Sample,
 ) -> Result<i64, Memory>
-    ensures { IfOk result (λ n. n ≡ int_of (of_ints (expression_of form.now) (int_of (value_of a.now (map datum_of params.now) (datum_of x.now))) (int_of (value_of b.now (map datum_of params.now) (datum_of x.now))))) }
+    ensures { IfOk result
+        (λ n. n
+        ≡ int_of
+        (of_ints (expression_of form.now)
+        (int_of (value_of a.now (map datum_of params.now) (datum_of x.now)))
+        (int_of (value_of b.now (map datum_of params.now) (datum_of x.now))))) }
 {
     let a = eval_number(alloc, a, params, x)?;
     let b = eval_number(alloc, b, params, x)?;
@@ -425,7 +470,8 @@ fn look_number(
     params: &[Sample],
     x: &Sample,
 ) -> Result<i64, Memory>
-    ensures { IfOk result (λ n. n ≡ int_of (value_of part.now (map datum_of params.now) (datum_of x.now))) }
+    ensures { IfOk result
+        (λ n. n ≡ int_of (value_of part.now (map datum_of params.now) (datum_of x.now))) }
 {
     let value = look(alloc, part, params, x)?;
     let number = number(value.get());
@@ -441,7 +487,8 @@ fn eval_truth(
     params: &[Sample],
     x: &Sample,
 ) -> Result<bool, Memory>
-    ensures { IfOk result (λ b. b ≡ is_true (value_of part.now (map datum_of params.now) (datum_of x.now))) }
+    ensures { IfOk result
+        (λ b. b ≡ is_true (value_of part.now (map datum_of params.now) (datum_of x.now))) }
 {
     let value = look(alloc, part, params, x)?;
     let truth = truth(value.get());
@@ -457,7 +504,9 @@ fn eval_elements(
     params: &[Sample],
     x: &Sample,
 ) -> Result<Samples, Memory>
-    ensures { IfOk result (λ vs. vs ≡ values_of (expressions_of elements.now) (map datum_of params.now) (datum_of x.now)) }
+    ensures { IfOk result
+        (λ vs. vs ≡ values_of (expressions_of elements.now) (map datum_of params.now)
+        (datum_of x.now)) }
 {
     let mut values = Vec::new(alloc);
     for element in elements.as_slice() {

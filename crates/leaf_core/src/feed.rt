@@ -103,7 +103,8 @@ fn feed_inside<H: Hasher>(expr: &Expr, state: &mut H)
 /// Feeds two parts to the hasher, one after the other.
 #[cycle(feed)]
 fn feed_two<H: Hasher>(a: &ExprChild, b: &ExprChild, state: &mut H)
-    ensures { state.new ≡ fold H.write state.old (expression_writes a.now ++ expression_writes b.now) }
+    ensures { state.new ≡ fold H.write state.old
+        (expression_writes a.now ++ expression_writes b.now) }
 {
     feed_expr(a.get(), state);
     feed_expr(b.get(), state);
@@ -112,7 +113,8 @@ fn feed_two<H: Hasher>(a: &ExprChild, b: &ExprChild, state: &mut H)
 /// Feeds three parts to the hasher, one after another.
 #[cycle(feed)]
 fn feed_three<H: Hasher>(a: &ExprChild, b: &ExprChild, c: &ExprChild, state: &mut H)
-    ensures { state.new ≡ fold H.write state.old (expression_writes a.now ++ (expression_writes b.now ++ expression_writes c.now)) }
+    ensures { state.new ≡ fold H.write state.old
+        (expression_writes a.now ++ (expression_writes b.now ++ expression_writes c.now)) }
 {
     feed_expr(a.get(), state);
     feed_two(b, c, state);
@@ -121,7 +123,8 @@ fn feed_three<H: Hasher>(a: &ExprChild, b: &ExprChild, c: &ExprChild, state: &mu
 /// Feeds the type and the elements of a list expression to the hasher, and the byte behind them.
 #[cycle(feed)]
 fn feed_list<H: Hasher>(t: &Ty, all: &Exprs, state: &mut H)
-    ensures { state.new ≡ fold H.write state.old (type_writes (type_of t.now) ++ (expressions_writes (expressions_of all.now) ++ u8 26)) }
+    ensures { state.new ≡ fold H.write state.old
+        (type_writes (type_of t.now) ++ (expressions_writes (expressions_of all.now) ++ u8 26)) }
 {
     feed_type(t, state);
     feed_all(all, state);

@@ -57,11 +57,16 @@ impl From<Memory> for ExprFault {
 /// nodes. `Memory` where a growth was refused.
 pub fn type_of_expr(alloc: Global, params: &[Ty], input: &Ty, expr: &Expr) -> Result<Ty, ExprFault>
     // A type that is answered is the expression's, within all limits.
-    ensures typed { IfOk result (λ t. ExpressionTypedWithin (expression_of expr.now) (map type_of params.now) (type_of input.now) (type_of t)) }
+    ensures typed { IfOk result
+        (λ t. ExpressionTypedWithin (expression_of expr.now) (map type_of params.now)
+        (type_of input.now) (type_of t)) }
     // The type that the expression has within all limits is answered, unless memory runs out.
-    ensures only { (t : TypeTree) → ExpressionTypedWithin (expression_of expr.now) (map type_of params.now) (type_of input.now) t → Gives result (Ok t) }
+    ensures only { (t : TypeTree)
+        → ExpressionTypedWithin (expression_of expr.now) (map type_of params.now)
+        (type_of input.now) t → Gives result (Ok t) }
     // Which answer it is.
-    ensures exact { Gives result (type_answer (map type_of params.now) (type_of input.now) (expression_of expr.now)) }
+    ensures exact { Gives result
+        (type_answer (map type_of params.now) (type_of input.now) (expression_of expr.now)) }
 {
     whole_type(alloc, params, input, expr)
 }
@@ -69,7 +74,8 @@ pub fn type_of_expr(alloc: Global, params: &[Ty], input: &Ty, expr: &Expr) -> Re
 /// What `type_of_expr` answers. It stands apart, since the other clauses of that contract follow
 /// from its exact one.
 fn whole_type(alloc: Global, params: &[Ty], input: &Ty, expr: &Expr) -> Result<Ty, ExprFault>
-    ensures { Gives result (type_answer (map type_of params.now) (type_of input.now) (expression_of expr.now)) }
+    ensures { Gives result
+        (type_answer (map type_of params.now) (type_of input.now) (expression_of expr.now)) }
 {
     if !expr_fits(expr) {
         return Err(ExprFault::TooDeep);
@@ -80,7 +86,8 @@ fn whole_type(alloc: Global, params: &[Ty], input: &Ty, expr: &Expr) -> Result<T
 /// The type of an expression, whose height and size are not tested.
 #[cycle(walk)]
 fn walk(alloc: Global, params: &[Ty], input: &Ty, expr: &Expr) -> Result<Ty, ExprFault>
-    ensures { Gives result (type_walk (map type_of params.now) (type_of input.now) (expression_of expr.now)) }
+    ensures { Gives result
+        (type_walk (map type_of params.now) (type_of input.now) (expression_of expr.now)) }
 {
     match expr {
         Expr::Input => limited_copy(alloc, input),
@@ -130,7 +137,8 @@ fn walk_pair(
     a: &ExprChild,
     b: &ExprChild,
 ) -> Result<Ty, ExprFault>
-    ensures { Gives result (type_walk (map type_of params.now) (type_of input.now) (pair_expr a.now b.now)) }
+    ensures { Gives result
+        (type_walk (map type_of params.now) (type_of input.now) (pair_expr a.now b.now)) }
 {
     let first = walk_child(alloc, params, input, a)?;
     let second = walk_child(alloc, params, input, b)?;
@@ -146,7 +154,9 @@ fn walk_part(
     form: &Expr,
     e: &ExprChild,
 ) -> Result<Ty, ExprFault>
-    ensures { Gives result (on_ok (type_walk (map type_of params.now) (type_of input.now) e.now) (λ P. on_ok (part_type (expression_of form.now) P) within_limits)) }
+    ensures { Gives result
+        (on_ok (type_walk (map type_of params.now) (type_of input.now) e.now)
+        (λ P. on_ok (part_type (expression_of form.now) P) within_limits)) }
 {
     let pair = walk(alloc, params, input, e.get())?;
     let part = part_type(alloc, form, &pair);
@@ -163,7 +173,8 @@ fn walk_then(
     f: &ExprChild,
     g: &ExprChild,
 ) -> Result<Ty, ExprFault>
-    ensures { Gives result (type_walk (map type_of params.now) (type_of input.now) (then_expr f.now g.now)) }
+    ensures { Gives result
+        (type_walk (map type_of params.now) (type_of input.now) (then_expr f.now g.now)) }
 {
     let between = walk(alloc, params, input, f.get())?;
     let found = walk(alloc, params, &between, g.get());
@@ -181,7 +192,9 @@ fn walk_one(
     wanted: &Ty,
     answer: &Ty,
 ) -> Result<Ty, ExprFault>
-    ensures { Gives result (expect_then (type_walk (map type_of params.now) (type_of input.now) a.now) (type_of wanted.now) (within_limits (type_of answer.now))) }
+    ensures { Gives result
+        (expect_then (type_walk (map type_of params.now) (type_of input.now) a.now)
+        (type_of wanted.now) (within_limits (type_of answer.now))) }
 {
     walk_wanted(alloc, params, input, a.get(), wanted)?;
     limited_copy(alloc, answer)
@@ -198,7 +211,11 @@ fn walk_two(
     wanted: &Ty,
     answer: &Ty,
 ) -> Result<Ty, ExprFault>
-    ensures { Gives result (expect_then (type_walk (map type_of params.now) (type_of input.now) a.now) (type_of wanted.now) (expect_then (type_walk (map type_of params.now) (type_of input.now) b.now) (type_of wanted.now) (within_limits (type_of answer.now)))) }
+    ensures { Gives result
+        (expect_then (type_walk (map type_of params.now) (type_of input.now) a.now)
+        (type_of wanted.now)
+        (expect_then (type_walk (map type_of params.now) (type_of input.now) b.now)
+        (type_of wanted.now) (within_limits (type_of answer.now)))) }
 {
     walk_wanted(alloc, params, input, a.get(), wanted)?;
     walk_one(alloc, params, input, b, wanted, answer)
@@ -213,7 +230,8 @@ fn walk_equal(
     a: &ExprChild,
     b: &ExprChild,
 ) -> Result<Ty, ExprFault>
-    ensures { Gives result (type_walk (map type_of params.now) (type_of input.now) (equal a.now b.now)) }
+    ensures { Gives result
+        (type_walk (map type_of params.now) (type_of input.now) (equal a.now b.now)) }
 {
     let first = walk(alloc, params, input, a.get())?;
     let tested = walk_wanted(alloc, params, input, b.get(), &first);
@@ -232,7 +250,8 @@ fn walk_if(
     a: &ExprChild,
     b: &ExprChild,
 ) -> Result<Ty, ExprFault>
-    ensures { Gives result (type_walk (map type_of params.now) (type_of input.now) (if_expr c.now a.now b.now)) }
+    ensures { Gives result
+        (type_walk (map type_of params.now) (type_of input.now) (if_expr c.now a.now b.now)) }
 {
     walk_wanted(alloc, params, input, c.get(), &Ty::Bool)?;
     walk_branches(alloc, params, input, a, b)
@@ -247,7 +266,10 @@ fn walk_branches(
     a: &ExprChild,
     b: &ExprChild,
 ) -> Result<Ty, ExprFault>
-    ensures { Gives result (on_ok (type_walk (map type_of params.now) (type_of input.now) a.now) (λ B. expect_then (type_walk (map type_of params.now) (type_of input.now) b.now) B (within_limits B))) }
+    ensures { Gives result
+        (on_ok (type_walk (map type_of params.now) (type_of input.now) a.now)
+        (λ B. expect_then (type_walk (map type_of params.now) (type_of input.now) b.now) B
+        (within_limits B))) }
 {
     let first = walk(alloc, params, input, a.get())?;
     let tested = walk_wanted(alloc, params, input, b.get(), &first);
@@ -257,7 +279,8 @@ fn walk_branches(
 /// The type of an event.
 #[cycle(walk)]
 fn walk_event(alloc: Global, params: &[Ty], input: &Ty, e: &ExprChild) -> Result<Ty, ExprFault>
-    ensures { Gives result (type_walk (map type_of params.now) (type_of input.now) (event_expr e.now)) }
+    ensures { Gives result
+        (type_walk (map type_of params.now) (type_of input.now) (event_expr e.now)) }
 {
     let carried = walk_child(alloc, params, input, e)?;
     limited(Ty::Event(carried))
@@ -273,7 +296,8 @@ fn walk_on(
     d: &ExprChild,
     b: &ExprChild,
 ) -> Result<Ty, ExprFault>
-    ensures { Gives result (type_walk (map type_of params.now) (type_of input.now) (on e.now d.now b.now)) }
+    ensures { Gives result
+        (type_walk (map type_of params.now) (type_of input.now) (on e.now d.now b.now)) }
 {
     let event = walk(alloc, params, input, e.get())?;
     let found = walk_on_event(alloc, params, input, &event, d, b);
@@ -291,7 +315,11 @@ fn walk_on_event(
     d: &ExprChild,
     b: &ExprChild,
 ) -> Result<Ty, ExprFault>
-    ensures { Gives result (on_ok (carried_type (type_of event.now)) (λ V. on_ok (type_walk (map type_of params.now) (type_of input.now) d.now) (λ C. on_ok (within_limits (pair_ty (type_of input.now) V)) (λ I. expect_then (type_walk (map type_of params.now) I b.now) C (within_limits C))))) }
+    ensures { Gives result
+        (on_ok (carried_type (type_of event.now))
+        (λ V. on_ok (type_walk (map type_of params.now) (type_of input.now) d.now)
+        (λ C. on_ok (within_limits (pair_ty (type_of input.now) V))
+        (λ I. expect_then (type_walk (map type_of params.now) I b.now) C (within_limits C))))) }
 {
     match event {
         Ty::Event(carried) => walk_default(alloc, params, input, carried.get(), d, b),
@@ -309,7 +337,10 @@ fn walk_default(
     d: &ExprChild,
     b: &ExprChild,
 ) -> Result<Ty, ExprFault>
-    ensures { Gives result (on_ok (type_walk (map type_of params.now) (type_of input.now) d.now) (λ C. on_ok (within_limits (pair_ty (type_of input.now) (type_of carried.now))) (λ I. expect_then (type_walk (map type_of params.now) I b.now) C (within_limits C)))) }
+    ensures { Gives result
+        (on_ok (type_walk (map type_of params.now) (type_of input.now) d.now)
+        (λ C. on_ok (within_limits (pair_ty (type_of input.now) (type_of carried.now)))
+        (λ I. expect_then (type_walk (map type_of params.now) I b.now) C (within_limits C)))) }
 {
     let default = walk(alloc, params, input, d.get())?;
     let tested = walk_body(alloc, params, input, carried, b, &default);
@@ -326,7 +357,10 @@ fn walk_body(
     b: &ExprChild,
     ty: &Ty,
 ) -> Result<(), ExprFault>
-    ensures { Passes result (on_ok (within_limits (pair_ty (type_of input.now) (type_of carried.now))) (λ I. expect (type_walk (map type_of params.now) I b.now) (type_of ty.now))) (type_of ty.now) }
+    ensures { Passes result
+        (on_ok (within_limits (pair_ty (type_of input.now) (type_of carried.now)))
+        (λ I. expect (type_walk (map type_of params.now) I b.now) (type_of ty.now)))
+        (type_of ty.now) }
 {
     let inner = body_input(alloc, input, carried)?;
     let tested = walk_wanted(alloc, params, &inner, b.get(), ty);
@@ -343,7 +377,9 @@ fn walk_list(
     element: &Ty,
     all: &Exprs,
 ) -> Result<Ty, ExprFault>
-    ensures { Gives result (type_walk (map type_of params.now) (type_of input.now) (list_expr (type_of element.now) (expressions_of all.now))) }
+    ensures { Gives result
+        (type_walk (map type_of params.now) (type_of input.now)
+        (list_expr (type_of element.now) (expressions_of all.now))) }
 {
     if !type_fits(element) {
         return Err(ExprFault::TooDeep);
@@ -361,7 +397,8 @@ fn walk_nth(
     i: &ExprChild,
     d: &ExprChild,
 ) -> Result<Ty, ExprFault>
-    ensures { Gives result (type_walk (map type_of params.now) (type_of input.now) (nth e.now i.now d.now)) }
+    ensures { Gives result
+        (type_walk (map type_of params.now) (type_of input.now) (nth e.now i.now d.now)) }
 {
     let list = walk(alloc, params, input, e.get())?;
     let found = walk_nth_of(alloc, params, input, &list, i, d);
@@ -379,7 +416,11 @@ fn walk_nth_of(
     i: &ExprChild,
     d: &ExprChild,
 ) -> Result<Ty, ExprFault>
-    ensures { Gives result (on_ok (element_type (type_of list.now)) (λ T. expect_then (type_walk (map type_of params.now) (type_of input.now) i.now) int_ty (expect_then (type_walk (map type_of params.now) (type_of input.now) d.now) T (within_limits T)))) }
+    ensures { Gives result
+        (on_ok (element_type (type_of list.now))
+        (λ T. expect_then (type_walk (map type_of params.now) (type_of input.now) i.now) int_ty
+        (expect_then (type_walk (map type_of params.now) (type_of input.now) d.now) T
+        (within_limits T)))) }
 {
     match list {
         Ty::List(element) => walk_element(alloc, params, input, element.get(), i, d),
@@ -397,7 +438,10 @@ fn walk_element(
     i: &ExprChild,
     d: &ExprChild,
 ) -> Result<Ty, ExprFault>
-    ensures { Gives result (expect_then (type_walk (map type_of params.now) (type_of input.now) i.now) int_ty (expect_then (type_walk (map type_of params.now) (type_of input.now) d.now) (type_of element.now) (within_limits (type_of element.now)))) }
+    ensures { Gives result
+        (expect_then (type_walk (map type_of params.now) (type_of input.now) i.now) int_ty
+        (expect_then (type_walk (map type_of params.now) (type_of input.now) d.now)
+        (type_of element.now) (within_limits (type_of element.now)))) }
 {
     walk_wanted(alloc, params, input, i.get(), &Ty::Int)?;
     walk_one(alloc, params, input, d, element, element)
@@ -422,7 +466,8 @@ fn walk_child(
     input: &Ty,
     part: &ExprChild,
 ) -> Result<TyChild, ExprFault>
-    ensures { GivesUnless F.Memory (λ t. t) result (type_walk (map type_of params.now) (type_of input.now) part.now) }
+    ensures { GivesUnless F.Memory (λ t. t) result
+        (type_walk (map type_of params.now) (type_of input.now) part.now) }
 {
     let found = walk(alloc, params, input, part.get())?;
     let child = TyChild::new(alloc, found)?;
@@ -438,7 +483,9 @@ fn walk_wanted(
     expr: &Expr,
     ty: &Ty,
 ) -> Result<(), ExprFault>
-    ensures { Passes result (expect (type_walk (map type_of params.now) (type_of input.now) (expression_of expr.now)) (type_of ty.now)) (type_of ty.now) }
+    ensures { Passes result
+        (expect (type_walk (map type_of params.now) (type_of input.now) (expression_of expr.now))
+        (type_of ty.now)) (type_of ty.now) }
 {
     let found = walk(alloc, params, input, expr)?;
     let tested = matching(&found, ty);
@@ -455,7 +502,9 @@ fn walk_elements(
     element: &Ty,
     all: &Exprs,
 ) -> Result<Ty, ExprFault>
-    ensures { Gives result (elements_walk (map type_of params.now) (type_of input.now) (type_of element.now) (expressions_of all.now)) }
+    ensures { Gives result
+        (elements_walk (map type_of params.now) (type_of input.now) (type_of element.now)
+        (expressions_of all.now)) }
 {
     for part in all.as_slice() {
         walk_wanted(alloc, params, input, part, element)?;
@@ -476,7 +525,8 @@ fn matching(found: &Ty, ty: &Ty) -> Result<(), ExprFault>
 
 /// The type, where a test was passed and the type is within the limits.
 fn passed(tested: Result<(), ExprFault>, ty: Ty) -> Result<Ty, ExprFault>
-    ensures { MatchResult tested (λ _. Gives result (within_limits (type_of ty))) (λ f. result ≡ Err f) }
+    ensures { MatchResult tested (λ _. Gives result (within_limits (type_of ty)))
+        (λ f. result ≡ Err f) }
 {
     match tested {
         Ok(()) => limited(ty),
@@ -489,7 +539,8 @@ fn passed(tested: Result<(), ExprFault>, ty: Ty) -> Result<Ty, ExprFault>
 
 /// The type of no event that carries the type.
 fn no_event_type(alloc: Global, carried: &Ty) -> Result<Ty, ExprFault>
-    ensures { Gives result (on_ok (within_limits (type_of carried.now)) (λ T. within_limits (event_ty T))) }
+    ensures { Gives result
+        (on_ok (within_limits (type_of carried.now)) (λ T. within_limits (event_ty T))) }
 {
     if !type_fits(carried) {
         return Err(ExprFault::TooDeep);
@@ -548,7 +599,8 @@ fn limited_copy(alloc: Global, ty: &Ty) -> Result<Ty, ExprFault>
 
 /// The type of a literal.
 fn literal_type(literal: Literal) -> Ty
-    ensures { (Ps : List TypeTree) (A : TypeTree) → type_walk Ps A (literal_of literal) ≡ within_limits (type_of result) }
+    ensures { (Ps : List TypeTree) (A : TypeTree)
+        → type_walk Ps A (literal_of literal) ≡ within_limits (type_of result) }
 {
     match literal {
         Literal::Unit => Ty::Unit,
@@ -569,7 +621,8 @@ fn param_type(alloc: Global, params: &[Ty], k: u32) -> Result<Ty, ExprFault>
 
 /// The type of a pair's first or second part, as the form says, where it is within the limits.
 fn part_type(alloc: Global, form: &Expr, pair: &Ty) -> Result<Ty, ExprFault>
-    ensures { Gives result (on_ok (part_type (expression_of form.now) (type_of pair.now)) within_limits) }
+    ensures { Gives result
+        (on_ok (part_type (expression_of form.now) (type_of pair.now)) within_limits) }
 {
     let Ty::Pair(first, second) = pair else {
         return Err(ExprFault::Mismatch);

@@ -17,12 +17,15 @@ use Rattle.leaf_expr.specs.declared.text_fault.ExprTextFault.TheVariants.{Syntax
 
 module _ (s : Sort) (text : List ℕ) where
   module _ {X : Type 0} (room n : ℕ) (view : X → Tree s × ℕ × List PlacedToken) where
-    pub tree_found : (r : Result X ExprTextFault) → Gives view r (tree_at s text room n) → IfOk r (λ x. Begins leaf room s (view x).0 (tokens_from n text) (view x).1 (view x).2)
+    pub tree_found : (r : Result X ExprTextFault) → Gives view r (tree_at s text room n)
+        → IfOk r (λ x. Begins leaf room s (view x).0 (tokens_from n text) (view x).1 (view x).2)
     tree_found (Ok x) h = found leaf (length text) room s (tokens_from n text) (view x) h
     tree_found (Err e) h = tt
 
-    pub tree_only : (r : Result X ExprTextFault) → Gives view r (tree_at s text room n) → (t : Tree s) (m : ℕ) (rest : List PlacedToken) → Begins leaf room s t (tokens_from n text) m rest → Gives view r (Ok (t, m, rest))
-    tree_only r h t m rest b = subst (λ z. Gives view r z) (only leaf leaf_proper (length text) room s b.part (tokens_from n text) m rest t b.spells b.means b.within) h
+    pub tree_only : (r : Result X ExprTextFault) → Gives view r (tree_at s text room n) → (t : Tree s) (m : ℕ) (rest : List PlacedToken)
+        → Begins leaf room s t (tokens_from n text) m rest → Gives view r (Ok (t, m, rest))
+    tree_only r h t m rest b = subst (λ z. Gives view r z)
+        (only leaf leaf_proper (length text) room s b.part (tokens_from n text) m rest t b.spells b.means b.within) h
 
     stopped : (e : ExprTextFault) → tree_at s text room n ≡ Err e → Stops leaf (length text) room s (tokens_from n text) e
     stopped e h = stops leaf leaf_proper (length text) room s (tokens_from n text) e h

@@ -29,35 +29,96 @@ module _ (L : Language) where
     pub called : e ≡ fault_at L left x next
 
   -- behind a part begun, and behind a part read
-  pub begun : {s q : L.Sort} (qs : Places L.Sort) (make : Maker L.Tree (place q qs) (L.Tree s)) (us : List PlacedToken) (c : Completes L q us) → CompletesAll s qs (make c.tree) [] → CompletesAll s (place q qs) make us
-  begun qs make us c d = record { end = c.end ++ d.end; parts = more c.part d.parts; tree = d.tree; spell = λ ts. more_spells {n = c.stop} {mid = d.end ++ ts} (rw append_assoc (c.spells (d.end ++ ts))) (d.spell ts); means = rw c.means d.means }
+  pub begun : {s q : L.Sort} (qs : Places L.Sort) (make : Maker L.Tree (place q qs) (L.Tree s)) (us : List PlacedToken) (c : Completes L q us)
+      → CompletesAll s qs (make c.tree) [] → CompletesAll s (place q qs) make us
+  begun qs make us c d =
+      record {
+        end = c.end ++ d.end;
+        parts = more c.part d.parts;
+        tree = d.tree;
+        spell = λ ts.
+            more_spells {n = c.stop} {mid = d.end ++ ts} (rw append_assoc (c.spells (d.end ++ ts))) (d.spell ts);
+        means = rw c.means d.means;
+      }
 
   pub begun_many : {s q : L.Sort} (make : List (L.Tree q) → L.Tree s) (us : List PlacedToken) → Completes L q us → CompletesAll s (places q) make us
-  begun_many make us c = record { end = c.end; parts = more c.part last; tree = make (c.tree ∷ []); spell = λ ts. more_spells {n = c.stop} {mid = ts} (c.spells ts) last_spells; means = rw c.means refl }
+  begun_many make us c =
+      record {
+        end = c.end;
+        parts = more c.part last;
+        tree = make (c.tree ∷ []);
+        spell = λ ts.
+            more_spells {n = c.stop} {mid = ts} (c.spells ts) last_spells;
+        means = rw c.means refl;
+      }
 
-  pub passed : {s q : L.Sort} (qs : Places L.Sort) (make : Maker L.Tree (place q qs) (L.Tree s)) (t : L.Tree q) (front us : List PlacedToken) → Whole L q t front → CompletesAll s qs (make t) us → CompletesAll s (place q qs) make (front ++ us)
-  passed qs make t front us p d = record { end = d.end; parts = more p.part d.parts; tree = d.tree; spell = λ ts. more_spells {n = p.stop} {mid = us ++ (d.end ++ ts)} (rw append_assoc (p.spells (us ++ (d.end ++ ts)))) (d.spell ts); means = rw p.means d.means }
+  pub passed : {s q : L.Sort} (qs : Places L.Sort) (make : Maker L.Tree (place q qs) (L.Tree s)) (t : L.Tree q) (front us : List PlacedToken)
+      → Whole L q t front → CompletesAll s qs (make t) us → CompletesAll s (place q qs) make (front ++ us)
+  passed qs make t front us p d =
+      record {
+        end = d.end;
+        parts = more p.part d.parts;
+        tree = d.tree;
+        spell = λ ts.
+            more_spells {n = p.stop} {mid = us ++ (d.end ++ ts)} (rw append_assoc (p.spells (us ++ (d.end ++ ts)))) (d.spell ts);
+        means = rw p.means d.means;
+      }
 
-  pub passed_many : {s q : L.Sort} (make : List (L.Tree q) → L.Tree s) (t : L.Tree q) (front us : List PlacedToken) → Whole L q t front → CompletesAll s (places q) (λ xs. make (t ∷ xs)) us → CompletesAll s (places q) make (front ++ us)
-  passed_many make t front us p d = record { end = d.end; parts = more p.part d.parts; tree = d.tree; spell = λ ts. more_spells {n = p.stop} {mid = us ++ (d.end ++ ts)} (rw append_assoc (p.spells (us ++ (d.end ++ ts)))) (d.spell ts); means = rw p.means d.means }
+  pub passed_many : {s q : L.Sort} (make : List (L.Tree q) → L.Tree s) (t : L.Tree q) (front us : List PlacedToken) → Whole L q t front
+      → CompletesAll s (places q) (λ xs. make (t ∷ xs)) us → CompletesAll s (places q) make (front ++ us)
+  passed_many make t front us p d =
+      record {
+        end = d.end;
+        parts = more p.part d.parts;
+        tree = d.tree;
+        spell = λ ts.
+            more_spells {n = p.stop} {mid = us ++ (d.end ++ ts)} (rw append_assoc (p.spells (us ++ (d.end ++ ts)))) (d.spell ts);
+        means = rw p.means d.means;
+      }
 
-  pub completes_form : (s : L.Sort) (n m : ℕ) (w : List ℕ) (r : Row L.Sort L.Tree (L.Tree s)) (us : List PlacedToken) → L.row_at s w ≡ Some r → CompletesAll s r.takes r.makes us → Completes L s ((n, opening) ∷ (m, word w) ∷ us)
-  completes_form s n m w r us a d = record { end = d.end ++ (0, closing) ∷ []; stop = 1; part = form w d.parts; tree = d.tree; spells = λ ts. form_spells {k = 0} (rw append_assoc (d.spell ((0, closing) ∷ ts))); means = rw a d.means }
+  pub completes_form : (s : L.Sort) (n m : ℕ) (w : List ℕ) (r : Row L.Sort L.Tree (L.Tree s)) (us : List PlacedToken) → L.row_at s w ≡ Some r
+      → CompletesAll s r.takes r.makes us → Completes L s ((n, opening) ∷ (m, word w) ∷ us)
+  completes_form s n m w r us a d =
+      record {
+        end = d.end ++ (0, closing) ∷ [];
+        stop = 1;
+        part = form w d.parts;
+        tree = d.tree;
+        spells = λ ts.
+            form_spells {k = 0} (rw append_assoc (d.spell ((0, closing) ∷ ts)));
+        means = rw a d.means;
+      }
 
-  pub misfit_form : (room : ℕ) (s : L.Sort) (n m : ℕ) (w : List ℕ) (r : Row L.Sort L.Tree (L.Tree s)) (us : List PlacedToken) (x : PlacedToken) (e : ExprTextFault) → L.has_form s ≡ true → L.row_at s w ≡ Some r → MisfitIn room r.takes us x e → Misfit L (suc room) s ((n, opening) ∷ (m, word w) ∷ us) x e
-  misfit_form room s n m w r us x e f a i = record { next = i.next; opened = suc i.opened; left = i.left; counts = let c : i.opened + i.left ≡ room = i.counts in omega arith; leads = in_form f a i.leads; called = i.called }
+  pub misfit_form : (room : ℕ) (s : L.Sort) (n m : ℕ) (w : List ℕ) (r : Row L.Sort L.Tree (L.Tree s)) (us : List PlacedToken) (x : PlacedToken)
+      (e : ExprTextFault) → L.has_form s ≡ true → L.row_at s w ≡ Some r → MisfitIn room r.takes us x e
+      → Misfit L (suc room) s ((n, opening) ∷ (m, word w) ∷ us) x e
+  misfit_form room s n m w r us x e f a i = record {
+    next = i.next;
+    opened = suc i.opened;
+    left = i.left;
+    counts =
+        let c : i.opened + i.left ≡ room = i.counts in omega arith;
+    leads = in_form f a i.leads;
+    called = i.called;
+  }
 
-  pub misfit_part : (room : ℕ) (q : L.Sort) (qs : Places L.Sort) (us : List PlacedToken) (x : PlacedToken) (e : ExprTextFault) → Misfit L room q us x e → MisfitIn room (place q qs) us x e
+  pub misfit_part : (room : ℕ) (q : L.Sort) (qs : Places L.Sort) (us : List PlacedToken) (x : PlacedToken) (e : ExprTextFault) → Misfit L room q us x e
+      → MisfitIn room (place q qs) us x e
   misfit_part room q qs us x e i = record { next = i.next; opened = i.opened; left = i.left; counts = i.counts; leads = in_part i.leads; called = i.called }
 
-  pub misfit_item : (room : ℕ) (q : L.Sort) (us : List PlacedToken) (x : PlacedToken) (e : ExprTextFault) → Misfit L room q us x e → MisfitIn room (places q) us x e
+  pub misfit_item : (room : ℕ) (q : L.Sort) (us : List PlacedToken) (x : PlacedToken) (e : ExprTextFault) → Misfit L room q us x e
+      → MisfitIn room (places q) us x e
   misfit_item room q us x e i = record { next = i.next; opened = i.opened; left = i.left; counts = i.counts; leads = in_item i.leads; called = i.called }
 
-  pub misfit_behind : (room : ℕ) (q : L.Sort) (qs : Places L.Sort) (t : L.Tree q) (front us : List PlacedToken) (x : PlacedToken) (e : ExprTextFault) → Whole L q t front → MisfitIn room qs us x e → MisfitIn room (place q qs) (front ++ us) x e
-  misfit_behind room q qs t front us x e p i = record { next = i.next; opened = i.opened; left = i.left; counts = i.counts; leads = behind p i.leads; called = i.called }
+  pub misfit_behind : (room : ℕ) (q : L.Sort) (qs : Places L.Sort) (t : L.Tree q) (front us : List PlacedToken) (x : PlacedToken) (e : ExprTextFault)
+      → Whole L q t front → MisfitIn room qs us x e → MisfitIn room (place q qs) (front ++ us) x e
+  misfit_behind room q qs t front us x e p i =
+      record { next = i.next; opened = i.opened; left = i.left; counts = i.counts; leads = behind p i.leads; called = i.called }
 
-  pub misfit_behind_item : (room : ℕ) (q : L.Sort) (t : L.Tree q) (front us : List PlacedToken) (x : PlacedToken) (e : ExprTextFault) → Whole L q t front → MisfitIn room (places q) us x e → MisfitIn room (places q) (front ++ us) x e
-  misfit_behind_item room q t front us x e p i = record { next = i.next; opened = i.opened; left = i.left; counts = i.counts; leads = behind_item p i.leads; called = i.called }
+  pub misfit_behind_item : (room : ℕ) (q : L.Sort) (t : L.Tree q) (front us : List PlacedToken) (x : PlacedToken) (e : ExprTextFault) → Whole L q t front
+      → MisfitIn room (places q) us x e → MisfitIn room (places q) (front ++ us) x e
+  misfit_behind_item room q t front us x e p i =
+      record { next = i.next; opened = i.opened; left = i.left; counts = i.counts; leads = behind_item p i.leads; called = i.called }
 
   -- what the reader calls a token that fits nowhere
   unfit_called : (room : ℕ) (x : PlacedToken) → unfit_token room x ≡ fault_at L room x None
@@ -72,7 +133,8 @@ module _ (L : Language) where
   closing_called zero n q = refl
   closing_called (suc room) n q = refl
 
-  word_called : (room n : ℕ) (w : List ℕ) (q : L.Sort) (b : Bool) → (L.takes_number q && is_number_word w) ≡ b → (if b then Number n else Syntax n) ≡ fault_at L room (n, word w) (Some q)
+  word_called : (room n : ℕ) (w : List ℕ) (q : L.Sort) (b : Bool) → (L.takes_number q && is_number_word w) ≡ b
+      → (if b then Number n else Syntax n) ≡ fault_at L room (n, word w) (Some q)
   word_called zero n w q b e = ap (λ c. if c then Number n else Syntax n) (sym e)
   word_called (suc room) n w q b e = ap (λ c. if c then Number n else Syntax n) (sym e)
 
@@ -90,7 +152,8 @@ module _ (L : Language) where
   at_place : (room : ℕ) (s : L.Sort) (x : PlacedToken) (e : ExprTextFault) → e ≡ fault_at L room x (Some s) → Misfit L room s [] x e
   at_place room s x e c = record { next = Some s; opened = 0; left = room; counts = omega arith; leads = at_tree; called = c }
 
-  pub misfit_word : (room : ℕ) (s : L.Sort) (n : ℕ) (w : List ℕ) (b : Bool) → (L.takes_number s && is_number_word w) ≡ b → Misfit L room s [] (n, word w) (if b then Number n else Syntax n)
+  pub misfit_word : (room : ℕ) (s : L.Sort) (n : ℕ) (w : List ℕ) (b : Bool) → (L.takes_number s && is_number_word w) ≡ b
+      → Misfit L room s [] (n, word w) (if b then Number n else Syntax n)
   misfit_word room s n w b e = at_place room s (n, word w) _ (word_called room n w s b e)
 
   pub misfit_closing : (room : ℕ) (s : L.Sort) (n : ℕ) → Misfit L room s [] (n, closing) (Syntax n)

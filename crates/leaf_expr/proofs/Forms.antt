@@ -12,7 +12,8 @@ hit : (w : List ℕ) (xs ys : Rows) (r : Row Sort Tree Expression) → row_among
 hit w [] ys r e = absurd (cc)
 hit w (x ∷ xs) ys r e = go (bytes_eq w x.name) (hit w xs ys r) e
   where
-    go : (b : Bool) → (row_among w xs ≡ Some r → row_among w (xs ++ ys) ≡ Some r) → (if b then Some x else row_among w xs) ≡ Some r → (if b then Some x else row_among w (xs ++ ys)) ≡ Some r
+    go : (b : Bool) → (row_among w xs ≡ Some r → row_among w (xs ++ ys) ≡ Some r) → (if b then Some x else row_among w xs) ≡ Some r
+        → (if b then Some x else row_among w (xs ++ ys)) ≡ Some r
     go true f p = p
     go false f p = f p
 
@@ -20,7 +21,8 @@ miss : (w : List ℕ) (xs ys : Rows) → row_among w xs ≡ None → row_among w
 miss w [] ys e = refl
 miss w (x ∷ xs) ys e = go (bytes_eq w x.name) (miss w xs ys) e
   where
-    go : (b : Bool) → (row_among w xs ≡ None → row_among w (xs ++ ys) ≡ row_among w ys) → (if b then Some x else row_among w xs) ≡ None → (if b then Some x else row_among w (xs ++ ys)) ≡ row_among w ys
+    go : (b : Bool) → (row_among w xs ≡ None → row_among w (xs ++ ys) ≡ row_among w ys) → (if b then Some x else row_among w xs) ≡ None
+        → (if b then Some x else row_among w (xs ++ ys)) ≡ row_among w ys
     go true f p = absurd (cc)
     go false f p = f p
 

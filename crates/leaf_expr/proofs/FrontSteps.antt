@@ -50,7 +50,8 @@ module _ (L : Language) (size : ℕ) where
   front_word zero s ((m, opening) ∷ ts) e = absurd (cc)
   front_word (suc room) s ((m, opening) ∷ ts) e = no_opening (sym (ok_same _ _ e))
 
-  pub front_refused : (x : ExprTextFault) (room : ℕ) (s : L.Sort) (ts : List PlacedToken) → Refuses x (read_front size room ts) → Refuses x (read L size room s ts)
+  pub front_refused : (x : ExprTextFault) (room : ℕ) (s : L.Sort) (ts : List PlacedToken) → Refuses x (read_front size room ts)
+      → Refuses x (read L size room s ts)
   front_refused x room s [] p = refused_same _ _ x _ p
   front_refused x room s ((m, word v) ∷ ts) p = refused_ok x _ _ p
   front_refused x room s ((m, closing) ∷ ts) p = refused_same _ _ x _ p
@@ -63,7 +64,8 @@ module _ (L : Language) (s : L.Sort) {X : Type 0} (view : X → L.Tree s × ℕ 
   pub in_form : {start : ℕ} → L.has_form s ≡ true → front ≡ F.Form start → front_from text room at ≡ Ok (front_left text front) →
       Gives view r (read_form L (length text) (read L (length text) (room - 1)) (room - 1) s (tokens_from (start + 1) text)) →
       Gives view r (read L (length text) room s (tokens_from at text))
-  in_form f e p g = given view r (front_form L (length text) room s (tokens_from at text) f (subst (λ z. front_from text room at ≡ Ok (front_left text z)) e p)) g
+  in_form f e p g = given view r (front_form L (length text) room s (tokens_from at text) f (subst (λ z. front_from text room at ≡ Ok (front_left text z)) e p))
+      g
 
   pub in_word : {start end : ℕ} → front ≡ F.Word start end → front_from text room at ≡ Ok (front_left text front) →
       Gives view r (word_read start (slice_range text start end) (tokens_from end text) (L.word_at s (slice_range text start end))) →

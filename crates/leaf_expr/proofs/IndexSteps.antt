@@ -19,12 +19,14 @@ clip misspelt = misspelt
 clip unfit = unfit
 
 -- both read a number word, or neither does
-alike : (a b c : Bool) (z : ℤ) (n : ℕ) → (if a then (if b then reads z else misspelt) else unfit) ≡ unfit → (if a then (if c then reads n else misspelt) else unfit) ≡ unfit
+alike : (a b c : Bool) (z : ℤ) (n : ℕ) → (if a then (if b then reads z else misspelt) else unfit) ≡ unfit
+    → (if a then (if c then reads n else misspelt) else unfit) ≡ unfit
 alike true true c z n e = absurd (cc)
 alike true false c z n e = absurd (cc)
 alike false b c z n e = refl
 
-alike_back : (a b c : Bool) (z : ℤ) (n : ℕ) → (if a then (if c then reads n else misspelt) else unfit) ≡ unfit → (if a then (if b then reads z else misspelt) else unfit) ≡ unfit
+alike_back : (a b c : Bool) (z : ℤ) (n : ℕ) → (if a then (if c then reads n else misspelt) else unfit) ≡ unfit
+    → (if a then (if b then reads z else misspelt) else unfit) ≡ unfit
 alike_back true b true z n e = absurd (cc)
 alike_back true b false z n e = absurd (cc)
 alike_back false b c z n e = refl
@@ -57,7 +59,8 @@ as_index : (w : List ℕ) → word_at index_sort w ≡ natural_at 0 65535 w
 unfolding word_at words
 as_index w = refl
 
-pub index_refused : (w : List ℕ) (e : WordFault) → word_reading {X = ℤ} (λ n. n) (Err e) ≡ integer_at w → word_reading {X = ℕ} (λ k. k) (Err e) ≡ word_at index_sort w
+pub index_refused : (w : List ℕ) (e : WordFault) → word_reading {X = ℤ} (λ n. n) (Err e) ≡ integer_at w
+    → word_reading {X = ℕ} (λ k. k) (Err e) ≡ word_at index_sort w
 index_refused w W.Misspelt e = sym (as_index w ∙ clipped w ∙ ap clip (sym e))
 index_refused w W.Unfit e = sym (as_index w ∙ clipped w ∙ ap clip (sym e))
 

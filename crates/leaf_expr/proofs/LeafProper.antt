@@ -48,25 +48,48 @@ mapped_unfit f unfit e = refl
 spoilt : (s : Sort) (w : List ℕ) → word_at s w ≡ misspelt → (takes_number s && is_number_word w) ≡ true
 unfolding word_at
 spoilt type_sort w e = absurd (let i : number_at type_sort w ≡ misspelt = among_unread w (words type_sort) _ misspelt (λ x q. cc) e in cc)
-spoilt expression_sort w e = chosen_misspelt (is_number_word w) _ _ (mapped_misspelt int_expr (integer_at w) (among_unread w (words expression_sort) _ misspelt (λ x q. cc) e))
+spoilt expression_sort w e = chosen_misspelt (is_number_word w) _ _
+    (mapped_misspelt int_expr (integer_at w) (among_unread w (words expression_sort) _ misspelt (λ x q. cc) e))
 spoilt index_sort w e = chosen_misspelt (is_number_word w) _ _ (among_unread w (words index_sort) _ misspelt (λ x q. cc) e)
 
 foreign : (s : Sort) (w : List ℕ) → word_at s w ≡ unfit → (takes_number s && is_number_word w) ≡ false
 unfolding word_at
 foreign type_sort w e = refl
-foreign expression_sort w e = chosen_unfit (is_number_word w) _ _ (mapped_unfit int_expr (integer_at w) (among_unread w (words expression_sort) _ unfit (λ x q. cc) e))
+foreign expression_sort w e = chosen_unfit (is_number_word w) _ _
+    (mapped_unfit int_expr (integer_at w) (among_unread w (words expression_sort) _ unfit (λ x q. cc) e))
 foreign index_sort w e = chosen_unfit (is_number_word w) _ _ (among_unread w (words index_sort) _ unfit (λ x q. cc) e)
 
 filler : (s : Sort) → Completes leaf s []
 unfolding word_at words row_at rows
-filler type_sort = record { end = (0, word (codes "Unit")) ∷ []; stop = 4; part = atom (codes "Unit"); tree = unit_ty; spells = λ ts. atom_spells; means = refl }
+filler type_sort =
+    record { end = (0, word (codes "Unit")) ∷ []; stop = 4; part = atom (codes "Unit"); tree = unit_ty; spells = λ ts. atom_spells; means = refl }
 filler expression_sort = record { end = (0, word (codes "x")) ∷ []; stop = 1; part = atom (codes "x"); tree = input; spells = λ ts. atom_spells; means = refl }
 filler index_sort = record { end = (0, word (codes "1")) ∷ []; stop = 1; part = atom (codes "1"); tree = 1; spells = λ ts. atom_spells; means = refl }
 
 opener : (s : Sort) (n : ℕ) → has_form s ≡ true → Completes leaf s ((n, opening) ∷ [])
 unfolding word_at words row_at rows
-opener type_sort n h = record { end = (0, word (codes "Event")) ∷ (0, word (codes "Unit")) ∷ (0, closing) ∷ []; stop = 1; part = form (codes "Event") (more (atom (codes "Unit")) last); tree = event_ty unit_ty; spells = λ ts. form_spells (more_spells {n = 4} atom_spells last_spells); means = refl }
-opener expression_sort n h = record { end = (0, word (codes "fst")) ∷ (0, word (codes "x")) ∷ (0, closing) ∷ []; stop = 1; part = form (codes "fst") (more (atom (codes "x")) last); tree = fst input; spells = λ ts. form_spells (more_spells {n = 1} atom_spells last_spells); means = refl }
+opener type_sort n h =
+    record {
+      end = (0, word (codes "Event")) ∷ (0, word (codes "Unit")) ∷ (0, closing)
+          ∷ [];
+      stop = 1;
+      part = form (codes "Event") (more (atom (codes "Unit")) last);
+      tree = event_ty unit_ty;
+      spells = λ ts.
+          form_spells (more_spells {n = 4} atom_spells last_spells);
+      means = refl;
+    }
+opener expression_sort n h =
+    record {
+      end = (0, word (codes "fst")) ∷ (0, word (codes "x")) ∷ (0, closing)
+          ∷ [];
+      stop = 1;
+      part = form (codes "fst") (more (atom (codes "x")) last);
+      tree = fst input;
+      spells = λ ts.
+          form_spells (more_spells {n = 1} atom_spells last_spells);
+      means = refl;
+    }
 opener index_sort n h = absurd (cc)
 
 pub leaf_proper : Proper leaf

@@ -23,9 +23,14 @@ read_back false b x y e = absurd (cc)
 
 pub natural_spelled : (low high n : ℕ) → low ≤ n → n ≤ high → n < 2 ^ 64 → natural_at low high (decimal n) ≡ reads n
 natural_spelled low high n l h s =
-    let d : (is_minus (decimal n) ≡ false) × (is_number_word (decimal n) ≡ true) × (is_well_spelt (decimal n) ≡ true) × (magnitude (decimal n) ≡ n) = plain_digits (decimal n) n (decimal_has n s) in
-    let r : is_between low high (decimal n) ≡ true = both (not (is_minus (decimal n)) && nat_le low (magnitude (decimal n))) (nat_le (magnitude (decimal n)) high) (both (not (is_minus (decimal n))) (nat_le low (magnitude (decimal n))) (ap not d.0) (le-leb low (magnitude (decimal n)) (rw d.3 l))) (le-leb (magnitude (decimal n)) high (rw d.3 h)) in
-    read_if (is_number_word (decimal n)) (is_well_spelt (decimal n) && is_between low high (decimal n)) (magnitude (decimal n)) d.1 (both (is_well_spelt (decimal n)) (is_between low high (decimal n)) d.2 r) ∙ ap reads d.3
+    let d : (is_minus (decimal n) ≡ false) × (is_number_word (decimal n) ≡ true) × (is_well_spelt (decimal n) ≡ true)
+    × (magnitude (decimal n) ≡ n) = plain_digits (decimal n) n (decimal_has n s) in
+    let r : is_between low high (decimal n) ≡ true =
+    both (not (is_minus (decimal n)) && nat_le low (magnitude (decimal n))) (nat_le (magnitude (decimal n)) high)
+    (both (not (is_minus (decimal n))) (nat_le low (magnitude (decimal n))) (ap not d.0) (le-leb low (magnitude (decimal n)) (rw d.3 l)))
+    (le-leb (magnitude (decimal n)) high (rw d.3 h)) in
+    read_if (is_number_word (decimal n)) (is_well_spelt (decimal n) && is_between low high (decimal n)) (magnitude (decimal n)) d.1
+    (both (is_well_spelt (decimal n)) (is_between low high (decimal n)) d.2 r) ∙ ap reads d.3
 
 pub integer_spelled : (z : ℤ) → FitsSigned w64 z → integer_at (signed_decimal z) ≡ reads z
 integer_spelled z f =
@@ -36,9 +41,11 @@ integer_spelled z f =
 
 pub natural_back : (low high n : ℕ) (w : List ℕ) → high < 2 ^ 64 → natural_at low high w ≡ reads n → (low ≤ n) × (n ≤ high) × (w ≡ decimal n)
 natural_back low high n w h e =
-    let a : (is_number_word w ≡ true) × ((is_well_spelt w && is_between low high w) ≡ true) × (magnitude w ≡ n) = read_back (is_number_word w) (is_well_spelt w && is_between low high w) (magnitude w) n e in
+    let a : (is_number_word w ≡ true) × ((is_well_spelt w && is_between low high w) ≡ true)
+    × (magnitude w ≡ n) = read_back (is_number_word w) (is_well_spelt w && is_between low high w) (magnitude w) n e in
     let b : (is_well_spelt w ≡ true) × (is_between low high w ≡ true) = parts_of (is_well_spelt w) (is_between low high w) a.1 in
-    let c : ((not (is_minus w) && nat_le low (magnitude w)) ≡ true) × (nat_le (magnitude w) high ≡ true) = parts_of (not (is_minus w) && nat_le low (magnitude w)) (nat_le (magnitude w) high) b.1 in
+    let c : ((not (is_minus w) && nat_le low (magnitude w)) ≡ true)
+    × (nat_le (magnitude w) high ≡ true) = parts_of (not (is_minus w) && nat_le low (magnitude w)) (nat_le (magnitude w) high) b.1 in
     let d : (not (is_minus w) ≡ true) × (nat_le low (magnitude w) ≡ true) = parts_of (not (is_minus w)) (nat_le low (magnitude w)) c.0 in
     let l : low ≤ magnitude w = leb-true low (magnitude w) d.1 in
     let u : magnitude w ≤ high = leb-true (magnitude w) high c.1 in
@@ -50,7 +57,8 @@ natural_back low high n w h e =
 
 pub integer_back : (z : ℤ) (w : List ℕ) → integer_at w ≡ reads z → FitsSigned w64 z × (w ≡ signed_decimal z)
 integer_back z w e =
-    let a : (is_number_word w ≡ true) × ((is_well_spelt w && is_in_64 w) ≡ true) × (number_of w ≡ z) = read_back (is_number_word w) (is_well_spelt w && is_in_64 w) (number_of w) z e in
+    let a : (is_number_word w ≡ true) × ((is_well_spelt w && is_in_64 w) ≡ true)
+    × (number_of w ≡ z) = read_back (is_number_word w) (is_well_spelt w && is_in_64 w) (number_of w) z e in
     let b : (is_well_spelt w ≡ true) × (is_in_64 w ≡ true) = parts_of (is_well_spelt w) (is_in_64 w) a.1 in
     subst (λ x. FitsSigned w64 x × (w ≡ signed_decimal x)) a.2 (spelled.integer_back w (both (is_number_word w) (is_well_spelt w) a.0 b.0) b.1)
 
@@ -68,7 +76,8 @@ digit_is_word_byte d l h =
 
 digits_are_word_bytes : (ds : List ℕ) → all_ascii_digits ds ≡ true → all_word_bytes ds ≡ true
 digits_are_word_bytes [] e = refl
-digits_are_word_bytes (d ∷ ds) e = let i = tells_all_ascii_digits.parts d ds e in both (is_word_byte d) (all_word_bytes ds) (digit_is_word_byte d (omega (arith, i.0)) (omega (arith, i.0))) (digits_are_word_bytes ds i.1)
+digits_are_word_bytes (d ∷ ds) e = let i = tells_all_ascii_digits.parts d ds e in
+    both (is_word_byte d) (all_word_bytes ds) (digit_is_word_byte d (omega (arith, i.0)) (omega (arith, i.0))) (digits_are_word_bytes ds i.1)
 
 nonempty_word : (ds : List ℕ) → 0 < length ds → all_word_bytes ds ≡ true → is_word ds ≡ true
 nonempty_word [] l e = absurd (omega arith)

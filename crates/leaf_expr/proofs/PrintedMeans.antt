@@ -38,7 +38,8 @@ not_among : (z : ℤ) → FitsSigned w64 z → word_at expression_sort (signed_d
 unfolding word_at
 not_among z f =
     let h : (d : ℕ) × (es : List ℕ) × (signed_decimal z ≡ d ∷ es) × (d ≤ 57) = signed_head z f in
-    ap (λ w. word_among w (words expression_sort) (number_at expression_sort (signed_decimal z))) h.2 ∙ low_word h.0 h.1 (number_at expression_sort (signed_decimal z)) h.3 ∙ ap (map_reading int_expr) (integer_spelled z f)
+    ap (λ w. word_among w (words expression_sort) (number_at expression_sort (signed_decimal z))) h.2
+    ∙ low_word h.0 h.1 (number_at expression_sort (signed_decimal z)) h.3 ∙ ap (map_reading int_expr) (integer_spelled z f)
 
 -- the elements of a list expression as a list
 items : Expressions → List Expression

@@ -16,41 +16,63 @@ use Rattle.leaf_expr.specs.declared.text_fault.ExprTextFault.{ExprTextFault}
 use Rattle.leaf_expr.specs.declared.text_fault.ExprTextFault.TheVariants.{Syntax, Number, TooLong}
 
 mutual
-  pub framed : (p : Sexpr) (ts : List PlacedToken) (n : ℕ) (rest : List PlacedToken) → Spells p ts n rest → (front : List PlacedToken) × (ts ≡ front ++ rest) × ((more : List PlacedToken) → Spells p (front ++ more) n more)
+  pub framed : (p : Sexpr) (ts : List PlacedToken) (n : ℕ) (rest : List PlacedToken) → Spells p ts n rest
+      → (front : List PlacedToken) × (ts ≡ front ++ rest) × ((more : List PlacedToken) → Spells p (front ++ more) n more)
   framed p ts n' rest (atom_spells {n = n} {w = w}) = ((n, word w) ∷ [], refl, λ us. atom_spells)
   framed p ts n' rest (form_spells {n = n} {m = m} {k = k} {w = w} {ps = ps} {ts = ts'} h) =
-      let i : (front : List PlacedToken) × (ts' ≡ front ++ (k, closing) ∷ rest) × ((us : List PlacedToken) → SpellAll ps (front ++ us) us) = all_framed ps ts' _ h in
-      ((n, opening) ∷ (m, word w) ∷ (i.0 ++ (k, closing) ∷ []), ap (λ us. (n, opening) ∷ (m, word w) ∷ us) (i.1 ∙ sym (append_assoc i.0 ((k, closing) ∷ []) rest)), λ us. form_spells {k = k} (rw append_assoc (i.2 ((k, closing) ∷ us))))
+      let i : (front : List PlacedToken) × (ts' ≡ front ++ (k, closing) ∷ rest)
+      × ((us : List PlacedToken) → SpellAll ps (front ++ us) us) = all_framed ps ts' _ h in (
+        (n, opening) ∷ (m, word w)
+            ∷ (i.0 ++ (k, closing) ∷ []),
+        ap (λ us. (n, opening) ∷ (m, word w) ∷ us) (i.1 ∙ sym (append_assoc i.0 ((k, closing) ∷ []) rest)),
+        λ us.
+            form_spells {k = k} (rw append_assoc (i.2 ((k, closing) ∷ us))),
+      )
 
-  pub all_framed : (ps : Sexprs) (ts rest : List PlacedToken) → SpellAll ps ts rest → (front : List PlacedToken) × (ts ≡ front ++ rest) × ((more : List PlacedToken) → SpellAll ps (front ++ more) more)
+  pub all_framed : (ps : Sexprs) (ts rest : List PlacedToken) → SpellAll ps ts rest
+      → (front : List PlacedToken) × (ts ≡ front ++ rest) × ((more : List PlacedToken) → SpellAll ps (front ++ more) more)
   all_framed ps ts rest last_spells = ([], refl, λ us. last_spells)
   all_framed ps ts rest (more_spells {n = n} {p = p} {ps = ps'} {mid = mid} h hs) =
       let i : (front : List PlacedToken) × (ts ≡ front ++ mid) × ((us : List PlacedToken) → Spells p (front ++ us) n us) = framed p ts n mid h in
-      let j : (front : List PlacedToken) × (mid ≡ front ++ rest) × ((us : List PlacedToken) → SpellAll ps' (front ++ us) us) = all_framed ps' mid rest hs in
-      (i.0 ++ j.0, i.1 ∙ ap (λ us. i.0 ++ us) j.1 ∙ sym (append_assoc i.0 j.0 rest), λ us. more_spells {n = n} {mid = j.0 ++ us} (rw append_assoc (i.2 (j.0 ++ us))) (j.2 us))
+      let j : (front : List PlacedToken) × (mid ≡ front ++ rest) × ((us : List PlacedToken) → SpellAll ps' (front ++ us) us) = all_framed ps' mid rest hs in (
+        i.0 ++ j.0,
+        i.1 ∙ ap (λ us. i.0 ++ us) j.1
+            ∙ sym (append_assoc i.0 j.0 rest),
+        λ us. more_spells {n = n} {mid = j.0 ++ us} (rw append_assoc (i.2 (j.0 ++ us))) (j.2 us),
+      )
 
 -- g, given a count that is no less than the tokens, stops at a token of ts with e, or at their end; C holds of
 -- what comes before, and P of that, the token and e
-pub data Halts {T : Type 0} (size : ℕ) (C : List PlacedToken → Type 0) (P : List PlacedToken → PlacedToken → ExprTextFault → Type 0) (g : ℕ → List PlacedToken → Read T) (ts : List PlacedToken) (e : ExprTextFault) : Type 0 where
+pub data Halts {T : Type 0} (size : ℕ) (C : List PlacedToken → Type 0) (P : List PlacedToken → PlacedToken → ExprTextFault → Type 0) (g : ℕ → List PlacedToken
+    → Read T) (ts : List PlacedToken) (e : ExprTextFault) : Type 0 where
   ended : e ≡ Syntax size → C ts → Halts size C P g ts e
-  halted : (before : List PlacedToken) (x : PlacedToken) (after : List PlacedToken) → ts ≡ before ++ x ∷ after → C before → P before x e → ((us : List PlacedToken) (n : ℕ) → length (before ++ x ∷ us) ≤ n → g n (before ++ x ∷ us) ≡ Err e) → Halts size C P g ts e
+  halted : (before : List PlacedToken) (x : PlacedToken) (after : List PlacedToken) → ts ≡ before ++ x ∷ after → C before → P before x e
+      → ((us : List PlacedToken) (n : ℕ) → length (before ++ x ∷ us) ≤ n → g n (before ++ x ∷ us) ≡ Err e) → Halts size C P g ts e
 
-halts_more : {T : Type 0} (size : ℕ) (C D : List PlacedToken → Type 0) (P Q : List PlacedToken → PlacedToken → ExprTextFault → Type 0) (g : ℕ → List PlacedToken → Read T) (ts : List PlacedToken) (e : ExprTextFault) → ((us : List PlacedToken) → C us → D us) → ((us : List PlacedToken) (x : PlacedToken) (d : ExprTextFault) → P us x d → Q us x d) → Halts size C P g ts e → Halts size D Q g ts e
+halts_more : {T : Type 0} (size : ℕ) (C D : List PlacedToken → Type 0) (P Q : List PlacedToken → PlacedToken → ExprTextFault → Type 0) (g : ℕ → List PlacedToken
+    → Read T) (ts : List PlacedToken) (e : ExprTextFault) → ((us : List PlacedToken) → C us → D us)
+    → ((us : List PlacedToken) (x : PlacedToken) (d : ExprTextFault) → P us x d → Q us x d) → Halts size C P g ts e → Halts size D Q g ts e
 halts_more size C D P Q g ts e f f' (ended a v) = ended a (f ts v)
 halts_more size C D P Q g ts e f f' (halted before x after a v p h) = halted before x after a (f before v) (f' before x e p) h
 
 pub err_is : {A : Type 0} {e f : ExprTextFault} → ◌≡◌ {A = Result A ExprTextFault} (Err e) (Err f) → e ≡ f
 err_is p = cc
 
-starts : (y : PlacedToken) (ts before : List PlacedToken) (x : PlacedToken) (after us : List PlacedToken) → y ∷ ts ≡ before ++ x ∷ after → (vs : List PlacedToken) × (before ++ x ∷ us ≡ y ∷ vs)
+starts : (y : PlacedToken) (ts before : List PlacedToken) (x : PlacedToken) (after us : List PlacedToken) → y ∷ ts ≡ before ++ x ∷ after
+    → (vs : List PlacedToken) × (before ++ x ∷ us ≡ y ∷ vs)
 starts y ts [] x after us e = let q : x ≡ y = cc in (us, ap (λ z. z ∷ us) q)
 starts y ts (b ∷ before) x after us e = let q : b ≡ y = cc in (before ++ x ∷ us, ap (λ z. z ∷ before ++ x ∷ us) q)
 
-halts_behind : {T : Type 0} (size : ℕ) (C : List PlacedToken → Type 0) (P : List PlacedToken → PlacedToken → ExprTextFault → Type 0) (y : PlacedToken) (ts : List PlacedToken) (g h : List PlacedToken → Read T) (e : ExprTextFault) → ((us : List PlacedToken) → g (y ∷ us) ≡ h us) → Halts size (λ us. C (y ∷ us)) (λ us. P (y ∷ us)) (λ n. h) ts e → Halts size C P (λ n. g) (y ∷ ts) e
+halts_behind : {T : Type 0} (size : ℕ) (C : List PlacedToken → Type 0) (P : List PlacedToken → PlacedToken → ExprTextFault
+    → Type 0) (y : PlacedToken) (ts : List PlacedToken) (g h : List PlacedToken → Read T) (e : ExprTextFault) → ((us : List PlacedToken) → g (y ∷ us) ≡ h us)
+    → Halts size (λ us. C (y ∷ us)) (λ us. P (y ∷ us)) (λ n. h) ts e → Halts size C P (λ n. g) (y ∷ ts) e
 halts_behind size C P y ts g h e p (ended a v) = ended a v
-halts_behind size C P y ts g h e p (halted before x after a d v q) = halted (y ∷ before) x after (ap (λ us. y ∷ us) a) d v (λ us n i. p (before ++ x ∷ us) ∙ q us n (omega arith))
+halts_behind size C P y ts g h e p (halted before x after a d v q) =
+    halted (y ∷ before) x after (ap (λ us. y ∷ us) a) d v (λ us n i. p (before ++ x ∷ us) ∙ q us n (omega arith))
 
-halts_here : {T : Type 0} (size : ℕ) (C : List PlacedToken → Type 0) (P : List PlacedToken → PlacedToken → ExprTextFault → Type 0) (y : PlacedToken) (ts : List PlacedToken) (g : ℕ → List PlacedToken → Read T) (e : ExprTextFault) → C [] → P [] y e → ((us : List PlacedToken) (n : ℕ) → 1 ≤ n → g n (y ∷ us) ≡ Err e) → Halts size C P g (y ∷ ts) e
+halts_here : {T : Type 0} (size : ℕ) (C : List PlacedToken → Type 0) (P : List PlacedToken → PlacedToken → ExprTextFault
+    → Type 0) (y : PlacedToken) (ts : List PlacedToken) (g : ℕ → List PlacedToken → Read T) (e : ExprTextFault) → C [] → P [] y e
+    → ((us : List PlacedToken) (n : ℕ) → 1 ≤ n → g n (y ∷ us) ≡ Err e) → Halts size C P g (y ∷ ts) e
 halts_here size C P y ts g e d v h = halted [] y ts refl d v (λ us n i. h us n (omega arith))
 
 counted : (a b n : ℕ) → 1 ≤ a → a + b ≤ n → b ≤ pred n
@@ -67,7 +89,14 @@ module _ (L : Language) where
     whole : Whole L q t front
 
   -- where the count for the rest is c of the count
-  halts_bind : {R : Type 0} (size : ℕ) (q : L.Sort) (C D : List PlacedToken → Type 0) (P Q : List PlacedToken → PlacedToken → ExprTextFault → Type 0) (g : List PlacedToken → Read (L.Tree q)) (k : ℕ → L.Tree q → List PlacedToken → Read R) (c : ℕ → ℕ) → ((a b n : ℕ) → 1 ≤ a → a + b ≤ n → b ≤ c n) → (ts : List PlacedToken) (e : ExprTextFault) (l : ℕ) → ((us : List PlacedToken) → C us → D us) → ((us : List PlacedToken) (x : PlacedToken) (d : ExprTextFault) → P us x d → Q us x d) → ((f : ExprTextFault) → g ts ≡ Err f → Halts size C P (λ n. g) ts f) → ((t : L.Tree q) (n : ℕ) (rest : List PlacedToken) → g ts ≡ Ok (t, n, rest) → (i : Fronts q g ts t n rest) × (k l t rest ≡ Err e → Halts size (λ us. D (i.front ++ us)) (λ us. Q (i.front ++ us)) (λ n. k n t) rest e)) → (g ts >>= (λ x. k l x.0 x.2)) ≡ Err e → Halts size D Q (λ n us. g us >>= (λ x. k (c n) x.0 x.2)) ts e
+  halts_bind : {R : Type 0} (size : ℕ) (q : L.Sort) (C D : List PlacedToken → Type 0) (P Q : List PlacedToken → PlacedToken → ExprTextFault
+      → Type 0) (g : List PlacedToken → Read (L.Tree q)) (k : ℕ → L.Tree q → List PlacedToken → Read R) (c : ℕ → ℕ)
+      → ((a b n : ℕ) → 1 ≤ a → a + b ≤ n → b ≤ c n) → (ts : List PlacedToken) (e : ExprTextFault) (l : ℕ) → ((us : List PlacedToken) → C us → D us)
+      → ((us : List PlacedToken) (x : PlacedToken) (d : ExprTextFault) → P us x d → Q us x d)
+      → ((f : ExprTextFault) → g ts ≡ Err f → Halts size C P (λ n. g) ts f)
+      → ((t : L.Tree q) (n : ℕ) (rest : List PlacedToken) → g ts ≡ Ok (t, n, rest)
+      → (i : Fronts q g ts t n rest) × (k l t rest ≡ Err e → Halts size (λ us. D (i.front ++ us)) (λ us. Q (i.front ++ us)) (λ n. k n t) rest e))
+      → (g ts >>= (λ x. k l x.0 x.2)) ≡ Err e → Halts size D Q (λ n us. g us >>= (λ x. k (c n) x.0 x.2)) ts e
   halts_bind {R = R} size q C D P Q g k c hc ts e l vw pq hg hk p = go (g ts) refl p
     where
       go : (r : Read (L.Tree q)) → g ts ≡ r → (r >>= (λ x. k l x.0 x.2)) ≡ Err e → Halts size D Q (λ n us. g us >>= (λ x. k (c n) x.0 x.2)) ts e
@@ -75,20 +104,31 @@ module _ (L : Language) where
         where
           stop : Halts size C P (λ n. g) ts f → f ≡ e → Halts size D Q (λ n us. g us >>= (λ x. k (c n) x.0 x.2)) ts e
           stop (ended a v) b = ended (sym b ∙ a) (vw ts v)
-          stop (halted before x after a d v h) b = halted before x after a (vw before d) (subst (Q before x) b (pq before x f v)) (λ us n i. rw (h us n i) (ap Err b))
+          stop (halted before x after a d v h) b = halted before x after a (vw before d) (subst (Q before x) b (pq before x f v))
+              (λ us n i. rw (h us n i) (ap Err b))
       go (Ok x) q' p' = stop (hk x.0 x.1 x.2 q').0 ((hk x.0 x.1 x.2 q').1 p')
         where
-          stop : (i : Fronts q g ts x.0 x.1 x.2) → Halts size (λ us. D (i.front ++ us)) (λ us. Q (i.front ++ us)) (λ n. k n x.0) x.2 e → Halts size D Q (λ n us. g us >>= (λ z. k (c n) z.0 z.2)) ts e
+          stop : (i : Fronts q g ts x.0 x.1 x.2) → Halts size (λ us. D (i.front ++ us)) (λ us. Q (i.front ++ us)) (λ n. k n x.0) x.2 e
+              → Halts size D Q (λ n us. g us >>= (λ z. k (c n) z.0 z.2)) ts e
           stop i (ended a v) = ended a (subst D (sym i.is) v)
-          stop i (halted before y after a d v h) = halted (i.front ++ before) y after (i.is ∙ ap (λ us. i.front ++ us) a ∙ sym (append_assoc i.front before (y ∷ after))) d v (λ us n l'.
-              rw append_assoc (rw (i.again (before ++ y ∷ us)) (h us (c n) (hc (length i.front) _ n i.some (omega (arith, length-append i.front before, length-append (i.front ++ before) (y ∷ us), length-append before (y ∷ us)))))))
+          stop i (halted before y after a d v h) = halted (i.front ++ before) y after (i.is ∙ ap (λ us. i.front ++ us) a
+              ∙ sym (append_assoc i.front before (y ∷ after))) d v (λ us n l'.
+              rw append_assoc
+              (rw (i.again (before ++ y ∷ us))
+              (h us (c n)
+              (hc (length i.front) _ n i.some
+              (omega (arith, length-append i.front before, length-append (i.front ++ before) (y ∷ us), length-append before (y ∷ us)))))))
 
-  read_all_on : {T R : Type 0} (size : ℕ) (reader : List PlacedToken → Read T) (n : ℕ) (make : List T → R) (m : ℕ) (k : Token) (ts : List PlacedToken) → closing ≢ k → read_all L size reader (suc n) make ((m, k) ∷ ts) ≡ (reader ((m, k) ∷ ts) >>= (λ x. read_all L size reader n (λ xs. make (x.0 ∷ xs)) x.2))
+  read_all_on : {T R : Type 0} (size : ℕ) (reader : List PlacedToken → Read T) (n : ℕ) (make : List T → R) (m : ℕ) (k : Token) (ts : List PlacedToken)
+      → closing ≢ k → read_all L size reader (suc n) make ((m, k) ∷ ts) ≡ (reader ((m, k) ∷ ts) >>= (λ x. read_all L size reader n (λ xs. make (x.0 ∷ xs)) x.2))
   read_all_on size reader n make m opening ts d = refl
   read_all_on size reader n make m closing ts d = absurd (d refl)
   read_all_on size reader n make m (word w) ts d = refl
 
-  halts_on : {T R : Type 0} (size : ℕ) (C : List PlacedToken → Type 0) (P : List PlacedToken → PlacedToken → ExprTextFault → Type 0) (reader : List PlacedToken → Read T) (make : List T → R) (m : ℕ) (k : Token) (ts : List PlacedToken) (e : ExprTextFault) → closing ≢ k → Halts size C P (λ n us. reader us >>= (λ x. read_all L size reader (pred n) (λ xs. make (x.0 ∷ xs)) x.2)) ((m, k) ∷ ts) e → Halts size C P (λ n. read_all L size reader n make) ((m, k) ∷ ts) e
+  halts_on : {T R : Type 0} (size : ℕ) (C : List PlacedToken → Type 0) (P : List PlacedToken → PlacedToken → ExprTextFault → Type 0) (reader : List PlacedToken
+      → Read T) (make : List T → R) (m : ℕ) (k : Token) (ts : List PlacedToken) (e : ExprTextFault) → closing ≢ k
+      → Halts size C P (λ n us. reader us >>= (λ x. read_all L size reader (pred n) (λ xs. make (x.0 ∷ xs)) x.2)) ((m, k) ∷ ts) e
+      → Halts size C P (λ n. read_all L size reader n make) ((m, k) ∷ ts) e
   halts_on size C P reader make m k ts e d (ended a v) = ended a v
   halts_on size C P reader make m k ts e d (halted before x after a b v h) = halted before x after a b v go
     where
@@ -100,16 +140,38 @@ module _ (L : Language) where
           rw v.1 (read_all_on size reader n make m k v.0 d ∙ (rw v.1 at r))
 
   module _ (proper : Proper L) where
-    module _ (size room : ℕ) (reader : (s : L.Sort) → List PlacedToken → Read (L.Tree s)) (hf : (s : L.Sort) (ts : List PlacedToken) (t : L.Tree s) (n : ℕ) (rest : List PlacedToken) → reader s ts ≡ Ok (t, n, rest) → Fronts s (reader s) ts t n rest) (he : (s : L.Sort) (ts : List PlacedToken) (e : ExprTextFault) → reader s ts ≡ Err e → Halts size (Completes L s) (Misfit L room s) (λ n. reader s) ts e) where
-      halts_next : (s q : L.Sort) (n : ℕ) (make : List (L.Tree q) → L.Tree s) (m : ℕ) (k : Token) (ts : List PlacedToken) (e : ExprTextFault) → closing ≢ k → length ((m, k) ∷ ts) ≤ suc n → ((make' : List (L.Tree q) → L.Tree s) (us : List PlacedToken) → read_all L size (reader q) n make' us ≡ Err e → length us ≤ n → Halts size (CompletesAll L s (places q) make') (MisfitIn L room (places q)) (λ c. read_all L size (reader q) c make') us e) → (reader q ((m, k) ∷ ts) >>= (λ x. read_all L size (reader q) n (λ xs. make (x.0 ∷ xs)) x.2)) ≡ Err e → Halts size (CompletesAll L s (places q) make) (MisfitIn L room (places q)) (λ c. read_all L size (reader q) c make) ((m, k) ∷ ts) e
-      halts_next s q n make m k ts e d l next p = halts_on size (CompletesAll L s (places q) make) (MisfitIn L room (places q)) (reader q) make m k ts e d (halts_bind size q (Completes L q) (CompletesAll L s (places q) make) (Misfit L room q) (MisfitIn L room (places q)) (reader q) (λ c t. read_all L size (reader q) c (λ xs. make (t ∷ xs))) pred counted ((m, k) ∷ ts) e n (λ us c. begun_many L make us c) (misfit_item L room q) (λ g. he q ((m, k) ∷ ts) g) step p)
+    module _ (size room : ℕ) (reader : (s : L.Sort) → List PlacedToken
+        → Read (L.Tree s)) (hf : (s : L.Sort) (ts : List PlacedToken) (t : L.Tree s) (n : ℕ) (rest : List PlacedToken) → reader s ts ≡ Ok (t, n, rest)
+        → Fronts s (reader s) ts t n rest) (he : (s : L.Sort) (ts : List PlacedToken) (e : ExprTextFault) → reader s ts ≡ Err e
+        → Halts size (Completes L s) (Misfit L room s) (λ n. reader s) ts e) where
+      halts_next : (s q : L.Sort) (n : ℕ) (make : List (L.Tree q) → L.Tree s) (m : ℕ) (k : Token) (ts : List PlacedToken) (e : ExprTextFault) → closing ≢ k
+          → length ((m, k) ∷ ts) ≤ suc n
+          → ((make' : List (L.Tree q) → L.Tree s) (us : List PlacedToken) → read_all L size (reader q) n make' us ≡ Err e → length us ≤ n
+          → Halts size (CompletesAll L s (places q) make') (MisfitIn L room (places q)) (λ c. read_all L size (reader q) c make') us e)
+          → (reader q ((m, k) ∷ ts) >>= (λ x. read_all L size (reader q) n (λ xs. make (x.0 ∷ xs)) x.2)) ≡ Err e
+          → Halts size (CompletesAll L s (places q) make) (MisfitIn L room (places q)) (λ c. read_all L size (reader q) c make) ((m, k) ∷ ts) e
+      halts_next s q n make m k ts e d l next p = halts_on size (CompletesAll L s (places q) make) (MisfitIn L room (places q)) (reader q) make m k ts e d
+          (halts_bind size q (Completes L q) (CompletesAll L s (places q) make) (Misfit L room q) (MisfitIn L room (places q)) (reader q)
+          (λ c t. read_all L size (reader q) c (λ xs. make (t ∷ xs))) pred counted ((m, k) ∷ ts) e n (λ us c. begun_many L make us c) (misfit_item L room q)
+          (λ g. he q ((m, k) ∷ ts) g) step p)
         where
-          step : (t : L.Tree q) (j : ℕ) (rest : List PlacedToken) → reader q ((m, k) ∷ ts) ≡ Ok (t, j, rest) → (i : Fronts q (reader q) ((m, k) ∷ ts) t j rest) × (read_all L size (reader q) n (λ xs. make (t ∷ xs)) rest ≡ Err e → Halts size (λ us. CompletesAll L s (places q) make (i.front ++ us)) (λ us. MisfitIn L room (places q) (i.front ++ us)) (λ c. read_all L size (reader q) c (λ xs. make (t ∷ xs))) rest e)
+          step : (t : L.Tree q) (j : ℕ) (rest : List PlacedToken) → reader q ((m, k) ∷ ts) ≡ Ok (t, j, rest)
+              → (i : Fronts q (reader q) ((m, k) ∷ ts) t j rest)
+              × (read_all L size (reader q) n (λ xs. make (t ∷ xs)) rest ≡ Err e
+              → Halts size (λ us. CompletesAll L s (places q) make (i.front ++ us)) (λ us. MisfitIn L room (places q) (i.front ++ us))
+              (λ c. read_all L size (reader q) c (λ xs. make (t ∷ xs))) rest e)
           step t j rest a =
-              let i : Fronts q (reader q) ((m, k) ∷ ts) t j rest = hf q ((m, k) ∷ ts) t j rest a in
-              (i, λ b. halts_more size (CompletesAll L s (places q) (λ xs. make (t ∷ xs))) (λ us. CompletesAll L s (places q) make (i.front ++ us)) (MisfitIn L room (places q)) (λ us. MisfitIn L room (places q) (i.front ++ us)) _ rest e (λ us c. passed_many L make t i.front us i.whole c) (λ us x f. misfit_behind_item L room q t i.front us x f i.whole) (next (λ xs. make (t ∷ xs)) rest b (omega (arith, ap length i.is, length-append i.front rest, i.some))))
+              let i : Fronts q (reader q) ((m, k) ∷ ts) t j rest = hf q ((m, k) ∷ ts) t j rest a in (
+                i,
+                λ b. halts_more size (CompletesAll L s (places q) (λ xs. make (t ∷ xs))) (λ us. CompletesAll L s (places q) make (i.front ++ us))
+                    (MisfitIn L room (places q)) (λ us. MisfitIn L room (places q) (i.front ++ us)) _ rest e (λ us c. passed_many L make t i.front us i.whole c)
+                    (λ us x f. misfit_behind_item L room q t i.front us x f i.whole)
+                    (next (λ xs. make (t ∷ xs)) rest b (omega (arith, ap length i.is, length-append i.front rest, i.some))),
+              )
 
-      halts_all : (s q : L.Sort) (n : ℕ) (make : List (L.Tree q) → L.Tree s) (ts : List PlacedToken) (e : ExprTextFault) → read_all L size (reader q) n make ts ≡ Err e → length ts ≤ n → Halts size (CompletesAll L s (places q) make) (MisfitIn L room (places q)) (λ m. read_all L size (reader q) m make) ts e
+      halts_all : (s q : L.Sort) (n : ℕ) (make : List (L.Tree q) → L.Tree s) (ts : List PlacedToken) (e : ExprTextFault)
+          → read_all L size (reader q) n make ts ≡ Err e → length ts ≤ n
+          → Halts size (CompletesAll L s (places q) make) (MisfitIn L room (places q)) (λ m. read_all L size (reader q) m make) ts e
       halts_all s q zero make [] e p l = ended (sym (err_is p)) (fill L proper s (places q) make)
       halts_all s q zero make (y ∷ ts) e p l = absurd (omega arith)
       halts_all s q (suc n) make [] e p l = ended (sym (err_is p)) (fill L proper s (places q) make)
@@ -117,67 +179,120 @@ module _ (L : Language) where
       halts_all s q (suc n) make ((m, word w) ∷ ts) e p l = halts_next s q n make m (word w) ts e (λ z. cc) l (λ make' us a b. halts_all s q n make' us e a b) p
       halts_all s q (suc n) make ((m, opening) ∷ ts) e p l = halts_next s q n make m opening ts e (λ z. cc) l (λ make' us a b. halts_all s q n make' us e a b) p
 
-      unfit_end : (s : L.Sort) (t : L.Tree s) (y : PlacedToken) (ts : List PlacedToken) (e : ExprTextFault) → ((us : List PlacedToken) → close L size room t (y ∷ us) ≡ Err (unfit_token room y)) → close L size room t (y ∷ ts) ≡ Err e → Halts size (CompletesAll L s no_place t) (MisfitIn L room no_place) (λ n. close L size room t) (y ∷ ts) e
-      unfit_end s t y ts e h p = let i : unfit_token room y ≡ e = err_is (sym (h ts) ∙ p) in halts_here size _ _ y ts _ e (fill L proper s no_place t) (subst (MisfitIn L room no_place [] y) i (misfit_end L room y)) (λ us n l. h us ∙ ap Err i)
+      unfit_end : (s : L.Sort) (t : L.Tree s) (y : PlacedToken) (ts : List PlacedToken) (e : ExprTextFault)
+          → ((us : List PlacedToken) → close L size room t (y ∷ us) ≡ Err (unfit_token room y)) → close L size room t (y ∷ ts) ≡ Err e
+          → Halts size (CompletesAll L s no_place t) (MisfitIn L room no_place) (λ n. close L size room t) (y ∷ ts) e
+      unfit_end s t y ts e h p = let i : unfit_token room y ≡ e = err_is (sym (h ts) ∙ p) in
+          halts_here size _ _ y ts _ e (fill L proper s no_place t) (subst (MisfitIn L room no_place [] y) i (misfit_end L room y)) (λ us n l. h us ∙ ap Err i)
 
-      halts_close : (s : L.Sort) (t : L.Tree s) (ts : List PlacedToken) (e : ExprTextFault) → close L size room t ts ≡ Err e → Halts size (CompletesAll L s no_place t) (MisfitIn L room no_place) (λ n. close L size room t) ts e
+      halts_close : (s : L.Sort) (t : L.Tree s) (ts : List PlacedToken) (e : ExprTextFault) → close L size room t ts ≡ Err e
+          → Halts size (CompletesAll L s no_place t) (MisfitIn L room no_place) (λ n. close L size room t) ts e
       halts_close s t [] e p = ended (sym (err_is p)) (fill L proper s no_place t)
       halts_close s t ((m, closing) ∷ ts) e p = absurd (cc)
       halts_close s t ((m, word w) ∷ ts) e p = unfit_end s t (m, word w) ts e (λ us. refl) p
       halts_close s t ((m, opening) ∷ ts) e p = unfit_end s t (m, opening) ts e (λ us. refl) p
 
-      halts_parts : (s : L.Sort) (qs : Places L.Sort) (make : Maker L.Tree qs (L.Tree s)) (ts : List PlacedToken) (e : ExprTextFault) → read_parts L size reader room qs make ts ≡ Err e → Halts size (CompletesAll L s qs make) (MisfitIn L room qs) (λ n. read_parts L size reader room qs make) ts e
+      halts_parts : (s : L.Sort) (qs : Places L.Sort) (make : Maker L.Tree qs (L.Tree s)) (ts : List PlacedToken) (e : ExprTextFault)
+          → read_parts L size reader room qs make ts ≡ Err e
+          → Halts size (CompletesAll L s qs make) (MisfitIn L room qs) (λ n. read_parts L size reader room qs make) ts e
       halts_parts s no_place make ts e p = halts_close s make ts e p
       halts_parts s (place q qs) make ts e p =
-          halts_bind size q (Completes L q) (CompletesAll L s (place q qs) make) (Misfit L room q) (MisfitIn L room (place q qs)) (reader q) (λ c t. read_parts L size reader room qs (make t)) (λ n. n) (λ a b' n h l. omega arith) ts e 0 (λ us c. begun L qs make us c (fill L proper s qs (make c.tree))) (misfit_part L room q qs) (λ g. he q ts g)
-          (λ t j rest a. let i : Fronts q (reader q) ts t j rest = hf q ts t j rest a in (i, λ c. halts_more size (CompletesAll L s qs (make t)) (λ us. CompletesAll L s (place q qs) make (i.front ++ us)) (MisfitIn L room qs) (λ us. MisfitIn L room (place q qs) (i.front ++ us)) _ rest e (λ us d. passed L qs make t i.front us i.whole d) (λ us x f. misfit_behind L room q qs t i.front us x f i.whole) (halts_parts s qs (make t) rest e c))) p
+          halts_bind size q (Completes L q) (CompletesAll L s (place q qs) make) (Misfit L room q) (MisfitIn L room (place q qs)) (reader q)
+          (λ c t. read_parts L size reader room qs (make t)) (λ n. n) (λ a b' n h l. omega arith) ts e 0
+          (λ us c. begun L qs make us c (fill L proper s qs (make c.tree))) (misfit_part L room q qs) (λ g. he q ts g)
+          (λ t j rest a. let i : Fronts q (reader q) ts t j rest = hf q ts t j rest a in (
+            i,
+            λ c. halts_more size (CompletesAll L s qs (make t)) (λ us. CompletesAll L s (place q qs) make (i.front ++ us)) (MisfitIn L room qs)
+                (λ us. MisfitIn L room (place q qs) (i.front ++ us)) _ rest e (λ us d. passed L qs make t i.front us i.whole d)
+                (λ us x f. misfit_behind L room q qs t i.front us x f i.whole) (halts_parts s qs (make t) rest e c),
+          )) p
       halts_parts s (places q) make ts e p = go (halts_all s q (length ts) make ts e p (omega arith))
         where
-          go : Halts size (CompletesAll L s (places q) make) (MisfitIn L room (places q)) (λ m. read_all L size (reader q) m make) ts e → Halts size (CompletesAll L s (places q) make) (MisfitIn L room (places q)) (λ n us. read_all L size (reader q) (length us) make us) ts e
+          go : Halts size (CompletesAll L s (places q) make) (MisfitIn L room (places q)) (λ m. read_all L size (reader q) m make) ts e
+              → Halts size (CompletesAll L s (places q) make) (MisfitIn L room (places q)) (λ n us. read_all L size (reader q) (length us) make us) ts e
           go (ended a v) = ended a v
           go (halted before x after a b v h) = halted before x after a b v (λ us n l. h us (length (before ++ x ∷ us)) (omega arith))
 
-      halts_row : (s : L.Sort) (k m : ℕ) (w : List ℕ) (r : Option (Row L.Sort L.Tree (L.Tree s))) (ts : List PlacedToken) (e : ExprTextFault) → L.has_form s ≡ true → L.row_at s w ≡ r → read_row L size reader room m r ts ≡ Err e → Halts size (λ us. Completes L s ((k, opening) ∷ us)) (λ us. Misfit L (suc room) s ((k, opening) ∷ us)) (λ n. read_form L size reader room s) ((m, word w) ∷ ts) e
-      halts_row s k m w None ts e f a p = halts_here size _ _ (m, word w) ts _ e (proper.opener s k f) (subst (Misfit L (suc room) s ((k, opening) ∷ []) (m, word w)) (unfit_word L room m w ∙ err_is p) (misfit_head L room s k (m, word w) f)) (λ us n i. rw a p)
-      halts_row s k m w (Some r) ts e f a p = halts_behind size _ _ (m, word w) ts _ _ e (λ us. ap (λ z. read_row L size reader room m z us) a) (halts_more size (CompletesAll L s r.takes r.makes) (λ us. Completes L s ((k, opening) ∷ (m, word w) ∷ us)) (MisfitIn L room r.takes) (λ us. Misfit L (suc room) s ((k, opening) ∷ (m, word w) ∷ us)) _ ts e (λ us c. completes_form L s k m w r us a c) (λ us x d. misfit_form L room s k m w r us x d f a) (halts_parts s r.takes r.makes ts e p))
+      halts_row : (s : L.Sort) (k m : ℕ) (w : List ℕ) (r : Option (Row L.Sort L.Tree (L.Tree s))) (ts : List PlacedToken) (e : ExprTextFault)
+          → L.has_form s ≡ true → L.row_at s w ≡ r → read_row L size reader room m r ts ≡ Err e
+          → Halts size (λ us. Completes L s ((k, opening) ∷ us)) (λ us. Misfit L (suc room) s ((k, opening) ∷ us)) (λ n. read_form L size reader room s)
+          ((m, word w) ∷ ts) e
+      halts_row s k m w None ts e f a p = halts_here size _ _ (m, word w) ts _ e (proper.opener s k f)
+          (subst (Misfit L (suc room) s ((k, opening) ∷ []) (m, word w)) (unfit_word L room m w ∙ err_is p) (misfit_head L room s k (m, word w) f))
+          (λ us n i. rw a p)
+      halts_row s k m w (Some r) ts e f a p = halts_behind size _ _ (m, word w) ts _ _ e (λ us. ap (λ z. read_row L size reader room m z us) a)
+          (halts_more size (CompletesAll L s r.takes r.makes) (λ us. Completes L s ((k, opening) ∷ (m, word w) ∷ us)) (MisfitIn L room r.takes)
+          (λ us. Misfit L (suc room) s ((k, opening) ∷ (m, word w) ∷ us)) _ ts e (λ us c. completes_form L s k m w r us a c)
+          (λ us x d. misfit_form L room s k m w r us x d f a) (halts_parts s r.takes r.makes ts e p))
 
-      halts_form : (s : L.Sort) (k : ℕ) (ts : List PlacedToken) (e : ExprTextFault) → L.has_form s ≡ true → read_form L size reader room s ts ≡ Err e → Halts size (λ us. Completes L s ((k, opening) ∷ us)) (λ us. Misfit L (suc room) s ((k, opening) ∷ us)) (λ n. read_form L size reader room s) ts e
+      halts_form : (s : L.Sort) (k : ℕ) (ts : List PlacedToken) (e : ExprTextFault) → L.has_form s ≡ true → read_form L size reader room s ts ≡ Err e
+          → Halts size (λ us. Completes L s ((k, opening) ∷ us)) (λ us. Misfit L (suc room) s ((k, opening) ∷ us)) (λ n. read_form L size reader room s) ts e
       halts_form s k [] e f p = ended (sym (err_is p)) (proper.opener s k f)
       halts_form s k ((m, word w) ∷ ts) e f p = halts_row s k m w (L.row_at s w) ts e f refl p
-      halts_form s k ((m, opening) ∷ ts) e f p = halts_here size _ _ (m, opening) ts _ e (proper.opener s k f) (subst (Misfit L (suc room) s ((k, opening) ∷ []) (m, opening)) (err_is p) (misfit_head L room s k (m, opening) f)) (λ us n i. p)
-      halts_form s k ((m, closing) ∷ ts) e f p = halts_here size _ _ (m, closing) ts _ e (proper.opener s k f) (subst (Misfit L (suc room) s ((k, opening) ∷ []) (m, closing)) (err_is p) (misfit_head L room s k (m, closing) f)) (λ us n i. p)
+      halts_form s k ((m, opening) ∷ ts) e f p = halts_here size _ _ (m, opening) ts _ e (proper.opener s k f)
+          (subst (Misfit L (suc room) s ((k, opening) ∷ []) (m, opening)) (err_is p) (misfit_head L room s k (m, opening) f)) (λ us n i. p)
+      halts_form s k ((m, closing) ∷ ts) e f p = halts_here size _ _ (m, closing) ts _ e (proper.opener s k f)
+          (subst (Misfit L (suc room) s ((k, opening) ∷ []) (m, closing)) (err_is p) (misfit_head L room s k (m, closing) f)) (λ us n i. p)
 
       -- a sort may have no form
-      halts_opened : (s : L.Sort) (b : Bool) (n : ℕ) (ts : List PlacedToken) (e : ExprTextFault) (g : List PlacedToken → Read (L.Tree s)) → L.has_form s ≡ b → ((us : List PlacedToken) → g ((n, opening) ∷ us) ≡ (if b then read_form L size reader room s us else Err (Syntax n))) → (if b then read_form L size reader room s ts else Err (Syntax n)) ≡ Err e → Halts size (Completes L s) (Misfit L (suc room) s) (λ c. g) ((n, opening) ∷ ts) e
+      halts_opened : (s : L.Sort) (b : Bool) (n : ℕ) (ts : List PlacedToken) (e : ExprTextFault) (g : List PlacedToken → Read (L.Tree s)) → L.has_form s ≡ b
+          → ((us : List PlacedToken) → g ((n, opening) ∷ us) ≡ (if b then read_form L size reader room s us else Err (Syntax n)))
+          → (if b then read_form L size reader room s ts else Err (Syntax n)) ≡ Err e
+          → Halts size (Completes L s) (Misfit L (suc room) s) (λ c. g) ((n, opening) ∷ ts) e
       halts_opened s true n ts e g f h p = halts_behind size _ _ (n, opening) ts g _ e h (halts_form s n ts e f p)
-      halts_opened s false n ts e g f h p = halts_here size _ _ (n, opening) ts _ e (proper.filler s) (subst (Misfit L (suc room) s [] (n, opening)) (err_is p) (misfit_form_here L room s n)) (λ us c i. h us ∙ p)
+      halts_opened s false n ts e g f h p = halts_here size _ _ (n, opening) ts _ e (proper.filler s)
+          (subst (Misfit L (suc room) s [] (n, opening)) (err_is p) (misfit_form_here L room s n)) (λ us c i. h us ∙ p)
 
-    fronts : (size room : ℕ) (s : L.Sort) (ts : List PlacedToken) (t : L.Tree s) (n : ℕ) (rest : List PlacedToken) → read L size room s ts ≡ Ok (t, n, rest) → Fronts s (read L size room s) ts t n rest
+    fronts : (size room : ℕ) (s : L.Sort) (ts : List PlacedToken) (t : L.Tree s) (n : ℕ) (rest : List PlacedToken) → read L size room s ts ≡ Ok (t, n, rest)
+        → Fronts s (read L size room s) ts t n rest
     fronts size room s ts t n rest e =
         let f : Begins L room s t ts n rest = found L size room s ts (t, n, rest) e in
-        let i : (front : List PlacedToken) × (ts ≡ front ++ rest) × ((us : List PlacedToken) → Spells f.part (front ++ us) n us) = framed f.part ts n rest f.spells in
+        let i : (front : List PlacedToken) × (ts ≡ front ++ rest)
+        × ((us : List PlacedToken) → Spells f.part (front ++ us) n us) = framed f.part ts n rest f.spells in
         let l : length rest < length ts = shorter f.part ts n rest f.spells in
-        record { front = i.0; is = i.1; some = omega (arith, ap length i.1, length-append i.0 rest); again = λ us. only L proper size room s f.part (i.0 ++ us) n us t (i.2 us) f.means f.within; whole = record { part = f.part; stop = n; spells = i.2; means = f.means } }
+        record {
+          front = i.0;
+          is = i.1;
+          some = omega (arith, ap length i.1, length-append i.0 rest);
+          again = λ us.
+              only L proper size room s f.part (i.0 ++ us) n us t (i.2 us) f.means f.within;
+          whole =
+              record { part = f.part; stop = n; spells = i.2; means = f.means };
+        }
 
-    halts_word : (size room : ℕ) (s : L.Sort) (n : ℕ) (w : List ℕ) (ts : List PlacedToken) (e : ExprTextFault) (r : WordReading (L.Tree s)) (g : List PlacedToken → Read (L.Tree s)) → L.word_at s w ≡ r → ((us : List PlacedToken) → g ((n, word w) ∷ us) ≡ word_read n w us r) → word_read n w ts r ≡ Err e → Halts size (Completes L s) (Misfit L room s) (λ c. g) ((n, word w) ∷ ts) e
+    halts_word : (size room : ℕ) (s : L.Sort) (n : ℕ) (w : List ℕ) (ts : List PlacedToken) (e : ExprTextFault) (r : WordReading (L.Tree s))
+        (g : List PlacedToken → Read (L.Tree s)) → L.word_at s w ≡ r → ((us : List PlacedToken) → g ((n, word w) ∷ us) ≡ word_read n w us r)
+        → word_read n w ts r ≡ Err e → Halts size (Completes L s) (Misfit L room s) (λ c. g) ((n, word w) ∷ ts) e
     halts_word size room s n w ts e (reads x) g a h p = absurd (cc)
-    halts_word size room s n w ts e misspelt g a h p = halts_here size _ _ (n, word w) ts _ e (proper.filler s) (subst (Misfit L room s [] (n, word w)) (err_is p) (misfit_word L room s n w true (proper.spoilt s w a))) (λ us c i. h us ∙ p)
-    halts_word size room s n w ts e unfit g a h p = halts_here size _ _ (n, word w) ts _ e (proper.filler s) (subst (Misfit L room s [] (n, word w)) (err_is p) (misfit_word L room s n w false (proper.foreign s w a))) (λ us c i. h us ∙ p)
+    halts_word size room s n w ts e misspelt g a h p =
+        halts_here size _ _ (n, word w) ts _ e (proper.filler s)
+        (subst (Misfit L room s [] (n, word w)) (err_is p) (misfit_word L room s n w true (proper.spoilt s w a))) (λ us c i. h us ∙ p)
+    halts_word size room s n w ts e unfit g a h p =
+        halts_here size _ _ (n, word w) ts _ e (proper.filler s)
+        (subst (Misfit L room s [] (n, word w)) (err_is p) (misfit_word L room s n w false (proper.foreign s w a))) (λ us c i. h us ∙ p)
 
-    halts : (size room : ℕ) (s : L.Sort) (ts : List PlacedToken) (e : ExprTextFault) → read L size room s ts ≡ Err e → Halts size (Completes L s) (Misfit L room s) (λ c. read L size room s) ts e
+    halts : (size room : ℕ) (s : L.Sort) (ts : List PlacedToken) (e : ExprTextFault) → read L size room s ts ≡ Err e
+        → Halts size (Completes L s) (Misfit L room s) (λ c. read L size room s) ts e
     halts size zero s [] e p = ended (sym (err_is p)) (proper.filler s)
     halts size zero s ((n, word w) ∷ ts) e p = halts_word size zero s n w ts e (L.word_at s w) _ refl (λ us. refl) p
-    halts size zero s ((n, closing) ∷ ts) e p = halts_here size _ _ (n, closing) ts _ e (proper.filler s) (subst (Misfit L zero s [] (n, closing)) (err_is p) (misfit_closing L zero s n)) (λ us c i. p)
-    halts size zero s ((n, opening) ∷ ts) e p = halts_here size _ _ (n, opening) ts _ e (proper.filler s) (subst (Misfit L zero s [] (n, opening)) (err_is p) (misfit_deep L s n)) (λ us c i. p)
+    halts size zero s ((n, closing) ∷ ts) e p = halts_here size _ _ (n, closing) ts _ e (proper.filler s)
+        (subst (Misfit L zero s [] (n, closing)) (err_is p) (misfit_closing L zero s n)) (λ us c i. p)
+    halts size zero s ((n, opening) ∷ ts) e p = halts_here size _ _ (n, opening) ts _ e (proper.filler s)
+        (subst (Misfit L zero s [] (n, opening)) (err_is p) (misfit_deep L s n)) (λ us c i. p)
     halts size (suc room) s [] e p = ended (sym (err_is p)) (proper.filler s)
     halts size (suc room) s ((n, word w) ∷ ts) e p = halts_word size (suc room) s n w ts e (L.word_at s w) _ refl (λ us. refl) p
-    halts size (suc room) s ((n, closing) ∷ ts) e p = halts_here size _ _ (n, closing) ts _ e (proper.filler s) (subst (Misfit L (suc room) s [] (n, closing)) (err_is p) (misfit_closing L (suc room) s n)) (λ us c i. p)
-    halts size (suc room) s ((n, opening) ∷ ts) e p = halts_opened size room (read L size room) (fronts size room) (halts size room) s (L.has_form s) n ts e (read L size (suc room) s) refl (λ us. refl) p
+    halts size (suc room) s ((n, closing) ∷ ts) e p =
+        halts_here size _ _ (n, closing) ts _ e (proper.filler s) (subst (Misfit L (suc room) s [] (n, closing)) (err_is p) (misfit_closing L (suc room) s n))
+        (λ us c i. p)
+    halts size (suc room) s ((n, opening) ∷ ts) e p =
+        halts_opened size room (read L size room) (fronts size room) (halts size room) s (L.has_form s) n ts e (read L size (suc room) s) refl (λ us. refl) p
 
     pub one_reading : OneReadingLaw L
     one_reading r q s t u ts n m rest rest2 a b =
-        let i : read L 0 (r + q) s ts ≡ Ok (t, n, rest) = only L proper 0 (r + q) s a.part ts n rest t a.spells a.means (let c : depth a.part ≤ r = a.within in omega arith) in
-        let j : read L 0 (r + q) s ts ≡ Ok (u, m, rest2) = only L proper 0 (r + q) s b.part ts m rest2 u b.spells b.means (let c : depth b.part ≤ q = b.within in omega arith) in
+        let i : read L 0 (r + q) s ts ≡ Ok (t, n, rest) =
+        only L proper 0 (r + q) s a.part ts n rest t a.spells a.means (let c : depth a.part ≤ r = a.within in omega arith) in
+        let j : read L 0 (r + q) s ts ≡ Ok (u, m, rest2) =
+        only L proper 0 (r + q) s b.part ts m rest2 u b.spells b.means (let c : depth b.part ≤ q = b.within in omega arith) in
         let k : (t, n, rest) ≡ (u, m, rest2) = ok_is (sym i ∙ j) in
         (ap (λ x. x.0) k, ap (λ x. x.1) k, ap (λ x. x.2) k)
 
@@ -185,8 +300,15 @@ module _ (L : Language) where
     stops size room s ts e p = go (halts size room s ts e p)
       where
         go : Halts size (Completes L s) (Misfit L room s) (λ c. read L size room s) ts e → Stops L size room s ts e
-        go (ended a v) = too_short a (λ t n rest b. absurd (let q : read L size room s ts ≡ Ok (t, n, rest) = only L proper size room s b.part ts n rest t b.spells b.means b.within in cc)) v
-        go (halted before x after a d v h) = at_token before x after a (λ us t n rest b. absurd (let q : read L size room s (before ++ x ∷ us) ≡ Ok (t, n, rest) = only L proper size room s b.part _ n rest t b.spells b.means b.within in let r : read L size room s (before ++ x ∷ us) ≡ Err e = h us (length (before ++ x ∷ us)) (omega arith) in cc)) d v
+        go (ended a v) =
+            too_short a
+            (λ t n rest b. absurd (let q : read L size room s ts ≡ Ok (t, n, rest) = only L proper size room s b.part ts n rest t b.spells b.means b.within in
+            cc)) v
+        go (halted before x after a d v h) =
+            at_token before x after a
+            (λ us t n rest b.
+            absurd (let q : read L size room s (before ++ x ∷ us) ≡ Ok (t, n, rest) = only L proper size room s b.part _ n rest t b.spells b.means b.within in
+            let r : read L size room s (before ++ x ∷ us) ≡ Err e = h us (length (before ++ x ∷ us)) (omega arith) in cc)) d v
 
 word_not_long : (b : Bool) (n : ℕ) → (if b then Number n else Syntax n) ≢ TooLong
 word_not_long true n e = cc

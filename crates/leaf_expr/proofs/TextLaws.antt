@@ -22,12 +22,14 @@ use Rattle.leaf_expr.specs.declared.text_fault.ExprTextFault.{ExprTextFault}
 use Rattle.leaf_expr.specs.declared.text_fault.ExprTextFault.TheVariants.{TooLong}
 
 pub printed_begins : PrintedLaw
-printed_begins e room n bs r d b = record { part = expression_sexpr e; spells = spells_printed (expression_sexpr e) n bs (expression_plain e r) b; means = expression_means e r; within = d }
+printed_begins e room n bs r d b =
+    record { part = expression_sexpr e; spells = spells_printed (expression_sexpr e) n bs (expression_plain e r) b; means = expression_means e r; within = d }
 
 abbrev PrintedSo : TypeTree → ℕ → ℕ → List ℕ → List ℕ → Type 0
 PrintedSo t room n bs w = let end = n + length w in Begins leaf room type_sort t (tokens_in false n (w ++ bs)) end (tokens_in false end bs)
 
-printed_part : (t : TypeTree) (room n : ℕ) (bs : List ℕ) → depth (type_sexpr t) ≤ room → begins_word bs ≡ false → PrintedSo t room n bs (spelling (type_sexpr t))
+printed_part : (t : TypeTree) (room n : ℕ) (bs : List ℕ) → depth (type_sexpr t) ≤ room → begins_word bs ≡ false
+    → PrintedSo t room n bs (spelling (type_sexpr t))
 printed_part t room n bs d b = record { part = type_sexpr t; spells = spells_printed (type_sexpr t) n bs (type_plain t) b; means = type_means t; within = d }
 
 pub printed_type_begins : PrintedTypeLaw
@@ -41,17 +43,20 @@ whole_ok {T = T} (Ok (u, n, [])) t e = (n, ap (λ x. Ok (x, n, [])) (inner e))
 whole_ok (Ok (u, n, x ∷ ts)) t e = absurd (cc)
 whole_ok (Err f) t e = absurd (cc)
 
-short_text : (s : Sort) (bs : List ℕ) (r : Result (Tree s) ExprTextFault) → r ≢ Err TooLong → read_text s bs ≡ r → (length bs ≤ 1048576) × (whole (read leaf (length bs) 600 s (tokens bs)) ≡ r)
+short_text : (s : Sort) (bs : List ℕ) (r : Result (Tree s) ExprTextFault) → r ≢ Err TooLong → read_text s bs ≡ r
+    → (length bs ≤ 1048576) × (whole (read leaf (length bs) 600 s (tokens bs)) ≡ r)
 short_text s bs r d e = go (nat_lt 1048576 (length bs)) refl e
   where
-    go : (b : Bool) → nat_lt 1048576 (length bs) ≡ b → (if b then Err TooLong else whole (read leaf (length bs) 600 s (tokens bs))) ≡ r → (length bs ≤ 1048576) × (whole (read leaf (length bs) 600 s (tokens bs)) ≡ r)
+    go : (b : Bool) → nat_lt 1048576 (length bs) ≡ b → (if b then Err TooLong else whole (read leaf (length bs) 600 s (tokens bs))) ≡ r
+        → (length bs ≤ 1048576) × (whole (read leaf (length bs) 600 s (tokens bs)) ≡ r)
     go true q e' = absurd (d (sym e'))
     go false q e' = (ltb-false 1048576 (length bs) q, e')
 
 pub text_read : (s : Sort) (bs : List ℕ) (t : Tree s) → IsText s bs t → read_text s bs ≡ Ok t
 text_read s bs t h =
     let b : Begins leaf 600 s t (tokens bs) h.stop [] = h.begins in
-    ap (λ c. if c then Err TooLong else whole (read leaf (length bs) 600 s (tokens bs))) (le-ltb 1048576 (length bs) h.short) ∙ ap whole (only leaf leaf_proper (length bs) 600 s b.part (tokens bs) h.stop [] t b.spells b.means b.within)
+    ap (λ c. if c then Err TooLong else whole (read leaf (length bs) 600 s (tokens bs))) (le-ltb 1048576 (length bs) h.short)
+    ∙ ap whole (only leaf leaf_proper (length bs) 600 s b.part (tokens bs) h.stop [] t b.spells b.means b.within)
 
 pub text_found : (s : Sort) (bs : List ℕ) (t : Tree s) → read_text s bs ≡ Ok t → IsText s bs t
 text_found s bs t e =
@@ -73,9 +78,11 @@ longer s text h = go (nat_lt 1048576 (length text)) refl h
     other (Ok (t, n, (m, opening) ∷ ts)) p q = cc
     other (Ok (t, n, (m, closing) ∷ ts)) p q = cc
     other (Ok (t, n, (m, word w) ∷ ts)) p q = cc
-    other (Err f) p q = stops_not_long leaf (length text) 600 s (tokens text) (stops leaf leaf_proper (length text) 600 s (tokens text) TooLong (p ∙ ap Err (err_is q)))
+    other (Err f) p q = stops_not_long leaf (length text) 600 s (tokens text)
+        (stops leaf leaf_proper (length text) 600 s (tokens text) TooLong (p ∙ ap Err (err_is q)))
 
-    go : (b : Bool) → nat_lt 1048576 (length text) ≡ b → (if b then Err TooLong else whole (read leaf (length text) 600 s (tokens text))) ≡ Err TooLong → 1048576 < length text
+    go : (b : Bool) → nat_lt 1048576 (length text) ≡ b → (if b then Err TooLong else whole (read leaf (length text) 600 s (tokens text))) ≡ Err TooLong
+        → 1048576 < length text
     go true e h' = ltb-true 1048576 (length text) e
     go false e h' = absurd (other _ refl h')
 
@@ -83,12 +90,16 @@ no_text : (s : Sort) (bs : List ℕ) (e : ExprTextFault) (r : Read (Tree s)) →
 no_text s bs e (Ok (t, n, [])) p q = absurd (cc)
 no_text s bs e (Ok (t, n, x ∷ rest)) p q =
     let b : Begins leaf 600 s t (tokens bs) n (x ∷ rest) = found leaf (length bs) 600 s (tokens bs) (t, n, x ∷ rest) p in
-    let f : (front : List PlacedToken) × (tokens bs ≡ front ++ x ∷ rest) × ((us : List PlacedToken) → Spells b.part (front ++ us) n us) = framed b.part (tokens bs) n (x ∷ rest) b.spells in
+    let f : (front : List PlacedToken) × (tokens bs ≡ front ++ x ∷ rest)
+    × ((us : List PlacedToken) → Spells b.part (front ++ us) n us) = framed b.part (tokens bs) n (x ∷ rest) b.spells in
     let i : e ≡ unfit_token 600 x = cc in
     let d : depth b.part ≤ 600 = b.within in
     follows f.0 x rest f.1 (λ us u m c. absurd (
-    let o : (t ≡ u) × (n ≡ m) × (x ∷ us ≡ []) = one_reading leaf leaf_proper 600 600 s t u (f.0 ++ x ∷ us) n m (x ∷ us) [] (record { part = b.part; spells = f.2 (x ∷ us); means = b.means; within = d }) c in
-    let z : x ∷ us ≡ [] = o.2 in cc)) t n (record { part = b.part; spells = subst (λ us. Spells b.part us n []) (append-nil f.0) (f.2 []); means = b.means; within = d }) i
+    let o : (t ≡ u) × (n ≡ m)
+    × (x ∷ us ≡ []) = one_reading leaf leaf_proper 600 600 s t u (f.0 ++ x ∷ us) n m (x ∷ us) []
+    (record { part = b.part; spells = f.2 (x ∷ us); means = b.means; within = d }) c in
+    let z : x ∷ us ≡ [] = o.2 in cc)) t n
+    (record { part = b.part; spells = subst (λ us. Spells b.part us n []) (append-nil f.0) (f.2 []); means = b.means; within = d }) i
 no_text s bs e (Err f) p q = go (stops leaf leaf_proper (length bs) 600 s (tokens bs) f p)
   where
     i : f ≡ e
@@ -104,10 +115,13 @@ text_fault s bs e d p =
     no_text s bs e (read leaf (length bs) 600 s (tokens bs)) refl i.1
 
 pub printed_text : PrintedTextLaw
-printed_text e r d l = text_read expression_sort (spelling (expression_sexpr e)) e (record { short = l; stop = length (spelling (expression_sexpr e)); begins = go })
+printed_text e r d l = text_read expression_sort (spelling (expression_sexpr e)) e
+    (record { short = l; stop = length (spelling (expression_sexpr e)); begins = go })
   where
     n : 0 + length (spelling (expression_sexpr e)) ≡ length (spelling (expression_sexpr e))
     n = omega arith
 
     go : Begins leaf 600 expression_sort e (tokens (spelling (expression_sexpr e))) (length (spelling (expression_sexpr e))) []
-    go = subst (λ m. Begins leaf 600 expression_sort e (tokens (spelling (expression_sexpr e))) m []) n (subst (λ bs. Begins leaf 600 expression_sort e (tokens_in false 0 bs) (0 + length (spelling (expression_sexpr e))) []) (append-nil (spelling (expression_sexpr e))) (printed_begins e 600 0 [] r d refl))
+    go = subst (λ m. Begins leaf 600 expression_sort e (tokens (spelling (expression_sexpr e))) m []) n
+        (subst (λ bs. Begins leaf 600 expression_sort e (tokens_in false 0 bs) (0 + length (spelling (expression_sexpr e))) [])
+        (append-nil (spelling (expression_sexpr e))) (printed_begins e 600 0 [] r d refl))

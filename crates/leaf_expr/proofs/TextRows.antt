@@ -35,7 +35,9 @@ pub merge_is : MergeIs
 unfolding word_at words row_at rows
 merge_is a b = refl
 
-gate_parts : (T : Option TypeTree) (a b : Option Expression) → option_and_then (λ t. option_and_then (λ x. option_and_then (λ y. Some (if_expr y x (no_event_expr t))) b) a) T ≡ option_and_then (λ y. option_and_then (λ x. option_and_then (λ z. Some (if_expr y x z)) (option_and_then (λ t. Some (no_event_expr t)) T)) a) b
+gate_parts : (T : Option TypeTree) (a b : Option Expression)
+    → option_and_then (λ t. option_and_then (λ x. option_and_then (λ y. Some (if_expr y x (no_event_expr t))) b) a) T
+    ≡ option_and_then (λ y. option_and_then (λ x. option_and_then (λ z. Some (if_expr y x z)) (option_and_then (λ t. Some (no_event_expr t)) T)) a) b
 gate_parts (Some t) (Some x) (Some y) = refl
 gate_parts (Some t) (Some x) None = refl
 gate_parts (Some t) None (Some y) = refl
@@ -49,7 +51,13 @@ pub gate_is : GateIs
 unfolding word_at words row_at rows
 gate_is T a b = gate_parts (meaning leaf type_sort T) (meaning leaf expression_sort a) (meaning leaf expression_sort b)
 
-tag_parts : (T : Option TypeTree) (a c : Option Expression) → option_and_then (λ t. option_and_then (λ x. option_and_then (λ y. Some (on x (no_event_expr t) (event_expr (then_expr (fst input) y)))) c) a) T ≡ option_and_then (λ x. option_and_then (λ d. option_and_then (λ b. Some (on x d b)) (option_and_then (λ z. Some (event_expr z)) (option_and_then (λ y. Some (then_expr (fst input) y)) c))) (option_and_then (λ t. Some (no_event_expr t)) T)) a
+tag_parts : (T : Option TypeTree) (a c : Option Expression)
+    → option_and_then (λ t. option_and_then (λ x. option_and_then (λ y. Some (on x (no_event_expr t) (event_expr (then_expr (fst input) y)))) c) a) T
+    ≡ option_and_then
+    (λ x.
+    option_and_then
+    (λ d. option_and_then (λ b. Some (on x d b)) (option_and_then (λ z. Some (event_expr z)) (option_and_then (λ y. Some (then_expr (fst input) y)) c)))
+    (option_and_then (λ t. Some (no_event_expr t)) T)) a
 tag_parts (Some t) (Some x) (Some y) = refl
 tag_parts (Some t) (Some x) None = refl
 tag_parts (Some t) None (Some y) = refl
@@ -63,7 +71,16 @@ pub tag_is : TagIs
 unfolding word_at words row_at rows
 tag_is T a c = tag_parts (meaning leaf type_sort T) (meaning leaf expression_sort a) (meaning leaf expression_sort c)
 
-attach_parts : (T : Option TypeTree) (a c : Option Expression) → option_and_then (λ t. option_and_then (λ x. option_and_then (λ y. Some (on x (no_event_expr t) (event_expr (pair_expr (snd input) (then_expr (fst input) y))))) c) a) T ≡ option_and_then (λ x. option_and_then (λ d. option_and_then (λ b. Some (on x d b)) (option_and_then (λ z. Some (event_expr z)) (option_and_then (λ u. Some (pair_expr (snd input) u)) (option_and_then (λ y. Some (then_expr (fst input) y)) c)))) (option_and_then (λ t. Some (no_event_expr t)) T)) a
+attach_parts : (T : Option TypeTree) (a c : Option Expression)
+    → option_and_then
+    (λ t. option_and_then (λ x. option_and_then (λ y. Some (on x (no_event_expr t) (event_expr (pair_expr (snd input) (then_expr (fst input) y))))) c) a) T
+    ≡ option_and_then
+    (λ x.
+    option_and_then
+    (λ d. option_and_then (λ b. Some (on x d b))
+    (option_and_then (λ z. Some (event_expr z))
+    (option_and_then (λ u. Some (pair_expr (snd input) u)) (option_and_then (λ y. Some (then_expr (fst input) y)) c))))
+    (option_and_then (λ t. Some (no_event_expr t)) T)) a
 attach_parts (Some t) (Some x) (Some y) = refl
 attach_parts (Some t) (Some x) None = refl
 attach_parts (Some t) None (Some y) = refl

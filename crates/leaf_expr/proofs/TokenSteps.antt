@@ -15,17 +15,20 @@ pub tokens_cons : (c : Bool) (i : ℕ) (text : List ℕ) → i < length text →
 tokens_cons c i text h = ap (tokens_in c i) (drop-cons text i 0 h)
 
 -- in a comment
-pub comment_step : (i : ℕ) (text : List ℕ) → i < length text → tokens_in (not (nat_eq (get_or text i 0) 10)) (suc i) (drop (suc i) text) ≡ tokens_in true i (drop i text)
+pub comment_step : (i : ℕ) (text : List ℕ) → i < length text
+    → tokens_in (not (nat_eq (get_or text i 0) 10)) (suc i) (drop (suc i) text) ≡ tokens_in true i (drop i text)
 comment_step i text h = sym (tokens_cons true i text h)
 
 -- before a token
-pub blank_step : (i : ℕ) (text : List ℕ) → i < length text → begins_token (get_or text i 0) ≡ false → tokens_in (nat_eq (get_or text i 0) 59) (suc i) (drop (suc i) text) ≡ tokens_in false i (drop i text)
+pub blank_step : (i : ℕ) (text : List ℕ) → i < length text → begins_token (get_or text i 0) ≡ false
+    → tokens_in (nat_eq (get_or text i 0) 59) (suc i) (drop (suc i) text) ≡ tokens_in false i (drop i text)
 blank_step i text h e = sym (tokens_cons false i text h ∙ go (get_or text i 0) (drop (suc i) text) e)
   where
     go : (b : ℕ) (bs : List ℕ) → begins_token b ≡ false → tokens_in false i (b ∷ bs) ≡ tokens_in (nat_eq b 59) (suc i) bs
     go b bs p = steps (is_word_byte b) (nat_eq b 40) (nat_eq b 41) refl refl refl p
       where
-        steps : (x y z : Bool) → is_word_byte b ≡ x → nat_eq b 40 ≡ y → nat_eq b 41 ≡ z → (x || y || z) ≡ false → tokens_in false i (b ∷ bs) ≡ tokens_in (nat_eq b 59) (suc i) bs
+        steps : (x y z : Bool) → is_word_byte b ≡ x → nat_eq b 40 ≡ y → nat_eq b 41 ≡ z → (x || y || z) ≡ false
+            → tokens_in false i (b ∷ bs) ≡ tokens_in (nat_eq b 59) (suc i) bs
         steps false false false k l m q = rw (k, l, m) refl
         steps true y z k l m q = absurd (cc)
         steps false true z k l m q = absurd (cc)
@@ -64,8 +67,10 @@ no_word_at n text l h = go (nat_lt n (length text)) refl
     go false e = let i : length text ≤ n = ltb-false n (length text) e in ap begins_word (drop_of_length-le text i)
 
 -- a word from start up to byte n: it is spelt so, and takes so many bytes
-pub word_spelt : (start n : ℕ) (text : List ℕ) → start < n → n ≤ length text → ((k : ℕ) → start ≤ k → k < n → is_word_byte (get_or text k 0) ≡ true) → is_word (slice_range text start n) ≡ true
-word_spelt start n text s l h = is_words (n - start) (drop start text) (omega arith) (λ k q. ap is_word_byte (get_or-drop start text k 0) ∙ h (start + k) (omega arith) (omega arith)) (omega (arith, length-drop start text))
+pub word_spelt : (start n : ℕ) (text : List ℕ) → start < n → n ≤ length text → ((k : ℕ) → start ≤ k → k < n → is_word_byte (get_or text k 0) ≡ true)
+    → is_word (slice_range text start n) ≡ true
+word_spelt start n text s l h = is_words (n - start) (drop start text) (omega arith) (λ k q. ap is_word_byte (get_or-drop start text k 0)
+    ∙ h (start + k) (omega arith) (omega arith)) (omega (arith, length-drop start text))
 
 pub word_takes : (start n : ℕ) (text : List ℕ) → start ≤ n → n ≤ length text → start + length (slice_range text start n) ≡ n
 word_takes start n text s l = omega (arith, length-take-le (n - start) (drop start text) (omega (arith, length-drop start text)))
@@ -83,10 +88,12 @@ word_stands start n text s l h e =
     ∙ ap (λ m. (start, word (slice_range text start n)) ∷ tokens_in false m (drop n text)) taken
 
 -- the same with the next place counted as the code does
-pub comment_next : (i : ℕ) (text : List ℕ) (c d : Bool) → i < length text → c ≡ true → d ≡ not (nat_eq (get_or text i 0) 10) → tokens_in d (i + 1) (drop (i + 1) text) ≡ tokens_in c i (drop i text)
+pub comment_next : (i : ℕ) (text : List ℕ) (c d : Bool) → i < length text → c ≡ true → d ≡ not (nat_eq (get_or text i 0) 10)
+    → tokens_in d (i + 1) (drop (i + 1) text) ≡ tokens_in c i (drop i text)
 comment_next i text c d h e f = let n : i + 1 ≡ suc i = omega arith in rw (n, e, f) (comment_step i text h)
 
-pub blank_next : (i : ℕ) (text : List ℕ) (c d : Bool) → i < length text → c ≡ false → begins_token (get_or text i 0) ≡ false → d ≡ nat_eq (get_or text i 0) 59 → tokens_in d (i + 1) (drop (i + 1) text) ≡ tokens_in c i (drop i text)
+pub blank_next : (i : ℕ) (text : List ℕ) (c d : Bool) → i < length text → c ≡ false → begins_token (get_or text i 0) ≡ false → d ≡ nat_eq (get_or text i 0) 59
+    → tokens_in d (i + 1) (drop (i + 1) text) ≡ tokens_in c i (drop i text)
 blank_next i text c d h e g f = let n : i + 1 ≡ suc i = omega arith in rw (n, e, f) (blank_step i text h g)
 
 -- a parenthesis at a place
@@ -102,17 +109,21 @@ else_word b h e f = go (is_word_byte b) refl
   where
     go : (x : Bool) → is_word_byte b ≡ x → is_word_byte b ≡ true
     go true p = p
-    go false p = absurd (let i : nat_eq b 40 ≡ false = ne_eqb b 40 e in let j : nat_eq b 41 ≡ false = ne_eqb b 41 f in let k : begins_token b ≡ false = rw (p, i, j) refl in let l : true ≡ false = sym h ∙ k in cc)
+    go false p = absurd (let i : nat_eq b 40 ≡ false = ne_eqb b 40 e in let j : nat_eq b 41 ≡ false = ne_eqb b 41 f in
+        let k : begins_token b ≡ false = rw (p, i, j) refl in let l : true ≡ false = sym h ∙ k in cc)
 
 -- what a parenthesis or a word is as a token of the bytes that it takes
 pub cut_one : (i : ℕ) (text : List ℕ) → i < length text → slice_range text i (i + 1) ≡ get_or text i 0 ∷ []
 cut_one i text h = let one : i + 1 - i ≡ 1 = omega arith in ap (λ n. take n (drop i text)) one ∙ ap (take 1) (drop-cons text i 0 h)
 
-pub opening_cut : (at start : ℕ) (text : List ℕ) → IsLexeme text at (V.Open start) → tokens_from at text ≡ (start, token_of (slice_range text start (start + 1))) ∷ tokens_from (start + 1) text
+pub opening_cut : (at start : ℕ) (text : List ℕ) → IsLexeme text at (V.Open start)
+    → tokens_from at text ≡ (start, token_of (slice_range text start (start + 1))) ∷ tokens_from (start + 1) text
 opening_cut at start text h = h.0 ∙ ap (λ w. (start, token_of w) ∷ tokens_from (start + 1) text) (sym (cut_one start text h.2 ∙ ap (λ b. b ∷ []) h.3))
 
-pub closing_cut : (at start : ℕ) (text : List ℕ) → IsLexeme text at (V.Close start) → tokens_from at text ≡ (start, token_of (slice_range text start (start + 1))) ∷ tokens_from (start + 1) text
+pub closing_cut : (at start : ℕ) (text : List ℕ) → IsLexeme text at (V.Close start)
+    → tokens_from at text ≡ (start, token_of (slice_range text start (start + 1))) ∷ tokens_from (start + 1) text
 closing_cut at start text h = h.0 ∙ ap (λ w. (start, token_of w) ∷ tokens_from (start + 1) text) (sym (cut_one start text h.2 ∙ ap (λ b. b ∷ []) h.3))
 
-pub word_cut : (at start end : ℕ) (text : List ℕ) → IsLexeme text at (V.Word start end) → tokens_from at text ≡ (start, token_of (slice_range text start end)) ∷ tokens_from end text
+pub word_cut : (at start end : ℕ) (text : List ℕ) → IsLexeme text at (V.Word start end)
+    → tokens_from at text ≡ (start, token_of (slice_range text start end)) ∷ tokens_from end text
 word_cut at start end text h = h.0 ∙ ap (λ k. (start, k) ∷ tokens_from end text) (sym (word_is_token (slice_range text start end) h.4))

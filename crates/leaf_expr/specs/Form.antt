@@ -111,7 +111,8 @@ typed_row f = row (typed_name f) (t (e (e no_place))) (λ T. typed_by f (no_even
 abbrev pub form_row : Form → Row Sort Tree Expression
 form_row F.Param = row (codes "p") (k no_place) param
 form_row F.NoEvent = row (codes "none") (t no_place) no_event_expr
-form_row F.List = row (codes "list") (t (places expression_sort)) (λ T es. list_expr T (expressions_of es))
+form_row F.List = row (codes "list") (t (places expression_sort))
+    (λ T es. list_expr T (expressions_of es))
 form_row (F.Unary f) = unary_row f
 form_row (F.Binary f) = binary_row f
 form_row (F.Ternary f) = ternary_row f

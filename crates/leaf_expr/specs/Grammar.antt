@@ -32,16 +32,19 @@ k ps = place index_sort ps
 -- words that are a tree by themselves
 unfoldable pub words : (s : Sort) → List (List ℕ × Tree s)
 words type_sort = (codes "Unit", unit_ty) ∷ (codes "Bool", bool_ty) ∷ (codes "Int", int_ty) ∷ []
-words expression_sort = (codes "x", input) ∷ (codes "unit", unit_expr) ∷ (codes "true", bool_expr true) ∷ (codes "false", bool_expr false) ∷ []
+words expression_sort = (codes "x", input) ∷ (codes "unit", unit_expr)
+    ∷ (codes "true", bool_expr true) ∷ (codes "false", bool_expr false) ∷ []
 words index_sort = []
 
 -- a row of the grammar: the word of a form, its parts, and the tree that they make
-abbrev pub row : {R : Type 0} → (w : List ℕ) → (ps : Places Sort) → Maker Tree ps R → Row Sort Tree R
+abbrev pub row : {R : Type 0} → (w : List ℕ) → (ps : Places Sort) → Maker Tree ps R
+    → Row Sort Tree R
 row w ps make = record { name = w; takes = ps; makes = make }
 
 -- the forms of types
 abbrev pub type_rows : List (Row Sort Tree TypeTree)
-type_rows = row (codes "Pair") (t (t no_place)) pair_ty ∷ row (codes "Event") (t no_place) event_ty ∷ row (codes "List") (t no_place) list_ty ∷ []
+type_rows = row (codes "Pair") (t (t no_place)) pair_ty ∷ row (codes "Event") (t no_place) event_ty
+    ∷ row (codes "List") (t no_place) list_ty ∷ []
 
 -- a parameter, no event of a type, and a list of elements of a type
 abbrev pub other_rows : List (Row Sort Tree Expression)
@@ -79,14 +82,18 @@ binary_rows =
 
 -- the forms of three expressions
 abbrev pub ternary_rows : List (Row Sort Tree Expression)
-ternary_rows = row (codes "if") (e (e (e no_place))) if_expr ∷ row (codes "on") (e (e (e no_place))) on ∷ row (codes "nth") (e (e (e no_place))) nth ∷ []
+ternary_rows = row (codes "if") (e (e (e no_place))) if_expr
+    ∷ row (codes "on") (e (e (e no_place))) on ∷ row (codes "nth") (e (e (e no_place))) nth ∷ []
 
 -- the sugar of a type and two expressions
 abbrev pub typed_rows : List (Row Sort Tree Expression)
 typed_rows =
     row (codes "gate") (t (e (e no_place))) (λ T a b. if_expr b a (no_event_expr T))
-    ∷ row (codes "tag") (t (e (e no_place))) (λ T a c. on a (no_event_expr T) (event_expr (then_expr (fst input) c)))
-    ∷ row (codes "attach") (t (e (e no_place))) (λ T a c. on a (no_event_expr T) (event_expr (pair_expr (snd input) (then_expr (fst input) c))))
+    ∷ row (codes "tag") (t (e (e no_place)))
+    (λ T a c. on a (no_event_expr T) (event_expr (then_expr (fst input) c)))
+    ∷ row (codes "attach") (t (e (e no_place)))
+    (λ T a c. on a (no_event_expr T)
+    (event_expr (pair_expr (snd input) (then_expr (fst input) c))))
     ∷ []
 
 -- forms: the word, the parts, and the tree that they make
@@ -95,7 +102,8 @@ rows type_sort = type_rows
 rows expression_sort = other_rows ++ unary_rows ++ binary_rows ++ ternary_rows ++ typed_rows
 rows index_sort = []
 
--- what a word is that no table has: an expression may be a number of 64 bits, a parameter's number is at most 65,535
+-- what a word is that no table has: an expression may be a number of 64 bits, a parameter's number
+-- is at most 65,535
 abbrev pub number_at : (s : Sort) → List ℕ → WordReading (Tree s)
 number_at type_sort w = unfit
 number_at expression_sort w = map_reading int_expr (integer_at w)
@@ -131,4 +139,13 @@ takes_number _ = true
 
 -- the language of types and expressions
 abbrev pub leaf : Language
-leaf = record { Sort = Sort; Tree = Tree; word_at = word_at; row_at = row_at; has_form = has_form; takes_number = takes_number }
+leaf =
+    record {
+      Sort = Sort;
+      Tree = Tree;
+      word_at = word_at;
+      row_at = row_at;
+      has_form =
+          has_form;
+      takes_number = takes_number;
+    }

@@ -49,12 +49,16 @@ abbrev mutual
   expression_sexpr (not_expr a) = one (codes "not") (expression_sexpr a)
   expression_sexpr (and_expr a b) = two (codes "and") (expression_sexpr a) (expression_sexpr b)
   expression_sexpr (or_expr a b) = two (codes "or") (expression_sexpr a) (expression_sexpr b)
-  expression_sexpr (if_expr c a b) = three (codes "if") (expression_sexpr c) (expression_sexpr a) (expression_sexpr b)
+  expression_sexpr (if_expr c a b) =
+      three (codes "if") (expression_sexpr c) (expression_sexpr a) (expression_sexpr b)
   expression_sexpr (no_event_expr t) = one (codes "none") (type_sexpr t)
   expression_sexpr (event_expr e) = one (codes "event") (expression_sexpr e)
-  expression_sexpr (on e d b) = three (codes "on") (expression_sexpr e) (expression_sexpr d) (expression_sexpr b)
-  expression_sexpr (list_expr t es) = form (codes "list") (more (type_sexpr t) (expression_sexprs es))
-  expression_sexpr (nth e i d) = three (codes "nth") (expression_sexpr e) (expression_sexpr i) (expression_sexpr d)
+  expression_sexpr (on e d b) =
+      three (codes "on") (expression_sexpr e) (expression_sexpr d) (expression_sexpr b)
+  expression_sexpr (list_expr t es) =
+      form (codes "list") (more (type_sexpr t) (expression_sexprs es))
+  expression_sexpr (nth e i d) =
+      three (codes "nth") (expression_sexpr e) (expression_sexpr i) (expression_sexpr d)
   expression_sexpr (len e) = one (codes "len") (expression_sexpr e)
 
   -- the parts that the elements of a list are printed as

@@ -9,7 +9,8 @@ use Rattle.leaf_expr.specs.declared.text_fault.ExprTextFault.{ExprTextFault}
 use Rattle.leaf_expr.specs.declared.text_fault.ExprTextFault.TheVariants.{Syntax, Number, TooDeep}
 
 module _ (L : Language) where
-  -- Some tokens behind us make it a tree, whatever follows; it may open more parentheses than there may be.
+  -- Some tokens behind us make it a tree, whatever follows; it may open more parentheses than there
+  -- may be.
   pub record Completes (s : L.Sort) (us : List PlacedToken) : Type 0 where
     pub end : List PlacedToken
     pub stop : ℕ
@@ -25,31 +26,45 @@ module _ (L : Language) where
     pub spells : (us : List PlacedToken) → Spells part (front ++ us) stop us
     pub means : meaning L q part ≡ Some t
 
-  -- Of a tree of sort s the tokens us stand, so many parentheses are open, and next is the place of a tree
+  -- Of a tree of sort s the tokens us stand, so many parentheses are open, and next is the place of
+  -- a tree
   -- of the sort given, or, with none, of a form's word or end.
   mutual
     pub data Leads : L.Sort → List PlacedToken → Option L.Sort → ℕ → Type 0 where
       at_tree : {s : L.Sort} → Leads s [] (Some s) 0
       at_word : {s : L.Sort} {n : ℕ} → L.has_form s ≡ true → Leads s ((n, opening) ∷ []) None 1
-      in_form : {s : L.Sort} {n m : ℕ} {w : List ℕ} {r : Row L.Sort L.Tree (L.Tree s)} {us : List PlacedToken} {q : Option L.Sort} {d : ℕ} → L.has_form s ≡ true → L.row_at s w ≡ Some r → LeadsIn r.takes us q d → Leads s ((n, opening) ∷ (m, word w) ∷ us) q (suc d)
+      in_form : {s : L.Sort} {n m : ℕ} {w : List ℕ} {r : Row L.Sort L.Tree (L.Tree s)}
+          {us : List PlacedToken} {q : Option L.Sort} {d : ℕ} → L.has_form s ≡ true
+          → L.row_at s w ≡ Some r → LeadsIn r.takes us q d
+          → Leads s ((n, opening) ∷ (m, word w) ∷ us) q (suc d)
 
     -- the same of the parts of a form
     pub data LeadsIn : Places L.Sort → List PlacedToken → Option L.Sort → ℕ → Type 0 where
       at_end : LeadsIn no_place [] None 0
-      in_part : {p : L.Sort} {qs : Places L.Sort} {us : List PlacedToken} {q : Option L.Sort} {d : ℕ} → Leads p us q d → LeadsIn (place p qs) us q d
-      behind : {p : L.Sort} {qs : Places L.Sort} {t : L.Tree p} {front us : List PlacedToken} {q : Option L.Sort} {d : ℕ} → Whole p t front → LeadsIn qs us q d → LeadsIn (place p qs) (front ++ us) q d
-      in_item : {p : L.Sort} {us : List PlacedToken} {q : Option L.Sort} {d : ℕ} → Leads p us q d → LeadsIn (places p) us q d
-      behind_item : {p : L.Sort} {t : L.Tree p} {front us : List PlacedToken} {q : Option L.Sort} {d : ℕ} → Whole p t front → LeadsIn (places p) us q d → LeadsIn (places p) (front ++ us) q d
+      in_part : {p : L.Sort} {qs : Places L.Sort} {us : List PlacedToken} {q : Option L.Sort}
+          {d : ℕ} → Leads p us q d → LeadsIn (place p qs) us q d
+      behind : {p : L.Sort} {qs : Places L.Sort} {t : L.Tree p} {front us : List PlacedToken}
+          {q : Option L.Sort} {d : ℕ} → Whole p t front → LeadsIn qs us q d
+          → LeadsIn (place p qs) (front ++ us) q d
+      in_item : {p : L.Sort} {us : List PlacedToken} {q : Option L.Sort} {d : ℕ} → Leads p us q d
+          → LeadsIn (places p) us q d
+      behind_item : {p : L.Sort} {t : L.Tree p} {front us : List PlacedToken} {q : Option L.Sort}
+          {d : ℕ} → Whole p t front → LeadsIn (places p) us q d
+          → LeadsIn (places p) (front ++ us) q d
 
-  -- What a token that doesn't fit is called, where so many more parentheses may be opened: a parenthesis too
+  -- What a token that doesn't fit is called, where so many more parentheses may be opened: a
+  -- parenthesis too
   -- many, a number word where a number may stand, or a token that is none of these.
   abbrev pub fault_at : ℕ → PlacedToken → Option L.Sort → ExprTextFault
   fault_at zero (n, opening) q = TooDeep n
-  fault_at left (n, word w) (Some q) = if L.takes_number q && is_number_word w then Number n else Syntax n
+  fault_at left (n, word w) (Some q) = if L.takes_number q && is_number_word w then Number n
+      else Syntax n
   fault_at left x q = Syntax x.0
 
-  -- The token x behind before is the fault e: by the place that is next, and the parentheses open there.
-  pub record Misfit (room : ℕ) (s : L.Sort) (before : List PlacedToken) (x : PlacedToken) (e : ExprTextFault) : Type 0 where
+  -- The token x behind before is the fault e: by the place that is next, and the parentheses open
+  -- there.
+  pub record Misfit (room : ℕ) (s : L.Sort) (before : List PlacedToken) (x : PlacedToken)
+      (e : ExprTextFault) : Type 0 where
     pub next : Option L.Sort
     pub opened : ℕ
     pub left : ℕ
@@ -57,24 +72,39 @@ module _ (L : Language) where
     pub leads : Leads s before next opened
     pub called : e ≡ fault_at left x next
 
-  -- No tree stands at the front of ts: they end too early, or no tokens that go so far as x have one.
+  -- No tree stands at the front of ts: they end too early, or no tokens that go so far as x have
+  -- one.
   -- What comes before could have gone on to one.
-  pub data Stops (size room : ℕ) (s : L.Sort) (ts : List PlacedToken) (e : ExprTextFault) : Type 0 where
-    too_short : e ≡ Syntax size → ((t : L.Tree s) (n : ℕ) (rest : List PlacedToken) → Begins L room s t ts n rest → ⊥) → Completes s ts → Stops size room s ts e
-    at_token : (before : List PlacedToken) (x : PlacedToken) (after : List PlacedToken) → ts ≡ before ++ x ∷ after → ((more : List PlacedToken) (t : L.Tree s) (n : ℕ) (rest : List PlacedToken) → Begins L room s t (before ++ x ∷ more) n rest → ⊥) → Completes s before → Misfit room s before x e → Stops size room s ts e
+  pub data Stops (size room : ℕ) (s : L.Sort) (ts : List PlacedToken) (e : ExprTextFault) : Type 0
+    where
+      too_short : e ≡ Syntax size
+          → ((t : L.Tree s) (n : ℕ) (rest : List PlacedToken) → Begins L room s t ts n rest → ⊥)
+          → Completes s ts → Stops size room s ts e
+      at_token : (before : List PlacedToken) (x : PlacedToken) (after : List PlacedToken)
+          → ts ≡ before ++ x ∷ after
+          → ((more : List PlacedToken) (t : L.Tree s) (n : ℕ) (rest : List PlacedToken)
+          → Begins L room s t (before ++ x ∷ more) n rest → ⊥) → Completes s before
+          → Misfit room s before x e → Stops size room s ts e
 
   -- a tree that is read stands at the front of the tokens
   abbrev pub FoundLaw : Type 0
-  FoundLaw = (size room : ℕ) (s : L.Sort) (ts : List PlacedToken) (t : L.Tree s) (n : ℕ) (rest : List PlacedToken) → read L size room s ts ≡ Ok (t, n, rest) → Begins L room s t ts n rest
+  FoundLaw = (size room : ℕ) (s : L.Sort) (ts : List PlacedToken) (t : L.Tree s) (n : ℕ)
+      (rest : List PlacedToken) → read L size room s ts ≡ Ok (t, n, rest)
+      → Begins L room s t ts n rest
 
   -- a tree that stands at the front of the tokens is read
   abbrev pub OnlyLaw : Type 0
-  OnlyLaw = (size room : ℕ) (s : L.Sort) (ts : List PlacedToken) (t : L.Tree s) (n : ℕ) (rest : List PlacedToken) → Begins L room s t ts n rest → read L size room s ts ≡ Ok (t, n, rest)
+  OnlyLaw = (size room : ℕ) (s : L.Sort) (ts : List PlacedToken) (t : L.Tree s) (n : ℕ)
+      (rest : List PlacedToken) → Begins L room s t ts n rest
+      → read L size room s ts ≡ Ok (t, n, rest)
 
   -- at most one tree of a sort stands at the front of the tokens
   abbrev pub OneReadingLaw : Type 0
-  OneReadingLaw = (r q : ℕ) (s : L.Sort) (t u : L.Tree s) (ts : List PlacedToken) (n m : ℕ) (rest more : List PlacedToken) → Begins L r s t ts n rest → Begins L q s u ts m more → (t ≡ u) × (n ≡ m) × (rest ≡ more)
+  OneReadingLaw = (r q : ℕ) (s : L.Sort) (t u : L.Tree s) (ts : List PlacedToken) (n m : ℕ)
+      (rest more : List PlacedToken) → Begins L r s t ts n rest → Begins L q s u ts m more
+      → (t ≡ u) × (n ≡ m) × (rest ≡ more)
 
   -- a fault that is answered is the first token that doesn't fit, or the end
   abbrev pub FaultLaw : Type 0
-  FaultLaw = (size room : ℕ) (s : L.Sort) (ts : List PlacedToken) (e : ExprTextFault) → read L size room s ts ≡ Err e → Stops size room s ts e
+  FaultLaw = (size room : ℕ) (s : L.Sort) (ts : List PlacedToken) (e : ExprTextFault)
+      → read L size room s ts ≡ Err e → Stops size room s ts e

@@ -1,4 +1,5 @@
--- What the code's readers answer: what the reader of the grammar does on the tokens from some byte on.
+-- What the code's readers answer: what the reader of the grammar does on the tokens from some byte
+-- on.
 use Rattle.std.specs.Prelude.{◌≢◌, ◌<◌, ℕ, Bool, true, false, List, [], ◌∷◌, length, slice_range, map, Result, Ok, Err, Option, Some, None}
 use Rattle.sample_core.specs.TypeTree.{TypeTree}
 use Rattle.sample_core.specs.TypeView.{type_of}
@@ -20,7 +21,8 @@ use Rattle.sample_core.specs.Answer.{◌>>=◌, GivesUnless}
 use Rattle.leaf_expr.specs.declared.text_fault.ExprTextFault.TheVariants.{TooLong, Memory}
 
 -- what a call returned, seen by view, is what reading gives, unless memory ran out
-abbrev pub Gives : {X Y : Type 0} → (X → Y) → Result X ExprTextFault → Result Y ExprTextFault → Type 0
+abbrev pub Gives : {X Y : Type 0} → (X → Y) → Result X ExprTextFault → Result Y ExprTextFault
+    → Type 0
 Gives view result read = GivesUnless Memory view result read
 
 -- a tree of the sort in the text from byte n on, with room for so many more parentheses
@@ -37,23 +39,28 @@ expression_left text x = (expression_of x.0, x.1, tokens_from x.1 text)
 
 -- the tree of the sort that the word is from byte n up to and without byte m
 abbrev pub word_tree : (s : Sort) → List ℕ → ℕ → ℕ → Read (Tree s)
-word_tree s text n m = word_read n (slice_range text n m) (tokens_from m text) (word_at s (slice_range text n m))
+word_tree s text n m = word_read n (slice_range text n m) (tokens_from m text)
+    (word_at s (slice_range text n m))
 
 -- what is read behind the parenthesis of a form, in the text from byte n on
 abbrev pub form_at : (s : Sort) → List ℕ → ℕ → ℕ → Read (Tree s)
-form_at s text room n = read_form leaf (length text) (read leaf (length text) room) room s (tokens_from n text)
+form_at s text room n = read_form leaf (length text) (read leaf (length text) room) room s
+    (tokens_from n text)
 
 -- the parts of a form and its end, in the text from byte n on
 abbrev pub row_parts : {R : Type 0} → Row Sort Tree R → List ℕ → ℕ → ℕ → Read R
-row_parts r text room n = read_parts leaf (length text) (read leaf (length text) room) room r.takes r.makes (tokens_from n text)
+row_parts r text room n = read_parts leaf (length text) (read leaf (length text) room) room r.takes
+    r.makes (tokens_from n text)
 
 -- the last part of a form, a tree of the sort, and the form's end, in the text from byte n on
 abbrev pub last_at : (s : Sort) → List ℕ → ℕ → ℕ → Read (Tree s)
-last_at s text room n = read_parts leaf (length text) (read leaf (length text) room) room (place s no_place) (λ t. t) (tokens_from n text)
+last_at s text room n = read_parts leaf (length text) (read leaf (length text) room) room
+    (place s no_place) (λ t. t) (tokens_from n text)
 
 -- the last two parts of a form, which are expressions, and its end, in the text from byte n on
 abbrev pub last_two_at : List ℕ → ℕ → ℕ → Read (Expression × Expression)
-last_two_at text room n = read_parts leaf (length text) (read leaf (length text) room) room (e (e no_place)) (λ a b. (a, b)) (tokens_from n text)
+last_two_at text room n = read_parts leaf (length text) (read leaf (length text) room) room
+    (e (e no_place)) (λ a b. (a, b)) (tokens_from n text)
 
 -- a type in the text from byte n on, as no event of it
 abbrev pub none_at : List ℕ → ℕ → ℕ → Read Expression
@@ -61,7 +68,8 @@ none_at text room n = tree_at type_sort text room n >>= (λ x. Ok (no_event_expr
 
 -- the elements of a list up to the end of the form, in the text from byte n on
 abbrev pub items_at : List ℕ → ℕ → ℕ → Read (List Expression)
-items_at text room n = read_all leaf (length text) (read leaf (length text) room expression_sort) (length (tokens_from n text)) (λ xs. xs) (tokens_from n text)
+items_at text room n = read_all leaf (length text) (read leaf (length text) room expression_sort)
+    (length (tokens_from n text)) (λ xs. xs) (tokens_from n text)
 
 -- the elements as trees, the byte behind them, and the tokens from there on
 abbrev pub items_left : List ℕ → List Expr × ℕ → List Expression × ℕ × List PlacedToken
@@ -84,7 +92,8 @@ begins_closing [] = false
 begins_closing ((n, closing) ∷ ts) = true
 begins_closing (x ∷ ts) = false
 
--- Why no tree of the sort stands in the text from byte n on, with room for so many parentheses: the first token
+-- Why no tree of the sort stands in the text from byte n on, with room for so many parentheses: the
+-- first token
 -- that doesn't fit, or the end. `TooLong` doesn't come, and `Memory` says nothing of the text.
 abbrev pub IsFault : (s : Sort) → List ℕ → ℕ → ℕ → ExprTextFault → Type 0
 IsFault s text room n Memory = Unit {0}

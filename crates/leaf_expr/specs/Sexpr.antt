@@ -16,13 +16,17 @@ mutual
 -- the tokens ts are those of the part, up to byte n, and then rest
 mutual
   pub data Spells : Sexpr → List PlacedToken → ℕ → List PlacedToken → Type 0 where
-    atom_spells : {n : ℕ} {w : List ℕ} {ts : List PlacedToken} → Spells (atom w) ((n, word w) ∷ ts) (n + length w) ts
-    form_spells : {n m k : ℕ} {w : List ℕ} {ps : Sexprs} {ts rest : List PlacedToken} → SpellAll ps ts ((k, closing) ∷ rest) → Spells (form w ps) ((n, opening) ∷ (m, word w) ∷ ts) (suc k) rest
+    atom_spells : {n : ℕ} {w : List ℕ} {ts : List PlacedToken}
+        → Spells (atom w) ((n, word w) ∷ ts) (n + length w) ts
+    form_spells : {n m k : ℕ} {w : List ℕ} {ps : Sexprs} {ts rest : List PlacedToken}
+        → SpellAll ps ts ((k, closing) ∷ rest)
+        → Spells (form w ps) ((n, opening) ∷ (m, word w) ∷ ts) (suc k) rest
 
   -- the tokens ts are those of the parts and then rest
   pub data SpellAll : Sexprs → List PlacedToken → List PlacedToken → Type 0 where
     last_spells : {ts : List PlacedToken} → SpellAll last ts ts
-    more_spells : {n : ℕ} {p : Sexpr} {ps : Sexprs} {ts mid rest : List PlacedToken} → Spells p ts n mid → SpellAll ps mid rest → SpellAll (more p ps) ts rest
+    more_spells : {n : ℕ} {p : Sexpr} {ps : Sexprs} {ts mid rest : List PlacedToken}
+        → Spells p ts n mid → SpellAll ps mid rest → SpellAll (more p ps) ts rest
 
 -- how many parentheses are open at once
 abbrev mutual

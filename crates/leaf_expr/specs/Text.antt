@@ -21,23 +21,36 @@ whole (Err e) = Err e
 
 -- the tree of the sort that the text is, or its first fault
 abbrev pub read_text : (s : Sort) → List ℕ → Result (Tree s) ExprTextFault
-read_text s bs = if nat_lt 1048576 (length bs) then Err TooLong else whole (read leaf (length bs) 600 s (tokens bs))
+read_text s bs = if nat_lt 1048576 (length bs) then Err TooLong
+    else whole (read leaf (length bs) 600 s (tokens bs))
 
--- the text is one tree of the sort, with at most 600 parentheses open at once, in at most 1,048,576 bytes
+-- the text is one tree of the sort, with at most 600 parentheses open at once, in at most 1,048,576
+-- bytes
 pub record IsText (s : Sort) (bs : List ℕ) (t : Tree s) : Type 0 where
   pub short : length bs ≤ 1048576
   pub stop : ℕ
   pub begins : Begins leaf 600 s t (tokens bs) stop []
 
--- No text is one tree: the tokens end too early, or a token doesn't fit where a tree goes on, or one follows a tree.
+-- No text is one tree: the tokens end too early, or a token doesn't fit where a tree goes on, or
+-- one follows a tree.
 pub data NoText (s : Sort) (bs : List ℕ) (e : ExprTextFault) : Type 0 where
-  ends : e ≡ Syntax (length bs) → ((t : Tree s) (n : ℕ) → Begins leaf 600 s t (tokens bs) n [] → ⊥) → Completes leaf s (tokens bs) → NoText s bs e
-  fails : (before : List PlacedToken) (x : PlacedToken) (after : List PlacedToken) → tokens bs ≡ before ++ x ∷ after → ((more : List PlacedToken) (t : Tree s) (n : ℕ) → Begins leaf 600 s t (before ++ x ∷ more) n [] → ⊥) → Completes leaf s before → Misfit leaf 600 s before x e → NoText s bs e
-  follows : (before : List PlacedToken) (x : PlacedToken) (after : List PlacedToken) → tokens bs ≡ before ++ x ∷ after → ((more : List PlacedToken) (t : Tree s) (n : ℕ) → Begins leaf 600 s t (before ++ x ∷ more) n [] → ⊥) → (t : Tree s) (n : ℕ) → Begins leaf 600 s t before n [] → e ≡ Syntax x.0 → NoText s bs e
+  ends : e ≡ Syntax (length bs) → ((t : Tree s) (n : ℕ) → Begins leaf 600 s t (tokens bs) n [] → ⊥)
+      → Completes leaf s (tokens bs) → NoText s bs e
+  fails : (before : List PlacedToken) (x : PlacedToken) (after : List PlacedToken)
+      → tokens bs ≡ before ++ x ∷ after
+      → ((more : List PlacedToken) (t : Tree s) (n : ℕ)
+      → Begins leaf 600 s t (before ++ x ∷ more) n [] → ⊥) → Completes leaf s before
+      → Misfit leaf 600 s before x e → NoText s bs e
+  follows : (before : List PlacedToken) (x : PlacedToken) (after : List PlacedToken)
+      → tokens bs ≡ before ++ x ∷ after
+      → ((more : List PlacedToken) (t : Tree s) (n : ℕ)
+      → Begins leaf 600 s t (before ++ x ∷ more) n [] → ⊥) → (t : Tree s) (n : ℕ)
+      → Begins leaf 600 s t before n [] → e ≡ Syntax x.0 → NoText s bs e
 
 -- the reader of whole texts answers exactly the texts of a tree
 abbrev pub ReadTextLaw : Type 0
-ReadTextLaw = (s : Sort) (bs : List ℕ) (t : Tree s) → (read_text s bs ≡ Ok t → IsText s bs t) × (IsText s bs t → read_text s bs ≡ Ok t)
+ReadTextLaw = (s : Sort) (bs : List ℕ) (t : Tree s)
+    → (read_text s bs ≡ Ok t → IsText s bs t) × (IsText s bs t → read_text s bs ≡ Ok t)
 
 -- a text has one reading
 abbrev pub OneTextLaw : Type 0
@@ -45,16 +58,27 @@ OneTextLaw = (s : Sort) (bs : List ℕ) (t u : Tree s) → IsText s bs t → IsT
 
 -- a fault that is answered, other than for its length, tells why the text is no tree
 abbrev pub TextFaultLaw : Type 0
-TextFaultLaw = (s : Sort) (bs : List ℕ) (e : ExprTextFault) → e ≢ TooLong → read_text s bs ≡ Err e → NoText s bs e
+TextFaultLaw = (s : Sort) (bs : List ℕ) (e : ExprTextFault) → e ≢ TooLong → read_text s bs ≡ Err e
+    → NoText s bs e
 
 -- a printed expression is read again before any bytes that do not go on its last word
 abbrev pub PrintedLaw : Type 0
-PrintedLaw = (e : Expression) (room n : ℕ) (bs : List ℕ) → InRange e → depth (expression_sexpr e) ≤ room → begins_word bs ≡ false → (let end = n + length (spelling (expression_sexpr e)) in Begins leaf room expression_sort e (tokens_in false n (spelling (expression_sexpr e) ++ bs)) end (tokens_in false end bs))
+PrintedLaw = (e : Expression) (room n : ℕ) (bs : List ℕ) → InRange e
+    → depth (expression_sexpr e) ≤ room → begins_word bs ≡ false
+    → (let end = n + length (spelling (expression_sexpr e)) in
+    Begins leaf room expression_sort e (tokens_in false n (spelling (expression_sexpr e) ++ bs)) end
+    (tokens_in false end bs))
 
 -- a printed type is read again before any bytes that do not go on its last word
 abbrev pub PrintedTypeLaw : Type 0
-PrintedTypeLaw = (t : TypeTree) (room n : ℕ) (bs : List ℕ) → depth (type_sexpr t) ≤ room → begins_word bs ≡ false → (let end = n + length (type_spelling t) in Begins leaf room type_sort t (tokens_in false n (type_spelling t ++ bs)) end (tokens_in false end bs))
+PrintedTypeLaw = (t : TypeTree) (room n : ℕ) (bs : List ℕ) → depth (type_sexpr t) ≤ room
+    → begins_word bs ≡ false
+    → (let end = n + length (type_spelling t) in
+    Begins leaf room type_sort t (tokens_in false n (type_spelling t ++ bs)) end
+    (tokens_in false end bs))
 
 -- a printed expression is a text of it
 abbrev pub PrintedTextLaw : Type 0
-PrintedTextLaw = (e : Expression) → InRange e → depth (expression_sexpr e) ≤ 600 → length (spelling (expression_sexpr e)) ≤ 1048576 → read_text expression_sort (spelling (expression_sexpr e)) ≡ Ok e
+PrintedTextLaw = (e : Expression) → InRange e → depth (expression_sexpr e) ≤ 600
+    → length (spelling (expression_sexpr e)) ≤ 1048576
+    → read_text expression_sort (spelling (expression_sexpr e)) ≡ Ok e

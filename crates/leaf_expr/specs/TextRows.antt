@@ -71,15 +71,22 @@ LongRows =
     × IsExpression (codes "(on true x unit)") (on (bool_expr true) input unit_expr)
     × IsExpression (codes "(nth true x unit)") (nth (bool_expr true) input unit_expr)
     × IsExpression (codes "(list Int)") (list_expr int_ty no_more)
-    × IsExpression (codes "(list Int x unit)") (list_expr int_ty (and_then input (and_then unit_expr no_more)))
+    × IsExpression (codes "(list Int x unit)")
+    (list_expr int_ty (and_then input (and_then unit_expr no_more)))
 
--- sugar: `(lMerge a b)` means `(on a b (event (snd x)))`, whatever a and b are; so with the forms below
+-- sugar: `(lMerge a b)` means `(on a b (event (snd x)))`, whatever a and b are; so with the forms
+-- below
 abbrev pub MergeIs : Type 0
-MergeIs = (a b : Sexpr) → meaning leaf expression_sort (two (codes "lMerge") a b) ≡ meaning leaf expression_sort (three (codes "on") a b (one (codes "event") (one (codes "snd") (atom (codes "x")))))
+MergeIs = (a b : Sexpr)
+    → meaning leaf expression_sort (two (codes "lMerge") a b)
+    ≡ meaning leaf expression_sort
+    (three (codes "on") a b (one (codes "event") (one (codes "snd") (atom (codes "x")))))
 
 -- `(gate T e b)` means `(if b e (none T))`
 abbrev pub GateIs : Type 0
-GateIs = (T a b : Sexpr) → meaning leaf expression_sort (three (codes "gate") T a b) ≡ meaning leaf expression_sort (three (codes "if") b a (one (codes "none") T))
+GateIs = (T a b : Sexpr)
+    → meaning leaf expression_sort (three (codes "gate") T a b)
+    ≡ meaning leaf expression_sort (three (codes "if") b a (one (codes "none") T))
 
 -- `(then (fst x) c)`
 abbrev pub at_sample : Sexpr → Sexpr
@@ -87,11 +94,18 @@ at_sample c = two (codes "then") (one (codes "fst") (atom (codes "x"))) c
 
 -- `(tag T e c)` means `(on e (none T) (event (then (fst x) c)))`
 abbrev pub TagIs : Type 0
-TagIs = (T a c : Sexpr) → meaning leaf expression_sort (three (codes "tag") T a c) ≡ meaning leaf expression_sort (three (codes "on") a (one (codes "none") T) (one (codes "event") (at_sample c)))
+TagIs = (T a c : Sexpr)
+    → meaning leaf expression_sort (three (codes "tag") T a c)
+    ≡ meaning leaf expression_sort
+    (three (codes "on") a (one (codes "none") T) (one (codes "event") (at_sample c)))
 
 -- `(attach T e c)` means `(on e (none T) (event (pair (snd x) (then (fst x) c))))`
 abbrev pub AttachIs : Type 0
-AttachIs = (T a c : Sexpr) → meaning leaf expression_sort (three (codes "attach") T a c) ≡ meaning leaf expression_sort (three (codes "on") a (one (codes "none") T) (one (codes "event") (two (codes "pair") (one (codes "snd") (atom (codes "x"))) (at_sample c))))
+AttachIs = (T a c : Sexpr)
+    → meaning leaf expression_sort (three (codes "attach") T a c)
+    ≡ meaning leaf expression_sort
+    (three (codes "on") a (one (codes "none") T)
+    (one (codes "event") (two (codes "pair") (one (codes "snd") (atom (codes "x"))) (at_sample c))))
 
 -- refusals: by place and kind
 abbrev pub FaultRows : Type 0
@@ -107,4 +121,5 @@ FaultRows =
     × (read_text expression_sort (codes "(add x") ≡ Err (Syntax 6))
     × (read_text expression_sort (codes "x ;)\n x") ≡ Err (Syntax 6))
     × (read_text type_sort (codes "(List 5)") ≡ Err (Syntax 6))
-    × (read leaf 11 1 expression_sort ((0, opening) ∷ (1, word (codes "fst")) ∷ (5, opening) ∷ []) ≡ Err (TooDeep 5))
+    × (read leaf 11 1 expression_sort ((0, opening) ∷ (1, word (codes "fst")) ∷ (5, opening) ∷ [])
+    ≡ Err (TooDeep 5))

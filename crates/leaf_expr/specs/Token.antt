@@ -24,7 +24,8 @@ abbrev pub begins_word : List ℕ → Bool
 begins_word [] = false
 begins_word (b ∷ bs) = is_word_byte b
 
--- the byte b at n, and the tokens after it: the first of them goes on b's word, or b is a word alone
+-- the byte b at n, and the tokens after it: the first of them goes on b's word, or b is a word
+-- alone
 abbrev pub join_byte : ℕ → ℕ → Bool → List PlacedToken → List PlacedToken
 join_byte n b true ((m, word w) ∷ ts) = (n, word (b ∷ w)) ∷ ts
 join_byte n b _ ts = (n, word (b ∷ [])) ∷ ts

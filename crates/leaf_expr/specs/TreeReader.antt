@@ -16,7 +16,8 @@ abbrev pub unfit_token : ℕ → PlacedToken → ExprTextFault
 unfit_token zero (n, opening) = TooDeep n
 unfit_token _ x = Syntax x.0
 
--- the word w at n, as it was found: its tree, the byte behind it and the tokens left, or why it is none
+-- the word w at n, as it was found: its tree, the byte behind it and the tokens left, or why it is
+-- none
 abbrev pub word_read : {T : Type 0} → ℕ → List ℕ → List PlacedToken → WordReading T → Read T
 word_read n w ts (reads x) = Ok (x, n + length w, ts)
 word_read n w ts misspelt = Err (Number n)
@@ -40,27 +41,35 @@ module _ (L : Language) (size : ℕ) where
   read_head room ((n, word w) ∷ ts) = Ok (n, w, ts)
   read_head room (x ∷ ts) = Err (unfit_token room x)
 
-  -- parts up to the end of the form, each by the reader given; it has no more of them than the count
-  abbrev pub read_all : {T R : Type 0} → (List PlacedToken → Read T) → ℕ → (List T → R) → List PlacedToken → Read R
+  -- parts up to the end of the form, each by the reader given; it has no more of them than the
+  -- count
+  abbrev pub read_all : {T R : Type 0} → (List PlacedToken → Read T) → ℕ → (List T → R)
+      → List PlacedToken → Read R
   read_all reader zero make ts = Err (Syntax size)
   read_all reader (suc n) make [] = Err (Syntax size)
   read_all reader (suc n) make ((m, closing) ∷ ts) = Ok (make [], suc m, ts)
-  read_all reader (suc n) make ts = reader ts >>= (λ x. read_all reader n (λ xs. make (x.0 ∷ xs)) x.2)
+  read_all reader (suc n) make ts =
+      reader ts >>= (λ x. read_all reader n (λ xs. make (x.0 ∷ xs)) x.2)
 
   -- the parts that a form takes, each by the reader given, and its end
-  abbrev pub read_parts : {R : Type 0} → ((s : L.Sort) → List PlacedToken → Read (L.Tree s)) → ℕ → (qs : Places L.Sort) → Maker L.Tree qs R → List PlacedToken → Read R
+  abbrev pub read_parts : {R : Type 0} → ((s : L.Sort) → List PlacedToken → Read (L.Tree s)) → ℕ
+      → (qs : Places L.Sort) → Maker L.Tree qs R → List PlacedToken → Read R
   read_parts reader room no_place x ts = close room x ts
-  read_parts reader room (place s qs) make ts = reader s ts >>= (λ x. read_parts reader room qs (make x.0) x.2)
+  read_parts reader room (place s qs) make ts =
+      reader s ts >>= (λ x. read_parts reader room qs (make x.0) x.2)
   read_parts reader room (places s) make ts = read_all (reader s) (length ts) make ts
 
   -- what is read behind the word at n of a form
-  abbrev pub read_row : {R : Type 0} → ((q : L.Sort) → List PlacedToken → Read (L.Tree q)) → ℕ → ℕ → Option (Row L.Sort L.Tree R) → List PlacedToken → Read R
+  abbrev pub read_row : {R : Type 0} → ((q : L.Sort) → List PlacedToken → Read (L.Tree q)) → ℕ → ℕ
+      → Option (Row L.Sort L.Tree R) → List PlacedToken → Read R
   read_row reader room n None ts = Err (Syntax n)
   read_row reader room n (Some r) ts = read_parts reader room r.takes r.makes ts
 
   -- what is read behind the parenthesis of a form
-  abbrev pub read_form : ((q : L.Sort) → List PlacedToken → Read (L.Tree q)) → ℕ → (s : L.Sort) → List PlacedToken → Read (L.Tree s)
-  read_form reader room s ts = read_head room ts >>= (λ h. read_row reader room h.0 (L.row_at s h.1) h.2)
+  abbrev pub read_form : ((q : L.Sort) → List PlacedToken → Read (L.Tree q)) → ℕ → (s : L.Sort)
+      → List PlacedToken → Read (L.Tree s)
+  read_form reader room s ts =
+      read_head room ts >>= (λ h. read_row reader room h.0 (L.row_at s h.1) h.2)
 
   -- a tree of the sort, with room for so many more parentheses
   abbrev pub read : ℕ → (s : L.Sort) → List PlacedToken → Read (L.Tree s)
@@ -68,4 +77,5 @@ module _ (L : Language) (size : ℕ) where
   read room s ((n, word w) ∷ ts) = word_read n w ts (L.word_at s w)
   read room s ((n, closing) ∷ ts) = Err (Syntax n)
   read zero s ((n, opening) ∷ ts) = Err (TooDeep n)
-  read (suc room) s ((n, opening) ∷ ts) = if L.has_form s then read_form (read room) room s ts else Err (Syntax n)
+  read (suc room) s ((n, opening) ∷ ts) = if L.has_form s then read_form (read room) room s ts
+      else Err (Syntax n)

@@ -16,11 +16,13 @@ is_between low high w = not (is_minus w) && nat_le low (magnitude w) && nat_le (
 
 -- where a number of 64 bits may stand
 abbrev pub integer_at : List ℕ → WordReading ℤ
-integer_at w = if is_number_word w then (if is_well_spelt w && is_in_64 w then reads (number_of w) else misspelt) else unfit
+integer_at w = if is_number_word w then
+    (if is_well_spelt w && is_in_64 w then reads (number_of w) else misspelt) else unfit
 
 -- where a natural number from low to high may stand
 abbrev pub natural_at : ℕ → ℕ → List ℕ → WordReading ℕ
-natural_at low high w = if is_number_word w then (if is_well_spelt w && is_between low high w then reads (magnitude w) else misspelt) else unfit
+natural_at low high w = if is_number_word w then
+    (if is_well_spelt w && is_between low high w then reads (magnitude w) else misspelt) else unfit
 
 -- the same with what is read made into something else
 abbrev pub map_reading : {A B : Type 0} → (A → B) → WordReading A → WordReading B
@@ -33,10 +35,15 @@ abbrev pub index : ℤ → Option ℕ
 index (pos k) = if nat_le k 65535 then Some k else None
 index (negsuc k) = None
 
--- a number word that is read is the one spelling of its number, and each number in range is read from it
+-- a number word that is read is the one spelling of its number, and each number in range is read
+-- from it
 abbrev pub NumberLaw : Type 0
-NumberLaw = (w : List ℕ) (z : ℤ) → (integer_at w ≡ reads z → FitsSigned w64 z × (w ≡ signed_decimal z)) × (FitsSigned w64 z → integer_at (signed_decimal z) ≡ reads z)
+NumberLaw = (w : List ℕ) (z : ℤ)
+    → (integer_at w ≡ reads z → FitsSigned w64 z × (w ≡ signed_decimal z))
+    × (FitsSigned w64 z → integer_at (signed_decimal z) ≡ reads z)
 
 -- the same for natural numbers from low to high
 abbrev pub NaturalLaw : Type 0
-NaturalLaw = (low high n : ℕ) (w : List ℕ) → high < 2 ^ 64 → (natural_at low high w ≡ reads n → (low ≤ n) × (n ≤ high) × (w ≡ decimal n)) × (low ≤ n → n ≤ high → natural_at low high (decimal n) ≡ reads n)
+NaturalLaw = (low high n : ℕ) (w : List ℕ) → high < 2 ^ 64
+    → (natural_at low high w ≡ reads n → (low ≤ n) × (n ≤ high) × (w ≡ decimal n))
+    × (low ≤ n → n ≤ high → natural_at low high (decimal n) ≡ reads n)

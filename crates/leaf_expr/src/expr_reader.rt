@@ -28,7 +28,8 @@ pub const MAX_LENGTH: usize = 1_048_576;
 
 /// The number of a parameter, at or after byte `at`, and the byte behind it.
 fn read_index(text: &[u8], at: usize, room: usize) -> Result<(u32, usize), ExprTextFault>
-    ensures { Gives (λ x. (x.0, x.1, tokens_from x.1 text.now)) result (tree_at index_sort text.now room at) }
+    ensures { Gives (λ x. (x.0, x.1, tokens_from x.1 text.now)) result
+        (tree_at index_sort text.now room at) }
 {
     let (start, end) = form_head(text, at, room)?;
     match index_word(&text[start..end]) {
@@ -59,7 +60,8 @@ fn read_expression(
 /// latter.
 fn word_expr(text: &[u8], start: usize, end: usize) -> Result<(Expr, usize), ExprTextFault>
     requires { (start < end) × (end ≤ length text.now) }
-    ensures { Gives (expression_left text.now) result (word_tree expression_sort text.now start end) }
+    ensures { Gives (expression_left text.now) result
+        (word_tree expression_sort text.now start end) }
 {
     match expr_word(&text[start..end]) {
         Ok(expr) => Ok((expr, end)),
@@ -104,7 +106,8 @@ fn parts(
 
 /// The number of a parameter, and the end of the form.
 fn param(text: &[u8], at: usize, room: usize) -> Result<(Expr, usize), ExprTextFault>
-    ensures { Gives (expression_left text.now) result (row_parts (form_row Form.Param) text.now room at) }
+    ensures { Gives (expression_left text.now) result
+        (row_parts (form_row Form.Param) text.now room at) }
 {
     let (k, at) = read_index(text, at, room)?;
     let end = form_end(text, at, room)?;
@@ -118,7 +121,8 @@ fn no_event(
     at: usize,
     room: usize,
 ) -> Result<(Expr, usize), ExprTextFault>
-    ensures { Gives (expression_left text.now) result (row_parts (form_row Form.NoEvent) text.now room at) }
+    ensures { Gives (expression_left text.now) result
+        (row_parts (form_row Form.NoEvent) text.now room at) }
 {
     let (ty, at) = read_type(alloc, text, at, room)?;
     match form_end(text, at, room) {
@@ -138,7 +142,8 @@ fn part(
     at: usize,
     room: usize,
 ) -> Result<(ExprChild, usize), ExprTextFault>
-    ensures { Gives (λ x. (x.0, x.1, tokens_from x.1 text.now)) result (tree_at expression_sort text.now room at) }
+    ensures { Gives (λ x. (x.0, x.1, tokens_from x.1 text.now)) result
+        (tree_at expression_sort text.now room at) }
 {
     let (expr, at) = read_expression(alloc, text, at, room)?;
     Ok((ExprChild::new(alloc, expr)?, at))
@@ -152,7 +157,8 @@ fn last_two(
     at: usize,
     room: usize,
 ) -> Result<(ExprChild, ExprChild, usize), ExprTextFault>
-    ensures { Gives (λ x. ((x.0, x.1), x.2, tokens_from x.2 text.now)) result (last_two_at text.now room at) }
+    ensures { Gives (λ x. ((x.0, x.1), x.2, tokens_from x.2 text.now)) result
+        (last_two_at text.now room at) }
 {
     let (a, at) = part(alloc, text, at, room)?;
     let (b, at) = part(alloc, text, at, room)?;
@@ -169,7 +175,8 @@ fn unary(
     room: usize,
     form: Unary,
 ) -> Result<(Expr, usize), ExprTextFault>
-    ensures { Gives (expression_left text.now) result (row_parts (unary_row form) text.now room at) }
+    ensures { Gives (expression_left text.now) result
+        (row_parts (unary_row form) text.now room at) }
 {
     let (a, at) = part(alloc, text, at, room)?;
     let end = form_end(text, at, room)?;
@@ -185,7 +192,8 @@ fn binary(
     room: usize,
     form: Binary,
 ) -> Result<(Expr, usize), ExprTextFault>
-    ensures { Gives (expression_left text.now) result (row_parts (binary_row form) text.now room at) }
+    ensures { Gives (expression_left text.now) result
+        (row_parts (binary_row form) text.now room at) }
 {
     let (a, b, end) = last_two(alloc, text, at, room)?;
     let expr = form.of(alloc, a, b)?;
@@ -201,7 +209,8 @@ fn ternary(
     room: usize,
     form: Ternary,
 ) -> Result<(Expr, usize), ExprTextFault>
-    ensures { Gives (expression_left text.now) result (row_parts (ternary_row form) text.now room at) }
+    ensures { Gives (expression_left text.now) result
+        (row_parts (ternary_row form) text.now room at) }
 {
     let (a, at) = part(alloc, text, at, room)?;
     let (b, c, end) = last_two(alloc, text, at, room)?;
@@ -231,7 +240,8 @@ fn typed(
     room: usize,
     form: Typed,
 ) -> Result<(Expr, usize), ExprTextFault>
-    ensures { Gives (expression_left text.now) result (row_parts (typed_row form) text.now room at) }
+    ensures { Gives (expression_left text.now) result
+        (row_parts (typed_row form) text.now room at) }
 {
     let (none, at) = none_part(alloc, text, at, room)?;
     let (a, b, end) = last_two(alloc, text, at, room)?;
@@ -242,7 +252,8 @@ fn typed(
 /// The type of a list and its elements, and the end of the form.
 #[cycle(read_expression)]
 fn list(alloc: Global, text: &[u8], at: usize, room: usize) -> Result<(Expr, usize), ExprTextFault>
-    ensures { Gives (expression_left text.now) result (row_parts (form_row Form.List) text.now room at) }
+    ensures { Gives (expression_left text.now) result
+        (row_parts (form_row Form.List) text.now room at) }
 {
     let (ty, at) = read_type(alloc, text, at, room)?;
     match elements(alloc, text, at, room) {
@@ -312,7 +323,8 @@ fn expr_at(
     at: usize,
     depth: usize,
 ) -> Result<(Expr, usize), ExprTextFault>
-    ensures { Gives (expression_left text.now) result (tree_at expression_sort text.now (600 - depth) at) }
+    ensures { Gives (expression_left text.now) result
+        (tree_at expression_sort text.now (600 - depth) at) }
 {
     read_expression(alloc, text, at, MAX_OPEN.saturating_sub(depth))
 }
@@ -358,13 +370,18 @@ pub fn read_type_at(
     depth: usize,
 ) -> Result<(Ty, usize), ExprTextFault>
     // What is read is in the grammar.
-    ensures found { IfOk result (λ x. Begins leaf (600 - depth) type_sort (type_of x.0) (tokens_from at text.now) x.1 (tokens_from x.1 text.now)) }
+    ensures found { IfOk result
+        (λ x. Begins leaf (600 - depth) type_sort (type_of x.0) (tokens_from at text.now) x.1
+        (tokens_from x.1 text.now)) }
     // What is in the grammar is read, unless memory runs out.
-    ensures only { (t : TypeTree) (n : ℕ) (rest : List PlacedToken) → Begins leaf (600 - depth) type_sort t (tokens_from at text.now) n rest → Gives (type_left text.now) result (Ok (t, n, rest)) }
+    ensures only { (t : TypeTree) (n : ℕ) (rest : List PlacedToken)
+        → Begins leaf (600 - depth) type_sort t (tokens_from at text.now) n rest
+        → Gives (type_left text.now) result (Ok (t, n, rest)) }
     // What is refused is so at the first token that doesn't fit.
     ensures refused { IfErr result (IsFault type_sort text.now (600 - depth) at) }
     // Which answer it is.
-    ensures exact { Gives (type_left text.now) result (tree_at type_sort text.now (600 - depth) at) }
+    ensures exact { Gives (type_left text.now) result
+        (tree_at type_sort text.now (600 - depth) at) }
 {
     type_at(alloc, text, at, depth)
 }
@@ -386,13 +403,18 @@ pub fn read_expr_at(
     depth: usize,
 ) -> Result<(Expr, usize), ExprTextFault>
     // What is read is in the grammar.
-    ensures found { IfOk result (λ x. Begins leaf (600 - depth) expression_sort (expression_of x.0) (tokens_from at text.now) x.1 (tokens_from x.1 text.now)) }
+    ensures found { IfOk result
+        (λ x. Begins leaf (600 - depth) expression_sort (expression_of x.0)
+        (tokens_from at text.now) x.1 (tokens_from x.1 text.now)) }
     // What is in the grammar is read, unless memory runs out.
-    ensures only { (t : Expression) (n : ℕ) (rest : List PlacedToken) → Begins leaf (600 - depth) expression_sort t (tokens_from at text.now) n rest → Gives (expression_left text.now) result (Ok (t, n, rest)) }
+    ensures only { (t : Expression) (n : ℕ) (rest : List PlacedToken)
+        → Begins leaf (600 - depth) expression_sort t (tokens_from at text.now) n rest
+        → Gives (expression_left text.now) result (Ok (t, n, rest)) }
     // What is refused is so at the first token that doesn't fit.
     ensures refused { IfErr result (IsFault expression_sort text.now (600 - depth) at) }
     // Which answer it is.
-    ensures exact { Gives (expression_left text.now) result (tree_at expression_sort text.now (600 - depth) at) }
+    ensures exact { Gives (expression_left text.now) result
+        (tree_at expression_sort text.now (600 - depth) at) }
 {
     expr_at(alloc, text, at, depth)
 }
@@ -410,7 +432,8 @@ pub fn read_expr(alloc: Global, text: &[u8]) -> Result<Expr, ExprTextFault>
     // What is read is what the text says.
     ensures found { IfOk result (λ e. IsText expression_sort text.now (expression_of e)) }
     // A text of an expression is read, unless memory runs out.
-    ensures only { (e : Expression) → IsText expression_sort text.now e → Gives expression_of result (Ok e) }
+    ensures only { (e : Expression) → IsText expression_sort text.now e
+        → Gives expression_of result (Ok e) }
     // A text that is too long is refused as such, whatever its bytes are.
     ensures long { 1048576 < length text.now → result ≡ Err Fault.TooLong }
     // What is refused is so at the first token that doesn't fit, or for its length.

@@ -18,7 +18,8 @@ use std::alloc::Global;
 /// the limits of texts, it is read back to the same expression. `Memory` where a growth was
 /// refused.
 pub fn print_expr(alloc: Global, expr: &Expr) -> Result<String, Memory>
-    ensures { IfOk result (λ text. string_bytes text ≡ spelling (expression_sexpr (expression_of expr.now))) }
+    ensures { IfOk result
+        (λ text. string_bytes text ≡ spelling (expression_sexpr (expression_of expr.now))) }
 {
     let mut text = String::new(alloc);
     push_expr(&mut text, expr)?;
@@ -29,7 +30,8 @@ pub fn print_expr(alloc: Global, expr: &Expr) -> Result<String, Memory>
 /// refused; the text may then end with a part of it.
 #[cycle(push_expr)]
 pub fn push_expr(text: &mut String, expr: &Expr) -> Result<(), Memory>
-    ensures { Adds result (string_bytes text.old) (string_bytes text.new) (spelling (expression_sexpr (expression_of expr.now))) }
+    ensures { Adds result (string_bytes text.old) (string_bytes text.new)
+        (spelling (expression_sexpr (expression_of expr.now))) }
 {
     match expr {
         Expr::Input => push_word(text, "x"),
@@ -68,7 +70,8 @@ fn push_word(text: &mut String, word: &str) -> Result<(), Memory>
 
 /// A literal.
 fn push_literal(text: &mut String, literal: Literal) -> Result<(), Memory>
-    ensures { Adds result (string_bytes text.old) (string_bytes text.new) (spelling (expression_sexpr (literal_of literal))) }
+    ensures { Adds result (string_bytes text.old) (string_bytes text.new)
+        (spelling (expression_sexpr (literal_of literal))) }
 {
     match literal {
         Literal::Unit => push_word(text, "unit"),
@@ -80,7 +83,8 @@ fn push_literal(text: &mut String, literal: Literal) -> Result<(), Memory>
 
 /// A parameter.
 fn push_param(text: &mut String, k: u32) -> Result<(), Memory>
-    ensures { Adds result (string_bytes text.old) (string_bytes text.new) (spelling (expression_sexpr (param k))) }
+    ensures { Adds result (string_bytes text.old) (string_bytes text.new)
+        (spelling (expression_sexpr (param k))) }
 {
     push_word(text, "(p ")?;
     push_word(text, Buffer::new().format(k))?;
@@ -97,7 +101,8 @@ fn push_open(text: &mut String, name: &str) -> Result<(), Memory>
 
 /// A type as the next part of a form.
 fn push_next_type(text: &mut String, ty: &Ty) -> Result<(), Memory>
-    ensures { Adds result (string_bytes text.old) (string_bytes text.new) (32 ∷ spelling (type_sexpr (type_of ty.now))) }
+    ensures { Adds result (string_bytes text.old) (string_bytes text.new)
+        (32 ∷ spelling (type_sexpr (type_of ty.now))) }
 {
     push_word(text, " ")?;
     push_type(text, ty)
@@ -105,7 +110,8 @@ fn push_next_type(text: &mut String, ty: &Ty) -> Result<(), Memory>
 
 /// No event of a type.
 fn push_no_event(text: &mut String, ty: &Ty) -> Result<(), Memory>
-    ensures { Adds result (string_bytes text.old) (string_bytes text.new) (spelling (expression_sexpr (no_event_expr (type_of ty.now)))) }
+    ensures { Adds result (string_bytes text.old) (string_bytes text.new)
+        (spelling (expression_sexpr (no_event_expr (type_of ty.now)))) }
 {
     push_word(text, "(none")?;
     push_next_type(text, ty)?;
@@ -115,7 +121,8 @@ fn push_no_event(text: &mut String, ty: &Ty) -> Result<(), Memory>
 /// An expression as the next part of a form.
 #[cycle(push_expr)]
 fn push_next(text: &mut String, expr: &Expr) -> Result<(), Memory>
-    ensures { Adds result (string_bytes text.old) (string_bytes text.new) (32 ∷ spelling (expression_sexpr (expression_of expr.now))) }
+    ensures { Adds result (string_bytes text.old) (string_bytes text.new)
+        (32 ∷ spelling (expression_sexpr (expression_of expr.now))) }
 {
     push_word(text, " ")?;
     push_expr(text, expr)
@@ -124,7 +131,8 @@ fn push_next(text: &mut String, expr: &Expr) -> Result<(), Memory>
 /// An expression as the last part of a form, and the form's end.
 #[cycle(push_expr)]
 fn push_last(text: &mut String, a: &ExprChild) -> Result<(), Memory>
-    ensures { Adds result (string_bytes text.old) (string_bytes text.new) (spellings (more (expression_sexpr a.now) last) ++ (41 ∷ [])) }
+    ensures { Adds result (string_bytes text.old) (string_bytes text.new)
+        (spellings (more (expression_sexpr a.now) last) ++ (41 ∷ [])) }
 {
     push_next(text, a.get())?;
     push_word(text, ")")
@@ -133,7 +141,8 @@ fn push_last(text: &mut String, a: &ExprChild) -> Result<(), Memory>
 /// A form of one expression.
 #[cycle(push_expr)]
 fn push_one(text: &mut String, name: &str, a: &ExprChild) -> Result<(), Memory>
-    ensures { Adds result (string_bytes text.old) (string_bytes text.new) (spelling (one name.now (expression_sexpr a.now))) }
+    ensures { Adds result (string_bytes text.old) (string_bytes text.new)
+        (spelling (one name.now (expression_sexpr a.now))) }
 {
     push_open(text, name)?;
     push_last(text, a)
@@ -142,7 +151,8 @@ fn push_one(text: &mut String, name: &str, a: &ExprChild) -> Result<(), Memory>
 /// A form of two expressions.
 #[cycle(push_expr)]
 fn push_two(text: &mut String, name: &str, a: &ExprChild, b: &ExprChild) -> Result<(), Memory>
-    ensures { Adds result (string_bytes text.old) (string_bytes text.new) (spelling (two name.now (expression_sexpr a.now) (expression_sexpr b.now))) }
+    ensures { Adds result (string_bytes text.old) (string_bytes text.new)
+        (spelling (two name.now (expression_sexpr a.now) (expression_sexpr b.now))) }
 {
     push_open(text, name)?;
     push_next(text, a.get())?;
@@ -158,7 +168,10 @@ fn push_three(
     b: &ExprChild,
     c: &ExprChild,
 ) -> Result<(), Memory>
-    ensures { Adds result (string_bytes text.old) (string_bytes text.new) (spelling (three name.now (expression_sexpr a.now) (expression_sexpr b.now) (expression_sexpr c.now))) }
+    ensures { Adds result (string_bytes text.old) (string_bytes text.new)
+        (spelling
+        (three name.now (expression_sexpr a.now) (expression_sexpr b.now)
+        (expression_sexpr c.now))) }
 {
     push_open(text, name)?;
     push_next(text, a.get())?;
@@ -169,7 +182,8 @@ fn push_three(
 /// A list expression.
 #[cycle(push_expr)]
 fn push_list(text: &mut String, ty: &Ty, all: &Exprs) -> Result<(), Memory>
-    ensures { Adds result (string_bytes text.old) (string_bytes text.new) (spelling (expression_sexpr (list_expr (type_of ty.now) (expressions_of all.now)))) }
+    ensures { Adds result (string_bytes text.old) (string_bytes text.new)
+        (spelling (expression_sexpr (list_expr (type_of ty.now) (expressions_of all.now)))) }
 {
     push_word(text, "(list")?;
     push_next_type(text, ty)?;
@@ -179,7 +193,8 @@ fn push_list(text: &mut String, ty: &Ty, all: &Exprs) -> Result<(), Memory>
 /// The elements of a list expression, each as the next part, and the form's end.
 #[cycle(push_expr)]
 fn push_elements(text: &mut String, all: &Exprs) -> Result<(), Memory>
-    ensures { Adds result (string_bytes text.old) (string_bytes text.new) (spellings (expression_sexprs (expressions_of all.now)) ++ (41 ∷ [])) }
+    ensures { Adds result (string_bytes text.old) (string_bytes text.new)
+        (spellings (expression_sexprs (expressions_of all.now)) ++ (41 ∷ [])) }
 {
     for e in all.as_slice() {
         push_next(text, e)?;

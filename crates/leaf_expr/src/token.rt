@@ -45,7 +45,8 @@ fn word_end(text: &[u8], start: usize) -> usize
     requires begun { is_byte_of_word (slice_index text.now start) ≡ true }
     ensures within { (start < result) × (result ≤ length text.now) }
     ensures spelt { is_word (slice_range text.now start result) ≡ true }
-    ensures word { tokens_from start text.now ≡ (start, word (slice_range text.now start result)) ∷ tokens_from result text.now }
+    ensures word { tokens_from start text.now ≡ (start, word (slice_range text.now start result))
+        ∷ tokens_from result text.now }
 {
     for i in start + 1..text.len() {
         if !is_word_byte(text[i]) {
@@ -92,7 +93,9 @@ pub fn lexeme_at(text: &[u8], at: usize) -> Lexeme
 /// stands from `at` on; a token is a parenthesis, or a longest run of bytes of a word. `None`
 /// where no token follows.
 pub fn token_at(text: &[u8], at: usize) -> Option<(usize, usize)>
-    ensures token { MatchOption result (tokens_from at text.now ≡ []) (λ p. tokens_from at text.now ≡ (p.0, token_of (slice_range text.now p.0 p.1)) ∷ tokens_from p.1 text.now) }
+    ensures token { MatchOption result (tokens_from at text.now ≡ [])
+        (λ p. tokens_from at text.now ≡ (p.0, token_of (slice_range text.now p.0 p.1))
+        ∷ tokens_from p.1 text.now) }
     ensures within { IfSome result (λ p. (at ≤ p.0) × (p.0 < p.1) × (p.1 ≤ length text.now)) }
 {
     match lexeme_at(text, at) {

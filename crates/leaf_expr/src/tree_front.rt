@@ -43,7 +43,8 @@ pub fn front_at(text: &[u8], at: usize, room: usize) -> Result<Front, ExprTextFa
 /// `TooDeep` at a `(` where there is no room; `Syntax` at any other token, or at the text's length
 /// where none follows. Bytes are counted from 0.
 pub fn form_head(text: &[u8], at: usize, room: usize) -> Result<(usize, usize), ExprTextFault>
-    ensures head { Gives (λ x. (x.0, slice_range text.now x.0 x.1, tokens_from x.1 text.now)) result (read_head leaf (length text.now) room (tokens_from at text.now)) }
+    ensures head { Gives (λ x. (x.0, slice_range text.now x.0 x.1, tokens_from x.1 text.now)) result
+        (read_head leaf (length text.now) room (tokens_from at text.now)) }
     ensures within { IfOk result (λ x. (x.0 < x.1) × (x.1 ≤ length text.now)) }
 {
     match front_at(text, at, room)? {
@@ -59,7 +60,8 @@ pub fn form_head(text: &[u8], at: usize, room: usize) -> Result<(usize, usize), 
 /// where none follows. Bytes are counted from 0.
 #[tactic(auto, using(crate::proofs::ReadSteps::unfit_open, crate::proofs::ReadSteps::closed))]
 pub fn form_end(text: &[u8], at: usize, room: usize) -> Result<usize, ExprTextFault>
-    ensures { Gives (λ n. (n, tokens_from n text.now)) result (read_end leaf (length text.now) room (tokens_from at text.now)) }
+    ensures { Gives (λ n. (n, tokens_from n text.now)) result
+        (read_end leaf (length text.now) room (tokens_from at text.now)) }
 {
     match lexeme_at(text, at) {
         Lexeme::End => Err(ExprTextFault::Syntax { at: text.len() }),
@@ -72,7 +74,8 @@ pub fn form_end(text: &[u8], at: usize, room: usize) -> Result<usize, ExprTextFa
 
 /// The byte behind the `)` that is the next token, where it is one.
 pub(crate) fn closing_at(text: &[u8], at: usize) -> Option<usize>
-    ensures token { MatchOption result (begins_closing (tokens_from at text.now) ≡ false) (λ end. tokens_from at text.now ≡ (end - 1, closing) ∷ tokens_from end text.now) }
+    ensures token { MatchOption result (begins_closing (tokens_from at text.now) ≡ false)
+        (λ end. tokens_from at text.now ≡ (end - 1, closing) ∷ tokens_from end text.now) }
     ensures behind { IfSome result (λ end. 0 < end) }
 {
     match lexeme_at(text, at) {

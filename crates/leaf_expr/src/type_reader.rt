@@ -92,7 +92,8 @@ fn pair_type(
     at: usize,
     room: usize,
 ) -> Result<(Ty, usize), ExprTextFault>
-    ensures { Gives (type_left text.now) result (row_parts (type_row TypeForm.Pair) text.now room at) }
+    ensures { Gives (type_left text.now) result
+        (row_parts (type_row TypeForm.Pair) text.now room at) }
 {
     let (a, at) = type_part(alloc, text, at, room)?;
     let (b, end) = last_type(alloc, text, at, room)?;
@@ -107,7 +108,8 @@ fn type_part(
     at: usize,
     room: usize,
 ) -> Result<(TyChild, usize), ExprTextFault>
-    ensures { Gives (λ x. (x.0, x.1, tokens_from x.1 text.now)) result (tree_at type_sort text.now room at) }
+    ensures { Gives (λ x. (x.0, x.1, tokens_from x.1 text.now)) result
+        (tree_at type_sort text.now room at) }
 {
     let (ty, at) = read_type(alloc, text, at, room)?;
     Ok((TyChild::new(alloc, ty)?, at))
@@ -121,7 +123,8 @@ fn last_type(
     at: usize,
     room: usize,
 ) -> Result<(TyChild, usize), ExprTextFault>
-    ensures { Gives (λ x. (x.0, x.1, tokens_from x.1 text.now)) result (last_at type_sort text.now room at) }
+    ensures { Gives (λ x. (x.0, x.1, tokens_from x.1 text.now)) result
+        (last_at type_sort text.now room at) }
 {
     let (ty, at) = type_part(alloc, text, at, room)?;
     let end = form_end(text, at, room)?;

@@ -15,6 +15,7 @@ pub by_shape : (s : Shape) (ps : List Datum) (x v : Datum) → value_by_shape s 
 by_shape s ps x v h key e = record { value = λ t u. sym (shape_values key.expr ps x v (ap (λ s. value_by_shape s x) e ∙ h)) }
 
 -- a sum of a product that was wrapped, wrapped
-pub affine_value : (a b n p s : ℤ) (x : Datum) → n ≡ int_of x → p ≡ int_wrap w64 (a *ℤ n) → s ≡ int_wrap w64 (p +ℤ b) → Some (wrap (a *ℤ int_of x +ℤ b)) ≡ Some (int s)
+pub affine_value : (a b n p s : ℤ) (x : Datum) → n ≡ int_of x → p ≡ int_wrap w64 (a *ℤ n) → s ≡ int_wrap w64 (p +ℤ b)
+    → Some (wrap (a *ℤ int_of x +ℤ b)) ≡ Some (int s)
 affine_value a b n p s x at product sum =
     ap (λ z. Some (int z)) (sym (sum ∙ ap (λ z. int_wrap w64 (z +ℤ b)) product ∙ int_wrap-add_left w64 (a *ℤ n) b ∙ ap (λ z. int_wrap w64 (a *ℤ z +ℤ b)) at))

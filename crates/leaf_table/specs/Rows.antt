@@ -1,4 +1,5 @@
--- What a table is to every contract: the lists of its rows' keys and of its rows' leaves, row 0 first.
+-- What a table is to every contract: the lists of its rows' keys and of its rows' leaves, row 0
+-- first.
 use Rattle.std.specs.Prelude.{List}
 use Rattle.indexmap.specs.IndexMap.{keys, values}
 use Rattle.leaf_core.specs.KeyTree.{KeyTree}

@@ -34,7 +34,8 @@ impl Leaf {
     pub fn new(key: LeafKey, output: Ty, run: Run) -> Leaf
         requires typed { ∥ ExpressionTyped key.expr key.params key.input (type_of output) ∥₁ }
         requires callable { Run.IsAlwaysCallable run }
-        requires computes { (ps : _) (x : _) (v : _) → Run.post run ps x (Ok v) → Computes key (map datum_of ps.now) (datum_of x.now) (datum_of v) }
+        requires computes { (ps : _) (x : _) (v : _) → Run.post run ps x (Ok v)
+            → Computes key (map datum_of ps.now) (datum_of x.now) (datum_of v) }
         ensures key { result.key ≡ key }
         ensures output { result.output ≡ output }
     {
@@ -44,7 +45,9 @@ impl Leaf {
     /// What the closure answers. At arguments of the key's types it is the value of the key's
     /// expression. `AllocError` where a growth was refused.
     pub(crate) fn call(&self, params: &[Sample], x: &Sample) -> Result<Sample, AllocError>
-        ensures { IfOk result (λ v. ∥ Computes self.now.key (map datum_of params.now) (datum_of x.now) (datum_of v) ∥₁) }
+        ensures { IfOk result
+            (λ v. ∥ Computes self.now.key (map datum_of params.now) (datum_of x.now) (datum_of v)
+            ∥₁) }
     {
         (self.run)(params, x)
     }

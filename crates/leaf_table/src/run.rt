@@ -16,9 +16,11 @@ use std::alloc::{AllocError, Global};
 /// The input itself, for an expression of the shape `Identity`. `AllocError` only where a count of
 /// references is full.
 pub fn run_identity(alloc: Global, params: &[Sample], x: &Sample) -> Result<Sample, AllocError>
-    ensures named { IfOk result (λ v. value_by_shape S.Identity (datum_of x.now) ≡ Some (datum_of v)) }
+    ensures named { IfOk result
+        (λ v. value_by_shape S.Identity (datum_of x.now) ≡ Some (datum_of v)) }
     ensures fact { IfOk result
-        (λ v. (key : KeyTree) → shape key.expr ≡ S.Identity → Computes key (map datum_of params.now) (datum_of x.now) (datum_of v)) }
+        (λ v. (key : KeyTree) → shape key.expr ≡ S.Identity
+        → Computes key (map datum_of params.now) (datum_of x.now) (datum_of v)) }
 {
     let _ = params;
     copied(alloc, x)
@@ -32,9 +34,11 @@ pub fn run_constant(
     params: &[Sample],
     x: &Sample,
 ) -> Result<Sample, AllocError>
-    ensures named { IfOk result (λ v. value_by_shape (S.Constant c) (datum_of x.now) ≡ Some (datum_of v)) }
+    ensures named { IfOk result
+        (λ v. value_by_shape (S.Constant c) (datum_of x.now) ≡ Some (datum_of v)) }
     ensures fact { IfOk result
-        (λ v. (key : KeyTree) → shape key.expr ≡ S.Constant c → Computes key (map datum_of params.now) (datum_of x.now) (datum_of v)) }
+        (λ v. (key : KeyTree) → shape key.expr ≡ S.Constant c
+        → Computes key (map datum_of params.now) (datum_of x.now) (datum_of v)) }
 {
     let _ = alloc;
     let _ = params;
@@ -55,9 +59,11 @@ pub fn run_affine(
     params: &[Sample],
     x: &Sample,
 ) -> Result<Sample, AllocError>
-    ensures named { IfOk result (λ v. value_by_shape (S.Affine a b) (datum_of x.now) ≡ Some (datum_of v)) }
+    ensures named { IfOk result
+        (λ v. value_by_shape (S.Affine a b) (datum_of x.now) ≡ Some (datum_of v)) }
     ensures fact { IfOk result
-        (λ v. (key : KeyTree) → shape key.expr ≡ S.Affine a b → Computes key (map datum_of params.now) (datum_of x.now) (datum_of v)) }
+        (λ v. (key : KeyTree) → shape key.expr ≡ S.Affine a b
+        → Computes key (map datum_of params.now) (datum_of x.now) (datum_of v)) }
 {
     let _ = alloc;
     let _ = params;
@@ -69,7 +75,8 @@ pub fn run_affine(
 pub fn run_swap(alloc: Global, params: &[Sample], x: &Sample) -> Result<Sample, AllocError>
     ensures named { IfOk result (λ v. value_by_shape S.Swap (datum_of x.now) ≡ Some (datum_of v)) }
     ensures fact { IfOk result
-        (λ v. (key : KeyTree) → shape key.expr ≡ S.Swap → Computes key (map datum_of params.now) (datum_of x.now) (datum_of v)) }
+        (λ v. (key : KeyTree) → shape key.expr ≡ S.Swap
+        → Computes key (map datum_of params.now) (datum_of x.now) (datum_of v)) }
 {
     let _ = params;
     paired(alloc, second(x), first(x))
@@ -80,7 +87,8 @@ pub fn run_swap(alloc: Global, params: &[Sample], x: &Sample) -> Result<Sample, 
 pub fn run_left(alloc: Global, params: &[Sample], x: &Sample) -> Result<Sample, AllocError>
     ensures named { IfOk result (λ v. value_by_shape S.Left (datum_of x.now) ≡ Some (datum_of v)) }
     ensures fact { IfOk result
-        (λ v. (key : KeyTree) → shape key.expr ≡ S.Left → Computes key (map datum_of params.now) (datum_of x.now) (datum_of v)) }
+        (λ v. (key : KeyTree) → shape key.expr ≡ S.Left
+        → Computes key (map datum_of params.now) (datum_of x.now) (datum_of v)) }
 {
     let _ = params;
     copied(alloc, first(x))
@@ -91,7 +99,8 @@ pub fn run_left(alloc: Global, params: &[Sample], x: &Sample) -> Result<Sample, 
 pub fn run_right(alloc: Global, params: &[Sample], x: &Sample) -> Result<Sample, AllocError>
     ensures named { IfOk result (λ v. value_by_shape S.Right (datum_of x.now) ≡ Some (datum_of v)) }
     ensures fact { IfOk result
-        (λ v. (key : KeyTree) → shape key.expr ≡ S.Right → Computes key (map datum_of params.now) (datum_of x.now) (datum_of v)) }
+        (λ v. (key : KeyTree) → shape key.expr ≡ S.Right
+        → Computes key (map datum_of params.now) (datum_of x.now) (datum_of v)) }
 {
     let _ = params;
     copied(alloc, second(x))
@@ -100,9 +109,11 @@ pub fn run_right(alloc: Global, params: &[Sample], x: &Sample) -> Result<Sample,
 /// Whether the input is less than `k`, for an expression of the shape `Below`. An input that is no
 /// number counts as 0. It takes no memory and refuses nothing.
 pub fn run_below(alloc: Global, k: i64, params: &[Sample], x: &Sample) -> Result<Sample, AllocError>
-    ensures named { IfOk result (λ v. value_by_shape (S.Below k) (datum_of x.now) ≡ Some (datum_of v)) }
+    ensures named { IfOk result
+        (λ v. value_by_shape (S.Below k) (datum_of x.now) ≡ Some (datum_of v)) }
     ensures fact { IfOk result
-        (λ v. (key : KeyTree) → shape key.expr ≡ S.Below k → Computes key (map datum_of params.now) (datum_of x.now) (datum_of v)) }
+        (λ v. (key : KeyTree) → shape key.expr ≡ S.Below k
+        → Computes key (map datum_of params.now) (datum_of x.now) (datum_of v)) }
 {
     let _ = alloc;
     let _ = params;
@@ -114,7 +125,8 @@ pub fn run_below(alloc: Global, k: i64, params: &[Sample], x: &Sample) -> Result
 pub fn run_wrap(alloc: Global, params: &[Sample], x: &Sample) -> Result<Sample, AllocError>
     ensures named { IfOk result (λ v. value_by_shape S.Wrap (datum_of x.now) ≡ Some (datum_of v)) }
     ensures fact { IfOk result
-        (λ v. (key : KeyTree) → shape key.expr ≡ S.Wrap → Computes key (map datum_of params.now) (datum_of x.now) (datum_of v)) }
+        (λ v. (key : KeyTree) → shape key.expr ≡ S.Wrap
+        → Computes key (map datum_of params.now) (datum_of x.now) (datum_of v)) }
 {
     let _ = params;
     Ok(Sample::Event(child(alloc, x)?))
@@ -128,7 +140,8 @@ pub fn run_general(
     params: &[Sample],
     x: &Sample,
 ) -> Result<Sample, AllocError>
-    ensures { IfOk result (λ v. Computes key.now (map datum_of params.now) (datum_of x.now) (datum_of v)) }
+    ensures { IfOk result
+        (λ v. Computes key.now (map datum_of params.now) (datum_of x.now) (datum_of v)) }
 {
     match eval(alloc, &key.expr, params, x) {
         Ok(value) => Ok(value),

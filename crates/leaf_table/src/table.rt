@@ -52,15 +52,21 @@ impl LeafTable {
     /// table has 4,096 rows. `Memory`: a growth was refused.
     pub fn add(&mut self, leaf: Leaf) -> Result<LeafId, (Leaf, TableFault)>
         ensures row { IfOk result (λ id. slice_get (rows_of self.new) id.0 ≡ Some leaf.key) }
-        ensures known { Contains (rows_of self.old) leaf.key → IsOk result × (rows_of self.new ≡ rows_of self.old) }
-        ensures grown { OnOk result ((Contains (rows_of self.old) leaf.key → ⊥) → rows_of self.new ≡ rows_of self.old ++ leaf.key ∷ []) }
+        ensures known { Contains (rows_of self.old) leaf.key
+            → IsOk result × (rows_of self.new ≡ rows_of self.old) }
+        ensures grown { OnOk result ((Contains (rows_of self.old) leaf.key → ⊥)
+            → rows_of self.new ≡ rows_of self.old ++ leaf.key ∷ []) }
         ensures unchanged { OnErr result (rows_of self.new ≡ rows_of self.old) }
-        ensures kept { Contains (rows_of self.old) leaf.key → leaves_of self.new ≡ leaves_of self.old }
-        ensures stored { OnOk result ((Contains (rows_of self.old) leaf.key → ⊥) → leaves_of self.new ≡ leaves_of self.old ++ leaf ∷ []) }
+        ensures kept { Contains (rows_of self.old) leaf.key
+            → leaves_of self.new ≡ leaves_of self.old }
+        ensures stored { OnOk result ((Contains (rows_of self.old) leaf.key → ⊥)
+            → leaves_of self.new ≡ leaves_of self.old ++ leaf ∷ []) }
         ensures no_other { OnErr result (leaves_of self.new ≡ leaves_of self.old) }
         ensures returned { IfErr result (λ e. e.0 ≡ leaf) }
-        ensures full { IfErr result (λ e. (e.1 ≡ TableFault.Full) ↔ (length (rows_of self.old) ≡ 4096)) }
-        ensures refused { (Contains (rows_of self.old) leaf.key → ⊥) → length (rows_of self.old) ≡ 4096 → IsErr result }
+        ensures full { IfErr result (λ e. (e.1 ≡ TableFault.Full)
+            ↔ (length (rows_of self.old) ≡ 4096)) }
+        ensures refused { (Contains (rows_of self.old) leaf.key → ⊥)
+            → length (rows_of self.old) ≡ 4096 → IsErr result }
     {
         if let Some(id) = self.find(&leaf.key) {
             drop(leaf);

@@ -46,20 +46,26 @@ fold_events-append g acc (_ ∷ vs) ws = fold_events-append g acc vs ws
 -- `integral`: the sum one step on, and the wrapped one
 area_push : (b : ℤ) (p : TimedList) (x : ℕ × Datum) → area b (p ++ x ∷ []) ≡ area b p +ℤ (pos x.0 *ℤ last_or b (map int_of (values p)))
 area_push b [] x = +ℤ_comm (pos x.0 *ℤ b) (pos 0)
-area_push b (y ∷ p) x = ap (λ z. (pos y.0 *ℤ b) +ℤ z) (area_push (int_of y.1) p x) ∙ sym (+ℤ_assoc (pos y.0 *ℤ b) (area (int_of y.1) p) (pos x.0 *ℤ last_or (int_of y.1) (map int_of (values p))))
+area_push b (y ∷ p) x = ap (λ z. (pos y.0 *ℤ b) +ℤ z) (area_push (int_of y.1) p x)
+    ∙ sym (+ℤ_assoc (pos y.0 *ℤ b) (area (int_of y.1) p) (pos x.0 *ℤ last_or (int_of y.1) (map int_of (values p))))
 
-pub integral_value_push : (y : ℕ × Datum) (p : TimedList) (x : ℕ × Datum) → integral_value (y ∷ p ++ x ∷ []) ≡ int (int_wrap w64 (int_of (integral_value (y ∷ p)) +ℤ (pos x.0 *ℤ last_or (int_of y.1) (map int_of (values p)))))
-integral_value_push y p x = ap (λ z. int (int_wrap w64 z)) (area_push (int_of y.1) p x) ∙ ap int (sym (int_wrap-add_left w64 (area (int_of y.1) p) (pos x.0 *ℤ last_or (int_of y.1) (map int_of (values p)))))
+pub integral_value_push : (y : ℕ × Datum) (p : TimedList) (x : ℕ × Datum)
+    → integral_value (y ∷ p ++ x ∷ []) ≡ int (int_wrap w64 (int_of (integral_value (y ∷ p)) +ℤ (pos x.0 *ℤ last_or (int_of y.1) (map int_of (values p)))))
+integral_value_push y p x = ap (λ z. int (int_wrap w64 z)) (area_push (int_of y.1) p x)
+    ∙ ap int (sym (int_wrap-add_left w64 (area (int_of y.1) p) (pos x.0 *ℤ last_or (int_of y.1) (map int_of (values p)))))
 
 -- `delay`: what is answered at `now` is the latest of the queue that is due; a later sample leaves it or gives a later one
-pub latest_by-append : (q now : ℕ) (c : Datum) (ts us : List ℕ) (vs ws : List Datum) → length ts ≡ length vs → latest_by q now c (ts ++ us) (vs ++ ws) ≡ latest_by q now (latest_by q now c ts vs) us ws
+pub latest_by-append : (q now : ℕ) (c : Datum) (ts us : List ℕ) (vs ws : List Datum) → length ts ≡ length vs
+    → latest_by q now c (ts ++ us) (vs ++ ws) ≡ latest_by q now (latest_by q now c ts vs) us ws
 latest_by-append q now c [] us [] ws e = refl
 latest_by-append q now c [] us (v ∷ vs) ws e = absurd (omega arith)
 latest_by-append q now c (t ∷ ts) us [] ws e = absurd (omega arith)
-latest_by-append q now c (t ∷ ts) us (v ∷ vs) ws e = let e' : length ts ≡ length vs = omega arith in latest_by-append q now (if nat_le (t + q) now then v else c) ts us vs ws e'
+latest_by-append q now c (t ∷ ts) us (v ∷ vs) ws e =
+    let e' : length ts ≡ length vs = omega arith in latest_by-append q now (if nat_le (t + q) now then v else c) ts us vs ws e'
 
 -- `after` and `repeatedly`, where a sample came before
-pub after_value_push : (q : ℕ) (c : Datum) (y : ℕ × Datum) (p : TimedList) (x : ℕ × Datum) → after_value q c (y ∷ p ++ x ∷ []) ≡ when (nat_le q (time_at (y ∷ p) + x.0) && nat_lt (time_at (y ∷ p)) q) c
+pub after_value_push : (q : ℕ) (c : Datum) (y : ℕ × Datum) (p : TimedList) (x : ℕ × Datum)
+    → after_value q c (y ∷ p ++ x ∷ []) ≡ when (nat_le q (time_at (y ∷ p) + x.0) && nat_lt (time_at (y ∷ p)) q) c
 after_value_push q c y p x =
     ap (λ t. when (nat_le q t && (if first_sample (y ∷ p ++ x ∷ []) then true else nat_lt (time_at (before_last (y ∷ p ++ x ∷ []))) q)) c) (time_at_push y p x)
     ∙ ap (λ b. when (nat_le q (time_at (y ∷ p) + x.0) && (if b then true else nat_lt (time_at (before_last (y ∷ p ++ x ∷ []))) q)) c) (not_first p)
@@ -69,7 +75,8 @@ after_value_push q c y p x =
     not_first [] = refl
     not_first (z ∷ r) = refl
 
-pub repeatedly_value_push : (q : ℕ) (c : Datum) (y : ℕ × Datum) (p : TimedList) (x : ℕ × Datum) → repeatedly_value q c (y ∷ p ++ x ∷ []) ≡ when (nat_lt (time_at (y ∷ p) / q) ((time_at (y ∷ p) + x.0) / q)) c
+pub repeatedly_value_push : (q : ℕ) (c : Datum) (y : ℕ × Datum) (p : TimedList) (x : ℕ × Datum)
+    → repeatedly_value q c (y ∷ p ++ x ∷ []) ≡ when (nat_lt (time_at (y ∷ p) / q) ((time_at (y ∷ p) + x.0) / q)) c
 repeatedly_value_push q c y p x =
     ap (λ r. when (nat_lt (time_at r / q) (time_at (y ∷ p ++ x ∷ []) / q)) c) (before_last_push (y ∷ p) x)
     ∙ ap (λ t. when (nat_lt (time_at (y ∷ p) / q) (t / q)) c) (time_at_push y p x)

@@ -30,8 +30,10 @@ first-later : (v : Datum) (vs : List Datum) (n : ℕ) (c : Datum) → IsPlain v 
 first-later v vs n c p i = record {
   within = let h : n < length vs = i.within in omega arith;
   is = p vs ∙ ap later i.is;
-  seen = λ m. elim m as (λ m. suc n < m → first_event (take m (v ∷ vs)) ≡ Some (suc n, c)) [ zero ↦ λ h. absurd (omega arith) | suc m ↦ λ h. p (take m vs) ∙ ap later (i.seen m (omega arith)) ];
-  unseen = λ m. elim m as (λ m. m ≤ suc n → first_event (take m (v ∷ vs)) ≡ None) [ zero ↦ λ h. refl | suc m ↦ λ h. p (take m vs) ∙ ap later (i.unseen m (omega arith)) ];
+  seen = λ m. elim m as (λ m. suc n < m
+      → first_event (take m (v ∷ vs)) ≡ Some (suc n, c)) [ zero ↦ λ h. absurd (omega arith) | suc m ↦ λ h. p (take m vs) ∙ ap later (i.seen m (omega arith)) ];
+  unseen = λ m. elim m as (λ m. m ≤ suc n
+      → first_event (take m (v ∷ vs)) ≡ None) [ zero ↦ λ h. refl | suc m ↦ λ h. p (take m vs) ∙ ap later (i.unseen m (omega arith)) ];
 }
 
 eventless-more : (v : Datum) (vs : List Datum) → IsPlain v → IsEventless vs → IsEventless (v ∷ vs)

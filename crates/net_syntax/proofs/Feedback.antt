@@ -22,10 +22,12 @@ pub fed_back-take : (c : Datum) (f : SignalFunction) (xs : TimedList) (m n : ℕ
 fed_back-take c f xs m zero l = refl
 fed_back-take c f xs m (suc n) l =
     let l' : n ≤ m = omega arith in
-    ap (λ ys. c ∷ map right (f ys)) (ap (λ ys. pair_samples ys (feedback_values c f (take m xs) n)) (take-take n m xs l') ∙ ap (pair_samples (take n xs)) (fed_back-take c f xs m n l'))
+    ap (λ ys. c ∷ map right (f ys)) (ap (λ ys. pair_samples ys (feedback_values c f (take m xs) n)) (take-take n m xs l')
+    ∙ ap (pair_samples (take n xs)) (fed_back-take c f xs m n l'))
 
 -- one item more leaves those before
-fed_back-one_more : (c : Datum) (f : SignalFunction) → IsSignalFunction f → (xs : TimedList) (n : ℕ) → take n (feedback_values c f xs (suc n)) ≡ feedback_values c f xs n
+fed_back-one_more : (c : Datum) (f : SignalFunction) → IsSignalFunction f → (xs : TimedList) (n : ℕ)
+    → take n (feedback_values c f xs (suc n)) ≡ feedback_values c f xs n
 fed_back-one_more c f sf xs zero = refl
 fed_back-one_more c f sf xs (suc n) =
     let ys : TimedList = pair_samples (take (suc n) xs) (feedback_values c f xs (suc n)) in
@@ -35,19 +37,22 @@ fed_back-one_more c f sf xs (suc n) =
     ∙ ap (pair_samples (take n xs)) (fed_back-one_more c f sf xs n) in
     ap (λ vs. c ∷ vs) (take-map right n (f ys) ∙ ap (map right) (sym (sf.causal n ys) ∙ ap f z))
 
-pub fed_back-more : (c : Datum) (f : SignalFunction) → IsSignalFunction f → (xs : TimedList) (m n : ℕ) → n ≤ m → m ≤ length xs → take n (feedback_values c f xs m) ≡ feedback_values c f xs n
+pub fed_back-more : (c : Datum) (f : SignalFunction) → IsSignalFunction f → (xs : TimedList) (m n : ℕ) → n ≤ m → m ≤ length xs
+    → take n (feedback_values c f xs m) ≡ feedback_values c f xs n
 fed_back-more c f sf xs zero zero l b = refl
 fed_back-more c f sf xs zero (suc n) l b = absurd (omega arith)
 fed_back-more c f sf xs (suc m) n l b =
     elim (eq-or-lt_of_le l) [
-      | inl e ↦ ap (λ k. take k (feedback_values c f xs (suc m))) e ∙ take_all (suc m) (feedback_values c f xs (suc m)) (le_of_eq (length-fed_back c f sf xs (suc m) b)) ∙ ap (feedback_values c f xs) (sym e)
+      | inl e ↦ ap (λ k. take k (feedback_values c f xs (suc m))) e
+          ∙ take_all (suc m) (feedback_values c f xs (suc m)) (le_of_eq (length-fed_back c f sf xs (suc m) b)) ∙ ap (feedback_values c f xs) (sym e)
       | inr h ↦
           let l' : n ≤ m = omega arith in
           let b' : m ≤ length xs = omega arith in
           sym (take-take n m (feedback_values c f xs (suc m)) l') ∙ ap (take n) (fed_back-one_more c f sf xs m) ∙ fed_back-more c f sf xs m n l' b'
     ]
 
-pub fed_back-retime : (c : Datum) (f : SignalFunction) → IsSignalFunction f → (d : ℕ) (xs : TimedList) (n : ℕ) → feedback_values c f (retime d xs) n ≡ feedback_values c f xs n
+pub fed_back-retime : (c : Datum) (f : SignalFunction) → IsSignalFunction f → (d : ℕ) (xs : TimedList) (n : ℕ)
+    → feedback_values c f (retime d xs) n ≡ feedback_values c f xs n
 fed_back-retime c f sf d xs zero = refl
 fed_back-retime c f sf d xs (suc zero) = refl
 fed_back-retime c f sf d xs (suc (suc n)) =

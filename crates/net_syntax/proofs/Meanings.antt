@@ -22,7 +22,8 @@ IsSignal-old_at (f ∷ fs) (and_signal sf s) zero = sf
 IsSignal-old_at (f ∷ fs) (and_signal sf s) (suc k) = IsSignal-old_at fs s k
 
 mutual
-  pub IsSignal-meaning : {L : Type 0} (val : L → List Datum → Datum → Datum) (net : Network L) (E : Context) → AllSignals E.olds → IsSignalFunction (meaning val net E)
+  pub IsSignal-meaning : {L : Type 0} (val : L → List Datum → Datum → Datum) (net : Network L) (E : Context) → AllSignals E.olds
+      → IsSignalFunction (meaning val net E)
   IsSignal-meaning val (arr e) E s = IsSignal-map (val e E.params)
   IsSignal-meaning val (seq f g) E s = IsSignal-sequence (meaning val f E) (meaning val g E) (IsSignal-meaning val f E s) (IsSignal-meaning val g E s)
   IsSignal-meaning val (first f) E s = IsSignal-on_left (meaning val f E) (IsSignal-meaning val f E s)
@@ -36,9 +37,12 @@ mutual
   IsSignal-meaning val (repeatedly q c) E s = IsSignal-repeatedly_value q (val c E.params unit)
   IsSignal-meaning val time E s = IsSignal-clock
   IsSignal-meaning val integral E s = IsSignal-integral_value
-  IsSignal-meaning val (switch f t) E s = IsSignal-switching (meaning val f E) (λ c. meaning val t (with_param E c)) (IsSignal-meaning val f E s) (λ c. IsSignal-meaning val t (with_param E c) s)
-  IsSignal-meaning val (d_switch f t) E s = IsSignal-switching_late (meaning val f E) (λ c. meaning val t (with_param E c)) (IsSignal-meaning val f E s) (λ c. IsSignal-meaning val t (with_param E c) s)
-  IsSignal-meaning val (r_switch f t) E s = IsSignal-restarting (λ c. meaning val t (with_param E c)) (λ c. IsSignal-meaning val t (with_param E c) s) (meaning val f E) (IsSignal-meaning val f E s)
+  IsSignal-meaning val (switch f t) E s = IsSignal-switching (meaning val f E) (λ c. meaning val t (with_param E c)) (IsSignal-meaning val f E s)
+      (λ c. IsSignal-meaning val t (with_param E c) s)
+  IsSignal-meaning val (d_switch f t) E s = IsSignal-switching_late (meaning val f E) (λ c. meaning val t (with_param E c)) (IsSignal-meaning val f E s)
+      (λ c. IsSignal-meaning val t (with_param E c) s)
+  IsSignal-meaning val (r_switch f t) E s = IsSignal-restarting (λ c. meaning val t (with_param E c)) (λ c. IsSignal-meaning val t (with_param E c) s)
+      (meaning val f E) (IsSignal-meaning val f E s)
   IsSignal-meaning val (k_switch f e t) E s =
       IsSignal-switching_on (meaning val f E) (meaning val e E) (λ c o. meaning val t (with_olds (with_param E c) (o ∷ [])))
       (IsSignal-meaning val f E s) (IsSignal-meaning val e E s)
@@ -49,7 +53,8 @@ mutual
       (λ c os so. IsSignal-meaning val t (with_olds (with_param E c) os) (AllSignals-append E.olds os s so))
   IsSignal-meaning val (old k) E s = IsSignal-old_at E.olds s k
 
-  pub AllSignals-meanings : {L : Type 0} (val : L → List Datum → Datum → Datum) (fs : Networks L) (E : Context) → AllSignals E.olds → AllSignals (meanings val fs E)
+  pub AllSignals-meanings : {L : Type 0} (val : L → List Datum → Datum → Datum) (fs : Networks L) (E : Context) → AllSignals E.olds
+      → AllSignals (meanings val fs E)
   AllSignals-meanings val no_members E s = no_signal
   AllSignals-meanings val (and_member f fs) E s = and_signal (IsSignal-meaning val f E s) (AllSignals-meanings val fs E s)
 
@@ -59,14 +64,18 @@ AllSignals-context_of val closed = no_signal
 AllSignals-context_of val (param E c) = AllSignals-context_of val E
 AllSignals-context_of val (frozen E net E' p d) =
     AllSignals-append (context_of val E).olds _ (AllSignals-context_of val E)
-    (and_signal (IsSignal-resume (meaning val net (context_of val E')) (IsSignal-meaning val net (context_of val E') (AllSignals-context_of val E')) p d) no_signal)
+    (and_signal (IsSignal-resume (meaning val net (context_of val E')) (IsSignal-meaning val net (context_of val E') (AllSignals-context_of val E')) p d)
+    no_signal)
 
 -- the laws of every network in every environment
-pub length-outputs : {L : Type 0} (val : L → List Datum → Datum → Datum) (net : Network L) (E : Environment L) (xs : TimedList) → length (outputs val net E xs) ≡ length xs
+pub length-outputs : {L : Type 0} (val : L → List Datum → Datum → Datum) (net : Network L) (E : Environment L) (xs : TimedList)
+    → length (outputs val net E xs) ≡ length xs
 length-outputs val net E = (IsSignal-meaning val net (context_of val E) (AllSignals-context_of val E)).sized
 
-pub outputs-take : {L : Type 0} (val : L → List Datum → Datum → Datum) (net : Network L) (E : Environment L) (n : ℕ) (xs : TimedList) → outputs val net E (take n xs) ≡ take n (outputs val net E xs)
+pub outputs-take : {L : Type 0} (val : L → List Datum → Datum → Datum) (net : Network L) (E : Environment L) (n : ℕ) (xs : TimedList)
+    → outputs val net E (take n xs) ≡ take n (outputs val net E xs)
 outputs-take val net E = (IsSignal-meaning val net (context_of val E) (AllSignals-context_of val E)).causal
 
-pub outputs-retime : {L : Type 0} (val : L → List Datum → Datum → Datum) (net : Network L) (E : Environment L) (d : ℕ) (xs : TimedList) → outputs val net E (retime d xs) ≡ outputs val net E xs
+pub outputs-retime : {L : Type 0} (val : L → List Datum → Datum → Datum) (net : Network L) (E : Environment L) (d : ℕ) (xs : TimedList)
+    → outputs val net E (retime d xs) ≡ outputs val net E xs
 outputs-retime val net E = (IsSignal-meaning val net (context_of val E) (AllSignals-context_of val E)).timeless

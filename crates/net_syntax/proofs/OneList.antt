@@ -26,7 +26,8 @@ through : {X : Type 0} {F : X → Type 0} {x y : X} {ns : List Need} (read : (z 
     → ((m : F y) → read y m ≡ ns) → read x k ≡ ns
 through read e k s = let m = carried read e k in m.1 ∙ s m.0
 
-module _ (T : LeafTyping Expression) (M : TypeTree → Type 0) (one : (e : Expression) (Ps : List TypeTree) (A B C : TypeTree) → T e Ps A B → T e Ps A C → B ≡ C) where
+module _ (T : LeafTyping Expression) (M : TypeTree → Type 0) (one : (e : Expression) (Ps : List TypeTree) (A B C : TypeTree) → T e Ps A B → T e Ps A C
+    → B ≡ C) where
   abbrev At : List TypeTree → List Arrow → Network Expression → TypeTree → TypeTree → Type 0
   At = Typed T M
 

@@ -9,14 +9,17 @@ pub IsSignal-sequence : (f g : SignalFunction) → IsSignalFunction f → IsSign
 IsSignal-sequence f g sf sg = record {
   sized = λ xs. sg.sized (with_values xs (f xs)) ∙ length-zip_with _ xs (f xs) (sf.sized xs);
   causal = λ n xs. ap (λ ys. g (with_values (take n xs) ys)) (sf.causal n xs) ∙ ap g (sym (take-zip_with _ n xs (f xs))) ∙ sg.causal n (with_values xs (f xs));
-  timeless = λ d xs. ap (λ ys. g (with_values (retime d xs) ys)) (sf.timeless d xs) ∙ ap g (retime-with_values d xs (f xs)) ∙ sg.timeless d (with_values xs (f xs));
+  timeless = λ d xs. ap (λ ys. g (with_values (retime d xs) ys)) (sf.timeless d xs) ∙ ap g (retime-with_values d xs (f xs))
+      ∙ sg.timeless d (with_values xs (f xs));
 }
 
 pub IsSignal-watching : (f e : SignalFunction) → IsSignalFunction f → IsSignalFunction e → IsSignalFunction (watch f e)
 IsSignal-watching f g sf sg = record {
   sized = λ xs. sg.sized (pair_samples xs (f xs)) ∙ length-zip_with _ xs (f xs) (sf.sized xs);
-  causal = λ n xs. ap (λ ys. g (pair_samples (take n xs) ys)) (sf.causal n xs) ∙ ap g (sym (take-zip_with _ n xs (f xs))) ∙ sg.causal n (pair_samples xs (f xs));
-  timeless = λ d xs. ap (λ ys. g (pair_samples (retime d xs) ys)) (sf.timeless d xs) ∙ ap g (retime-pair_samples d xs (f xs)) ∙ sg.timeless d (pair_samples xs (f xs));
+  causal = λ n xs. ap (λ ys. g (pair_samples (take n xs) ys)) (sf.causal n xs) ∙ ap g (sym (take-zip_with _ n xs (f xs)))
+      ∙ sg.causal n (pair_samples xs (f xs));
+  timeless = λ d xs. ap (λ ys. g (pair_samples (retime d xs) ys)) (sf.timeless d xs) ∙ ap g (retime-pair_samples d xs (f xs))
+      ∙ sg.timeless d (pair_samples xs (f xs));
 }
 
 -- each output changed
@@ -38,7 +41,8 @@ IsSignal-before h f sf = record {
 pub IsSignal-pairs : (f g : SignalFunction) → IsSignalFunction f → IsSignalFunction g → IsSignalFunction (λ xs. pairs (f xs) (g xs))
 IsSignal-pairs f g sf sg = record {
   sized = λ xs. length-zip_with pair (f xs) (g xs) (sg.sized xs ∙ sym (sf.sized xs)) ∙ sf.sized xs;
-  causal = λ n xs. ap (λ ys. pairs ys (g (take n xs))) (sf.causal n xs) ∙ ap (pairs (take n (f xs))) (sg.causal n xs) ∙ sym (take-zip_with pair n (f xs) (g xs));
+  causal = λ n xs. ap (λ ys. pairs ys (g (take n xs))) (sf.causal n xs) ∙ ap (pairs (take n (f xs))) (sg.causal n xs)
+      ∙ sym (take-zip_with pair n (f xs) (g xs));
   timeless = λ d xs. ap (λ ys. pairs ys (g (retime d xs))) (sf.timeless d xs) ∙ ap (pairs (f xs)) (sg.timeless d xs);
 }
 

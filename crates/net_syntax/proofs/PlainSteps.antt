@@ -18,25 +18,33 @@ pub answer-map : (h : Datum → Datum) (p : TimedList) (x : ℕ × Datum) → an
 answer-map h p x = answer_is (λ xs. map h (values xs)) p x (map h (values p)) (h x.1) (ap (map h) (map_push (λ y. y.1) p x) ∙ map_push h (values p) x.1)
 
 -- what g gets
-pub push_with_values : (f : SignalFunction) → IsSignalFunction f → (p : TimedList) (x : ℕ × Datum) → with_values (p ++ x ∷ []) (f (p ++ x ∷ [])) ≡ with_values p (f p) ++ (x.0, answer f p x) ∷ []
+pub push_with_values : (f : SignalFunction) → IsSignalFunction f → (p : TimedList) (x : ℕ × Datum)
+    → with_values (p ++ x ∷ []) (f (p ++ x ∷ [])) ≡ with_values p (f p) ++ (x.0, answer f p x) ∷ []
 push_with_values f sf p x = ap (with_values (p ++ x ∷ [])) (signal-push f sf p x) ∙ push_zip_with _ p (f p) x (answer f p x) (sf.sized p)
 
-pub push_pair_samples : (f : SignalFunction) → IsSignalFunction f → (p : TimedList) (x : ℕ × Datum) → pair_samples (p ++ x ∷ []) (f (p ++ x ∷ [])) ≡ pair_samples p (f p) ++ (x.0, pair x.1 (answer f p x)) ∷ []
+pub push_pair_samples : (f : SignalFunction) → IsSignalFunction f → (p : TimedList) (x : ℕ × Datum)
+    → pair_samples (p ++ x ∷ []) (f (p ++ x ∷ [])) ≡ pair_samples p (f p) ++ (x.0, pair x.1 (answer f p x)) ∷ []
 push_pair_samples f sf p x = ap (pair_samples (p ++ x ∷ [])) (signal-push f sf p x) ∙ push_zip_with _ p (f p) x (answer f p x) (sf.sized p)
 
-pub answer-sequence : (f g : SignalFunction) → IsSignalFunction f → (p : TimedList) (x : ℕ × Datum) → answer (seq_function f g) p x ≡ answer g (with_values p (f p)) (x.0, answer f p x)
+pub answer-sequence : (f g : SignalFunction) → IsSignalFunction f → (p : TimedList) (x : ℕ × Datum)
+    → answer (seq_function f g) p x ≡ answer g (with_values p (f p)) (x.0, answer f p x)
 answer-sequence f g sf p x = ap (λ ys. last_or unit (g ys)) (push_with_values f sf p x)
 
-pub answer-watching : (f e : SignalFunction) → IsSignalFunction f → (p : TimedList) (x : ℕ × Datum) → answer (watch f e) p x ≡ answer e (pair_samples p (f p)) (x.0, pair x.1 (answer f p x))
+pub answer-watching : (f e : SignalFunction) → IsSignalFunction f → (p : TimedList) (x : ℕ × Datum)
+    → answer (watch f e) p x ≡ answer e (pair_samples p (f p)) (x.0, pair x.1 (answer f p x))
 answer-watching f g sf p x = ap (λ ys. last_or unit (g ys)) (push_pair_samples f sf p x)
 
-pub answer-after : (h : Datum → Datum) (f : SignalFunction) → IsSignalFunction f → (p : TimedList) (x : ℕ × Datum) → answer (λ xs. map h (f xs)) p x ≡ h (answer f p x)
-answer-after h f sf p x = answer_is (λ xs. map h (f xs)) p x (map h (f p)) (h (answer f p x)) (ap (map h) (signal-push f sf p x) ∙ map_push h (f p) (answer f p x))
+pub answer-after : (h : Datum → Datum) (f : SignalFunction) → IsSignalFunction f → (p : TimedList) (x : ℕ × Datum)
+    → answer (λ xs. map h (f xs)) p x ≡ h (answer f p x)
+answer-after h f sf p x = answer_is (λ xs. map h (f xs)) p x (map h (f p)) (h (answer f p x)) (ap (map h) (signal-push f sf p x)
+    ∙ map_push h (f p) (answer f p x))
 
-pub answer-before : (h : Datum → Datum) (f : SignalFunction) (p : TimedList) (x : ℕ × Datum) → answer (λ xs. f (each_value h xs)) p x ≡ answer f (each_value h p) (x.0, h x.1)
+pub answer-before : (h : Datum → Datum) (f : SignalFunction) (p : TimedList) (x : ℕ × Datum)
+    → answer (λ xs. f (each_value h xs)) p x ≡ answer f (each_value h p) (x.0, h x.1)
 answer-before h f p x = ap (λ ys. last_or unit (f ys)) (map_push (λ y. (y.0, h y.1)) p x)
 
-pub answer-on_left : (f : SignalFunction) → IsSignalFunction f → (p : TimedList) (x : ℕ × Datum) → answer (first_function f) p x ≡ pair (answer f (each_value left p) (x.0, left x.1)) (right x.1)
+pub answer-on_left : (f : SignalFunction) → IsSignalFunction f → (p : TimedList) (x : ℕ × Datum)
+    → answer (first_function f) p x ≡ pair (answer f (each_value left p) (x.0, left x.1)) (right x.1)
 answer-on_left f sf p x =
     let v : Datum = answer f (each_value left p) (x.0, left x.1) in
     let fs : List Datum = f (each_value left p) in
@@ -70,14 +78,17 @@ heads_push_more n [] [] e a = refl
 heads_push_more n [] (v ∷ vs) e a = absurd (omega arith)
 heads_push_more n (row ∷ rows) [] e a = absurd (omega arith)
 heads_push_more n ([] ∷ rows) (v ∷ vs) e (and_row l a) = absurd (omega arith)
-heads_push_more n ((w ∷ row) ∷ rows) (v ∷ vs) e (and_row l a) = let e' : length vs ≡ length rows = omega arith in ap (λ ws. w ∷ ws) (heads_push_more n rows vs e' a)
+heads_push_more n ((w ∷ row) ∷ rows) (v ∷ vs) e (and_row l a) =
+    let e' : length vs ≡ length rows = omega arith in ap (λ ws. w ∷ ws) (heads_push_more n rows vs e' a)
 
-tails_push_more : (n : ℕ) (rows : List (List Datum)) (vs : List Datum) → length vs ≡ length rows → AllLong (suc n) rows → tails (push_each rows vs) ≡ push_each (tails rows) vs
+tails_push_more : (n : ℕ) (rows : List (List Datum)) (vs : List Datum) → length vs ≡ length rows → AllLong (suc n) rows
+    → tails (push_each rows vs) ≡ push_each (tails rows) vs
 tails_push_more n [] [] e a = refl
 tails_push_more n [] (v ∷ vs) e a = absurd (omega arith)
 tails_push_more n (row ∷ rows) [] e a = absurd (omega arith)
 tails_push_more n ([] ∷ rows) (v ∷ vs) e (and_row l a) = absurd (omega arith)
-tails_push_more n ((w ∷ row) ∷ rows) (v ∷ vs) e (and_row l a) = let e' : length vs ≡ length rows = omega arith in ap (λ ws. (row ++ v ∷ []) ∷ ws) (tails_push_more n rows vs e' a)
+tails_push_more n ((w ∷ row) ∷ rows) (v ∷ vs) e (and_row l a) =
+    let e' : length vs ≡ length rows = omega arith in ap (λ ws. (row ++ v ∷ []) ∷ ws) (tails_push_more n rows vs e' a)
 
 tails-long : (n : ℕ) (rows : List (List Datum)) → AllLong (suc n) rows → AllLong n (tails rows)
 tails-long n [] a = no_rows
@@ -89,7 +100,8 @@ length-tails [] = refl
 length-tails ([] ∷ rows) = ap suc (length-tails rows)
 length-tails ((w ∷ row) ∷ rows) = ap suc (length-tails rows)
 
-gather_push : {A : Type 0} (p : List A) (x : A) (rows : List (List Datum)) (vs : List Datum) → length vs ≡ length rows → AllLong (length p) rows → gather (p ++ x ∷ []) (push_each rows vs) ≡ gather p rows ++ list (list_of vs) ∷ []
+gather_push : {A : Type 0} (p : List A) (x : A) (rows : List (List Datum)) (vs : List Datum) → length vs ≡ length rows → AllLong (length p) rows
+    → gather (p ++ x ∷ []) (push_each rows vs) ≡ gather p rows ++ list (list_of vs) ∷ []
 gather_push [] x rows vs e a = ap (λ ws. list (list_of ws) ∷ []) (heads_push rows vs e a)
 gather_push (y ∷ p) x rows vs e a =
     ap (λ ws. list (list_of ws) ∷ gather (p ++ x ∷ []) (tails (push_each rows vs))) (heads_push_more (length p) rows vs e a)
@@ -101,7 +113,8 @@ answers fs p x = map (λ f. answer f p x) fs
 
 all_of_push : (fs : List SignalFunction) → AllSignals fs → (p : TimedList) (x : ℕ × Datum) → all_of fs (p ++ x ∷ []) ≡ push_each (all_of fs p) (answers fs p x)
 all_of_push [] s p x = refl
-all_of_push (f ∷ fs) (and_signal sf s) p x = ap (λ r. r ∷ all_of fs (p ++ x ∷ [])) (signal-push f sf p x) ∙ ap (λ rs. (f p ++ answer f p x ∷ []) ∷ rs) (all_of_push fs s p x)
+all_of_push (f ∷ fs) (and_signal sf s) p x = ap (λ r. r ∷ all_of fs (p ++ x ∷ [])) (signal-push f sf p x)
+    ∙ ap (λ rs. (f p ++ answer f p x ∷ []) ∷ rs) (all_of_push fs s p x)
 
 all_of-long : (fs : List SignalFunction) → AllSignals fs → (p : TimedList) → AllLong (length p) (all_of fs p)
 all_of-long [] s p = no_rows
@@ -111,7 +124,8 @@ length-answers : (fs : List SignalFunction) (p : TimedList) (x : ℕ × Datum) �
 length-answers [] p x = refl
 length-answers (f ∷ fs) p x = ap suc (length-answers fs p x)
 
-pub answer-in_parallel : (fs : List SignalFunction) → AllSignals fs → (p : TimedList) (x : ℕ × Datum) → answer (par_function fs) p x ≡ list (list_of (answers fs p x))
+pub answer-in_parallel : (fs : List SignalFunction) → AllSignals fs → (p : TimedList) (x : ℕ × Datum)
+    → answer (par_function fs) p x ≡ list (list_of (answers fs p x))
 answer-in_parallel fs s p x = answer_is (par_function fs) p x (par_function fs p) (list (list_of (answers fs p x)))
     (ap (gather (p ++ x ∷ [])) (all_of_push fs s p x) ∙ gather_push p x (all_of fs p) (answers fs p x) (length-answers fs p x) (all_of-long fs s p))
 
@@ -124,14 +138,16 @@ last_cons c [] n e = rw (sym e) refl
 last_cons c (v ∷ vs) zero e = absurd (omega arith)
 last_cons c (v ∷ vs) (suc n) e = let e' : length vs ≡ n = omega arith in ap (λ ws. c ∷ ws) (last_cons v vs n e')
 
-fed_back_push : (c : Datum) (f : SignalFunction) → IsSignalFunction f → (p : TimedList) (x : ℕ × Datum) → feedback_values c f (p ++ x ∷ []) (length (p ++ x ∷ [])) ≡ feedback_values c f p (length p) ++ fed_next c f p ∷ []
+fed_back_push : (c : Datum) (f : SignalFunction) → IsSignalFunction f → (p : TimedList) (x : ℕ × Datum)
+    → feedback_values c f (p ++ x ∷ []) (length (p ++ x ∷ [])) ≡ feedback_values c f p (length p) ++ fed_next c f p ∷ []
 fed_back_push c f sf p x =
     let n : ℕ = length p in
     let more : TimedList = p ++ x ∷ [] in
     let l : length more ≡ suc n = length-append p (x ∷ []) ∙ (omega arith) in
     let front : take n more ≡ p = take_at p (x ∷ []) n refl in
     let kept : feedback_values c f more n ≡ feedback_values c f p n = sym (fed_back-take c f more n n (le_refl n)) ∙ ap (λ q. feedback_values c f q n) front in
-    let now : feedback_values c f more (suc n) ≡ c ∷ map right (f (fed c f p)) = ap (λ q. c ∷ map right (f (pair_samples q (feedback_values c f more n)))) front ∙ ap (λ vs. c ∷ map right (f (pair_samples p vs))) kept in
+    let now : feedback_values c f more (suc n) ≡ c ∷ map right (f (fed c f p)) = ap (λ q. c ∷ map right (f (pair_samples q (feedback_values c f more n)))) front
+    ∙ ap (λ vs. c ∷ map right (f (pair_samples p vs))) kept in
     let lf : length (map right (f (fed c f p))) ≡ n = (IsSignal-after right f sf).sized (fed c f p) ∙ length-fed c f sf p in
     let nl : n ≤ suc n = omega arith in
     let lm : suc n ≤ length more = omega arith in
@@ -141,12 +157,14 @@ fed_back_push c f sf p x =
     ∙ ap (λ vs. take n vs ++ fed_next c f p ∷ []) (sym now)
     ∙ ap (λ vs. vs ++ fed_next c f p ∷ []) (fed_back-more c f sf more (suc n) n nl lm ∙ kept)
 
-pub fed_push : (c : Datum) (f : SignalFunction) → IsSignalFunction f → (p : TimedList) (x : ℕ × Datum) → fed c f (p ++ x ∷ []) ≡ fed c f p ++ (x.0, pair x.1 (fed_next c f p)) ∷ []
+pub fed_push : (c : Datum) (f : SignalFunction) → IsSignalFunction f → (p : TimedList) (x : ℕ × Datum)
+    → fed c f (p ++ x ∷ []) ≡ fed c f p ++ (x.0, pair x.1 (fed_next c f p)) ∷ []
 fed_push c f sf p x =
     ap (pair_samples (p ++ x ∷ [])) (fed_back_push c f sf p x)
     ∙ push_zip_with _ p (feedback_values c f p (length p)) x (fed_next c f p) (length-fed_back c f sf p (length p) (le_refl (length p)))
 
-pub answer-feedback : (c : Datum) (f : SignalFunction) → IsSignalFunction f → (p : TimedList) (x : ℕ × Datum) → answer (loop_pre_function c f) p x ≡ left (answer f (fed c f p) (x.0, pair x.1 (fed_next c f p)))
+pub answer-feedback : (c : Datum) (f : SignalFunction) → IsSignalFunction f → (p : TimedList) (x : ℕ × Datum)
+    → answer (loop_pre_function c f) p x ≡ left (answer f (fed c f p) (x.0, pair x.1 (fed_next c f p)))
 answer-feedback c f sf p x =
     let y : ℕ × Datum = (x.0, pair x.1 (fed_next c f p)) in
     answer_is (loop_pre_function c f) p x (map left (f (fed c f p))) (left (answer f (fed c f p) y))
@@ -155,7 +173,8 @@ answer-feedback c f sf p x =
 pub fed_next-nil : (c : Datum) (f : SignalFunction) → IsSignalFunction f → fed_next c f [] ≡ c
 fed_next-nil c f sf = ap (λ vs. last_or c (map right vs)) (sf.causal 0 [])
 
-pub fed_next_push : (c : Datum) (f : SignalFunction) → IsSignalFunction f → (p : TimedList) (x : ℕ × Datum) → fed_next c f (p ++ x ∷ []) ≡ right (answer f (fed c f p) (x.0, pair x.1 (fed_next c f p)))
+pub fed_next_push : (c : Datum) (f : SignalFunction) → IsSignalFunction f → (p : TimedList) (x : ℕ × Datum)
+    → fed_next c f (p ++ x ∷ []) ≡ right (answer f (fed c f p) (x.0, pair x.1 (fed_next c f p)))
 fed_next_push c f sf p x =
     let y : ℕ × Datum = (x.0, pair x.1 (fed_next c f p)) in
     ap (λ ys. last_or c (map right (f ys))) (fed_push c f sf p x)

@@ -17,7 +17,8 @@ module _ (f : SignalFunction) (t : Datum → SignalFunction) (p : TimedList) (g 
   pub Runs-uncut : (d : ℕ) (v : Datum) → IsUncut v → Runs f t (p ++ (d, v) ∷ []) g (q ++ (d, left v) ∷ [])
   Runs-uncut d v u = record {
     put_out = r.put_out;
-    goes_on = λ rest. ap (r_switch_function f t) (append_assoc p ((d, v) ∷ []) rest) ∙ r.goes_on ((d, v) ∷ rest) ∙ ap (λ vs. r.put_out ++ vs) (from-uncut g t q d v rest u);
+    goes_on = λ rest. ap (r_switch_function f t) (append_assoc p ((d, v) ∷ []) rest) ∙ r.goes_on ((d, v) ∷ rest)
+        ∙ ap (λ vs. r.put_out ++ vs) (from-uncut g t q d v rest u);
   }
 
   pub Runs-cut : (d : ℕ) (a c : Datum) → Runs f t (p ++ (d, pair a (event c)) ∷ []) (t c) ((d, a) ∷ [])

@@ -17,12 +17,14 @@ uncut_or_cut _ = inl (λ d p. refl)
 abbrev pub from : SignalFunction → (Datum → SignalFunction) → TimedList → TimedList → List Datum
 from f t q xs = f (q ++ (pieces xs).0) ++ flat_map (λ piece. t piece.0 piece.1) (pieces xs).1
 
-pub from-uncut : (f : SignalFunction) (t : Datum → SignalFunction) (q : TimedList) (d : ℕ) (v : Datum) (xs : TimedList) → IsUncut v → from f t q ((d, v) ∷ xs) ≡ from f t (q ++ (d, left v) ∷ []) xs
+pub from-uncut : (f : SignalFunction) (t : Datum → SignalFunction) (q : TimedList) (d : ℕ) (v : Datum) (xs : TimedList) → IsUncut v
+    → from f t q ((d, v) ∷ xs) ≡ from f t (q ++ (d, left v) ∷ []) xs
 from-uncut f t q d v xs u =
     ap (λ ps. f (q ++ ps.0) ++ flat_map (λ piece. t piece.0 piece.1) ps.1) (u d (pieces xs))
     ∙ ap (λ ys. f ys ++ flat_map (λ piece. t piece.0 piece.1) (pieces xs).1) (sym (append_assoc q ((d, left v) ∷ []) (pieces xs).0))
 
-pub from-cut : (f : SignalFunction) (t : Datum → SignalFunction) (q : TimedList) (d : ℕ) (a c : Datum) (xs : TimedList) → from f t q ((d, pair a (event c)) ∷ xs) ≡ f q ++ from (t c) t ((d, a) ∷ []) xs
+pub from-cut : (f : SignalFunction) (t : Datum → SignalFunction) (q : TimedList) (d : ℕ) (a c : Datum) (xs : TimedList)
+    → from f t q ((d, pair a (event c)) ∷ xs) ≡ f q ++ from (t c) t ((d, a) ∷ []) xs
 from-cut f t q d a c xs = ap (λ p. f p ++ from (t c) t ((d, a) ∷ []) xs) (append-nil q)
 
 pub from-nil : (f : SignalFunction) (t : Datum → SignalFunction) (q : TimedList) → from f t q [] ≡ f q
@@ -33,12 +35,14 @@ module _ (t : Datum → SignalFunction) (st : (c : Datum) → IsSignalFunction (
   length-from f sf q [] = ap length (from-nil f t q) ∙ sf.sized q ∙ (omega arith)
   length-from f sf q (x ∷ xs) = elim (uncut_or_cut x.1) [
     | inl u ↦
-        let ih : length (from f t (q ++ (x.0, left x.1) ∷ []) xs) ≡ length (q ++ (x.0, left x.1) ∷ []) + length xs = length-from f sf (q ++ (x.0, left x.1) ∷ []) xs in
+        let ih : length (from f t (q ++ (x.0, left x.1) ∷ []) xs) ≡ length (q ++ (x.0, left x.1) ∷ [])
+        + length xs = length-from f sf (q ++ (x.0, left x.1) ∷ []) xs in
         ap length (from-uncut f t q x.0 x.1 xs u) ∙ (omega (arith, length-append q ((x.0, left x.1) ∷ [])))
     | inr h ↦
         let ih : length (from (t h.1) t ((x.0, h.0) ∷ []) xs) ≡ 1 + length xs = length-from (t h.1) (st h.1) ((x.0, h.0) ∷ []) xs in
         let l : length (f q) ≡ length q = sf.sized q in
-        ap (λ v. length (from f t q ((x.0, v) ∷ xs))) h.2 ∙ ap length (from-cut f t q x.0 h.0 h.1 xs) ∙ (omega (arith, length-append (f q) (from (t h.1) t ((x.0, h.0) ∷ []) xs)))
+        ap (λ v. length (from f t q ((x.0, v) ∷ xs))) h.2 ∙ ap length (from-cut f t q x.0 h.0 h.1 xs)
+        ∙ (omega (arith, length-append (f q) (from (t h.1) t ((x.0, h.0) ∷ []) xs)))
   ]
 
   -- the outputs to the samples seen
@@ -51,8 +55,10 @@ module _ (t : Datum → SignalFunction) (st : (c : Datum) → IsSignalFunction (
       ∙ sym (sf.causal (length q) (q ++ p))
       ∙ ap f (take_at q p (length q) refl)
 
-  from-take : (f : SignalFunction) → IsSignalFunction f → (q : TimedList) (n : ℕ) (xs : TimedList) → from f t q (take n xs) ≡ take (length q + n) (from f t q xs)
-  from-take f sf q zero xs = let e : length q + 0 ≡ length q = omega arith in from-nil f t q ∙ sym (from-front f sf q xs) ∙ ap (λ k. take k (from f t q xs)) (sym e)
+  from-take : (f : SignalFunction) → IsSignalFunction f → (q : TimedList) (n : ℕ) (xs : TimedList)
+      → from f t q (take n xs) ≡ take (length q + n) (from f t q xs)
+  from-take f sf q zero xs = let e : length q + 0 ≡ length q = omega arith in from-nil f t q ∙ sym (from-front f sf q xs)
+      ∙ ap (λ k. take k (from f t q xs)) (sym e)
   from-take f sf q (suc n) [] =
       let l : length (from f t q []) ≡ length q + 0 = length-from f sf q [] in
       sym (take_all (length q + suc n) (from f t q []) (omega arith))
@@ -60,7 +66,8 @@ module _ (t : Datum → SignalFunction) (st : (c : Datum) → IsSignalFunction (
     | inl u ↦
         let q' : TimedList = q ++ (x.0, left x.1) ∷ [] in
         let e : length q' + n ≡ length q + suc n = omega (arith, length-append q ((x.0, left x.1) ∷ [])) in
-        from-uncut f t q x.0 x.1 (take n xs) u ∙ from-take f sf q' n xs ∙ ap (λ k. take k (from f t q' xs)) e ∙ ap (take (length q + suc n)) (sym (from-uncut f t q x.0 x.1 xs u))
+        from-uncut f t q x.0 x.1 (take n xs) u ∙ from-take f sf q' n xs ∙ ap (λ k. take k (from f t q' xs)) e
+        ∙ ap (take (length q + suc n)) (sym (from-uncut f t q x.0 x.1 xs u))
     | inr h ↦
         let q' : TimedList = (x.0, h.0) ∷ [] in
         let e : 1 + n ≡ suc n = omega arith in

@@ -29,16 +29,20 @@ SameAt-watching f f' g g' hf hg = record {
 pub SameAt-on_left : {A B C : TypeTree} (f f' : SignalFunction) → SameAt A B f f' → SameAt (pair_ty A C) (pair_ty B C) (first_function f) (first_function f')
 SameAt-on_left f f' hf = record {
   same = λ xs k. ap (λ vs. pairs vs (map right (values xs))) (hf.same (each_value left xs) (typed_each_value left xs (λ v h. typed_left h) k));
-  typed = λ xs k. typed_pairs (f (each_value left xs)) (map right (values xs)) (hf.typed (each_value left xs) (typed_each_value left xs (λ v h. typed_left h) k)) (TypedValues-map right (values xs) (λ v h. typed_right h) (typed_values xs k));
+  typed = λ xs k. typed_pairs (f (each_value left xs)) (map right (values xs))
+      (hf.typed (each_value left xs) (typed_each_value left xs (λ v h. typed_left h) k))
+      (TypedValues-map right (values xs) (λ v h. typed_right h) (typed_values xs k));
 }
 
-pub SameAt-after : {A B C : TypeTree} (h : Datum → Datum) (f f' : SignalFunction) → ((v : Datum) → HasType v B → HasType (h v) C) → SameAt A B f f' → SameAt A C (λ xs. map h (f xs)) (λ xs. map h (f' xs))
+pub SameAt-after : {A B C : TypeTree} (h : Datum → Datum) (f f' : SignalFunction) → ((v : Datum) → HasType v B → HasType (h v) C) → SameAt A B f f'
+    → SameAt A C (λ xs. map h (f xs)) (λ xs. map h (f' xs))
 SameAt-after h f f' s hf = record {
   same = λ xs k. ap (map h) (hf.same xs k);
   typed = λ xs k. TypedValues-map h (f xs) s (hf.typed xs k);
 }
 
-pub SameAt-before : {A B C : TypeTree} (h : Datum → Datum) (f f' : SignalFunction) → ((v : Datum) → HasType v A → HasType (h v) B) → SameAt B C f f' → SameAt A C (λ xs. f (each_value h xs)) (λ xs. f' (each_value h xs))
+pub SameAt-before : {A B C : TypeTree} (h : Datum → Datum) (f f' : SignalFunction) → ((v : Datum) → HasType v A → HasType (h v) B) → SameAt B C f f'
+    → SameAt A C (λ xs. f (each_value h xs)) (λ xs. f' (each_value h xs))
 SameAt-before h f f' s hf = record {
   same = λ xs k. hf.same (each_value h xs) (typed_each_value h xs s k);
   typed = λ xs k. hf.typed (each_value h xs) (typed_each_value h xs s k);
@@ -48,7 +52,8 @@ all_of-same : {A B : TypeTree} (fs gs : List SignalFunction) → AllSameAt A B f
 all_of-same fs gs no_twin xs k = refl
 all_of-same fs gs (and_twin {fs = fs'} {gs = gs'} sf sg h a) xs k = ap₂ (λ r rs. r ∷ rs) (h.same xs k) (all_of-same fs' gs' a xs k)
 
-typed_all_of : {A B : TypeTree} (fs gs : List SignalFunction) → AllSameAt A B fs gs → (xs : TimedList) → TypedSamples A xs → TypedRows B (length xs) (all_of fs xs)
+typed_all_of : {A B : TypeTree} (fs gs : List SignalFunction) → AllSameAt A B fs gs → (xs : TimedList) → TypedSamples A xs
+    → TypedRows B (length xs) (all_of fs xs)
 typed_all_of fs gs no_twin xs k = no_typed_row
 typed_all_of fs gs (and_twin {fs = fs'} {gs = gs'} sf sg h a) xs k = and_typed_row (sf.sized xs) (h.typed xs k) (typed_all_of fs' gs' a xs k)
 
@@ -59,29 +64,39 @@ SameAt-in_parallel fs gs a = record {
 }
 
 -- feedback
-typed_fed_back : {A B C : TypeTree} (c : Datum) (f f' : SignalFunction) → HasType c C → SameAt (pair_ty A C) (pair_ty B C) f f' → (xs : TimedList) → TypedSamples A xs → (n : ℕ) → TypedValues C (feedback_values c f xs n)
+typed_fed_back : {A B C : TypeTree} (c : Datum) (f f' : SignalFunction) → HasType c C → SameAt (pair_ty A C) (pair_ty B C) f f' → (xs : TimedList)
+    → TypedSamples A xs → (n : ℕ) → TypedValues C (feedback_values c f xs n)
 typed_fed_back c f f' hc hf xs k zero = no_value
 typed_fed_back c f f' hc hf xs k (suc n) =
     let ys : TimedList = pair_samples (take n xs) (feedback_values c f xs n) in
-    and_value hc (TypedValues-map right (f ys) (λ v h. typed_right h) (hf.typed ys (typed_pair_samples (take n xs) (feedback_values c f xs n) (samples_take n xs k) (typed_fed_back c f f' hc hf xs k n))))
+    and_value hc
+    (TypedValues-map right (f ys) (λ v h. typed_right h)
+    (hf.typed ys (typed_pair_samples (take n xs) (feedback_values c f xs n) (samples_take n xs k) (typed_fed_back c f f' hc hf xs k n))))
 
-fed_back-same : {A B C : TypeTree} (c : Datum) (f f' : SignalFunction) → HasType c C → SameAt (pair_ty A C) (pair_ty B C) f f' → (xs : TimedList) → TypedSamples A xs → (n : ℕ) → feedback_values c f xs n ≡ feedback_values c f' xs n
+fed_back-same : {A B C : TypeTree} (c : Datum) (f f' : SignalFunction) → HasType c C → SameAt (pair_ty A C) (pair_ty B C) f f' → (xs : TimedList)
+    → TypedSamples A xs → (n : ℕ) → feedback_values c f xs n ≡ feedback_values c f' xs n
 fed_back-same c f f' hc hf xs k zero = refl
 fed_back-same c f f' hc hf xs k (suc n) =
     let ys : TimedList = pair_samples (take n xs) (feedback_values c f xs n) in
-    ap (λ vs. c ∷ map right vs) (hf.same ys (typed_pair_samples (take n xs) (feedback_values c f xs n) (samples_take n xs k) (typed_fed_back c f f' hc hf xs k n)) ∙ ap (λ vs. f' (pair_samples (take n xs) vs)) (fed_back-same c f f' hc hf xs k n))
+    ap (λ vs. c ∷ map right vs)
+    (hf.same ys (typed_pair_samples (take n xs) (feedback_values c f xs n) (samples_take n xs k) (typed_fed_back c f f' hc hf xs k n))
+    ∙ ap (λ vs. f' (pair_samples (take n xs) vs)) (fed_back-same c f f' hc hf xs k n))
 
-pub SameAt-feedback : {A B C : TypeTree} (c : Datum) (f f' : SignalFunction) → HasType c C → SameAt (pair_ty A C) (pair_ty B C) f f' → SameAt A B (loop_pre_function c f) (loop_pre_function c f')
+pub SameAt-feedback : {A B C : TypeTree} (c : Datum) (f f' : SignalFunction) → HasType c C → SameAt (pair_ty A C) (pair_ty B C) f f'
+    → SameAt A B (loop_pre_function c f) (loop_pre_function c f')
 SameAt-feedback {A = A} {B = B} {C = C} c f f' hc hf = record {
-  same = λ xs k. ap (map left) (hf.same (pair_samples xs (feedback_values c f xs (length xs))) (inputs xs k) ∙ ap (λ vs. f' (pair_samples xs vs)) (fed_back-same c f f' hc hf xs k (length xs)));
-  typed = λ xs k. TypedValues-map left (f (pair_samples xs (feedback_values c f xs (length xs)))) (λ v h. typed_left h) (hf.typed (pair_samples xs (feedback_values c f xs (length xs))) (inputs xs k));
+  same = λ xs k. ap (map left) (hf.same (pair_samples xs (feedback_values c f xs (length xs))) (inputs xs k)
+      ∙ ap (λ vs. f' (pair_samples xs vs)) (fed_back-same c f f' hc hf xs k (length xs)));
+  typed = λ xs k. TypedValues-map left (f (pair_samples xs (feedback_values c f xs (length xs)))) (λ v h. typed_left h)
+      (hf.typed (pair_samples xs (feedback_values c f xs (length xs))) (inputs xs k));
 }
   where
     inputs : (xs : TimedList) → TypedSamples A xs → TypedSamples (pair_ty A C) (pair_samples xs (feedback_values c f xs (length xs)))
     inputs xs k = typed_pair_samples xs (feedback_values c f xs (length xs)) k (typed_fed_back c f f' hc hf xs k (length xs))
 
 -- resumed
-pub SameAt-resume : {A B : TypeTree} (f f' : SignalFunction) → SameAt A B f f' → (p : TimedList) (d : ℕ) → TypedSamples A p → SameAt A B (resume f p d) (resume f' p d)
+pub SameAt-resume : {A B : TypeTree} (f f' : SignalFunction) → SameAt A B f f' → (p : TimedList) (d : ℕ) → TypedSamples A p
+    → SameAt A B (resume f p d) (resume f' p d)
 SameAt-resume {A = A} {B = B} f f' hf p d h = record { same = go; typed = go' }
   where
     go : (xs : TimedList) → TypedSamples A xs → resume f p d xs ≡ resume f' p d xs
@@ -90,13 +105,15 @@ SameAt-resume {A = A} {B = B} f f' hf p d h = record { same = go; typed = go' }
 
     go' : (xs : TimedList) → TypedSamples A xs → TypedValues B (resume f p d xs)
     go' [] k = no_value
-    go' (x ∷ xs) (and_sample k ks) = typed_drop (length p) (f (p ++ (d, x.1) ∷ xs)) (hf.typed (p ++ (d, x.1) ∷ xs) (samples_append p ((d, x.1) ∷ xs) h (and_sample k ks)))
+    go' (x ∷ xs) (and_sample k ks) = typed_drop (length p) (f (p ++ (d, x.1) ∷ xs))
+        (hf.typed (p ++ (d, x.1) ∷ xs) (samples_append p ((d, x.1) ∷ xs) h (and_sample k ks)))
 
 -- what may take over
 abbrev pub SameFrom : TypeTree → TypeTree → TypeTree → (Datum → TimedList → ℕ → SignalFunction) → (Datum → TimedList → ℕ → SignalFunction) → Type 0
 SameFrom A B C t t' = (c : Datum) (p : TimedList) (d : ℕ) → HasType c C → TypedSamples A p → SameAt A B (t c p d) (t' c p d)
 
-module _ {A B C : TypeTree} (f f' e e' : SignalFunction) (t t' : Datum → TimedList → ℕ → SignalFunction) (hf : SameAt A B f f') (he : SameAt A (event_ty C) e e') (ht : SameFrom A B C t t') where
+module _ {A B C : TypeTree} (f f' e e' : SignalFunction) (t t' : Datum → TimedList → ℕ
+    → SignalFunction) (hf : SameAt A B f f') (he : SameAt A (event_ty C) e e') (ht : SameFrom A B C t t') where
   switch_at-same : (xs : TimedList) → TypedSamples A xs → Outlook (e xs) → switch_at f e t xs ≡ switch_at f' e' t' xs
   switch_at-same xs k (never i) = switch_at-none f e t xs i.is ∙ hf.same xs k ∙ sym (switch_at-none f' e' t' xs (ap first_event (sym (he.same xs k)) ∙ i.is))
   switch_at-same xs k (once n c i) =
@@ -110,7 +127,8 @@ module _ {A B C : TypeTree} (f f' e e' : SignalFunction) (t t' : Datum → Timed
   typed_switch_at xs k (once n c i) =
       let hc : HasType c C = typed_first (e xs) n c (he.typed xs k) i.is in
       subst (TypedValues B) (sym (switch_at-some f e t xs n c i.is))
-      (typed_append (take n (f xs)) (t c (take n xs) (step_of (drop n xs)) (drop n xs)) (typed_take n (f xs) (hf.typed xs k)) ((ht c (take n xs) (step_of (drop n xs)) hc (samples_take n xs k)).typed (drop n xs) (samples_drop n xs k)))
+      (typed_append (take n (f xs)) (t c (take n xs) (step_of (drop n xs)) (drop n xs)) (typed_take n (f xs) (hf.typed xs k))
+      ((ht c (take n xs) (step_of (drop n xs)) hc (samples_take n xs k)).typed (drop n xs) (samples_drop n xs k)))
 
   pub SameAt-switch_at : SameAt A B (switch_at f e t) (switch_at f' e' t')
   SameAt-switch_at = record { same = λ xs k. switch_at-same xs k (outlook (e xs)); typed = λ xs k. typed_switch_at xs k (outlook (e xs)) }

@@ -27,7 +27,8 @@ pub signals_right : {Os : List Arrow} (fs gs : List SignalFunction) → AllOlds 
 signals_right fs gs no_olds = no_signal
 signals_right fs gs (and_old {fs = fs'} {gs = gs'} sf sg h a) = and_signal sg (signals_right fs' gs' a)
 
-same_olds : {Os : List Arrow} {k : ℕ} {o : Arrow} (fs gs : List SignalFunction) → AllOlds Os fs gs → OldAt Os k o → SameAt o.input o.output (old_at fs k) (old_at gs k)
+same_olds : {Os : List Arrow} {k : ℕ} {o : Arrow} (fs gs : List SignalFunction) → AllOlds Os fs gs → OldAt Os k o
+    → SameAt o.input o.output (old_at fs k) (old_at gs k)
 same_olds fs gs no_olds i = elim i [ ]
 same_olds fs gs (and_old sf sg h a) old_here = h
 same_olds fs gs (and_old {fs = fs'} {gs = gs'} sf sg h a) (old_after i) = same_olds fs' gs' a i
@@ -37,10 +38,12 @@ length-meanings val no_members E = refl
 length-meanings val (and_member f fs) E = ap suc (length-meanings val fs E)
 
 module _ {L : Type 0} (val : L → List Datum → Datum → Datum) where
-  const_same : {Ps : List TypeTree} {C : TypeTree} {c c' : L} → SameLeaf val Ps unit_ty C c c' → (ps : List Datum) → TypedParams Ps ps → val c ps unit ≡ val c' ps unit
+  const_same : {Ps : List TypeTree} {C : TypeTree} {c c' : L} → SameLeaf val Ps unit_ty C c c' → (ps : List Datum) → TypedParams Ps ps
+      → val c ps unit ≡ val c' ps unit
   const_same h ps k = h.leaf_same ps unit k unit_has
 
-  const_typed : {Ps : List TypeTree} {C : TypeTree} {c c' : L} → SameLeaf val Ps unit_ty C c c' → (ps : List Datum) → TypedParams Ps ps → HasType (val c ps unit) C
+  const_typed : {Ps : List TypeTree} {C : TypeTree} {c c' : L} → SameLeaf val Ps unit_ty C c c' → (ps : List Datum) → TypedParams Ps ps
+      → HasType (val c ps unit) C
   const_typed h ps k = h.leaf_typed ps unit k unit_has
 
   map-same : {A : TypeTree} (h h' : Datum → Datum) → ((v : Datum) → HasType v A → h v ≡ h' v) → (vs : List Datum) → TypedValues A vs → map h vs ≡ map h' vs
@@ -55,16 +58,20 @@ module _ {L : Type 0} (val : L → List Datum → Datum → Datum) where
     };
   }
 
-  pub same-seq : {Ps : List TypeTree} {Os : List Arrow} {A B C : TypeTree} (f f' g g' : Network L) → SameNet val Ps Os A B f f' → SameNet val Ps Os B C g g' → SameNet val Ps Os A C (seq f g) (seq f' g')
+  pub same-seq : {Ps : List TypeTree} {Os : List Arrow} {A B C : TypeTree} (f f' g g' : Network L) → SameNet val Ps Os A B f f' → SameNet val Ps Os B C g g'
+      → SameNet val Ps Os A C (seq f g) (seq f' g')
   same-seq f f' g g' hf hg = record { here = λ ps os os' k a. SameAt-sequence _ _ _ _ (hf.here ps os os' k a) (hg.here ps os os' k a) }
 
-  pub same-first : {Ps : List TypeTree} {Os : List Arrow} {A B C : TypeTree} (f f' : Network L) → SameNet val Ps Os A B f f' → SameNet val Ps Os (pair_ty A C) (pair_ty B C) (first f) (first f')
+  pub same-first : {Ps : List TypeTree} {Os : List Arrow} {A B C : TypeTree} (f f' : Network L) → SameNet val Ps Os A B f f'
+      → SameNet val Ps Os (pair_ty A C) (pair_ty B C) (first f) (first f')
   same-first f f' hf = record { here = λ ps os os' k a. SameAt-on_left _ _ (hf.here ps os os' k a) }
 
-  pub same-par : {Ps : List TypeTree} {Os : List Arrow} {A B : TypeTree} (fs gs : Networks L) → SameNets val Ps Os A B fs gs → SameNet val Ps Os A (list_ty B) (par fs) (par gs)
+  pub same-par : {Ps : List TypeTree} {Os : List Arrow} {A B : TypeTree} (fs gs : Networks L) → SameNets val Ps Os A B fs gs
+      → SameNet val Ps Os A (list_ty B) (par fs) (par gs)
   same-par fs gs h = record { here = λ ps os os' k a. SameAt-in_parallel _ _ (h.here ps os os' k a) }
 
-  pub same-loop_pre : {Ps : List TypeTree} {Os : List Arrow} {A B C : TypeTree} (c c' : L) (f f' : Network L) → SameLeaf val Ps unit_ty C c c' → SameNet val Ps Os (pair_ty A C) (pair_ty B C) f f' → SameNet val Ps Os A B (loop_pre c f) (loop_pre c' f')
+  pub same-loop_pre : {Ps : List TypeTree} {Os : List Arrow} {A B C : TypeTree} (c c' : L) (f f' : Network L) → SameLeaf val Ps unit_ty C c c'
+      → SameNet val Ps Os (pair_ty A C) (pair_ty B C) f f' → SameNet val Ps Os A B (loop_pre c f) (loop_pre c' f')
   same-loop_pre {A = A} {B = B} c c' f f' hc hf = record {
     here = λ ps os os' k a.
         subst (λ v. SameAt A B (meaning val (loop_pre c f) (context ps os)) (loop_pre_function v (meaning val f' (context ps os')))) (const_same hc ps k)
@@ -72,54 +79,103 @@ module _ {L : Type 0} (val : L → List Datum → Datum → Datum) where
   }
 
   -- a cell with a constant
-  same-const : {Ps : List TypeTree} {C : TypeTree} {A B : TypeTree} (c c' : L) (s : Datum → SignalFunction) → SameLeaf val Ps unit_ty C c c' → ((v : Datum) → HasType v C → (xs : TimedList) → TypedSamples A xs → TypedValues B (s v xs)) → (ps : List Datum) → TypedParams Ps ps → SameAt A B (s (val c ps unit)) (s (val c' ps unit))
-  same-const {A = A} {B = B} c c' s hc h ps k = subst (λ v. SameAt A B (s (val c ps unit)) (s v)) (const_same hc ps k) (SameAt-one (s (val c ps unit)) (h (val c ps unit) (const_typed hc ps k)))
+  same-const : {Ps : List TypeTree} {C : TypeTree} {A B : TypeTree} (c c' : L) (s : Datum → SignalFunction) → SameLeaf val Ps unit_ty C c c'
+      → ((v : Datum) → HasType v C → (xs : TimedList) → TypedSamples A xs → TypedValues B (s v xs)) → (ps : List Datum) → TypedParams Ps ps
+      → SameAt A B (s (val c ps unit)) (s (val c' ps unit))
+  same-const {A = A} {B = B} c c' s hc h ps k =
+      subst (λ v. SameAt A B (s (val c ps unit)) (s v)) (const_same hc ps k) (SameAt-one (s (val c ps unit)) (h (val c ps unit) (const_typed hc ps k)))
 
-  pub same-i_pre : {Ps : List TypeTree} {Os : List Arrow} {A : TypeTree} (c c' : L) → SameLeaf val Ps unit_ty A c c' → SameNet val Ps Os A A (i_pre c) (i_pre c')
-  same-i_pre c c' hc = record { here = λ ps os os' k a. same-const c c' (λ v. by_past (i_pre_value v)) hc (λ v i xs j. typed_by_past (i_pre_value v) xs (λ p l. typed_previous_of v p i l) j) ps k }
+  pub same-i_pre : {Ps : List TypeTree} {Os : List Arrow} {A : TypeTree} (c c' : L) → SameLeaf val Ps unit_ty A c c'
+      → SameNet val Ps Os A A (i_pre c) (i_pre c')
+  same-i_pre c c' hc =
+      record {
+        here = λ ps os os' k a. same-const c c' (λ v. by_past (i_pre_value v)) hc
+            (λ v i xs j. typed_by_past (i_pre_value v) xs (λ p l. typed_previous_of v p i l) j) ps k;
+      }
 
-  pub same-delay : {Ps : List TypeTree} {Os : List Arrow} {A : TypeTree} (q : ℕ) (c c' : L) → SameLeaf val Ps unit_ty A c c' → SameNet val Ps Os A A (delay q c) (delay q c')
-  same-delay q c c' hc = record { here = λ ps os os' k a. same-const c c' (λ v. by_past (delay_value q v)) hc (λ v i xs j. typed_by_past (delay_value q v) xs (λ p l. typed_latest_by q (time_at p) v (times p) (values p) i (typed_values p l)) j) ps k }
+  pub same-delay : {Ps : List TypeTree} {Os : List Arrow} {A : TypeTree} (q : ℕ) (c c' : L) → SameLeaf val Ps unit_ty A c c'
+      → SameNet val Ps Os A A (delay q c) (delay q c')
+  same-delay q c c' hc =
+      record {
+        here = λ ps os os' k a. same-const c c' (λ v. by_past (delay_value q v)) hc
+            (λ v i xs j. typed_by_past (delay_value q v) xs (λ p l. typed_latest_by q (time_at p) v (times p) (values p) i (typed_values p l)) j) ps k;
+      }
 
-  pub same-hold : {Ps : List TypeTree} {Os : List Arrow} {A : TypeTree} (c c' : L) → SameLeaf val Ps unit_ty A c c' → SameNet val Ps Os (event_ty A) A (hold c) (hold c')
-  same-hold c c' hc = record { here = λ ps os os' k a. same-const c c' (λ v. by_past (λ p. latest_event v (values p))) hc (λ v i xs j. typed_by_past (λ p. latest_event v (values p)) xs (λ p l. typed_latest_event v (values p) i (typed_values p l)) j) ps k }
+  pub same-hold : {Ps : List TypeTree} {Os : List Arrow} {A : TypeTree} (c c' : L) → SameLeaf val Ps unit_ty A c c'
+      → SameNet val Ps Os (event_ty A) A (hold c) (hold c')
+  same-hold c c' hc =
+      record {
+        here = λ ps os os' k a. same-const c c' (λ v. by_past (λ p. latest_event v (values p))) hc
+            (λ v i xs j. typed_by_past (λ p. latest_event v (values p)) xs (λ p l. typed_latest_event v (values p) i (typed_values p l)) j) ps k;
+      }
 
-  pub same-after : {Ps : List TypeTree} {Os : List Arrow} {A C : TypeTree} (q : ℕ) (c c' : L) → SameLeaf val Ps unit_ty C c c' → SameNet val Ps Os A (event_ty C) (after q c) (after q c')
-  same-after q c c' hc = record { here = λ ps os os' k a. same-const c c' (λ v. by_past (after_value q v)) hc (λ v i xs j. typed_by_past (after_value q v) xs (λ p l. typed_when _ v i) j) ps k }
+  pub same-after : {Ps : List TypeTree} {Os : List Arrow} {A C : TypeTree} (q : ℕ) (c c' : L) → SameLeaf val Ps unit_ty C c c'
+      → SameNet val Ps Os A (event_ty C) (after q c) (after q c')
+  same-after q c c' hc =
+      record {
+        here = λ ps os os' k a. same-const c c' (λ v. by_past (after_value q v)) hc
+            (λ v i xs j. typed_by_past (after_value q v) xs (λ p l. typed_when _ v i) j) ps k;
+      }
 
-  pub same-repeatedly : {Ps : List TypeTree} {Os : List Arrow} {A C : TypeTree} (q : ℕ) (c c' : L) → SameLeaf val Ps unit_ty C c c' → SameNet val Ps Os A (event_ty C) (repeatedly q c) (repeatedly q c')
-  same-repeatedly q c c' hc = record { here = λ ps os os' k a. same-const c c' (λ v. by_past (repeatedly_value q v)) hc (λ v i xs j. typed_by_past (repeatedly_value q v) xs (λ p l. typed_when _ v i) j) ps k }
+  pub same-repeatedly : {Ps : List TypeTree} {Os : List Arrow} {A C : TypeTree} (q : ℕ) (c c' : L) → SameLeaf val Ps unit_ty C c c'
+      → SameNet val Ps Os A (event_ty C) (repeatedly q c) (repeatedly q c')
+  same-repeatedly q c c' hc =
+      record {
+        here = λ ps os os' k a. same-const c c' (λ v. by_past (repeatedly_value q v)) hc
+            (λ v i xs j. typed_by_past (repeatedly_value q v) xs (λ p l. typed_when _ v i) j) ps k;
+      }
 
   pub same-time : {Ps : List TypeTree} {Os : List Arrow} {A : TypeTree} → SameNet val Ps Os A int_ty time time
   same-time = record { here = λ ps os os' k a. SameAt-one (by_past time_value) (λ xs j. typed_by_past time_value xs (λ p l. typed_wrapped _) j) }
 
   pub same-integral : {Ps : List TypeTree} {Os : List Arrow} → SameNet val Ps Os int_ty int_ty integral integral
-  same-integral = record { here = λ ps os os' k a. SameAt-one (by_past integral_value) (λ xs j. typed_by_past integral_value xs (λ p l. typed_integral_value p) j) }
+  same-integral =
+      record { here = λ ps os os' k a. SameAt-one (by_past integral_value) (λ xs j. typed_by_past integral_value xs (λ p l. typed_integral_value p) j) }
 
-  pub same-switch : {Ps : List TypeTree} {Os : List Arrow} {A B C : TypeTree} (f f' t t' : Network L) → SameNet val Ps Os A (pair_ty B (event_ty C)) f f' → SameNet val (Ps ++ C ∷ []) Os A B t t' → SameNet val Ps Os A B (switch f t) (switch f' t')
-  same-switch {Ps = Ps} {C = C} f f' t t' hf ht = record { here = λ ps os os' k a. SameAt-switching _ _ _ _ (hf.here ps os os' k a) (λ c i. ht.here (ps ++ c ∷ []) os os' (TypedParams-append Ps (C ∷ []) ps (c ∷ []) k (and_param i no_params)) a) }
+  pub same-switch : {Ps : List TypeTree} {Os : List Arrow} {A B C : TypeTree} (f f' t t' : Network L) → SameNet val Ps Os A (pair_ty B (event_ty C)) f f'
+      → SameNet val (Ps ++ C ∷ []) Os A B t t' → SameNet val Ps Os A B (switch f t) (switch f' t')
+  same-switch {Ps = Ps} {C = C} f f' t t' hf ht =
+      record {
+        here = λ ps os os' k a. SameAt-switching _ _ _ _ (hf.here ps os os' k a)
+            (λ c i. ht.here (ps ++ c ∷ []) os os' (TypedParams-append Ps (C ∷ []) ps (c ∷ []) k (and_param i no_params)) a);
+      }
 
-  pub same-r_switch : {Ps : List TypeTree} {Os : List Arrow} {D B C : TypeTree} (f f' t t' : Network L) → SameNet val Ps Os D B f f' → SameNet val (Ps ++ C ∷ []) Os D B t t' → SameNet val Ps Os (pair_ty D (event_ty C)) B (r_switch f t) (r_switch f' t')
-  same-r_switch {Ps = Ps} {C = C} f f' t t' hf ht = record { here = λ ps os os' k a. SameAt-restarting _ _ _ _ (hf.here ps os os' k a) (λ c i. ht.here (ps ++ c ∷ []) os os' (TypedParams-append Ps (C ∷ []) ps (c ∷ []) k (and_param i no_params)) a) }
+  pub same-r_switch : {Ps : List TypeTree} {Os : List Arrow} {D B C : TypeTree} (f f' t t' : Network L) → SameNet val Ps Os D B f f'
+      → SameNet val (Ps ++ C ∷ []) Os D B t t' → SameNet val Ps Os (pair_ty D (event_ty C)) B (r_switch f t) (r_switch f' t')
+  same-r_switch {Ps = Ps} {C = C} f f' t t' hf ht =
+      record {
+        here = λ ps os os' k a. SameAt-restarting _ _ _ _ (hf.here ps os os' k a)
+            (λ c i. ht.here (ps ++ c ∷ []) os os' (TypedParams-append Ps (C ∷ []) ps (c ∷ []) k (and_param i no_params)) a);
+      }
 
-  pub same-d_switch : {Ps : List TypeTree} {Os : List Arrow} {A B C : TypeTree} (f f' t t' : Network L) → SameNet val Ps Os A (pair_ty B (event_ty C)) f f' → SameNet val (Ps ++ C ∷ []) Os A B t t' → SameNet val Ps Os A B (d_switch f t) (d_switch f' t')
+  pub same-d_switch : {Ps : List TypeTree} {Os : List Arrow} {A B C : TypeTree} (f f' t t' : Network L) → SameNet val Ps Os A (pair_ty B (event_ty C)) f f'
+      → SameNet val (Ps ++ C ∷ []) Os A B t t' → SameNet val Ps Os A B (d_switch f t) (d_switch f' t')
   same-d_switch {Ps = Ps} {C = C} f f' t t' hf ht = record {
     here = λ ps os os' k a.
-        SameAt-switching_late _ _ _ _ (IsSignal-meaning val f (context ps os) (signals_left os os' a)) (IsSignal-meaning val f' (context ps os') (signals_right os os' a)) (hf.here ps os os' k a)
+        SameAt-switching_late _ _ _ _ (IsSignal-meaning val f (context ps os) (signals_left os os' a))
+        (IsSignal-meaning val f' (context ps os') (signals_right os os' a)) (hf.here ps os os' k a)
         (λ c i. ht.here (ps ++ c ∷ []) os os' (TypedParams-append Ps (C ∷ []) ps (c ∷ []) k (and_param i no_params)) a);
   }
 
-  pub same-k_switch : {Ps : List TypeTree} {Os : List Arrow} {A B C : TypeTree} (f f' e e' t t' : Network L) → SameNet val Ps Os A B f f' → SameNet val Ps Os (pair_ty A B) (event_ty C) e e' → SameNet val (Ps ++ C ∷ []) (Os ++ record { input = A; output = B } ∷ []) A B t t' → SameNet val Ps Os A B (k_switch f e t) (k_switch f' e' t')
+  pub same-k_switch : {Ps : List TypeTree} {Os : List Arrow} {A B C : TypeTree} (f f' e e' t t' : Network L) → SameNet val Ps Os A B f f'
+      → SameNet val Ps Os (pair_ty A B) (event_ty C) e e' → SameNet val (Ps ++ C ∷ []) (Os ++ record { input = A; output = B } ∷ []) A B t t'
+      → SameNet val Ps Os A B (k_switch f e t) (k_switch f' e' t')
   same-k_switch {Ps = Ps} {Os = Os} {A = A} {B = B} {C = C} f f' e e' t t' hf he ht = record {
     here = λ ps os os' k a.
-        SameAt-switching_on _ _ _ _ _ _ (IsSignal-meaning val f (context ps os) (signals_left os os' a)) (IsSignal-meaning val f' (context ps os') (signals_right os os' a)) (hf.here ps os os' k a) (he.here ps os os' k a)
-        (λ c o o' i so so' ho. ht.here (ps ++ c ∷ []) (os ++ o ∷ []) (os' ++ o' ∷ []) (TypedParams-append Ps (C ∷ []) ps (c ∷ []) k (and_param i no_params)) (AllOlds-append Os _ os os' (o ∷ []) (o' ∷ []) a (and_old so so' ho no_olds)));
+        SameAt-switching_on _ _ _ _ _ _ (IsSignal-meaning val f (context ps os) (signals_left os os' a))
+        (IsSignal-meaning val f' (context ps os') (signals_right os os' a)) (hf.here ps os os' k a) (he.here ps os os' k a)
+        (λ c o o' i so so' ho. ht.here (ps ++ c ∷ []) (os ++ o ∷ []) (os' ++ o' ∷ []) (TypedParams-append Ps (C ∷ []) ps (c ∷ []) k (and_param i no_params))
+        (AllOlds-append Os _ os os' (o ∷ []) (o' ∷ []) a (and_old so so' ho no_olds)));
   }
 
-  pub same-old : {Ps : List TypeTree} {Os : List Arrow} {A B : TypeTree} (k : ℕ) → OldAt Os k (record { input = A; output = B }) → SameNet val Ps Os A B (old k) (old k)
+  pub same-old : {Ps : List TypeTree} {Os : List Arrow} {A B : TypeTree} (k : ℕ) → OldAt Os k (record { input = A; output = B })
+      → SameNet val Ps Os A B (old k) (old k)
   same-old n i = record { here = λ ps os os' k a. same_olds os os' a i }
 
-  pub same-p_switch : {Ps : List TypeTree} {Os : List Arrow} {A B C D : TypeTree} (r r' : L) (fs fs' : Networks L) (e e' t t' : Network L) → members fs ≤ 64 → SameLeaf val Ps (pair_ty A int_ty) D r r' → SameNets val Ps Os D B fs fs' → SameNet val Ps Os (pair_ty A (list_ty B)) (event_ty C) e e' → SameNet val (Ps ++ C ∷ []) (Os ++ copies (members fs) (record { input = D; output = B })) A (list_ty B) t t' → SameNet val Ps Os A (list_ty B) (p_switch r fs e t) (p_switch r' fs' e' t')
+  pub same-p_switch : {Ps : List TypeTree} {Os : List Arrow} {A B C D : TypeTree} (r r' : L) (fs fs' : Networks L) (e e' t t' : Network L) → members fs ≤ 64
+      → SameLeaf val Ps (pair_ty A int_ty) D r r' → SameNets val Ps Os D B fs fs' → SameNet val Ps Os (pair_ty A (list_ty B)) (event_ty C) e e'
+      → SameNet val (Ps ++ C ∷ []) (Os ++ copies (members fs) (record { input = D; output = B })) A (list_ty B) t t'
+      → SameNet val Ps Os A (list_ty B) (p_switch r fs e t) (p_switch r' fs' e' t')
   same-p_switch {Ps = Ps} {Os = Os} {A = A} {B = B} {C = C} {D = D} r r' fs fs' e e' t t' l hr hf he ht = record {
     here = λ ps os os' k a.
         let n : length (meanings val fs (context ps os)) ≡ members fs = length-meanings val fs (context ps os) in
@@ -132,32 +188,40 @@ module _ {L : Type 0} (val : L → List Datum → Datum → Datum) where
   pub same-no_members : {Ps : List TypeTree} {Os : List Arrow} {A B : TypeTree} → SameNets val Ps Os A B no_members no_members
   same-no_members = record { here = λ ps os os' k a. no_twin }
 
-  pub same-and_member : {Ps : List TypeTree} {Os : List Arrow} {A B : TypeTree} (f f' : Network L) (fs fs' : Networks L) → SameNet val Ps Os A B f f' → SameNets val Ps Os A B fs fs' → SameNets val Ps Os A B (and_member f fs) (and_member f' fs')
+  pub same-and_member : {Ps : List TypeTree} {Os : List Arrow} {A B : TypeTree} (f f' : Network L) (fs fs' : Networks L) → SameNet val Ps Os A B f f'
+      → SameNets val Ps Os A B fs fs' → SameNets val Ps Os A B (and_member f fs) (and_member f' fs')
   same-and_member f f' fs fs' hf hfs = record {
     here = λ ps os os' k a.
-        and_twin (IsSignal-meaning val f (context ps os) (signals_left os os' a)) (IsSignal-meaning val f' (context ps os') (signals_right os os' a)) (hf.here ps os os' k a) (hfs.here ps os os' k a);
+        and_twin (IsSignal-meaning val f (context ps os) (signals_left os os' a)) (IsSignal-meaning val f' (context ps os') (signals_right os os' a))
+        (hf.here ps os os' k a) (hfs.here ps os os' k a);
   }
 
-  fold_events-same : {Z V : TypeTree} (g g' : Datum → Datum) → ((v : Datum) → HasType v (pair_ty Z V) → (g v ≡ g' v) × HasType (g v) Z) → (acc : Datum) (vs : List Datum) → HasType acc Z → TypedValues (event_ty V) vs → fold_events g acc vs ≡ fold_events g' acc vs
+  fold_events-same : {Z V : TypeTree} (g g' : Datum → Datum) → ((v : Datum) → HasType v (pair_ty Z V) → (g v ≡ g' v) × HasType (g v) Z)
+      → (acc : Datum) (vs : List Datum) → HasType acc Z → TypedValues (event_ty V) vs → fold_events g acc vs ≡ fold_events g' acc vs
   fold_events-same g g' s acc vs h no_value = refl
   fold_events-same g g' s acc vs h (and_value {vs = vs'} no_event_has ks) = fold_events-same g g' s acc vs' h ks
   fold_events-same g g' s acc vs h (and_value {vs = vs'} (event_has {v = v} k) ks) =
       fold_events-same g g' s (g (pair acc v)) vs' (s (pair acc v) (pair_has h k)).1 ks ∙ ap (λ w. fold_events g' w vs') (s (pair acc v) (pair_has h k)).0
 
-  by_past-same : {A : TypeTree} (h h' : TimedList → Datum) (xs : TimedList) → ((p : TimedList) → TypedSamples A p → h p ≡ h' p) → TypedSamples A xs → map h (prefixes xs) ≡ map h' (prefixes xs)
+  by_past-same : {A : TypeTree} (h h' : TimedList → Datum) (xs : TimedList) → ((p : TimedList) → TypedSamples A p → h p ≡ h' p) → TypedSamples A xs
+      → map h (prefixes xs) ≡ map h' (prefixes xs)
   by_past-same h h' xs s no_sample = refl
   by_past-same h h' xs s (and_sample {x = x} {xs = xs'} k ks) =
-      ap₂ (λ v vs. v ∷ vs) (s (x ∷ []) (and_sample k no_sample)) (map-map h (λ p. x ∷ p) (prefixes xs') ∙ by_past-same (λ p. h (x ∷ p)) (λ p. h' (x ∷ p)) xs' (λ p j. s (x ∷ p) (and_sample k j)) ks ∙ sym (map-map h' (λ p. x ∷ p) (prefixes xs')))
+      ap₂ (λ v vs. v ∷ vs) (s (x ∷ []) (and_sample k no_sample)) (map-map h (λ p. x ∷ p) (prefixes xs')
+      ∙ by_past-same (λ p. h (x ∷ p)) (λ p. h' (x ∷ p)) xs' (λ p j. s (x ∷ p) (and_sample k j)) ks ∙ sym (map-map h' (λ p. x ∷ p) (prefixes xs')))
 
-  pub same-accum_by : {Ps : List TypeTree} {Os : List Arrow} {V Z : TypeTree} (g g' z z' : L) → SameLeaf val Ps unit_ty Z z z' → SameLeaf val Ps (pair_ty Z V) Z g g' → SameNet val Ps Os (event_ty V) (event_ty Z) (accum_by g z) (accum_by g' z')
+  pub same-accum_by : {Ps : List TypeTree} {Os : List Arrow} {V Z : TypeTree} (g g' z z' : L) → SameLeaf val Ps unit_ty Z z z'
+      → SameLeaf val Ps (pair_ty Z V) Z g g' → SameNet val Ps Os (event_ty V) (event_ty Z) (accum_by g z) (accum_by g' z')
   same-accum_by g g' z z' hz hg = record {
     here = λ ps os os' k a. record {
       same = λ xs j. by_past-same (accum_by_value (val g ps) (val z ps unit)) (accum_by_value (val g' ps) (val z' ps unit)) xs
           (λ p l. ap (if_event (last_or no_event (values p))) (
-          fold_events-same (val g ps) (val g' ps) (λ v i. (hg.leaf_same ps v k i, hg.leaf_typed ps v k i)) (val z ps unit) (values p) (const_typed hz ps k) (typed_values p l)
+          fold_events-same (val g ps) (val g' ps) (λ v i. (hg.leaf_same ps v k i, hg.leaf_typed ps v k i)) (val z ps unit) (values p) (const_typed hz ps k)
+          (typed_values p l)
           ∙ ap (λ v. fold_events (val g' ps) v (values p)) (const_same hz ps k))) j;
       typed = λ xs j. typed_by_past (accum_by_value (val g ps) (val z ps unit)) xs
-          (λ p l. typed_if_event _ _ (typed_last no_event (values p) no_event_has (typed_values p l)) (typed_fold_events (val g ps) (val z ps unit) (values p) (λ v i. hg.leaf_typed ps v k i) (const_typed hz ps k) (typed_values p l))) j;
+          (λ p l. typed_if_event _ _ (typed_last no_event (values p) no_event_has (typed_values p l))
+          (typed_fold_events (val g ps) (val z ps unit) (values p) (λ v i. hg.leaf_typed ps v k i) (const_typed hz ps k) (typed_values p l))) j;
     };
   }
 
@@ -176,30 +240,41 @@ module _ {L : Type 0} (val : L → List Datum → Datum → Datum) where
       same-typed Ps Os net A C (seq_typed {f = f} {g = g} {B = B} df dg) = same-seq f f g g (same-typed Ps Os f A B df) (same-typed Ps Os g B C dg)
       same-typed Ps Os net A B (first_typed {f = f} {A = A'} {B = B'} df m) = same-first f f (same-typed Ps Os f A' B' df)
       same-typed Ps Os net A B (par_typed {fs = fs} {B = B'} some l ds m) = same-par fs fs (same-all_typed Ps Os fs A B' ds)
-      same-typed Ps Os net A B (loop_typed {c = c} {f = f} {C = C} h m df) = same-loop_pre c c f f (same-leaf T lt c Ps unit_ty C h) (same-typed Ps Os f (pair_ty A C) (pair_ty B C) df)
+      same-typed Ps Os net A B (loop_typed {c = c} {f = f} {C = C} h m df) =
+          same-loop_pre c c f f (same-leaf T lt c Ps unit_ty C h) (same-typed Ps Os f (pair_ty A C) (pair_ty B C) df)
       same-typed Ps Os net A B (i_pre_typed {c = c} h) = same-i_pre c c (same-leaf T lt c Ps unit_ty A h)
       same-typed Ps Os net A B (delay_typed {q = q} {c = c} low high h) = same-delay q c c (same-leaf T lt c Ps unit_ty A h)
       same-typed Ps Os net A B (hold_typed {c = c} h) = same-hold c c (same-leaf T lt c Ps unit_ty B h)
-      same-typed Ps Os net A B (accum_typed {g = g} {z = z} {V = V} {Z = Z} hz m hg n) = same-accum_by g g z z (same-leaf T lt z Ps unit_ty Z hz) (same-leaf T lt g Ps (pair_ty Z V) Z hg)
+      same-typed Ps Os net A B (accum_typed {g = g} {z = z} {V = V} {Z = Z} hz m hg n) =
+          same-accum_by g g z z (same-leaf T lt z Ps unit_ty Z hz) (same-leaf T lt g Ps (pair_ty Z V) Z hg)
       same-typed Ps Os net A B (after_typed {q = q} {c = c} {C = C} high h m) = same-after q c c (same-leaf T lt c Ps unit_ty C h)
       same-typed Ps Os net A B (repeatedly_typed {q = q} {c = c} {C = C} low high h m) = same-repeatedly q c c (same-leaf T lt c Ps unit_ty C h)
       same-typed Ps Os net A B time_typed = same-time
       same-typed Ps Os net A B integral_typed = same-integral
-      same-typed Ps Os net A B (switch_typed {f = f} {t = t} {C = C} df dt) = same-switch f f t t (same-typed Ps Os f A (pair_ty B (event_ty C)) df) (same-typed (Ps ++ C ∷ []) Os t A B dt)
-      same-typed Ps Os net A B (d_switch_typed {f = f} {t = t} {C = C} df dt) = same-d_switch f f t t (same-typed Ps Os f A (pair_ty B (event_ty C)) df) (same-typed (Ps ++ C ∷ []) Os t A B dt)
-      same-typed Ps Os net A B (r_switch_typed {f = f} {t = t} {D = D} {C = C} df dt) = same-r_switch f f t t (same-typed Ps Os f D B df) (same-typed (Ps ++ C ∷ []) Os t D B dt)
-      same-typed Ps Os net A B (k_switch_typed {f = f} {e = e} {t = t} {C = C} df m de dt) = same-k_switch f f e e t t (same-typed Ps Os f A B df) (same-typed Ps Os e (pair_ty A B) (event_ty C) de) (same-typed (Ps ++ C ∷ []) (Os ++ record { input = A; output = B } ∷ []) t A B dt)
+      same-typed Ps Os net A B (switch_typed {f = f} {t = t} {C = C} df dt) =
+          same-switch f f t t (same-typed Ps Os f A (pair_ty B (event_ty C)) df) (same-typed (Ps ++ C ∷ []) Os t A B dt)
+      same-typed Ps Os net A B (d_switch_typed {f = f} {t = t} {C = C} df dt) =
+          same-d_switch f f t t (same-typed Ps Os f A (pair_ty B (event_ty C)) df) (same-typed (Ps ++ C ∷ []) Os t A B dt)
+      same-typed Ps Os net A B (r_switch_typed {f = f} {t = t} {D = D} {C = C} df dt) =
+          same-r_switch f f t t (same-typed Ps Os f D B df) (same-typed (Ps ++ C ∷ []) Os t D B dt)
+      same-typed Ps Os net A B (k_switch_typed {f = f} {e = e} {t = t} {C = C} df m de dt) =
+          same-k_switch f f e e t t (same-typed Ps Os f A B df) (same-typed Ps Os e (pair_ty A B) (event_ty C) de)
+          (same-typed (Ps ++ C ∷ []) (Os ++ record { input = A; output = B } ∷ []) t A B dt)
       same-typed Ps Os net A B (p_switch_typed {r = r} {fs = fs} {e = e} {t = t} {B = B'} {C = C} {D = D} some l m h ds n de dt) =
-          same-p_switch r r fs fs e e t t l (same-leaf T lt r Ps (pair_ty A int_ty) D h) (same-all_typed Ps Os fs D B' ds) (same-typed Ps Os e (pair_ty A (list_ty B')) (event_ty C) de) (same-typed (Ps ++ C ∷ []) (Os ++ copies (members fs) (record { input = D; output = B' })) t A (list_ty B') dt)
+          same-p_switch r r fs fs e e t t l (same-leaf T lt r Ps (pair_ty A int_ty) D h) (same-all_typed Ps Os fs D B' ds)
+          (same-typed Ps Os e (pair_ty A (list_ty B')) (event_ty C) de)
+          (same-typed (Ps ++ C ∷ []) (Os ++ copies (members fs) (record { input = D; output = B' })) t A (list_ty B') dt)
       same-typed Ps Os net A B (old_typed {k = k} i) = same-old k i
 
       pub same-all_typed : (Ps : List TypeTree) (Os : List Arrow) (fs : Networks L) (A B : TypeTree) → AllTyped T M Ps Os fs A B → SameNets val Ps Os A B fs fs
       same-all_typed Ps Os fs A B no_members_typed = same-no_members
-      same-all_typed Ps Os fs A B (and_member_typed {f = f} {fs = fs'} df ds) = same-and_member f f fs' fs' (same-typed Ps Os f A B df) (same-all_typed Ps Os fs' A B ds)
+      same-all_typed Ps Os fs A B (and_member_typed {f = f} {fs = fs'} df ds) =
+          same-and_member f f fs' fs' (same-typed Ps Os f A B df) (same-all_typed Ps Os fs' A B ds)
 
     -- a law shown in each one environment holds across alike ones
     pub same-from_law : (Ps : List TypeTree) (Os : List Arrow) (A B : TypeTree) (f g : Network L) → Typed T M Ps Os f A B → Typed T M Ps Os g A B
-        → ((ps : List Datum) (os : List SignalFunction) → TypedParams Ps ps → AllOlds Os os os → (xs : TimedList) → TypedSamples A xs → meaning val f (context ps os) xs ≡ meaning val g (context ps os) xs) → SameNet val Ps Os A B f g
+        → ((ps : List Datum) (os : List SignalFunction) → TypedParams Ps ps → AllOlds Os os os → (xs : TimedList) → TypedSamples A xs
+        → meaning val f (context ps os) xs ≡ meaning val g (context ps os) xs) → SameNet val Ps Os A B f g
     same-from_law Ps Os A B f g df dg law = record {
       here = λ ps os os' k a. record {
         same = λ xs j. law ps os k (olds_alone Os os os' a) xs j ∙ ((same-typed Ps Os g A B dg).here ps os os' k a).same xs j;

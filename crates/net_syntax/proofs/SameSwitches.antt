@@ -23,8 +23,10 @@ SameAt-rights f f' h = SameAt-after right f f' (λ v k. typed_right k) h
 abbrev pub SameFor : TypeTree → TypeTree → TypeTree → (Datum → SignalFunction) → (Datum → SignalFunction) → Type 0
 SameFor A B C t t' = (c : Datum) → HasType c C → SameAt A B (t c) (t' c)
 
-pub SameAt-switching : {A B C : TypeTree} (f f' : SignalFunction) (t t' : Datum → SignalFunction) → SameAt A (pair_ty B (event_ty C)) f f' → SameFor A B C t t' → SameAt A B (switch_function f t) (switch_function f' t')
-SameAt-switching f f' t t' hf ht = SameAt-switch_at (lefts f) (lefts f') (rights f) (rights f') (λ c p d. t c) (λ c p d. t' c) (SameAt-lefts f f' hf) (SameAt-rights f f' hf) (λ c p d k j. ht c k)
+pub SameAt-switching : {A B C : TypeTree} (f f' : SignalFunction) (t t' : Datum → SignalFunction) → SameAt A (pair_ty B (event_ty C)) f f' → SameFor A B C t t'
+    → SameAt A B (switch_function f t) (switch_function f' t')
+SameAt-switching f f' t t' hf ht = SameAt-switch_at (lefts f) (lefts f') (rights f) (rights f') (λ c p d. t c) (λ c p d. t' c) (SameAt-lefts f f' hf)
+    (SameAt-rights f f' hf) (λ c p d k j. ht c k)
 
 pub SameAt-late : {A B : TypeTree} (g g' h h' : SignalFunction) → SameAt A B g g' → SameAt A B h h' → SameAt A B (late g h) (late g' h')
 SameAt-late g g' h h' sg sh = record {
@@ -32,11 +34,13 @@ SameAt-late g g' h h' sg sh = record {
   typed = λ xs k. typed_append (take 1 (g xs)) (drop 1 (h xs)) (typed_take 1 (g xs) (sg.typed xs k)) (typed_drop 1 (h xs) (sh.typed xs k));
 }
 
-pub SameAt-switching_late : {A B C : TypeTree} (f f' : SignalFunction) (t t' : Datum → SignalFunction) → IsSignalFunction f → IsSignalFunction f' → SameAt A (pair_ty B (event_ty C)) f f' → SameFor A B C t t' → SameAt A B (d_switch_function f t) (d_switch_function f' t')
+pub SameAt-switching_late : {A B C : TypeTree} (f f' : SignalFunction) (t t' : Datum → SignalFunction) → IsSignalFunction f → IsSignalFunction f'
+    → SameAt A (pair_ty B (event_ty C)) f f' → SameFor A B C t t' → SameAt A B (d_switch_function f t) (d_switch_function f' t')
 SameAt-switching_late {A = A} {B = B} f f' t t' sf sf' hf ht =
     subst₂ (SameAt A B) (sym (switching_late-is f t sf)) (sym (switching_late-is f' t' sf'))
     (SameAt-switch_at (lefts f) (lefts f') (rights f) (rights f') (lately f t) (lately f' t') (SameAt-lefts f f' hf) (SameAt-rights f f' hf)
-    (λ c p d k j. SameAt-late (resume (lefts f) p d) (resume (lefts f') p d) (t c) (t' c) (SameAt-resume (lefts f) (lefts f') (SameAt-lefts f f' hf) p d j) (ht c k)))
+    (λ c p d k j. SameAt-late (resume (lefts f) p d) (resume (lefts f') p d) (t c) (t' c) (SameAt-resume (lefts f) (lefts f') (SameAt-lefts f f' hf) p d j)
+    (ht c k)))
 
 module _ {D B C : TypeTree} (f f' : SignalFunction) (t t' : Datum → SignalFunction) (hf : SameAt D B f f') (ht : SameFor D B C t t') where
   flat-same : (qs : List (Datum × TimedList)) → TypedPieces D C qs → flat_map (λ piece. t piece.0 piece.1) qs ≡ flat_map (λ piece. t' piece.0 piece.1) qs
@@ -45,12 +49,15 @@ module _ {D B C : TypeTree} (f f' : SignalFunction) (t t' : Datum → SignalFunc
 
   typed_flat : (qs : List (Datum × TimedList)) → TypedPieces D C qs → TypedValues B (flat_map (λ piece. t piece.0 piece.1) qs)
   typed_flat qs no_piece = no_value
-  typed_flat qs (and_piece {q = q} {qs = qs'} k j ks) = typed_append (t q.0 q.1) (flat_map (λ piece. t piece.0 piece.1) qs') ((ht q.0 k).typed q.1 j) (typed_flat qs' ks)
+  typed_flat qs (and_piece {q = q} {qs = qs'} k j ks) =
+      typed_append (t q.0 q.1) (flat_map (λ piece. t piece.0 piece.1) qs') ((ht q.0 k).typed q.1 j) (typed_flat qs' ks)
 
   pub SameAt-restarting : SameAt (pair_ty D (event_ty C)) B (r_switch_function f t) (r_switch_function f' t')
   SameAt-restarting = record {
-    same = λ xs k. let h : TypedSamples D (pieces xs).0 × TypedPieces D C (pieces xs).1 = typed_pieces xs k in ap₂ (λ vs ws. vs ++ ws) (hf.same (pieces xs).0 h.0) (flat-same (pieces xs).1 h.1);
-    typed = λ xs k. let h : TypedSamples D (pieces xs).0 × TypedPieces D C (pieces xs).1 = typed_pieces xs k in typed_append (f (pieces xs).0) (flat_map (λ piece. t piece.0 piece.1) (pieces xs).1) (hf.typed (pieces xs).0 h.0) (typed_flat (pieces xs).1 h.1);
+    same = λ xs k. let h : TypedSamples D (pieces xs).0 × TypedPieces D C (pieces xs).1 = typed_pieces xs k in
+        ap₂ (λ vs ws. vs ++ ws) (hf.same (pieces xs).0 h.0) (flat-same (pieces xs).1 h.1);
+    typed = λ xs k. let h : TypedSamples D (pieces xs).0 × TypedPieces D C (pieces xs).1 = typed_pieces xs k in
+        typed_append (f (pieces xs).0) (flat_map (λ piece. t piece.0 piece.1) (pieces xs).1) (hf.typed (pieces xs).0 h.0) (typed_flat (pieces xs).1 h.1);
   }
 
 pub AllOlds-append : (Os Qs : List Arrow) (fs gs hs ks : List SignalFunction) → AllOlds Os fs gs → AllOlds Qs hs ks → AllOlds (Os ++ Qs) (fs ++ hs) (gs ++ ks)
@@ -58,8 +65,10 @@ AllOlds-append Os Qs fs gs hs ks no_olds b = b
 AllOlds-append Os Qs fs gs hs ks (and_old {Os = Os'} {fs = fs'} {gs = gs'} sf sg h a) b = and_old sf sg h (AllOlds-append Os' Qs fs' gs' hs ks a b)
 
 -- `kSwitch`
-pub SameAt-switching_on : {A B C : TypeTree} (f f' e e' : SignalFunction) (t t' : Datum → SignalFunction → SignalFunction) → IsSignalFunction f → IsSignalFunction f' → SameAt A B f f' → SameAt (pair_ty A B) (event_ty C) e e'
-    → ((c : Datum) (o o' : SignalFunction) → HasType c C → IsSignalFunction o → IsSignalFunction o' → SameAt A B o o' → SameAt A B (t c o) (t' c o')) → SameAt A B (k_switch_function f e t) (k_switch_function f' e' t')
+pub SameAt-switching_on : {A B C : TypeTree} (f f' e e' : SignalFunction) (t t' : Datum → SignalFunction → SignalFunction) → IsSignalFunction f
+    → IsSignalFunction f' → SameAt A B f f' → SameAt (pair_ty A B) (event_ty C) e e'
+    → ((c : Datum) (o o' : SignalFunction) → HasType c C → IsSignalFunction o → IsSignalFunction o' → SameAt A B o o' → SameAt A B (t c o) (t' c o'))
+    → SameAt A B (k_switch_function f e t) (k_switch_function f' e' t')
 SameAt-switching_on f f' e e' t t' sf sf' hf he ht =
     SameAt-switch_at f f' (watch f e) (watch f' e') (λ c p d. t c (resume f p d)) (λ c p d. t' c (resume f' p d)) hf (SameAt-watching f f' e e' hf he)
     (λ c p d k j. ht c (resume f p d) (resume f' p d) k (IsSignal-resume f sf p d) (IsSignal-resume f' sf' p d) (SameAt-resume f f' hf p d j))
@@ -71,7 +80,8 @@ SameRoute A D r r' = (v : Datum) → HasType v (pair_ty A int_ty) → (r v ≡ r
 typed_number : (i : ℕ) → i < 64 → HasType (int (pos i)) int_ty
 typed_number i h = int_has (fits_signed_from_abs w64 (pos i) (omega arith))
 
-each_value-same : {A : TypeTree} (h h' : Datum → Datum) → ((v : Datum) → HasType v A → h v ≡ h' v) → (xs : TimedList) → TypedSamples A xs → each_value h xs ≡ each_value h' xs
+each_value-same : {A : TypeTree} (h h' : Datum → Datum) → ((v : Datum) → HasType v A → h v ≡ h' v) → (xs : TimedList) → TypedSamples A xs
+    → each_value h xs ≡ each_value h' xs
 each_value-same h h' e xs no_sample = refl
 each_value-same h h' e xs (and_sample {x = x} {xs = xs'} k ks) = ap₂ (λ v ys. (x.0, v) ∷ ys) (e x.1 k) (each_value-same h h' e xs' ks)
 
@@ -88,14 +98,16 @@ module _ {A D : TypeTree} (r r' : Datum → Datum) (hr : SameRoute A D r r') whe
     typed = λ xs k. h.typed (route r i xs) (typed_route i l xs k);
   }
 
-  AllSameAt-routes : {B : TypeTree} (i : ℕ) (fs gs : List SignalFunction) → i + length fs ≤ 64 → AllSameAt D B fs gs → AllSameAt A B (route_each r i fs) (route_each r' i gs)
+  AllSameAt-routes : {B : TypeTree} (i : ℕ) (fs gs : List SignalFunction) → i + length fs ≤ 64 → AllSameAt D B fs gs
+      → AllSameAt A B (route_each r i fs) (route_each r' i gs)
   AllSameAt-routes i fs gs l no_twin = no_twin
   AllSameAt-routes i fs gs l (and_twin {f = f} {g = g} {fs = fs'} {gs = gs'} sf sg h a) =
       let l' : i < 64 = omega arith in
       let l'' : suc i + length fs' ≤ 64 = omega arith in
       and_twin (IsSignal-before _ f sf) (IsSignal-before _ g sg) (SameAt-route i l' f g h) (AllSameAt-routes (suc i) fs' gs' l'' a)
 
-  AllOlds-frozen_all : {B : TypeTree} (i : ℕ) (fs gs : List SignalFunction) → i + length fs ≤ 64 → AllSameAt D B fs gs → (p : TimedList) (d : ℕ) → TypedSamples A p → AllOlds (copies (length fs) (record { input = D; output = B })) (freeze_all r i fs p d) (freeze_all r' i gs p d)
+  AllOlds-frozen_all : {B : TypeTree} (i : ℕ) (fs gs : List SignalFunction) → i + length fs ≤ 64 → AllSameAt D B fs gs → (p : TimedList) (d : ℕ)
+      → TypedSamples A p → AllOlds (copies (length fs) (record { input = D; output = B })) (freeze_all r i fs p d) (freeze_all r' i gs p d)
   AllOlds-frozen_all i fs gs l no_twin p d j = no_olds
   AllOlds-frozen_all {B = B} i fs gs l (and_twin {f = f} {g = g} {fs = fs'} {gs = gs'} sf sg h a) p d j =
       let l' : i < 64 = omega arith in
@@ -104,10 +116,13 @@ module _ {A D : TypeTree} (r r' : Datum → Datum) (hr : SameRoute A D r r') whe
       (subst (λ q. SameAt D B (resume f (route r i p) d) (resume g q d)) (route-same i l' p j) (SameAt-resume f g h (route r i p) d (typed_route i l' p j)))
       (AllOlds-frozen_all (suc i) fs' gs' l'' a p d j)
 
-pub SameAt-switching_all : {A B C D : TypeTree} (r r' : Datum → Datum) (fs gs : List SignalFunction) (e e' : SignalFunction) (t t' : Datum → List SignalFunction → SignalFunction) → SameRoute A D r r' → length fs ≤ 64 → AllSameAt D B fs gs → SameAt (pair_ty A (list_ty B)) (event_ty C) e e'
-    → ((c : Datum) (os os' : List SignalFunction) → HasType c C → AllOlds (copies (length fs) (record { input = D; output = B })) os os' → SameAt A (list_ty B) (t c os) (t' c os')) → SameAt A (list_ty B) (p_switch_function r fs e t) (p_switch_function r' gs e' t')
+pub SameAt-switching_all : {A B C D : TypeTree} (r r' : Datum → Datum) (fs gs : List SignalFunction) (e e' : SignalFunction) (t t' : Datum → List SignalFunction
+    → SignalFunction) → SameRoute A D r r' → length fs ≤ 64 → AllSameAt D B fs gs → SameAt (pair_ty A (list_ty B)) (event_ty C) e e'
+    → ((c : Datum) (os os' : List SignalFunction) → HasType c C → AllOlds (copies (length fs) (record { input = D; output = B })) os os'
+    → SameAt A (list_ty B) (t c os) (t' c os')) → SameAt A (list_ty B) (p_switch_function r fs e t) (p_switch_function r' gs e' t')
 SameAt-switching_all r r' fs gs e e' t t' hr l a he ht =
     let l' : 0 + length fs ≤ 64 = omega arith in
     let hf : SameAt _ _ (collect r fs) (collect r' gs) = SameAt-in_parallel (route_each r 0 fs) (route_each r' 0 gs) (AllSameAt-routes r r' hr 0 fs gs l' a) in
-    SameAt-switch_at (collect r fs) (collect r' gs) (watch (collect r fs) e) (watch (collect r' gs) e') (λ c p d. t c (freeze_all r 0 fs p d)) (λ c p d. t' c (freeze_all r' 0 gs p d)) hf (SameAt-watching (collect r fs) (collect r' gs) e e' hf he)
+    SameAt-switch_at (collect r fs) (collect r' gs) (watch (collect r fs) e) (watch (collect r' gs) e') (λ c p d. t c (freeze_all r 0 fs p d))
+    (λ c p d. t' c (freeze_all r' 0 gs p d)) hf (SameAt-watching (collect r fs) (collect r' gs) e e' hf he)
     (λ c p d k j. ht c (freeze_all r 0 fs p d) (freeze_all r' 0 gs p d) k (AllOlds-frozen_all r r' hr 0 fs gs l' a p d j))

@@ -17,7 +17,8 @@ one_item [] e = absurd (omega arith)
 one_item (v ∷ []) e = refl
 one_item (v ∷ w ∷ vs) e = absurd (omega arith)
 
-pub push_zip_with : {A B C : Type 0} (h : A → B → C) (xs : List A) (ys : List B) (x : A) (y : B) → length ys ≡ length xs → zip_with h (xs ++ x ∷ []) (ys ++ y ∷ []) ≡ zip_with h xs ys ++ h x y ∷ []
+pub push_zip_with : {A B C : Type 0} (h : A → B → C) (xs : List A) (ys : List B) (x : A) (y : B) → length ys ≡ length xs
+    → zip_with h (xs ++ x ∷ []) (ys ++ y ∷ []) ≡ zip_with h xs ys ++ h x y ∷ []
 push_zip_with h [] [] x y e = refl
 push_zip_with h [] (y' ∷ ys) x y e = absurd (omega arith)
 push_zip_with h (x' ∷ xs) [] x y e = absurd (omega arith)

@@ -33,7 +33,8 @@ same-outputs Ps Os f g A B s E F a xs j =
     (record {
       alike_params = sym a.same_params;
       alike_typed = e.scope_params;
-      alike_olds = alike_from_equal Os (context_of value_of E).olds (context_of value_of F).olds e.scope_olds h.scope_olds (λ k o i ys l. a.same_olds k o i ys l);
+      alike_olds = alike_from_equal Os (context_of value_of E).olds (context_of value_of F).olds e.scope_olds h.scope_olds
+          (λ k o i ys l. a.same_olds k o i ys l);
     }) s j
 
 -- a typed network outputs the same in alike environments
@@ -41,7 +42,8 @@ pub alike-outputs : (Ps : List TypeTree) (Os : List Arrow) (net : Network Expres
 alike-outputs Ps Os net A B h = same-outputs Ps Os net net A B (same-typed value_of ExpressionTyped typed_value Ps Os net A B h)
 
 -- a network has one output type at an input type
-pub one-output-type : (Ps : List TypeTree) (Os : List Arrow) (net : Network Expression) (A B C : TypeTree) → NetTyped Ps Os net A B → NetTyped Ps Os net A C → B ≡ C
+pub one-output-type : (Ps : List TypeTree) (Os : List Arrow) (net : Network Expression) (A B C : TypeTree) → NetTyped Ps Os net A B → NetTyped Ps Os net A C
+    → B ≡ C
 one-output-type = unique ExpressionTyped one_type
 
 -- a network that is typed within the limits is typed

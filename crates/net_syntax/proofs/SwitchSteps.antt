@@ -36,17 +36,20 @@ module _ (f e : SignalFunction) (t : Datum → TimedList → ℕ → SignalFunct
   pub answer_before : (p : TimedList) (x : ℕ × Datum) → first_event (e (p ++ x ∷ [])) ≡ None → answer (switch_at f e t) p x ≡ answer f p x
   answer_before p x i = ap (last_or unit) (switch_at-none f e t (p ++ x ∷ []) i)
 
-  pub event_seen : (p : TimedList) (x : ℕ × Datum) (c : Datum) (rest : TimedList) → first_event (e p) ≡ None → answer e p x ≡ event c → first_event (e (p ++ x ∷ rest)) ≡ Some (length p, c)
+  pub event_seen : (p : TimedList) (x : ℕ × Datum) (c : Datum) (rest : TimedList) → first_event (e p) ≡ None → answer e p x ≡ event c
+      → first_event (e (p ++ x ∷ rest)) ≡ Some (length p, c)
   event_seen p x c rest i a =
       let q : TimedList = p ++ x ∷ [] in
       let ws : List Datum = drop (length q) (e (q ++ rest)) in
       ap (λ ys. first_event (e ys)) (sym (append_assoc p (x ∷ []) rest))
-      ∙ ap first_event (signal-append e se q rest ∙ ap (λ vs. vs ++ ws) (signal-push e se p x ∙ ap (λ v. e p ++ v ∷ []) a) ∙ append_assoc (e p) (event c ∷ []) ws)
+      ∙ ap first_event (signal-append e se q rest ∙ ap (λ vs. vs ++ ws) (signal-push e se p x ∙ ap (λ v. e p ++ v ∷ []) a)
+      ∙ append_assoc (e p) (event c ∷ []) ws)
       ∙ first_event-append (e p) c ws i
       ∙ ap (λ n. Some (n, c)) (se.sized p)
 
   -- at the event, and ever after
-  pub switch_at_place : (p : TimedList) (x : ℕ × Datum) (c : Datum) (rest : TimedList) → first_event (e p) ≡ None → answer e p x ≡ event c → switch_at f e t (p ++ x ∷ rest) ≡ f p ++ t c p x.0 (x ∷ rest)
+  pub switch_at_place : (p : TimedList) (x : ℕ × Datum) (c : Datum) (rest : TimedList) → first_event (e p) ≡ None → answer e p x ≡ event c
+      → switch_at f e t (p ++ x ∷ rest) ≡ f p ++ t c p x.0 (x ∷ rest)
   switch_at_place p x c rest i a =
       let n : ℕ = length p in
       switch_at-some f e t (p ++ x ∷ rest) n c (event_seen p x c rest i a)
@@ -68,23 +71,27 @@ answer-first f g sg p x go =
     ∙ last_of_two (f p) (g []) (answer g [] x)
     ∙ ap (last_or unit) (sym (signal-push g sg [] x))
 
-pub answer-later : (f g : SignalFunction) → IsSignalFunction g → (p : TimedList) (x : ℕ × Datum) → GoesOn f p g x → (r : TimedList) (y : ℕ × Datum) → answer f (p ++ x ∷ r) y ≡ answer g (x ∷ r) y
+pub answer-later : (f g : SignalFunction) → IsSignalFunction g → (p : TimedList) (x : ℕ × Datum) → GoesOn f p g x → (r : TimedList) (y : ℕ × Datum)
+    → answer f (p ++ x ∷ r) y ≡ answer g (x ∷ r) y
 answer-later f g sg p x go r y =
     ap (λ xs. last_or unit (f xs)) (append_assoc p (x ∷ r) (y ∷ []))
     ∙ ap (last_or unit) (go.fired (r ++ y ∷ []) ∙ ap (λ vs. f p ++ vs) (signal-push g sg (x ∷ r) y))
     ∙ last_of_two (f p) (g (x ∷ r)) (answer g (x ∷ r) y)
     ∙ last_or-push unit (g (x ∷ r)) (answer g (x ∷ r) y)
 
-pub GoesOn-switch_at : (f e : SignalFunction) (t : Datum → TimedList → ℕ → SignalFunction) → IsSignalFunction f → IsSignalFunction e → (p : TimedList) (x : ℕ × Datum) (c : Datum) → first_event (e p) ≡ None → answer e p x ≡ event c → GoesOn (switch_at f e t) p (t c p x.0) x
+pub GoesOn-switch_at : (f e : SignalFunction) (t : Datum → TimedList → ℕ → SignalFunction) → IsSignalFunction f → IsSignalFunction e
+    → (p : TimedList) (x : ℕ × Datum) (c : Datum) → first_event (e p) ≡ None → answer e p x ≡ event c → GoesOn (switch_at f e t) p (t c p x.0) x
 GoesOn-switch_at f e t sf se p x c i a = record {
   fired = λ rest. switch_at_place f e t sf se p x c rest i a ∙ ap (λ vs. vs ++ t c p x.0 (x ∷ rest)) (sym (switch_at-none f e t p i));
 }
 
 -- what is resumed sees the samples behind its past
 pub answer-resume_first : (f : SignalFunction) → IsSignalFunction f → (p : TimedList) (d : ℕ) (x : ℕ × Datum) → answer (resume f p d) [] x ≡ answer f p (d, x.1)
-answer-resume_first f sf p d x = ap (last_or unit) (ap (drop (length p)) (signal-push f sf p (d, x.1)) ∙ drop_at (f p) (answer f p (d, x.1) ∷ []) (length p) (sf.sized p))
+answer-resume_first f sf p d x = ap (last_or unit) (ap (drop (length p)) (signal-push f sf p (d, x.1))
+    ∙ drop_at (f p) (answer f p (d, x.1) ∷ []) (length p) (sf.sized p))
 
-pub answer-resume : (f : SignalFunction) → IsSignalFunction f → (p : TimedList) (d : ℕ) (z : ℕ × Datum) (q : TimedList) (x : ℕ × Datum) → answer (resume f p d) (z ∷ q) x ≡ answer f (p ++ (d, z.1) ∷ q) x
+pub answer-resume : (f : SignalFunction) → IsSignalFunction f → (p : TimedList) (d : ℕ) (z : ℕ × Datum) (q : TimedList) (x : ℕ × Datum)
+    → answer (resume f p d) (z ∷ q) x ≡ answer f (p ++ (d, z.1) ∷ q) x
 answer-resume f sf p d z q x =
     let r : TimedList = p ++ (d, z.1) ∷ q in
     let v : Datum = answer f r x in
@@ -95,17 +102,20 @@ answer-resume f sf p d z q x =
     ∙ last_or-push unit (drop (length p) (f r)) v
 
 -- `dSwitch` at its event: the output is still f's
-pub GoesOn-switching_late : (f : SignalFunction) (t : Datum → SignalFunction) → IsSignalFunction f → (p : TimedList) (x : ℕ × Datum) (c : Datum) → first_event (rights f p) ≡ None → right (answer f p x) ≡ event c → GoesOn (d_switch_function f t) p (lately f t c p x.0) x
+pub GoesOn-switching_late : (f : SignalFunction) (t : Datum → SignalFunction) → IsSignalFunction f → (p : TimedList) (x : ℕ × Datum) (c : Datum)
+    → first_event (rights f p) ≡ None → right (answer f p x) ≡ event c → GoesOn (d_switch_function f t) p (lately f t c p x.0) x
 GoesOn-switching_late f t sf p x c i a =
     let a' : answer (rights f) p x ≡ event c = answer-after right f sf p x ∙ a in
-    subst (λ g. GoesOn g p (lately f t c p x.0) x) (sym (switching_late-is f t sf)) (GoesOn-switch_at (lefts f) (rights f) (lately f t) (IsSignal-lefts f sf) (IsSignal-rights f sf) p x c i a')
+    subst (λ g. GoesOn g p (lately f t c p x.0) x) (sym (switching_late-is f t sf))
+    (GoesOn-switch_at (lefts f) (rights f) (lately f t) (IsSignal-lefts f sf) (IsSignal-rights f sf) p x c i a')
 
 pub answer-late_first : (g h : SignalFunction) → IsSignalFunction g → IsSignalFunction h → (x : ℕ × Datum) → answer (late g h) [] x ≡ answer g [] x
 answer-late_first g h sg sh x =
     ap (λ vs. last_or unit (take 1 vs ++ drop 1 (h (x ∷ [])))) (signal-push g sg [] x ∙ ap (λ vs. vs ++ answer g [] x ∷ []) (sg.causal 0 []))
     ∙ ap (λ vs. last_or unit (answer g [] x ∷ drop 1 vs)) (signal-push h sh [] x ∙ ap (λ vs. vs ++ answer h [] x ∷ []) (sh.causal 0 []))
 
-pub answer-late : (g h : SignalFunction) → IsSignalFunction h → (x : ℕ × Datum) (q : TimedList) (y : ℕ × Datum) → answer (late g h) (x ∷ q) y ≡ answer h (x ∷ q) y
+pub answer-late : (g h : SignalFunction) → IsSignalFunction h → (x : ℕ × Datum) (q : TimedList) (y : ℕ × Datum)
+    → answer (late g h) (x ∷ q) y ≡ answer h (x ∷ q) y
 answer-late g h sh x q y =
     let l : length (h (x ∷ q)) ≡ suc (length q) = sh.sized (x ∷ q) in
     ap (λ vs. last_or unit (take 1 (g (x ∷ q ++ y ∷ [])) ++ drop 1 vs)) (signal-push h sh (x ∷ q) y)

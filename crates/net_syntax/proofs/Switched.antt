@@ -13,10 +13,12 @@ pub record IsContinuation (t : Datum → TimedList → ℕ → SignalFunction) :
   pub past : (c : Datum) (p : TimedList) (d d' : ℕ) → t c (retime d' p) d ≡ t c p d
   pub fresh : (c : Datum) (d d' : ℕ) → t c [] d ≡ t c [] d'
 
-pub switch_at-none : (f e : SignalFunction) (t : Datum → TimedList → ℕ → SignalFunction) (xs : TimedList) → first_event (e xs) ≡ None → switch_at f e t xs ≡ f xs
+pub switch_at-none : (f e : SignalFunction) (t : Datum → TimedList → ℕ → SignalFunction) (xs : TimedList) → first_event (e xs) ≡ None
+    → switch_at f e t xs ≡ f xs
 switch_at-none f e t xs i = ap (λ o. cut_at o (f xs) (λ n c. take n (f xs) ++ t c (take n xs) (step_of (drop n xs)) (drop n xs))) i
 
-pub switch_at-some : (f e : SignalFunction) (t : Datum → TimedList → ℕ → SignalFunction) (xs : TimedList) (n : ℕ) (c : Datum) → first_event (e xs) ≡ Some (n, c) → switch_at f e t xs ≡ take n (f xs) ++ t c (take n xs) (step_of (drop n xs)) (drop n xs)
+pub switch_at-some : (f e : SignalFunction) (t : Datum → TimedList → ℕ → SignalFunction) (xs : TimedList) (n : ℕ) (c : Datum) → first_event (e xs) ≡ Some (n, c)
+    → switch_at f e t xs ≡ take n (f xs) ++ t c (take n xs) (step_of (drop n xs)) (drop n xs)
 switch_at-some f e t xs n c i = ap (λ o. cut_at o (f xs) (λ n c. take n (f xs) ++ t c (take n xs) (step_of (drop n xs)) (drop n xs))) i
 
 pub take_into : {A : Type 0} (p q : List A) (k : ℕ) → take (length p + k) (p ++ q) ≡ p ++ take k q
@@ -32,7 +34,9 @@ step_of-take k (x ∷ xs) = refl
 
 module _ (f e : SignalFunction) (t : Datum → TimedList → ℕ → SignalFunction) (sf : IsSignalFunction f) (se : IsSignalFunction e) (st : IsContinuation t) where
   -- what takes over sees no more than it is given
-  over-take : (c : Datum) (n k : ℕ) (xs : TimedList) → t c (take n (take (n + suc k) xs)) (step_of (drop n (take (n + suc k) xs))) (drop n (take (n + suc k) xs)) ≡ take (suc k) (t c (take n xs) (step_of (drop n xs)) (drop n xs))
+  over-take : (c : Datum) (n k : ℕ) (xs : TimedList)
+      → t c (take n (take (n + suc k) xs)) (step_of (drop n (take (n + suc k) xs))) (drop n (take (n + suc k) xs))
+      ≡ take (suc k) (t c (take n xs) (step_of (drop n xs)) (drop n xs))
   over-take c n k xs =
       let l : n ≤ n + suc k = omega arith in
       ap (λ p. t c p (step_of (drop n (take (n + suc k) xs))) (drop n (take (n + suc k) xs))) (take-take n (n + suc k) xs l)
@@ -40,7 +44,8 @@ module _ (f e : SignalFunction) (t : Datum → TimedList → ℕ → SignalFunct
       ∙ ap (λ s. t c (take n xs) s (take (suc k) (drop n xs))) (step_of-take k (drop n xs))
       ∙ (st.signal c (take n xs) (step_of (drop n xs))).causal (suc k) (drop n xs)
 
-  over-retime : (c : Datum) (n d : ℕ) (xs : TimedList) → t c (take n (retime d xs)) (step_of (drop n (retime d xs))) (drop n (retime d xs)) ≡ t c (take n xs) (step_of (drop n xs)) (drop n xs)
+  over-retime : (c : Datum) (n d : ℕ) (xs : TimedList)
+      → t c (take n (retime d xs)) (step_of (drop n (retime d xs))) (drop n (retime d xs)) ≡ t c (take n xs) (step_of (drop n xs)) (drop n xs)
   over-retime c zero d xs =
       ap (λ g. g (retime d xs)) (st.fresh c (step_of (retime d xs)) (step_of xs)) ∙ (st.signal c [] (step_of xs)).timeless d xs
   over-retime c (suc n) d xs =
@@ -74,8 +79,10 @@ module _ (f e : SignalFunction) (t : Datum → TimedList → ℕ → SignalFunct
       let ln : length (take n (f xs)) ≡ n = omega (arith, length-take n (f xs)) in
       let over : List Datum = t c (take n xs) (step_of (drop n xs)) (drop n xs) in
       switch_at-some f e t (take (n + suc k) xs) n c (ap first_event (se.causal (n + suc k) xs) ∙ i.seen (n + suc k) (omega arith))
-      ∙ ap (λ ys. take n ys ++ t c (take n (take (n + suc k) xs)) (step_of (drop n (take (n + suc k) xs))) (drop n (take (n + suc k) xs))) (sf.causal (n + suc k) xs)
-      ∙ ap (λ ys. ys ++ t c (take n (take (n + suc k) xs)) (step_of (drop n (take (n + suc k) xs))) (drop n (take (n + suc k) xs))) (take-take n (n + suc k) (f xs) l)
+      ∙ ap (λ ys. take n ys ++ t c (take n (take (n + suc k) xs)) (step_of (drop n (take (n + suc k) xs))) (drop n (take (n + suc k) xs)))
+      (sf.causal (n + suc k) xs)
+      ∙ ap (λ ys. ys ++ t c (take n (take (n + suc k) xs)) (step_of (drop n (take (n + suc k) xs))) (drop n (take (n + suc k) xs)))
+      (take-take n (n + suc k) (f xs) l)
       ∙ ap (λ zs. take n (f xs) ++ zs) (over-take c n k xs)
       ∙ sym (take_into_at (take n (f xs)) over n (suc k) ln)
       ∙ ap (take (n + suc k)) (sym (switch_at-some f e t xs n c i.is))
@@ -95,12 +102,14 @@ module _ (f e : SignalFunction) (t : Datum → TimedList → ℕ → SignalFunct
   take-switch_at : (m : ℕ) (xs : TimedList) → Outlook (e xs) → switch_at f e t (take m xs) ≡ take m (switch_at f e t xs)
   take-switch_at m xs (never i) = none-take m xs (i.so_far m) ∙ ap (take m) (sym (switch_at-none f e t xs i.is))
   take-switch_at m xs (once n c i) = elim (cases_lt n m) [
-    | inl h ↦ let k : n + suc (m - suc n) ≡ m = omega arith in ap (λ j. switch_at f e t (take j xs)) (sym k) ∙ once-take n (m - suc n) c xs i ∙ ap (λ j. take j (switch_at f e t xs)) k
+    | inl h ↦ let k : n + suc (m - suc n) ≡ m = omega arith in ap (λ j. switch_at f e t (take j xs)) (sym k) ∙ once-take n (m - suc n) c xs i
+        ∙ ap (λ j. take j (switch_at f e t xs)) k
     | inr h ↦ before-take m n c xs h i
   ]
 
   retime-switch_at : (d : ℕ) (xs : TimedList) → Outlook (e xs) → switch_at f e t (retime d xs) ≡ switch_at f e t xs
-  retime-switch_at d xs (never i) = switch_at-none f e t (retime d xs) (ap first_event (se.timeless d xs) ∙ i.is) ∙ sf.timeless d xs ∙ sym (switch_at-none f e t xs i.is)
+  retime-switch_at d xs (never i) = switch_at-none f e t (retime d xs) (ap first_event (se.timeless d xs) ∙ i.is) ∙ sf.timeless d xs
+      ∙ sym (switch_at-none f e t xs i.is)
   retime-switch_at d xs (once n c i) =
       switch_at-some f e t (retime d xs) n c (ap first_event (se.timeless d xs) ∙ i.is)
       ∙ ap (λ ys. take n ys ++ t c (take n (retime d xs)) (step_of (drop n (retime d xs))) (drop n (retime d xs))) (sf.timeless d xs)

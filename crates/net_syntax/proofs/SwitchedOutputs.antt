@@ -24,18 +24,21 @@ pub freeze_outputs : FreezeLaw
 freeze_outputs f e t E xs = refl
 
 frozen_in : (E : Environment Expression) (r : Expression) (i : ℕ) (fs : Networks Expression) (p : TimedList) (d : ℕ) (F : Environment Expression)
-    → context_of value_of (freeze_members E r i fs p d F) ≡ with_olds (context_of value_of F) (freeze_all (route_in E r) i (meanings value_of fs (context_of value_of E)) p d)
+    → context_of value_of (freeze_members E r i fs p d F)
+    ≡ with_olds (context_of value_of F) (freeze_all (route_in E r) i (meanings value_of fs (context_of value_of E)) p d)
 frozen_in E r i no_members p d F = ap (λ os. record (context_of value_of F) { olds = os }) (sym (append-nil (context_of value_of F).olds))
 frozen_in E r i (and_member f fs) p d F =
     frozen_in E r (suc i) fs p d (frozen F f E (route (route_in E r) i p) d)
     ∙ ap (λ os. record (context_of value_of F) { olds = os })
-    (append_assoc (context_of value_of F).olds (resume (meaning value_of f (context_of value_of E)) (route (route_in E r) i p) d ∷ []) (freeze_all (route_in E r) (suc i) (meanings value_of fs (context_of value_of E)) p d))
+    (append_assoc (context_of value_of F).olds (resume (meaning value_of f (context_of value_of E)) (route (route_in E r) i p) d ∷ [])
+    (freeze_all (route_in E r) (suc i) (meanings value_of fs (context_of value_of E)) p d))
 
 pub freeze_members_outputs : FreezeMembersLaw
 freeze_members_outputs r fs e t E xs =
     let ys : List Datum = members_in E r fs xs in
     ap (cut_at (first_event (outputs_of e E (pair_samples xs ys))) ys)
-    (fun_ext λ n. fun_ext λ c. ap (λ ctx. take n ys ++ meaning value_of t ctx (drop n xs)) (sym (frozen_in E r 0 fs (take n xs) (step_of (drop n xs)) (param E c))))
+    (fun_ext λ n. fun_ext λ c. ap (λ ctx. take n ys ++ meaning value_of t ctx (drop n xs))
+    (sym (frozen_in E r 0 fs (take n xs) (step_of (drop n xs)) (param E c))))
 
 old_at-last : (fs : List SignalFunction) (f : SignalFunction) → old_at (fs ++ f ∷ []) (length fs) ≡ f
 old_at-last [] f = refl

@@ -21,7 +21,8 @@ typed_event c (event_has h) = h
 pub typed_wrapped : (z : ℤ) → HasType (int (int_wrap w64 z)) int_ty
 typed_wrapped z = int_has (SFits-int_wrap w64 z)
 
-pub TypedValues-map : {A B : TypeTree} (h : Datum → Datum) (vs : List Datum) → ((v : Datum) → HasType v A → HasType (h v) B) → TypedValues A vs → TypedValues B (map h vs)
+pub TypedValues-map : {A B : TypeTree} (h : Datum → Datum) (vs : List Datum) → ((v : Datum) → HasType v A → HasType (h v) B) → TypedValues A vs
+    → TypedValues B (map h vs)
 TypedValues-map h vs s no_value = no_value
 TypedValues-map h vs s (and_value {v = v} {vs = vs'} k ks) = and_value (s v k) (TypedValues-map h vs' s ks)
 
@@ -34,7 +35,8 @@ typed_with_values [] ys h = no_sample
 typed_with_values (x ∷ xs) [] h = no_sample
 typed_with_values (x ∷ xs) (y ∷ ys) (and_value h hs) = and_sample h (typed_with_values xs ys hs)
 
-pub typed_pair_samples : {A B : TypeTree} (xs : TimedList) (ys : List Datum) → TypedSamples A xs → TypedValues B ys → TypedSamples (pair_ty A B) (pair_samples xs ys)
+pub typed_pair_samples : {A B : TypeTree} (xs : TimedList) (ys : List Datum) → TypedSamples A xs → TypedValues B ys
+    → TypedSamples (pair_ty A B) (pair_samples xs ys)
 typed_pair_samples [] ys h k = no_sample
 typed_pair_samples (x ∷ xs) [] h k = no_sample
 typed_pair_samples (x ∷ xs) (y ∷ ys) (and_sample h hs) (and_value k ks) = and_sample (pair_has h k) (typed_pair_samples xs ys hs ks)
@@ -44,7 +46,8 @@ typed_pairs [] ws h k = no_value
 typed_pairs (v ∷ vs) [] h k = no_value
 typed_pairs (v ∷ vs) (w ∷ ws) (and_value h hs) (and_value k ks) = and_value (pair_has h k) (typed_pairs vs ws hs ks)
 
-pub typed_each_value : {A B : TypeTree} (h : Datum → Datum) (xs : TimedList) → ((v : Datum) → HasType v A → HasType (h v) B) → TypedSamples A xs → TypedSamples B (each_value h xs)
+pub typed_each_value : {A B : TypeTree} (h : Datum → Datum) (xs : TimedList) → ((v : Datum) → HasType v A → HasType (h v) B) → TypedSamples A xs
+    → TypedSamples B (each_value h xs)
 typed_each_value h xs s no_sample = no_sample
 typed_each_value h xs s (and_sample {x = x} {xs = xs'} k ks) = and_sample (s x.1 k) (typed_each_value h xs' s ks)
 
@@ -93,17 +96,20 @@ typed_if : {A : TypeTree} (b : Bool) (v c : Datum) → HasType v A → HasType c
 typed_if true v c h k = h
 typed_if false v c h k = k
 
-pub typed_latest_by : {A : TypeTree} (q now : ℕ) (c : Datum) (ts : List ℕ) (vs : List Datum) → HasType c A → TypedValues A vs → HasType (latest_by q now c ts vs) A
+pub typed_latest_by : {A : TypeTree} (q now : ℕ) (c : Datum) (ts : List ℕ) (vs : List Datum) → HasType c A → TypedValues A vs
+    → HasType (latest_by q now c ts vs) A
 typed_latest_by q now c [] vs h k = h
 typed_latest_by q now c (t ∷ ts) [] h k = h
-typed_latest_by q now c (t ∷ ts) (v ∷ vs) h (and_value k ks) = typed_latest_by q now (if nat_le (t + q) now then v else c) ts vs (typed_if (nat_le (t + q) now) v c k h) ks
+typed_latest_by q now c (t ∷ ts) (v ∷ vs) h (and_value k ks) =
+    typed_latest_by q now (if nat_le (t + q) now then v else c) ts vs (typed_if (nat_le (t + q) now) v c k h) ks
 
 pub typed_latest_event : {A : TypeTree} (c : Datum) (vs : List Datum) → HasType c A → TypedValues (event_ty A) vs → HasType (latest_event c vs) A
 typed_latest_event c vs h no_value = h
 typed_latest_event c vs h (and_value {vs = vs'} no_event_has ks) = typed_latest_event c vs' h ks
 typed_latest_event c vs h (and_value {vs = vs'} (event_has {v = v} k) ks) = typed_latest_event v vs' k ks
 
-pub typed_fold_events : {Z V : TypeTree} (g : Datum → Datum) (acc : Datum) (vs : List Datum) → ((v : Datum) → HasType v (pair_ty Z V) → HasType (g v) Z) → HasType acc Z → TypedValues (event_ty V) vs → HasType (fold_events g acc vs) Z
+pub typed_fold_events : {Z V : TypeTree} (g : Datum → Datum) (acc : Datum) (vs : List Datum) → ((v : Datum) → HasType v (pair_ty Z V) → HasType (g v) Z)
+    → HasType acc Z → TypedValues (event_ty V) vs → HasType (fold_events g acc vs) Z
 typed_fold_events g acc vs s h no_value = h
 typed_fold_events g acc vs s h (and_value {vs = vs'} no_event_has ks) = typed_fold_events g acc vs' s h ks
 typed_fold_events g acc vs s h (and_value {vs = vs'} (event_has {v = v} k) ks) = typed_fold_events g (g (pair acc v)) vs' s (s (pair acc v) (pair_has h k)) ks
@@ -117,10 +123,12 @@ typed_when true c h = event_has h
 typed_when false c h = no_event_has
 
 -- a formula over typed samples, at each prefix
-pub typed_by_past : {A B : TypeTree} (h : TimedList → Datum) (xs : TimedList) → ((p : TimedList) → TypedSamples A p → HasType (h p) B) → TypedSamples A xs → TypedValues B (map h (prefixes xs))
+pub typed_by_past : {A B : TypeTree} (h : TimedList → Datum) (xs : TimedList) → ((p : TimedList) → TypedSamples A p → HasType (h p) B) → TypedSamples A xs
+    → TypedValues B (map h (prefixes xs))
 typed_by_past h xs s no_sample = no_value
 typed_by_past {B = B} h xs s (and_sample {x = x} {xs = xs'} k ks) =
-    and_value (s (x ∷ []) (and_sample k no_sample)) (subst (TypedValues B) (sym (map-map h (λ p. x ∷ p) (prefixes xs'))) (typed_by_past (λ p. h (x ∷ p)) xs' (λ p j. s (x ∷ p) (and_sample k j)) ks))
+    and_value (s (x ∷ []) (and_sample k no_sample))
+    (subst (TypedValues B) (sym (map-map h (λ p. x ∷ p) (prefixes xs'))) (typed_by_past (λ p. h (x ∷ p)) xs' (λ p j. s (x ∷ p) (and_sample k j)) ks))
 
 pub typed_integral_value : (p : TimedList) → HasType (integral_value p) int_ty
 typed_integral_value [] = int_has (fits_signed_from_abs w64 (pos 0) (lit< tt))
@@ -139,7 +147,8 @@ later-some (Some p) n c e = (p.0, ap (λ v. Some (p.0, v)) (ap carried e))
 pub typed_first : {C : TypeTree} (vs : List Datum) (n : ℕ) (c : Datum) → TypedValues (event_ty C) vs → first_event vs ≡ Some (n, c) → HasType c C
 unfolding carried
 typed_first vs n c no_value e = absurd (cc)
-typed_first vs n c (and_value {vs = vs'} no_event_has ks) e = let i : (m : ℕ) × (first_event vs' ≡ Some (m, c)) = later-some (first_event vs') n c e in typed_first vs' i.0 c ks i.1
+typed_first vs n c (and_value {vs = vs'} no_event_has ks) e =
+    let i : (m : ℕ) × (first_event vs' ≡ Some (m, c)) = later-some (first_event vs') n c e in typed_first vs' i.0 c ks i.1
 typed_first {C = C} vs n c (and_value {vs = vs'} (event_has {v = v} k) ks) e = let q : v ≡ c = ap carried e in subst (λ w. HasType w C) q k
 
 -- rows of n typed items
@@ -166,7 +175,8 @@ pub data TypedPieces (D C : TypeTree) : List (Datum × TimedList) → Type 0 whe
   no_piece : TypedPieces D C []
   and_piece : {q : Datum × TimedList} {qs : List (Datum × TimedList)} → HasType q.0 C → TypedSamples D q.1 → TypedPieces D C qs → TypedPieces D C (q ∷ qs)
 
-pub put_typed : {D C : TypeTree} (d : ℕ) (v : Datum) (p : Pieces) → HasType v (pair_ty D (event_ty C)) → TypedSamples D p.0 × TypedPieces D C p.1 → TypedSamples D (put_sample d v p).0 × TypedPieces D C (put_sample d v p).1
+pub put_typed : {D C : TypeTree} (d : ℕ) (v : Datum) (p : Pieces) → HasType v (pair_ty D (event_ty C)) → TypedSamples D p.0 × TypedPieces D C p.1
+    → TypedSamples D (put_sample d v p).0 × TypedPieces D C (put_sample d v p).1
 put_typed d v p (pair_has k no_event_has) h = (and_sample k h.0, h.1)
 put_typed d v p (pair_has k (event_has j)) h = (no_sample, and_piece j (and_sample k h.0) h.1)
 

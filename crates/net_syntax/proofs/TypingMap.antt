@@ -4,7 +4,8 @@ use Rattle.net_syntax.specs.Network.{Network, Networks}
 use Rattle.sample_core.specs.TypeTree.{TypeTree}
 use Rattle.net_syntax.specs.Typing.{Arrow, LeafTyping, Typed, AllTyped, arr_typed, seq_typed, first_typed, par_typed, loop_typed, i_pre_typed, delay_typed, hold_typed, accum_typed, after_typed, repeatedly_typed, time_typed, integral_typed, switch_typed, d_switch_typed, r_switch_typed, k_switch_typed, p_switch_typed, old_typed, no_members_typed, and_member_typed}
 
-module _ {L : Type 0} {T U : LeafTyping L} {M N : TypeTree → Type 0} (u : (e : L) (Ps : List TypeTree) (A B : TypeTree) → T e Ps A B → U e Ps A B) (v : (A : TypeTree) → M A → N A) where
+module _ {L : Type 0} {T U : LeafTyping L} {M N : TypeTree → Type 0} (u : (e : L) (Ps : List TypeTree) (A B : TypeTree) → T e Ps A B
+    → U e Ps A B) (v : (A : TypeTree) → M A → N A) where
   mutual
     pub map_typed : {Ps : List TypeTree} {Os : List Arrow} {net : Network L} {A B : TypeTree} → Typed T M Ps Os net A B → Typed U N Ps Os net A B
     map_typed (arr_typed h) = arr_typed (u _ _ _ _ h)

@@ -21,9 +21,11 @@ minus (suc k) = int (negsuc k)
 abbrev pub num : ℕ → Expression
 num k = int_expr (pos k)
 
--- `(arr (pair x (if (less 9 x) (event x) (none Int))))`: the input, and an event with it where it is above nine
+-- `(arr (pair x (if (less 9 x) (event x) (none Int))))`: the input, and an event with it where it
+-- is above nine
 abbrev pub above_nine : Network Expression
-above_nine = arr (pair_expr input (if_expr (less (num 9) input) (event_expr input) (no_event_expr int_ty)))
+above_nine =
+    arr (pair_expr input (if_expr (less (num 9) input) (event_expr input) (no_event_expr int_ty)))
 
 -- `(arr (add x (p 0)))`
 abbrev pub add_param : Network Expression
@@ -55,15 +57,19 @@ OnNothing = stream_of add_then_delay [] ≡ []
 
 -- `(arr (add x 1))` on the greatest number gives the least
 abbrev pub AddWraps : Type 0
-AddWraps = stream_of (arr (add input (num 1))) ((0, n 9223372036854775807) ∷ []) ≡ minus 9223372036854775808 ∷ []
+AddWraps = stream_of (arr (add input (num 1))) ((0, n 9223372036854775807) ∷ [])
+    ≡ minus 9223372036854775808 ∷ []
 
 -- `(repeatedly 3 unit)` at the times 0, 2, 4, 11, 12
 abbrev pub RepeatedlyByTime : Type 0
-RepeatedlyByTime = stream_of (repeatedly 3 unit_expr) ((0, unit) ∷ (2, unit) ∷ (2, unit) ∷ (7, unit) ∷ (1, unit) ∷ []) ≡ no_event ∷ no_event ∷ event unit ∷ event unit ∷ event unit ∷ []
+RepeatedlyByTime = stream_of (repeatedly 3 unit_expr)
+    ((0, unit) ∷ (2, unit) ∷ (2, unit) ∷ (7, unit) ∷ (1, unit) ∷ []) ≡ no_event ∷ no_event
+    ∷ event unit ∷ event unit ∷ event unit ∷ []
 
 -- `(after 5 7)`, once 5 is passed
 abbrev pub AfterOnce : Type 0
-AfterOnce = stream_of (after 5 (num 7)) ((0, unit) ∷ (9223372036854775807, unit) ∷ (1, unit) ∷ []) ≡ no_event ∷ event (n 7) ∷ no_event ∷ []
+AfterOnce = stream_of (after 5 (num 7)) ((0, unit) ∷ (9223372036854775807, unit) ∷ (1, unit) ∷ [])
+    ≡ no_event ∷ event (n 7) ∷ no_event ∷ []
 
 -- `(after 0 7)`, at once, whatever the first step
 abbrev pub AfterAtOnce : Type 0
@@ -71,7 +77,9 @@ AfterAtOnce = stream_of (after 0 (num 7)) ((4, unit) ∷ []) ≡ event (n 7) ∷
 
 -- `time` wraps
 abbrev pub TimeWraps : Type 0
-TimeWraps = stream_of time ((0, unit) ∷ (9223372036854775807, unit) ∷ (9223372036854775807, unit) ∷ []) ≡ n 0 ∷ n 9223372036854775807 ∷ minus 2 ∷ []
+TimeWraps =
+    stream_of time ((0, unit) ∷ (9223372036854775807, unit) ∷ (9223372036854775807, unit) ∷ [])
+    ≡ n 0 ∷ n 9223372036854775807 ∷ minus 2 ∷ []
 
 -- `switch` outputs its continuation at the event's sample
 abbrev pub SwitchAtOnce : Type 0
@@ -85,9 +93,11 @@ SwitchLate = stream_of (d_switch above_nine add_param) one_then_twenty ≡ n 1 �
 abbrev pub StartedAtTheEvent : Type 0
 StartedAtTheEvent = stream_of (d_switch above_nine time) one_then_twenty ≡ n 1 ∷ n 20 ∷ n 1 ∷ []
 
--- `(switch F (switch (arr (pair x (event (neg (p 0))))) (arr (add x (p 1)))))`: two switches in one sample
+-- `(switch F (switch (arr (pair x (event (neg (p 0))))) (arr (add x (p 1)))))`: two switches in one
+-- sample
 abbrev pub switch_twice : Network Expression
-switch_twice = switch above_nine (switch (arr (pair_expr input (event_expr (neg (param 0))))) (arr (add input (param 1))))
+switch_twice = switch above_nine
+    (switch (arr (pair_expr input (event_expr (neg (param 0))))) (arr (add input (param 1))))
 
 -- 3 added to -20
 abbrev pub SwitchTwice : Type 0
@@ -103,15 +113,22 @@ restart = r_switch (i_pre (num 0)) (i_pre (param 0))
 
 -- each event starts the continuation anew
 abbrev pub RestartAtEvents : Type 0
-RestartAtEvents = stream_of restart ((0, pair (n 5) no_event) ∷ (1, pair (n 6) (event (n 9))) ∷ (1, pair (n 7) (event (n 8))) ∷ (1, pair (n 4) no_event) ∷ []) ≡ n 0 ∷ n 9 ∷ n 8 ∷ n 7 ∷ []
+RestartAtEvents = stream_of restart
+    ((0, pair (n 5) no_event) ∷ (1, pair (n 6) (event (n 9))) ∷ (1, pair (n 7) (event (n 8)))
+    ∷ (1, pair (n 4) no_event) ∷ []) ≡ n 0 ∷ n 9 ∷ n 8 ∷ n 7 ∷ []
 
 -- also one at the first sample
 abbrev pub RestartAtTheFirst : Type 0
-RestartAtTheFirst = stream_of restart ((0, pair (n 5) (event (n 3))) ∷ (1, pair (n 6) no_event) ∷ []) ≡ n 3 ∷ n 5 ∷ []
+RestartAtTheFirst = stream_of restart
+    ((0, pair (n 5) (event (n 3))) ∷ (1, pair (n 6) no_event) ∷ []) ≡ n 3 ∷ n 5 ∷ []
 
 -- `(kSwitch time E (switch (arr (pair -1 (if (equal x 2) (event unit) (none Unit)))) (old 0)))`
 abbrev pub freeze_clock : Network Expression
-freeze_clock = k_switch time (at_left 1) (switch (arr (pair_expr (int_expr (negsuc 0)) (if_expr (equal input (num 2)) (event_expr unit_expr) (no_event_expr unit_ty)))) (old 0))
+freeze_clock = k_switch time (at_left 1)
+    (switch
+    (arr
+    (pair_expr (int_expr (negsuc 0))
+    (if_expr (equal input (num 2)) (event_expr unit_expr) (no_event_expr unit_ty)))) (old 0))
 
 -- the clock stands while it is frozen, and goes on with the step that it was frozen with
 abbrev pub FreezeClock : Type 0
@@ -119,7 +136,8 @@ FreezeClock = stream_of freeze_clock six_samples ≡ n 0 ∷ n 4 ∷ minus 1 ∷
 
 -- `(kSwitch time E (old 0))` outputs what `time` does
 abbrev pub FreezeAndResume : Type 0
-FreezeAndResume = stream_of (k_switch time (at_left 1) (old 0)) six_samples ≡ stream_of time six_samples
+FreezeAndResume = stream_of (k_switch time (at_left 1) (old 0)) six_samples
+    ≡ stream_of time six_samples
 
 -- `time`
 abbrev pub ClockOfSix : Type 0
@@ -127,7 +145,8 @@ ClockOfSix = stream_of time six_samples ≡ n 0 ∷ n 4 ∷ n 9 ∷ n 15 ∷ n 2
 
 -- `(pSwitch (fst x) (col time integral) E (parB (old 1) (old 0)))`
 abbrev pub swap_members : Network Expression
-swap_members = p_switch (fst input) (networks_of (time ∷ integral ∷ [])) (at_left 7) (par (networks_of (old 1 ∷ old 0 ∷ [])))
+swap_members = p_switch (fst input) (networks_of (time ∷ integral ∷ [])) (at_left 7)
+    (par (networks_of (old 1 ∷ old 0 ∷ [])))
 
 -- a list value of two numbers
 abbrev pub two : ℕ → ℕ → Datum
@@ -135,11 +154,13 @@ two j k = list (list_of (n j ∷ n k ∷ []))
 
 -- the members change places, and go on from where they were frozen
 abbrev pub SwapMembers : Type 0
-SwapMembers = stream_of swap_members ((0, n 2) ∷ (3, n 2) ∷ (4, n 7) ∷ (1, n 0) ∷ []) ≡ two 0 0 ∷ two 3 6 ∷ two 14 7 ∷ two 21 8 ∷ []
+SwapMembers = stream_of swap_members ((0, n 2) ∷ (3, n 2) ∷ (4, n 7) ∷ (1, n 0) ∷ []) ≡ two 0 0
+    ∷ two 3 6 ∷ two 14 7 ∷ two 21 8 ∷ []
 
 -- `(delay 3 0)` at the times 0, 2, 4, 6
 abbrev pub DelayByTime : Type 0
-DelayByTime = stream_of (delay 3 (num 0)) ((0, n 1) ∷ (2, n 2) ∷ (2, n 3) ∷ (2, n 4) ∷ []) ≡ n 0 ∷ n 0 ∷ n 1 ∷ n 2 ∷ []
+DelayByTime = stream_of (delay 3 (num 0)) ((0, n 1) ∷ (2, n 2) ∷ (2, n 3) ∷ (2, n 4) ∷ []) ≡ n 0
+    ∷ n 0 ∷ n 1 ∷ n 2 ∷ []
 
 -- `(add (fst x) (snd x))`
 abbrev pub both_parts : Expression
@@ -147,11 +168,14 @@ both_parts = add (fst input) (snd input)
 
 -- `(loopPre 0 (arr (pair S S)))`, S that sum: the sums so far
 abbrev pub SumsFedBack : Type 0
-SumsFedBack = stream_of (loop_pre (num 0) (arr (pair_expr both_parts both_parts))) ((0, n 1) ∷ (1, n 2) ∷ (1, n 3) ∷ []) ≡ n 1 ∷ n 3 ∷ n 6 ∷ []
+SumsFedBack = stream_of (loop_pre (num 0) (arr (pair_expr both_parts both_parts)))
+    ((0, n 1) ∷ (1, n 2) ∷ (1, n 3) ∷ []) ≡ n 1 ∷ n 3 ∷ n 6 ∷ []
 
 -- `(accumHoldBy (add (fst x) (snd x)) 10)` in its core forms
 abbrev pub SumsHeld : Type 0
-SumsHeld = stream_of (seq (accum_by both_parts (num 10)) (hold (num 10))) ((0, no_event) ∷ (1, event (n 5)) ∷ (1, no_event) ∷ (1, event (n 1)) ∷ []) ≡ n 10 ∷ n 15 ∷ n 15 ∷ n 16 ∷ []
+SumsHeld = stream_of (seq (accum_by both_parts (num 10)) (hold (num 10)))
+    ((0, no_event) ∷ (1, event (n 5)) ∷ (1, no_event) ∷ (1, event (n 1)) ∷ []) ≡ n 10 ∷ n 15 ∷ n 15
+    ∷ n 16 ∷ []
 
 -- the parts of a pair change places
 abbrev pub swap : Network Expression
@@ -163,11 +187,17 @@ second f = seq swap (seq (first f) swap)
 
 -- `edge` in its core forms
 abbrev pub edge : Network Expression
-edge = seq (seq (arr (pair_expr input input)) (seq (first (arr input)) (second (i_pre (bool_expr true))))) (arr (if_expr (and_expr (fst input) (not_expr (snd input))) (event_expr unit_expr) (no_event_expr unit_ty)))
+edge =
+    seq
+    (seq (arr (pair_expr input input)) (seq (first (arr input)) (second (i_pre (bool_expr true)))))
+    (arr
+    (if_expr (and_expr (fst input) (not_expr (snd input))) (event_expr unit_expr)
+    (no_event_expr unit_ty)))
 
 -- an event where the input becomes true
 abbrev pub EdgeAtTrue : Type 0
-EdgeAtTrue = stream_of edge ((0, bool true) ∷ (1, bool false) ∷ (1, bool true) ∷ []) ≡ no_event ∷ no_event ∷ event unit ∷ []
+EdgeAtTrue = stream_of edge ((0, bool true) ∷ (1, bool false) ∷ (1, bool true) ∷ []) ≡ no_event
+    ∷ no_event ∷ event unit ∷ []
 
 -- `(arr (none Unit))`
 abbrev pub never_event : Network Expression
@@ -189,11 +219,17 @@ olds_then gs = in_sequence (old 16) (old 15 ∷ old 14 ∷ old 12 ∷ old 7 ∷ 
 
 -- each nesting doubles the weight: the heaviest network within the limit
 abbrev pub HeaviestWithin : Type 0
-HeaviestWithin = weight (k_switch (arr input) never_event (doubled 16 0 (olds_then (arr input ∷ arr input ∷ arr input ∷ [])))) [] ≡ 1000000
+HeaviestWithin =
+    weight
+    (k_switch (arr input) never_event
+    (doubled 16 0 (olds_then (arr input ∷ arr input ∷ arr input ∷ [])))) [] ≡ 1000000
 
 -- one that is just past it
 abbrev pub JustTooHeavy : Type 0
-JustTooHeavy = weight (k_switch (arr input) never_event (doubled 16 0 (olds_then (arr input ∷ arr input ∷ arr input ∷ arr input ∷ [])))) [] ≡ 1000002
+JustTooHeavy =
+    weight
+    (k_switch (arr input) never_event
+    (doubled 16 0 (olds_then (arr input ∷ arr input ∷ arr input ∷ arr input ∷ [])))) [] ≡ 1000002
 
 -- one that is past it by its nesting alone
 abbrev pub TooHeavy : Type 0

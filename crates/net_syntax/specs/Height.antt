@@ -14,7 +14,8 @@ greatest [] = 0
 greatest (n ∷ ns) = max n (greatest ns)
 
 abbrev mutual
-  -- how many nodes stand in one another, at most; a resumed one stands over the frozen one, whose height is in hs
+  -- how many nodes stand in one another, at most; a resumed one stands over the frozen one, whose
+  -- height is in hs
   pub height : {L : Type 0} → Network L → List ℕ → ℕ
   height (seq f g) hs = suc (max (height f hs) (height g hs))
   height (first f) hs = suc (height f hs)
@@ -23,8 +24,10 @@ abbrev mutual
   height (switch f t) hs = suc (max (height f hs) (height t hs))
   height (d_switch f t) hs = suc (max (height f hs) (height t hs))
   height (r_switch f t) hs = suc (max (height f hs) (height t hs))
-  height (k_switch f e t) hs = suc (max (max (height f hs) (height e hs)) (height t (hs ++ height f hs ∷ [])))
-  height (p_switch r fs e t) hs = suc (max (max (greatest (heights fs hs)) (height e hs)) (height t (hs ++ heights fs hs)))
+  height (k_switch f e t) hs =
+      suc (max (max (height f hs) (height e hs)) (height t (hs ++ height f hs ∷ [])))
+  height (p_switch r fs e t) hs =
+      suc (max (max (greatest (heights fs hs)) (height e hs)) (height t (hs ++ heights fs hs)))
   height (old k) hs = suc (height_at hs k)
   height (arr e) hs = 1
   height (i_pre c) hs = 1

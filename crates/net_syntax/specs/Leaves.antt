@@ -1,4 +1,5 @@
--- The expressions that are children of a network, from the root on, each with where it stands and its types.
+-- The expressions that are children of a network, from the root on, each with where it stands and
+-- its types.
 use Rattle.std.specs.Prelude.{◌≡◌, ℕ, suc, List, [], ◌∷◌, ◌++◌}
 use Rattle.sample_core.specs.TypeTree.{TypeTree, unit_ty, int_ty, pair_ty}
 use Rattle.leaf_core.specs.Expression.{Expression}
@@ -17,9 +18,16 @@ pub record Need : Type 0 where
 
 -- child k of the node at a position, an expression under parameters of types Ps, from A to B
 abbrev pub need_at : List ℕ → ℕ → Expression → List TypeTree → TypeTree → TypeTree → Need
-need_at at k e Ps A B = record { position = at ++ k ∷ []; key = record { expr = e; params = Ps; input = A }; output = B }
+need_at at k e Ps A B =
+    record {
+      position = at ++ k ∷ [];
+      key = record { expr = e; params = Ps; input = A };
+      output =
+          B;
+    }
 
--- the expressions of a network that stands at a position, read off its typing; of members, the first is child k
+-- the expressions of a network that stands at a position, read off its typing; of members, the
+-- first is child k
 abbrev mutual
   pub leaves_by : {T : LeafTyping Expression} {M : TypeTree → Type 0} {Ps : List TypeTree}
       {Os : List Arrow} {net : Network Expression} {A B : TypeTree}
@@ -36,7 +44,8 @@ abbrev mutual
   leaves_by {Ps = Ps} at (accum_typed {g = g} {z = z} {V = V} {Z = Z} h m k n) =
       need_at at 0 g Ps (pair_ty Z V) Z ∷ need_at at 1 z Ps unit_ty Z ∷ []
   leaves_by {Ps = Ps} at (after_typed {c = c} {C = C} u h m) = need_at at 0 c Ps unit_ty C ∷ []
-  leaves_by {Ps = Ps} at (repeatedly_typed {c = c} {C = C} l u h m) = need_at at 0 c Ps unit_ty C ∷ []
+  leaves_by {Ps = Ps} at (repeatedly_typed {c = c} {C = C} l u h m) = need_at at 0 c Ps unit_ty C
+      ∷ []
   leaves_by at time_typed = []
   leaves_by at integral_typed = []
   leaves_by at (switch_typed f t) = leaves_by (at ++ 0 ∷ []) f ++ leaves_by (at ++ 1 ∷ []) t
@@ -46,7 +55,8 @@ abbrev mutual
       leaves_by (at ++ 0 ∷ []) f ++ leaves_by (at ++ 1 ∷ []) e ++ leaves_by (at ++ 2 ∷ []) t
   leaves_by {Ps = Ps} at (p_switch_typed {r = r} {fs = gs} {A = A} {D = D} l u m h fs n e t) =
       need_at at 0 r Ps (pair_ty A int_ty) D ∷ member_leaves_by at 1 fs
-      ++ leaves_by (at ++ suc (members gs) ∷ []) e ++ leaves_by (at ++ suc (suc (members gs)) ∷ []) t
+      ++ leaves_by (at ++ suc (members gs) ∷ []) e
+      ++ leaves_by (at ++ suc (suc (members gs)) ∷ []) t
   leaves_by at (old_typed o) = []
 
   pub member_leaves_by : {T : LeafTyping Expression} {M : TypeTree → Type 0} {Ps : List TypeTree}
@@ -67,7 +77,8 @@ AddsLeaves Ps at net A t before now =
     (Os : List Arrow) (B : TypeTree) (d : NetTyped Ps Os net A B)
     → (t ≡ B) × (now ≡ before ++ leaves_by at d)
 
--- under parameters of types Ps, at inputs of type A, the network has an output type within the limits
+-- under parameters of types Ps, at inputs of type A, the network has an output type within the
+-- limits
 abbrev pub IsTyped : List TypeTree → Network Expression → TypeTree → Type 0
 IsTyped Ps net A = ∥ ((Os : List Arrow) × (B : TypeTree) × NetTypedWithin Ps Os net A B) ∥₁
 

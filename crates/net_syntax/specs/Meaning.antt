@@ -25,7 +25,8 @@ old_at (f ∷ fs) (suc k) = old_at fs k
 
 abbrev mutual
   -- what a network denotes in a context, where val gives the leaves' values; one line a form
-  pub meaning : {L : Type 0} → (L → List Datum → Datum → Datum) → Network L → Context → SignalFunction
+  pub meaning : {L : Type 0} → (L → List Datum → Datum → Datum) → Network L → Context
+      → SignalFunction
   meaning val (arr e) E = λ xs. map (val e E.params) (values xs)
   meaning val (seq f g) E = seq_function (meaning val f E) (meaning val g E)
   meaning val (first f) E = first_function (meaning val f E)
@@ -39,14 +40,22 @@ abbrev mutual
   meaning val (repeatedly q c) E = by_past (repeatedly_value q (val c E.params unit))
   meaning val time E = by_past time_value
   meaning val integral E = by_past integral_value
-  meaning val (switch f t) E = switch_function (meaning val f E) (λ c. meaning val t (with_param E c))
-  meaning val (d_switch f t) E = d_switch_function (meaning val f E) (λ c. meaning val t (with_param E c))
-  meaning val (r_switch f t) E = r_switch_function (meaning val f E) (λ c. meaning val t (with_param E c))
-  meaning val (k_switch f e t) E = k_switch_function (meaning val f E) (meaning val e E) (λ c o. meaning val t (with_olds (with_param E c) (o ∷ [])))
-  meaning val (p_switch r fs e t) E = p_switch_function (val r E.params) (meanings val fs E) (meaning val e E) (λ c os. meaning val t (with_olds (with_param E c) os))
+  meaning val (switch f t) E =
+      switch_function (meaning val f E) (λ c. meaning val t (with_param E c))
+  meaning val (d_switch f t) E =
+      d_switch_function (meaning val f E) (λ c. meaning val t (with_param E c))
+  meaning val (r_switch f t) E =
+      r_switch_function (meaning val f E) (λ c. meaning val t (with_param E c))
+  meaning val (k_switch f e t) E =
+      k_switch_function (meaning val f E) (meaning val e E)
+      (λ c o. meaning val t (with_olds (with_param E c) (o ∷ [])))
+  meaning val (p_switch r fs e t) E =
+      p_switch_function (val r E.params) (meanings val fs E) (meaning val e E)
+      (λ c os. meaning val t (with_olds (with_param E c) os))
   meaning val (old k) E = old_at E.olds k
 
   -- what each member denotes
-  pub meanings : {L : Type 0} → (L → List Datum → Datum → Datum) → Networks L → Context → List SignalFunction
+  pub meanings : {L : Type 0} → (L → List Datum → Datum → Datum) → Networks L → Context
+      → List SignalFunction
   meanings val no_members E = []
   meanings val (and_member f fs) E = meaning val f E ∷ meanings val fs E

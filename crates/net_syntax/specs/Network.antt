@@ -82,7 +82,8 @@ abbrev mutual
   map_network h (d_switch f t) = d_switch (map_network h f) (map_network h t)
   map_network h (r_switch f t) = r_switch (map_network h f) (map_network h t)
   map_network h (k_switch f e t) = k_switch (map_network h f) (map_network h e) (map_network h t)
-  map_network h (p_switch r fs e t) = p_switch (h r) (map_networks h fs) (map_network h e) (map_network h t)
+  map_network h (p_switch r fs e t) =
+      p_switch (h r) (map_networks h fs) (map_network h e) (map_network h t)
   map_network h (old k) = old k
 
   -- the members with each leaf changed by h

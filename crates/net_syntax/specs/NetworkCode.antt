@@ -40,30 +40,44 @@ module _ {L : Type 0} (c : Coded L) where
     -- networks with one code are the same
     pub to_code_inj : (x y : Network L) → to_code x ≡ to_code y → x ≡ y
     to_code_inj (arr a) (arr b) e = ap arr (c.inj a b (ap part0 e))
-    to_code_inj (seq f g) (seq f' g') e = λ i. seq (to_code_inj f f' (ap part0 e) i) (to_code_inj g g' (ap part1 e) i)
+    to_code_inj (seq f g) (seq f' g') e = λ i.
+        seq (to_code_inj f f' (ap part0 e) i) (to_code_inj g g' (ap part1 e) i)
     to_code_inj (first f) (first f') e = ap first (to_code_inj f f' (ap part0 e))
     to_code_inj (par fs) (par fs') e = ap par (to_codes_inj fs fs' (ap part0 e))
-    to_code_inj (loop_pre a f) (loop_pre b f') e = λ i. loop_pre (c.inj a b (ap part0 e) i) (to_code_inj f f' (ap part1 e) i)
+    to_code_inj (loop_pre a f) (loop_pre b f') e = λ i.
+        loop_pre (c.inj a b (ap part0 e) i) (to_code_inj f f' (ap part1 e) i)
     to_code_inj (i_pre a) (i_pre b) e = ap i_pre (c.inj a b (ap part0 e))
-    to_code_inj (delay q a) (delay q' b) e = λ i. delay (num (part0 (e i))) (c.inj a b (ap part1 e) i)
+    to_code_inj (delay q a) (delay q' b) e = λ i.
+        delay (num (part0 (e i))) (c.inj a b (ap part1 e) i)
     to_code_inj (hold a) (hold b) e = ap hold (c.inj a b (ap part0 e))
-    to_code_inj (accum_by g z) (accum_by g' z') e = λ i. accum_by (c.inj g g' (ap part0 e) i) (c.inj z z' (ap part1 e) i)
-    to_code_inj (after q a) (after q' b) e = λ i. after (num (part0 (e i))) (c.inj a b (ap part1 e) i)
-    to_code_inj (repeatedly q a) (repeatedly q' b) e = λ i. repeatedly (num (part0 (e i))) (c.inj a b (ap part1 e) i)
+    to_code_inj (accum_by g z) (accum_by g' z') e = λ i.
+        accum_by (c.inj g g' (ap part0 e) i) (c.inj z z' (ap part1 e) i)
+    to_code_inj (after q a) (after q' b) e = λ i.
+        after (num (part0 (e i))) (c.inj a b (ap part1 e) i)
+    to_code_inj (repeatedly q a) (repeatedly q' b) e = λ i.
+        repeatedly (num (part0 (e i))) (c.inj a b (ap part1 e) i)
     to_code_inj time time e = refl
     to_code_inj integral integral e = refl
-    to_code_inj (switch f t) (switch f' t') e = λ i. switch (to_code_inj f f' (ap part0 e) i) (to_code_inj t t' (ap part1 e) i)
-    to_code_inj (d_switch f t) (d_switch f' t') e = λ i. d_switch (to_code_inj f f' (ap part0 e) i) (to_code_inj t t' (ap part1 e) i)
-    to_code_inj (r_switch f t) (r_switch f' t') e = λ i. r_switch (to_code_inj f f' (ap part0 e) i) (to_code_inj t t' (ap part1 e) i)
-    to_code_inj (k_switch f g t) (k_switch f' g' t') e = λ i. k_switch (to_code_inj f f' (ap part0 e) i) (to_code_inj g g' (ap part1 e) i) (to_code_inj t t' (ap part2 e) i)
-    to_code_inj (p_switch r fs g t) (p_switch r' fs' g' t') e = λ i. p_switch (c.inj r r' (ap part0 e) i) (to_codes_inj fs fs' (ap part1 e) i) (to_code_inj g g' (ap part2 e) i) (to_code_inj t t' (ap part3 e) i)
+    to_code_inj (switch f t) (switch f' t') e = λ i.
+        switch (to_code_inj f f' (ap part0 e) i) (to_code_inj t t' (ap part1 e) i)
+    to_code_inj (d_switch f t) (d_switch f' t') e = λ i.
+        d_switch (to_code_inj f f' (ap part0 e) i) (to_code_inj t t' (ap part1 e) i)
+    to_code_inj (r_switch f t) (r_switch f' t') e = λ i.
+        r_switch (to_code_inj f f' (ap part0 e) i) (to_code_inj t t' (ap part1 e) i)
+    to_code_inj (k_switch f g t) (k_switch f' g' t') e = λ i.
+        k_switch (to_code_inj f f' (ap part0 e) i) (to_code_inj g g' (ap part1 e) i)
+        (to_code_inj t t' (ap part2 e) i)
+    to_code_inj (p_switch r fs g t) (p_switch r' fs' g' t') e = λ i.
+        p_switch (c.inj r r' (ap part0 e) i) (to_codes_inj fs fs' (ap part1 e) i)
+        (to_code_inj g g' (ap part2 e) i) (to_code_inj t t' (ap part3 e) i)
     to_code_inj (old k) (old k') e = ap old (ap num (ap part0 e))
     to_code_inj _ _ e = absurd (omega (arith, ap tag_of e))
 
     -- members with one code are the same
     pub to_codes_inj : (x y : Networks L) → to_codes x ≡ to_codes y → x ≡ y
     to_codes_inj no_members no_members e = refl
-    to_codes_inj (and_member x fs) (and_member y gs) e = λ i. and_member (to_code_inj x y (ap head_of e) i) (to_codes_inj fs gs (ap rest_of e) i)
+    to_codes_inj (and_member x fs) (and_member y gs) e = λ i.
+        and_member (to_code_inj x y (ap head_of e) i) (to_codes_inj fs gs (ap rest_of e) i)
     to_codes_inj _ _ e = cc
 
   -- networks told apart by their codes

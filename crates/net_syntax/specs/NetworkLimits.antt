@@ -11,7 +11,8 @@ use Rattle.net_syntax.specs.Height.{height}
 use Rattle.net_syntax.specs.TypedNetwork.{TypedNetwork}
 
 -- the network is typed, its expressions are within their limits, and so is each type that arises
-abbrev pub NetTypedWithin : List TypeTree → List Arrow → Network Expression → TypeTree → TypeTree → Type 0
+abbrev pub NetTypedWithin : List TypeTree → List Arrow → Network Expression → TypeTree → TypeTree
+    → Type 0
 NetTypedWithin = Typed (λ e Ps A B. ExpressionTypedWithin e Ps A B) TypeFits
 
 -- a whole network, with nothing in scope, is typed within all limits

@@ -1,4 +1,5 @@
--- What stands at a position: child numbers lead from the root through networks, and into an expression.
+-- What stands at a position: child numbers lead from the root through networks, and into an
+-- expression.
 use Rattle.std.specs.Prelude.{ℕ, zero, suc, List, [], ◌∷◌, Option, Some, None, option_map}
 use Rattle.net_syntax.specs.Network.{Network, Networks, arr, seq, first, par, loop_pre, i_pre, delay, hold, accum_by, after, repeatedly, switch, d_switch, r_switch, k_switch, p_switch, no_members, and_member}
 
@@ -19,7 +20,8 @@ member no_members k = None
 member (and_member f fs) zero = Some f
 member (and_member f fs) (suc k) = member fs k
 
--- what stands at a number behind the route of a pSwitch: its members, then its event, then its continuation
+-- what stands at a number behind the route of a pSwitch: its members, then its event, then its
+-- continuation
 pub data PSwitchChild : Type 0 where
   member_child : PSwitchChild
   event_child : PSwitchChild
@@ -35,7 +37,8 @@ p_switch_child (and_member f fs) zero = member_child
 p_switch_child (and_member f fs) (suc k) = p_switch_child fs k
 
 -- the network that stands there
-abbrev pub child_network : {L : Type 0} → PSwitchChild → Networks L → Network L → Network L → ℕ → Option (Network L)
+abbrev pub child_network : {L : Type 0} → PSwitchChild → Networks L → Network L → Network L → ℕ
+    → Option (Network L)
 child_network member_child fs e n k = member fs k
 child_network event_child fs e n k = Some e
 child_network continuation_child fs e n k = Some n
@@ -67,7 +70,8 @@ child (k_switch f e n) zero = Some (a_network f)
 child (k_switch f e n) (suc zero) = Some (a_network e)
 child (k_switch f e n) (suc (suc zero)) = Some (a_network n)
 child (p_switch r fs e n) zero = Some (a_leaf r)
-child (p_switch r fs e n) (suc k) = option_map a_network (child_network (p_switch_child fs k) fs e n k)
+child (p_switch r fs e n) (suc k) =
+    option_map a_network (child_network (p_switch_child fs k) fs e n k)
 child _ _ = None
 
 -- the network, or the whole expression with what is left of the position inside it

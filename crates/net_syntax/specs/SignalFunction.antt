@@ -80,7 +80,8 @@ before_last (x ∷ y ∷ ys) = x ∷ before_last (y ∷ ys)
 abbrev pub i_pre_value : Datum → TimedList → Datum
 i_pre_value c p = last_or c (values (before_last p))
 
--- of samples with these times and values, the value of the latest that lies at least q before now, else c
+-- of samples with these times and values, the value of the latest that lies at least q before now,
+-- else c
 abbrev pub latest_by : ℕ → ℕ → Datum → List ℕ → List Datum → Datum
 latest_by q now c (t ∷ ts) (v ∷ vs) = latest_by q now (if nat_le (t + q) now then v else c) ts vs
 latest_by q now c _ _ = c
@@ -122,7 +123,9 @@ first_sample _ = false
 
 -- `after`: an event of c at the first sample whose time is q or more
 abbrev pub after_value : ℕ → Datum → TimedList → Datum
-after_value q c p = when (nat_le q (time_at p) && (if first_sample p then true else nat_lt (time_at (before_last p)) q)) c
+after_value q c p =
+    when (nat_le q (time_at p)
+    && (if first_sample p then true else nat_lt (time_at (before_last p)) q)) c
 
 -- `repeatedly`: an event of c where a multiple of q was reached since the sample before
 abbrev pub repeatedly_value : ℕ → Datum → TimedList → Datum
@@ -179,7 +182,8 @@ par_function fs xs = gather xs (all_of fs xs)
 -- `loopPre`: what is fed back at the first n samples
 abbrev pub feedback_values : Datum → SignalFunction → TimedList → ℕ → List Datum
 feedback_values c f xs zero = []
-feedback_values c f xs (suc n) = c ∷ map right (f (pair_samples (take n xs) (feedback_values c f xs n)))
+feedback_values c f xs (suc n) = c
+    ∷ map right (f (pair_samples (take n xs) (feedback_values c f xs n)))
 
 -- f gets the pairs of the input and what is fed back; its left parts are output
 abbrev pub loop_pre_function : Datum → SignalFunction → SignalFunction
@@ -206,9 +210,12 @@ abbrev pub step_of : TimedList → ℕ
 step_of [] = 0
 step_of (x ∷ xs) = x.0
 
--- f up to the first event of e. From that sample on what takes over for the event's value, the samples before it and its step
-abbrev pub switch_at : SignalFunction → SignalFunction → (Datum → TimedList → ℕ → SignalFunction) → SignalFunction
-switch_at f e t xs = cut_at (first_event (e xs)) (f xs) (λ n c. take n (f xs) ++ t c (take n xs) (step_of (drop n xs)) (drop n xs))
+-- f up to the first event of e. From that sample on what takes over for the event's value, the
+-- samples before it and its step
+abbrev pub switch_at : SignalFunction → SignalFunction → (Datum → TimedList → ℕ → SignalFunction)
+    → SignalFunction
+switch_at f e t xs = cut_at (first_event (e xs)) (f xs)
+    (λ n c. take n (f xs) ++ t c (take n xs) (step_of (drop n xs)) (drop n xs))
 
 -- the left parts of f's outputs
 abbrev pub lefts : SignalFunction → SignalFunction
@@ -222,11 +229,14 @@ rights f xs = map right (f xs)
 abbrev pub switch_function : SignalFunction → (Datum → SignalFunction) → SignalFunction
 switch_function f t = switch_at (lefts f) (rights f) (λ c p d. t c)
 
--- `dSwitch`: at the event's sample still f's left part; the continuation starts there, and its first output is dropped
+-- `dSwitch`: at the event's sample still f's left part; the continuation starts there, and its
+-- first output is dropped
 abbrev pub d_switch_function : SignalFunction → (Datum → SignalFunction) → SignalFunction
-d_switch_function f t xs = cut_at (first_event (rights f xs)) (lefts f xs) (λ n c. take (suc n) (lefts f xs) ++ drop 1 (t c (drop n xs)))
+d_switch_function f t xs = cut_at (first_event (rights f xs)) (lefts f xs)
+    (λ n c. take (suc n) (lefts f xs) ++ drop 1 (t c (drop n xs)))
 
--- the samples before the first with an event, and for each event its value and the samples from it to the next
+-- the samples before the first with an event, and for each event its value and the samples from it
+-- to the next
 abbrev pub Pieces : Type 0
 Pieces = TimedList × List (Datum × TimedList)
 
@@ -254,7 +264,8 @@ abbrev pub watch : SignalFunction → SignalFunction → SignalFunction
 watch f e xs = e (pair_samples xs (f xs))
 
 -- `kSwitch`: from e's first event on the continuation, with f frozen before that sample
-abbrev pub k_switch_function : SignalFunction → SignalFunction → (Datum → SignalFunction → SignalFunction) → SignalFunction
+abbrev pub k_switch_function : SignalFunction → SignalFunction
+    → (Datum → SignalFunction → SignalFunction) → SignalFunction
 k_switch_function f e t = switch_at f (watch f e) (λ c p d. t c (resume f p d))
 
 -- what member i gets: each value as r changes it at i
@@ -267,7 +278,8 @@ route_each r i [] = []
 route_each r i (f ∷ fs) = (λ xs. f (route r i xs)) ∷ route_each r (suc i) fs
 
 -- the members from number i on, each frozen after what it got
-abbrev pub freeze_all : (Datum → Datum) → ℕ → List SignalFunction → TimedList → ℕ → List SignalFunction
+abbrev pub freeze_all : (Datum → Datum) → ℕ → List SignalFunction → TimedList → ℕ
+    → List SignalFunction
 freeze_all r i [] p d = []
 freeze_all r i (f ∷ fs) p d = resume f (route r i p) d ∷ freeze_all r (suc i) fs p d
 
@@ -276,8 +288,10 @@ abbrev pub collect : (Datum → Datum) → List SignalFunction → SignalFunctio
 collect r fs = par_function (route_each r 0 fs)
 
 -- `pSwitch`: from e's first event on the continuation, with all members frozen before that sample
-abbrev pub p_switch_function : (Datum → Datum) → List SignalFunction → SignalFunction → (Datum → List SignalFunction → SignalFunction) → SignalFunction
-p_switch_function r fs e t = switch_at (collect r fs) (watch (collect r fs) e) (λ c p d. t c (freeze_all r 0 fs p d))
+abbrev pub p_switch_function : (Datum → Datum) → List SignalFunction → SignalFunction
+    → (Datum → List SignalFunction → SignalFunction) → SignalFunction
+p_switch_function r fs e t =
+    switch_at (collect r fs) (watch (collect r fs) e) (λ c p d. t c (freeze_all r 0 fs p d))
 
 -- as many outputs as samples, no look ahead, and the first step not seen
 pub record IsSignalFunction (f : SignalFunction) : Type 0 where

@@ -1,4 +1,5 @@
--- What the switches output, said with environments: what takes over runs in the environment with the event's value, and with what was frozen.
+-- What the switches output, said with environments: what takes over runs in the environment with
+-- the event's value, and with what was frozen.
 use Rattle.std.specs.Prelude.{◌≡◌, ℕ, suc, ◌<◌, List, ◌++◌, length, take, drop, map, flat_map}
 use Rattle.sample_core.specs.Datum.{Datum, left, right}
 use Rattle.leaf_core.specs.Expression.{Expression}
@@ -17,52 +18,69 @@ olds_in E = length (context_of value_of E).olds
 abbrev pub route_in : Environment Expression → Expression → Datum → Datum
 route_in E r = value_of r (context_of value_of E).params
 
--- F with all members frozen in order, from member i on: each in E, with its routed past and the step d
-abbrev pub freeze_members : Environment Expression → Expression → ℕ → Networks Expression → TimedList → ℕ → Environment Expression → Environment Expression
+-- F with all members frozen in order, from member i on: each in E, with its routed past and the
+-- step d
+abbrev pub freeze_members : Environment Expression → Expression → ℕ → Networks Expression
+    → TimedList → ℕ → Environment Expression → Environment Expression
 freeze_members E r i no_members p d F = F
-freeze_members E r i (and_member f fs) p d F = freeze_members E r (suc i) fs p d (frozen F f E (route (route_in E r) i p) d)
+freeze_members E r i (and_member f fs) p d F =
+    freeze_members E r (suc i) fs p d (frozen F f E (route (route_in E r) i p) d)
 
 -- `switch`: the first event of f's second components is where t takes over
 abbrev pub SwitchLaw : Type 0
 SwitchLaw = (f t : Network Expression) (E : Environment Expression) (xs : TimedList)
     → outputs_of (switch f t) E xs
-    ≡ cut_at (first_event (map right (outputs_of f E xs))) (map left (outputs_of f E xs)) (λ n c. take n (map left (outputs_of f E xs)) ++ outputs_of t (param E c) (drop n xs))
+    ≡ cut_at (first_event (map right (outputs_of f E xs))) (map left (outputs_of f E xs))
+    (λ n c. take n (map left (outputs_of f E xs)) ++ outputs_of t (param E c) (drop n xs))
 
 -- `dSwitch`: at that sample the output is still f's
 abbrev pub SwitchLateLaw : Type 0
 SwitchLateLaw = (f t : Network Expression) (E : Environment Expression) (xs : TimedList)
     → outputs_of (d_switch f t) E xs
-    ≡ cut_at (first_event (map right (outputs_of f E xs))) (map left (outputs_of f E xs)) (λ n c. take (suc n) (map left (outputs_of f E xs)) ++ drop 1 (outputs_of t (param E c) (drop n xs)))
+    ≡ cut_at (first_event (map right (outputs_of f E xs))) (map left (outputs_of f E xs))
+    (λ n c. take (suc n) (map left (outputs_of f E xs))
+    ++ drop 1 (outputs_of t (param E c) (drop n xs)))
 
 -- `rSwitch`: f on the samples before the first event, t anew from each event on
 abbrev pub RestartLaw : Type 0
 RestartLaw = (f t : Network Expression) (E : Environment Expression) (xs : TimedList)
-    → outputs_of (r_switch f t) E xs ≡ outputs_of f E (pieces xs).0 ++ flat_map (λ piece. outputs_of t (param E piece.0) piece.1) (pieces xs).1
+    → outputs_of (r_switch f t) E xs ≡ outputs_of f E (pieces xs).0
+    ++ flat_map (λ piece. outputs_of t (param E piece.0) piece.1) (pieces xs).1
 
--- `kSwitch`: t takes over with f frozen as it was before the event's sample, and with that sample's step
+-- `kSwitch`: t takes over with f frozen as it was before the event's sample, and with that sample's
+-- step
 abbrev pub FreezeLaw : Type 0
 FreezeLaw = (f e t : Network Expression) (E : Environment Expression) (xs : TimedList)
     → outputs_of (k_switch f e t) E xs
-    ≡ cut_at (first_event (outputs_of e E (pair_samples xs (outputs_of f E xs)))) (outputs_of f E xs)
-    (λ n c. take n (outputs_of f E xs) ++ outputs_of t (frozen (param E c) f E (take n xs) (step_of (drop n xs))) (drop n xs))
+    ≡ cut_at (first_event (outputs_of e E (pair_samples xs (outputs_of f E xs))))
+    (outputs_of f E xs)
+    (λ n c. take n (outputs_of f E xs)
+    ++ outputs_of t (frozen (param E c) f E (take n xs) (step_of (drop n xs))) (drop n xs))
 
 -- the list of the members' outputs at each sample, each member on what r gives it
-abbrev pub members_in : Environment Expression → Expression → Networks Expression → TimedList → List Datum
+abbrev pub members_in : Environment Expression → Expression → Networks Expression → TimedList
+    → List Datum
 members_in E r fs xs = collect (route_in E r) (meanings value_of fs (context_of value_of E)) xs
 
 -- `pSwitch`: t takes over with all members so frozen, in order
 abbrev pub FreezeMembersLaw : Type 0
-FreezeMembersLaw = (r : Expression) (fs : Networks Expression) (e t : Network Expression) (E : Environment Expression) (xs : TimedList)
+FreezeMembersLaw = (r : Expression) (fs : Networks Expression) (e t : Network Expression)
+    (E : Environment Expression) (xs : TimedList)
     → outputs_of (p_switch r fs e t) E xs
-    ≡ cut_at (first_event (outputs_of e E (pair_samples xs (members_in E r fs xs)))) (members_in E r fs xs)
-    (λ n c. take n (members_in E r fs xs) ++ outputs_of t (freeze_members E r 0 fs (take n xs) (step_of (drop n xs)) (param E c)) (drop n xs))
+    ≡ cut_at (first_event (outputs_of e E (pair_samples xs (members_in E r fs xs))))
+    (members_in E r fs xs)
+    (λ n c. take n (members_in E r fs xs)
+    ++ outputs_of t (freeze_members E r 0 fs (take n xs) (step_of (drop n xs)) (param E c))
+    (drop n xs))
 
 -- `old`: the network frozen last is resumed
 abbrev pub ResumeLaw : Type 0
-ResumeLaw = (E : Environment Expression) (net : Network Expression) (F : Environment Expression) (p : TimedList) (d : ℕ) (xs : TimedList)
+ResumeLaw = (E : Environment Expression) (net : Network Expression) (F : Environment Expression)
+    (p : TimedList) (d : ℕ) (xs : TimedList)
     → outputs_of (old (olds_in E)) (frozen E net F p d) xs ≡ resume (outputs_of net F) p d xs
 
 -- those frozen before it keep their numbers
 abbrev pub KeptNumbersLaw : Type 0
-KeptNumbersLaw = (E : Environment Expression) (net : Network Expression) (F : Environment Expression) (p : TimedList) (d k : ℕ) (xs : TimedList)
+KeptNumbersLaw = (E : Environment Expression) (net : Network Expression)
+    (F : Environment Expression) (p : TimedList) (d k : ℕ) (xs : TimedList)
     → k < olds_in E → outputs_of (old k) (frozen E net F p d) xs ≡ outputs_of (old k) E xs

@@ -18,7 +18,8 @@ outputs_of net E xs = outputs value_of net E xs
 abbrev pub stream_of : Network Expression → TimedList → List Datum
 stream_of net xs = outputs_of net closed xs
 
--- under parameters and frozen networks of these types, the network has this input type and this output type
+-- under parameters and frozen networks of these types, the network has this input type and this
+-- output type
 abbrev pub NetTyped : List TypeTree → List Arrow → Network Expression → TypeTree → TypeTree → Type 0
 NetTyped = Typed ExpressionTyped AnyType
 

@@ -12,6 +12,15 @@ use Rattle.net_syntax.specs.TypedNetwork.{TypedNetwork}
 -- networks with their types, told apart by their codes
 abbrev pub typed_network_code : Coded TypedNetwork
 typed_network_code =
-    code_by (TypeTree × (TypeTree × (Network Expression × (ℕ × ℕ)))) (coded× type_code (coded× type_code (coded× (network_code expression_code) (coded× coded_ℕ coded_ℕ))))
+    code_by (TypeTree × (TypeTree × (Network Expression × (ℕ × ℕ))))
+    (coded× type_code
+    (coded× type_code (coded× (network_code expression_code) (coded× coded_ℕ coded_ℕ))))
     (λ t. (t.input, (t.output, (t.net, (t.weight, t.height)))))
-    (λ p. record { input = p.0; output = p.1.0; net = p.1.1.0; weight = p.1.1.1.0; height = p.1.1.1.1 }) (λ _. refl)
+    (λ p. record {
+      input = p.0;
+      output = p.1.0;
+      net = p.1.1.0;
+      weight = p.1.1.1.0;
+      height =
+          p.1.1.1.1;
+    }) (λ _. refl)

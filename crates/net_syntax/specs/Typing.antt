@@ -17,7 +17,8 @@ arrow A B = record { input = A; output = B }
 -- frozen network k has this input and this output
 pub data OldAt : List Arrow → ℕ → Arrow → Type 0 where
   old_here : {o : Arrow} {Os : List Arrow} → OldAt (o ∷ Os) zero o
-  old_after : {o : Arrow} {Os : List Arrow} {k : ℕ} {q : Arrow} → OldAt Os k q → OldAt (o ∷ Os) (suc k) q
+  old_after : {o : Arrow} {Os : List Arrow} {k : ℕ} {q : Arrow} → OldAt Os k q
+      → OldAt (o ∷ Os) (suc k) q
 
 -- n frozen networks of one input and output
 abbrev pub copies : ℕ → Arrow → List Arrow
@@ -38,7 +39,8 @@ abbrev pub AnyType : TypeTree → Type 0
 AnyType A = Unit {0}
 
 mutual
-  -- under parameters and frozen networks of these types, the network has these types, and each type that a node makes meets M; one constructor a form
+  -- under parameters and frozen networks of these types, the network has these types, and each type
+  -- that a node makes meets M; one constructor a form
   pub data Typed {L : Type 0} (T : LeafTyping L) (M : TypeTree → Type 0)
       : List TypeTree → List Arrow → Network L → TypeTree → TypeTree → Type 0 where
     arr_typed : {Ps : List TypeTree} {Os : List Arrow} {e : L} {A B : TypeTree}
@@ -108,9 +110,11 @@ mutual
 -- each value has the type
 pub data TypedValues (A : TypeTree) : List Datum → Type 0 where
   no_value : TypedValues A []
-  and_value : {v : Datum} {vs : List Datum} → HasType v A → TypedValues A vs → TypedValues A (v ∷ vs)
+  and_value : {v : Datum} {vs : List Datum} → HasType v A → TypedValues A vs
+      → TypedValues A (v ∷ vs)
 
 -- each sample's value has the type
 pub data TypedSamples (A : TypeTree) : List (ℕ × Datum) → Type 0 where
   no_sample : TypedSamples A []
-  and_sample : {x : ℕ × Datum} {xs : List (ℕ × Datum)} → HasType x.1 A → TypedSamples A xs → TypedSamples A (x ∷ xs)
+  and_sample : {x : ℕ × Datum} {xs : List (ℕ × Datum)} → HasType x.1 A → TypedSamples A xs
+      → TypedSamples A (x ∷ xs)

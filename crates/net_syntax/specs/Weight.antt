@@ -14,7 +14,8 @@ total [] = 0
 total (n ∷ ns) = n + total ns
 
 abbrev mutual
-  -- how many nodes a network has; a resumed one has those of the frozen one too, whose weight is in ws
+  -- how many nodes a network has; a resumed one has those of the frozen one too, whose weight is in
+  -- ws
   pub weight : {L : Type 0} → Network L → List ℕ → ℕ
   weight (seq f g) ws = suc (weight f ws + weight g ws)
   weight (first f) ws = suc (weight f ws)
@@ -24,7 +25,8 @@ abbrev mutual
   weight (d_switch f t) ws = suc (weight f ws + weight t ws)
   weight (r_switch f t) ws = suc (weight f ws + weight t ws)
   weight (k_switch f e t) ws = suc (weight f ws + weight e ws + weight t (ws ++ weight f ws ∷ []))
-  weight (p_switch r fs e t) ws = suc (total (weights fs ws) + weight e ws + weight t (ws ++ weights fs ws))
+  weight (p_switch r fs e t) ws =
+      suc (total (weights fs ws) + weight e ws + weight t (ws ++ weights fs ws))
   weight (old k) ws = suc (weight_at ws k)
   weight (arr e) ws = 1
   weight (i_pre c) ws = 1

@@ -36,7 +36,8 @@ pub fn height(_alloc: Global, net: &Net<Expr>) -> Result<u32, Memory>
 /// How much of `most` is left after the network's weight; `None` where it weighs more.
 /// It stops at the first node too many.
 fn weight_left(net: &Net<Expr>, most: u32) -> Option<u32>
-    ensures { MatchOption result (most < weight_of (tree_of net.now) []) (λ left. weight_of (tree_of net.now) [] + left ≡ most) }
+    ensures { MatchOption result (most < weight_of (tree_of net.now) [])
+        (λ left. weight_of (tree_of net.now) [] + left ≡ most) }
 {
     let rest = most.checked_sub(1)?;
     match net {

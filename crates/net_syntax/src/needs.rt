@@ -42,7 +42,8 @@ fn add_leaves(
     requires { IsTyped (map type_of scope.now) (tree_of net.now) (type_of input.now) }
     ensures path { OnOk result (path.new.items ≡ path.old.items) }
     ensures added { IfOk result
-        (λ t. AddsLeaves (map type_of scope.now) path.old.items (tree_of net.now) (type_of input.now)
+        (λ t. AddsLeaves (map type_of scope.now) path.old.items (tree_of net.now)
+        (type_of input.now)
         (type_of t) (map need_of needs.old.items) (map need_of needs.new.items)) }
 {
     match net {
@@ -206,9 +207,11 @@ fn first_need(
 
 /// The type of an expression that has one within the limits.
 fn checked_type(alloc: Global, expr: &Expr, scope: &[Ty], input: &Ty) -> Result<Ty, Memory>
-    requires { ExpressionIsTyped (map type_of scope.now) (expression_of expr.now) (type_of input.now) }
+    requires { ExpressionIsTyped (map type_of scope.now) (expression_of expr.now)
+        (type_of input.now) }
     ensures { IfOk result
-        (λ t. type_answer (map type_of scope.now) (type_of input.now) (expression_of expr.now) ≡ Ok (type_of t)) }
+        (λ t. type_answer (map type_of scope.now) (type_of input.now) (expression_of expr.now)
+        ≡ Ok (type_of t)) }
 {
     match type_of_expr(alloc, scope, input, expr) {
         Ok(output) => Ok(output),
@@ -223,7 +226,13 @@ fn checked_type(alloc: Global, expr: &Expr, scope: &[Ty], input: &Ty) -> Result<
 /// types.
 fn key_under(alloc: Global, expr: &Expr, scope: &[Ty], input: &Ty) -> Result<LeafKey, Memory>
     ensures { IfOk result
-        (λ k. k ≡ record { expr = expression_of expr.now; params = map type_of scope.now; input = type_of input.now }) }
+        (λ k. k
+        ≡ record {
+          expr = expression_of expr.now;
+          params = map type_of scope.now;
+          input =
+              type_of input.now;
+        }) }
 {
     let params = try_copy_types(alloc, scope)?;
     let input = input.try_copy(alloc)?;

@@ -43,8 +43,24 @@ impl TypedNet {
     /// The network with its types, its weight and its height. It must have these, all within the
     /// limits.
     pub fn new(input: Ty, output: Ty, net: Net<Expr>, weight: u32, height: u32) -> TypedNet
-        requires { WithinLimits (record { input = type_of input; output = type_of output; net = tree_of net; weight = weight; height = height }) }
-        ensures { result ≡ record { input = type_of input; output = type_of output; net = tree_of net; weight = weight; height = height } }
+        requires { WithinLimits
+            (record {
+              input = type_of input;
+              output = type_of output;
+              net = tree_of net;
+              weight =
+                  weight;
+              height = height;
+            }) }
+        ensures { result
+            ≡ record {
+              input = type_of input;
+              output = type_of output;
+              net = tree_of net;
+              weight =
+                  weight;
+              height = height;
+            } }
     {
         TypedNet {
             input,

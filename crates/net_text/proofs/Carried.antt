@@ -28,26 +28,34 @@ module _ (size : ℕ) where
   head_same room ((n, closing) ∷ ts) = refl
   head_same room ((n, word w) ∷ ts) = refl
 
-  all_same : {T R : Type 0} (g h : List PlacedToken → Read T) → ((ts : List PlacedToken) → g ts ≡ h ts) → (n : ℕ) (make : List T → R) (ts : List PlacedToken) → read_all networks size g n make ts ≡ read_all leaf size h n make ts
+  all_same : {T R : Type 0} (g h : List PlacedToken → Read T) → ((ts : List PlacedToken) → g ts ≡ h ts) → (n : ℕ) (make : List T → R) (ts : List PlacedToken)
+      → read_all networks size g n make ts ≡ read_all leaf size h n make ts
   all_same g h same zero make ts = refl
   all_same g h same (suc n) make [] = refl
   all_same g h same (suc n) make ((m, closing) ∷ ts) = refl
-  all_same g h same (suc n) make ((m, opening) ∷ ts) = ap (λ r. r >>= (λ x. read_all networks size g n (λ xs. make (x.0 ∷ xs)) x.2)) (same ((m, opening) ∷ ts)) ∙ bind_same (h ((m, opening) ∷ ts)) _ _ (λ x. all_same g h same n (λ xs. make (x.0 ∷ xs)) x.2)
-  all_same g h same (suc n) make ((m, word w) ∷ ts) = ap (λ r. r >>= (λ x. read_all networks size g n (λ xs. make (x.0 ∷ xs)) x.2)) (same ((m, word w) ∷ ts)) ∙ bind_same (h ((m, word w) ∷ ts)) _ _ (λ x. all_same g h same n (λ xs. make (x.0 ∷ xs)) x.2)
+  all_same g h same (suc n) make ((m, opening) ∷ ts) = ap (λ r. r >>= (λ x. read_all networks size g n (λ xs. make (x.0 ∷ xs)) x.2)) (same ((m, opening) ∷ ts))
+      ∙ bind_same (h ((m, opening) ∷ ts)) _ _ (λ x. all_same g h same n (λ xs. make (x.0 ∷ xs)) x.2)
+  all_same g h same (suc n) make ((m, word w) ∷ ts) = ap (λ r. r >>= (λ x. read_all networks size g n (λ xs. make (x.0 ∷ xs)) x.2)) (same ((m, word w) ∷ ts))
+      ∙ bind_same (h ((m, word w) ∷ ts)) _ _ (λ x. all_same g h same n (λ xs. make (x.0 ∷ xs)) x.2)
 
-  module _ (g : (s : NetSort) → List PlacedToken → Read (NetTree s)) (h : (s : Sort) → List PlacedToken → Read (Tree s)) (same : (s : Sort) (ts : List PlacedToken) → g (leaf_sort s) ts ≡ h s ts) (room : ℕ) where
-    parts_same : (R : Type 0) (qs : Places Sort) (make : Maker Tree qs R) (ts : List PlacedToken) → read_parts networks size g room (leaf_places qs) (leaf_maker R qs make) ts ≡ read_parts leaf size h room qs make ts
+  module _ (g : (s : NetSort) → List PlacedToken → Read (NetTree s)) (h : (s : Sort) → List PlacedToken
+      → Read (Tree s)) (same : (s : Sort) (ts : List PlacedToken) → g (leaf_sort s) ts ≡ h s ts) (room : ℕ) where
+    parts_same : (R : Type 0) (qs : Places Sort) (make : Maker Tree qs R) (ts : List PlacedToken)
+        → read_parts networks size g room (leaf_places qs) (leaf_maker R qs make) ts ≡ read_parts leaf size h room qs make ts
     parts_same R no_place x ts = ap (λ r. r >>= (λ y. Ok (x, y.0, y.1))) (end_same room ts)
-    parts_same R (place s qs) make ts = ap (λ r. r >>= (λ x. read_parts networks size g room (leaf_places qs) (leaf_maker R qs (make x.0)) x.2)) (same s ts) ∙ bind_same (h s ts) _ _ (λ x. parts_same R qs (make x.0) x.2)
+    parts_same R (place s qs) make ts = ap (λ r. r >>= (λ x. read_parts networks size g room (leaf_places qs) (leaf_maker R qs (make x.0)) x.2)) (same s ts)
+        ∙ bind_same (h s ts) _ _ (λ x. parts_same R qs (make x.0) x.2)
     parts_same R (places s) make ts = all_same (g (leaf_sort s)) (h s) (same s) (length ts) make ts
 
-    row_same : {R : Type 0} (n : ℕ) (o : Option (Row Sort Tree R)) (ts : List PlacedToken) → read_row networks size g room n (option_map leaf_row o) ts ≡ read_row leaf size h room n o ts
+    row_same : {R : Type 0} (n : ℕ) (o : Option (Row Sort Tree R)) (ts : List PlacedToken)
+        → read_row networks size g room n (option_map leaf_row o) ts ≡ read_row leaf size h room n o ts
     row_same n None ts = refl
     row_same {R = R} n (Some r) ts = parts_same R r.takes r.makes ts
 
     form_same : (s : Sort) (ts : List PlacedToken) → read_form networks size g room (leaf_sort s) ts ≡ read_form leaf size h room s ts
     unfolding net_row_at
-    form_same s ts = ap (λ r. r >>= (λ k. read_row networks size g room k.0 (net_row_at (leaf_sort s) k.1) k.2)) (head_same room ts) ∙ bind_same (read_head leaf size room ts) _ _ (λ k. row_same k.0 (row_at s k.1) k.2)
+    form_same s ts = ap (λ r. r >>= (λ k. read_row networks size g room k.0 (net_row_at (leaf_sort s) k.1) k.2)) (head_same room ts)
+        ∙ bind_same (read_head leaf size room ts) _ _ (λ k. row_same k.0 (row_at s k.1) k.2)
 
   pub read_same : (room : ℕ) (s : Sort) (ts : List PlacedToken) → read networks size room (leaf_sort s) ts ≡ read leaf size room s ts
   unfolding net_word_at
@@ -55,9 +63,14 @@ module _ (size : ℕ) where
   read_same room s ((n, word w) ∷ ts) = refl
   read_same room s ((n, closing) ∷ ts) = refl
   read_same zero s ((n, opening) ∷ ts) = refl
-  read_same (suc room) s ((n, opening) ∷ ts) = ap (λ r. if has_form s then r else Err (E.Syntax n)) (form_same (read networks size room) (read leaf size room) (read_same room) room s ts)
+  read_same (suc room) s ((n, opening) ∷ ts) = ap (λ r. if has_form s then r else Err (E.Syntax n))
+      (form_same (read networks size room) (read leaf size room) (read_same room) room s ts)
 
-with_row : (s : Sort) (o : Option (Row Sort Tree (Tree s))) (ps : Sexprs) → ((qs : Places Sort) (make : Maker Tree qs (Tree s)) → make_tree networks (leaf_sort s) (leaf_places qs) (leaf_maker (Tree s) qs make) ps ≡ make_tree leaf s qs make ps) → option_and_then (λ r. make_tree networks (leaf_sort s) r.takes r.makes ps) (option_map leaf_row o) ≡ option_and_then (λ r. make_tree leaf s r.takes r.makes ps) o
+with_row : (s : Sort) (o : Option (Row Sort Tree (Tree s))) (ps : Sexprs)
+    → ((qs : Places Sort) (make : Maker Tree qs (Tree s))
+    → make_tree networks (leaf_sort s) (leaf_places qs) (leaf_maker (Tree s) qs make) ps ≡ make_tree leaf s qs make ps)
+    → option_and_then (λ r. make_tree networks (leaf_sort s) r.takes r.makes ps) (option_map leaf_row o)
+    ≡ option_and_then (λ r. make_tree leaf s r.takes r.makes ps) o
 with_row s None ps same = refl
 with_row s (Some r) ps same = same r.takes r.makes
 
@@ -72,10 +85,13 @@ mutual
   meaning_same s (atom w) = refl
   meaning_same s (form w ps) = with_row s (row_at s w) ps (λ qs make. made_same s qs make ps)
 
-  pub made_same : (s : Sort) (qs : Places Sort) (make : Maker Tree qs (Tree s)) (ps : Sexprs) → make_tree networks (leaf_sort s) (leaf_places qs) (leaf_maker (Tree s) qs make) ps ≡ make_tree leaf s qs make ps
+  pub made_same : (s : Sort) (qs : Places Sort) (make : Maker Tree qs (Tree s)) (ps : Sexprs)
+      → make_tree networks (leaf_sort s) (leaf_places qs) (leaf_maker (Tree s) qs make) ps ≡ make_tree leaf s qs make ps
   made_same s no_place r last = refl
   made_same s no_place r (more p ps) = refl
   made_same s (place q qs) make last = refl
-  made_same s (place q qs) make (more p ps) = ap (option_and_then (λ x. make_tree networks (leaf_sort s) (leaf_places qs) (leaf_maker (Tree s) qs (make x)) ps)) (meaning_same q p) ∙ then_same (meaning leaf q p) _ _ (λ x. made_same s qs (make x) ps)
+  made_same s (place q qs) make (more p ps) = ap (option_and_then (λ x. make_tree networks (leaf_sort s) (leaf_places qs) (leaf_maker (Tree s) qs (make x)) ps))
+      (meaning_same q p) ∙ then_same (meaning leaf q p) _ _ (λ x. made_same s qs (make x) ps)
   made_same s (places q) make last = refl
-  made_same s (places q) make (more p ps) = ap (option_and_then (λ x. make_tree networks (leaf_sort s) (places (leaf_sort q)) (λ xs. make (x ∷ xs)) ps)) (meaning_same q p) ∙ then_same (meaning leaf q p) _ _ (λ x. made_same s (places q) (λ xs. make (x ∷ xs)) ps)
+  made_same s (places q) make (more p ps) = ap (option_and_then (λ x. make_tree networks (leaf_sort s) (places (leaf_sort q)) (λ xs. make (x ∷ xs)) ps))
+      (meaning_same q p) ∙ then_same (meaning leaf q p) _ _ (λ x. made_same s (places q) (λ xs. make (x ∷ xs)) ps)

@@ -100,8 +100,11 @@ word_found u ((n, word w) ∷ ts) us e = go (bytes_eq w u) refl e
 
 header_found : (ts us : List PlacedToken) → behind_header ts ≡ Some us → (a : ℕ) × (b : ℕ) × (c : ℕ) × (ts ≡ header_tokens a b c us)
 header_found ts us e =
-    let i : (vs : List PlacedToken) × (option_and_then (behind_word (codes "1")) (behind_word (codes "yampa") ts) ≡ Some vs) × (behind_word (codes "input") vs ≡ Some us) = some_bind (option_and_then (behind_word (codes "1")) (behind_word (codes "yampa") ts)) (behind_word (codes "input")) us e in
-    let j : (ws : List PlacedToken) × (behind_word (codes "yampa") ts ≡ Some ws) × (behind_word (codes "1") ws ≡ Some i.0) = some_bind (behind_word (codes "yampa") ts) (behind_word (codes "1")) i.0 i.1 in
+    let i : (vs : List PlacedToken) × (option_and_then (behind_word (codes "1")) (behind_word (codes "yampa") ts) ≡ Some vs)
+    × (behind_word (codes "input") vs ≡ Some us) =
+    some_bind (option_and_then (behind_word (codes "1")) (behind_word (codes "yampa") ts)) (behind_word (codes "input")) us e in
+    let j : (ws : List PlacedToken) × (behind_word (codes "yampa") ts ≡ Some ws)
+    × (behind_word (codes "1") ws ≡ Some i.0) = some_bind (behind_word (codes "yampa") ts) (behind_word (codes "1")) i.0 i.1 in
     let p : (a : ℕ) × (ts ≡ (a, word (codes "yampa")) ∷ j.0) = word_found (codes "yampa") ts j.0 j.1 in
     let q : (b : ℕ) × (j.0 ≡ (b, word (codes "1")) ∷ i.0) = word_found (codes "1") j.0 i.0 j.2 in
     let r : (c : ℕ) × (i.0 ≡ (c, word (codes "input")) ∷ us) = word_found (codes "input") i.0 us i.2 in
@@ -115,21 +118,38 @@ module _ (bs : List ℕ) where
   file_read A f h =
       let b : Begins leaf 600 type_sort A h.behind h.type_end h.network = h.input in
       let c : Begins networks 600 network_sort f h.network h.network_end [] = h.body in
-      let p : read leaf (length bs) 600 type_sort h.behind ≡ Ok (A, h.type_end, h.network) = only leaf leaf_proper (length bs) 600 type_sort b.part h.behind h.type_end h.network A b.spells b.means b.within in
-      let q : read networks (length bs) 600 network_sort h.network ≡ Ok (f, h.network_end, []) = only networks networks_proper (length bs) 600 network_sort c.part h.network h.network_end [] f c.spells c.means c.within in
+      let p : read leaf (length bs) 600 type_sort h.behind ≡ Ok (A, h.type_end, h.network) =
+      only leaf leaf_proper (length bs) 600 type_sort b.part h.behind h.type_end h.network A b.spells b.means b.within in
+      let q : read networks (length bs) 600 network_sort h.network ≡ Ok (f, h.network_end, []) =
+      only networks networks_proper (length bs) 600 network_sort c.part h.network h.network_end [] f c.spells c.means c.within in
       ap (λ l. if l then Err V.TooLong else read_behind (length bs) (behind_header (tokens bs))) (le-ltb 1048576 (length bs) h.short)
       ∙ ap (read_behind (length bs)) (header_behind bs h.behind h.headed)
       ∙ ap (λ r. body_fault (r >>= read_network (length bs))) p
       ∙ ap (λ r. body_fault (r >>= (λ g. at_end (A, g.0) g.2))) q
 
-  body_found : (ts : List PlacedToken) → HasHeader bs ts → length bs ≤ 1048576 → (A : TypeTree) (f : Network Expression) → read_body (length bs) ts ≡ Ok (A, f) → IsFile bs A f
+  body_found : (ts : List PlacedToken) → HasHeader bs ts → length bs ≤ 1048576 → (A : TypeTree) (f : Network Expression) → read_body (length bs) ts ≡ Ok (A, f)
+      → IsFile bs A f
   body_found ts h l A f e =
-      let i : (x : TypeTree × ℕ × List PlacedToken) × (read leaf (length bs) 600 type_sort ts ≡ Ok x) × (read_network (length bs) x ≡ Ok (A, f)) = bind_ok (read leaf (length bs) 600 type_sort ts) _ (A, f) e in
-      let j : (y : Network Expression × ℕ × List PlacedToken) × (read networks (length bs) 600 network_sort i.0.2 ≡ Ok y) × (at_end (i.0.0, y.0) y.2 ≡ Ok (A, f)) = bind_ok (read networks (length bs) 600 network_sort i.0.2) _ (A, f) i.2 in
+      let i : (x : TypeTree × ℕ × List PlacedToken) × (read leaf (length bs) 600 type_sort ts ≡ Ok x)
+      × (read_network (length bs) x ≡ Ok (A, f)) = bind_ok (read leaf (length bs) 600 type_sort ts) _ (A, f) e in
+      let j : (y : Network Expression × ℕ × List PlacedToken) × (read networks (length bs) 600 network_sort i.0.2 ≡ Ok y)
+      × (at_end (i.0.0, y.0) y.2 ≡ Ok (A, f)) = bind_ok (read networks (length bs) 600 network_sort i.0.2) _ (A, f) i.2 in
       let k : ((i.0.0, j.0.0) ≡ (A, f)) × (j.0.2 ≡ []) = at_end_ok (i.0.0, j.0.0) (A, f) j.0.2 j.2 in
       let a : i.0.0 ≡ A = ap (λ z. z.0) k.0 in
       let g : j.0.0 ≡ f = ap (λ z. z.1) k.0 in
-      record { short = l; behind = ts; headed = h; type_end = i.0.1; network = i.0.2; input = subst (λ B. Begins leaf 600 type_sort B ts i.0.1 i.0.2) a (found leaf (length bs) 600 type_sort ts i.0 i.1); network_end = j.0.1; body = subst (λ r. Begins networks 600 network_sort f i.0.2 j.0.1 r) k.1 (subst (λ n. Begins networks 600 network_sort n i.0.2 j.0.1 j.0.2) g (found networks (length bs) 600 network_sort i.0.2 j.0 j.1)) }
+      record {
+        short = l;
+        behind = ts;
+        headed = h;
+        type_end = i.0.1;
+        network = i.0.2;
+        input =
+            subst (λ B. Begins leaf 600 type_sort B ts i.0.1 i.0.2) a (found leaf (length bs) 600 type_sort ts i.0 i.1);
+        network_end = j.0.1;
+        body =
+            subst (λ r. Begins networks 600 network_sort f i.0.2 j.0.1 r) k.1
+            (subst (λ n. Begins networks 600 network_sort n i.0.2 j.0.1 j.0.2) g (found networks (length bs) 600 network_sort i.0.2 j.0 j.1));
+      }
 
   body_refused : (ts : List PlacedToken) → HasHeader bs ts → (e : ExprTextFault) → read_body (length bs) ts ≡ Err e → NoFile bs e
   body_refused ts h e p = go (read leaf (length bs) 600 type_sort ts) refl p
@@ -137,27 +157,37 @@ module _ (bs : List ℕ) where
       ended : TypeTree → Network Expression × ℕ × List PlacedToken → Result (TypeTree × Network Expression) ExprTextFault
       ended A g = at_end (A, g.0) g.2
 
-      then_network : (A : TypeTree) (n : ℕ) (us : List PlacedToken) → read leaf (length bs) 600 type_sort ts ≡ Ok (A, n, us) → (r : Result (Network Expression × ℕ × List PlacedToken) ExprTextFault) → read networks (length bs) 600 network_sort us ≡ r → (r >>= ended A) ≡ Err e → NoFile bs e
-      then_network A n us i (Err f) j q = no_network ts h A n us (found leaf (length bs) 600 type_sort ts (A, n, us) i) (stops networks networks_proper (length bs) 600 network_sort us e (j ∙ ap Err (err_is q)))
+      then_network : (A : TypeTree) (n : ℕ) (us : List PlacedToken) → read leaf (length bs) 600 type_sort ts ≡ Ok (A, n, us)
+          → (r : Result (Network Expression × ℕ × List PlacedToken) ExprTextFault) → read networks (length bs) 600 network_sort us ≡ r → (r >>= ended A) ≡ Err e
+          → NoFile bs e
+      then_network A n us i (Err f) j q = no_network ts h A n us (found leaf (length bs) 600 type_sort ts (A, n, us) i)
+          (stops networks networks_proper (length bs) 600 network_sort us e (j ∙ ap Err (err_is q)))
       then_network A n us i (Ok (f, m, [])) j q = absurd (cc)
-      then_network A n us i (Ok (f, m, x ∷ after)) j q = follows ts h A n us (found leaf (length bs) 600 type_sort ts (A, n, us) i) f m x after (found networks (length bs) 600 network_sort us (f, m, x ∷ after) j) (sym (err_is q))
+      then_network A n us i (Ok (f, m, x ∷ after)) j q =
+          follows ts h A n us (found leaf (length bs) 600 type_sort ts (A, n, us) i) f m x after
+          (found networks (length bs) 600 network_sort us (f, m, x ∷ after) j) (sym (err_is q))
 
-      go : (r : Result (TypeTree × ℕ × List PlacedToken) ExprTextFault) → read leaf (length bs) 600 type_sort ts ≡ r → (r >>= read_network (length bs)) ≡ Err e → NoFile bs e
+      go : (r : Result (TypeTree × ℕ × List PlacedToken) ExprTextFault) → read leaf (length bs) 600 type_sort ts ≡ r → (r >>= read_network (length bs)) ≡ Err e
+          → NoFile bs e
       go (Err f) i q = no_type ts h (stops leaf leaf_proper (length bs) 600 type_sort ts e (i ∙ ap Err (err_is q)))
       go (Ok (A, n, us)) i q = then_network A n us i (read networks (length bs) 600 network_sort us) refl q
 
-  short_file : (r : Result (TypeTree × Network Expression) NetTextFault) → r ≢ Err V.TooLong → read_file bs ≡ r → (length bs ≤ 1048576) × (read_behind (length bs) (behind_header (tokens bs)) ≡ r)
+  short_file : (r : Result (TypeTree × Network Expression) NetTextFault) → r ≢ Err V.TooLong → read_file bs ≡ r
+      → (length bs ≤ 1048576) × (read_behind (length bs) (behind_header (tokens bs)) ≡ r)
   short_file r d e = go (nat_lt 1048576 (length bs)) refl e
     where
-      go : (b : Bool) → nat_lt 1048576 (length bs) ≡ b → (if b then Err V.TooLong else read_behind (length bs) (behind_header (tokens bs))) ≡ r → (length bs ≤ 1048576) × (read_behind (length bs) (behind_header (tokens bs)) ≡ r)
+      go : (b : Bool) → nat_lt 1048576 (length bs) ≡ b → (if b then Err V.TooLong else read_behind (length bs) (behind_header (tokens bs))) ≡ r
+          → (length bs ≤ 1048576) × (read_behind (length bs) (behind_header (tokens bs)) ≡ r)
       go true q e' = absurd (d (sym e'))
       go false q e' = (ltb-false 1048576 (length bs) q, e')
 
   headed_by : (ts : List PlacedToken) → behind_header (tokens bs) ≡ Some ts → HasHeader bs ts
-  headed_by ts e = let i : (a : ℕ) × (b : ℕ) × (c : ℕ) × (tokens bs ≡ header_tokens a b c ts) = header_found (tokens bs) ts e in record { yampa = i.0; one = i.1; input = i.2; starts = i.3 }
+  headed_by ts e = let i : (a : ℕ) × (b : ℕ) × (c : ℕ) × (tokens bs ≡ header_tokens a b c ts) = header_found (tokens bs) ts e in
+      record { yampa = i.0; one = i.1; input = i.2; starts = i.3 }
 
   pub file_found : (A : TypeTree) (f : Network Expression) → read_file bs ≡ Ok (A, f) → IsFile bs A f
-  file_found A f e = let i : (length bs ≤ 1048576) × (read_behind (length bs) (behind_header (tokens bs)) ≡ Ok (A, f)) = short_file (Ok (A, f)) (λ q. cc) e in go i.0 (behind_header (tokens bs)) refl i.1
+  file_found A f e = let i : (length bs ≤ 1048576) × (read_behind (length bs) (behind_header (tokens bs)) ≡ Ok (A, f)) = short_file (Ok (A, f)) (λ q. cc) e in
+      go i.0 (behind_header (tokens bs)) refl i.1
     where
       go : length bs ≤ 1048576 → (o : Option (List PlacedToken)) → behind_header (tokens bs) ≡ o → read_behind (length bs) o ≡ Ok (A, f) → IsFile bs A f
       go l None p q = absurd (cc)
@@ -174,11 +204,13 @@ module _ (bs : List ℕ) where
 
   pub file_refused : (e : ExprTextFault) → in_file e ≢ V.TooLong → read_file bs ≡ Err (in_file e) → (length bs ≤ 1048576) × NoFile bs e
   file_refused e d p =
-      let i : (length bs ≤ 1048576) × (read_behind (length bs) (behind_header (tokens bs)) ≡ Err (in_file e)) = short_file (Err (in_file e)) (λ q. d (fault_is q)) p in
+      let i : (length bs ≤ 1048576)
+      × (read_behind (length bs) (behind_header (tokens bs)) ≡ Err (in_file e)) = short_file (Err (in_file e)) (λ q. d (fault_is q)) p in
       (i.0, behind_refused e (λ q. no_header e (fault_is q)) i.1)
 
   pub headless : read_file bs ≡ Err V.Header → (length bs ≤ 1048576) × ((ts : List PlacedToken) → HasHeader bs ts → ⊥)
-  headless p = let i : (length bs ≤ 1048576) × (read_behind (length bs) (behind_header (tokens bs)) ≡ Err V.Header) = short_file (Err V.Header) (λ q. cc) p in (i.0, λ ts h. not_header (read_body (length bs) ts) (sym (ap (read_behind (length bs)) (header_behind bs ts h)) ∙ i.1))
+  headless p = let i : (length bs ≤ 1048576) × (read_behind (length bs) (behind_header (tokens bs)) ≡ Err V.Header) = short_file (Err V.Header) (λ q. cc) p in
+      (i.0, λ ts h. not_header (read_body (length bs) ts) (sym (ap (read_behind (length bs)) (header_behind bs ts h)) ∙ i.1))
     where
       not_header : (r : Result (TypeTree × Network Expression) ExprTextFault) → body_fault r ≡ Err V.Header → ⊥
       not_header (Ok x) q = cc
@@ -187,7 +219,8 @@ module _ (bs : List ℕ) where
   pub longer : read_file bs ≡ Err V.TooLong → 1048576 < length bs
   longer p = go (nat_lt 1048576 (length bs)) refl p
     where
-      go : (b : Bool) → nat_lt 1048576 (length bs) ≡ b → (if b then Err V.TooLong else read_behind (length bs) (behind_header (tokens bs))) ≡ Err V.TooLong → 1048576 < length bs
+      go : (b : Bool) → nat_lt 1048576 (length bs) ≡ b → (if b then Err V.TooLong else read_behind (length bs) (behind_header (tokens bs))) ≡ Err V.TooLong
+          → 1048576 < length bs
       go true q e = ltb-true 1048576 (length bs) q
       go false q e = absurd (not_long (behind_refused E.TooLong (λ r. cc) e))
 
@@ -196,7 +229,8 @@ module _ (bs : List ℕ) where
   net_found (Ok x) h = file_found (type_of x.0) (tree_of x.1) h
   net_found (Err e) h = tt
 
-  pub net_only : (r : Result (Ty × Net Expr) NetTextFault) → GivesFile r (read_file bs) → (A : TypeTree) (f : Network Expression) → IsFile bs A f → GivesFile r (Ok (A, f))
+  pub net_only : (r : Result (Ty × Net Expr) NetTextFault) → GivesFile r (read_file bs) → (A : TypeTree) (f : Network Expression) → IsFile bs A f
+      → GivesFile r (Ok (A, f))
   net_only r h A f i = subst (λ z. GivesFile r z) (file_read A f i) h
 
   pub net_refused : (r : Result (Ty × Net Expr) NetTextFault) → GivesFile r (read_file bs) → IfErr r (IsFileFault bs)

@@ -39,12 +39,23 @@ carry s us c = record { end = c.end; stop = c.stop; part = c.part; tree = c.tree
 filler : (s : NetSort) → Completes networks s []
 unfolding net_word_at net_words
 filler (leaf_sort s) = carry s [] (leaf_proper.filler s)
-filler network_sort = record { end = (0, word (codes "identity")) ∷ []; stop = 8; part = atom (codes "identity"); tree = arr input; spells = λ ts. atom_spells; means = refl }
+filler network_sort =
+    record { end = (0, word (codes "identity")) ∷ []; stop = 8; part = atom (codes "identity"); tree = arr input; spells = λ ts. atom_spells; means = refl }
 
 opener : (s : NetSort) (n : ℕ) → net_has_form s ≡ true → Completes networks s ((n, opening) ∷ [])
 unfolding net_word_at net_row_at net_rows word_at words
 opener (leaf_sort s) n h = carry s ((n, opening) ∷ []) (leaf_proper.opener s n h)
-opener network_sort n h = record { end = (0, word (codes "arr")) ∷ (0, word (codes "x")) ∷ (0, closing) ∷ []; stop = 1; part = form (codes "arr") (more (atom (codes "x")) last); tree = arr input; spells = λ ts. form_spells (more_spells {n = 1} atom_spells last_spells); means = refl }
+opener network_sort n h =
+    record {
+      end = (0, word (codes "arr")) ∷ (0, word (codes "x")) ∷ (0, closing)
+          ∷ [];
+      stop = 1;
+      part = form (codes "arr") (more (atom (codes "x")) last);
+      tree = arr input;
+      spells = λ ts.
+          form_spells (more_spells {n = 1} atom_spells last_spells);
+      means = refl;
+    }
 
 pub networks_proper : Proper networks
 networks_proper = record { formless = formless; spoilt = spoilt; foreign = foreign; filler = filler; opener = opener }

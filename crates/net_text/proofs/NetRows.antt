@@ -16,7 +16,8 @@ pub identity_is : IdentityIs
 unfolding word_at words row_at rows net_words net_word_at net_rows net_row_at
 identity_is = refl
 
-constant_parts : (e : Option Expression) → option_and_then (λ c. Some (arr (then_expr unit_expr c))) e ≡ option_and_then (λ x. Some (arr x)) (option_and_then (λ c. Some (then_expr unit_expr c)) e)
+constant_parts : (e : Option Expression)
+    → option_and_then (λ c. Some (arr (then_expr unit_expr c))) e ≡ option_and_then (λ x. Some (arr x)) (option_and_then (λ c. Some (then_expr unit_expr c)) e)
 constant_parts None = refl
 constant_parts (Some c) = refl
 

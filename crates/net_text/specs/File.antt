@@ -20,7 +20,8 @@ behind_word u _ = None
 
 -- the tokens behind `yampa 1 input`, where these come first
 abbrev pub behind_header : List PlacedToken → Option (List PlacedToken)
-behind_header ts = option_and_then (behind_word (codes "input")) (option_and_then (behind_word (codes "1")) (behind_word (codes "yampa") ts))
+behind_header ts = option_and_then (behind_word (codes "input"))
+    (option_and_then (behind_word (codes "1")) (behind_word (codes "yampa") ts))
 
 -- x, where no token is left
 abbrev pub at_end : {T : Type 0} → T → List PlacedToken → Result T ExprTextFault
@@ -28,7 +29,8 @@ at_end x [] = Ok x
 at_end x (y ∷ ts) = Err (E.Syntax y.0)
 
 -- a network behind a type, and nothing behind it, in a text of so many bytes
-abbrev pub read_network : ℕ → TypeTree × ℕ × List PlacedToken → Result (TypeTree × Network Expression) ExprTextFault
+abbrev pub read_network : ℕ → TypeTree × ℕ × List PlacedToken
+    → Result (TypeTree × Network Expression) ExprTextFault
 read_network size a = read networks size 600 network_sort a.2 >>= (λ g. at_end (a.0, g.0) g.2)
 
 -- a type and a network, and nothing behind them, in a text of so many bytes
@@ -49,10 +51,12 @@ body_fault (Ok x) = Ok x
 body_fault (Err e) = Err (in_file e)
 
 -- the type and the network behind the header, where there is one
-abbrev pub read_behind : ℕ → Option (List PlacedToken) → Result (TypeTree × Network Expression) NetTextFault
+abbrev pub read_behind : ℕ → Option (List PlacedToken)
+    → Result (TypeTree × Network Expression) NetTextFault
 read_behind size None = Err V.Header
 read_behind size (Some ts) = body_fault (read_body size ts)
 
 -- the input's type and the network of the file that the bytes are, or the first fault
 abbrev pub read_file : List ℕ → Result (TypeTree × Network Expression) NetTextFault
-read_file bs = if nat_lt 1048576 (length bs) then Err V.TooLong else read_behind (length bs) (behind_header (tokens bs))
+read_file bs = if nat_lt 1048576 (length bs) then Err V.TooLong
+    else read_behind (length bs) (behind_header (tokens bs))

@@ -19,7 +19,8 @@ use Rattle.leaf_expr.specs.declared.text_fault.ExprTextFault.TheVariants as E
 
 -- the words `yampa 1 input` at those places, and then ts
 abbrev pub header_tokens : ℕ → ℕ → ℕ → List PlacedToken → List PlacedToken
-header_tokens a b c ts = (a, word (codes "yampa")) ∷ (b, word (codes "1")) ∷ (c, word (codes "input")) ∷ ts
+header_tokens a b c ts = (a, word (codes "yampa")) ∷ (b, word (codes "1"))
+    ∷ (c, word (codes "input")) ∷ ts
 
 -- the bytes begin with the words `yampa 1 input`, and then the tokens ts follow
 pub record HasHeader (bs : List ℕ) (ts : List PlacedToken) : Type 0 where
@@ -28,7 +29,8 @@ pub record HasHeader (bs : List ℕ) (ts : List PlacedToken) : Type 0 where
   pub input : ℕ
   pub starts : tokens bs ≡ header_tokens yampa one input ts
 
--- The bytes are a network file: the header, a type and a network, and nothing more, with at most 600 parentheses
+-- The bytes are a network file: the header, a type and a network, and nothing more, with at most
+-- 600 parentheses
 -- open at once, in at most 1,048,576 bytes.
 pub record IsFile (bs : List ℕ) (A : TypeTree) (f : Network Expression) : Type 0 where
   pub short : length bs ≤ 1048576
@@ -40,12 +42,19 @@ pub record IsFile (bs : List ℕ) (A : TypeTree) (f : Network Expression) : Type
   pub network_end : ℕ
   pub body : Begins networks 600 network_sort f network network_end []
 
--- Why bytes with a header are no network file: no type stands behind it, or no network behind the type, or a token
+-- Why bytes with a header are no network file: no type stands behind it, or no network behind the
+-- type, or a token
 -- stands behind the network.
 pub data NoFile (bs : List ℕ) (e : ExprTextFault) : Type 0 where
-  no_type : (ts : List PlacedToken) → HasHeader bs ts → Stops leaf (length bs) 600 type_sort ts e → NoFile bs e
-  no_network : (ts : List PlacedToken) → HasHeader bs ts → (A : TypeTree) (n : ℕ) (us : List PlacedToken) → Begins leaf 600 type_sort A ts n us → Stops networks (length bs) 600 network_sort us e → NoFile bs e
-  follows : (ts : List PlacedToken) → HasHeader bs ts → (A : TypeTree) (n : ℕ) (us : List PlacedToken) → Begins leaf 600 type_sort A ts n us → (f : Network Expression) (m : ℕ) (x : PlacedToken) (after : List PlacedToken) → Begins networks 600 network_sort f us m (x ∷ after) → e ≡ E.Syntax x.0 → NoFile bs e
+  no_type : (ts : List PlacedToken) → HasHeader bs ts → Stops leaf (length bs) 600 type_sort ts e
+      → NoFile bs e
+  no_network : (ts : List PlacedToken) → HasHeader bs ts
+      → (A : TypeTree) (n : ℕ) (us : List PlacedToken) → Begins leaf 600 type_sort A ts n us
+      → Stops networks (length bs) 600 network_sort us e → NoFile bs e
+  follows : (ts : List PlacedToken) → HasHeader bs ts
+      → (A : TypeTree) (n : ℕ) (us : List PlacedToken) → Begins leaf 600 type_sort A ts n us
+      → (f : Network Expression) (m : ℕ) (x : PlacedToken) (after : List PlacedToken)
+      → Begins networks 600 network_sort f us m (x ∷ after) → e ≡ E.Syntax x.0 → NoFile bs e
 
 -- why the bytes are no network file
 abbrev pub IsFileFault : List ℕ → NetTextFault → Type 0
@@ -58,11 +67,13 @@ IsFileFault bs V.Memory = Unit {0}
 
 -- the reader of files answers exactly the files
 abbrev pub ReadFileLaw : Type 0
-ReadFileLaw = (bs : List ℕ) (A : TypeTree) (f : Network Expression) → (read_file bs ≡ Ok (A, f) → IsFile bs A f) × (IsFile bs A f → read_file bs ≡ Ok (A, f))
+ReadFileLaw = (bs : List ℕ) (A : TypeTree) (f : Network Expression)
+    → (read_file bs ≡ Ok (A, f) → IsFile bs A f) × (IsFile bs A f → read_file bs ≡ Ok (A, f))
 
 -- a file has one reading
 abbrev pub OneFileLaw : Type 0
-OneFileLaw = (bs : List ℕ) (A B : TypeTree) (f g : Network Expression) → IsFile bs A f → IsFile bs B g → (A ≡ B) × (f ≡ g)
+OneFileLaw = (bs : List ℕ) (A B : TypeTree) (f g : Network Expression) → IsFile bs A f
+    → IsFile bs B g → (A ≡ B) × (f ≡ g)
 
 -- types and expressions inside networks are those that they are by themselves
 abbrev pub LeafMeaningLaw : Type 0
@@ -70,4 +81,6 @@ LeafMeaningLaw = (s : Sort) (p : Sexpr) → meaning networks (leaf_sort s) p ≡
 
 -- a printed file is read back, where it is within the limits of files
 abbrev pub PrintedFileLaw : Type 0
-PrintedFileLaw = (A : TypeTree) (f : Network Expression) → Writable f → depth (type_sexpr A) ≤ 600 → depth (network_sexpr f) ≤ 600 → length (file_spelling A f) ≤ 1048576 → IsFile (file_spelling A f) A f
+PrintedFileLaw = (A : TypeTree) (f : Network Expression) → Writable f → depth (type_sexpr A) ≤ 600
+    → depth (network_sexpr f) ≤ 600 → length (file_spelling A f) ≤ 1048576
+    → IsFile (file_spelling A f) A f

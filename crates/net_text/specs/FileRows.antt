@@ -27,11 +27,14 @@ NetworkRows =
 
 -- sugar: `identity` means `(arr x)`
 abbrev pub IdentityIs : Type 0
-IdentityIs = meaning networks network_sort (atom (codes "identity")) ≡ meaning networks network_sort (one (codes "arr") (atom (codes "x")))
+IdentityIs = meaning networks network_sort (atom (codes "identity"))
+    ≡ meaning networks network_sort (one (codes "arr") (atom (codes "x")))
 
 -- `(constant e)` means `(arr (then unit e))`
 abbrev pub ConstantIs : Type 0
-ConstantIs = (e : Sexpr) → meaning networks network_sort (one (codes "constant") e) ≡ meaning networks network_sort (one (codes "arr") (two (codes "then") (atom (codes "unit")) e))
+ConstantIs = (e : Sexpr)
+    → meaning networks network_sort (one (codes "constant") e)
+    ≡ meaning networks network_sort (one (codes "arr") (two (codes "then") (atom (codes "unit")) e))
 
 -- refusals: by place and kind
 abbrev pub FileFaultRows : Type 0

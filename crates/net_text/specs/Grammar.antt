@@ -1,4 +1,5 @@
--- The grammar of networks, on top of that of types and expressions: a table of words, and a table of forms.
+-- The grammar of networks, on top of that of types and expressions: a table of words, and a table
+-- of forms.
 use Rattle.std.specs.Prelude.{ℕ, true, false, Bool, List, [], ◌∷◌, Option, Some, None, option_map, bytes_eq, codes, if◌then◌else◌}
 use Rattle.leaf_expr.specs.WordReading.{WordReading, unfit}
 use Rattle.leaf_core.specs.Expression.{Expression, input, unit_expr, then_expr}
@@ -31,14 +32,16 @@ leaf_places (place s qs) = place (leaf_sort s) (leaf_places qs)
 leaf_places (places s) = places (leaf_sort s)
 
 -- what a form of types or expressions makes of its parts
-abbrev pub leaf_maker : (R : Type 0) (qs : Places Sort) → Maker Tree qs R → Maker NetTree (leaf_places qs) R
+abbrev pub leaf_maker : (R : Type 0) (qs : Places Sort) → Maker Tree qs R
+    → Maker NetTree (leaf_places qs) R
 leaf_maker R no_place r = r
 leaf_maker R (place s qs) make = λ x. leaf_maker R qs (make x)
 leaf_maker R (places s) make = make
 
 -- a form of types or expressions
 abbrev pub leaf_row : {R : Type 0} → Row Sort Tree R → Row NetSort NetTree R
-leaf_row {R = R} r = record { name = r.name; takes = leaf_places r.takes; makes = leaf_maker R r.takes r.makes }
+leaf_row {R = R} r =
+    record { name = r.name; takes = leaf_places r.takes; makes = leaf_maker R r.takes r.makes }
 
 -- words that are a network by themselves
 unfoldable pub net_words : List (List ℕ × Network Expression)
@@ -49,7 +52,8 @@ abbrev pub NetRow : Type 0
 NetRow = Row NetSort NetTree (Network Expression)
 
 -- a row of the grammar: the word of a form, its parts, and the network that they make
-abbrev pub row : (w : List ℕ) → (ps : Places NetSort) → Maker NetTree ps (Network Expression) → NetRow
+abbrev pub row : (w : List ℕ) → (ps : Places NetSort) → Maker NetTree ps (Network Expression)
+    → NetRow
 row w ps make = record { name = w; takes = ps; makes = make }
 
 -- the forms of networks, the sugar last
@@ -88,4 +92,13 @@ net_takes_number network_sort = false
 
 -- the language of types, expressions and networks
 abbrev pub networks : Language
-networks = record { Sort = NetSort; Tree = NetTree; word_at = net_word_at; row_at = net_row_at; has_form = net_has_form; takes_number = net_takes_number }
+networks =
+    record {
+      Sort = NetSort;
+      Tree = NetTree;
+      word_at = net_word_at;
+      row_at = net_row_at;
+      has_form =
+          net_has_form;
+      takes_number = net_takes_number;
+    }

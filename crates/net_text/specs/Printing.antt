@@ -27,8 +27,13 @@ abbrev mutual
   network_sexpr (repeatedly q c) = two (codes "repeatedly") (atom (decimal q)) (expression_sexpr c)
   network_sexpr time = atom (codes "time")
   network_sexpr integral = atom (codes "integral")
-  network_sexpr (k_switch f e t) = three (codes "kSwitch") (network_sexpr f) (network_sexpr e) (network_sexpr t)
-  network_sexpr (p_switch r fs e t) = form (codes "pSwitch") (more (expression_sexpr r) (more (form (codes "col") (network_sexprs fs)) (more (network_sexpr e) (more (network_sexpr t) last))))
+  network_sexpr (k_switch f e t) =
+      three (codes "kSwitch") (network_sexpr f) (network_sexpr e) (network_sexpr t)
+  network_sexpr (p_switch r fs e t) =
+      form (codes "pSwitch")
+      (more (expression_sexpr r)
+      (more (form (codes "col") (network_sexprs fs))
+      (more (network_sexpr e) (more (network_sexpr t) last))))
   network_sexpr (old k) = one (codes "old") (atom (decimal k))
 
   -- the parts that members are printed as
@@ -38,7 +43,8 @@ abbrev mutual
 
 -- three lines: `yampa 1`, `input TYPE` and the network
 abbrev pub file_spelling : TypeTree → Network Expression → List ℕ
-file_spelling A f = codes "yampa 1\ninput " ++ (type_spelling A ++ (10 ∷ (spelling (network_sexpr f) ++ 10 ∷ [])))
+file_spelling A f = codes "yampa 1\ninput "
+    ++ (type_spelling A ++ (10 ∷ (spelling (network_sexpr f) ++ 10 ∷ [])))
 
 -- a network of the forms that files have so far, whose numbers are in their ranges
 abbrev pub Writable : Network Expression → Type 0

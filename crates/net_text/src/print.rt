@@ -19,7 +19,8 @@ use std::alloc::Global;
 /// `input TYPE` and the network, in core forms. Where its numbers, its depth and its length are
 /// within the limits of files, it is read back to the same. `Memory` where a growth was refused.
 pub fn print_net(alloc: Global, input: &Ty, net: &Net<Expr>) -> Result<String, Memory>
-    ensures { IfOk result (λ text. string_bytes text ≡ file_spelling (type_of input.now) (tree_of net.now)) }
+    ensures { IfOk result
+        (λ text. string_bytes text ≡ file_spelling (type_of input.now) (tree_of net.now)) }
 {
     let mut text = String::new(alloc);
     text.push_str("yampa 1\ninput ")?;
@@ -34,7 +35,8 @@ pub fn print_net(alloc: Global, input: &Ty, net: &Net<Expr>) -> Result<String, M
 /// refused; the text may then end with a part of it.
 #[cycle(push_net)]
 pub fn push_net(text: &mut String, net: &Net<Expr>) -> Result<(), Memory>
-    ensures { Adds result (string_bytes text.old) (string_bytes text.new) (spelling (network_sexpr (tree_of net.now))) }
+    ensures { Adds result (string_bytes text.old) (string_bytes text.new)
+        (spelling (network_sexpr (tree_of net.now))) }
 {
     match net {
         Net::Arr(e) => push_leaf(text, "arr", e),
@@ -53,7 +55,8 @@ fn push_word(text: &mut String, word: &str) -> Result<(), Memory>
 
 /// The beginning of a form, up to its first part.
 fn push_open(text: &mut String, name: &str) -> Result<(), Memory>
-    ensures { Adds result (string_bytes text.old) (string_bytes text.new) ((40 ∷ name.now) ++ (32 ∷ [])) }
+    ensures { Adds result (string_bytes text.old) (string_bytes text.new)
+        ((40 ∷ name.now) ++ (32 ∷ [])) }
 {
     push_word(text, "(")?;
     push_word(text, name)?;
@@ -62,7 +65,8 @@ fn push_open(text: &mut String, name: &str) -> Result<(), Memory>
 
 /// A form of one expression.
 fn push_leaf(text: &mut String, name: &str, e: &Expr) -> Result<(), Memory>
-    ensures { Adds result (string_bytes text.old) (string_bytes text.new) (spelling (one name.now (expression_sexpr (expression_of e.now)))) }
+    ensures { Adds result (string_bytes text.old) (string_bytes text.new)
+        (spelling (one name.now (expression_sexpr (expression_of e.now)))) }
 {
     push_open(text, name)?;
     push_expr(text, e)?;
@@ -77,7 +81,10 @@ fn push_two(
     f: &NetChild<Expr>,
     g: &NetChild<Expr>,
 ) -> Result<(), Memory>
-    ensures { Adds result (string_bytes text.old) (string_bytes text.new) (spelling (two name.now (network_sexpr (map_network expression_of f.now)) (network_sexpr (map_network expression_of g.now)))) }
+    ensures { Adds result (string_bytes text.old) (string_bytes text.new)
+        (spelling
+        (two name.now (network_sexpr (map_network expression_of f.now))
+        (network_sexpr (map_network expression_of g.now)))) }
 {
     push_open(text, name)?;
     push_net(text, f.get())?;

@@ -40,7 +40,8 @@ pub fn read_net(alloc: Global, text: &[u8]) -> Result<(Ty, Net<Expr>), NetTextFa
     // What is read is what the file says.
     ensures found { IfOk result (λ x. IsFile text.now (type_of x.0) (tree_of x.1)) }
     // A network file is read, unless memory runs out.
-    ensures only { (A : TypeTree) (f : Network Expression) → IsFile text.now A f → GivesFile result (Ok (A, f)) }
+    ensures only { (A : TypeTree) (f : Network Expression) → IsFile text.now A f
+        → GivesFile result (Ok (A, f)) }
     // A text that is too long is refused as such, whatever its bytes are.
     ensures long { 1048576 < length text.now → result ≡ Err Fault.TooLong }
     // What is refused is so at the first token that doesn't fit, or for its length.
@@ -75,7 +76,8 @@ fn headed(alloc: Global, text: &[u8]) -> Result<(Ty, Net<Expr>), NetTextFault>
 
 /// A type and a network, and nothing behind them, at or after byte `at`.
 fn body_at(alloc: Global, text: &[u8], at: usize) -> Result<(Ty, Net<Expr>), ExprTextFault>
-    ensures { Gives (λ x. (type_of x.0, tree_of x.1)) result (read_body (length text.now) (tokens_from at text.now)) }
+    ensures { Gives (λ x. (type_of x.0, tree_of x.1)) result
+        (read_body (length text.now) (tokens_from at text.now)) }
 {
     let (input, at) = read_type_at(alloc, text, at, 0)?;
     match last_network(alloc, text, at) {
@@ -103,7 +105,8 @@ fn last_network(alloc: Global, text: &[u8], at: usize) -> Result<Net<Expr>, Expr
 
 /// The byte behind the words `yampa 1 input`, where these are the first tokens.
 fn header_end(text: &[u8]) -> Option<usize>
-    ensures { option_map (λ end. tokens_from end text.now) result ≡ behind_header (tokens text.now) }
+    ensures { option_map (λ end. tokens_from end text.now) result
+        ≡ behind_header (tokens text.now) }
 {
     let at = word_end(text, 0, "yampa")?;
     let at = word_end(text, at, "1")?;
@@ -112,7 +115,8 @@ fn header_end(text: &[u8]) -> Option<usize>
 
 /// The byte behind the word, where it is the first token at or after `at`.
 fn word_end(text: &[u8], at: usize, word: &str) -> Option<usize>
-    ensures { option_map (λ end. tokens_from end text.now) result ≡ behind_word word.now (tokens_from at text.now) }
+    ensures { option_map (λ end. tokens_from end text.now) result
+        ≡ behind_word word.now (tokens_from at text.now) }
 {
     match lexeme_at(text, at) {
         Lexeme::Word(start, end) => {
@@ -203,7 +207,8 @@ fn seq_at(
     room: usize,
 ) -> Result<(Net<Expr>, usize), ExprTextFault>
     requires { room ≤ 600 }
-    ensures { Gives (network_left text.now) result (row_parts (form_row Form.Seq) text.now room at) }
+    ensures { Gives (network_left text.now) result
+        (row_parts (form_row Form.Seq) text.now room at) }
 {
     let (f, at) = sub_at(alloc, text, at, room)?;
     let (g, at) = sub_at(alloc, text, at, room)?;
@@ -220,7 +225,8 @@ fn sub_at(
     room: usize,
 ) -> Result<(NetChild<Expr>, usize), ExprTextFault>
     requires { room ≤ 600 }
-    ensures { Gives (λ x. (map_network expression_of x.0, x.1, tokens_from x.1 text.now)) result (network_read text.now room at) }
+    ensures { Gives (λ x. (map_network expression_of x.0, x.1, tokens_from x.1 text.now)) result
+        (network_read text.now room at) }
 {
     let (net, at) = network_at(alloc, text, at, room)?;
     Ok((NetChild::new(alloc, net)?, at))
@@ -236,7 +242,8 @@ fn leaf_form_at(
     form: LeafForm,
 ) -> Result<(Net<Expr>, usize), ExprTextFault>
     requires { room ≤ 600 }
-    ensures { Gives (network_left text.now) result (row_parts (leaf_form_row form) text.now room at) }
+    ensures { Gives (network_left text.now) result
+        (row_parts (leaf_form_row form) text.now room at) }
 {
     let (e, at) = expr_at(alloc, text, at, room)?;
     match form_end(text, at, room) {

@@ -22,24 +22,47 @@ exact : IsExact (λ e Qs B. type_answer Qs B e) ExpressionTypedWithin
 exact e Ps A B = type_answer-exact Ps A e B
 
 pub walk_exact : WalkLaw
-walk_exact P Ps Os A net B = (λ e. holding (sound (λ e Qs B. type_answer Qs B e) ExpressionTypedWithin exact P Ps Os A net) e, λ d. complete (λ e Qs B. type_answer Qs B e) ExpressionTypedWithin exact P Ps Os A net B d)
+walk_exact P Ps Os A net B = (
+  λ e. holding (sound (λ e Qs B. type_answer Qs B e) ExpressionTypedWithin exact P Ps Os A net) e,
+  λ d.
+      complete (λ e Qs B. type_answer Qs B e) ExpressionTypedWithin exact P Ps Os A net B d,
+)
 
 -- what the check answers is within the limits, and of what was given
 pub check_sound : (A : TypeTree) (net : Network Expression) → Holds (λ t. (t.input ≡ A) × (t.net ≡ net) × WithinLimits t) (check A net)
 check_sound A net =
-    next (within_tells A) (λ Z w. next (sound (λ e Qs B. type_answer Qs B e) ExpressionTypedWithin exact [] [] [] A net) (λ B d. next (tested (leb (height net []) 256) Fault.TooDeep) (λ u h. next (tested (leb (weight net []) 1000000) Fault.TooHeavy) (λ v k.
-    ok_holds (refl, refl, record { fits = record { input_fits = w.1; typed = d; low = leb-true (height net []) 256 h; light = leb-true (weight net []) 1000000 k }; its_weight = refl; its_height = refl })))))
+    next (within_tells A)
+    (λ Z w. next (sound (λ e Qs B. type_answer Qs B e) ExpressionTypedWithin exact [] [] [] A net)
+    (λ B d. next (tested (leb (height net []) 256) Fault.TooDeep) (λ u h. next (tested (leb (weight net []) 1000000) Fault.TooHeavy) (λ v k.
+    ok_holds (
+      refl,
+      refl,
+      record {
+        fits = record { input_fits = w.1; typed = d; low = leb-true (height net []) 256 h; light = leb-true (weight net []) 1000000 k };
+        its_weight =
+            refl;
+        its_height = refl;
+      },
+    )))))
 
 check_complete : (t : TypedNetwork) → WithinLimits t → check t.input t.net ≡ Ok t
 check_complete t h =
-    goes_on _ (within_passes t.input h.fits.input_fits) (goes_on _ (complete (λ e Qs B. type_answer Qs B e) ExpressionTypedWithin exact [] [] [] t.input t.net t.output h.fits.typed) (goes_on _ (passes Fault.TooDeep (le-leb (height t.net []) 256 h.fits.low)) (goes_on _ (passes Fault.TooHeavy (le-leb (weight t.net []) 1000000 h.fits.light))
+    goes_on _ (within_passes t.input h.fits.input_fits)
+    (goes_on _ (complete (λ e Qs B. type_answer Qs B e) ExpressionTypedWithin exact [] [] [] t.input t.net t.output h.fits.typed)
+    (goes_on _ (passes Fault.TooDeep (le-leb (height t.net []) 256 h.fits.low))
+    (goes_on _ (passes Fault.TooHeavy (le-leb (weight t.net []) 1000000 h.fits.light))
     (λ i. Ok (record { input = t.input; output = t.output; net = t.net; weight = sym h.its_weight i; height = sym h.its_height i })))))
 
 pub check_exact : CheckLaw
 check_exact A net t = (λ e. holding (check_sound A net) e, λ h. (λ i. check (sym h.0 i) (sym h.1 i)) ∙ check_complete t h.2)
 
 -- what passes every test of the check is within the limits
-pub within_limits : (A B : TypeTree) (net : Network Expression) (w h : ℕ) → type_fits A ≡ true → net_walk [] [] [] A net ≡ Ok B → w ≡ min (weight net []) 1000001 → h ≡ min (height net []) 257 → w ≤ 1000000 → h ≤ 256
+pub within_limits : (A B : TypeTree) (net : Network Expression) (w h : ℕ) → type_fits A ≡ true → net_walk [] [] [] A net ≡ Ok B
+    → w ≡ min (weight net []) 1000001 → h ≡ min (height net []) 257 → w ≤ 1000000 → h ≤ 256
     → WithinLimits (record { input = A; output = B; net = net; weight = w; height = h })
 within_limits A B net w h fits typed is_weight is_height light low =
-    record { fits = record { input_fits = type_fits-TypeFits A fits; typed = (walk_exact [] [] [] A net B).0 typed; low = omega arith; light = omega arith }; its_weight = omega arith; its_height = omega arith }
+    record {
+      fits = record { input_fits = type_fits-TypeFits A fits; typed = (walk_exact [] [] [] A net B).0 typed; low = omega arith; light = omega arith };
+      its_weight = omega arith;
+      its_height = omega arith;
+    }

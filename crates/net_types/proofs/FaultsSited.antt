@@ -26,7 +26,8 @@ pub data Ends {A : Type 0} (S : TypeFault → Type 0) (P : A → Type 0) : Resul
   ended : {a : A} → P a → Ends S P (Ok a)
   failed : {f : TypeFault} → S f → Ends S P (Err f)
 
-ends_next : {A B : Type 0} {S : TypeFault → Type 0} {P : A → Type 0} {Q : B → Type 0} {r : Result A TypeFault} {k : A → Result B TypeFault} → Ends S P r → ((a : A) → P a → Ends S Q (k a)) → Ends S Q (r >>= k)
+ends_next : {A B : Type 0} {S : TypeFault → Type 0} {P : A → Type 0} {Q : B → Type 0} {r : Result A TypeFault} {k : A → Result B TypeFault} → Ends S P r
+    → ((a : A) → P a → Ends S Q (k a)) → Ends S Q (r >>= k)
 ends_next (ended {a = a} p) s = s a p
 ends_next (failed q) s = failed q
 
@@ -64,7 +65,8 @@ module _ {L : Type 0} where
   after_is no_members = refl
   after_is (and_member g fs) = after_is fs
 
-  switch_child : (r : L) (fs : Networks L) (e n : Network L) (i : ℕ) (f : Network L) → member fs i ≡ Some f → child (p_switch r fs e n) (from 1 i) ≡ Some (a_network f)
+  switch_child : (r : L) (fs : Networks L) (e n : Network L) (i : ℕ) (f : Network L) → member fs i ≡ Some f
+      → child (p_switch r fs e n) (from 1 i) ≡ Some (a_network f)
   switch_child r fs e n i f q =
       let to : from 1 i ≡ suc i = from_suc 0 i ∙ ap suc (from_zero i) in
       ap (λ k. child (p_switch r fs e n) k) to ∙ (ap (λ w. option_map a_network (child_network w fs e n i)) (member_is fs i f q) ∙ ap (option_map a_network) q)
@@ -85,13 +87,15 @@ module _ {L : Type 0} (t : LeafChecker L) where
   at_leaf : (net : Network L) (P : List ℕ) (k : ℕ) (e : L) → child net k ≡ Some (a_leaf e) → LeafPlace net P (P ↓ k)
   at_leaf net P k e i = record { path = k ∷ []; rest = e; is = refl; there = asked _ i refl }
 
-  up : (net : Network L) (P : List ℕ) (k : ℕ) (f : Network L) → child net k ≡ Some (a_network f) → (Q : List ℕ) → NetworkPlace f (P ↓ k) Q → NetworkPlace net P Q
+  up : (net : Network L) (P : List ℕ) (k : ℕ) (f : Network L) → child net k ≡ Some (a_network f) → (Q : List ℕ) → NetworkPlace f (P ↓ k) Q
+      → NetworkPlace net P Q
   up net P k f e Q n = record { path = k ∷ n.path; rest = n.rest; is = n.is ∙ append_assoc P (k ∷ []) n.path; there = asked _ e n.there }
 
   up_leaf : (net : Network L) (P : List ℕ) (k : ℕ) (f : Network L) → child net k ≡ Some (a_network f) → (Q : List ℕ) → LeafPlace f (P ↓ k) Q → LeafPlace net P Q
   up_leaf net P k f e Q n = record { path = k ∷ n.path; rest = n.rest; is = n.is ∙ append_assoc P (k ∷ []) n.path; there = asked _ e n.there }
 
-  lifted : (net : Network L) (P : List ℕ) (k : ℕ) (f : Network L) → child net k ≡ Some (a_network f) → (x : TypeFault) → FaultStandsIn f (P ↓ k) x → FaultStandsIn net P x
+  lifted : (net : Network L) (P : List ℕ) (k : ℕ) (f : Network L) → child net k ≡ Some (a_network f) → (x : TypeFault) → FaultStandsIn f (P ↓ k) x
+      → FaultStandsIn net P x
   lifted net P k f e (Fault.Expr Q x) s = up_leaf net P k f e Q s
   lifted net P k f e (Fault.Joint Q) s = up net P k f e Q s
   lifted net P k f e (Fault.NoOld Q) s = up net P k f e Q s
@@ -103,7 +107,8 @@ module _ {L : Type 0} (t : LeafChecker L) where
   lifted net P k f e Fault.TooHeavy s = tt
   lifted net P k f e Fault.Memory s = s
 
-  in_child : {A : Type 0} {Z : A → Type 0} {r : Result A TypeFault} (net : Network L) (P : List ℕ) (k : ℕ) (f : Network L) → child net k ≡ Some (a_network f) → Ends (FaultStandsIn f (P ↓ k)) Z r → Ends (FaultStandsIn net P) Z r
+  in_child : {A : Type 0} {Z : A → Type 0} {r : Result A TypeFault} (net : Network L) (P : List ℕ) (k : ℕ) (f : Network L) → child net k ≡ Some (a_network f)
+      → Ends (FaultStandsIn f (P ↓ k)) Z r → Ends (FaultStandsIn net P) Z r
   in_child net P k f e (ended z) = ended z
   in_child net P k f e (failed {f = x} s) = failed (lifted net P k f e x s)
 
@@ -137,54 +142,114 @@ module _ {L : Type 0} (t : LeafChecker L) where
     by_frozen (o ∷ Os) zero = ended tt
     by_frozen (o ∷ Os) (suc k) = by_frozen Os k
 
-    by_leaf : (k : ℕ) (Ps : List TypeTree) (A : TypeTree) (e : L) → child net k ≡ Some (a_leaf e) → Ends (FaultStandsIn net P) (λ B. Unit {0}) (leaf t (P ↓ k) Ps A e)
+    by_leaf : (k : ℕ) (Ps : List TypeTree) (A : TypeTree) (e : L) → child net k ≡ Some (a_leaf e)
+        → Ends (FaultStandsIn net P) (λ B. Unit {0}) (leaf t (P ↓ k) Ps A e)
     by_leaf k Ps A e i = go (t e Ps A)
       where
         go : (r : Result TypeTree ExprFault) → Ends (FaultStandsIn net P) (λ B. Unit {0}) (leaf_fault_at (P ↓ k) r)
         go (Ok B) = ended tt
         go (Err x) = failed (at_leaf net P k e i)
 
-    by_all_same : (k : ℕ) (fs : Networks L) (B : TypeTree) (Bs : List TypeTree) → ((i : ℕ) (f : Network L) → member fs i ≡ Some f → child net (from k i) ≡ Some (a_network f)) → AsMany fs Bs → Ends (FaultStandsIn net P) (λ B. Unit {0}) (all_same P k B Bs)
+    by_all_same : (k : ℕ) (fs : Networks L) (B : TypeTree) (Bs : List TypeTree)
+        → ((i : ℕ) (f : Network L) → member fs i ≡ Some f → child net (from k i) ≡ Some (a_network f)) → AsMany fs Bs
+        → Ends (FaultStandsIn net P) (λ B. Unit {0}) (all_same P k B Bs)
     by_all_same k fs B Bs h no_more = ended tt
-    by_all_same k fs B Bs h (one_each {f = f} {fs = gs} {B = C} {Bs = Cs} m) = ends_next (by_same (P ↓ k) B C (at_child net P k f (h 0 f refl))) (λ u v. by_all_same (suc k) gs B Cs (λ i. h (suc i)) m)
+    by_all_same k fs B Bs h (one_each {f = f} {fs = gs} {B = C} {Bs = Cs} m) =
+        ends_next (by_same (P ↓ k) B C (at_child net P k f (h 0 f refl))) (λ u v. by_all_same (suc k) gs B Cs (λ i. h (suc i)) m)
 
-    by_one_output : (k : ℕ) (fs : Networks L) (Bs : List TypeTree) → ((i : ℕ) (f : Network L) → member fs i ≡ Some f → child net (from k i) ≡ Some (a_network f)) → AsMany fs Bs → Ends (FaultStandsIn net P) (λ B. Unit {0}) (one_output P k Bs)
+    by_one_output : (k : ℕ) (fs : Networks L) (Bs : List TypeTree)
+        → ((i : ℕ) (f : Network L) → member fs i ≡ Some f → child net (from k i) ≡ Some (a_network f)) → AsMany fs Bs
+        → Ends (FaultStandsIn net P) (λ B. Unit {0}) (one_output P k Bs)
     by_one_output k fs Bs h no_more = failed (here net P)
     by_one_output k fs Bs h (one_each {fs = gs} {B = B} {Bs = Cs} m) = by_all_same (suc k) gs B Cs (λ i. h (suc i)) m
 
   mutual
-    pub sited : (P : List ℕ) (Ps : List TypeTree) (Os : List Arrow) (A : TypeTree) (net : Network L) → Ends (FaultStandsIn net P) (λ B. Unit {0}) (walk t P Ps Os A net)
+    pub sited : (P : List ℕ) (Ps : List TypeTree) (Os : List Arrow) (A : TypeTree) (net : Network L)
+        → Ends (FaultStandsIn net P) (λ B. Unit {0}) (walk t P Ps Os A net)
     sited P Ps Os A (arr e) = by_leaf (arr e) P 0 Ps A e refl
-    sited P Ps Os A (seq f g) = ends_next (in_child (seq f g) P 0 f refl (sited (P ↓ 0) Ps Os A f)) (λ B u. in_child (seq f g) P 1 g refl (sited (P ↓ 1) Ps Os B g))
-    sited P Ps Os A (first f) = ends_next (by_pair (first f) P P A (here (first f) P)) (λ q u. ends_next (in_child (first f) P 0 f refl (sited (P ↓ 0) Ps Os q.0 f)) (λ D v. by_within (first f) P (pair_ty D q.1)))
+    sited P Ps Os A (seq f g) = ends_next (in_child (seq f g) P 0 f refl (sited (P ↓ 0) Ps Os A f))
+        (λ B u. in_child (seq f g) P 1 g refl (sited (P ↓ 1) Ps Os B g))
+    sited P Ps Os A (first f) = ends_next (by_pair (first f) P P A (here (first f) P))
+        (λ q u. ends_next (in_child (first f) P 0 f refl (sited (P ↓ 0) Ps Os q.0 f)) (λ D v. by_within (first f) P (pair_ty D q.1)))
     sited P Ps Os A (par fs) =
-        ends_next (by_counted (par fs) P fs) (λ u v. ends_next (all_sited (par fs) P 0 Ps Os A fs (par_child fs)) (λ Bs m. ends_next (by_one_output (par fs) P 0 fs Bs (par_child fs) m) (λ B w. by_within (par fs) P (list_ty B))))
+        ends_next (by_counted (par fs) P fs)
+        (λ u v. ends_next (all_sited (par fs) P 0 Ps Os A fs (par_child fs))
+        (λ Bs m. ends_next (by_one_output (par fs) P 0 fs Bs (par_child fs) m) (λ B w. by_within (par fs) P (list_ty B))))
     sited P Ps Os A (loop_pre c f) =
-        ends_next (by_leaf (loop_pre c f) P 0 Ps unit_ty c refl) (λ C u. ends_next (by_within (loop_pre c f) P (pair_ty A C)) (λ Z v. ends_next (in_child (loop_pre c f) P 1 f refl (sited (P ↓ 1) Ps Os (pair_ty A C) f)) (λ E w. ends_next (by_pair (loop_pre c f) P (P ↓ 1) E (at_child (loop_pre c f) P 1 f refl)) (λ q i. ends_next (by_same (loop_pre c f) P (P ↓ 1) C q.1 (at_child (loop_pre c f) P 1 f refl)) (λ D j. ended tt)))))
+        ends_next (by_leaf (loop_pre c f) P 0 Ps unit_ty c refl)
+        (λ C u. ends_next (by_within (loop_pre c f) P (pair_ty A C))
+        (λ Z v. ends_next (in_child (loop_pre c f) P 1 f refl (sited (P ↓ 1) Ps Os (pair_ty A C) f))
+        (λ E w. ends_next (by_pair (loop_pre c f) P (P ↓ 1) E (at_child (loop_pre c f) P 1 f refl))
+        (λ q i. ends_next (by_same (loop_pre c f) P (P ↓ 1) C q.1 (at_child (loop_pre c f) P 1 f refl)) (λ D j. ended tt)))))
     sited P Ps Os A (i_pre c) = ends_next (by_leaf (i_pre c) P 0 Ps unit_ty c refl) (λ C u. by_same (i_pre c) P P A C (here (i_pre c) P))
-    sited P Ps Os A (delay q c) = ends_next (by_between (delay q c) P 1 4096 q) (λ v w. ends_next (by_leaf (delay q c) P 0 Ps unit_ty c refl) (λ C u. by_same (delay q c) P P A C (here (delay q c) P)))
-    sited P Ps Os A (hold c) = ends_next (by_event (hold c) P P A (here (hold c) P)) (λ B v. ends_next (by_leaf (hold c) P 0 Ps unit_ty c refl) (λ C u. by_same (hold c) P P B C (here (hold c) P)))
+    sited P Ps Os A (delay q c) = ends_next (by_between (delay q c) P 1 4096 q)
+        (λ v w. ends_next (by_leaf (delay q c) P 0 Ps unit_ty c refl) (λ C u. by_same (delay q c) P P A C (here (delay q c) P)))
+    sited P Ps Os A (hold c) = ends_next (by_event (hold c) P P A (here (hold c) P))
+        (λ B v. ends_next (by_leaf (hold c) P 0 Ps unit_ty c refl) (λ C u. by_same (hold c) P P B C (here (hold c) P)))
     sited P Ps Os A (accum_by g z) =
-        ends_next (by_event (accum_by g z) P P A (here (accum_by g z) P)) (λ V u. ends_next (by_leaf (accum_by g z) P 1 Ps unit_ty z refl) (λ Z v. ends_next (by_within (accum_by g z) P (pair_ty Z V)) (λ N w. ends_next (by_leaf (accum_by g z) P 0 Ps (pair_ty Z V) g refl) (λ Y i. ends_next (by_same (accum_by g z) P P Z Y (here (accum_by g z) P)) (λ M j. by_within (accum_by g z) P (event_ty Z))))))
-    sited P Ps Os A (after q c) = ends_next (by_between (after q c) P 0 (2 ^ 62) q) (λ v w. ends_next (by_leaf (after q c) P 0 Ps unit_ty c refl) (λ C u. by_within (after q c) P (event_ty C)))
-    sited P Ps Os A (repeatedly q c) = ends_next (by_between (repeatedly q c) P 1 (2 ^ 62) q) (λ v w. ends_next (by_leaf (repeatedly q c) P 0 Ps unit_ty c refl) (λ C u. by_within (repeatedly q c) P (event_ty C)))
+        ends_next (by_event (accum_by g z) P P A (here (accum_by g z) P))
+        (λ V u. ends_next (by_leaf (accum_by g z) P 1 Ps unit_ty z refl)
+        (λ Z v. ends_next (by_within (accum_by g z) P (pair_ty Z V))
+        (λ N w. ends_next (by_leaf (accum_by g z) P 0 Ps (pair_ty Z V) g refl)
+        (λ Y i. ends_next (by_same (accum_by g z) P P Z Y (here (accum_by g z) P)) (λ M j. by_within (accum_by g z) P (event_ty Z))))))
+    sited P Ps Os A (after q c) = ends_next (by_between (after q c) P 0 (2 ^ 62) q)
+        (λ v w. ends_next (by_leaf (after q c) P 0 Ps unit_ty c refl) (λ C u. by_within (after q c) P (event_ty C)))
+    sited P Ps Os A (repeatedly q c) = ends_next (by_between (repeatedly q c) P 1 (2 ^ 62) q)
+        (λ v w. ends_next (by_leaf (repeatedly q c) P 0 Ps unit_ty c refl) (λ C u. by_within (repeatedly q c) P (event_ty C)))
     sited P Ps Os A time = ended tt
     sited P Ps Os A integral = by_same integral P P int_ty A (here integral P)
     sited P Ps Os A (switch f n) =
-        ends_next (in_child (switch f n) P 0 f refl (sited (P ↓ 0) Ps Os A f)) (λ F u. ends_next (by_pair (switch f n) P (P ↓ 0) F (at_child (switch f n) P 0 f refl)) (λ q v. ends_next (by_event (switch f n) P (P ↓ 0) q.1 (at_child (switch f n) P 0 f refl)) (λ C w. ends_next (in_child (switch f n) P 1 n refl (sited (P ↓ 1) (Ps ++ C ∷ []) Os A n)) (λ D i. by_same (switch f n) P (P ↓ 1) q.0 D (at_child (switch f n) P 1 n refl)))))
+        ends_next (in_child (switch f n) P 0 f refl (sited (P ↓ 0) Ps Os A f))
+        (λ F u. ends_next (by_pair (switch f n) P (P ↓ 0) F (at_child (switch f n) P 0 f refl))
+        (λ q v. ends_next (by_event (switch f n) P (P ↓ 0) q.1 (at_child (switch f n) P 0 f refl))
+        (λ C w. ends_next (in_child (switch f n) P 1 n refl (sited (P ↓ 1) (Ps ++ C ∷ []) Os A n))
+        (λ D i. by_same (switch f n) P (P ↓ 1) q.0 D (at_child (switch f n) P 1 n refl)))))
     sited P Ps Os A (d_switch f n) =
-        ends_next (in_child (d_switch f n) P 0 f refl (sited (P ↓ 0) Ps Os A f)) (λ F u. ends_next (by_pair (d_switch f n) P (P ↓ 0) F (at_child (d_switch f n) P 0 f refl)) (λ q v. ends_next (by_event (d_switch f n) P (P ↓ 0) q.1 (at_child (d_switch f n) P 0 f refl)) (λ C w. ends_next (in_child (d_switch f n) P 1 n refl (sited (P ↓ 1) (Ps ++ C ∷ []) Os A n)) (λ D i. by_same (d_switch f n) P (P ↓ 1) q.0 D (at_child (d_switch f n) P 1 n refl)))))
+        ends_next (in_child (d_switch f n) P 0 f refl (sited (P ↓ 0) Ps Os A f))
+        (λ F u. ends_next (by_pair (d_switch f n) P (P ↓ 0) F (at_child (d_switch f n) P 0 f refl))
+        (λ q v. ends_next (by_event (d_switch f n) P (P ↓ 0) q.1 (at_child (d_switch f n) P 0 f refl))
+        (λ C w. ends_next (in_child (d_switch f n) P 1 n refl (sited (P ↓ 1) (Ps ++ C ∷ []) Os A n))
+        (λ D i. by_same (d_switch f n) P (P ↓ 1) q.0 D (at_child (d_switch f n) P 1 n refl)))))
     sited P Ps Os A (r_switch f n) =
-        ends_next (by_pair (r_switch f n) P P A (here (r_switch f n) P)) (λ q v. ends_next (by_event (r_switch f n) P P q.1 (here (r_switch f n) P)) (λ C w. ends_next (in_child (r_switch f n) P 0 f refl (sited (P ↓ 0) Ps Os q.0 f)) (λ B u. ends_next (in_child (r_switch f n) P 1 n refl (sited (P ↓ 1) (Ps ++ C ∷ []) Os q.0 n)) (λ D i. by_same (r_switch f n) P (P ↓ 1) B D (at_child (r_switch f n) P 1 n refl)))))
+        ends_next (by_pair (r_switch f n) P P A (here (r_switch f n) P))
+        (λ q v. ends_next (by_event (r_switch f n) P P q.1 (here (r_switch f n) P))
+        (λ C w. ends_next (in_child (r_switch f n) P 0 f refl (sited (P ↓ 0) Ps Os q.0 f))
+        (λ B u. ends_next (in_child (r_switch f n) P 1 n refl (sited (P ↓ 1) (Ps ++ C ∷ []) Os q.0 n))
+        (λ D i. by_same (r_switch f n) P (P ↓ 1) B D (at_child (r_switch f n) P 1 n refl)))))
     sited P Ps Os A (k_switch f e n) =
-        ends_next (in_child (k_switch f e n) P 0 f refl (sited (P ↓ 0) Ps Os A f)) (λ B u. ends_next (by_within (k_switch f e n) P (pair_ty A B)) (λ N v. ends_next (in_child (k_switch f e n) P 1 e refl (sited (P ↓ 1) Ps Os (pair_ty A B) e)) (λ E w. ends_next (by_event (k_switch f e n) P (P ↓ 1) E (at_child (k_switch f e n) P 1 e refl)) (λ C i. ends_next (in_child (k_switch f e n) P 2 n refl (sited (P ↓ 2) (Ps ++ C ∷ []) (Os ++ record { input = A; output = B } ∷ []) A n)) (λ D j. by_same (k_switch f e n) P (P ↓ 2) B D (at_child (k_switch f e n) P 2 n refl))))))
+        ends_next (in_child (k_switch f e n) P 0 f refl (sited (P ↓ 0) Ps Os A f))
+        (λ B u. ends_next (by_within (k_switch f e n) P (pair_ty A B))
+        (λ N v. ends_next (in_child (k_switch f e n) P 1 e refl (sited (P ↓ 1) Ps Os (pair_ty A B) e))
+        (λ E w. ends_next (by_event (k_switch f e n) P (P ↓ 1) E (at_child (k_switch f e n) P 1 e refl))
+        (λ C i. ends_next (in_child (k_switch f e n) P 2 n refl (sited (P ↓ 2) (Ps ++ C ∷ []) (Os ++ record { input = A; output = B } ∷ []) A n))
+        (λ D j. by_same (k_switch f e n) P (P ↓ 2) B D (at_child (k_switch f e n) P 2 n refl))))))
     sited P Ps Os A (p_switch r fs e n) =
-        ends_next (by_counted (p_switch r fs e n) P fs) (λ u v. ends_next (by_within (p_switch r fs e n) P (pair_ty A int_ty)) (λ N w. ends_next (by_leaf (p_switch r fs e n) P 0 Ps (pair_ty A int_ty) r refl) (λ D i. ends_next (all_sited (p_switch r fs e n) P 1 Ps Os D fs (switch_child r fs e n)) (λ Bs m. ends_next (by_one_output (p_switch r fs e n) P 1 fs Bs (switch_child r fs e n) m) (λ B j. ends_next (by_within (p_switch r fs e n) P (pair_ty A (list_ty B))) (λ N k. ends_next (in_child (p_switch r fs e n) P (suc (members fs)) e (event_net_child r fs e n) (sited (P ↓ suc (members fs)) Ps Os (pair_ty A (list_ty B)) e)) (λ E a. ends_next (by_event (p_switch r fs e n) P (P ↓ suc (members fs)) E (at_child (p_switch r fs e n) P (suc (members fs)) e (event_net_child r fs e n))) (λ C b. ends_next (in_child (p_switch r fs e n) P (suc (suc (members fs))) n (after_child r fs e n) (sited (P ↓ suc (suc (members fs))) (Ps ++ C ∷ []) (Os ++ copies (members fs) (record { input = D; output = B })) A n)) (λ G c. by_same (p_switch r fs e n) P (P ↓ suc (suc (members fs))) (list_ty B) G (at_child (p_switch r fs e n) P (suc (suc (members fs))) n (after_child r fs e n)))))))))))
+        ends_next (by_counted (p_switch r fs e n) P fs)
+        (λ u v. ends_next (by_within (p_switch r fs e n) P (pair_ty A int_ty))
+        (λ N w. ends_next (by_leaf (p_switch r fs e n) P 0 Ps (pair_ty A int_ty) r refl)
+        (λ D i. ends_next (all_sited (p_switch r fs e n) P 1 Ps Os D fs (switch_child r fs e n))
+        (λ Bs m. ends_next (by_one_output (p_switch r fs e n) P 1 fs Bs (switch_child r fs e n) m)
+        (λ B j. ends_next (by_within (p_switch r fs e n) P (pair_ty A (list_ty B)))
+        (λ N k.
+        ends_next
+        (in_child (p_switch r fs e n) P (suc (members fs)) e (event_net_child r fs e n) (sited (P ↓ suc (members fs)) Ps Os (pair_ty A (list_ty B)) e))
+        (λ E a.
+        ends_next (by_event (p_switch r fs e n) P (P ↓ suc (members fs)) E (at_child (p_switch r fs e n) P (suc (members fs)) e (event_net_child r fs e n)))
+        (λ C b.
+        ends_next
+        (in_child (p_switch r fs e n) P (suc (suc (members fs))) n (after_child r fs e n)
+        (sited (P ↓ suc (suc (members fs))) (Ps ++ C ∷ []) (Os ++ copies (members fs) (record { input = D; output = B })) A n))
+        (λ G c. by_same (p_switch r fs e n) P (P ↓ suc (suc (members fs))) (list_ty B) G
+        (at_child (p_switch r fs e n) P (suc (suc (members fs))) n (after_child r fs e n)))))))))))
     sited P Ps Os A (old k) = ends_next (by_frozen (old k) P Os k) (λ o u. ends_next (by_same (old k) P P o.input A (here (old k) P)) (λ Z v. ended tt))
 
-    all_sited : (net : Network L) (P : List ℕ) (k : ℕ) (Ps : List TypeTree) (Os : List Arrow) (A : TypeTree) (fs : Networks L) → ((i : ℕ) (f : Network L) → member fs i ≡ Some f → child net (from k i) ≡ Some (a_network f)) → Ends (FaultStandsIn net P) (λ Bs. AsMany fs Bs) (walk_all t P k Ps Os A fs)
+    all_sited : (net : Network L) (P : List ℕ) (k : ℕ) (Ps : List TypeTree) (Os : List Arrow) (A : TypeTree) (fs : Networks L)
+        → ((i : ℕ) (f : Network L) → member fs i ≡ Some f → child net (from k i) ≡ Some (a_network f))
+        → Ends (FaultStandsIn net P) (λ Bs. AsMany fs Bs) (walk_all t P k Ps Os A fs)
     all_sited net P k Ps Os A no_members h = ended no_more
-    all_sited net P k Ps Os A (and_member f fs) h = ends_next (in_child net P k f (h 0 f refl) (sited (P ↓ k) Ps Os A f)) (λ B u. ends_next (all_sited net P (suc k) Ps Os A fs (λ i. h (suc i))) (λ Bs m. ended (one_each m)))
+    all_sited net P k Ps Os A (and_member f fs) h =
+        ends_next (in_child net P k f (h 0 f refl) (sited (P ↓ k) Ps Os A f))
+        (λ B u. ends_next (all_sited net P (suc k) Ps Os A fs (λ i. h (suc i))) (λ Bs m. ended (one_each m)))
 
 faulting : {A : Type 0} {S : TypeFault → Type 0} {P : A → Type 0} {r : Result A TypeFault} {f : TypeFault} → Ends S P r → r ≡ Err f → S f
 faulting {A = A} {S = S} (failed {f = g} q) e = subst S (ap fault e) q
@@ -197,7 +262,10 @@ faulting (ended p) e = absurd (cc)
 check_sited : (A : TypeTree) (net : Network Expression) → Ends (FaultStandsIn net []) (λ t. Unit {0}) (check A net)
 check_sited A net =
     let t : LeafChecker Expression = λ e Qs B. type_answer Qs B e in
-    ends_next (by_within t net [] A) (λ Z u. ends_next (sited t [] [] [] A net) (λ B v. ends_next (by_test t net [] (leb (height net []) 256) Fault.TooDeep tt) (λ w i. ends_next (by_test t net [] (leb (weight net []) 1000000) Fault.TooHeavy tt) (λ j k. ended tt))))
+    ends_next (by_within t net [] A)
+    (λ Z u. ends_next (sited t [] [] [] A net)
+    (λ B v. ends_next (by_test t net [] (leb (height net []) 256) Fault.TooDeep tt)
+    (λ w i. ends_next (by_test t net [] (leb (weight net []) 1000000) Fault.TooHeavy tt) (λ j k. ended tt))))
 
 pub faults_sited : FaultLaw
 faults_sited A net f e = faulting (check_sited A net) e

@@ -9,9 +9,11 @@ use Rattle.net_types.specs.Walk.{LeafChecker, ◌↓◌, within, expect_same, al
 use Rattle.net_types.proofs.WalkTests.{Holds, ok_holds, err_holds, next, weaker, within_tells, same_tells, pair_tells, event_tells, between_tells, counted_tells, frozen_tells, IsExact}
 
 -- the outputs of the members one by one
-pub data EachTyped {L : Type 0} (T : LeafTyping L) (M : TypeTree → Type 0) (Ps : List TypeTree) (Os : List Arrow) (A : TypeTree) : Networks L → List TypeTree → Type 0 where
+pub data EachTyped {L : Type 0} (T : LeafTyping L) (M : TypeTree → Type 0) (Ps : List TypeTree) (Os : List Arrow) (A : TypeTree) : Networks L → List TypeTree
+    → Type 0 where
   no_members_each : EachTyped T M Ps Os A no_members []
-  and_member_each : {f : Network L} {fs : Networks L} {B : TypeTree} {Bs : List TypeTree} → Typed T M Ps Os f A B → EachTyped T M Ps Os A fs Bs → EachTyped T M Ps Os A (and_member f fs) (B ∷ Bs)
+  and_member_each : {f : Network L} {fs : Networks L} {B : TypeTree} {Bs : List TypeTree} → Typed T M Ps Os f A B → EachTyped T M Ps Os A fs Bs
+      → EachTyped T M Ps Os A (and_member f fs) (B ∷ Bs)
 
 within_ends : {Q : TypeTree → Type 0} (A : TypeTree) → (TypeFits A → Q A) → Holds Q (within A)
 within_ends {Q = Q} A s = weaker (within_tells A) (λ B w. subst Q w.0 (s w.1))
@@ -33,52 +35,100 @@ module _ {L : Type 0} (t : LeafChecker L) (T : LeafTyping L) (ex : IsExact t T) 
       go (Ok B) q = ok_holds ((ex e Ps A B).0 q)
       go (Err x) q = err_holds
 
-  all_same_tells : (P : List ℕ) (Ps : List TypeTree) (Os : List Arrow) (A : TypeTree) (k : ℕ) (fs : Networks L) (B : TypeTree) (Cs : List TypeTree) → EachTyped T TypeFits Ps Os A fs Cs → Holds (λ D. (B ≡ D) × AllTyped T TypeFits Ps Os fs A B) (all_same P k B Cs)
+  all_same_tells : (P : List ℕ) (Ps : List TypeTree) (Os : List Arrow) (A : TypeTree) (k : ℕ) (fs : Networks L) (B : TypeTree) (Cs : List TypeTree)
+      → EachTyped T TypeFits Ps Os A fs Cs → Holds (λ D. (B ≡ D) × AllTyped T TypeFits Ps Os fs A B) (all_same P k B Cs)
   all_same_tells P Ps Os A k fs B Cs no_members_each = ok_holds (refl, no_members_typed)
   all_same_tells P Ps Os A k fs B Cs (and_member_each {fs = gs} {B = C} {Bs = Ds} d ds) =
       next (same_tells (P ↓ k) B C) (λ Z s. weaker (all_same_tells P Ps Os A (suc k) gs B Ds ds) (λ D w. (w.0, and_member_typed (turn s.1 d) w.1)))
 
-  one_output_tells : (P : List ℕ) (k : ℕ) (Ps : List TypeTree) (Os : List Arrow) (A : TypeTree) (fs : Networks L) (Bs : List TypeTree) → EachTyped T TypeFits Ps Os A fs Bs → Holds (λ B. AllTyped T TypeFits Ps Os fs A B) (one_output P k Bs)
+  one_output_tells : (P : List ℕ) (k : ℕ) (Ps : List TypeTree) (Os : List Arrow) (A : TypeTree) (fs : Networks L) (Bs : List TypeTree)
+      → EachTyped T TypeFits Ps Os A fs Bs → Holds (λ B. AllTyped T TypeFits Ps Os fs A B) (one_output P k Bs)
   one_output_tells P k Ps Os A fs Bs no_members_each = err_holds
   one_output_tells P k Ps Os A fs Bs (and_member_each {f = g} {fs = gs} {B = B} {Bs = Cs} d ds) =
       weaker (all_same_tells P Ps Os A (suc k) gs B Cs ds) (λ D w. subst (λ Z. AllTyped T TypeFits Ps Os (and_member g gs) A Z) w.0 (and_member_typed d w.1))
 
   mutual
-    pub sound : (P : List ℕ) (Ps : List TypeTree) (Os : List Arrow) (A : TypeTree) (net : Network L) → Holds (λ B. Typed T TypeFits Ps Os net A B) (walk t P Ps Os A net)
+    pub sound : (P : List ℕ) (Ps : List TypeTree) (Os : List Arrow) (A : TypeTree) (net : Network L)
+        → Holds (λ B. Typed T TypeFits Ps Os net A B) (walk t P Ps Os A net)
     sound P Ps Os A (arr e) = weaker (leaf_tells (P ↓ 0) Ps A e) (λ B h. arr_typed h)
     sound P Ps Os A (seq f g) = next (sound (P ↓ 0) Ps Os A f) (λ B d. weaker (sound (P ↓ 1) Ps Os B g) (λ C e. seq_typed d e))
     sound P Ps Os A (first f) =
         next (pair_tells P A) (λ q e. next (sound (P ↓ 0) Ps Os q.0 f) (λ D d. within_ends (pair_ty D q.1) (λ w. under e (first_typed d w))))
     sound P Ps Os A (par fs) =
-        next (counted_tells P fs) (λ u n. next (all_sound P 0 Ps Os A fs) (λ Bs ds. next (one_output_tells P 0 Ps Os A fs Bs ds) (λ B es. within_ends (list_ty B) (λ w. par_typed n.0 n.1 es w))))
+        next (counted_tells P fs)
+        (λ u n. next (all_sound P 0 Ps Os A fs)
+        (λ Bs ds. next (one_output_tells P 0 Ps Os A fs Bs ds) (λ B es. within_ends (list_ty B) (λ w. par_typed n.0 n.1 es w))))
     sound P Ps Os A (loop_pre c f) =
-        next (leaf_tells (P ↓ 0) Ps unit_ty c) (λ C h. next (within_tells (pair_ty A C)) (λ Z w. next (sound (P ↓ 1) Ps Os (pair_ty A C) f) (λ E d. next (pair_tells (P ↓ 1) E) (λ q e. next (same_tells (P ↓ 1) C q.1) (λ D s. ok_holds (loop_typed h w.1 (turn (e ∙ ap (pair_ty q.0) s.1) d)))))))
+        next (leaf_tells (P ↓ 0) Ps unit_ty c)
+        (λ C h. next (within_tells (pair_ty A C))
+        (λ Z w. next (sound (P ↓ 1) Ps Os (pair_ty A C) f)
+        (λ E d. next (pair_tells (P ↓ 1) E)
+        (λ q e. next (same_tells (P ↓ 1) C q.1) (λ D s. ok_holds (loop_typed h w.1 (turn (e ∙ ap (pair_ty q.0) s.1) d)))))))
     sound P Ps Os A (i_pre c) = next (leaf_tells (P ↓ 0) Ps unit_ty c) (λ C h. same_ends (λ Z. T c Ps unit_ty Z) P A C h (λ k. i_pre_typed k))
     sound P Ps Os A (delay q c) =
-        next (between_tells P 1 4096 q) (λ u n. next (leaf_tells (P ↓ 0) Ps unit_ty c) (λ C h. same_ends (λ Z. T c Ps unit_ty Z) P A C h (λ k. delay_typed n.0 n.1 k)))
+        next (between_tells P 1 4096 q)
+        (λ u n. next (leaf_tells (P ↓ 0) Ps unit_ty c) (λ C h. same_ends (λ Z. T c Ps unit_ty Z) P A C h (λ k. delay_typed n.0 n.1 k)))
     sound P Ps Os A (hold c) =
         next (event_tells P A) (λ B e. next (leaf_tells (P ↓ 0) Ps unit_ty c) (λ C h. same_ends (λ Z. T c Ps unit_ty Z) P B C h (λ k. under e (hold_typed k))))
     sound P Ps Os A (accum_by g z) =
-        next (event_tells P A) (λ V e. next (leaf_tells (P ↓ 1) Ps unit_ty z) (λ Z h. next (within_tells (pair_ty Z V)) (λ N w. next (leaf_tells (P ↓ 0) Ps (pair_ty Z V) g) (λ Y k. next (same_tells P Z Y) (λ D s. within_ends (event_ty Z) (λ v. under e (accum_typed h w.1 (subst (λ N. T g Ps (pair_ty Z V) N) s.1 k) v)))))))
+        next (event_tells P A)
+        (λ V e. next (leaf_tells (P ↓ 1) Ps unit_ty z)
+        (λ Z h. next (within_tells (pair_ty Z V))
+        (λ N w. next (leaf_tells (P ↓ 0) Ps (pair_ty Z V) g)
+        (λ Y k.
+        next (same_tells P Z Y) (λ D s. within_ends (event_ty Z) (λ v. under e (accum_typed h w.1 (subst (λ N. T g Ps (pair_ty Z V) N) s.1 k) v)))))))
     sound P Ps Os A (after q c) =
         next (between_tells P 0 (2 ^ 62) q) (λ u n. next (leaf_tells (P ↓ 0) Ps unit_ty c) (λ C h. within_ends (event_ty C) (λ w. after_typed n.1 h w)))
     sound P Ps Os A (repeatedly q c) =
-        next (between_tells P 1 (2 ^ 62) q) (λ u n. next (leaf_tells (P ↓ 0) Ps unit_ty c) (λ C h. within_ends (event_ty C) (λ w. repeatedly_typed n.0 n.1 h w)))
+        next (between_tells P 1 (2 ^ 62) q)
+        (λ u n. next (leaf_tells (P ↓ 0) Ps unit_ty c) (λ C h. within_ends (event_ty C) (λ w. repeatedly_typed n.0 n.1 h w)))
     sound P Ps Os A time = ok_holds time_typed
-    sound P Ps Os A integral = same_ends (λ Z. Typed T TypeFits Ps Os integral Z int_ty → Typed T TypeFits Ps Os integral A int_ty) P int_ty A (λ d. d) (λ s. s integral_typed)
+    sound P Ps Os A integral = same_ends (λ Z. Typed T TypeFits Ps Os integral Z int_ty
+        → Typed T TypeFits Ps Os integral A int_ty) P int_ty A (λ d. d) (λ s. s integral_typed)
     sound P Ps Os A (switch f n) =
-        next (sound (P ↓ 0) Ps Os A f) (λ F d. next (pair_tells (P ↓ 0) F) (λ q e. next (event_tells (P ↓ 0) q.1) (λ C i. next (sound (P ↓ 1) (Ps ++ C ∷ []) Os A n) (λ D k. same_ends (λ Z. Typed T TypeFits (Ps ++ C ∷ []) Os n A Z) (P ↓ 1) q.0 D k (λ m. switch_typed (turn (e ∙ ap (pair_ty q.0) i) d) m)))))
+        next (sound (P ↓ 0) Ps Os A f)
+        (λ F d. next (pair_tells (P ↓ 0) F)
+        (λ q e. next (event_tells (P ↓ 0) q.1)
+        (λ C i. next (sound (P ↓ 1) (Ps ++ C ∷ []) Os A n)
+        (λ D k. same_ends (λ Z. Typed T TypeFits (Ps ++ C ∷ []) Os n A Z) (P ↓ 1) q.0 D k (λ m. switch_typed (turn (e ∙ ap (pair_ty q.0) i) d) m)))))
     sound P Ps Os A (d_switch f n) =
-        next (sound (P ↓ 0) Ps Os A f) (λ F d. next (pair_tells (P ↓ 0) F) (λ q e. next (event_tells (P ↓ 0) q.1) (λ C i. next (sound (P ↓ 1) (Ps ++ C ∷ []) Os A n) (λ D k. same_ends (λ Z. Typed T TypeFits (Ps ++ C ∷ []) Os n A Z) (P ↓ 1) q.0 D k (λ m. d_switch_typed (turn (e ∙ ap (pair_ty q.0) i) d) m)))))
+        next (sound (P ↓ 0) Ps Os A f)
+        (λ F d. next (pair_tells (P ↓ 0) F)
+        (λ q e. next (event_tells (P ↓ 0) q.1)
+        (λ C i. next (sound (P ↓ 1) (Ps ++ C ∷ []) Os A n)
+        (λ D k. same_ends (λ Z. Typed T TypeFits (Ps ++ C ∷ []) Os n A Z) (P ↓ 1) q.0 D k (λ m. d_switch_typed (turn (e ∙ ap (pair_ty q.0) i) d) m)))))
     sound P Ps Os A (r_switch f n) =
-        next (pair_tells P A) (λ q e. next (event_tells P q.1) (λ C i. next (sound (P ↓ 0) Ps Os q.0 f) (λ B d. next (sound (P ↓ 1) (Ps ++ C ∷ []) Os q.0 n) (λ E k. same_ends (λ Z. Typed T TypeFits (Ps ++ C ∷ []) Os n q.0 Z) (P ↓ 1) B E k (λ m. under (e ∙ ap (pair_ty q.0) i) (r_switch_typed d m))))))
+        next (pair_tells P A)
+        (λ q e.
+        next (event_tells P q.1)
+        (λ C i. next (sound (P ↓ 0) Ps Os q.0 f)
+        (λ B d. next (sound (P ↓ 1) (Ps ++ C ∷ []) Os q.0 n)
+        (λ E k. same_ends (λ Z. Typed T TypeFits (Ps ++ C ∷ []) Os n q.0 Z) (P ↓ 1) B E k (λ m. under (e ∙ ap (pair_ty q.0) i) (r_switch_typed d m))))))
     sound P Ps Os A (k_switch f e n) =
-        next (sound (P ↓ 0) Ps Os A f) (λ B d. next (within_tells (pair_ty A B)) (λ N w. next (sound (P ↓ 1) Ps Os (pair_ty A B) e) (λ E h. next (event_tells (P ↓ 1) E) (λ C i. next (sound (P ↓ 2) (Ps ++ C ∷ []) (Os ++ record { input = A; output = B } ∷ []) A n) (λ D k. same_ends (λ Z. Typed T TypeFits (Ps ++ C ∷ []) (Os ++ record { input = A; output = B } ∷ []) n A Z) (P ↓ 2) B D k (λ m. k_switch_typed d w.1 (turn i h) m))))))
+        next (sound (P ↓ 0) Ps Os A f)
+        (λ B d. next (within_tells (pair_ty A B))
+        (λ N w. next (sound (P ↓ 1) Ps Os (pair_ty A B) e)
+        (λ E h. next (event_tells (P ↓ 1) E)
+        (λ C i. next (sound (P ↓ 2) (Ps ++ C ∷ []) (Os ++ record { input = A; output = B } ∷ []) A n)
+        (λ D k. same_ends (λ Z. Typed T TypeFits (Ps ++ C ∷ []) (Os ++ record { input = A; output = B } ∷ []) n A Z) (P ↓ 2) B D k
+        (λ m. k_switch_typed d w.1 (turn i h) m))))))
     sound P Ps Os A (p_switch r fs e n) =
-        next (counted_tells P fs) (λ u c. next (within_tells (pair_ty A int_ty)) (λ N w. next (leaf_tells (P ↓ 0) Ps (pair_ty A int_ty) r) (λ D h. next (all_sound P 1 Ps Os D fs) (λ Bs ds. next (one_output_tells P 1 Ps Os D fs Bs ds) (λ B es. next (within_tells (pair_ty A (list_ty B))) (λ N v. next (sound (P ↓ suc (members fs)) Ps Os (pair_ty A (list_ty B)) e) (λ E d. next (event_tells (P ↓ suc (members fs)) E) (λ C i. next (sound (P ↓ suc (suc (members fs))) (Ps ++ C ∷ []) (Os ++ copies (members fs) (record { input = D; output = B })) A n) (λ G k. same_ends (λ Z. Typed T TypeFits (Ps ++ C ∷ []) (Os ++ copies (members fs) (record { input = D; output = B })) n A Z) (P ↓ suc (suc (members fs))) (list_ty B) G k (λ m. p_switch_typed c.0 c.1 w.1 h es v.1 (turn i d) m))))))))))
+        next (counted_tells P fs)
+        (λ u c. next (within_tells (pair_ty A int_ty))
+        (λ N w. next (leaf_tells (P ↓ 0) Ps (pair_ty A int_ty) r)
+        (λ D h. next (all_sound P 1 Ps Os D fs)
+        (λ Bs ds. next (one_output_tells P 1 Ps Os D fs Bs ds)
+        (λ B es. next (within_tells (pair_ty A (list_ty B)))
+        (λ N v. next (sound (P ↓ suc (members fs)) Ps Os (pair_ty A (list_ty B)) e)
+        (λ E d. next (event_tells (P ↓ suc (members fs)) E)
+        (λ C i. next (sound (P ↓ suc (suc (members fs))) (Ps ++ C ∷ []) (Os ++ copies (members fs) (record { input = D; output = B })) A n)
+        (λ G k. same_ends (λ Z. Typed T TypeFits (Ps ++ C ∷ []) (Os ++ copies (members fs) (record { input = D; output = B })) n A Z)
+        (P ↓ suc (suc (members fs))) (list_ty B) G k (λ m. p_switch_typed c.0 c.1 w.1 h es v.1 (turn i d) m))))))))))
     sound P Ps Os A (old k) =
         next (frozen_tells P Os k) (λ o i. next (same_tells P o.input A) (λ N s. ok_holds (under s.1 (old_typed i))))
 
-    all_sound : (P : List ℕ) (k : ℕ) (Ps : List TypeTree) (Os : List Arrow) (A : TypeTree) (fs : Networks L) → Holds (λ Bs. EachTyped T TypeFits Ps Os A fs Bs) (walk_all t P k Ps Os A fs)
+    all_sound : (P : List ℕ) (k : ℕ) (Ps : List TypeTree) (Os : List Arrow) (A : TypeTree) (fs : Networks L)
+        → Holds (λ Bs. EachTyped T TypeFits Ps Os A fs Bs) (walk_all t P k Ps Os A fs)
     all_sound P k Ps Os A no_members = ok_holds no_members_each
-    all_sound P k Ps Os A (and_member f fs) = next (sound (P ↓ k) Ps Os A f) (λ B d. next (all_sound P (suc k) Ps Os A fs) (λ Bs ds. ok_holds (and_member_each d ds)))
+    all_sound P k Ps Os A (and_member f fs) = next (sound (P ↓ k) Ps Os A f)
+        (λ B d. next (all_sound P (suc k) Ps Os A fs) (λ Bs ds. ok_holds (and_member_each d ds)))

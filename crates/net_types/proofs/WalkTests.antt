@@ -26,7 +26,8 @@ holding {A = A} {P = P} (ok_holds {a = b} p) e = subst P (ap got e) p
     got (Err f) = b
 holding err_holds e = absurd (cc)
 
-pub next : {A B : Type 0} {P : A → Type 0} {Q : B → Type 0} {r : Result A TypeFault} {k : A → Result B TypeFault} → Holds P r → ((a : A) → P a → Holds Q (k a)) → Holds Q (r >>= k)
+pub next : {A B : Type 0} {P : A → Type 0} {Q : B → Type 0} {r : Result A TypeFault} {k : A → Result B TypeFault} → Holds P r → ((a : A) → P a → Holds Q (k a))
+    → Holds Q (r >>= k)
 next (ok_holds {a = a} p) s = s a p
 next err_holds s = err_holds
 
@@ -45,7 +46,8 @@ both : {a b : Bool} → a ≡ true → b ≡ true → (a && b) ≡ true
 both {b = b} d e = ap (λ c. c && b) d ∙ e
 
 pub type_fits-TypeFits : (A : TypeTree) → type_fits A ≡ true → TypeFits A
-type_fits-TypeFits A e = let h : (leb (depth_of A) 32 ≡ true) × (leb (nodes_of A) 256 ≡ true) = both_true (leb (depth_of A) 32) (leb (nodes_of A) 256) e in record { shallow = leb-true (depth_of A) 32 h.0; small = leb-true (nodes_of A) 256 h.1 }
+type_fits-TypeFits A e = let h : (leb (depth_of A) 32 ≡ true) × (leb (nodes_of A) 256 ≡ true) = both_true (leb (depth_of A) 32) (leb (nodes_of A) 256) e in
+    record { shallow = leb-true (depth_of A) 32 h.0; small = leb-true (nodes_of A) 256 h.1 }
 
 pub TypeFits-type_fits : (A : TypeTree) → TypeFits A → type_fits A ≡ true
 TypeFits-type_fits A h = both (le-leb (depth_of A) 32 h.shallow) (le-leb (nodes_of A) 256 h.small)

@@ -14,10 +14,12 @@ use Rattle.net_types.specs.declared.fault.TypeFault.TheVariants as Fault
 use Rattle.net_types.specs.Walk.{◌>>=◌, ◌>>◌, test, within, walk}
 
 -- the output of the network of expressions at P, or the first fault in it
-abbrev pub net_walk : List ℕ → List TypeTree → List Arrow → TypeTree → Network Expression → Result TypeTree TypeFault
+abbrev pub net_walk : List ℕ → List TypeTree → List Arrow → TypeTree → Network Expression
+    → Result TypeTree TypeFault
 net_walk P Ps Os A net = walk (λ e Qs B. type_answer Qs B e) P Ps Os A net
 
--- a whole network with nothing in scope: the input's type first, then the walk, then the height, last the weight
+-- a whole network with nothing in scope: the input's type first, then the walk, then the height,
+-- last the weight
 abbrev pub check : TypeTree → Network Expression → Result TypedNetwork TypeFault
 check A net = do
   within A
@@ -26,6 +28,7 @@ check A net = do
   test (leb (weight net []) 1000000) Fault.TooHeavy
   Ok (record { input = A; output = B; net = net; weight = weight net []; height = height net [] })
 
--- the call's result, seen by view, is the answer; only `Memory`, where a growth was refused, says nothing of it
+-- the call's result, seen by view, is the answer; only `Memory`, where a growth was refused, says
+-- nothing of it
 abbrev pub Gives : {X Y : Type 0} → (X → Y) → Result X TypeFault → Result Y TypeFault → Type 0
 Gives view result answer = GivesUnless Fault.Memory view result answer

@@ -1,4 +1,5 @@
--- Where faults stand: an expression's at an expression, each other that has a position at a network.
+-- Where faults stand: an expression's at an expression, each other that has a position at a
+-- network.
 use Rattle.std.specs.Prelude.{ℕ, ◌≡◌, List, [], ◌++◌, Some}
 use Rattle.net_syntax.specs.Network.{Network}
 use Rattle.net_syntax.specs.Place.{a_network, a_leaf, at}
@@ -19,7 +20,8 @@ pub record LeafPlace {L : Type 0} (net : Network L) (P Q : List ℕ) : Type 0 wh
   pub is : Q ≡ P ++ path
   pub there : at (a_network net) path ≡ Some (a_leaf rest, [])
 
--- the fault of a network at P stands where such a fault may stand; `Memory` is no fault of a network
+-- the fault of a network at P stands where such a fault may stand; `Memory` is no fault of a
+-- network
 abbrev pub FaultStandsIn : {L : Type 0} → Network L → List ℕ → TypeFault → Type 0
 FaultStandsIn net P (Fault.Expr Q x) = LeafPlace net P Q
 FaultStandsIn net P (Fault.Joint Q) = NetworkPlace net P Q

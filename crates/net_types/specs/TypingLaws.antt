@@ -12,12 +12,18 @@ use Rattle.net_types.specs.Check.{net_walk, check}
 
 -- the walk answers an output type exactly where the network has it within the limits
 abbrev pub WalkLaw : Type 0
-WalkLaw = (P : List ℕ) (Ps : List TypeTree) (Os : List Arrow) (A : TypeTree) (net : Network Expression) (B : TypeTree) → (net_walk P Ps Os A net ≡ Ok B) ↔ NetTypedWithin Ps Os net A B
+WalkLaw = (P : List ℕ) (Ps : List TypeTree) (Os : List Arrow) (A : TypeTree)
+    (net : Network Expression) (B : TypeTree)
+    → (net_walk P Ps Os A net ≡ Ok B) ↔ NetTypedWithin Ps Os net A B
 
--- the check answers a network exactly where its input and its tree are those that were given, and it has its types, weight and height within the limits
+-- the check answers a network exactly where its input and its tree are those that were given, and
+-- it has its types, weight and height within the limits
 abbrev pub CheckLaw : Type 0
-CheckLaw = (A : TypeTree) (net : Network Expression) (t : TypedNetwork) → (check A net ≡ Ok t) ↔ ((t.input ≡ A) × (t.net ≡ net) × WithinLimits t)
+CheckLaw = (A : TypeTree) (net : Network Expression) (t : TypedNetwork)
+    → (check A net ≡ Ok t) ↔ ((t.input ≡ A) × (t.net ≡ net) × WithinLimits t)
 
--- a refused expression stands at an expression of the network, and each other fault that has a position at a network in it; `Memory` is never the check's answer
+-- a refused expression stands at an expression of the network, and each other fault that has a
+-- position at a network in it; `Memory` is never the check's answer
 abbrev pub FaultLaw : Type 0
-FaultLaw = (A : TypeTree) (net : Network Expression) (f : TypeFault) → check A net ≡ Err f → FaultStandsIn net [] f
+FaultLaw = (A : TypeTree) (net : Network Expression) (f : TypeFault) → check A net ≡ Err f
+    → FaultStandsIn net [] f

@@ -76,12 +76,15 @@ leaf_fault_at P (Ok B) = Ok B
 leaf_fault_at P (Err x) = Err (Fault.Expr P x)
 
 -- the type of the leaf at P
-abbrev pub leaf : {L : Type 0} → LeafChecker L → List ℕ → List TypeTree → TypeTree → L → Result TypeTree TypeFault
+abbrev pub leaf : {L : Type 0} → LeafChecker L → List ℕ → List TypeTree → TypeTree → L
+    → Result TypeTree TypeFault
 leaf t P Ps A e = leaf_fault_at P (t e Ps A)
 
--- the output of the network at P, under parameters, frozen networks and an input, or the first fault in it
+-- the output of the network at P, under parameters, frozen networks and an input, or the first
+-- fault in it
 abbrev mutual
-  pub walk : {L : Type 0} → LeafChecker L → List ℕ → List TypeTree → List Arrow → TypeTree → Network L → Result TypeTree TypeFault
+  pub walk : {L : Type 0} → LeafChecker L → List ℕ → List TypeTree → List Arrow → TypeTree
+      → Network L → Result TypeTree TypeFault
   walk t P Ps Os A (arr e) = leaf t (P ↓ 0) Ps A e
   walk t P Ps Os A (seq f g) = do
     B ← walk t (P ↓ 0) Ps Os A f
@@ -164,7 +167,8 @@ abbrev mutual
     within (pair_ty A (list_ty B))
     E ← walk t (P ↓ suc (members fs)) Ps Os (pair_ty A (list_ty B)) e
     C ← as_event (P ↓ suc (members fs)) E
-    G ← walk t (P ↓ suc (suc (members fs))) (Ps ++ C ∷ []) (Os ++ copies (members fs) (record { input = D; output = B })) A n
+    G ← walk t (P ↓ suc (suc (members fs))) (Ps ++ C ∷ [])
+        (Os ++ copies (members fs) (record { input = D; output = B })) A n
     expect_same (P ↓ suc (suc (members fs))) (list_ty B) G
   walk t P Ps Os A (old k) = do
     o ← old_at P Os k
@@ -172,7 +176,8 @@ abbrev mutual
     Ok o.output
 
   -- the outputs of the members from child k on
-  pub walk_all : {L : Type 0} → LeafChecker L → List ℕ → ℕ → List TypeTree → List Arrow → TypeTree → Networks L → Result (List TypeTree) TypeFault
+  pub walk_all : {L : Type 0} → LeafChecker L → List ℕ → ℕ → List TypeTree → List Arrow → TypeTree
+      → Networks L → Result (List TypeTree) TypeFault
   walk_all t P k Ps Os A no_members = Ok []
   walk_all t P k Ps Os A (and_member f fs) = do
     B ← walk t (P ↓ k) Ps Os A f

@@ -24,7 +24,8 @@ pub fn walk(
     input: &Ty,
     net: &Net<Expr>,
 ) -> Result<Ty, TypeFault>
-    ensures answer { Gives type_of result (net_walk path.old.items [] [] (type_of input.now) (tree_of net.now)) }
+    ensures answer { Gives type_of result
+        (net_walk path.old.items [] [] (type_of input.now) (tree_of net.now)) }
     ensures path { OnOk result (path.new.items ≡ path.old.items) }
 {
     match net {
@@ -83,7 +84,9 @@ fn walk_constant(alloc: Global, path: &[u32], input: &Ty, c: &Expr) -> Result<Ty
 
 /// The type of the expression that is child 0 of the node at the path.
 fn leaf_type(alloc: Global, path: &[u32], input: &Ty, leaf: &Expr) -> Result<Ty, TypeFault>
-    ensures { Gives type_of result (leaf_fault_at (path.now ↓ 0) (type_answer [] (type_of input.now) (expression_of leaf.now))) }
+    ensures { Gives type_of result
+        (leaf_fault_at (path.now ↓ 0)
+        (type_answer [] (type_of input.now) (expression_of leaf.now))) }
 {
     match type_of_expr(alloc, &[], input, leaf) {
         Ok(ty) => Ok(ty),

@@ -29,14 +29,17 @@ mutual
   spelled_is (bool false) rest = refl
   spelled_is (int n) rest = refl
   spelled_is (pair v w) rest =
-      ap (λ x. codes "(pair " ++ x) (spelled_is v (32 ∷ spelled w (41 ∷ rest)) ∙ ap (λ x. spelling v ++ 32 ∷ x) (spelled_is w (41 ∷ rest))) ∙ ap (λ x. codes "(pair " ++ x) (sym (append_assoc (spelling v) (32 ∷ spelling w ++ 41 ∷ []) rest ∙ ap (λ x. spelling v ++ 32 ∷ x) (append_assoc (spelling w) (41 ∷ []) rest)))
+      ap (λ x. codes "(pair " ++ x) (spelled_is v (32 ∷ spelled w (41 ∷ rest)) ∙ ap (λ x. spelling v ++ 32 ∷ x) (spelled_is w (41 ∷ rest)))
+      ∙ ap (λ x. codes "(pair " ++ x)
+      (sym (append_assoc (spelling v) (32 ∷ spelling w ++ 41 ∷ []) rest ∙ ap (λ x. spelling v ++ 32 ∷ x) (append_assoc (spelling w) (41 ∷ []) rest)))
   spelled_is no_event rest = refl
   spelled_is (event v) rest = ap (λ x. codes "(event " ++ x) (spelled_is v (41 ∷ rest) ∙ sym (append_assoc (spelling v) (41 ∷ []) rest))
   spelled_is (list vs) rest = ap (λ x. codes "(list" ++ x) (all_spelled_is vs (41 ∷ rest) ∙ sym (append_assoc (spellings vs) (41 ∷ []) rest))
 
   pub all_spelled_is : (vs : Datums) (rest : List ℕ) → all_spelled vs rest ≡ spellings vs ++ rest
   all_spelled_is end rest = refl
-  all_spelled_is (more v vs) rest = ap (λ x. 32 ∷ x) (spelled_is v (all_spelled vs rest) ∙ ap (λ x. spelling v ++ x) (all_spelled_is vs rest) ∙ sym (append_assoc (spelling v) (spellings vs) rest))
+  all_spelled_is (more v vs) rest = ap (λ x. 32 ∷ x) (spelled_is v (all_spelled vs rest) ∙ ap (λ x. spelling v ++ x) (all_spelled_is vs rest)
+      ∙ sym (append_assoc (spelling v) (spellings vs) rest))
 
 pub longer : (v : Datum) (rest : List ℕ) → length rest ≤ length (spelled v rest)
 longer v rest = rw (spelled_is v rest) (omega (arith, length-append (spelling v) rest))
@@ -66,24 +69,29 @@ last_ends_in_word (more v end) = ends_in_word v
 last_ends_in_word (more v (more w vs)) = last_ends_in_word (more w vs)
 
 -- a row's rest does not go on the row, so an element's rest does not go on the element
-pub first_apart : (v : Datum) (vs : Datums) (rest : List ℕ) → (last_ends_in_word (more v vs) && goes_on rest) ≡ false → (ends_in_word v && goes_on (all_spelled vs rest)) ≡ false
+pub first_apart : (v : Datum) (vs : Datums) (rest : List ℕ) → (last_ends_in_word (more v vs) && goes_on rest) ≡ false
+    → (ends_in_word v && goes_on (all_spelled vs rest)) ≡ false
 first_apart v end rest e = e
 first_apart v (more w vs) rest e = and_false (ends_in_word v)
 
-pub others_apart : (v : Datum) (vs : Datums) (rest : List ℕ) → (last_ends_in_word (more v vs) && goes_on rest) ≡ false → (last_ends_in_word vs && goes_on rest) ≡ false
+pub others_apart : (v : Datum) (vs : Datums) (rest : List ℕ) → (last_ends_in_word (more v vs) && goes_on rest) ≡ false
+    → (last_ends_in_word vs && goes_on rest) ≡ false
 others_apart v end rest e = refl
 others_apart v (more w vs) rest e = e
 
-pub more_apart : (v : Datum) (vs : Datums) (rest : List ℕ) → (ends_in_word v && goes_on (all_spelled vs rest)) ≡ false → (last_ends_in_word vs && goes_on rest) ≡ false → (last_ends_in_word (more v vs) && goes_on rest) ≡ false
+pub more_apart : (v : Datum) (vs : Datums) (rest : List ℕ) → (ends_in_word v && goes_on (all_spelled vs rest)) ≡ false
+    → (last_ends_in_word vs && goes_on rest) ≡ false → (last_ends_in_word (more v vs) && goes_on rest) ≡ false
 more_apart v end rest d e = d
 more_apart v (more w vs) rest d e = e
 
-pub row_apart : (vs : Datums) (rest : List ℕ) → (row_ends_in_word vs && goes_on rest) ≡ false → (goes_on (all_spelled vs rest) ≡ false) × ((last_ends_in_word vs && goes_on rest) ≡ false)
+pub row_apart : (vs : Datums) (rest : List ℕ) → (row_ends_in_word vs && goes_on rest) ≡ false
+    → (goes_on (all_spelled vs rest) ≡ false) × ((last_ends_in_word vs && goes_on rest) ≡ false)
 row_apart end rest e = (e, refl)
 row_apart (more v end) rest e = (refl, e)
 row_apart (more v (more w vs)) rest e = (refl, (row_apart (more w vs) rest e).1)
 
-pub apart_row : (vs : Datums) (rest : List ℕ) → goes_on (all_spelled vs rest) ≡ false → (last_ends_in_word vs && goes_on rest) ≡ false → (row_ends_in_word vs && goes_on rest) ≡ false
+pub apart_row : (vs : Datums) (rest : List ℕ) → goes_on (all_spelled vs rest) ≡ false → (last_ends_in_word vs && goes_on rest) ≡ false
+    → (row_ends_in_word vs && goes_on rest) ≡ false
 apart_row end rest d e = d
 apart_row (more v end) rest d e = e
 apart_row (more v (more w vs)) rest d e = apart_row (more w vs) rest refl e

@@ -6,14 +6,17 @@ use Rattle.sample_core.specs.ValueView.{datum_of}
 use Rattle.sample_core.specs.declared.sample.Sample.{Sample}
 
 -- an element of a row is smaller than the row
-pub element_smaller : (all : List Sample) (i : ℕ) (s : Sample) → i < length all → datum_size (datum_of (get_or all i s)) < datums_size (list_of (map datum_of all))
+pub element_smaller : (all : List Sample) (i : ℕ) (s : Sample) → i < length all
+    → datum_size (datum_of (get_or all i s)) < datums_size (list_of (map datum_of all))
 element_smaller [] i s h = absurd (omega arith)
 element_smaller (x ∷ xs) zero s h = omega arith
 element_smaller (x ∷ xs) (suc i) s h = omega (arith, element_smaller xs i s (omega arith))
 
 -- the elements from the i-th on
-pub elements_from : (all : List Sample) (i : ℕ) (s : Sample) → i < length all → s ≡ get_or all i s → list_of (map datum_of (drop i all)) ≡ more (datum_of s) (list_of (map datum_of (drop (i + 1) all)))
-elements_from all i s h e = ap (λ x. list_of (map datum_of x)) (drop_more all i s h) ∙ ap (λ x. more (datum_of x) (list_of (map datum_of (drop (i + 1) all)))) (sym e)
+pub elements_from : (all : List Sample) (i : ℕ) (s : Sample) → i < length all → s ≡ get_or all i s
+    → list_of (map datum_of (drop i all)) ≡ more (datum_of s) (list_of (map datum_of (drop (i + 1) all)))
+elements_from all i s h e = ap (λ x. list_of (map datum_of x)) (drop_more all i s h)
+    ∙ ap (λ x. more (datum_of x) (list_of (map datum_of (drop (i + 1) all)))) (sym e)
 
 abbrev count : Datums → ℕ
 count end = 0

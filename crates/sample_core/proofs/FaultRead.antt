@@ -22,9 +22,14 @@ or_parts false b e = (refl, e)
 
 -- no value of a type begins where none of any type does
 not_begun : (A : TypeTree) (bs : List ℕ) → begins_value bs ≡ false → begins_type A bs ≡ false
-not_begun A bs e = go A (by_parts (bytes_eq (word_of bs) (codes "unit")) (bytes_eq (word_of bs) (codes "true")) (bytes_eq (word_of bs) (codes "false")) (bytes_eq (word_of bs) (codes "none")) (is_number (word_of bs)) (bytes_eq (form_word bs) (codes "pair")) (bytes_eq (form_word bs) (codes "event")) (bytes_eq (form_word bs) (codes "list")) e)
+not_begun A bs e =
+    go A
+    (by_parts (bytes_eq (word_of bs) (codes "unit")) (bytes_eq (word_of bs) (codes "true")) (bytes_eq (word_of bs) (codes "false"))
+    (bytes_eq (word_of bs) (codes "none")) (is_number (word_of bs)) (bytes_eq (form_word bs) (codes "pair")) (bytes_eq (form_word bs) (codes "event"))
+    (bytes_eq (form_word bs) (codes "list")) e)
   where
-    by_parts : (u t f n m p v l : Bool) → (u || t || f || n || m || p || v || l) ≡ false → (u ≡ false) × ((t || f) ≡ false) × (m ≡ false) × (p ≡ false) × ((n || v) ≡ false) × (l ≡ false)
+    by_parts : (u t f n m p v l : Bool) → (u || t || f || n || m || p || v || l) ≡ false
+        → (u ≡ false) × ((t || f) ≡ false) × (m ≡ false) × (p ≡ false) × ((n || v) ≡ false) × (l ≡ false)
     by_parts u t f n m p v l h =
         let a : ((u || t || f || n || m || p || v) ≡ false) × (l ≡ false) = or_parts (u || t || f || n || m || p || v) l h in
         let b : ((u || t || f || n || m || p) ≡ false) × (v ≡ false) = or_parts (u || t || f || n || m || p) v a.0 in
@@ -35,7 +40,11 @@ not_begun A bs e = go A (by_parts (bytes_eq (word_of bs) (codes "unit")) (bytes_
         let j : (u ≡ false) × (t ≡ false) = or_parts u t i.0 in
         (j.0, rw (j.1) i.1, d.1, c.1, rw (g.1) b.1, a.1)
 
-    go : (T : TypeTree) → (bytes_eq (word_of bs) (codes "unit") ≡ false) × ((bytes_eq (word_of bs) (codes "true") || bytes_eq (word_of bs) (codes "false")) ≡ false) × (is_number (word_of bs) ≡ false) × (bytes_eq (form_word bs) (codes "pair") ≡ false) × ((bytes_eq (word_of bs) (codes "none") || bytes_eq (form_word bs) (codes "event")) ≡ false) × (bytes_eq (form_word bs) (codes "list") ≡ false) → begins_type T bs ≡ false
+    go : (T : TypeTree)
+        → (bytes_eq (word_of bs) (codes "unit") ≡ false) × ((bytes_eq (word_of bs) (codes "true") || bytes_eq (word_of bs) (codes "false")) ≡ false)
+        × (is_number (word_of bs) ≡ false) × (bytes_eq (form_word bs) (codes "pair") ≡ false)
+        × ((bytes_eq (word_of bs) (codes "none") || bytes_eq (form_word bs) (codes "event")) ≡ false) × (bytes_eq (form_word bs) (codes "list") ≡ false)
+        → begins_type T bs ≡ false
     go unit_ty h = h.0
     go bool_ty h = h.1
     go int_ty h = h.2
@@ -46,10 +55,16 @@ not_begun A bs e = go A (by_parts (bytes_eq (word_of bs) (codes "unit")) (bytes_
 front_refused : (size : ℕ) (A : TypeTree) (bs : List ℕ) → begins_type A bs ≡ false → value_at size A bs ≡ Err (wrong size bs)
 unfolding value_at unit_at truth_at number_at behind_head
 front_refused size unit_ty bs e = let q : bytes_eq (word_of bs) (codes "unit") ≡ false = e in rw q refl
-front_refused size bool_ty bs e = let q : (bytes_eq (word_of bs) (codes "true") ≡ false) × (bytes_eq (word_of bs) (codes "false") ≡ false) = or_parts (bytes_eq (word_of bs) (codes "true")) (bytes_eq (word_of bs) (codes "false")) e in rw (q.0, q.1) refl
+front_refused size bool_ty bs e =
+    let q : (bytes_eq (word_of bs) (codes "true") ≡ false)
+    × (bytes_eq (word_of bs) (codes "false") ≡ false) = or_parts (bytes_eq (word_of bs) (codes "true")) (bytes_eq (word_of bs) (codes "false")) e in
+    rw (q.0, q.1) refl
 front_refused size int_ty bs e = let q : is_number (word_of bs) ≡ false = e in rw q refl
 front_refused size (pair_ty A B) bs e = let q : bytes_eq (form_word bs) (codes "pair") ≡ false = e in rw q refl
-front_refused size (event_ty A) bs e = let q : (bytes_eq (word_of bs) (codes "none") ≡ false) × (bytes_eq (form_word bs) (codes "event") ≡ false) = or_parts (bytes_eq (word_of bs) (codes "none")) (bytes_eq (form_word bs) (codes "event")) e in rw (q.0, q.1) refl
+front_refused size (event_ty A) bs e =
+    let q : (bytes_eq (word_of bs) (codes "none") ≡ false)
+    × (bytes_eq (form_word bs) (codes "event") ≡ false) = or_parts (bytes_eq (word_of bs) (codes "none")) (bytes_eq (form_word bs) (codes "event")) e in
+    rw (q.0, q.1) refl
 front_refused size (list_ty A) bs e = let q : bytes_eq (form_word bs) (codes "list") ≡ false = e in rw q refl
 
 wrong_none : (size : ℕ) (bs : List ℕ) → begins_value bs ≡ false → wrong size bs ≡ Fault.NotAValue (size - length bs)
@@ -60,7 +75,8 @@ wrong_other : (size : ℕ) (bs : List ℕ) → begins_value bs ≡ true → wron
 unfolding wrong
 wrong_other size bs e = rw e refl
 
-large_refused : (size : ℕ) (bs : List ℕ) → is_number (word_of bs) ≡ true → is_in_64 (word_of bs) ≡ false → value_at size int_ty bs ≡ Err (Fault.NumberRange (size - length bs))
+large_refused : (size : ℕ) (bs : List ℕ) → is_number (word_of bs) ≡ true → is_in_64 (word_of bs) ≡ false
+    → value_at size int_ty bs ≡ Err (Fault.NumberRange (size - length bs))
 unfolding value_at number_at
 large_refused size bs h e = rw (h, e) refl
 
@@ -76,11 +92,13 @@ space_here : (size : ℕ) (cs : List ℕ) → behind_byte size 32 (32 ∷ cs) �
 unfolding behind_byte
 space_here size cs = refl
 
-row_read : (size : ℕ) (A : TypeTree) (vs : Datums) (cs tail : List ℕ) → SpellsRow vs A cs tail → elements_at (value_at size A) (length cs) cs ≡ with_front (elements vs) (elements_at (value_at size A) (length cs - length (elements vs)) tail)
+row_read : (size : ℕ) (A : TypeTree) (vs : Datums) (cs tail : List ℕ) → SpellsRow vs A cs tail
+    → elements_at (value_at size A) (length cs) cs ≡ with_front (elements vs) (elements_at (value_at size A) (length cs - length (elements vs)) tail)
 row_read size A vs cs tail s =
     let e : cs ≡ all_spelled vs tail = s.spells ∙ sym (all_spelled_is vs tail) in
     let l : length (all_spelled vs tail) ≤ length cs = omega (arith, ap length e) in
-    sym (front_none (elements_at (value_at size A) (length cs) cs)) ∙ ap (λ x. with_front [] (elements_at (value_at size A) (length cs) x)) e ∙ elements_row size vs A tail (length cs) [] s.typed l (row_apart vs tail s.apart).1
+    sym (front_none (elements_at (value_at size A) (length cs) cs)) ∙ ap (λ x. with_front [] (elements_at (value_at size A) (length cs) x)) e
+    ∙ elements_row size vs A tail (length cs) [] s.typed l (row_apart vs tail s.apart).1
 
 row_begins : (vs : Datums) (A : TypeTree) (cs tail : List ℕ) → SpellsRow vs A cs tail → goes_on cs ≡ false
 row_begins vs A cs tail s = ap goes_on (s.spells ∙ sym (all_spelled_is vs tail)) ∙ (row_apart vs tail s.apart).0
@@ -90,11 +108,13 @@ row_room vs A cs ds s =
     let e : length cs ≡ length (all_spelled vs (32 ∷ ds)) = ap length (s.spells ∙ sym (all_spelled_is vs (32 ∷ ds))) in
     omega (arith, row_longer vs (32 ∷ ds))
 
-end_read : (size : ℕ) (A : TypeTree) (vs : Datums) (cs rest : List ℕ) (f : ValueFault) → SpellsRow vs A cs rest → Wrong a_space_or_close rest (size - length rest) f → value_at size (list_ty A) (codes "(list" ++ cs) ≡ Err f
+end_read : (size : ℕ) (A : TypeTree) (vs : Datums) (cs rest : List ℕ) (f : ValueFault) → SpellsRow vs A cs rest
+    → Wrong a_space_or_close rest (size - length rest) f → value_at size (list_ty A) (codes "(list" ++ cs) ≡ Err f
 unfolding value_at
 end_read size A vs cs rest f s (neither d e) =
     let h : behind_head size (codes "list") (codes "(list" ++ cs) ≡ Ok cs = head_only size (codes "list") cs refl (row_begins vs A cs rest s) in
-    let r : elements_at (value_at size A) (length cs) cs ≡ Ok (elements vs, rest) = row_read size A vs cs rest s ∙ ap (with_front (elements vs)) (none_more (value_at size A) (length cs - length (elements vs)) rest d) ∙ front_alone (elements vs) rest in
+    let r : elements_at (value_at size A) (length cs) cs ≡ Ok (elements vs, rest) = row_read size A vs cs rest s
+    ∙ ap (with_front (elements vs)) (none_more (value_at size A) (length cs - length (elements vs)) rest d) ∙ front_alone (elements vs) rest in
     let b : behind_byte size 41 rest ≡ Err (Fault.NotAValue (size - length rest)) = byte_missing size 41 rest e in
     rw (h, r, b) refl
 
@@ -109,7 +129,8 @@ module _ {R : Type 0} (size : ℕ) (A : TypeTree) (name bs cs : List ℕ) where
       (behind_head size name bs >>= (λ ds. behind_byte size 32 ds >>= (λ es. value_at size A es >>= k))) ≡ Err f
   part_read rest v f k h i e = rw (h, space_here size cs, i) e
 
-pub fault_read : (size : ℕ) (A : TypeTree) (bs : List ℕ) (w : Expectation) (rest : List ℕ) (f : ValueFault) → Leads A bs w rest → Wrong w rest (size - length rest) f → value_at size A bs ≡ Err f
+pub fault_read : (size : ℕ) (A : TypeTree) (bs : List ℕ) (w : Expectation) (rest : List ℕ) (f : ValueFault) → Leads A bs w rest
+    → Wrong w rest (size - length rest) f → value_at size A bs ≡ Err f
 unfolding value_at
 fault_read size A bs w rest f at_front x = front_read size A bs f x
 fault_read size A bs w rest f (behind_pair g) x =
@@ -143,5 +164,6 @@ fault_read size A bs w rest f (behind_elements {A = B} {vs = vs} {bs = cs} s) x 
 fault_read size A bs w rest f (in_element {A = B} {vs = vs} {bs = cs} {cs = ds} s l) x =
     let h : behind_head size (codes "list") (codes "(list" ++ cs) ≡ Ok cs = head_only size (codes "list") cs refl (row_begins vs B cs (32 ∷ ds) s) in
     let i : value_at size B ds ≡ Err f = fault_read size B ds w rest f l x in
-    let r : elements_at (value_at size B) (length cs) cs ≡ Err f = row_read size B vs cs (32 ∷ ds) s ∙ fault_inside (value_at size B) (length cs - length (elements vs)) (elements vs) (32 ∷ ds) ds f refl (row_room vs B cs ds s) i in
+    let r : elements_at (value_at size B) (length cs) cs ≡ Err f = row_read size B vs cs (32 ∷ ds) s
+    ∙ fault_inside (value_at size B) (length cs - length (elements vs)) (elements vs) (32 ∷ ds) ds f refl (row_room vs B cs ds s) i in
     rw (h, r) refl

@@ -24,14 +24,23 @@ begins_from [] e = absurd (omega arith)
 begins_from (d ∷ ds) e = grind arith
 
 pub decimal_has : (n : ℕ) → n < 2 ^ 64 → Digits (decimal n) n
-decimal_has n h = record { some = decimal_nonempty n h; all = digits_decimal (numerals_by_value _ tells_all_ascii_digits) n h; first = first n h; value = digits_value-decimal (numerals_by_value _ tells_all_ascii_digits) n h }
+decimal_has n h =
+    record {
+      some = decimal_nonempty n h;
+      all = digits_decimal (numerals_by_value _ tells_all_ascii_digits) n h;
+      first = first n h;
+      value =
+          digits_value-decimal (numerals_by_value _ tells_all_ascii_digits) n h;
+    }
   where
     first : (m : ℕ) → m < 2 ^ 64 → begins_zero (decimal m) ≡ true → length (decimal m) ≡ 1
     first zero l e = ap length (decimal_digit 0 (omega arith))
-    first (suc m) l e = let b : get_or (decimal (suc m)) 0 0 ≡ 48 = begins_at (decimal (suc m)) e in absurd (omega (arith, first_decimal (suc m) (omega arith) l))
+    first (suc m) l e = let b : get_or (decimal (suc m)) 0 0 ≡ 48 = begins_at (decimal (suc m)) e in
+        absurd (omega (arith, first_decimal (suc m) (omega arith) l))
 
 digits_are : (ds : List ℕ) (n : ℕ) → Digits ds n → n < 2 ^ 64 → decimal n ≡ ds
-digits_are ds n d h = ap decimal (sym d.value) ∙ decimal-digits_value (numerals_by_value _ tells_all_ascii_digits) ds d.all d.some (λ e. d.first (begins_from ds e)) (rw d.value h)
+digits_are ds n d h = ap decimal (sym d.value)
+    ∙ decimal-digits_value (numerals_by_value _ tells_all_ascii_digits) ds d.all d.some (λ e. d.first (begins_from ds e)) (rw d.value h)
 
 no_minus : (ds : List ℕ) → all_ascii_digits ds ≡ true → is_minus ds ≡ false
 no_minus [] e = refl
@@ -67,8 +76,13 @@ are_number ds n d = both (nat_lt 0 (length ds)) (all_ascii_digits ds) (lt-ltb 0 
 pub plain_digits : (ds : List ℕ) (n : ℕ) → Digits ds n → (is_minus ds ≡ false) × (is_number_word ds ≡ true) × (is_well_spelt ds ≡ true) × (magnitude ds ≡ n)
 plain_digits ds n d =
     let m : is_minus ds ≡ false = no_minus ds d.all in
-    let p : digits_part ds ≡ ds = no_minus_part ds m in
-    (m, ap (λ x. nat_lt 0 (length x) && all_ascii_digits x) p ∙ are_number ds n d, ap (λ x. nat_eq (length ds) 1 || not (begins_zero x)) p ∙ spelt (nat_eq (length ds) 1) (begins_zero ds) (go (begins_zero ds) refl), ap (digits_value 10) p ∙ d.value)
+    let p : digits_part ds ≡ ds = no_minus_part ds m in (
+      m,
+      ap (λ x. nat_lt 0 (length x) && all_ascii_digits x) p ∙ are_number ds n d,
+      ap (λ x. nat_eq (length ds) 1 || not (begins_zero x)) p
+          ∙ spelt (nat_eq (length ds) 1) (begins_zero ds) (go (begins_zero ds) refl),
+      ap (digits_value 10) p ∙ d.value,
+    )
   where
     go : (b : Bool) → begins_zero ds ≡ b → begins_zero ds ≡ false ⊎ nat_eq (length ds) 1 ≡ true
     go true e = inr (eq-eqb (length ds) 1 (d.first e))
@@ -91,15 +105,28 @@ pub record Spells64 (w : List ℕ) (z : ℤ) : Type 0 where
 pub integer_spelled : (z : ℤ) → FitsSigned w64 z → Spells64 (signed_decimal z) z
 integer_spelled (pos n) f =
     let i : n < 2 ^ 63 = f.sfits in
-    let d : (is_minus (decimal n) ≡ false) × (is_number_word (decimal n) ≡ true) × (is_well_spelt (decimal n) ≡ true) × (magnitude (decimal n) ≡ n) = plain_digits (decimal n) n (decimal_has n (omega arith)) in
-    let r : is_in_64 (decimal n) ≡ true = ap (λ b. if b then nat_le (magnitude (decimal n)) (2 ^ 63) else nat_lt (magnitude (decimal n)) (2 ^ 63)) d.0 ∙ lt-ltb (magnitude (decimal n)) (2 ^ 63) (rw d.3 i) in
-    record { word = both (is_number_word (decimal n)) (is_well_spelt (decimal n)) d.1 d.2; fits = r; value = ap (λ b. if b then neg_ℤ (pos (magnitude (decimal n))) else pos (magnitude (decimal n))) d.0 ∙ ap pos d.3 }
+    let d : (is_minus (decimal n) ≡ false) × (is_number_word (decimal n) ≡ true) × (is_well_spelt (decimal n) ≡ true)
+    × (magnitude (decimal n) ≡ n) = plain_digits (decimal n) n (decimal_has n (omega arith)) in
+    let r : is_in_64 (decimal n) ≡ true = ap (λ b. if b then nat_le (magnitude (decimal n)) (2 ^ 63) else nat_lt (magnitude (decimal n)) (2 ^ 63)) d.0
+    ∙ lt-ltb (magnitude (decimal n)) (2 ^ 63) (rw d.3 i) in
+    record {
+      word = both (is_number_word (decimal n)) (is_well_spelt (decimal n)) d.1 d.2;
+      fits = r;
+      value =
+          ap (λ b. if b then neg_ℤ (pos (magnitude (decimal n))) else pos (magnitude (decimal n))) d.0 ∙ ap pos d.3;
+    }
 integer_spelled (negsuc n) f =
     let i : n < 2 ^ 63 = f.sfits in
     let d : Digits (decimal (suc n)) (suc n) = decimal_has (suc n) (omega arith) in
     let r : is_in_64 (45 ∷ decimal (suc n)) ≡ true = le-leb (magnitude (45 ∷ decimal (suc n))) (2 ^ 63) (rw d.value (omega arith)) in
-    let s : is_well_spelt (45 ∷ decimal (suc n)) ≡ true = spelt (nat_eq (length (45 ∷ decimal (suc n))) 1) (begins_zero (decimal (suc n))) (inl (positive_first (suc n) (omega arith) (omega arith))) in
-    record { word = both (is_number_word (45 ∷ decimal (suc n))) (is_well_spelt (45 ∷ decimal (suc n))) (are_number (decimal (suc n)) (suc n) d) s; fits = r; value = ap (λ k. neg_ℤ (pos k)) d.value }
+    let s : is_well_spelt (45 ∷ decimal (suc n)) ≡ true =
+    spelt (nat_eq (length (45 ∷ decimal (suc n))) 1) (begins_zero (decimal (suc n))) (inl (positive_first (suc n) (omega arith) (omega arith))) in
+    record {
+      word = both (is_number_word (45 ∷ decimal (suc n))) (is_well_spelt (45 ∷ decimal (suc n))) (are_number (decimal (suc n)) (suc n) d) s;
+      fits =
+          r;
+      value = ap (λ k. neg_ℤ (pos k)) d.value;
+    }
 
 -- a number word that is well spelt
 pub record Word (w : List ℕ) : Type 0 where
@@ -109,8 +136,14 @@ pub record Word (w : List ℕ) : Type 0 where
 
 pub word_has : (w : List ℕ) → is_number_word w ≡ true → is_well_spelt w ≡ true → Word w
 word_has w a b =
-    let p : (nat_lt 0 (length (digits_part w)) ≡ true) × (all_ascii_digits (digits_part w) ≡ true) = parts_of (nat_lt 0 (length (digits_part w))) (all_ascii_digits (digits_part w)) a in
-    record { some = ltb-true 0 (length (digits_part w)) p.0; all = p.1; first = λ e. eqb-true (length w) 1 (spelt_back (nat_eq (length w) 1) (begins_zero (digits_part w)) b e) }
+    let p : (nat_lt 0 (length (digits_part w)) ≡ true)
+    × (all_ascii_digits (digits_part w) ≡ true) = parts_of (nat_lt 0 (length (digits_part w))) (all_ascii_digits (digits_part w)) a in
+    record {
+      some = ltb-true 0 (length (digits_part w)) p.0;
+      all = p.1;
+      first = λ e.
+          eqb-true (length w) 1 (spelt_back (nat_eq (length w) 1) (begins_zero (digits_part w)) b e);
+    }
 
 pub plain_back : (w : List ℕ) → is_minus w ≡ false → Word w → magnitude w < 2 ^ 64 → w ≡ decimal (magnitude w)
 plain_back w m h l =
@@ -118,13 +151,29 @@ plain_back w m h l =
     let d : Digits (digits_part w) (magnitude w) = record { some = h.some; all = h.all; first = λ e. ap length p ∙ h.first e; value = refl } in
     sym p ∙ sym (digits_are (digits_part w) (magnitude w) d l)
 
-minus_back : (ds : List ℕ) (m : ℕ) → Word (45 ∷ ds) → digits_value 10 ds ≡ m → m ≤ 2 ^ 63 → FitsSigned w64 (neg_ℤ (pos m)) × (45 ∷ ds ≡ signed_decimal (neg_ℤ (pos m)))
+minus_back : (ds : List ℕ) (m : ℕ) → Word (45 ∷ ds) → digits_value 10 ds ≡ m → m ≤ 2 ^ 63
+    → FitsSigned w64 (neg_ℤ (pos m)) × (45 ∷ ds ≡ signed_decimal (neg_ℤ (pos m)))
 minus_back ds zero h v l =
-    let d : Digits ds 0 = record { some = h.some; all = h.all; first = λ e. absurd (let i : length (45 ∷ ds) ≡ 1 = h.first e in let j : 0 < length ds = h.some in omega arith); value = v } in
+    let d : Digits ds 0 =
+    record {
+      some = h.some;
+      all = h.all;
+      first = λ e.
+          absurd (let i : length (45 ∷ ds) ≡ 1 = h.first e in let j : 0 < length ds = h.some in omega arith);
+      value = v;
+    } in
     let e : decimal 0 ≡ ds = digits_are ds 0 d (omega arith) in
-    absurd (let z : begins_zero ds ≡ true = ap begins_zero (sym e ∙ decimal_digit 0 (omega arith)) in let i : length (45 ∷ ds) ≡ 1 = h.first z in let j : 0 < length ds = h.some in omega arith)
+    absurd (let z : begins_zero ds ≡ true = ap begins_zero (sym e ∙ decimal_digit 0 (omega arith)) in let i : length (45 ∷ ds) ≡ 1 = h.first z in
+    let j : 0 < length ds = h.some in omega arith)
 minus_back ds (suc m) h v l =
-    let d : Digits ds (suc m) = record { some = h.some; all = h.all; first = λ e. absurd (let i : length (45 ∷ ds) ≡ 1 = h.first e in let j : 0 < length ds = h.some in omega arith); value = v } in
+    let d : Digits ds (suc m) =
+    record {
+      some = h.some;
+      all = h.all;
+      first = λ e.
+          absurd (let i : length (45 ∷ ds) ≡ 1 = h.first e in let j : 0 < length ds = h.some in omega arith);
+      value = v;
+    } in
     (record { sfits = omega arith }, ap (λ x. 45 ∷ x) (sym (digits_are ds (suc m) d (omega arith))))
 
 minus_word : (w : List ℕ) → is_minus w ≡ true → w ≡ 45 ∷ digits_part w
@@ -139,14 +188,17 @@ integer_back w e f =
   where
     go : (m : Bool) → is_minus w ≡ m → Word w → is_in_64 w ≡ true → FitsSigned w64 (number_of w) × (w ≡ signed_decimal (number_of w))
     go false m h i =
-        let l : magnitude w < 2 ^ 63 = ltb-true (magnitude w) (2 ^ 63) (ap (λ b. if b then nat_le (magnitude w) (2 ^ 63) else nat_lt (magnitude w) (2 ^ 63)) (sym m) ∙ i) in
+        let l : magnitude w < 2 ^ 63 = ltb-true (magnitude w) (2 ^ 63)
+        (ap (λ b. if b then nat_le (magnitude w) (2 ^ 63) else nat_lt (magnitude w) (2 ^ 63)) (sym m) ∙ i) in
         let n : number_of w ≡ pos (magnitude w) = ap (λ b. if b then neg_ℤ (pos (magnitude w)) else pos (magnitude w)) m in
         subst (λ x. FitsSigned w64 x × (w ≡ signed_decimal x)) (sym n) (record { sfits = l }, plain_back w m h (omega arith))
     go true m h i =
-        let l : magnitude w ≤ 2 ^ 63 = leb-true (magnitude w) (2 ^ 63) (ap (λ b. if b then nat_le (magnitude w) (2 ^ 63) else nat_lt (magnitude w) (2 ^ 63)) (sym m) ∙ i) in
+        let l : magnitude w ≤ 2 ^ 63 = leb-true (magnitude w) (2 ^ 63)
+        (ap (λ b. if b then nat_le (magnitude w) (2 ^ 63) else nat_lt (magnitude w) (2 ^ 63)) (sym m) ∙ i) in
         let n : number_of w ≡ neg_ℤ (pos (magnitude w)) = ap (λ b. if b then neg_ℤ (pos (magnitude w)) else pos (magnitude w)) m in
         let e : w ≡ 45 ∷ digits_part w = minus_word w m in
-        let r : FitsSigned w64 (neg_ℤ (pos (magnitude w))) × (45 ∷ digits_part w ≡ signed_decimal (neg_ℤ (pos (magnitude w)))) = minus_back (digits_part w) (magnitude w) (subst Word e h) refl l in
+        let r : FitsSigned w64 (neg_ℤ (pos (magnitude w)))
+        × (45 ∷ digits_part w ≡ signed_decimal (neg_ℤ (pos (magnitude w)))) = minus_back (digits_part w) (magnitude w) (subst Word e h) refl l in
         subst (λ x. FitsSigned w64 x × (w ≡ signed_decimal x)) (sym n) (r.0, e ∙ r.1)
 
 -- the digits of a number's spelling

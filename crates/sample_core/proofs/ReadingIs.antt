@@ -37,7 +37,8 @@ behind v bs rest e = ap (drop (length (spelling v))) e ∙ drop_at (spelling v) 
 found : (A : TypeTree) (bs : List ℕ) (v : Datum) (n : ℕ) → reading A bs ≡ Ok (v, n) → (n ≡ length (spelling v)) × SpellsValue v A bs (drop n bs)
 unfolding reading
 found A bs v n e =
-    let a : (x : Datum × List ℕ) × (value_at (length bs) A bs ≡ Ok x) × ◌≡◌ {A = Result (Datum × ℕ) ValueFault} (Ok (x.0, length bs - length x.1)) (Ok (v, n)) = bind_ok (value_at (length bs) A bs) _ (v, n) e in
+    let a : (x : Datum × List ℕ) × (value_at (length bs) A bs ≡ Ok x)
+    × ◌≡◌ {A = Result (Datum × ℕ) ValueFault} (Ok (x.0, length bs - length x.1)) (Ok (v, n)) = bind_ok (value_at (length bs) A bs) _ (v, n) e in
     let s : SpellsValue a.0.0 A bs a.0.1 = spells_found (length bs) A bs a.0 a.1 in
     let p : (a.0.0, length bs - length a.0.1) ≡ (v, n) = ok_is a.2 in
     let t : length bs - length a.0.1 ≡ length (spelling a.0.0) = takes a.0.0 bs a.0.1 s.spells in
@@ -63,4 +64,5 @@ one_value_law A bs rest more v w h k =
 pub read_again_law : ReadAgainLaw
 read_again_law A v rest h e =
     let d : drop (length (spelling v)) (spelling v ++ rest) ≡ rest = behind v (spelling v ++ rest) rest refl in
-    only A (spelling v ++ rest) v (length (spelling v)) (refl, subst (SpellsValue v A (spelling v ++ rest)) (sym d) (record { typed = h; spells = refl; apart = e }))
+    only A (spelling v ++ rest) v (length (spelling v))
+    (refl, subst (SpellsValue v A (spelling v ++ rest)) (sym d) (record { typed = h; spells = refl; apart = e }))

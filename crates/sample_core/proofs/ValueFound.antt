@@ -41,7 +41,8 @@ unfolding behind_byte
 byte_found size b [] cs e = absurd (cc)
 byte_found size b (c ∷ bs) cs e = go (if_is (nat_eq c b) (Ok bs) (Err (Fault.NotAValue (size - length (c ∷ bs)))) (Ok cs) e)
   where
-    go : ((nat_eq c b ≡ true) × ◌≡◌ {A = Result (List ℕ) ValueFault} (Ok bs) (Ok cs)) ⊎ ((nat_eq c b ≡ false) × ◌≡◌ {A = Result (List ℕ) ValueFault} (Err (Fault.NotAValue (size - length (c ∷ bs)))) (Ok cs)) → c ∷ bs ≡ b ∷ cs
+    go : ((nat_eq c b ≡ true) × ◌≡◌ {A = Result (List ℕ) ValueFault} (Ok bs) (Ok cs))
+        ⊎ ((nat_eq c b ≡ false) × ◌≡◌ {A = Result (List ℕ) ValueFault} (Err (Fault.NotAValue (size - length (c ∷ bs)))) (Ok cs)) → c ∷ bs ≡ b ∷ cs
     go (inl h) = ap (λ x. x ∷ bs) (eqb-true c b h.0) ∙ ap (λ x. b ∷ x) (ok_is h.1)
     go (inr h) = absurd (not_ok h.1)
 
@@ -49,7 +50,9 @@ pub head_found : (size c : ℕ) (w bs cs : List ℕ) → behind_head size (c ∷
 unfolding behind_head
 head_found size c w bs cs e = go (if_is (bytes_eq (form_word bs) (c ∷ w)) (Ok (after_form bs)) (Err (wrong size bs)) (Ok cs) e)
   where
-    go : ((bytes_eq (form_word bs) (c ∷ w) ≡ true) × ◌≡◌ {A = Result (List ℕ) ValueFault} (Ok (after_form bs)) (Ok cs)) ⊎ ((bytes_eq (form_word bs) (c ∷ w) ≡ false) × ◌≡◌ {A = Result (List ℕ) ValueFault} (Err (wrong size bs)) (Ok cs)) → (bs ≡ 40 ∷ c ∷ w ++ cs) × (goes_on cs ≡ false)
+    go : ((bytes_eq (form_word bs) (c ∷ w) ≡ true) × ◌≡◌ {A = Result (List ℕ) ValueFault} (Ok (after_form bs)) (Ok cs))
+        ⊎ ((bytes_eq (form_word bs) (c ∷ w) ≡ false) × ◌≡◌ {A = Result (List ℕ) ValueFault} (Err (wrong size bs)) (Ok cs))
+        → (bs ≡ 40 ∷ c ∷ w ++ cs) × (goes_on cs ≡ false)
     go (inl h) = subst (λ x. (bs ≡ 40 ∷ c ∷ w ++ x) × (goes_on x ≡ false)) (ok_is h.1) (at_form bs c w h.0)
     go (inr h) = absurd (not_ok h.1)
 
@@ -70,63 +73,97 @@ unit_found : (size : ℕ) (bs : List ℕ) (y : Datum × List ℕ) → unit_at si
 unfolding unit_at
 unit_found size bs y e = go (if_is (bytes_eq (word_of bs) (codes "unit")) (Ok (unit, after_word bs)) (Err (wrong size bs)) (Ok y) e)
   where
-    go : ((bytes_eq (word_of bs) (codes "unit") ≡ true) × ◌≡◌ {A = Result (Datum × List ℕ) ValueFault} (Ok (unit, after_word bs)) (Ok y)) ⊎ ((bytes_eq (word_of bs) (codes "unit") ≡ false) × ◌≡◌ {A = Result (Datum × List ℕ) ValueFault} (Err (wrong size bs)) (Ok y)) → Is unit_ty bs y
+    go : ((bytes_eq (word_of bs) (codes "unit") ≡ true) × ◌≡◌ {A = Result (Datum × List ℕ) ValueFault} (Ok (unit, after_word bs)) (Ok y))
+        ⊎ ((bytes_eq (word_of bs) (codes "unit") ≡ false) × ◌≡◌ {A = Result (Datum × List ℕ) ValueFault} (Err (wrong size bs)) (Ok y)) → Is unit_ty bs y
     go (inl p) = subst (Is unit_ty bs) (ok_is p.1) (record { typed = unit_has; spells = at_word bs (codes "unit") p.0; apart = (split bs).1 })
     go (inr p) = absurd (not_ok p.1)
 
 truth_found : (size : ℕ) (bs : List ℕ) (y : Datum × List ℕ) → truth_at size bs ≡ Ok y → Is bool_ty bs y
 unfolding truth_at
-truth_found size bs y e = go (if_is (bytes_eq (word_of bs) (codes "true")) (Ok (bool true, after_word bs)) (if bytes_eq (word_of bs) (codes "false") then Ok (bool false, after_word bs) else Err (wrong size bs)) (Ok y) e)
+truth_found size bs y e =
+    go
+    (if_is (bytes_eq (word_of bs) (codes "true")) (Ok (bool true, after_word bs))
+    (if bytes_eq (word_of bs) (codes "false") then Ok (bool false, after_word bs) else Err (wrong size bs)) (Ok y) e)
   where
-    go2 : ((bytes_eq (word_of bs) (codes "false") ≡ true) × ◌≡◌ {A = Result (Datum × List ℕ) ValueFault} (Ok (bool false, after_word bs)) (Ok y)) ⊎ ((bytes_eq (word_of bs) (codes "false") ≡ false) × ◌≡◌ {A = Result (Datum × List ℕ) ValueFault} (Err (wrong size bs)) (Ok y)) → Is bool_ty bs y
+    go2 : ((bytes_eq (word_of bs) (codes "false") ≡ true) × ◌≡◌ {A = Result (Datum × List ℕ) ValueFault} (Ok (bool false, after_word bs)) (Ok y))
+        ⊎ ((bytes_eq (word_of bs) (codes "false") ≡ false) × ◌≡◌ {A = Result (Datum × List ℕ) ValueFault} (Err (wrong size bs)) (Ok y)) → Is bool_ty bs y
     go2 (inl p) = subst (Is bool_ty bs) (ok_is p.1) (record { typed = bool_has; spells = at_word bs (codes "false") p.0; apart = (split bs).1 })
     go2 (inr p) = absurd (not_ok p.1)
 
-    go : ((bytes_eq (word_of bs) (codes "true") ≡ true) × ◌≡◌ {A = Result (Datum × List ℕ) ValueFault} (Ok (bool true, after_word bs)) (Ok y)) ⊎ ((bytes_eq (word_of bs) (codes "true") ≡ false) × ((if bytes_eq (word_of bs) (codes "false") then Ok (bool false, after_word bs) else Err (wrong size bs)) ≡ Ok y)) → Is bool_ty bs y
+    go : ((bytes_eq (word_of bs) (codes "true") ≡ true) × ◌≡◌ {A = Result (Datum × List ℕ) ValueFault} (Ok (bool true, after_word bs)) (Ok y))
+        ⊎ ((bytes_eq (word_of bs) (codes "true") ≡ false)
+        × ((if bytes_eq (word_of bs) (codes "false") then Ok (bool false, after_word bs) else Err (wrong size bs)) ≡ Ok y)) → Is bool_ty bs y
     go (inl p) = subst (Is bool_ty bs) (ok_is p.1) (record { typed = bool_has; spells = at_word bs (codes "true") p.0; apart = (split bs).1 })
     go (inr p) = go2 (if_is (bytes_eq (word_of bs) (codes "false")) (Ok (bool false, after_word bs)) (Err (wrong size bs)) (Ok y) p.1)
 
 number_found : (size : ℕ) (bs : List ℕ) (y : Datum × List ℕ) → number_at size bs ≡ Ok y → Is int_ty bs y
 unfolding number_at
-number_found size bs y e = go (if_is (is_number (word_of bs)) (if is_in_64 (word_of bs) then Ok (int (number_of (word_of bs)), after_word bs) else Err (Fault.NumberRange (size - length bs))) (Err (wrong size bs)) (Ok y) e)
+number_found size bs y e =
+    go
+    (if_is (is_number (word_of bs)) (if is_in_64 (word_of bs) then Ok (int (number_of (word_of bs)), after_word bs)
+    else Err (Fault.NumberRange (size - length bs))) (Err (wrong size bs)) (Ok y) e)
   where
-    go2 : is_number (word_of bs) ≡ true → ((is_in_64 (word_of bs) ≡ true) × ◌≡◌ {A = Result (Datum × List ℕ) ValueFault} (Ok (int (number_of (word_of bs)), after_word bs)) (Ok y)) ⊎ ((is_in_64 (word_of bs) ≡ false) × ◌≡◌ {A = Result (Datum × List ℕ) ValueFault} (Err (Fault.NumberRange (size - length bs))) (Ok y)) → Is int_ty bs y
+    go2 : is_number (word_of bs) ≡ true
+        → ((is_in_64 (word_of bs) ≡ true) × ◌≡◌ {A = Result (Datum × List ℕ) ValueFault} (Ok (int (number_of (word_of bs)), after_word bs)) (Ok y))
+        ⊎ ((is_in_64 (word_of bs) ≡ false) × ◌≡◌ {A = Result (Datum × List ℕ) ValueFault} (Err (Fault.NumberRange (size - length bs))) (Ok y)) → Is int_ty bs y
     go2 h (inl p) =
         let i : FitsSigned w64 (number_of (word_of bs)) × (word_of bs ≡ signed_decimal (number_of (word_of bs))) = integer_back (word_of bs) h p.0 in
         subst (Is int_ty bs) (ok_is p.1) (record { typed = int_has i.0; spells = (split bs).0 ∙ ap (λ x. x ++ after_word bs) i.1; apart = (split bs).1 })
     go2 h (inr p) = absurd (not_ok p.1)
 
-    go : ((is_number (word_of bs) ≡ true) × ((if is_in_64 (word_of bs) then Ok (int (number_of (word_of bs)), after_word bs) else Err (Fault.NumberRange (size - length bs))) ≡ Ok y)) ⊎ ((is_number (word_of bs) ≡ false) × ◌≡◌ {A = Result (Datum × List ℕ) ValueFault} (Err (wrong size bs)) (Ok y)) → Is int_ty bs y
-    go (inl p) = go2 p.0 (if_is (is_in_64 (word_of bs)) (Ok (int (number_of (word_of bs)), after_word bs)) (Err (Fault.NumberRange (size - length bs))) (Ok y) p.1)
+    go : ((is_number (word_of bs) ≡ true)
+        × ((if is_in_64 (word_of bs) then Ok (int (number_of (word_of bs)), after_word bs) else Err (Fault.NumberRange (size - length bs))) ≡ Ok y))
+        ⊎ ((is_number (word_of bs) ≡ false) × ◌≡◌ {A = Result (Datum × List ℕ) ValueFault} (Err (wrong size bs)) (Ok y)) → Is int_ty bs y
+    go (inl p) =
+        go2 p.0 (if_is (is_in_64 (word_of bs)) (Ok (int (number_of (word_of bs)), after_word bs)) (Err (Fault.NumberRange (size - length bs))) (Ok y) p.1)
     go (inr p) = absurd (not_ok p.1)
 
 behind_shorter : (v : Datum) (r bs : List ℕ) (n : ℕ) → bs ≡ spelled v r → suc (length bs) ≤ suc n → length r ≤ n
 behind_shorter v r bs n e l = let k : length bs ≡ length (spelled v r) = ap length e in omega (arith, longer v r)
 
-pub elements_found : (size : ℕ) (A : TypeTree) → ((bs : List ℕ) (y : Datum × List ℕ) → value_at size A bs ≡ Ok y → Is A bs y) → (n : ℕ) (bs : List ℕ) (y : List Datum × List ℕ) → length bs ≤ n → elements_at (value_at size A) n bs ≡ Ok y → AreElements A bs y
+pub elements_found : (size : ℕ) (A : TypeTree) → ((bs : List ℕ) (y : Datum × List ℕ) → value_at size A bs ≡ Ok y → Is A bs y)
+    → (n : ℕ) (bs : List ℕ) (y : List Datum × List ℕ) → length bs ≤ n → elements_at (value_at size A) n bs ≡ Ok y → AreElements A bs y
 unfolding elements_at
 elements_found size A h zero [] y l e = subst (AreElements A []) (ok_is e) (record { typed = end_has; spells = refl; apart = refl; ended = refl })
 elements_found size A h zero (b ∷ bs) y l e = absurd (omega arith)
 elements_found size A h (suc n) [] y l e = subst (AreElements A []) (ok_is e) (record { typed = end_has; spells = refl; apart = refl; ended = refl })
-elements_found size A h (suc n) (b ∷ bs) y l e = go (if_is (nat_eq b 32) (value_at size A bs >>= (λ x. elements_at (value_at size A) n x.1 >>= (λ z. Ok (x.0 ∷ z.0, z.1)))) (Ok ([], b ∷ bs)) (Ok y) e) (λ cs z p q. elements_found size A h n cs z p q)
+elements_found size A h (suc n) (b ∷ bs) y l e =
+    go (if_is (nat_eq b 32) (value_at size A bs >>= (λ x. elements_at (value_at size A) n x.1 >>= (λ z. Ok (x.0 ∷ z.0, z.1)))) (Ok ([], b ∷ bs)) (Ok y) e)
+    (λ cs z p q. elements_found size A h n cs z p q)
   where
-    go : ((nat_eq b 32 ≡ true) × ((value_at size A bs >>= (λ x. elements_at (value_at size A) n x.1 >>= (λ z. Ok (x.0 ∷ z.0, z.1)))) ≡ Ok y)) ⊎ ((nat_eq b 32 ≡ false) × ◌≡◌ {A = Result (List Datum × List ℕ) ValueFault} (Ok ([], b ∷ bs)) (Ok y)) → ((cs : List ℕ) (z : List Datum × List ℕ) → length cs ≤ n → elements_at (value_at size A) n cs ≡ Ok z → AreElements A cs z) → AreElements A (b ∷ bs) y
+    go : ((nat_eq b 32 ≡ true) × ((value_at size A bs >>= (λ x. elements_at (value_at size A) n x.1 >>= (λ z. Ok (x.0 ∷ z.0, z.1)))) ≡ Ok y))
+        ⊎ ((nat_eq b 32 ≡ false) × ◌≡◌ {A = Result (List Datum × List ℕ) ValueFault} (Ok ([], b ∷ bs)) (Ok y))
+        → ((cs : List ℕ) (z : List Datum × List ℕ) → length cs ≤ n → elements_at (value_at size A) n cs ≡ Ok z → AreElements A cs z) → AreElements A (b ∷ bs) y
     go (inl p) next =
         let i : b ≡ 32 = eqb-true b 32 p.0 in
-        let a : (x : Datum × List ℕ) × (value_at size A bs ≡ Ok x) × ((elements_at (value_at size A) n x.1 >>= (λ z. Ok (x.0 ∷ z.0, z.1))) ≡ Ok y) = bind_ok (value_at size A bs) _ y p.1 in
-        let c : (z : List Datum × List ℕ) × (elements_at (value_at size A) n a.0.1 ≡ Ok z) × ◌≡◌ {A = Result (List Datum × List ℕ) ValueFault} (Ok (a.0.0 ∷ z.0, z.1)) (Ok y) = bind_ok (elements_at (value_at size A) n a.0.1) _ y a.2 in
+        let a : (x : Datum × List ℕ) × (value_at size A bs ≡ Ok x)
+        × ((elements_at (value_at size A) n x.1 >>= (λ z. Ok (x.0 ∷ z.0, z.1))) ≡ Ok y) = bind_ok (value_at size A bs) _ y p.1 in
+        let c : (z : List Datum × List ℕ) × (elements_at (value_at size A) n a.0.1 ≡ Ok z)
+        × ◌≡◌ {A = Result (List Datum × List ℕ) ValueFault} (Ok (a.0.0 ∷ z.0, z.1)) (Ok y) = bind_ok (elements_at (value_at size A) n a.0.1) _ y a.2 in
         let f : Is A bs a.0 = h bs a.0 a.1 in
         let m : length a.0.1 ≤ n = behind_shorter a.0.0 a.0.1 bs n f.spells l in
         let g : AreElements A a.0.1 c.0 = next a.0.1 c.0 m c.1 in
         let d : (ends_in_word a.0.0 && goes_on (all_spelled (list_of c.0.0) c.0.1)) ≡ false = rw (← g.spells) f.apart in
-        subst (AreElements A (b ∷ bs)) (ok_is c.2) (record { typed = more_has f.typed g.typed; spells = ap (λ x. x ∷ bs) i ∙ ap (λ x. 32 ∷ x) (f.spells ∙ ap (spelled a.0.0) g.spells); apart = more_apart a.0.0 (list_of c.0.0) c.0.1 d g.apart; ended = g.ended })
+        subst (AreElements A (b ∷ bs)) (ok_is c.2)
+        (record {
+          typed = more_has f.typed g.typed;
+          spells = ap (λ x. x ∷ bs) i
+              ∙ ap (λ x. 32 ∷ x) (f.spells ∙ ap (spelled a.0.0) g.spells);
+          apart = more_apart a.0.0 (list_of c.0.0) c.0.1 d g.apart;
+          ended = g.ended;
+        })
     go (inr p) next = subst (AreElements A (b ∷ bs)) (ok_is p.1) (record { typed = end_has; spells = refl; apart = refl; ended = p.0 })
 
-pair_found : (size : ℕ) (A B : TypeTree) (bs hs vs cs rest : List ℕ) (v w : Datum × List ℕ) → behind_head size (codes "pair") bs ≡ Ok hs → behind_byte size 32 hs ≡ Ok vs → Is A vs v → behind_byte size 32 v.1 ≡ Ok cs → Is B cs w → behind_byte size 41 w.1 ≡ Ok rest → Is (pair_ty A B) bs (pair v.0 w.0, rest)
+pair_found : (size : ℕ) (A B : TypeTree) (bs hs vs cs rest : List ℕ) (v w : Datum × List ℕ) → behind_head size (codes "pair") bs ≡ Ok hs
+    → behind_byte size 32 hs ≡ Ok vs → Is A vs v → behind_byte size 32 v.1 ≡ Ok cs → Is B cs w → behind_byte size 41 w.1 ≡ Ok rest
+    → Is (pair_ty A B) bs (pair v.0 w.0, rest)
 pair_found size A B bs hs vs cs rest v w h a i c j f = record { typed = pair_has i.typed j.typed; spells = spells; apart = refl }
   where
     spells : bs ≡ spelled (pair v.0 w.0) rest
-    spells = (head_found size 112 (97 ∷ 105 ∷ 114 ∷ []) bs hs h).0 ∙ ap (λ x. 40 ∷ 112 ∷ 97 ∷ 105 ∷ 114 ∷ x) (byte_found size 32 hs vs a ∙ ap (λ x. 32 ∷ x) (i.spells ∙ ap (spelled v.0) (byte_found size 32 v.1 cs c ∙ ap (λ x. 32 ∷ x) (j.spells ∙ ap (spelled w.0) (byte_found size 41 w.1 rest f)))))
+    spells = (head_found size 112 (97 ∷ 105 ∷ 114 ∷ []) bs hs h).0
+        ∙ ap (λ x. 40 ∷ 112 ∷ 97 ∷ 105 ∷ 114 ∷ x) (byte_found size 32 hs vs a
+        ∙ ap (λ x. 32 ∷ x) (i.spells
+        ∙ ap (spelled v.0) (byte_found size 32 v.1 cs c ∙ ap (λ x. 32 ∷ x) (j.spells ∙ ap (spelled w.0) (byte_found size 41 w.1 rest f)))))
 
 pub value_found : (size : ℕ) (A : TypeTree) (bs : List ℕ) (y : Datum × List ℕ) → value_at size A bs ≡ Ok y → Is A bs y
 unfolding value_at
@@ -143,20 +180,38 @@ value_found size (pair_ty A B) bs y e =
     subst (Is (pair_ty A B) bs) (ok_is e6) (pair_found size A B bs hs vs cs rest v w h a (value_found size A vs v b) c (value_found size B cs w d) f)))))))
 value_found size (event_ty A) bs y e = go (if_is (bytes_eq (word_of bs) (codes "none")) (Ok (no_event, after_word bs)) _ (Ok y) e) (value_found size A)
   where
-    go : ((bytes_eq (word_of bs) (codes "none") ≡ true) × ◌≡◌ {A = Result (Datum × List ℕ) ValueFault} (Ok (no_event, after_word bs)) (Ok y)) ⊎ ((bytes_eq (word_of bs) (codes "none") ≡ false) × ((behind_head size (codes "event") bs >>= (λ cs. behind_byte size 32 cs >>= (λ ds. value_at size A ds >>= (λ v. behind_byte size 41 v.1 >>= (λ rest. Ok (event v.0, rest)))))) ≡ Ok y)) → ((cs : List ℕ) (z : Datum × List ℕ) → value_at size A cs ≡ Ok z → Is A cs z) → Is (event_ty A) bs y
+    go : ((bytes_eq (word_of bs) (codes "none") ≡ true) × ◌≡◌ {A = Result (Datum × List ℕ) ValueFault} (Ok (no_event, after_word bs)) (Ok y))
+        ⊎ ((bytes_eq (word_of bs) (codes "none") ≡ false)
+        × ((behind_head size (codes "event") bs >>=
+        (λ cs. behind_byte size 32 cs >>= (λ ds. value_at size A ds >>= (λ v. behind_byte size 41 v.1 >>= (λ rest. Ok (event v.0, rest)))))) ≡ Ok y))
+        → ((cs : List ℕ) (z : Datum × List ℕ) → value_at size A cs ≡ Ok z → Is A cs z) → Is (event_ty A) bs y
     go (inl p) inner = subst (Is (event_ty A) bs) (ok_is p.1) (record { typed = no_event_has; spells = at_word bs (codes "none") p.0; apart = (split bs).1 })
     go (inr p) inner =
-        let h : (hs : List ℕ) × (behind_head size (codes "event") bs ≡ Ok hs) × ((behind_byte size 32 hs >>= (λ ds. value_at size A ds >>= (λ v. behind_byte size 41 v.1 >>= (λ rest. Ok (event v.0, rest))))) ≡ Ok y) = bind_ok (behind_head size (codes "event") bs) _ y p.1 in
-        let a : (cs : List ℕ) × (behind_byte size 32 h.0 ≡ Ok cs) × ((value_at size A cs >>= (λ v. behind_byte size 41 v.1 >>= (λ rest. Ok (event v.0, rest)))) ≡ Ok y) = bind_ok (behind_byte size 32 h.0) _ y h.2 in
-        let b : (x : Datum × List ℕ) × (value_at size A a.0 ≡ Ok x) × ((behind_byte size 41 x.1 >>= (λ rest. Ok (event x.0, rest))) ≡ Ok y) = bind_ok (value_at size A a.0) _ y a.2 in
-        let f : (es : List ℕ) × (behind_byte size 41 b.0.1 ≡ Ok es) × ◌≡◌ {A = Result (Datum × List ℕ) ValueFault} (Ok (event b.0.0, es)) (Ok y) = bind_ok (behind_byte size 41 b.0.1) _ y b.2 in
+        let h : (hs : List ℕ) × (behind_head size (codes "event") bs ≡ Ok hs)
+        × ((behind_byte size 32 hs >>= (λ ds. value_at size A ds >>= (λ v. behind_byte size 41 v.1 >>= (λ rest. Ok (event v.0, rest))))) ≡ Ok y) =
+        bind_ok (behind_head size (codes "event") bs) _ y p.1 in
+        let a : (cs : List ℕ) × (behind_byte size 32 h.0 ≡ Ok cs)
+        × ((value_at size A cs >>= (λ v. behind_byte size 41 v.1 >>= (λ rest. Ok (event v.0, rest)))) ≡ Ok y) =
+        bind_ok (behind_byte size 32 h.0) _ y h.2 in
+        let b : (x : Datum × List ℕ) × (value_at size A a.0 ≡ Ok x)
+        × ((behind_byte size 41 x.1 >>= (λ rest. Ok (event x.0, rest))) ≡ Ok y) = bind_ok (value_at size A a.0) _ y a.2 in
+        let f : (es : List ℕ) × (behind_byte size 41 b.0.1 ≡ Ok es)
+        × ◌≡◌ {A = Result (Datum × List ℕ) ValueFault} (Ok (event b.0.0, es)) (Ok y) = bind_ok (behind_byte size 41 b.0.1) _ y b.2 in
         let i : Is A a.0 b.0 = inner a.0 b.0 b.1 in
-        let s : bs ≡ spelled (event b.0.0) f.0 = (head_found size 101 (118 ∷ 101 ∷ 110 ∷ 116 ∷ []) bs h.0 h.1).0 ∙ ap (λ x. 40 ∷ 101 ∷ 118 ∷ 101 ∷ 110 ∷ 116 ∷ x) (byte_found size 32 h.0 a.0 a.1 ∙ ap (λ x. 32 ∷ x) (i.spells ∙ ap (spelled b.0.0) (byte_found size 41 b.0.1 f.0 f.1))) in
+        let s : bs ≡ spelled (event b.0.0) f.0 = (head_found size 101 (118 ∷ 101 ∷ 110 ∷ 116 ∷ []) bs h.0 h.1).0
+        ∙ ap (λ x. 40 ∷ 101 ∷ 118 ∷ 101 ∷ 110 ∷ 116 ∷ x) (byte_found size 32 h.0 a.0 a.1
+        ∙ ap (λ x. 32 ∷ x) (i.spells ∙ ap (spelled b.0.0) (byte_found size 41 b.0.1 f.0 f.1))) in
         subst (Is (event_ty A) bs) (ok_is f.2) (record { typed = event_has i.typed; spells = s; apart = refl })
 value_found size (list_ty A) bs y e =
-    let h : (hs : List ℕ) × (behind_head size (codes "list") bs ≡ Ok hs) × ((elements_at (value_at size A) (length hs) hs >>= (λ vs. behind_byte size 41 vs.1 >>= (λ rest. Ok (list (list_of vs.0), rest)))) ≡ Ok y) = bind_ok (behind_head size (codes "list") bs) _ y e in
-    let a : (vs : List Datum × List ℕ) × (elements_at (value_at size A) (length h.0) h.0 ≡ Ok vs) × ((behind_byte size 41 vs.1 >>= (λ rest. Ok (list (list_of vs.0), rest))) ≡ Ok y) = bind_ok (elements_at (value_at size A) (length h.0) h.0) _ y h.2 in
-    let f : (es : List ℕ) × (behind_byte size 41 a.0.1 ≡ Ok es) × ◌≡◌ {A = Result (Datum × List ℕ) ValueFault} (Ok (list (list_of a.0.0), es)) (Ok y) = bind_ok (behind_byte size 41 a.0.1) _ y a.2 in
+    let h : (hs : List ℕ) × (behind_head size (codes "list") bs ≡ Ok hs)
+    × ((elements_at (value_at size A) (length hs) hs >>= (λ vs. behind_byte size 41 vs.1 >>= (λ rest. Ok (list (list_of vs.0), rest)))) ≡ Ok y) =
+    bind_ok (behind_head size (codes "list") bs) _ y e in
+    let a : (vs : List Datum × List ℕ) × (elements_at (value_at size A) (length h.0) h.0 ≡ Ok vs)
+    × ((behind_byte size 41 vs.1 >>= (λ rest. Ok (list (list_of vs.0), rest))) ≡ Ok y) =
+    bind_ok (elements_at (value_at size A) (length h.0) h.0) _ y h.2 in
+    let f : (es : List ℕ) × (behind_byte size 41 a.0.1 ≡ Ok es)
+    × ◌≡◌ {A = Result (Datum × List ℕ) ValueFault} (Ok (list (list_of a.0.0), es)) (Ok y) = bind_ok (behind_byte size 41 a.0.1) _ y a.2 in
     let i : AreElements A h.0 a.0 = elements_found size A (value_found size A) (length h.0) h.0 a.0 (omega arith) a.1 in
-    let s : bs ≡ spelled (list (list_of a.0.0)) f.0 = (head_found size 108 (105 ∷ 115 ∷ 116 ∷ []) bs h.0 h.1).0 ∙ ap (λ x. 40 ∷ 108 ∷ 105 ∷ 115 ∷ 116 ∷ x) (i.spells ∙ ap (all_spelled (list_of a.0.0)) (byte_found size 41 a.0.1 f.0 f.1)) in
+    let s : bs ≡ spelled (list (list_of a.0.0)) f.0 = (head_found size 108 (105 ∷ 115 ∷ 116 ∷ []) bs h.0 h.1).0
+    ∙ ap (λ x. 40 ∷ 108 ∷ 105 ∷ 115 ∷ 116 ∷ x) (i.spells ∙ ap (all_spelled (list_of a.0.0)) (byte_found size 41 a.0.1 f.0 f.1)) in
     subst (Is (list_ty A) bs) (ok_is f.2) (record { typed = list_has i.typed; spells = s; apart = refl })

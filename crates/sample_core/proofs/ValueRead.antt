@@ -42,35 +42,52 @@ number_only size z rest f e =
 mutual
   unfolding value_at unit_at truth_at behind_byte
 
-  pub value_only : (size : ℕ) (v : Datum) (A : TypeTree) (rest : List ℕ) → HasType v A → (ends_in_word v && goes_on rest) ≡ false → value_at size A (spelled v rest) ≡ Ok (v, rest)
+  pub value_only : (size : ℕ) (v : Datum) (A : TypeTree) (rest : List ℕ) → HasType v A → (ends_in_word v && goes_on rest) ≡ false
+      → value_at size A (spelled v rest) ≡ Ok (v, rest)
   value_only size v A rest unit_has e = rw (no_word rest e, all_behind rest e) refl
   value_only size v A rest (bool_has {b = true}) e = rw (no_word rest e, all_behind rest e) refl
   value_only size v A rest (bool_has {b = false}) e = rw (no_word rest e, all_behind rest e) refl
   value_only size v A rest (int_has {n = n} f) e = number_only size n rest f e
   value_only size v A rest (pair_has {v = a} {w = b} {A = B} {B = C} h k) e =
-      let g : behind_head size (codes "pair") (codes "(pair " ++ spelled a (32 ∷ spelled b (41 ∷ rest))) ≡ Ok (32 ∷ spelled a (32 ∷ spelled b (41 ∷ rest))) = head_only size (codes "pair") (32 ∷ spelled a (32 ∷ spelled b (41 ∷ rest))) refl refl in
-      let i : value_at size B (spelled a (32 ∷ spelled b (41 ∷ rest))) ≡ Ok (a, 32 ∷ spelled b (41 ∷ rest)) = value_only size a B (32 ∷ spelled b (41 ∷ rest)) h (kept_apart a (32 ∷ spelled b (41 ∷ rest)) refl) in
+      let g : behind_head size (codes "pair") (codes "(pair " ++ spelled a (32 ∷ spelled b (41 ∷ rest))) ≡ Ok (32 ∷ spelled a (32 ∷ spelled b (41 ∷ rest))) =
+      head_only size (codes "pair") (32 ∷ spelled a (32 ∷ spelled b (41 ∷ rest))) refl refl in
+      let i : value_at size B (spelled a (32 ∷ spelled b (41 ∷ rest))) ≡ Ok (a, 32 ∷ spelled b (41 ∷ rest)) =
+      value_only size a B (32 ∷ spelled b (41 ∷ rest)) h (kept_apart a (32 ∷ spelled b (41 ∷ rest)) refl) in
       let j : value_at size C (spelled b (41 ∷ rest)) ≡ Ok (b, 41 ∷ rest) = value_only size b C (41 ∷ rest) k (kept_apart b (41 ∷ rest) refl) in
       rw (g, i, j) refl
   value_only size v A rest no_event_has e = rw (no_word rest e, all_behind rest e) refl
   value_only size v A rest (event_has {v = a} {A = B} h) e =
-      let g : behind_head size (codes "event") (codes "(event " ++ spelled a (41 ∷ rest)) ≡ Ok (32 ∷ spelled a (41 ∷ rest)) = head_only size (codes "event") (32 ∷ spelled a (41 ∷ rest)) refl refl in
+      let g : behind_head size (codes "event") (codes "(event " ++ spelled a (41 ∷ rest)) ≡ Ok (32 ∷ spelled a (41 ∷ rest)) =
+      head_only size (codes "event") (32 ∷ spelled a (41 ∷ rest)) refl refl in
       let i : value_at size B (spelled a (41 ∷ rest)) ≡ Ok (a, 41 ∷ rest) = value_only size a B (41 ∷ rest) h (kept_apart a (41 ∷ rest) refl) in
       rw (g, i) refl
   value_only size v A rest (list_has {vs = vs} {A = B} h) e =
-      let g : behind_head size (codes "list") (codes "(list" ++ all_spelled vs (41 ∷ rest)) ≡ Ok (all_spelled vs (41 ∷ rest)) = head_only size (codes "list") (all_spelled vs (41 ∷ rest)) refl (row_parted vs (41 ∷ rest) refl) in
+      let g : behind_head size (codes "list") (codes "(list" ++ all_spelled vs (41 ∷ rest)) ≡ Ok (all_spelled vs (41 ∷ rest)) =
+      head_only size (codes "list") (all_spelled vs (41 ∷ rest)) refl (row_parted vs (41 ∷ rest) refl) in
       let n : ℕ = length (all_spelled vs (41 ∷ rest)) in
-      let r : elements_at (value_at size B) (length (all_spelled vs (41 ∷ rest))) (all_spelled vs (41 ∷ rest)) ≡ Ok (elements vs, 41 ∷ rest) = sym (front_none (elements_at (value_at size B) n (all_spelled vs (41 ∷ rest)))) ∙ elements_row size vs B (41 ∷ rest) n [] h (omega arith) (last_kept_apart vs (41 ∷ rest) refl) ∙ ap (with_front (elements vs)) (none_more (value_at size B) (n - length (elements vs)) (41 ∷ rest) refl) ∙ front_alone (elements vs) (41 ∷ rest) in
+      let r : elements_at (value_at size B) (length (all_spelled vs (41 ∷ rest))) (all_spelled vs (41 ∷ rest)) ≡ Ok (elements vs, 41 ∷ rest) =
+      sym (front_none (elements_at (value_at size B) n (all_spelled vs (41 ∷ rest))))
+      ∙ elements_row size vs B (41 ∷ rest) n [] h (omega arith) (last_kept_apart vs (41 ∷ rest) refl)
+      ∙ ap (with_front (elements vs)) (none_more (value_at size B) (n - length (elements vs)) (41 ∷ rest) refl)
+      ∙ front_alone (elements vs) (41 ∷ rest) in
       rw (g, r) (ap (λ us. Ok (list us, rest)) (elements_back vs))
 
   -- the elements of a row are read, and then what the rest gives
-  pub elements_row : (size : ℕ) (vs : Datums) (A : TypeTree) (rest : List ℕ) (n : ℕ) (front : List Datum) → HaveType vs A → length (all_spelled vs rest) ≤ n → (last_ends_in_word vs && goes_on rest) ≡ false → with_front front (elements_at (value_at size A) n (all_spelled vs rest)) ≡ with_front (front ++ elements vs) (elements_at (value_at size A) (n - length (elements vs)) rest)
+  pub elements_row : (size : ℕ) (vs : Datums) (A : TypeTree) (rest : List ℕ) (n : ℕ) (front : List Datum) → HaveType vs A → length (all_spelled vs rest) ≤ n
+      → (last_ends_in_word vs && goes_on rest) ≡ false
+      → with_front front (elements_at (value_at size A) n (all_spelled vs rest))
+      ≡ with_front (front ++ elements vs) (elements_at (value_at size A) (n - length (elements vs)) rest)
   elements_row size vs A rest n front end_has l e =
       let a : n ≡ n - 0 = omega arith in
-      ap (λ m. with_front front (elements_at (value_at size A) m rest)) a ∙ ap (λ fs. with_front fs (elements_at (value_at size A) (n - 0) rest)) (sym (append-nil front))
+      ap (λ m. with_front front (elements_at (value_at size A) m rest)) a
+      ∙ ap (λ fs. with_front fs (elements_at (value_at size A) (n - 0) rest)) (sym (append-nil front))
   elements_row size vs A rest n front (more_has {v = v} {vs = us} h k) l e =
-      let i : value_at size A (spelled v (all_spelled us rest)) ≡ Ok (v, all_spelled us rest) = value_only size v A (all_spelled us rest) h (first_apart v us rest e) in
-      let o = one_more (value_at size A) n front (32 ∷ spelled v (all_spelled us rest)) (spelled v (all_spelled us rest)) (all_spelled us rest) v refl (omega arith) i in
+      let i : value_at size A (spelled v (all_spelled us rest)) ≡ Ok (v, all_spelled us rest) =
+      value_only size v A (all_spelled us rest) h (first_apart v us rest e) in
+      let o = one_more (value_at size A) n front (32 ∷ spelled v (all_spelled us rest)) (spelled v (all_spelled us rest)) (all_spelled us rest) v refl
+      (omega arith) i in
       let j : length (all_spelled us rest) ≤ n - 1 = omega (arith, longer v (all_spelled us rest)) in
       let m : n - 1 - length (elements us) ≡ n - length (v ∷ elements us) = omega arith in
-      o ∙ elements_row size us A rest (n - 1) (front ++ v ∷ []) k j (others_apart v us rest e) ∙ ap (λ fs. with_front fs (elements_at (value_at size A) (n - 1 - length (elements us)) rest)) (append_assoc front (v ∷ []) (elements us)) ∙ ap (λ q. with_front (front ++ v ∷ elements us) (elements_at (value_at size A) q rest)) m
+      o ∙ elements_row size us A rest (n - 1) (front ++ v ∷ []) k j (others_apart v us rest e)
+      ∙ ap (λ fs. with_front fs (elements_at (value_at size A) (n - 1 - length (elements us)) rest)) (append_assoc front (v ∷ []) (elements us))
+      ∙ ap (λ q. with_front (front ++ v ∷ elements us) (elements_at (value_at size A) q rest)) m

@@ -38,20 +38,33 @@ pub split : (bs : List ℕ) → (bs ≡ word_of bs ++ after_word bs) × (goes_on
 split [] = (refl, refl)
 split (b ∷ bs) = go (is_value_byte b) refl (split bs)
   where
-    go : (p : Bool) → is_value_byte b ≡ p → (bs ≡ word_of bs ++ after_word bs) × (goes_on (after_word bs) ≡ false) → (b ∷ bs ≡ (if is_value_byte b then b ∷ word_of bs else []) ++ (if is_value_byte b then after_word bs else b ∷ bs)) × (goes_on (if is_value_byte b then after_word bs else b ∷ bs) ≡ false)
-    go true q i = (ap (λ x. b ∷ x) i.0 ∙ ap (λ p. (if p then b ∷ word_of bs else []) ++ (if p then after_word bs else b ∷ bs)) (sym q), ap (λ p. goes_on (if p then after_word bs else b ∷ bs)) q ∙ i.1)
-    go false q i = (ap (λ p. (if p then b ∷ word_of bs else []) ++ (if p then after_word bs else b ∷ bs)) (sym q), ap (λ p. goes_on (if p then after_word bs else b ∷ bs)) q ∙ q)
+    go : (p : Bool) → is_value_byte b ≡ p → (bs ≡ word_of bs ++ after_word bs) × (goes_on (after_word bs) ≡ false)
+        → (b ∷ bs ≡ (if is_value_byte b then b ∷ word_of bs else []) ++ (if is_value_byte b then after_word bs else b ∷ bs))
+        × (goes_on (if is_value_byte b then after_word bs else b ∷ bs) ≡ false)
+    go true q i = (
+      ap (λ x. b ∷ x) i.0
+          ∙ ap (λ p. (if p then b ∷ word_of bs else []) ++ (if p then after_word bs else b ∷ bs)) (sym q),
+      ap (λ p. goes_on (if p then after_word bs else b ∷ bs))
+          q ∙ i.1,
+    )
+    go false q i = (
+      ap (λ p. (if p then b ∷ word_of bs else []) ++ (if p then after_word bs else b ∷ bs)) (sym q),
+      ap (λ p. goes_on (if p then after_word bs else b ∷ bs))
+          q ∙ q,
+    )
 
 -- bytes that begin with a word
 pub at_word : (bs w : List ℕ) → bytes_eq (word_of bs) w ≡ true → bs ≡ w ++ after_word bs
 at_word bs w e = (split bs).0 ∙ ap (λ x. x ++ after_word bs) ((bytes_eq-Decides (word_of bs) w).0 e)
 
 -- bytes that begin with '(' and a word
-pub at_form : (bs : List ℕ) (c : ℕ) (w : List ℕ) → bytes_eq (form_word bs) (c ∷ w) ≡ true → (bs ≡ 40 ∷ c ∷ w ++ after_form bs) × (goes_on (after_form bs) ≡ false)
+pub at_form : (bs : List ℕ) (c : ℕ) (w : List ℕ) → bytes_eq (form_word bs) (c ∷ w) ≡ true
+    → (bs ≡ 40 ∷ c ∷ w ++ after_form bs) × (goes_on (after_form bs) ≡ false)
 at_form [] c w e = absurd (cc)
 at_form (b ∷ bs) c w e = go (nat_eq b 40) refl e
   where
-    go : (p : Bool) → nat_eq b 40 ≡ p → bytes_eq (if p then word_of bs else []) (c ∷ w) ≡ true → (b ∷ bs ≡ 40 ∷ c ∷ w ++ (if nat_eq b 40 then after_word bs else b ∷ bs)) × (goes_on (if nat_eq b 40 then after_word bs else b ∷ bs) ≡ false)
+    go : (p : Bool) → nat_eq b 40 ≡ p → bytes_eq (if p then word_of bs else []) (c ∷ w) ≡ true
+        → (b ∷ bs ≡ 40 ∷ c ∷ w ++ (if nat_eq b 40 then after_word bs else b ∷ bs)) × (goes_on (if nat_eq b 40 then after_word bs else b ∷ bs) ≡ false)
     go true q e' =
         let i : b ≡ 40 = eqb-true b 40 q in
         rw q (ap (λ x. x ∷ bs) i ∙ ap (λ x. 40 ∷ x) (at_word bs (c ∷ w) e'), (split bs).1)

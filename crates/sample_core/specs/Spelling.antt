@@ -5,7 +5,8 @@ use Rattle.sample_core.specs.Datum.{Datum, Datums, unit, bool, int, pair, no_eve
 use Rattle.sample_core.specs.TypeTree.{TypeTree, unit_ty, bool_ty, int_ty, pair_ty, event_ty, list_ty}
 
 abbrev mutual
-  -- the bytes of a value: a number is '0', or an optional '-' and digits of which the first is not 0
+  -- the bytes of a value: a number is '0', or an optional '-' and digits of which the first is not
+  -- 0
   pub spelling : Datum → List ℕ
   spelling unit = codes "unit"
   spelling (bool true) = codes "true"
@@ -26,6 +27,7 @@ abbrev pub type_spelling : TypeTree → List ℕ
 type_spelling unit_ty = codes "Unit"
 type_spelling bool_ty = codes "Bool"
 type_spelling int_ty = codes "Int"
-type_spelling (pair_ty A B) = codes "(Pair " ++ (type_spelling A ++ (codes " " ++ (type_spelling B ++ codes ")")))
+type_spelling (pair_ty A B) = codes "(Pair "
+    ++ (type_spelling A ++ (codes " " ++ (type_spelling B ++ codes ")")))
 type_spelling (event_ty A) = codes "(Event " ++ (type_spelling A ++ codes ")")
 type_spelling (list_ty A) = codes "(List " ++ (type_spelling A ++ codes ")")

@@ -22,7 +22,8 @@ row_ends_in_word end = true
 row_ends_in_word (more v end) = ends_in_word v
 row_ends_in_word (more v (more w vs)) = row_ends_in_word (more w vs)
 
--- the bytes are the spelling of a value of the type and then the rest, which does not go on its last word
+-- the bytes are the spelling of a value of the type and then the rest, which does not go on its
+-- last word
 pub record SpellsValue (v : Datum) (A : TypeTree) (bs rest : List ℕ) : Type 0 where
   pub typed : HasType v A
   pub spells : bs ≡ spelling v ++ rest

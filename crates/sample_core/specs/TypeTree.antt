@@ -10,7 +10,8 @@ pub data TypeTree : Type 0 where
   event_ty : TypeTree → TypeTree
   list_ty : TypeTree → TypeTree
 
--- what is counted in a type: 1 where it has no parts, else 1 more than what the counts of its parts join to
+-- what is counted in a type: 1 where it has no parts, else 1 more than what the counts of its parts
+-- join to
 abbrev pub counted : (ℕ → ℕ → ℕ) → TypeTree → ℕ
 counted join unit_ty = 1
 counted join bool_ty = 1

@@ -3,7 +3,8 @@ use Rattle.std.specs.Prelude.{ℕ, Bool, false, ◌&&◌, ◌||◌, nat_eq, nat_
 
 -- letters, digits and '-'
 abbrev pub is_value_byte : ℕ → Bool
-is_value_byte b = (nat_le 48 b && nat_le b 57) || (nat_le 65 b && nat_le b 90) || (nat_le 97 b && nat_le b 122) || nat_eq b 45
+is_value_byte b = (nat_le 48 b && nat_le b 57) || (nat_le 65 b && nat_le b 90)
+    || (nat_le 97 b && nat_le b 122) || nat_eq b 45
 
 -- whether the first byte is one of these
 abbrev pub goes_on : List ℕ → Bool

@@ -35,7 +35,8 @@ pub fn print_type(alloc: Global, ty: &Ty) -> Result<String, Memory>
 /// text may then end with a part of it.
 #[cycle(push_value)]
 pub fn push_value(text: &mut String, sample: &Sample) -> Result<(), Memory>
-    ensures { Adds result (string_bytes text.old) (string_bytes text.new) (spelling (datum_of sample.now)) }
+    ensures { Adds result (string_bytes text.old) (string_bytes text.new)
+        (spelling (datum_of sample.now)) }
 {
     match sample {
         Sample::Unit => push_word(text, "unit"),
@@ -64,7 +65,8 @@ fn push_word(text: &mut String, word: &str) -> Result<(), Memory>
 /// The last part of a value, behind a word.
 #[cycle(push_value)]
 fn push_last(text: &mut String, word: &str, v: &Sample) -> Result<(), Memory>
-    ensures { Adds result (string_bytes text.old) (string_bytes text.new) (word.now ++ (spelling (datum_of v.now) ++ codes ")")) }
+    ensures { Adds result (string_bytes text.old) (string_bytes text.new)
+        (word.now ++ (spelling (datum_of v.now) ++ codes ")")) }
 {
     push_word(text, word)?;
     push_value(text, v)?;
@@ -74,7 +76,8 @@ fn push_last(text: &mut String, word: &str, v: &Sample) -> Result<(), Memory>
 /// A list.
 #[cycle(push_value)]
 fn push_list(text: &mut String, all: &Samples) -> Result<(), Memory>
-    ensures { Adds result (string_bytes text.old) (string_bytes text.new) (spelling (list (list_of all.now))) }
+    ensures { Adds result (string_bytes text.old) (string_bytes text.new)
+        (spelling (list (list_of all.now))) }
 {
     push_word(text, "(list")?;
     for v in all.as_slice() {
@@ -86,7 +89,8 @@ fn push_list(text: &mut String, all: &Samples) -> Result<(), Memory>
 /// A value behind a space.
 #[cycle(push_value)]
 fn push_next(text: &mut String, v: &Sample) -> Result<(), Memory>
-    ensures { Adds result (string_bytes text.old) (string_bytes text.new) (codes " " ++ spelling (datum_of v.now)) }
+    ensures { Adds result (string_bytes text.old) (string_bytes text.new)
+        (codes " " ++ spelling (datum_of v.now)) }
 {
     push_word(text, " ")?;
     push_value(text, v)
@@ -96,7 +100,8 @@ fn push_next(text: &mut String, v: &Sample) -> Result<(), Memory>
 /// text may then end with a part of it.
 #[cycle(push_type)]
 pub fn push_type(text: &mut String, ty: &Ty) -> Result<(), Memory>
-    ensures { Adds result (string_bytes text.old) (string_bytes text.new) (type_spelling (type_of ty.now)) }
+    ensures { Adds result (string_bytes text.old) (string_bytes text.new)
+        (type_spelling (type_of ty.now)) }
 {
     match ty {
         Ty::Unit => push_word(text, "Unit"),
@@ -115,7 +120,8 @@ pub fn push_type(text: &mut String, ty: &Ty) -> Result<(), Memory>
 /// The last part of a type, behind a word.
 #[cycle(push_type)]
 fn push_last_type(text: &mut String, word: &str, a: &TyChild) -> Result<(), Memory>
-    ensures { Adds result (string_bytes text.old) (string_bytes text.new) (word.now ++ (type_spelling a.now ++ codes ")")) }
+    ensures { Adds result (string_bytes text.old) (string_bytes text.new)
+        (word.now ++ (type_spelling a.now ++ codes ")")) }
 {
     push_word(text, word)?;
     push_type(text, a.get())?;

@@ -27,7 +27,8 @@ use std::alloc::Global;
 /// and the one that stands there is outside 64 bits. `Memory`: a growth was refused.
 pub fn read_value(alloc: Global, text: &[u8], ty: &Ty) -> Result<(Sample, usize), ValueFault>
     // What is read is spelled in front.
-    ensures found { IfOk result (λ x. (x.1 ≡ length (spelling (datum_of x.0))) × SpellsValue (datum_of x.0) (type_of ty.now) text.now (drop x.1 text.now)) }
+    ensures found { IfOk result (λ x. (x.1 ≡ length (spelling (datum_of x.0)))
+        × SpellsValue (datum_of x.0) (type_of ty.now) text.now (drop x.1 text.now)) }
     // A fault is where the text stops being the beginning of a value of the type.
     ensures refused { IfErr result (λ f. FaultOf f (type_of ty.now) text.now) }
     // Which of them it is, the text alone says.
@@ -100,7 +101,8 @@ fn after_byte<'t>(size: usize, text: &'t [u8], byte: u8) -> Result<&'t [u8], Val
 
 /// What is behind a space.
 fn after_space(text: &[u8]) -> Option<&[u8]>
-    ensures { MatchOption result (begins_with 32 text.now ≡ false) (λ rest. text.now ≡ 32 ∷ rest.now) }
+    ensures { MatchOption result (begins_with 32 text.now ≡ false)
+        (λ rest. text.now ≡ 32 ∷ rest.now) }
 {
     match text {
         [b' ', rest @ ..] => Some(rest),
@@ -181,7 +183,8 @@ fn long_integer(size: usize, text: &[u8]) -> Result<(Sample, &[u8]), ValueFault>
 
 /// The value, where a `)` ends it, and what is behind that.
 fn closed<'t>(size: usize, text: &'t [u8], sample: Sample) -> Result<(Sample, &'t [u8]), ValueFault>
-    ensures exact { Gives (λ x. (datum_of x.0, x.1.now)) result (closed_at size (datum_of sample) text.now) }
+    ensures exact { Gives (λ x. (datum_of x.0, x.1.now)) result
+        (closed_at size (datum_of sample) text.now) }
     ensures shorter { IfOk result (λ x. length x.1.now ≤ length text.now) }
 {
     match after_byte(size, text, b')') {
@@ -202,7 +205,8 @@ fn value<'t>(
     text: &'t [u8],
     ty: &Ty,
 ) -> Result<(Sample, &'t [u8]), ValueFault>
-    ensures exact { Gives (λ x. (datum_of x.0, x.1.now)) result (value_at size (type_of ty.now) text.now) }
+    ensures exact { Gives (λ x. (datum_of x.0, x.1.now)) result
+        (value_at size (type_of ty.now) text.now) }
     ensures shorter { IfOk result (λ x. length x.1.now ≤ length text.now) }
 {
     match ty {
@@ -225,7 +229,8 @@ fn pair<'t>(
     a: &TyChild,
     b: &TyChild,
 ) -> Result<(Sample, &'t [u8]), ValueFault>
-    ensures exact { Gives (λ x. (datum_of x.0, x.1.now)) result (value_at size (pair_ty a.now b.now) text.now) }
+    ensures exact { Gives (λ x. (datum_of x.0, x.1.now)) result
+        (value_at size (pair_ty a.now b.now) text.now) }
     ensures shorter { IfOk result (λ x. length x.1.now ≤ length text.now) }
 {
     let rest = after_head(size, text, "pair")?;
@@ -247,7 +252,8 @@ fn paired<'t>(
     first: Sample,
     second: Sample,
 ) -> Result<(Sample, &'t [u8]), ValueFault>
-    ensures exact { Gives (λ x. (datum_of x.0, x.1.now)) result (closed_at size (pair (datum_of first) (datum_of second)) text.now) }
+    ensures exact { Gives (λ x. (datum_of x.0, x.1.now)) result
+        (closed_at size (pair (datum_of first) (datum_of second)) text.now) }
     ensures shorter { IfOk result (λ x. length x.1.now ≤ length text.now) }
 {
     let parts = SamplePair::new(alloc, first, second)?;
@@ -263,7 +269,8 @@ fn event<'t>(
     text: &'t [u8],
     ty: &TyChild,
 ) -> Result<(Sample, &'t [u8]), ValueFault>
-    ensures exact { Gives (λ x. (datum_of x.0, x.1.now)) result (value_at size (event_ty ty.now) text.now) }
+    ensures exact { Gives (λ x. (datum_of x.0, x.1.now)) result
+        (value_at size (event_ty ty.now) text.now) }
     ensures shorter { IfOk result (λ x. length x.1.now ≤ length text.now) }
 {
     let (word, rest) = split_word(text);
@@ -285,7 +292,8 @@ fn list<'t>(
     text: &'t [u8],
     ty: &TyChild,
 ) -> Result<(Sample, &'t [u8]), ValueFault>
-    ensures exact { Gives (λ x. (datum_of x.0, x.1.now)) result (value_at size (list_ty ty.now) text.now) }
+    ensures exact { Gives (λ x. (datum_of x.0, x.1.now)) result
+        (value_at size (list_ty ty.now) text.now) }
     ensures shorter { IfOk result (λ x. length x.1.now ≤ length text.now) }
 {
     let rest = after_head(size, text, "list")?;
@@ -318,7 +326,8 @@ fn element_value<'t>(
     text: &'t [u8],
     ty: &Ty,
 ) -> Result<(Sample, &'t [u8]), ValueFault>
-    ensures exact { Gives (λ x. (datum_of x.0, x.1.now)) result (value_at size (type_of ty.now) text.now) }
+    ensures exact { Gives (λ x. (datum_of x.0, x.1.now)) result
+        (value_at size (type_of ty.now) text.now) }
     ensures shorter { IfOk result (λ x. length x.1.now ≤ length text.now) }
 {
     match ty {
@@ -336,7 +345,8 @@ fn elements<'t>(
     text: &'t [u8],
     ty: &Ty,
 ) -> Result<(Vec<Sample>, &'t [u8]), ValueFault>
-    ensures exact { Gives (λ x. (map datum_of x.0.items, x.1.now)) result (elements_at (value_at size (type_of ty.now)) (length text.now) text.now) }
+    ensures exact { Gives (λ x. (map datum_of x.0.items, x.1.now)) result
+        (elements_at (value_at size (type_of ty.now)) (length text.now) text.now) }
     ensures shorter { IfOk result (λ x. length x.1.now ≤ length text.now) }
 {
     let mut all = Vec::new(alloc);

@@ -43,7 +43,8 @@ module _ {L : Type 0} (val : L → List Datum → Datum → Datum) where
   signals-counted_each no_members S = refl
   signals-counted_each (and_member f fs) S = ap (λ gs. (counted_meaning val f S).function ∷ gs) (signals-counted_each fs S)
 
-  counts-counted_each : (fs : Networks L) (S : CountedContext) → counts_of_all (counted_meanings val fs S) ≡ visits_all val fs (context_in S) (counts_of_all S.olds)
+  counts-counted_each : (fs : Networks L) (S : CountedContext)
+      → counts_of_all (counted_meanings val fs S) ≡ visits_all val fs (context_in S) (counts_of_all S.olds)
   counts-counted_each no_members S = refl
   counts-counted_each (and_member f fs) S = ap (λ gs. (counted_meaning val f S).visits ∷ gs) (counts-counted_each fs S)
 
@@ -59,27 +60,37 @@ module _ {L : Type 0} (val : L → List Datum → Datum → Datum) where
   pub Denotes-push_param : (s : Scope L) (S : CountedContext) (c : Datum) → Denotes val s S → Denotes val (push_param s c) (context_with_param S c)
   Denotes-push_param (scope ps fs) S c d = (ap (λ vs. vs ++ c ∷ []) d.0, d.1)
 
-  AllDenote-append : (fs gs : Frozens L) (os us : List CountedFunction) → AllDenote val fs os → AllDenote val gs us → AllDenote val (append_frozens fs gs) (os ++ us)
+  AllDenote-append : (fs gs : Frozens L) (os us : List CountedFunction) → AllDenote val fs os → AllDenote val gs us
+      → AllDenote val (append_frozens fs gs) (os ++ us)
   AllDenote-append no_frozen gs [] us d e = e
   AllDenote-append no_frozen gs (o ∷ os) us d e = absurd d
   AllDenote-append (and_frozen f fs) gs [] us d e = absurd d
   AllDenote-append (and_frozen f fs) gs (o ∷ os) us d e = (d.0, d.1, AllDenote-append fs gs os us d.2 e)
 
-  pub Denotes-push_olds : (s : Scope L) (S : CountedContext) (gs : Frozens L) (us : List CountedFunction) → Denotes val s S → AllDenote val gs us → Denotes val (push_olds s gs) (context_with_olds S us)
+  pub Denotes-push_olds : (s : Scope L) (S : CountedContext) (gs : Frozens L) (us : List CountedFunction) → Denotes val s S → AllDenote val gs us
+      → Denotes val (push_olds s gs) (context_with_olds S us)
   Denotes-push_olds (scope ps fs) S gs us d e = (d.0, AllDenote-append fs gs S.olds us d.1 e)
 
-  pub AllDenote-unstarted : (r : Datum → Datum) (i : ℕ) (fs : Networks L) (s : Scope L) (S : CountedContext) (d : ℕ) → Denotes val s S → AllDenote val (all_unstarted fs s) (counted_resume_each r i (counted_meanings val fs S) [] d)
+  pub AllDenote-unstarted : (r : Datum → Datum) (i : ℕ) (fs : Networks L) (s : Scope L) (S : CountedContext) (d : ℕ) → Denotes val s S
+      → AllDenote val (all_unstarted fs s) (counted_resume_each r i (counted_meanings val fs S) [] d)
   AllDenote-unstarted r i no_members s S d h = tt
-  AllDenote-unstarted r i (and_member f fs) s S d h =
-      (IsCounted-resume (counted_meaning val f S) (IsCounted-counted f S (Denotes-counted_each s S h)) [] d, (S, d, h, refl), AllDenote-unstarted r (suc i) fs s S d h)
+  AllDenote-unstarted r i (and_member f fs) s S d h = (
+    IsCounted-resume (counted_meaning val f S) (IsCounted-counted f S (Denotes-counted_each s S h)) [] d,
+    (S, d, h, refl),
+    AllDenote-unstarted r (suc i) fs s
+        S d h,
+  )
 
-  pub AllDenote-paused : (r : Datum → Datum) (i : ℕ) (as' : States L) (cs : List CountedFunction) (q : TimedList) (d : ℕ) → StandDirectly val as' (route_by r) i cs q → AllDenote val (all_paused as' d) (counted_resume_each r i cs q d)
+  pub AllDenote-paused : (r : Datum → Datum) (i : ℕ) (as' : States L) (cs : List CountedFunction) (q : TimedList) (d : ℕ)
+      → StandDirectly val as' (route_by r) i cs q → AllDenote val (all_paused as' d) (counted_resume_each r i cs q d)
   AllDenote-paused r i no_state [] q d h = tt
   AllDenote-paused r i no_state (c ∷ cs) q d h = absurd h
   AllDenote-paused r i (and_state a as') [] q d h = absurd h
-  AllDenote-paused r i (and_state a as') (c ∷ cs) q d h = (IsCounted-resume c h.0 (route r i q) d, (c, route r i q, h.0, h.1, refl), AllDenote-paused r (suc i) as' cs q d h.2)
+  AllDenote-paused r i (and_state a as') (c ∷ cs) q d h =
+      (IsCounted-resume c h.0 (route r i q) d, (c, route r i q, h.0, h.1, refl), AllDenote-paused r (suc i) as' cs q d h.2)
 
-  pub StandDirectly-counted_each : (as' : States L) (h : ℕ → Datum → Datum) (i : ℕ) (cs : List CountedFunction) (q : TimedList) → StandDirectly val as' h i cs q → AllCounted cs
+  pub StandDirectly-counted_each : (as' : States L) (h : ℕ → Datum → Datum) (i : ℕ) (cs : List CountedFunction) (q : TimedList) → StandDirectly val as' h i cs q
+      → AllCounted cs
   StandDirectly-counted_each no_state h i [] q s = no_counted
   StandDirectly-counted_each no_state h i (c ∷ cs) q s = absurd s
   StandDirectly-counted_each (and_state a as') h i [] q s = absurd s
@@ -100,44 +111,61 @@ module _ {L : Type 0} (val : L → List Datum → Datum → Datum) where
   pub found : (fs : Frozens L) (os : List CountedFunction) (k : ℕ) (f : Frozen L) → AllDenote val fs os → frozen_at fs k ≡ Some f → Found f os k
   found no_frozen os k f d e = cc
   found (and_frozen g fs) [] k f d e = absurd d
-  found (and_frozen g fs) (o ∷ os) zero f d e = record { counted_of = o; is_counted = d.0; denoted = rw (sym (ap (frozen_or g) e)) d.1; same_signal = refl; same_counts = refl }
+  found (and_frozen g fs) (o ∷ os) zero f d e =
+      record { counted_of = o; is_counted = d.0; denoted = rw (sym (ap (frozen_or g) e)) d.1; same_signal = refl; same_counts = refl }
   found (and_frozen g fs) (o ∷ os) (suc k) f d e =
       let h : Found f os k = found fs os k f d.2 e in
       record { counted_of = h.counted_of; is_counted = h.is_counted; denoted = h.denoted; same_signal = h.same_signal; same_counts = h.same_counts }
 
   -- the forms whose counted functions go by lists
   pub counted-par : (fs : Networks L) (S : CountedContext) → counted_meaning val (par fs) S ≡ counted_par (counted_meanings val fs S)
-  counted-par fs S = ap₂ (λ gs vs. let c : CountedFunction = record { function = par_function gs; visits = λ xs. and_one (sum_of_all vs xs) } in c) (sym (signals-counted_each fs S)) (sym (counts-counted_each fs S))
+  counted-par fs S = ap₂ (λ gs vs. let c : CountedFunction = record { function = par_function gs; visits = λ xs. and_one (sum_of_all vs xs) } in c)
+      (sym (signals-counted_each fs S)) (sym (counts-counted_each fs S))
 
   -- a switch of f and e to t, under what the frozen networks are
-  abbrev frozen_counted : CountedFunction → CountedFunction → Network L → CountedContext → (TimedList → ℕ → List SignalFunction) → (TimedList → ℕ → List VisitCounts) → CountedFunction
+  abbrev frozen_counted : CountedFunction → CountedFunction → Network L → CountedContext → (TimedList → ℕ → List SignalFunction)
+      → (TimedList → ℕ → List VisitCounts) → CountedFunction
   frozen_counted f e t S A B = record {
     function = switch_at f.function (watch f.function e.function) (λ c p d. meaning val t (record { params = S.params ++ c ∷ []; olds = A p d }));
-    visits = λ xs. switch_counts (first_event (e.function (pair_samples xs (f.function xs)))) (and_one (add_counts (f.visits xs) (e.visits (pair_samples xs (f.function xs)))))
-        (λ n c. visits val t (record { params = S.params ++ c ∷ []; olds = A (take n xs) (step_of (drop n xs)) }) (B (take n xs) (step_of (drop n xs))) (drop n xs));
+    visits = λ xs. switch_counts (first_event (e.function (pair_samples xs (f.function xs))))
+        (and_one (add_counts (f.visits xs) (e.visits (pair_samples xs (f.function xs)))))
+        (λ n c. visits val t (record { params = S.params ++ c ∷ []; olds = A (take n xs) (step_of (drop n xs)) }) (B (take n xs) (step_of (drop n xs)))
+        (drop n xs));
   }
 
-  pub counted-k_switch : (f e t : Network L) (S : CountedContext) → counted_meaning val (k_switch f e t) S ≡ counted_k_switch (counted_meaning val f S) (counted_meaning val e S) (λ v o. counted_meaning val t (context_with_olds (context_with_param S v) (o ∷ [])))
+  pub counted-k_switch : (f e t : Network L) (S : CountedContext)
+      → counted_meaning val (k_switch f e t) S ≡ counted_k_switch (counted_meaning val f S) (counted_meaning val e S)
+      (λ v o. counted_meaning val t (context_with_olds (context_with_param S v) (o ∷ [])))
   counted-k_switch f e t S =
       let cf : CountedFunction = counted_meaning val f S in
       ap₂ (frozen_counted cf (counted_meaning val e S) t S)
       (fun_ext (λ p. fun_ext (λ d. sym (signals-append S.olds (counted_resume cf p d ∷ [])))))
       (fun_ext (λ p. fun_ext (λ d. sym (counts-append S.olds (counted_resume cf p d ∷ [])))))
 
-  signals-resume : (r : Datum → Datum) (i : ℕ) (cs : List CountedFunction) (p : TimedList) (d : ℕ) → functions_of (counted_resume_each r i cs p d) ≡ freeze_all r i (functions_of cs) p d
+  signals-resume : (r : Datum → Datum) (i : ℕ) (cs : List CountedFunction) (p : TimedList) (d : ℕ)
+      → functions_of (counted_resume_each r i cs p d) ≡ freeze_all r i (functions_of cs) p d
   signals-resume r i [] p d = refl
   signals-resume r i (c ∷ cs) p d = ap (λ fs. resume c.function (route r i p) d ∷ fs) (signals-resume r (suc i) cs p d)
 
-  counts-resume : (r : Datum → Datum) (i : ℕ) (cs : List CountedFunction) (p : TimedList) (d : ℕ) → counts_of_all (counted_resume_each r i cs p d) ≡ freeze_counts r i (counts_of_all cs) p d
+  counts-resume : (r : Datum → Datum) (i : ℕ) (cs : List CountedFunction) (p : TimedList) (d : ℕ)
+      → counts_of_all (counted_resume_each r i cs p d) ≡ freeze_counts r i (counts_of_all cs) p d
   counts-resume r i [] p d = refl
   counts-resume r i (c ∷ cs) p d = ap (λ fs. resume_counts c.visits (route r i p) d ∷ fs) (counts-resume r (suc i) cs p d)
 
-  pub counted-p_switch : (r : L) (fs : Networks L) (e t : Network L) (S : CountedContext) → counted_meaning val (p_switch r fs e t) S ≡ counted_p_switch (val r S.params) (counted_meanings val fs S) (counted_meaning val e S) (λ v os. counted_meaning val t (context_with_olds (context_with_param S v) os))
+  pub counted-p_switch : (r : L) (fs : Networks L) (e t : Network L) (S : CountedContext)
+      → counted_meaning val (p_switch r fs e t) S ≡ counted_p_switch (val r S.params) (counted_meanings val fs S) (counted_meaning val e S)
+      (λ v os. counted_meaning val t (context_with_olds (context_with_param S v) os))
   counted-p_switch r fs e t S =
       let rv : Datum → Datum = val r S.params in
       let cs : List CountedFunction = counted_meanings val fs S in
-      let F : List SignalFunction → List VisitCounts → CountedFunction = λ gs vs. frozen_counted (record { function = collect rv gs; visits = sum_by_route rv 0 vs }) (counted_meaning val e S) t S (λ p d. functions_of S.olds ++ freeze_all rv 0 gs p d) (λ p d. counts_of_all S.olds ++ freeze_counts rv 0 vs p d) in
+      let F : List SignalFunction → List VisitCounts
+      → CountedFunction = λ gs vs. frozen_counted (record { function = collect rv gs; visits = sum_by_route rv 0 vs }) (counted_meaning val e S) t S
+      (λ p d. functions_of S.olds ++ freeze_all rv 0 gs p d) (λ p d. counts_of_all S.olds ++ freeze_counts rv 0 vs p d) in
       ap₂ F (sym (signals-counted_each fs S)) (sym (counts-counted_each fs S))
       ∙ ap₂ (frozen_counted (together rv cs) (counted_meaning val e S) t S)
-      (fun_ext (λ p. fun_ext (λ d. ap (λ fs. functions_of S.olds ++ fs) (sym (signals-resume rv 0 cs p d)) ∙ sym (signals-append S.olds (counted_resume_each rv 0 cs p d)))))
-      (fun_ext (λ p. fun_ext (λ d. ap (λ fs. counts_of_all S.olds ++ fs) (sym (counts-resume rv 0 cs p d)) ∙ sym (counts-append S.olds (counted_resume_each rv 0 cs p d)))))
+      (fun_ext
+      (λ p. fun_ext (λ d. ap (λ fs. functions_of S.olds ++ fs) (sym (signals-resume rv 0 cs p d))
+      ∙ sym (signals-append S.olds (counted_resume_each rv 0 cs p d)))))
+      (fun_ext
+      (λ p. fun_ext (λ d. ap (λ fs. counts_of_all S.olds ++ fs) (sym (counts-resume rv 0 cs p d))
+      ∙ sym (counts-append S.olds (counted_resume_each rv 0 cs p d)))))

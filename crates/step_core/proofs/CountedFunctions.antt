@@ -14,8 +14,10 @@ Continues-trans c d e p q r k l = record { answers = λ s x. k.answers s x ∙ l
 
 pub Continues-push : (c d : CountedFunction) (p q : TimedList) (x : ℕ × Datum) → Continues c p d q → Continues c (p ++ x ∷ []) d (q ++ x ∷ [])
 Continues-push c d p q x k = record {
-  answers = λ r y. ap (λ s. answer c.function s y) (append_assoc p (x ∷ []) r) ∙ k.answers (x ∷ r) y ∙ ap (λ s. answer d.function s y) (sym (append_assoc q (x ∷ []) r));
-  tallies = λ r y. ap (λ s. visits_at c.visits s y) (append_assoc p (x ∷ []) r) ∙ k.tallies (x ∷ r) y ∙ ap (λ s. visits_at d.visits s y) (sym (append_assoc q (x ∷ []) r));
+  answers = λ r y. ap (λ s. answer c.function s y) (append_assoc p (x ∷ []) r) ∙ k.answers (x ∷ r) y
+      ∙ ap (λ s. answer d.function s y) (sym (append_assoc q (x ∷ []) r));
+  tallies = λ r y. ap (λ s. visits_at c.visits s y) (append_assoc p (x ∷ []) r) ∙ k.tallies (x ∷ r) y
+      ∙ ap (λ s. visits_at d.visits s y) (sym (append_assoc q (x ∷ []) r));
 }
 
 pub answer-continues : (c d : CountedFunction) (p q : TimedList) (x : ℕ × Datum) → Continues c p d q → answer c.function p x ≡ answer d.function q x
@@ -31,7 +33,8 @@ pub Via-continues : {P : CountedFunction → TimedList → Type 0} (c d : Counte
 Via-continues c d p q k v = record { other = v.other; past = v.past; holds = v.holds; goes_on = Continues-trans c d v.other p q v.past k v.goes_on }
 
 -- what is taken in by a counted function is taken in by one that goes on as it
-pub Took-continues : {P : CountedFunction → TimedList → Type 0} (c d : CountedFunction) (p q : TimedList) (x : ℕ × Datum) (y : Datum) (n : ℕ) → Continues c p d q → TakesSample (StandsVia P) d q x y n → TakesSample (StandsVia P) c p x y n
+pub Took-continues : {P : CountedFunction → TimedList → Type 0} (c d : CountedFunction) (p q : TimedList) (x : ℕ × Datum) (y : Datum) (n : ℕ)
+    → Continues c p d q → TakesSample (StandsVia P) d q x y n → TakesSample (StandsVia P) c p x y n
 Took-continues c d p q x y n k t = record {
   stands = Via-continues c d (p ++ x ∷ []) (q ++ x ∷ []) (Continues-push c d p q x k) t.stands;
   answered = t.answered ∙ sym (answer-continues c d p q x k);
@@ -42,10 +45,12 @@ Took-continues c d p q x y n k t = record {
 pub counts-some : (w : ℕ) (v : VisitCounts) → IsCount w v → (p : TimedList) (x : ℕ × Datum) → 0 < length (v (p ++ x ∷ []))
 counts-some w v cv p x = let l : length (v (p ++ x ∷ [])) ≡ length (p ++ x ∷ []) = cv.counted (p ++ x ∷ []) in omega (arith, length-append p (x ∷ []))
 
-pub tally-and_one : (v : VisitCounts) (p : TimedList) (x : ℕ × Datum) → 0 < length (v (p ++ x ∷ [])) → visits_at (λ xs. and_one (v xs)) p x ≡ suc (visits_at v p x)
+pub tally-and_one : (v : VisitCounts) (p : TimedList) (x : ℕ × Datum) → 0 < length (v (p ++ x ∷ []))
+    → visits_at (λ xs. and_one (v xs)) p x ≡ suc (visits_at v p x)
 tally-and_one v p x l = last-and_one (v (p ++ x ∷ [])) l
 
-pub tally-added : (v w : VisitCounts) (p : TimedList) (x : ℕ × Datum) → length (w (p ++ x ∷ [])) ≡ length (v (p ++ x ∷ [])) → visits_at (λ xs. add_counts (v xs) (w xs)) p x ≡ visits_at v p x + visits_at w p x
+pub tally-added : (v w : VisitCounts) (p : TimedList) (x : ℕ × Datum) → length (w (p ++ x ∷ [])) ≡ length (v (p ++ x ∷ []))
+    → visits_at (λ xs. add_counts (v xs) (w xs)) p x ≡ visits_at v p x + visits_at w p x
 tally-added v w p x l = last-added (v (p ++ x ∷ [])) (w (p ++ x ∷ [])) l
 
 pub length-added : (v w : VisitCounts) (xs : TimedList) → length (w xs) ≡ length (v xs) → length (add_counts (v xs) (w xs)) ≡ length (v xs)

@@ -24,7 +24,8 @@ use Rattle.step_core.proofs.OldCounts.{old_counted, resume_took}
 use Rattle.step_core.proofs.CountedContexts.{IsCounted-counted, AllCounted-counted_each, Denotes-counted_each, Denotes-push_param, Denotes-push_olds, AllDenote-unstarted, AllDenote-paused, StandDirectly-counted_each, Found, found, counted-par, counted-k_switch, counted-p_switch}
 use Rattle.step_core.proofs.Forms.{arr_moves, seq_moves, first_moves, par_moves, loop_moves, cell_moves, accum_moves, switch_moves, switch_over_moves, d_switch_moves, d_switch_over_moves, r_switch_moves, r_switch_over_moves, k_switch_moves, k_switch_over_moves, p_switch_moves, p_switch_over_moves}
 
-pub Took-weaker : {P Q : CountedFunction → TimedList → Type 0} (c : CountedFunction) (p : TimedList) (x : ℕ × Datum) (y : Datum) (n : ℕ) → ((d : CountedFunction) (q : TimedList) → P d q → Q d q) → TakesSample (StandsVia P) c p x y n → TakesSample (StandsVia Q) c p x y n
+pub Took-weaker : {P Q : CountedFunction → TimedList → Type 0} (c : CountedFunction) (p : TimedList) (x : ℕ × Datum) (y : Datum) (n : ℕ)
+    → ((d : CountedFunction) (q : TimedList) → P d q → Q d q) → TakesSample (StandsVia P) c p x y n → TakesSample (StandsVia Q) c p x y n
 Took-weaker c p x y n k t = record {
   stands = record { other = t.stands.other; past = t.stands.past; holds = k t.stands.other t.stands.past t.stands.holds; goes_on = t.stands.goes_on };
   answered = t.answered;
@@ -46,9 +47,12 @@ module _ {L : Type 0} (val : L → List Datum → Datum → Datum) where
   Denotes-own : (s : Scope L) (S : CountedContext) → Denotes val s S → Denotes val s (own s S)
   Denotes-own (scope ps fs) S h = (refl, h.1)
 
-  by_own : (net : Network L) (s : Scope L) (S : CountedContext) (a : State L) (z : ℕ × Datum) (y : Datum) (n : ℕ) → Denotes val s S → TakesSample (Stands val a) (counted_meaning val net (own s S)) [] z y n → TakesSample (Stands val a) (counted_meaning val net S) [] z y n
+  by_own : (net : Network L) (s : Scope L) (S : CountedContext) (a : State L) (z : ℕ × Datum) (y : Datum) (n : ℕ) → Denotes val s S
+      → TakesSample (Stands val a) (counted_meaning val net (own s S)) [] z y n → TakesSample (Stands val a) (counted_meaning val net S) [] z y n
   by_own net (scope ps fs) S a z y n h t =
-      let F : List Datum → Type 0 = λ vs. let S' : CountedContext = record { params = vs; olds = S.olds } in TakesSample (Stands val a) (counted_meaning val net S') [] z y n in
+      let F : List Datum
+      → Type 0 = λ vs. let S' : CountedContext = record { params = vs; olds = S.olds } in
+      TakesSample (Stands val a) (counted_meaning val net S') [] z y n in
       subst F h.0 t
 
   FrozenDenotes-all : (s : Scope L) (S : CountedContext) → Denotes val s S → AllDenote val (frozens_of s) S.olds
@@ -58,15 +62,19 @@ module _ {L : Type 0} (val : L → List Datum → Datum → Datum) where
   counted-over : (t : Network L) (S : CountedContext) → AllCounted S.olds → (v : Datum) → IsCountedFunction (counted_meaning val t (context_with_param S v))
   counted-over t S a v = IsCounted-counted val t (context_with_param S v) a
 
-  counted-olds : (t : Network L) (S : CountedContext) → AllCounted S.olds → (v : Datum) (os : List CountedFunction) → AllCounted os → IsCountedFunction (counted_meaning val t (context_with_olds (context_with_param S v) os))
+  counted-olds : (t : Network L) (S : CountedContext) → AllCounted S.olds → (v : Datum) (os : List CountedFunction) → AllCounted os
+      → IsCountedFunction (counted_meaning val t (context_with_olds (context_with_param S v) os))
   counted-olds t S a v os b = IsCounted-counted val t (context_with_olds (context_with_param S v) os) (AllCounted-append S.olds os a b)
 
   mutual
-    pub starts : {net : Network L} {s : Scope L} {x : Datum} {a : State L} {y : Datum} {n : ℕ} → Starts val net s x a y n → (S : CountedContext) (d : ℕ) → Denotes val s S → TakesSample (Stands val a) (counted_meaning val net S) [] (d, x) y n
-    starts (Stepping.start_arr {e = e} {s = s} {x = x}) S d h = by_own (arr e) s S (arr_state e (params_of s)) (d, x) (val e (params_of s) x) 1 h (arr_took (val e (params_of s)) [] (d, x))
+    pub starts : {net : Network L} {s : Scope L} {x : Datum} {a : State L} {y : Datum} {n : ℕ} → Starts val net s x a y n → (S : CountedContext) (d : ℕ)
+        → Denotes val s S → TakesSample (Stands val a) (counted_meaning val net S) [] (d, x) y n
+    starts (Stepping.start_arr {e = e} {s = s} {x = x}) S d h =
+        by_own (arr e) s S (arr_state e (params_of s)) (d, x) (val e (params_of s) x) 1 h (arr_took (val e (params_of s)) [] (d, x))
     starts (Stepping.start_seq {f = f} {g = g} {s = s} {x = x} {v = v} {y = y} {m = m} {n = n} kf kg) S d h =
         let all : AllCounted S.olds = Denotes-counted_each val s S h in
-        seq_took (counted_meaning val f S) (counted_meaning val g S) [] (d, x) v y m n (IsCounted-counted val f S all) (IsCounted-counted val g S all) (starts kf S d h) (starts kg S d h)
+        seq_took (counted_meaning val f S) (counted_meaning val g S) [] (d, x) v y m n (IsCounted-counted val f S all) (IsCounted-counted val g S all)
+        (starts kf S d h) (starts kg S d h)
     starts (Stepping.start_first {f = f} {s = s} {x = x} {v = v} {n = n} kf) S d h =
         first_took (counted_meaning val f S) [] (d, x) v n (IsCounted-counted val f S (Denotes-counted_each val s S h)) (starts kf S d h)
     starts (Stepping.start_par {fs = fs} {s = s} {x = x} {as' = as'} {ys = ys} {n = n} ks) S d h =
@@ -77,7 +85,9 @@ module _ {L : Type 0} (val : L → List Datum → Datum → Datum) where
         let u : Datum = val c (params_of s) unit in
         let cf : IsCountedFunction (counted_meaning val f own_S) = IsCounted-counted val f own_S (Denotes-counted_each val s S h) in
         by_own (loop_pre c f) s S (loop_state (right v) a) (d, x) (left v) (suc n) h
-        (loop_took u (counted_meaning val f own_S) [] (d, x) u v n cf (sym (ap (λ vs. last_or u (map right vs)) (signal-nil (counted_meaning val f own_S).function cf.is_signal_function))) (starts kf own_S d (Denotes-own s S h)))
+        (loop_took u (counted_meaning val f own_S) [] (d, x) u v n cf
+        (sym (ap (λ vs. last_or u (map right vs)) (signal-nil (counted_meaning val f own_S).function cf.is_signal_function)))
+        (starts kf own_S d (Denotes-own s S h)))
     starts (Stepping.start_i_pre {c = c} {s = s} {x = x}) S d h =
         let u : Datum = val c (params_of s) unit in
         by_own (i_pre c) s S (cell_state (previous x)) (d, x) u 1 h (cell_starts (previous x) (i_pre_value u) (d, x) u (u, refl, refl) refl)
@@ -86,7 +96,8 @@ module _ {L : Type 0} (val : L → List Datum → Datum → Datum) where
         by_own (delay (suc q) c) s S (cell_state (queue (suc q) u ((suc q, x) ∷ []))) (d, x) u 1 h (delay_starts q u (d, x))
     starts (Stepping.start_hold {c = c} {s = s} {x = x}) S d h =
         let u : Datum = val c (params_of s) unit in
-        by_own (hold c) s S (cell_state (latest (latest_event u (x ∷ [])))) (d, x) (latest_event u (x ∷ [])) 1 h (cell_starts (latest (latest_event u (x ∷ []))) (λ p. latest_event u (values p)) (d, x) (latest_event u (x ∷ [])) (u, refl, refl) refl)
+        by_own (hold c) s S (cell_state (latest (latest_event u (x ∷ [])))) (d, x) (latest_event u (x ∷ [])) 1 h
+        (cell_starts (latest (latest_event u (x ∷ []))) (λ p. latest_event u (values p)) (d, x) (latest_event u (x ∷ [])) (u, refl, refl) refl)
     starts (Stepping.start_accum {g = g} {z = z} {s = s} {x = x} {acc = acc} e) S d h =
         let u : Datum = val z (params_of s) unit in
         by_own (accum_by g z) s S (accum_state g (params_of s) acc) (d, x) (if_event x acc) 1 h (accum_took (val g (params_of s)) u [] (d, x) u acc refl e)
@@ -100,20 +111,24 @@ module _ {L : Type 0} (val : L → List Datum → Datum → Datum) where
     starts (Stepping.start_switch {f = f} {t = t} {s = s} {x = x} {v = v} {n = n} kf e) S d h =
         let cf : IsCountedFunction (counted_meaning val f S) = IsCounted-counted val f S (Denotes-counted_each val s S h) in
         Took-weaker (counted_meaning val (switch f t) S) [] (d, x) (left v) (suc n) (λ c q sh. (S, h, sh))
-        (switch_took (counted_meaning val f S) (λ v. counted_meaning val t (context_with_param S v)) cf [] (d, x) (unseen-rights (counted_meaning val f S).function cf.is_signal_function) v n (starts kf S d h) e)
+        (switch_took (counted_meaning val f S) (λ v. counted_meaning val t (context_with_param S v)) cf [] (d, x)
+        (unseen-rights (counted_meaning val f S).function cf.is_signal_function) v n (starts kf S d h) e)
     starts (Stepping.fire_switch {f = f} {t = t} {s = s} {x = x} {b = b} {v = v} {c = c} {y = y} {m = m} {n = n} kf e kt) S d h =
         let all : AllCounted S.olds = Denotes-counted_each val s S h in
         let cf : IsCountedFunction (counted_meaning val f S) = IsCounted-counted val f S all in
-        switch_over_took (counted_meaning val f S) (λ v. counted_meaning val t (context_with_param S v)) cf [] (d, x) (unseen-rights (counted_meaning val f S).function cf.is_signal_function) {P = StandsDirectly val b} v c y m n
+        switch_over_took (counted_meaning val f S) (λ v. counted_meaning val t (context_with_param S v)) cf [] (d, x)
+        (unseen-rights (counted_meaning val f S).function cf.is_signal_function) {P = StandsDirectly val b} v c y m n
         (counted-over t S all c) (starts kf S d h) e (starts kt (context_with_param S c) d (Denotes-push_param val s S c h))
     starts (Stepping.start_d_switch {f = f} {t = t} {s = s} {x = x} {v = v} {n = n} kf e) S d h =
         let cf : IsCountedFunction (counted_meaning val f S) = IsCounted-counted val f S (Denotes-counted_each val s S h) in
         Took-weaker (counted_meaning val (d_switch f t) S) [] (d, x) (left v) (suc n) (λ c q sh. (S, h, sh))
-        (d_switch_took (counted_meaning val f S) (λ v. counted_meaning val t (context_with_param S v)) cf [] (d, x) (unseen-rights (counted_meaning val f S).function cf.is_signal_function) v n (starts kf S d h) e)
+        (d_switch_took (counted_meaning val f S) (λ v. counted_meaning val t (context_with_param S v)) cf [] (d, x)
+        (unseen-rights (counted_meaning val f S).function cf.is_signal_function) v n (starts kf S d h) e)
     starts (Stepping.fire_d_switch {f = f} {t = t} {s = s} {x = x} {b = b} {v = v} {c = c} {y = y} {m = m} {n = n} kf e kt) S d h =
         let all : AllCounted S.olds = Denotes-counted_each val s S h in
         let cf : IsCountedFunction (counted_meaning val f S) = IsCounted-counted val f S all in
-        d_switch_over_took (counted_meaning val f S) (λ v. counted_meaning val t (context_with_param S v)) cf [] (d, x) (unseen-rights (counted_meaning val f S).function cf.is_signal_function) {P = StandsDirectly val b} v c y m n
+        d_switch_over_took (counted_meaning val f S) (λ v. counted_meaning val t (context_with_param S v)) cf [] (d, x)
+        (unseen-rights (counted_meaning val f S).function cf.is_signal_function) {P = StandsDirectly val b} v c y m n
         (counted-over t S all c) (starts kf S d h) e (starts kt (context_with_param S c) d (Denotes-push_param val s S c h))
     starts (Stepping.start_r_switch {f = f} {t = t} {s = s} {x = x} {y = y} {n = n} e kf) S d h =
         let cf : IsCountedFunction (counted_meaning val f S) = IsCounted-counted val f S (Denotes-counted_each val s S h) in
@@ -123,7 +138,8 @@ module _ {L : Type 0} (val : L → List Datum → Datum → Datum) where
         let all : AllCounted S.olds = Denotes-counted_each val s S h in
         let cf : IsCountedFunction (counted_meaning val f S) = IsCounted-counted val f S all in
         Took-weaker (counted_meaning val (r_switch f t) S) [] (d, x) y (suc n) (λ c q sh. (S, h, sh))
-        (r_switch_over_took (counted_meaning val f S) (λ v. counted_meaning val t (context_with_param S v)) cf [] (d, x) Uncut-nil u c (cut_is x u c e) (counted-over t S all c) y n (starts kt (context_with_param S c) d (Denotes-push_param val s S c h)))
+        (r_switch_over_took (counted_meaning val f S) (λ v. counted_meaning val t (context_with_param S v)) cf [] (d, x) Uncut-nil u c (cut_is x u c e)
+        (counted-over t S all c) y n (starts kt (context_with_param S c) d (Denotes-push_param val s S c h)))
     starts (Stepping.start_k_switch {f = f} {e = e} {t = t} {s = s} {x = x} {a = a} {b = b} {v = v} {w = w} {m = m} {n = n} kf ke i) S d h =
         let all : AllCounted S.olds = Denotes-counted_each val s S h in
         let cf : IsCountedFunction (counted_meaning val f S) = IsCounted-counted val f S all in
@@ -131,8 +147,12 @@ module _ {L : Type 0} (val : L → List Datum → Datum → Datum) where
         let tc : Datum → CountedFunction → CountedFunction = λ v o. counted_meaning val t (context_with_olds (context_with_param S v) (o ∷ [])) in
         subst (λ c. TakesSample (Stands val (k_switch_state a b t s)) c [] (d, x) v (suc (m + n))) (sym (counted-k_switch val f e t S))
         (Took-weaker (counted_k_switch (counted_meaning val f S) (counted_meaning val e S) tc) [] (d, x) v (suc (m + n)) (λ c q sh. (S, h, sh))
-        (k_switch_took (counted_meaning val f S) (counted_meaning val e S) cf ce tc [] (d, x) (unseen-watching (counted_meaning val f S).function (counted_meaning val e S).function ce.is_signal_function) v w m n (starts kf S d h) (starts ke S d h) i))
-    starts (Stepping.fire_k_switch {f = f} {e = e} {t = t} {s = s} {x = x} {a = a} {b = b} {o = o} {v = v} {w = w} {c = c} {y = y} {m = m} {n = n} {k = k} kf ke i kt) S d h =
+        (k_switch_took (counted_meaning val f S) (counted_meaning val e S) cf ce tc [] (d, x)
+        (unseen-watching (counted_meaning val f S).function (counted_meaning val e S).function ce.is_signal_function) v w m n (starts kf S d h)
+        (starts ke S d h) i))
+    starts
+        (Stepping.fire_k_switch {f = f} {e = e} {t = t} {s = s} {x = x} {a = a} {b = b} {o = o} {v = v} {w = w} {c = c} {y = y} {m = m} {n = n} {k = k} kf ke i
+        kt) S d h =
         let all : AllCounted S.olds = Denotes-counted_each val s S h in
         let cf : IsCountedFunction (counted_meaning val f S) = IsCounted-counted val f S all in
         let ce : IsCountedFunction (counted_meaning val e S) = IsCounted-counted val e S all in
@@ -140,10 +160,13 @@ module _ {L : Type 0} (val : L → List Datum → Datum → Datum) where
         let r : CountedFunction = counted_resume (counted_meaning val f S) [] d in
         let cr : IsCountedFunction r = IsCounted-resume (counted_meaning val f S) cf [] d in
         subst (λ g. TakesSample (Stands val o) g [] (d, x) y (suc (m + n) + k)) (sym (counted-k_switch val f e t S))
-        (k_switch_over_took (counted_meaning val f S) (counted_meaning val e S) cf ce tc [] (d, x) (unseen-watching (counted_meaning val f S).function (counted_meaning val e S).function ce.is_signal_function) {P = StandsDirectly val o} v w c y m n k
+        (k_switch_over_took (counted_meaning val f S) (counted_meaning val e S) cf ce tc [] (d, x)
+        (unseen-watching (counted_meaning val f S).function (counted_meaning val e S).function ce.is_signal_function) {P = StandsDirectly val o} v w c y m n
+        k
         (counted-olds t S all c (r ∷ []) (and_counted cr no_counted)) (starts kf S d h) (starts ke S d h) i
         (starts kt (context_with_olds (context_with_param S c) (r ∷ [])) d
-        (Denotes-push_olds val (push_param s c) (context_with_param S c) (and_frozen (unstarted f s) no_frozen) (r ∷ []) (Denotes-push_param val s S c h) (cr, (S, d, h, refl), tt))))
+        (Denotes-push_olds val (push_param s c) (context_with_param S c) (and_frozen (unstarted f s) no_frozen) (r ∷ []) (Denotes-push_param val s S c h)
+        (cr, (S, d, h, refl), tt))))
     starts (Stepping.start_p_switch {r = r} {fs = fs} {e = e} {t = t} {s = s} {x = x} {as' = as'} {b = b} {vs = vs} {w = w} {m = m} {n = n} ks ke i) S d h =
         let all : AllCounted S.olds = Denotes-counted_each val s S h in
         let own_S : CountedContext = own s S in
@@ -153,10 +176,15 @@ module _ {L : Type 0} (val : L → List Datum → Datum → Datum) where
         let ce : IsCountedFunction (counted_meaning val e own_S) = IsCounted-counted val e own_S all in
         let tc : Datum → List CountedFunction → CountedFunction = λ v os. counted_meaning val t (context_with_olds (context_with_param own_S v) os) in
         by_own (p_switch r fs e t) s S (p_switch_state r as' b t s) (d, x) (list (list_of vs)) (suc (m + n)) h
-        (subst (λ c. TakesSample (Stands val (p_switch_state r as' b t s)) c [] (d, x) (list (list_of vs)) (suc (m + n))) (sym (counted-p_switch val r fs e t own_S))
+        (subst (λ c. TakesSample (Stands val (p_switch_state r as' b t s)) c [] (d, x) (list (list_of vs)) (suc (m + n)))
+        (sym (counted-p_switch val r fs e t own_S))
         (Took-weaker (counted_p_switch rv cs (counted_meaning val e own_S) tc) [] (d, x) (list (list_of vs)) (suc (m + n)) (λ c q sh. (own_S, own_h, sh))
-        (p_switch_took rv cs (counted_meaning val e own_S) (AllCounted-counted_each val fs own_S all) ce tc [] (d, x) (unseen-watching (collect rv (functions_of cs)) (counted_meaning val e own_S).function ce.is_signal_function) vs w m n (starts_each ks own_S d own_h) (starts ke own_S d own_h) i)))
-    starts (Stepping.fire_p_switch {r = r} {fs = fs} {e = e} {t = t} {s = s} {x = x} {as' = as'} {b = b} {o = o} {vs = vs} {w = w} {c = c} {y = y} {m = m} {n = n} {k = k} ks ke i kt) S d h =
+        (p_switch_took rv cs (counted_meaning val e own_S) (AllCounted-counted_each val fs own_S all) ce tc [] (d, x)
+        (unseen-watching (collect rv (functions_of cs)) (counted_meaning val e own_S).function ce.is_signal_function) vs w m n
+        (starts_each ks own_S d own_h) (starts ke own_S d own_h) i)))
+    starts
+        (Stepping.fire_p_switch {r = r} {fs = fs} {e = e} {t = t} {s = s} {x = x} {as' = as'} {b = b} {o = o} {vs = vs} {w = w} {c = c} {y = y} {m = m} {n = n}
+        {k = k} ks ke i kt) S d h =
         let all : AllCounted S.olds = Denotes-counted_each val s S h in
         let own_S : CountedContext = own s S in
         let own_h : Denotes val s own_S = Denotes-own s S h in
@@ -168,17 +196,22 @@ module _ {L : Type 0} (val : L → List Datum → Datum → Datum) where
         let rs : List CountedFunction = counted_resume_each rv 0 cs [] d in
         by_own (p_switch r fs e t) s S o (d, x) y (suc (m + n) + k) h
         (subst (λ g. TakesSample (Stands val o) g [] (d, x) y (suc (m + n) + k)) (sym (counted-p_switch val r fs e t own_S))
-        (p_switch_over_took rv cs (counted_meaning val e own_S) acs ce tc [] (d, x) (unseen-watching (collect rv (functions_of cs)) (counted_meaning val e own_S).function ce.is_signal_function) {P = StandsDirectly val o} vs w c y m n k
+        (p_switch_over_took rv cs (counted_meaning val e own_S) acs ce tc [] (d, x)
+        (unseen-watching (collect rv (functions_of cs)) (counted_meaning val e own_S).function ce.is_signal_function) {P = StandsDirectly val o} vs w c y m
+        n k
         (counted-olds t own_S all c rs (AllCounted-resume rv 0 cs acs [] d)) (starts_each ks own_S d own_h) (starts ke own_S d own_h) i
         (starts kt (context_with_olds (context_with_param own_S c) rs) d
-        (Denotes-push_olds val (push_param s c) (context_with_param own_S c) (all_unstarted fs s) rs (Denotes-push_param val s own_S c own_h) (AllDenote-unstarted val rv 0 fs s own_S d own_h)))))
+        (Denotes-push_olds val (push_param s c) (context_with_param own_S c) (all_unstarted fs s) rs (Denotes-push_param val s own_S c own_h)
+        (AllDenote-unstarted val rv 0 fs s own_S d own_h)))))
     starts (Stepping.start_old {k = k} {s = s} {f = f} {x = x} {a = a} {y = y} {n = n} e kr) S d h =
         let at : Found val f S.olds k = found val (frozens_of s) S.olds k f (FrozenDenotes-all s S h) e in
         subst (λ c. TakesSample (Stands val a) c [] (d, x) y (suc n))
         (sym (ap₂ (λ g v. let c : CountedFunction = record { function = g; visits = λ xs. first_and_one (v xs) } in c) at.same_signal at.same_counts))
         (resumes kr at.counted_of d at.denoted)
 
-    pub starts_each : {h : ℕ → Datum → Datum} {i : ℕ} {fs : Networks L} {s : Scope L} {x : Datum} {as' : States L} {ys : List Datum} {n : ℕ} → StartsEach val h i fs s x as' ys n → (S : CountedContext) (d : ℕ) → Denotes val s S → EachTook (StandDirectly val as' h i) h i (counted_meanings val fs S) [] (d, x) ys n
+    pub starts_each : {h : ℕ → Datum → Datum} {i : ℕ} {fs : Networks L} {s : Scope L} {x : Datum} {as' : States L} {ys : List Datum} {n : ℕ}
+        → StartsEach val h i fs s x as' ys n → (S : CountedContext) (d : ℕ) → Denotes val s S
+        → EachTook (StandDirectly val as' h i) h i (counted_meanings val fs S) [] (d, x) ys n
     starts_each Stepping.start_none S d k = record { stand = tt; answered = refl; counted = refl }
     starts_each (Stepping.start_also {h = h} {i = i} {f = f} {fs = fs} {s = s} {x = x} {a = a} {as' = as'} {y = y} {ys = ys} {m = m} {n = n} kf ks) S d k =
         let one : TakesSample (Stands val a) (counted_meaning val f S) [] (d, h i x) y m = starts kf S d k in
@@ -189,16 +222,20 @@ module _ {L : Type 0} (val : L → List Datum → Datum → Datum) where
           counted = ap₂ (λ m n. m + n) one.counted rest.counted;
         }
 
-    pub resumes : {f : Frozen L} {x : Datum} {a : State L} {y : Datum} {n : ℕ} → Resumes val f x a y n → (o : CountedFunction) (e : ℕ) → FrozenDenotes val f o → TakesSample (Stands val a) (old_counted o) [] (e, x) y (suc n)
+    pub resumes : {f : Frozen L} {x : Datum} {a : State L} {y : Datum} {n : ℕ} → Resumes val f x a y n → (o : CountedFunction) (e : ℕ) → FrozenDenotes val f o
+        → TakesSample (Stands val a) (old_counted o) [] (e, x) y (suc n)
     resumes (Stepping.resume_unstarted {net = net} {s = s} {x = x} {a = a} {y = y} {n = n} k) o e w =
         subst (λ o. TakesSample (Stands val a) (old_counted o) [] (e, x) y (suc n)) (sym w.3)
-        (resume_took (counted_meaning val net w.0) [] w.1 (IsCounted-counted val net w.0 (Denotes-counted_each val s w.0 w.2)) {P = StandsDirectly val a} (e, x) y n (starts k w.0 w.1 w.2))
+        (resume_took (counted_meaning val net w.0) [] w.1 (IsCounted-counted val net w.0 (Denotes-counted_each val s w.0 w.2)) {P = StandsDirectly val a} (e, x)
+        y n (starts k w.0 w.1 w.2))
     resumes (Stepping.resume_paused {b = b} {d = d} {x = x} {y = y} {n = n} k) o e w =
         subst (λ o. TakesSample (Stands val b) (old_counted o) [] (e, x) y (suc n)) (sym w.4)
         (resume_took w.0 w.1 d w.2 {P = StandsDirectly val b} (e, x) y n (steps k w.0 w.1 w.3))
 
-    pub steps : {a a' : State L} {x : ℕ × Datum} {y : Datum} {n : ℕ} → Steps val a x a' y n → (c : CountedFunction) (p : TimedList) → Stands val a c p → TakesSample (Stands val a') c p x y n
-    steps (Stepping.step_arr {e = e} {ps = ps} {x = x}) c p st = Took-continues c st.other p st.past x (val e ps x.1) 1 st.goes_on (arr_moves x st.other st.past (val e ps) st.holds)
+    pub steps : {a a' : State L} {x : ℕ × Datum} {y : Datum} {n : ℕ} → Steps val a x a' y n → (c : CountedFunction) (p : TimedList) → Stands val a c p
+        → TakesSample (Stands val a') c p x y n
+    steps (Stepping.step_arr {e = e} {ps = ps} {x = x}) c p st =
+        Took-continues c st.other p st.past x (val e ps x.1) 1 st.goes_on (arr_moves x st.other st.past (val e ps) st.holds)
     steps (Stepping.step_seq {x = x} {v = v} {y = y} {m = m} {n = n} ka kb) c p st =
         Took-continues c st.other p st.past x y (suc (m + n)) st.goes_on
         (seq_moves x st.other st.past v y m n st.holds (λ f q a. steps ka f q a) (λ g q b. steps kb g q b))
@@ -219,63 +256,81 @@ module _ {L : Type 0} (val : L → List Datum → Datum → Datum) where
         let S : CountedContext = st.holds.0 in
         Took-continues c st.other p st.past x (left v) (suc n) st.goes_on
         (Took-weaker st.other st.past x (left v) (suc n) (λ c q sh. (S, st.holds.1, sh))
-        (switch_moves x st.other st.past (λ v. counted_meaning val t (context_with_param S v)) (counted-over t S (Denotes-counted_each val s S st.holds.1)) v n st.holds.2 (λ f q a. steps ka f q a) e))
+        (switch_moves x st.other st.past (λ v. counted_meaning val t (context_with_param S v)) (counted-over t S (Denotes-counted_each val s S st.holds.1)) v n
+        st.holds.2 (λ f q a. steps ka f q a) e))
     steps (Stepping.step_switch_over {b = b} {t = t} {s = s} {x = x} {v = v} {c = e} {y = y} {m = m} {n = n} ka i kt) c p st =
         let S : CountedContext = st.holds.0 in
         Took-continues c st.other p st.past x y (suc m + n) st.goes_on
-        (switch_over_moves x st.other st.past (λ v. counted_meaning val t (context_with_param S v)) (counted-over t S (Denotes-counted_each val s S st.holds.1)) {P = StandsDirectly val b} v e y m n st.holds.2 (λ f q a. steps ka f q a) i
+        (switch_over_moves x st.other st.past (λ v. counted_meaning val t (context_with_param S v)) (counted-over t S (Denotes-counted_each val s S st.holds.1))
+        {P = StandsDirectly val b} v e y m n st.holds.2 (λ f q a. steps ka f q a) i
         (starts kt (context_with_param S e) x.0 (Denotes-push_param val s S e st.holds.1)))
     steps (Stepping.step_d_switch {t = t} {s = s} {x = x} {v = v} {n = n} ka e) c p st =
         let S : CountedContext = st.holds.0 in
         Took-continues c st.other p st.past x (left v) (suc n) st.goes_on
         (Took-weaker st.other st.past x (left v) (suc n) (λ c q sh. (S, st.holds.1, sh))
-        (d_switch_moves x st.other st.past (λ v. counted_meaning val t (context_with_param S v)) (counted-over t S (Denotes-counted_each val s S st.holds.1)) v n st.holds.2 (λ f q a. steps ka f q a) e))
+        (d_switch_moves x st.other st.past (λ v. counted_meaning val t (context_with_param S v)) (counted-over t S (Denotes-counted_each val s S st.holds.1)) v
+        n st.holds.2 (λ f q a. steps ka f q a) e))
     steps (Stepping.step_d_switch_over {b = b} {t = t} {s = s} {x = x} {v = v} {c = e} {y = y} {m = m} {n = n} ka i kt) c p st =
         let S : CountedContext = st.holds.0 in
         Took-continues c st.other p st.past x (left v) (suc m + n) st.goes_on
-        (d_switch_over_moves x st.other st.past (λ v. counted_meaning val t (context_with_param S v)) (counted-over t S (Denotes-counted_each val s S st.holds.1)) {P = StandsDirectly val b} v e y m n st.holds.2 (λ f q a. steps ka f q a) i
+        (d_switch_over_moves x st.other st.past (λ v. counted_meaning val t (context_with_param S v))
+        (counted-over t S (Denotes-counted_each val s S st.holds.1)) {P = StandsDirectly val b} v e y m n st.holds.2 (λ f q a. steps ka f q a) i
         (starts kt (context_with_param S e) x.0 (Denotes-push_param val s S e st.holds.1)))
     steps (Stepping.step_r_switch {t = t} {s = s} {x = x} {y = y} {n = n} e ka) c p st =
         let S : CountedContext = st.holds.0 in
         Took-continues c st.other p st.past x y (suc n) st.goes_on
         (Took-weaker st.other st.past x y (suc n) (λ c q sh. (S, st.holds.1, sh))
-        (r_switch_moves x st.other st.past (λ v. counted_meaning val t (context_with_param S v)) (counted-over t S (Denotes-counted_each val s S st.holds.1)) y n st.holds.2 e (λ f q a. steps ka f q a)))
+        (r_switch_moves x st.other st.past (λ v. counted_meaning val t (context_with_param S v)) (counted-over t S (Denotes-counted_each val s S st.holds.1)) y
+        n st.holds.2 e (λ f q a. steps ka f q a)))
     steps (Stepping.step_r_switch_over {t = t} {s = s} {x = x} {u = u} {c = e} {y = y} {n = n} i kt) c p st =
         let S : CountedContext = st.holds.0 in
         Took-continues c st.other p st.past x y (suc n) st.goes_on
         (Took-weaker st.other st.past x y (suc n) (λ c q sh. (S, st.holds.1, sh))
-        (r_switch_over_moves x st.other st.past (λ v. counted_meaning val t (context_with_param S v)) (counted-over t S (Denotes-counted_each val s S st.holds.1)) u e y n st.holds.2 i
+        (r_switch_over_moves x st.other st.past (λ v. counted_meaning val t (context_with_param S v))
+        (counted-over t S (Denotes-counted_each val s S st.holds.1)) u e y n st.holds.2 i
         (starts kt (context_with_param S e) x.0 (Denotes-push_param val s S e st.holds.1))))
     steps (Stepping.step_k_switch {t = t} {s = s} {x = x} {v = v} {w = w} {m = m} {n = n} ka kb i) c p st =
         let S : CountedContext = st.holds.0 in
         let all : AllCounted S.olds = Denotes-counted_each val s S st.holds.1 in
         Took-continues c st.other p st.past x v (suc (m + n)) st.goes_on
         (Took-weaker st.other st.past x v (suc (m + n)) (λ c q sh. (S, st.holds.1, sh))
-        (k_switch_moves x st.other st.past (λ v o. counted_meaning val t (context_with_olds (context_with_param S v) (o ∷ []))) (λ v o co. counted-olds t S all v (o ∷ []) (and_counted co no_counted)) v w m n st.holds.2 (λ f q a. steps ka f q a) (λ g q b. steps kb g q b) i))
+        (k_switch_moves x st.other st.past (λ v o. counted_meaning val t (context_with_olds (context_with_param S v) (o ∷ [])))
+        (λ v o co. counted-olds t S all v (o ∷ []) (and_counted co no_counted)) v w m n st.holds.2 (λ f q a. steps ka f q a) (λ g q b. steps kb g q b) i))
     steps (Stepping.step_k_switch_over {a = a} {o = o} {t = t} {s = s} {x = x} {v = v} {w = w} {c = e} {y = y} {m = m} {n = n} {k = k} ka kb i kt) c p st =
         let S : CountedContext = st.holds.0 in
         let all : AllCounted S.olds = Denotes-counted_each val s S st.holds.1 in
         Took-continues c st.other p st.past x y (suc (m + n) + k) st.goes_on
-        (k_switch_over_moves x st.other st.past (λ v o. counted_meaning val t (context_with_olds (context_with_param S v) (o ∷ []))) (λ v o co. counted-olds t S all v (o ∷ []) (and_counted co no_counted)) {P = StandsDirectly val o} v w e y m n k st.holds.2 (λ f q a. steps ka f q a) (λ g q b. steps kb g q b) i
+        (k_switch_over_moves x st.other st.past (λ v o. counted_meaning val t (context_with_olds (context_with_param S v) (o ∷ [])))
+        (λ v o co. counted-olds t S all v (o ∷ []) (and_counted co no_counted)) {P = StandsDirectly val o} v w e y m n k st.holds.2
+        (λ f q a. steps ka f q a) (λ g q b. steps kb g q b) i
         (λ f cf sa. starts kt (context_with_olds (context_with_param S e) (counted_resume f st.past x.0 ∷ [])) x.0
-        (Denotes-push_olds val (push_param s e) (context_with_param S e) (and_frozen (paused a x.0) no_frozen) (counted_resume f st.past x.0 ∷ []) (Denotes-push_param val s S e st.holds.1) (IsCounted-resume f cf st.past x.0, (f, st.past, cf, sa, refl), tt))))
+        (Denotes-push_olds val (push_param s e) (context_with_param S e) (and_frozen (paused a x.0) no_frozen) (counted_resume f st.past x.0 ∷ [])
+        (Denotes-push_param val s S e st.holds.1) (IsCounted-resume f cf st.past x.0, (f, st.past, cf, sa, refl), tt))))
     steps (Stepping.step_p_switch {r = r} {as' = as'} {t = t} {s = s} {x = x} {vs = vs} {w = w} {m = m} {n = n} ks kb i) c p st =
         let S : CountedContext = st.holds.0 in
         let all : AllCounted S.olds = Denotes-counted_each val s S st.holds.1 in
         let rv : Datum → Datum = val r (params_of s) in
         Took-continues c st.other p st.past x (list (list_of vs)) (suc (m + n)) st.goes_on
         (Took-weaker st.other st.past x (list (list_of vs)) (suc (m + n)) (λ c q sh. (S, st.holds.1, sh))
-        (p_switch_moves x st.other st.past rv (λ v os. counted_meaning val t (context_with_olds (context_with_param S v) os)) (counted-olds t S all) vs w m n (λ cs ms. StandDirectly-counted_each val as' (route_by rv) 0 cs st.past ms) st.holds.2 (λ cs q ms. steps_each ks cs q ms) (λ g q b. steps kb g q b) i))
-    steps (Stepping.step_p_switch_over {r = r} {as' = as'} {o = o} {t = t} {s = s} {x = x} {vs = vs} {w = w} {c = e} {y = y} {m = m} {n = n} {k = k} ks kb i kt) c p st =
+        (p_switch_moves x st.other st.past rv (λ v os. counted_meaning val t (context_with_olds (context_with_param S v) os)) (counted-olds t S all) vs w m n
+        (λ cs ms. StandDirectly-counted_each val as' (route_by rv) 0 cs st.past ms) st.holds.2 (λ cs q ms. steps_each ks cs q ms) (λ g q b. steps kb g q b)
+        i))
+    steps (Stepping.step_p_switch_over {r = r} {as' = as'} {o = o} {t = t} {s = s} {x = x} {vs = vs} {w = w} {c = e} {y = y} {m = m} {n = n} {k = k} ks kb i kt)
+        c p st =
         let S : CountedContext = st.holds.0 in
         let all : AllCounted S.olds = Denotes-counted_each val s S st.holds.1 in
         let rv : Datum → Datum = val r (params_of s) in
         Took-continues c st.other p st.past x y (suc (m + n) + k) st.goes_on
-        (p_switch_over_moves x st.other st.past rv (λ v os. counted_meaning val t (context_with_olds (context_with_param S v) os)) (counted-olds t S all) {P = StandsDirectly val o} vs w e y m n k (λ cs ms. StandDirectly-counted_each val as' (route_by rv) 0 cs st.past ms) st.holds.2 (λ cs q ms. steps_each ks cs q ms) (λ g q b. steps kb g q b) i
+        (p_switch_over_moves x st.other st.past rv (λ v os. counted_meaning val t (context_with_olds (context_with_param S v) os)) (counted-olds t S all)
+        {P = StandsDirectly val o} vs w e y m n k (λ cs ms. StandDirectly-counted_each val as' (route_by rv) 0 cs st.past ms) st.holds.2
+        (λ cs q ms. steps_each ks cs q ms) (λ g q b. steps kb g q b) i
         (λ cs ms. starts kt (context_with_olds (context_with_param S e) (counted_resume_each rv 0 cs st.past x.0)) x.0
-        (Denotes-push_olds val (push_param s e) (context_with_param S e) (all_paused as' x.0) (counted_resume_each rv 0 cs st.past x.0) (Denotes-push_param val s S e st.holds.1) (AllDenote-paused val rv 0 as' cs st.past x.0 ms))))
+        (Denotes-push_olds val (push_param s e) (context_with_param S e) (all_paused as' x.0) (counted_resume_each rv 0 cs st.past x.0)
+        (Denotes-push_param val s S e st.holds.1) (AllDenote-paused val rv 0 as' cs st.past x.0 ms))))
 
-    pub steps_each : {h : ℕ → Datum → Datum} {i : ℕ} {as' : States L} {x : ℕ × Datum} {bs : States L} {ys : List Datum} {n : ℕ} → StepsEach val h i as' x bs ys n → (cs : List CountedFunction) (p : TimedList) → StandDirectly val as' h i cs p → EachTook (StandDirectly val bs h i) h i cs p x ys n
+    pub steps_each : {h : ℕ → Datum → Datum} {i : ℕ} {as' : States L} {x : ℕ × Datum} {bs : States L} {ys : List Datum} {n : ℕ}
+        → StepsEach val h i as' x bs ys n → (cs : List CountedFunction) (p : TimedList) → StandDirectly val as' h i cs p
+        → EachTook (StandDirectly val bs h i) h i cs p x ys n
     steps_each Stepping.step_none [] p ms = record { stand = tt; answered = refl; counted = refl }
     steps_each Stepping.step_none (c ∷ cs) p ms = absurd ms
     steps_each (Stepping.step_also ka ks) [] p ms = absurd ms

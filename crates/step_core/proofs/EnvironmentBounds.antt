@@ -16,7 +16,9 @@ module _ {L : Type 0} (val : L → List Datum → Datum → Datum) where
   AllCounts-counts_of (param E c) = AllCounts-counts_of E
   AllCounts-counts_of (frozen E net E' p d) =
       AllCounts-append (weights_of E) (weight net (weights_of E') ∷ []) (counts_of val E) _ (AllCounts-counts_of E)
-      (and_count (IsCount-resume (weight net (weights_of E')) (visits val net (context_of val E') (counts_of val E')) (IsCount-visits val net (context_of val E') (counts_of val E') (weights_of E') (AllSignals-context_of val E') (AllCounts-counts_of E')) p d) no_count)
+      (and_count
+      (IsCount-resume (weight net (weights_of E')) (visits val net (context_of val E') (counts_of val E'))
+      (IsCount-visits val net (context_of val E') (counts_of val E') (weights_of E') (AllSignals-context_of val E') (AllCounts-counts_of E')) p d) no_count)
 
   pub IsCount-visited : (net : Network L) (E : Environment L) → IsCount (weight net (weights_of E)) (visits_of val net E)
   IsCount-visited net E = IsCount-visits val net (context_of val E) (counts_of val E) (weights_of E) (AllSignals-context_of val E) (AllCounts-counts_of E)

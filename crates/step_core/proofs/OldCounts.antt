@@ -49,7 +49,8 @@ module _ (c : CountedFunction) (q : TimedList) (d : ℕ) (ci : IsCountedFunction
   }
 
   -- what steps on the kept step stands for the `(old k)`
-  pub resume_took : {P : CountedFunction → TimedList → Type 0} (x : ℕ × Datum) (y : Datum) (n : ℕ) → TakesSample (StandsVia P) c q (d, x.1) y n → TakesSample (StandsVia P) (old_counted (counted_resume c q d)) [] x y (suc n)
+  pub resume_took : {P : CountedFunction → TimedList → Type 0} (x : ℕ × Datum) (y : Datum) (n : ℕ) → TakesSample (StandsVia P) c q (d, x.1) y n
+      → TakesSample (StandsVia P) (old_counted (counted_resume c q d)) [] x y (suc n)
   resume_took {P} x y n t = record {
     stands = Via-continues (old_counted (counted_resume c q d)) c ([] ++ x ∷ []) (q ++ (d, x.1) ∷ []) (Continues-old x) t.stands;
     answered = t.answered ∙ sym (answer-resume_first c.function ci.is_signal_function q d x);

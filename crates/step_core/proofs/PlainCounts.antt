@@ -26,7 +26,9 @@ arr_took h q x = record {
   counted = sym (tally-ones q x);
 }
 
-pub seq_took : {A B : CountedFunction → TimedList → Type 0} (f g : CountedFunction) (q : TimedList) (x : ℕ × Datum) (v y : Datum) (m n : ℕ) → IsCountedFunction f → IsCountedFunction g → TakesSample A f q x v m → TakesSample B g (with_values q (f.function q)) (x.0, v) y n → TakesSample (StandsVia (SeqStands A B)) (counted_seq f g) q x y (suc (m + n))
+pub seq_took : {A B : CountedFunction → TimedList → Type 0} (f g : CountedFunction) (q : TimedList) (x : ℕ × Datum) (v y : Datum) (m n : ℕ)
+    → IsCountedFunction f → IsCountedFunction g → TakesSample A f q x v m → TakesSample B g (with_values q (f.function q)) (x.0, v) y n
+    → TakesSample (StandsVia (SeqStands A B)) (counted_seq f g) q x y (suc (m + n))
 seq_took {A} {B} f g q x v y m n cf cg tf tg =
     let sf : IsSignalFunction f.function = cf.is_signal_function in
     let z : ℕ × Datum = (x.0, answer f.function q x) in
@@ -36,18 +38,22 @@ seq_took {A} {B} f g q x v y m n cf cg tf tg =
     let w : VisitCounts = λ xs. g.visits (with_values xs (f.function xs)) in
     let more : TimedList = q ++ x ∷ [] in
     let lf : length (f.visits more) ≡ length more = cf.is_count.counted more in
-    let lg : length (w more) ≡ length more = cg.is_count.counted (with_values more (f.function more)) ∙ length-zip_with _ more (f.function more) (sf.sized more) in
+    let lg : length (w more) ≡ length more = cg.is_count.counted (with_values more (f.function more))
+    ∙ length-zip_with _ more (f.function more) (sf.sized more) in
     let same : length (w more) ≡ length (f.visits more) = lg ∙ sym lf in
     let some : 0 < length (f.visits more) = counts-some cf.heaviest f.visits cf.is_count q x in
     record {
-      stands = Via-here (counted_seq f g) more (record { f = f; g = g; is_f = cf; is_g = cg; first_part = tf.stands; second_part = subst (B g) (sym seen) tg'.stands; same = refl });
+      stands = Via-here (counted_seq f g) more
+          (record { f = f; g = g; is_f = cf; is_g = cg; first_part = tf.stands; second_part = subst (B g) (sym seen) tg'.stands; same = refl });
       answered = tg'.answered ∙ sym (answer-sequence f.function g.function sf q x);
       counted =
           ap suc (ap₂ (λ i j. i + j) tf.counted (tg'.counted ∙ ap (λ xs. last_or 0 (g.visits xs)) (sym seen)) ∙ sym (tally-added f.visits w q x same))
-          ∙ sym (tally-and_one (λ xs. add_counts (f.visits xs) (w xs)) q x (let l : length (add_counts (f.visits more) (w more)) ≡ length (f.visits more) = length-added f.visits w more same in omega arith));
+          ∙ sym (tally-and_one (λ xs. add_counts (f.visits xs) (w xs)) q x
+          (let l : length (add_counts (f.visits more) (w more)) ≡ length (f.visits more) = length-added f.visits w more same in omega arith));
     }
 
-pub first_took : {A : CountedFunction → TimedList → Type 0} (f : CountedFunction) (q : TimedList) (x : ℕ × Datum) (v : Datum) (n : ℕ) → IsCountedFunction f → TakesSample A f (each_value left q) (x.0, left x.1) v n → TakesSample (StandsVia (FirstStands A)) (counted_first f) q x (pair v (right x.1)) (suc n)
+pub first_took : {A : CountedFunction → TimedList → Type 0} (f : CountedFunction) (q : TimedList) (x : ℕ × Datum) (v : Datum) (n : ℕ) → IsCountedFunction f
+    → TakesSample A f (each_value left q) (x.0, left x.1) v n → TakesSample (StandsVia (FirstStands A)) (counted_first f) q x (pair v (right x.1)) (suc n)
 first_took {A} f q x v n cf tf =
     let more : TimedList = q ++ x ∷ [] in
     let seen : each_value left more ≡ each_value left q ++ (x.0, left x.1) ∷ [] = map_push (λ y. (y.0, left y.1)) q x in
@@ -61,7 +67,9 @@ first_took {A} f q x v n cf tf =
           ∙ sym (tally-and_one w q x (omega (arith, length-append q (x ∷ []))));
     }
 
-pub loop_took : {A : CountedFunction → TimedList → Type 0} (c : Datum) (f : CountedFunction) (q : TimedList) (x : ℕ × Datum) (u v : Datum) (n : ℕ) → IsCountedFunction f → u ≡ fed_next c f.function q → TakesSample A f (fed c f.function q) (x.0, pair x.1 u) v n → TakesSample (StandsVia (LoopStands (right v) A)) (counted_loop c f) q x (left v) (suc n)
+pub loop_took : {A : CountedFunction → TimedList → Type 0} (c : Datum) (f : CountedFunction) (q : TimedList) (x : ℕ × Datum) (u v : Datum) (n : ℕ)
+    → IsCountedFunction f → u ≡ fed_next c f.function q → TakesSample A f (fed c f.function q) (x.0, pair x.1 u) v n
+    → TakesSample (StandsVia (LoopStands (right v) A)) (counted_loop c f) q x (left v) (suc n)
 loop_took {A} c f q x u v n cf e tf =
     let more : TimedList = q ++ x ∷ [] in
     let sf : IsSignalFunction f.function = cf.is_signal_function in
@@ -76,7 +84,8 @@ loop_took {A} c f q x u v n cf e tf =
     ∙ ap (last_or c) (map_push right (f.function (fed c f.function q)) (answer f.function (fed c f.function q) z))
     ∙ last_or-push c (map right (f.function (fed c f.function q))) (right (answer f.function (fed c f.function q) z)) in
     record {
-      stands = Via-here (counted_loop c f) more (record { z = c; f = f; is_f = cf; fed_next = ap right tf'.answered ∙ sym next; first_part = subst (A f) (sym seen) tf'.stands; same = refl });
+      stands = Via-here (counted_loop c f) more
+          (record { z = c; f = f; is_f = cf; fed_next = ap right tf'.answered ∙ sym next; first_part = subst (A f) (sym seen) tf'.stands; same = refl });
       answered = ap left tf'.answered ∙ sym (answer-feedback c f.function sf q x);
       counted =
           ap suc (tf'.counted ∙ ap (λ xs. last_or 0 (f.visits xs)) (sym seen))

@@ -32,7 +32,8 @@ OneMore r p x y cells = StandsAfter (later r cells) (p ++ x ∷ []) × (stream_o
 abbrev GoesOn : RunnerState → TimedList → ℕ × Datum → Datum → List Datum → Type 0
 GoesOn r p x y cells = StandsFor (later r cells) (p ++ x ∷ []) × (stream_of (network_in r) (p ++ x ∷ []) ≡ stream_of (network_in r) p ++ y ∷ [])
 
-pushed : (r : RunnerState) (x : ℕ × Datum) (y : Datum) (cells : List Datum) → ((p : TimedList) → StandsFor r p → GoesOn r p x y cells) → Pushes r x y (later r cells)
+pushed : (r : RunnerState) (x : ℕ × Datum) (y : Datum) (cells : List Datum) → ((p : TimedList) → StandsFor r p → GoesOn r p x y cells)
+    → Pushes r x y (later r cells)
 pushed r x y cells goes = record { same_network = refl; same_input = refl; counted = refl; stands = λ p s. (goes p s).0; answers = λ p s. (goes p s).1 }
 
 all_pushed : (r : RunnerState) (p : TimedList) (x : ℕ × Datum) (y : Datum) (cells : List Datum) → StandsFor r p → OneMore r p x y cells → GoesOn r p x y cells
@@ -44,13 +45,15 @@ all_pushed r p x y cells s m = (
   m.1,
 )
 
-pub first_pushed : (r : RunnerState) (d : ℕ) (x y : Datum) (cells : List Datum) → r.samples ≡ 0 → HasType x r.input → StartsTyped r.keys r.rows x y [] cells → Pushes r (d, x) y (later r cells)
+pub first_pushed : (r : RunnerState) (d : ℕ) (x y : Datum) (cells : List Datum) → r.samples ≡ 0 → HasType x r.input → StartsTyped r.keys r.rows x y [] cells
+    → Pushes r (d, x) y (later r cells)
 first_pushed r d x y cells none t begun = pushed r (d, x) y cells goes
   where
     one : StandsAfter r [] → OneMore r [] (d, x) y cells
     one (B, typed, no_cells) =
         let b : StartOf r.keys r.rows r.input B x y [] cells = begun r.input B typed t in
-        let took : TakesSample (Stands value_of b.state) (counted_meaning value_of (network_in r) empty_context) [] (d, x) y b.visits = R.first_push value_of (network_in r) b.starts d in (
+        let took : TakesSample (Stands value_of b.state) (counted_meaning value_of (network_in r) empty_context) [] (d, x) y b.visits =
+        R.first_push value_of (network_in r) b.starts d in (
           (B, b.state, subst (HoldsCells r.keys r.rows r.input B b.state) (sym b.added) b.holds, took.stands),
           (R.pushed value_of (network_in r) {P = Stands value_of b.state} [] (d, x) y b.visits took).one_more,
         )
@@ -59,13 +62,15 @@ first_pushed r d x y cells none t begun = pushed r (d, x) y cells goes
     goes (z ∷ p) s = absurd (let c : r.samples ≡ suc (length p) = s.counted in omega (arith, c, none))
     goes [] s = all_pushed r [] (d, x) y cells s (one s.holds_past)
 
-pub next_pushed : (r : RunnerState) (x : ℕ × Datum) (y : Datum) (cells rest : List Datum) → 0 < r.samples → HasType x.1 r.input → StepsTyped r.keys r.rows r.cells x y [] cells rest → Pushes r x y (later r cells)
+pub next_pushed : (r : RunnerState) (x : ℕ × Datum) (y : Datum) (cells rest : List Datum) → 0 < r.samples → HasType x.1 r.input
+    → StepsTyped r.keys r.rows r.cells x y [] cells rest → Pushes r x y (later r cells)
 next_pushed r x y cells rest some t moved = pushed r x y cells goes
   where
     one : (z : ℕ × Datum) (p : TimedList) → StandsAfter r (z ∷ p) → OneMore r (z ∷ p) x y cells
     one z p (B, a, holds, stands) =
         let m : StepOf r.keys r.rows r.input B a x y [] cells = (moved r.input B a r.cells [] holds (sym (append-nil r.cells))).0 t in
-        let took : TakesSample (Stands value_of m.state) (counted_meaning value_of (network_in r) empty_context) (z ∷ p) x y m.visits = R.next_push value_of (network_in r) m.steps (z ∷ p) stands in (
+        let took : TakesSample (Stands value_of m.state) (counted_meaning value_of (network_in r) empty_context) (z ∷ p) x y m.visits =
+        R.next_push value_of (network_in r) m.steps (z ∷ p) stands in (
           (B, m.state, subst (HoldsCells r.keys r.rows r.input B m.state) (sym m.added) m.holds, took.stands),
           (R.pushed value_of (network_in r) {P = Stands value_of m.state} (z ∷ p) x y m.visits took).one_more,
         )
@@ -86,7 +91,9 @@ past_fits r h none = ∥∥₁_map h part
 pub past_state : (r : RunnerState) → HasPast r → 0 < r.samples → BeginsWithState r.keys r.rows r.cells
 past_state r h some = ∥∥₁_map h part
   where
-    part : (p : TimedList) × StandsFor r p → (A : TypeTree) × (B : TypeTree) × (a : State Expression) × (us : List Datum) × (vs : List Datum) × HoldsCells r.keys r.rows A B a us × (r.cells ≡ us ++ vs)
+    part : (p : TimedList) × StandsFor r p
+        → (A : TypeTree) × (B : TypeTree) × (a : State Expression) × (us : List Datum) × (vs : List Datum) × HoldsCells r.keys r.rows A B a us
+        × (r.cells ≡ us ++ vs)
     part ([], s) = absurd (let c : r.samples ≡ 0 = s.counted in omega (arith, c, some))
     part (z ∷ p, s) = (r.input, s.holds_past.0, s.holds_past.1, r.cells, [], s.holds_past.2, sym (append-nil r.cells))
 
@@ -99,14 +106,20 @@ pub new_stands : (r : RunnerState) → r.samples ≡ 0 → r.cells ≡ [] → Fi
 new_stands r none nothing h = record { counted = none; holds_past = (h.0, h.1, nothing) }
 
 -- the same for a runner whose values are these by equations
-pub first_pushed_to : (r : RunnerState) (rows : Network ℕ) (d n : ℕ) (x y y' : Datum) (cells cells' before : List Datum) → rows ≡ r.rows → cells' ≡ cells → n ≡ suc r.samples → y' ≡ y → before ≡ [] → r.samples ≡ 0 → HasType x r.input → StartsTyped r.keys rows x y before cells → Pushes r (d, x) y' (record { input = r.input; keys = r.keys; rows = r.rows; cells = cells'; samples = n })
+pub first_pushed_to : (r : RunnerState) (rows : Network ℕ) (d n : ℕ) (x y y' : Datum) (cells cells' before : List Datum) → rows ≡ r.rows → cells' ≡ cells
+    → n ≡ suc r.samples → y' ≡ y → before ≡ [] → r.samples ≡ 0 → HasType x r.input → StartsTyped r.keys rows x y before cells
+    → Pushes r (d, x) y' (record { input = r.input; keys = r.keys; rows = r.rows; cells = cells'; samples = n })
 first_pushed_to r rows d n x y y' cells cells' before m e s a b none t begun =
     subst (λ k. Pushes r (d, x) y' (record { input = r.input; keys = r.keys; rows = r.rows; cells = cells'; samples = k })) (sym s)
     (subst (λ h. Pushes r (d, x) y' (later r h)) (sym e) (subst (λ w. Pushes r (d, x) w (later r cells)) (sym a)
     (first_pushed r d x y cells none t (subst (λ o. StartsTyped r.keys r.rows x y o cells) b (subst (λ o. StartsTyped r.keys o x y before cells) m begun)))))
 
-pub next_pushed_to : (r : RunnerState) (rows : Network ℕ) (x : ℕ × Datum) (n : ℕ) (y y' : Datum) (was cells cells' before rest : List Datum) → rows ≡ r.rows → cells' ≡ cells → n ≡ suc r.samples → y' ≡ y → before ≡ [] → was ≡ r.cells → 0 < r.samples → HasType x.1 r.input → StepsTyped r.keys rows was x y before cells rest → Pushes r x y' (record { input = r.input; keys = r.keys; rows = r.rows; cells = cells'; samples = n })
+pub next_pushed_to : (r : RunnerState) (rows : Network ℕ) (x : ℕ × Datum) (n : ℕ) (y y' : Datum) (was cells cells' before rest : List Datum) → rows ≡ r.rows
+    → cells' ≡ cells → n ≡ suc r.samples → y' ≡ y → before ≡ [] → was ≡ r.cells → 0 < r.samples → HasType x.1 r.input
+    → StepsTyped r.keys rows was x y before cells rest → Pushes r x y' (record { input = r.input; keys = r.keys; rows = r.rows; cells = cells'; samples = n })
 next_pushed_to r rows x n y y' was cells cells' before rest m e s a b w some t moved =
     subst (λ k. Pushes r x y' (record { input = r.input; keys = r.keys; rows = r.rows; cells = cells'; samples = k })) (sym s)
     (subst (λ h. Pushes r x y' (later r h)) (sym e) (subst (λ u. Pushes r x u (later r cells)) (sym a)
-    (next_pushed r x y cells rest some t (subst (λ o. StepsTyped r.keys r.rows r.cells x y o cells rest) b (subst (λ o. StepsTyped r.keys r.rows o x y before cells rest) w (subst (λ o. StepsTyped r.keys o was x y before cells rest) m moved))))))
+    (next_pushed r x y cells rest some t
+    (subst (λ o. StepsTyped r.keys r.rows r.cells x y o cells rest) b
+    (subst (λ o. StepsTyped r.keys r.rows o x y before cells rest) w (subst (λ o. StepsTyped r.keys o was x y before cells rest) m moved))))))

@@ -39,23 +39,31 @@ weight_at-mono (m ∷ ms) (n ∷ ns) (suc k) (and_no_more l h) = weight_at-mono 
 
 mutual
   weight-mono : {L : Type 0} (net : Network L) (ms ns : List ℕ) → NoMore ms ns → weight net ms ≤ weight net ns
-  weight-mono (seq f g) ms ns h = let a : weight f ms ≤ weight f ns = weight-mono f ms ns h in let b : weight g ms ≤ weight g ns = weight-mono g ms ns h in omega arith
+  weight-mono (seq f g) ms ns h = let a : weight f ms ≤ weight f ns = weight-mono f ms ns h in let b : weight g ms ≤ weight g ns = weight-mono g ms ns h in
+      omega arith
   weight-mono (first f) ms ns h = let a : weight f ms ≤ weight f ns = weight-mono f ms ns h in omega arith
-  weight-mono (par fs) ms ns h = let a : total (weights fs ms) ≤ total (weights fs ns) = total-mono (weights fs ms) (weights fs ns) (weights-mono fs ms ns h) in omega arith
+  weight-mono (par fs) ms ns h = let a : total (weights fs ms) ≤ total (weights fs ns) = total-mono (weights fs ms) (weights fs ns) (weights-mono fs ms ns h) in
+      omega arith
   weight-mono (loop_pre c f) ms ns h = let a : weight f ms ≤ weight f ns = weight-mono f ms ns h in omega arith
-  weight-mono (switch f t) ms ns h = let a : weight f ms ≤ weight f ns = weight-mono f ms ns h in let b : weight t ms ≤ weight t ns = weight-mono t ms ns h in omega arith
-  weight-mono (d_switch f t) ms ns h = let a : weight f ms ≤ weight f ns = weight-mono f ms ns h in let b : weight t ms ≤ weight t ns = weight-mono t ms ns h in omega arith
-  weight-mono (r_switch f t) ms ns h = let a : weight f ms ≤ weight f ns = weight-mono f ms ns h in let b : weight t ms ≤ weight t ns = weight-mono t ms ns h in omega arith
+  weight-mono (switch f t) ms ns h = let a : weight f ms ≤ weight f ns = weight-mono f ms ns h in let b : weight t ms ≤ weight t ns = weight-mono t ms ns h in
+      omega arith
+  weight-mono (d_switch f t) ms ns h = let a : weight f ms ≤ weight f ns = weight-mono f ms ns h in let b : weight t ms ≤ weight t ns = weight-mono t ms ns h in
+      omega arith
+  weight-mono (r_switch f t) ms ns h = let a : weight f ms ≤ weight f ns = weight-mono f ms ns h in let b : weight t ms ≤ weight t ns = weight-mono t ms ns h in
+      omega arith
   weight-mono (k_switch f e t) ms ns h =
       let a : weight f ms ≤ weight f ns = weight-mono f ms ns h in
       let b : weight e ms ≤ weight e ns = weight-mono e ms ns h in
-      let c : weight t (ms ++ weight f ms ∷ []) ≤ weight t (ns ++ weight f ns ∷ []) = weight-mono t (ms ++ weight f ms ∷ []) (ns ++ weight f ns ∷ []) (NoMore-append ms ns (weight f ms ∷ []) (weight f ns ∷ []) h (and_no_more a no_more)) in
+      let c : weight t (ms ++ weight f ms ∷ []) ≤ weight t (ns ++ weight f ns ∷ []) =
+      weight-mono t (ms ++ weight f ms ∷ []) (ns ++ weight f ns ∷ [])
+      (NoMore-append ms ns (weight f ms ∷ []) (weight f ns ∷ []) h (and_no_more a no_more)) in
       omega arith
   weight-mono (p_switch r fs e t) ms ns h =
       let k : NoMore (weights fs ms) (weights fs ns) = weights-mono fs ms ns h in
       let a : total (weights fs ms) ≤ total (weights fs ns) = total-mono (weights fs ms) (weights fs ns) k in
       let b : weight e ms ≤ weight e ns = weight-mono e ms ns h in
-      let c : weight t (ms ++ weights fs ms) ≤ weight t (ns ++ weights fs ns) = weight-mono t (ms ++ weights fs ms) (ns ++ weights fs ns) (NoMore-append ms ns (weights fs ms) (weights fs ns) h k) in
+      let c : weight t (ms ++ weights fs ms) ≤ weight t (ns ++ weights fs ns) =
+      weight-mono t (ms ++ weights fs ms) (ns ++ weights fs ns) (NoMore-append ms ns (weights fs ms) (weights fs ns) h k) in
       omega arith
   weight-mono (old k) ms ns h = let a : weight_at ms k ≤ weight_at ns k = weight_at-mono ms ns k h in omega arith
   weight-mono (arr e) ms ns h = le_refl 1
@@ -113,15 +121,18 @@ pub record EachWithin (rs : List ℕ) (n : ℕ) (ws : List ℕ) : Type 0 where
   pub kept : NoMore rs ws
   pub visited : n ≤ total ws
 
-by_param : {L : Type 0} (t : Network L) (s : Scope L) (c : Datum) (r n : ℕ) → Within r n (weight t (ranks_in (push_param s c))) → Within r n (weight t (ranks_in s))
+by_param : {L : Type 0} (t : Network L) (s : Scope L) (c : Datum) (r n : ℕ) → Within r n (weight t (ranks_in (push_param s c)))
+    → Within r n (weight t (ranks_in s))
 by_param t s c r n h = subst (λ ws. Within r n (weight t ws)) (ranks-param s c) h
 
-by_olds : {L : Type 0} (t : Network L) (s : Scope L) (c : Datum) (gs : Frozens L) (ws : List ℕ) (r n : ℕ) → frozen_ranks gs ≡ ws → Within r n (weight t (ranks_in (push_olds (push_param s c) gs))) → Within r n (weight t (ranks_in s ++ ws))
+by_olds : {L : Type 0} (t : Network L) (s : Scope L) (c : Datum) (gs : Frozens L) (ws : List ℕ) (r n : ℕ) → frozen_ranks gs ≡ ws
+    → Within r n (weight t (ranks_in (push_olds (push_param s c) gs))) → Within r n (weight t (ranks_in s ++ ws))
 by_olds t s c gs ws r n e h = subst (λ us. Within r n (weight t us)) (ranks-olds s c gs ∙ ap (λ us. ranks_in s ++ us) e) h
 
 module _ {L : Type 0} (val : L → List Datum → Datum → Datum) where
   mutual
-    pub starts_within : {net : Network L} {s : Scope L} {x : Datum} {a : State L} {y : Datum} {n : ℕ} → Starts val net s x a y n → Within (rank a) n (weight net (ranks_in s))
+    pub starts_within : {net : Network L} {s : Scope L} {x : Datum} {a : State L} {y : Datum} {n : ℕ} → Starts val net s x a y n
+        → Within (rank a) n (weight net (ranks_in s))
     starts_within Stepping.start_arr = record { kept = le_refl 1; visited = le_refl 1 }
     starts_within (Stepping.start_seq {f = f} {g = g} {s = s} {a = a} {b = b} {m = m} {n = n} kf kg) =
         let h0 : Within (rank a) m (weight f (ranks_in s)) = starts_within kf in
@@ -199,7 +210,9 @@ module _ {L : Type 0} (val : L → List Datum → Datum → Datum) where
         let h1 : Within (rank b) n (weight e (ranks_in s)) = starts_within ke in
         let r1 : rank b ≤ weight e (ranks_in s) = h1.kept in
         let n1 : n ≤ weight e (ranks_in s) = h1.visited in
-        let t1 : weight t (ranks_in s ++ rank a ∷ []) ≤ weight t (ranks_in s ++ weight f (ranks_in s) ∷ []) = weight-mono t (ranks_in s ++ rank a ∷ []) (ranks_in s ++ weight f (ranks_in s) ∷ []) (NoMore-append (ranks_in s) (ranks_in s) (rank a ∷ []) (weight f (ranks_in s) ∷ []) (same (ranks_in s)) (and_no_more r0 no_more)) in
+        let t1 : weight t (ranks_in s ++ rank a ∷ []) ≤ weight t (ranks_in s ++ weight f (ranks_in s) ∷ []) =
+        weight-mono t (ranks_in s ++ rank a ∷ []) (ranks_in s ++ weight f (ranks_in s) ∷ [])
+        (NoMore-append (ranks_in s) (ranks_in s) (rank a ∷ []) (weight f (ranks_in s) ∷ []) (same (ranks_in s)) (and_no_more r0 no_more)) in
         record { kept = omega arith; visited = omega arith }
     starts_within (Stepping.fire_k_switch {f = f} {e = e} {t = t} {s = s} {a = a} {b = b} {o = o} {c = c} {m = m} {n = n} {k = k} kf ke i kt) =
         let h0 : Within (rank a) m (weight f (ranks_in s)) = starts_within kf in
@@ -208,7 +221,8 @@ module _ {L : Type 0} (val : L → List Datum → Datum → Datum) where
         let h1 : Within (rank b) n (weight e (ranks_in s)) = starts_within ke in
         let r1 : rank b ≤ weight e (ranks_in s) = h1.kept in
         let n1 : n ≤ weight e (ranks_in s) = h1.visited in
-        let h2 : Within (rank o) k (weight t (ranks_in s ++ weight f (ranks_in s) ∷ [])) = by_olds t s c (and_frozen (unstarted f s) no_frozen) (weight f (ranks_in s) ∷ []) (rank o) k refl (starts_within kt) in
+        let h2 : Within (rank o) k (weight t (ranks_in s ++ weight f (ranks_in s) ∷ [])) =
+        by_olds t s c (and_frozen (unstarted f s) no_frozen) (weight f (ranks_in s) ∷ []) (rank o) k refl (starts_within kt) in
         let r2 : rank o ≤ weight t (ranks_in s ++ weight f (ranks_in s) ∷ []) = h2.kept in
         let n2 : k ≤ weight t (ranks_in s ++ weight f (ranks_in s) ∷ []) = h2.visited in
         record { kept = omega arith; visited = omega arith }
@@ -219,13 +233,16 @@ module _ {L : Type 0} (val : L → List Datum → Datum → Datum) where
         let h : EachWithin (ranks as') m (weights fs (ranks_in s)) = each_starts_within ks in
         let r : total (ranks as') ≤ total (weights fs (ranks_in s)) = total-mono (ranks as') (weights fs (ranks_in s)) h.kept in
         let v : m ≤ total (weights fs (ranks_in s)) = h.visited in
-        let t1 : weight t (ranks_in s ++ ranks as') ≤ weight t (ranks_in s ++ weights fs (ranks_in s)) = weight-mono t (ranks_in s ++ ranks as') (ranks_in s ++ weights fs (ranks_in s)) (NoMore-append (ranks_in s) (ranks_in s) (ranks as') (weights fs (ranks_in s)) (same (ranks_in s)) h.kept) in
+        let t1 : weight t (ranks_in s ++ ranks as') ≤ weight t (ranks_in s ++ weights fs (ranks_in s)) =
+        weight-mono t (ranks_in s ++ ranks as') (ranks_in s ++ weights fs (ranks_in s))
+        (NoMore-append (ranks_in s) (ranks_in s) (ranks as') (weights fs (ranks_in s)) (same (ranks_in s)) h.kept) in
         record { kept = omega arith; visited = omega arith }
     starts_within (Stepping.fire_p_switch {fs = fs} {e = e} {t = t} {s = s} {as' = as'} {b = b} {o = o} {c = c} {m = m} {n = n} {k = k} ks ke i kt) =
         let h0 : Within (rank b) n (weight e (ranks_in s)) = starts_within ke in
         let r0 : rank b ≤ weight e (ranks_in s) = h0.kept in
         let n0 : n ≤ weight e (ranks_in s) = h0.visited in
-        let h1 : Within (rank o) k (weight t (ranks_in s ++ weights fs (ranks_in s))) = by_olds t s c (all_unstarted fs s) (weights fs (ranks_in s)) (rank o) k (ranks-unstarted fs s) (starts_within kt) in
+        let h1 : Within (rank o) k (weight t (ranks_in s ++ weights fs (ranks_in s))) =
+        by_olds t s c (all_unstarted fs s) (weights fs (ranks_in s)) (rank o) k (ranks-unstarted fs s) (starts_within kt) in
         let r1 : rank o ≤ weight t (ranks_in s ++ weights fs (ranks_in s)) = h1.kept in
         let n1 : k ≤ weight t (ranks_in s ++ weights fs (ranks_in s)) = h1.visited in
         let h : EachWithin (ranks as') m (weights fs (ranks_in s)) = each_starts_within ks in
@@ -239,7 +256,8 @@ module _ {L : Type 0} (val : L → List Datum → Datum → Datum) where
         let at : frozen_rank f ≡ weight_at (ranks_in s) k = rank-in s k f e in
         record { kept = omega arith; visited = omega arith }
 
-    pub each_starts_within : {h : ℕ → Datum → Datum} {i : ℕ} {fs : Networks L} {s : Scope L} {x : Datum} {as' : States L} {ys : List Datum} {n : ℕ} → StartsEach val h i fs s x as' ys n → EachWithin (ranks as') n (weights fs (ranks_in s))
+    pub each_starts_within : {h : ℕ → Datum → Datum} {i : ℕ} {fs : Networks L} {s : Scope L} {x : Datum} {as' : States L} {ys : List Datum} {n : ℕ}
+        → StartsEach val h i fs s x as' ys n → EachWithin (ranks as') n (weights fs (ranks_in s))
     each_starts_within Stepping.start_none = record { kept = no_more; visited = le_refl 0 }
     each_starts_within (Stepping.start_also {f = f} {fs = fs} {s = s} {a = a} {as' = as'} {m = m} {n = n} kf ks) =
         let h0 : Within (rank a) m (weight f (ranks_in s)) = starts_within kf in
@@ -310,7 +328,8 @@ module _ {L : Type 0} (val : L → List Datum → Datum → Datum) where
         let r0 : rank a' ≤ rank a = h0.kept in
         let n0 : n ≤ rank a = h0.visited in
         let l : rank a ≤ max (rank a) (weight t (ranks_in s)) = le-max_left (rank a) (weight t (ranks_in s)) in
-        let mx : max (rank a') (weight t (ranks_in s)) ≤ max (rank a) (weight t (ranks_in s)) = max-le (omega arith) (le-max_right (rank a) (weight t (ranks_in s))) in
+        let mx : max (rank a') (weight t (ranks_in s)) ≤ max (rank a) (weight t (ranks_in s)) =
+        max-le (omega arith) (le-max_right (rank a) (weight t (ranks_in s))) in
         record { kept = omega arith; visited = omega arith }
     steps_within (Stepping.step_r_switch_over {a = a} {b = b} {t = t} {s = s} {c = c} {n = n} e kt) =
         let h0 : Within (rank b) n (weight t (ranks_in s)) = by_param t s c (rank b) n (starts_within kt) in
@@ -326,7 +345,9 @@ module _ {L : Type 0} (val : L → List Datum → Datum → Datum) where
         let h1 : Within (rank b') n (rank b) = steps_within kb in
         let r1 : rank b' ≤ rank b = h1.kept in
         let n1 : n ≤ rank b = h1.visited in
-        let t1 : weight t (ranks_in s ++ rank a' ∷ []) ≤ weight t (ranks_in s ++ rank a ∷ []) = weight-mono t (ranks_in s ++ rank a' ∷ []) (ranks_in s ++ rank a ∷ []) (NoMore-append (ranks_in s) (ranks_in s) (rank a' ∷ []) (rank a ∷ []) (same (ranks_in s)) (and_no_more r0 no_more)) in
+        let t1 : weight t (ranks_in s ++ rank a' ∷ []) ≤ weight t (ranks_in s ++ rank a ∷ []) =
+        weight-mono t (ranks_in s ++ rank a' ∷ []) (ranks_in s ++ rank a ∷ [])
+        (NoMore-append (ranks_in s) (ranks_in s) (rank a' ∷ []) (rank a ∷ []) (same (ranks_in s)) (and_no_more r0 no_more)) in
         record { kept = omega arith; visited = omega arith }
     steps_within (Stepping.step_k_switch_over {a = a} {b = b} {a' = a'} {b' = b'} {o = o} {t = t} {s = s} {x = x} {c = c} {m = m} {n = n} {k = k} ka kb i kt) =
         let h0 : Within (rank a') m (rank a) = steps_within ka in
@@ -335,7 +356,8 @@ module _ {L : Type 0} (val : L → List Datum → Datum → Datum) where
         let h1 : Within (rank b') n (rank b) = steps_within kb in
         let r1 : rank b' ≤ rank b = h1.kept in
         let n1 : n ≤ rank b = h1.visited in
-        let h2 : Within (rank o) k (weight t (ranks_in s ++ rank a ∷ [])) = by_olds t s c (and_frozen (paused a x.0) no_frozen) (rank a ∷ []) (rank o) k refl (starts_within kt) in
+        let h2 : Within (rank o) k (weight t (ranks_in s ++ rank a ∷ [])) =
+        by_olds t s c (and_frozen (paused a x.0) no_frozen) (rank a ∷ []) (rank o) k refl (starts_within kt) in
         let r2 : rank o ≤ weight t (ranks_in s ++ rank a ∷ []) = h2.kept in
         let n2 : k ≤ weight t (ranks_in s ++ rank a ∷ []) = h2.visited in
         record { kept = omega arith; visited = omega arith }
@@ -346,13 +368,17 @@ module _ {L : Type 0} (val : L → List Datum → Datum → Datum) where
         let h : EachWithin (ranks bs) m (ranks as') = each_steps_within ks in
         let r : total (ranks bs) ≤ total (ranks as') = total-mono (ranks bs) (ranks as') h.kept in
         let v : m ≤ total (ranks as') = h.visited in
-        let t1 : weight t (ranks_in s ++ ranks bs) ≤ weight t (ranks_in s ++ ranks as') = weight-mono t (ranks_in s ++ ranks bs) (ranks_in s ++ ranks as') (NoMore-append (ranks_in s) (ranks_in s) (ranks bs) (ranks as') (same (ranks_in s)) h.kept) in
+        let t1 : weight t (ranks_in s ++ ranks bs) ≤ weight t (ranks_in s ++ ranks as') =
+        weight-mono t (ranks_in s ++ ranks bs) (ranks_in s ++ ranks as')
+        (NoMore-append (ranks_in s) (ranks_in s) (ranks bs) (ranks as') (same (ranks_in s)) h.kept) in
         record { kept = omega arith; visited = omega arith }
-    steps_within (Stepping.step_p_switch_over {as' = as'} {bs = bs} {b = b} {b' = b'} {o = o} {t = t} {s = s} {x = x} {c = c} {m = m} {n = n} {k = k} ks kb i kt) =
+    steps_within
+        (Stepping.step_p_switch_over {as' = as'} {bs = bs} {b = b} {b' = b'} {o = o} {t = t} {s = s} {x = x} {c = c} {m = m} {n = n} {k = k} ks kb i kt) =
         let h0 : Within (rank b') n (rank b) = steps_within kb in
         let r0 : rank b' ≤ rank b = h0.kept in
         let n0 : n ≤ rank b = h0.visited in
-        let h1 : Within (rank o) k (weight t (ranks_in s ++ ranks as')) = by_olds t s c (all_paused as' x.0) (ranks as') (rank o) k (ranks-paused as' x.0) (starts_within kt) in
+        let h1 : Within (rank o) k (weight t (ranks_in s ++ ranks as')) =
+        by_olds t s c (all_paused as' x.0) (ranks as') (rank o) k (ranks-paused as' x.0) (starts_within kt) in
         let r1 : rank o ≤ weight t (ranks_in s ++ ranks as') = h1.kept in
         let n1 : k ≤ weight t (ranks_in s ++ ranks as') = h1.visited in
         let h : EachWithin (ranks bs) m (ranks as') = each_steps_within ks in
@@ -360,7 +386,8 @@ module _ {L : Type 0} (val : L → List Datum → Datum → Datum) where
         let v : m ≤ total (ranks as') = h.visited in
         record { kept = omega arith; visited = omega arith }
 
-    pub each_steps_within : {h : ℕ → Datum → Datum} {i : ℕ} {as' : States L} {x : ℕ × Datum} {bs : States L} {ys : List Datum} {n : ℕ} → StepsEach val h i as' x bs ys n → EachWithin (ranks bs) n (ranks as')
+    pub each_steps_within : {h : ℕ → Datum → Datum} {i : ℕ} {as' : States L} {x : ℕ × Datum} {bs : States L} {ys : List Datum} {n : ℕ}
+        → StepsEach val h i as' x bs ys n → EachWithin (ranks bs) n (ranks as')
     each_steps_within Stepping.step_none = record { kept = no_more; visited = le_refl 0 }
     each_steps_within (Stepping.step_also {a = a} {a' = a'} {as' = as'} {bs = bs} {m = m} {n = n} ka ks) =
         let h0 : Within (rank a') m (rank a) = steps_within ka in

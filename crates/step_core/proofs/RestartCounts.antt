@@ -39,7 +39,8 @@ Uncut-push q x u e = record {
       ap pieces (append_assoc q (x ∷ []) rest)
       ∙ u.one_piece (x ∷ rest)
       ∙ ap (λ qs. let r : Pieces = (each_value left q ++ qs.0, qs.1) in r) (cut_none x.1 e x.0 ps)
-      ∙ ap (λ ys. let r : Pieces = (ys, ps.1) in r) (sym (append_assoc (each_value left q) ((x.0, left x.1) ∷ []) ps.0) ∙ ap (λ ys. ys ++ ps.0) (sym (map_push (λ y. (y.0, left y.1)) q x)));
+      ∙ ap (λ ys. let r : Pieces = (ys, ps.1) in r) (sym (append_assoc (each_value left q) ((x.0, left x.1) ∷ []) ps.0)
+      ∙ ap (λ ys. ys ++ ps.0) (sym (map_push (λ y. (y.0, left y.1)) q x)));
 }
 
 module _ (f : CountedFunction) (t : Datum → CountedFunction) (cf : IsCountedFunction f) where
@@ -57,7 +58,8 @@ module _ (f : CountedFunction) (t : Datum → CountedFunction) (cf : IsCountedFu
       ∙ ap and_one (append-nil (f.visits (each_value left q ++ [])) ∙ ap f.visits (append-nil (each_value left q)))
 
   module _ (q : TimedList) (x : ℕ × Datum) (u : Uncut q) where
-    pub r_switch_took : {A : CountedFunction → TimedList → Type 0} (y : Datum) (n : ℕ) → restart_in x.1 ≡ None → TakesSample A f (each_value left q) (x.0, left x.1) y n → TakesSample (StandsVia (RSwitchStands A t)) (counted_r_switch f t) q x y (suc n)
+    pub r_switch_took : {A : CountedFunction → TimedList → Type 0} (y : Datum) (n : ℕ) → restart_in x.1 ≡ None
+        → TakesSample A f (each_value left q) (x.0, left x.1) y n → TakesSample (StandsVia (RSwitchStands A t)) (counted_r_switch f t) q x y (suc n)
     r_switch_took {A} y n e tf =
         let more : TimedList = q ++ x ∷ [] in
         let z : ℕ × Datum = (x.0, left x.1) in
@@ -67,7 +69,9 @@ module _ (f : CountedFunction) (t : Datum → CountedFunction) (cf : IsCountedFu
         record {
           stands = Via-here (counted_r_switch f t) more (record { f = f; is_f = cf; uncut = u'; first_part = subst (A f) (sym pushed) tf.stands; same = refl });
           answered = tf.answered ∙ sym (ap (last_or unit) (seen more u' ∙ ap f.function pushed));
-          counted = ap suc tf.counted ∙ sym (ap (last_or 0) (seen_counts more u' ∙ ap (λ ys. and_one (f.visits ys)) pushed) ∙ last-and_one (f.visits (each_value left q ++ z ∷ [])) some);
+          counted = ap suc tf.counted
+              ∙ sym (ap (last_or 0) (seen_counts more u' ∙ ap (λ ys. and_one (f.visits ys)) pushed)
+              ∙ last-and_one (f.visits (each_value left q ++ z ∷ [])) some);
         }
 
     -- at an event
@@ -85,7 +89,8 @@ module _ (f : CountedFunction) (t : Datum → CountedFunction) (cf : IsCountedFu
       back_counts rest = (t c).visits ((x.0, a) ∷ (pieces rest).0) ++ flat_map (λ piece. (t piece.0).visits piece.1) (pieces rest).1
 
       cut_pieces : (rest : TimedList) → pieces (q ++ x ∷ rest) ≡ (each_value left q ++ [], (c, (x.0, a) ∷ (pieces rest).0) ∷ (pieces rest).1)
-      cut_pieces rest = u.one_piece (x ∷ rest) ∙ ap (λ v. let p : Pieces = put_sample x.0 v (pieces rest) in let r : Pieces = (each_value left q ++ p.0, p.1) in r) e
+      cut_pieces rest = u.one_piece (x ∷ rest)
+          ∙ ap (λ v. let p : Pieces = put_sample x.0 v (pieces rest) in let r : Pieces = (each_value left q ++ p.0, p.1) in r) e
 
       cut_signal : (rest : TimedList) → (counted_r_switch f t).function (q ++ x ∷ rest) ≡ front ++ back rest
       unfolding front
@@ -97,7 +102,8 @@ module _ (f : CountedFunction) (t : Datum → CountedFunction) (cf : IsCountedFu
 
       back-some : (rest : TimedList) → 0 < length (back rest)
       back-some rest =
-          let l : length ((t c).function ((x.0, a) ∷ (pieces rest).0)) ≡ suc (length (pieces rest).0) = ct.is_signal_function.sized ((x.0, a) ∷ (pieces rest).0) in
+          let l : length ((t c).function ((x.0, a) ∷ (pieces rest).0)) ≡ suc (length (pieces rest).0) =
+          ct.is_signal_function.sized ((x.0, a) ∷ (pieces rest).0) in
           omega (arith, length-append ((t c).function ((x.0, a) ∷ (pieces rest).0)) (flat_map (λ piece. (t piece.0).function piece.1) (pieces rest).1))
 
       back_counts-some : (rest : TimedList) → 0 < length (back_counts rest)
@@ -124,10 +130,14 @@ module _ (f : CountedFunction) (t : Datum → CountedFunction) (cf : IsCountedFu
             ∙ sym (last-and_one (back_counts (r ++ y ∷ [])) (back_counts-some (r ++ y ∷ [])));
       }
 
-      pub r_switch_over_took : {A : CountedFunction → TimedList → Type 0} (y : Datum) (n : ℕ) → TakesSample A (t c) [] (x.0, a) y n → TakesSample (StandsVia (RSwitchStands A t)) (counted_r_switch f t) q x y (suc n)
+      pub r_switch_over_took : {A : CountedFunction → TimedList → Type 0} (y : Datum) (n : ℕ) → TakesSample A (t c) [] (x.0, a) y n
+          → TakesSample (StandsVia (RSwitchStands A t)) (counted_r_switch f t) q x y (suc n)
       r_switch_over_took {A} y n tt' = record {
         stands = Via-continues (counted_r_switch f t) (counted_r_switch (t c) t) (q ++ x ∷ []) ((x.0, pair a no_event) ∷ []) Continues-cut
-            (Via-here (counted_r_switch (t c) t) ((x.0, pair a no_event) ∷ []) (record { f = t c; is_f = ct; uncut = Uncut-push [] (x.0, pair a no_event) Uncut-nil refl; first_part = tt'.stands; same = refl }));
-        answered = tt'.answered ∙ sym (ap (last_or unit) (cut_signal []) ∙ last-behind unit unit front (back []) (back-some []) ∙ ap (last_or unit) (append-nil ((t c).function ((x.0, a) ∷ []))));
+            (Via-here (counted_r_switch (t c) t) ((x.0, pair a no_event) ∷ [])
+            (record { f = t c; is_f = ct; uncut = Uncut-push [] (x.0, pair a no_event) Uncut-nil refl; first_part = tt'.stands; same = refl }));
+        answered = tt'.answered
+            ∙ sym (ap (last_or unit) (cut_signal []) ∙ last-behind unit unit front (back []) (back-some [])
+            ∙ ap (last_or unit) (append-nil ((t c).function ((x.0, a) ∷ []))));
         counted = ap suc tt'.counted ∙ sym (last_counts [] ∙ ap (λ ns. suc (last_or 0 ns)) (append-nil ((t c).visits ((x.0, a) ∷ []))));
       }

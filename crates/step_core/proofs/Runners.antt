@@ -24,10 +24,12 @@ AtMost-last w a [] l no_item = l
 AtMost-last w a (n ∷ ns) l (and_item k m) = AtMost-last w n ns k m
 
 module _ {L : Type 0} (val : L → List Datum → Datum → Datum) (net : Network L) where
-  pub first_push : {x : Datum} {a : State L} {y : Datum} {n : ℕ} → Starts val net empty_scope x a y n → (d : ℕ) → TakesSample (Stands val a) (counted_meaning val net empty_context) [] (d, x) y n
+  pub first_push : {x : Datum} {a : State L} {y : Datum} {n : ℕ} → Starts val net empty_scope x a y n → (d : ℕ)
+      → TakesSample (Stands val a) (counted_meaning val net empty_context) [] (d, x) y n
   first_push k d = starts val k empty_context d (refl, tt)
 
-  pub next_push : {a b : State L} {x : ℕ × Datum} {y : Datum} {n : ℕ} → Steps val a x b y n → (p : TimedList) → Stands val a (counted_meaning val net empty_context) p → TakesSample (Stands val b) (counted_meaning val net empty_context) p x y n
+  pub next_push : {a b : State L} {x : ℕ × Datum} {y : Datum} {n : ℕ} → Steps val a x b y n → (p : TimedList)
+      → Stands val a (counted_meaning val net empty_context) p → TakesSample (Stands val b) (counted_meaning val net empty_context) p x y n
   next_push k p s = steps val k (counted_meaning val net empty_context) p s
 
   -- what a push answers, in the words of meanings and visits
@@ -36,13 +38,16 @@ module _ {L : Type 0} (val : L → List Datum → Datum → Datum) (net : Networ
     pub counted : n ≡ last_or 0 (visits_of val net closed (p ++ x ∷ []))
     pub bounded : n ≤ weight net []
 
-  pub pushed : {P : CountedFunction → TimedList → Type 0} (p : TimedList) (x : ℕ × Datum) (y : Datum) (n : ℕ) → TakesSample P (counted_meaning val net empty_context) p x y n → Pushed p x y n
+  pub pushed : {P : CountedFunction → TimedList → Type 0} (p : TimedList) (x : ℕ × Datum) (y : Datum) (n : ℕ)
+      → TakesSample P (counted_meaning val net empty_context) p x y n → Pushed p x y n
   pushed p x y n t =
       let c : IsCountedFunction (counted_meaning val net empty_context) = IsCounted-counted val net empty_context no_counted in
-      let most : last_or 0 (visits_of val net closed (p ++ x ∷ [])) ≤ weight net [] = AtMost-last (weight net []) 0 (visits_of val net closed (p ++ x ∷ [])) (omega arith) ((IsCount-visited val net closed).bounded (p ++ x ∷ [])) in
+      let most : last_or 0 (visits_of val net closed (p ++ x ∷ [])) ≤ weight net [] =
+      AtMost-last (weight net []) 0 (visits_of val net closed (p ++ x ∷ [])) (omega arith) ((IsCount-visited val net closed).bounded (p ++ x ∷ [])) in
       let e : n ≡ last_or 0 (visits_of val net closed (p ++ x ∷ [])) = t.counted in
       record {
-        one_more = signal-push (counted_meaning val net empty_context).function c.is_signal_function p x ∙ ap (λ v. outputs val net closed p ++ v ∷ []) (sym t.answered);
+        one_more = signal-push (counted_meaning val net empty_context).function c.is_signal_function p x
+            ∙ ap (λ v. outputs val net closed p ++ v ∷ []) (sym t.answered);
         counted = e;
         bounded = omega arith;
       }

@@ -54,21 +54,26 @@ module _ (f : CountedFunction) (e : SignalFunction) (t : Datum → TimedList →
   pub switch_at_quiet : (p : TimedList) (x : ℕ × Datum) → first_event (e p) ≡ None → event_in (answer e p x) ≡ None → first_event (e (p ++ x ∷ [])) ≡ None
   switch_at_quiet p x i a = quiet_push f.function e (λ c p d. (t c p d).function) cf.is_signal_function se p x i (event_none (answer e p x) a)
 
-  pub answer_quiet : (p : TimedList) (x : ℕ × Datum) → first_event (e (p ++ x ∷ [])) ≡ None → answer (counted_switch_at f e t).function p x ≡ answer f.function p x
+  pub answer_quiet : (p : TimedList) (x : ℕ × Datum) → first_event (e (p ++ x ∷ [])) ≡ None
+      → answer (counted_switch_at f e t).function p x ≡ answer f.function p x
   answer_quiet p x i = answer_before f.function e (λ c p d. (t c p d).function) cf.is_signal_function se p x i
 
-  pub tally_quiet : (p : TimedList) (x : ℕ × Datum) → first_event (e (p ++ x ∷ [])) ≡ None → visits_at (counted_switch_at f e t).visits p x ≡ visits_at f.visits p x
+  pub tally_quiet : (p : TimedList) (x : ℕ × Datum) → first_event (e (p ++ x ∷ [])) ≡ None
+      → visits_at (counted_switch_at f e t).visits p x ≡ visits_at f.visits p x
   tally_quiet p x i =
       let xs : TimedList = p ++ x ∷ [] in
       ap (λ o. last_or 0 (switch_counts o (f.visits xs) (λ n c. (t c (take n xs) (step_of (drop n xs))).visits (drop n xs)))) i
 
   -- the counts from the event on
-  counts_from : (p : TimedList) (x : ℕ × Datum) (c : Datum) (rest : TimedList) → first_event (e p) ≡ None → answer e p x ≡ event c → (counted_switch_at f e t).visits (p ++ x ∷ rest) ≡ take (length p) (f.visits (p ++ x ∷ rest)) ++ both_at_first (drop (length p) (f.visits (p ++ x ∷ rest))) ((t c p x.0).visits (x ∷ rest))
+  counts_from : (p : TimedList) (x : ℕ × Datum) (c : Datum) (rest : TimedList) → first_event (e p) ≡ None → answer e p x ≡ event c
+      → (counted_switch_at f e t).visits (p ++ x ∷ rest) ≡ take (length p) (f.visits (p ++ x ∷ rest))
+      ++ both_at_first (drop (length p) (f.visits (p ++ x ∷ rest))) ((t c p x.0).visits (x ∷ rest))
   counts_from p x c rest i a =
       let xs : TimedList = p ++ x ∷ rest in
       let n : ℕ = length p in
       let ns : List ℕ = f.visits xs in
-      ap (λ o. switch_counts o ns (λ n c. (t c (take n xs) (step_of (drop n xs))).visits (drop n xs))) (event_seen f.function e (λ c p d. (t c p d).function) cf.is_signal_function se p x c rest i a)
+      ap (λ o. switch_counts o ns (λ n c. (t c (take n xs) (step_of (drop n xs))).visits (drop n xs)))
+      (event_seen f.function e (λ c p d. (t c p d).function) cf.is_signal_function se p x c rest i a)
       ∙ ap (λ r. take n ns ++ both_at_first (drop n ns) ((t c (take n xs) (step_of r)).visits r)) (drop_at p (x ∷ rest) n refl)
       ∙ ap (λ q. take n ns ++ both_at_first (drop n ns) ((t c q x.0).visits (x ∷ rest))) (take_at p (x ∷ rest) n refl)
 
@@ -78,11 +83,14 @@ module _ (f : CountedFunction) (e : SignalFunction) (t : Datum → TimedList →
       let l : length (f.visits xs) ≡ length xs = cf.is_count.counted xs in
       omega (arith, length-drop (length p) (f.visits xs), length-append p (x ∷ rest))
 
-  pub Continues-fired : (p : TimedList) (x : ℕ × Datum) (c : Datum) → IsCountedFunction (t c p x.0) → first_event (e p) ≡ None → answer e p x ≡ event c → Continues (counted_switch_at f e t) (p ++ x ∷ []) (t c p x.0) (x ∷ [])
+  pub Continues-fired : (p : TimedList) (x : ℕ × Datum) (c : Datum) → IsCountedFunction (t c p x.0) → first_event (e p) ≡ None → answer e p x ≡ event c
+      → Continues (counted_switch_at f e t) (p ++ x ∷ []) (t c p x.0) (x ∷ [])
   Continues-fired p x c ct i a =
-      let go : GoesOn (counted_switch_at f e t).function p (t c p x.0).function x = GoesOn-switch_at f.function e (λ c p d. (t c p d).function) cf.is_signal_function se p x c i a in
+      let go : GoesOn (counted_switch_at f e t).function p (t c p x.0).function x =
+      GoesOn-switch_at f.function e (λ c p d. (t c p d).function) cf.is_signal_function se p x c i a in
       record {
-        answers = λ r y. ap (λ s. answer (counted_switch_at f e t).function s y) (append_assoc p (x ∷ []) r) ∙ answer-later (counted_switch_at f e t).function (t c p x.0).function ct.is_signal_function p x go r y;
+        answers = λ r y. ap (λ s. answer (counted_switch_at f e t).function s y) (append_assoc p (x ∷ []) r)
+            ∙ answer-later (counted_switch_at f e t).function (t c p x.0).function ct.is_signal_function p x go r y;
         tallies = λ r y.
             let rest : TimedList = r ++ y ∷ [] in
             let xs : TimedList = p ++ x ∷ rest in
@@ -97,10 +105,13 @@ module _ (f : CountedFunction) (e : SignalFunction) (t : Datum → TimedList →
             ∙ both-later 0 ms ns (omega arith) (omega arith);
       }
 
-  pub answer_fired : (p : TimedList) (x : ℕ × Datum) (c : Datum) → IsCountedFunction (t c p x.0) → first_event (e p) ≡ None → answer e p x ≡ event c → answer (counted_switch_at f e t).function p x ≡ answer (t c p x.0).function [] x
-  answer_fired p x c ct i a = answer-first (counted_switch_at f e t).function (t c p x.0).function ct.is_signal_function p x (GoesOn-switch_at f.function e (λ c p d. (t c p d).function) cf.is_signal_function se p x c i a)
+  pub answer_fired : (p : TimedList) (x : ℕ × Datum) (c : Datum) → IsCountedFunction (t c p x.0) → first_event (e p) ≡ None → answer e p x ≡ event c
+      → answer (counted_switch_at f e t).function p x ≡ answer (t c p x.0).function [] x
+  answer_fired p x c ct i a = answer-first (counted_switch_at f e t).function (t c p x.0).function ct.is_signal_function p x
+      (GoesOn-switch_at f.function e (λ c p d. (t c p d).function) cf.is_signal_function se p x c i a)
 
-  pub tally_fired : (p : TimedList) (x : ℕ × Datum) (c : Datum) → IsCountedFunction (t c p x.0) → first_event (e p) ≡ None → answer e p x ≡ event c → visits_at (counted_switch_at f e t).visits p x ≡ visits_at f.visits p x + visits_at (t c p x.0).visits [] x
+  pub tally_fired : (p : TimedList) (x : ℕ × Datum) (c : Datum) → IsCountedFunction (t c p x.0) → first_event (e p) ≡ None → answer e p x ≡ event c
+      → visits_at (counted_switch_at f e t).visits p x ≡ visits_at f.visits p x + visits_at (t c p x.0).visits [] x
   tally_fired p x c ct i a =
       let xs : TimedList = p ++ x ∷ [] in
       let ms : List ℕ = drop (length p) (f.visits xs) in
@@ -110,10 +121,13 @@ module _ (f : CountedFunction) (e : SignalFunction) (t : Datum → TimedList →
       ap (last_or 0) (counts_from p x c [] i a)
       ∙ last-append_from 0 (take (length p) (f.visits xs)) (both_at_first ms ns) (both-some ms ns (omega arith) (omega arith))
       ∙ both-now 0 ms ns lm ln
-      ∙ ap (λ k. k + last_or 0 ns) (last-drop (length p) (f.visits xs) (let l : length (f.visits xs) ≡ length xs = cf.is_count.counted xs in omega (arith, length-append p (x ∷ []))))
+      ∙ ap (λ k. k + last_or 0 ns)
+      (last-drop (length p) (f.visits xs) (let l : length (f.visits xs) ≡ length xs = cf.is_count.counted xs in omega (arith, length-append p (x ∷ []))))
 
   -- what took over stands for the switch
-  pub switch_at_took : {P : CountedFunction → TimedList → Type 0} (p : TimedList) (x : ℕ × Datum) (c y : Datum) (m n : ℕ) → IsCountedFunction (t c p x.0) → first_event (e p) ≡ None → answer e p x ≡ event c → m ≡ visits_at f.visits p x → TakesSample (StandsVia P) (t c p x.0) [] x y n → TakesSample (StandsVia P) (counted_switch_at f e t) p x y (m + n)
+  pub switch_at_took : {P : CountedFunction → TimedList → Type 0} (p : TimedList) (x : ℕ × Datum) (c y : Datum) (m n : ℕ) → IsCountedFunction (t c p x.0)
+      → first_event (e p) ≡ None → answer e p x ≡ event c → m ≡ visits_at f.visits p x → TakesSample (StandsVia P) (t c p x.0) [] x y n
+      → TakesSample (StandsVia P) (counted_switch_at f e t) p x y (m + n)
   switch_at_took p x c y m n ct i a em tt' = record {
     stands = Via-continues (counted_switch_at f e t) (t c p x.0) (p ++ x ∷ []) (x ∷ []) (Continues-fired p x c ct i a) tt'.stands;
     answered = tt'.answered ∙ sym (answer_fired p x c ct i a);
@@ -125,29 +139,42 @@ abbrev pub halved : CountedFunction → CountedFunction
 halved f = record { function = lefts f.function; visits = λ xs. and_one (f.visits xs) }
 
 IsCounted-halved : (f : CountedFunction) → IsCountedFunction f → IsCountedFunction (halved f)
-IsCounted-halved f cf = record { is_signal_function = IsSignal-lefts f.function cf.is_signal_function; heaviest = suc cf.heaviest; is_count = IsCount-and_one cf.heaviest f.visits cf.is_count }
+IsCounted-halved f cf =
+    record {
+      is_signal_function = IsSignal-lefts f.function cf.is_signal_function;
+      heaviest = suc cf.heaviest;
+      is_count =
+          IsCount-and_one cf.heaviest f.visits cf.is_count;
+    }
 
-tally-halved : (f : CountedFunction) → IsCountedFunction f → (q : TimedList) (x : ℕ × Datum) (n : ℕ) → n ≡ visits_at f.visits q x → suc n ≡ visits_at (halved f).visits q x
+tally-halved : (f : CountedFunction) → IsCountedFunction f → (q : TimedList) (x : ℕ × Datum) (n : ℕ) → n ≡ visits_at f.visits q x
+    → suc n ≡ visits_at (halved f).visits q x
 tally-halved f cf q x n e = ap suc e ∙ sym (tally-and_one f.visits q x (counts-some cf.heaviest f.visits cf.is_count q x))
 
-module _ (f : CountedFunction) (t : Datum → CountedFunction) (cf : IsCountedFunction f) (q : TimedList) (x : ℕ × Datum) (i : first_event (rights f.function q) ≡ None) where
+module _ (f : CountedFunction) (t : Datum
+    → CountedFunction) (cf : IsCountedFunction f) (q : TimedList) (x : ℕ × Datum) (i : first_event (rights f.function q) ≡ None) where
   answer-right : (v : Datum) (o : Option Datum) → v ≡ answer f.function q x → event_in (right v) ≡ o → event_in (answer (rights f.function) q x) ≡ o
   answer-right v o e h = ap event_in (answer-after right f.function cf.is_signal_function q x ∙ ap right (sym e)) ∙ h
 
-  pub switch_took : {A : CountedFunction → TimedList → Type 0} (v : Datum) (n : ℕ) → TakesSample A f q x v n → event_in (right v) ≡ None → TakesSample (StandsVia (SwitchStands A t)) (counted_switch f t) q x (left v) (suc n)
+  pub switch_took : {A : CountedFunction → TimedList → Type 0} (v : Datum) (n : ℕ) → TakesSample A f q x v n → event_in (right v) ≡ None
+      → TakesSample (StandsVia (SwitchStands A t)) (counted_switch f t) q x (left v) (suc n)
   switch_took v n tf h =
       let se : IsSignalFunction (rights f.function) = IsSignal-rights f.function cf.is_signal_function in
       let ch : IsCountedFunction (halved f) = IsCounted-halved f cf in
-      let i' : first_event (rights f.function (q ++ x ∷ [])) ≡ None = switch_at_quiet (halved f) (rights f.function) (λ c p d. t c) ch se q x i (answer-right v None tf.answered h) in
+      let i' : first_event (rights f.function (q ++ x ∷ [])) ≡ None =
+      switch_at_quiet (halved f) (rights f.function) (λ c p d. t c) ch se q x i (answer-right v None tf.answered h) in
       record {
         stands = Via-here (counted_switch f t) (q ++ x ∷ []) (record { f = f; is_f = cf; unseen = i'; first_part = tf.stands; same = refl });
-        answered = ap left tf.answered ∙ sym (answer-after left f.function cf.is_signal_function q x) ∙ sym (answer_quiet (halved f) (rights f.function) (λ c p d. t c) ch se q x i');
+        answered = ap left tf.answered ∙ sym (answer-after left f.function cf.is_signal_function q x)
+            ∙ sym (answer_quiet (halved f) (rights f.function) (λ c p d. t c) ch se q x i');
         counted = tally-halved f cf q x n tf.counted ∙ sym (tally_quiet (halved f) (rights f.function) (λ c p d. t c) ch se q x i');
       }
 
-  pub switch_over_took : {A P : CountedFunction → TimedList → Type 0} (v c y : Datum) (m n : ℕ) → IsCountedFunction (t c) → TakesSample A f q x v m → event_in (right v) ≡ Some c → TakesSample (StandsVia P) (t c) [] x y n → TakesSample (StandsVia P) (counted_switch f t) q x y (suc m + n)
+  pub switch_over_took : {A P : CountedFunction → TimedList → Type 0} (v c y : Datum) (m n : ℕ) → IsCountedFunction (t c) → TakesSample A f q x v m
+      → event_in (right v) ≡ Some c → TakesSample (StandsVia P) (t c) [] x y n → TakesSample (StandsVia P) (counted_switch f t) q x y (suc m + n)
   switch_over_took {A} {P} v c y m n ct tf h tg =
-      switch_at_took (halved f) (rights f.function) (λ c p d. t c) (IsCounted-halved f cf) (IsSignal-rights f.function cf.is_signal_function) {P = P} q x c y (suc m) n ct i
+      switch_at_took (halved f) (rights f.function) (λ c p d. t c) (IsCounted-halved f cf) (IsSignal-rights f.function cf.is_signal_function) {P = P} q x c y
+      (suc m) n ct i
       (event_is (answer (rights f.function) q x) c (answer-right v (Some c) tf.answered h)) (tally-halved f cf q x m tf.counted) tg
 
   -- what takes over in `dSwitch`, and the switch with it
@@ -155,33 +182,47 @@ module _ (f : CountedFunction) (t : Datum → CountedFunction) (cf : IsCountedFu
   lately_counted c p d = record { function = lately f.function (λ c. (t c).function) c p d; visits = (t c).visits }
 
   d_switch-is : counted_d_switch f t ≡ counted_switch_at (halved f) (rights f.function) lately_counted
-  d_switch-is = ap (λ s. let c : CountedFunction = record { function = s; visits = (counted_d_switch f t).visits } in c) (switching_late-is f.function (λ c. (t c).function) cf.is_signal_function)
+  d_switch-is = ap (λ s. let c : CountedFunction = record { function = s; visits = (counted_d_switch f t).visits } in c)
+      (switching_late-is f.function (λ c. (t c).function) cf.is_signal_function)
 
-  pub d_switch_took : {A : CountedFunction → TimedList → Type 0} (v : Datum) (n : ℕ) → TakesSample A f q x v n → event_in (right v) ≡ None → TakesSample (StandsVia (DSwitchStands A t)) (counted_d_switch f t) q x (left v) (suc n)
+  pub d_switch_took : {A : CountedFunction → TimedList → Type 0} (v : Datum) (n : ℕ) → TakesSample A f q x v n → event_in (right v) ≡ None
+      → TakesSample (StandsVia (DSwitchStands A t)) (counted_d_switch f t) q x (left v) (suc n)
   d_switch_took v n tf h =
       let se : IsSignalFunction (rights f.function) = IsSignal-rights f.function cf.is_signal_function in
       let ch : IsCountedFunction (halved f) = IsCounted-halved f cf in
-      let i' : first_event (rights f.function (q ++ x ∷ [])) ≡ None = switch_at_quiet (halved f) (rights f.function) lately_counted ch se q x i (answer-right v None tf.answered h) in
+      let i' : first_event (rights f.function (q ++ x ∷ [])) ≡ None =
+      switch_at_quiet (halved f) (rights f.function) lately_counted ch se q x i (answer-right v None tf.answered h) in
       record {
         stands = Via-here (counted_d_switch f t) (q ++ x ∷ []) (record { f = f; is_f = cf; unseen = i'; first_part = tf.stands; same = refl });
-        answered = ap left tf.answered ∙ sym (answer-after left f.function cf.is_signal_function q x) ∙ sym (answer_quiet (halved f) (rights f.function) lately_counted ch se q x i') ∙ ap (λ s. answer s.function q x) (sym d_switch-is);
+        answered = ap left tf.answered ∙ sym (answer-after left f.function cf.is_signal_function q x)
+            ∙ sym (answer_quiet (halved f) (rights f.function) lately_counted ch se q x i') ∙ ap (λ s. answer s.function q x) (sym d_switch-is);
         counted = tally-halved f cf q x n tf.counted ∙ sym (tally_quiet (halved f) (rights f.function) lately_counted ch se q x i');
       }
 
   IsSignal-kept_back : IsSignalFunction (resume (lefts f.function) q x.0)
   IsSignal-kept_back = IsSignal-resume (lefts f.function) (IsSignal-lefts f.function cf.is_signal_function) q x.0
 
-  pub d_switch_over_took : {A P : CountedFunction → TimedList → Type 0} (v c y : Datum) (m n : ℕ) → IsCountedFunction (t c) → TakesSample A f q x v m → event_in (right v) ≡ Some c → TakesSample (StandsVia P) (t c) [] x y n → TakesSample (StandsVia P) (counted_d_switch f t) q x (left v) (suc m + n)
+  pub d_switch_over_took : {A P : CountedFunction → TimedList → Type 0} (v c y : Datum) (m n : ℕ) → IsCountedFunction (t c) → TakesSample A f q x v m
+      → event_in (right v) ≡ Some c → TakesSample (StandsVia P) (t c) [] x y n → TakesSample (StandsVia P) (counted_d_switch f t) q x (left v) (suc m + n)
   d_switch_over_took {A} {P} v c y m n ct tf h tg =
       let back : SignalFunction = resume (lefts f.function) q x.0 in
       let over : TakesSample (StandsVia P) (lately_counted c q x.0) [] x (left v) n = record {
-        stands = Via-continues (lately_counted c q x.0) (t c) (x ∷ []) (x ∷ []) (record { answers = λ r z. answer-late back (t c).function ct.is_signal_function x r z; tallies = λ r z. refl }) tg.stands;
-        answered = ap left tf.answered ∙ sym (answer-after left f.function cf.is_signal_function q x) ∙ sym (answer-resume_first (lefts f.function) (IsSignal-lefts f.function cf.is_signal_function) q x.0 x) ∙ sym (answer-late_first back (t c).function IsSignal-kept_back ct.is_signal_function x);
+        stands = Via-continues (lately_counted c q x.0) (t c) (x ∷ []) (x ∷ [])
+            (record { answers = λ r z. answer-late back (t c).function ct.is_signal_function x r z; tallies = λ r z. refl }) tg.stands;
+        answered = ap left tf.answered ∙ sym (answer-after left f.function cf.is_signal_function q x)
+            ∙ sym (answer-resume_first (lefts f.function) (IsSignal-lefts f.function cf.is_signal_function) q x.0 x)
+            ∙ sym (answer-late_first back (t c).function IsSignal-kept_back ct.is_signal_function x);
         counted = tg.counted;
       } in
       subst (λ d. TakesSample (StandsVia P) d q x (left v) (suc m + n)) (sym d_switch-is) (
-      switch_at_took (halved f) (rights f.function) lately_counted (IsCounted-halved f cf) (IsSignal-rights f.function cf.is_signal_function) {P = P} q x c (left v) (suc m) n
-      (record { is_signal_function = IsSignal-late back (t c).function IsSignal-kept_back ct.is_signal_function; heaviest = ct.heaviest; is_count = ct.is_count }) i
+      switch_at_took (halved f) (rights f.function) lately_counted (IsCounted-halved f cf) (IsSignal-rights f.function cf.is_signal_function) {P = P} q x c
+      (left v) (suc m) n
+      (record {
+        is_signal_function = IsSignal-late back (t c).function IsSignal-kept_back ct.is_signal_function;
+        heaviest = ct.heaviest;
+        is_count =
+            ct.is_count;
+      }) i
       (event_is (answer (rights f.function) q x) c (answer-right v (Some c) tf.answered h)) (tally-halved f cf q x m tf.counted) over)
 
 module _ (f e : CountedFunction) (cf : IsCountedFunction f) (ce : IsCountedFunction e) where
@@ -189,30 +230,40 @@ module _ (f e : CountedFunction) (cf : IsCountedFunction f) (ce : IsCountedFunct
   IsCounted-watched = record {
     is_signal_function = cf.is_signal_function;
     heaviest = suc (cf.heaviest + ce.heaviest);
-    is_count = IsCount-and_one (cf.heaviest + ce.heaviest) _ (IsCount-added cf.heaviest ce.heaviest f.visits (λ xs. e.visits (pair_samples xs (f.function xs))) cf.is_count
-        (IsCount-before ce.heaviest (λ xs. pair_samples xs (f.function xs)) e.visits (λ xs. length-zip_with _ xs (f.function xs) (cf.is_signal_function.sized xs)) ce.is_count));
+    is_count = IsCount-and_one (cf.heaviest + ce.heaviest) _
+        (IsCount-added cf.heaviest ce.heaviest f.visits (λ xs. e.visits (pair_samples xs (f.function xs))) cf.is_count
+        (IsCount-before ce.heaviest (λ xs. pair_samples xs (f.function xs)) e.visits
+        (λ xs. length-zip_with _ xs (f.function xs) (cf.is_signal_function.sized xs)) ce.is_count));
   }
 
   -- any switch whose event e sees on f's input and output
-  module _ (over_counted : Datum → TimedList → ℕ → CountedFunction) (q : TimedList) (x : ℕ × Datum) (i : first_event (watch f.function e.function q) ≡ None) where
+  module _ (over_counted : Datum → TimedList → ℕ
+      → CountedFunction) (q : TimedList) (x : ℕ × Datum) (i : first_event (watch f.function e.function q) ≡ None) where
     se : IsSignalFunction (watch f.function e.function)
     se = IsSignal-watching f.function e.function cf.is_signal_function ce.is_signal_function
 
-    pub moved : {B : CountedFunction → TimedList → Type 0} (v w : Datum) (n : ℕ) → v ≡ answer f.function q x → TakesSample B e (pair_samples q (f.function q)) (x.0, pair x.1 v) w n → TakesSample B e (pair_samples q (f.function q)) (x.0, pair x.1 (answer f.function q x)) w n
+    pub moved : {B : CountedFunction → TimedList → Type 0} (v w : Datum) (n : ℕ) → v ≡ answer f.function q x
+        → TakesSample B e (pair_samples q (f.function q)) (x.0, pair x.1 v) w n
+        → TakesSample B e (pair_samples q (f.function q)) (x.0, pair x.1 (answer f.function q x)) w n
     moved {B} v w n a te = subst (λ u. TakesSample B e (pair_samples q (f.function q)) (x.0, pair x.1 u) w n) a te
 
-    tally-watched : (m n : ℕ) → m ≡ visits_at f.visits q x → n ≡ visits_at e.visits (pair_samples q (f.function q)) (x.0, pair x.1 (answer f.function q x)) → suc (m + n) ≡ visits_at (counted_watch f e).visits q x
+    tally-watched : (m n : ℕ) → m ≡ visits_at f.visits q x → n ≡ visits_at e.visits (pair_samples q (f.function q)) (x.0, pair x.1 (answer f.function q x))
+        → suc (m + n) ≡ visits_at (counted_watch f e).visits q x
     tally-watched m n em en =
         let more : TimedList = q ++ x ∷ [] in
         let w : VisitCounts = λ xs. e.visits (pair_samples xs (f.function xs)) in
         let lf : length (f.visits more) ≡ length more = cf.is_count.counted more in
-        let lg : length (w more) ≡ length more = ce.is_count.counted (pair_samples more (f.function more)) ∙ length-zip_with _ more (f.function more) (cf.is_signal_function.sized more) in
+        let lg : length (w more) ≡ length more = ce.is_count.counted (pair_samples more (f.function more))
+        ∙ length-zip_with _ more (f.function more) (cf.is_signal_function.sized more) in
         let same : length (w more) ≡ length (f.visits more) = lg ∙ sym lf in
         let some : 0 < length (f.visits more) = counts-some cf.heaviest f.visits cf.is_count q x in
-        ap suc (ap₂ (λ i j. i + j) em (en ∙ ap (λ xs. last_or 0 (e.visits xs)) (sym (push_pair_samples f.function cf.is_signal_function q x))) ∙ sym (tally-added f.visits w q x same))
-        ∙ sym (tally-and_one (λ xs. add_counts (f.visits xs) (w xs)) q x (let l : length (add_counts (f.visits more) (w more)) ≡ length (f.visits more) = length-added f.visits w more same in omega arith))
+        ap suc (ap₂ (λ i j. i + j) em (en ∙ ap (λ xs. last_or 0 (e.visits xs)) (sym (push_pair_samples f.function cf.is_signal_function q x)))
+        ∙ sym (tally-added f.visits w q x same))
+        ∙ sym (tally-and_one (λ xs. add_counts (f.visits xs) (w xs)) q x
+        (let l : length (add_counts (f.visits more) (w more)) ≡ length (f.visits more) = length-added f.visits w more same in omega arith))
 
-    answer-watch : (w : Datum) (o : Option Datum) → w ≡ answer e.function (pair_samples q (f.function q)) (x.0, pair x.1 (answer f.function q x)) → event_in w ≡ o → event_in (answer (watch f.function e.function) q x) ≡ o
+    answer-watch : (w : Datum) (o : Option Datum) → w ≡ answer e.function (pair_samples q (f.function q)) (x.0, pair x.1 (answer f.function q x))
+        → event_in w ≡ o → event_in (answer (watch f.function e.function) q x) ≡ o
     answer-watch w o a h = ap event_in (answer-watching f.function e.function cf.is_signal_function q x ∙ sym a) ∙ h
 
     -- no event yet
@@ -222,33 +273,47 @@ module _ (f e : CountedFunction) (cf : IsCountedFunction f) (ce : IsCountedFunct
       pub answered : v ≡ answer (counted_switch_at (counted_watch f e) (watch f.function e.function) over_counted).function q x
       pub counted : n ≡ visits_at (counted_switch_at (counted_watch f e) (watch f.function e.function) over_counted).visits q x
 
-    pub watch_quiet : {B : CountedFunction → TimedList → Type 0} (v w : Datum) (m n : ℕ) → v ≡ answer f.function q x → m ≡ visits_at f.visits q x → TakesSample B e (pair_samples q (f.function q)) (x.0, pair x.1 v) w n → event_in w ≡ None → Quiet B v (suc (m + n))
+    pub watch_quiet : {B : CountedFunction → TimedList → Type 0} (v w : Datum) (m n : ℕ) → v ≡ answer f.function q x → m ≡ visits_at f.visits q x
+        → TakesSample B e (pair_samples q (f.function q)) (x.0, pair x.1 v) w n → event_in w ≡ None → Quiet B v (suc (m + n))
     watch_quiet {B} v w m n av em te h =
         let te' : TakesSample B e (pair_samples q (f.function q)) (x.0, pair x.1 (answer f.function q x)) w n = moved {B = B} v w n av te in
         let more : TimedList = q ++ x ∷ [] in
-        let i' : first_event (watch f.function e.function more) ≡ None = switch_at_quiet (counted_watch f e) (watch f.function e.function) over_counted IsCounted-watched se q x i (answer-watch w None te'.answered h) in
+        let i' : first_event (watch f.function e.function more) ≡ None =
+        switch_at_quiet (counted_watch f e) (watch f.function e.function) over_counted IsCounted-watched se q x i
+        (answer-watch w None te'.answered h) in
         record {
           unseen = i';
           watcher = subst (B e) (sym (push_pair_samples f.function cf.is_signal_function q x)) te'.stands;
           answered = av ∙ sym (answer_quiet (counted_watch f e) (watch f.function e.function) over_counted IsCounted-watched se q x i');
-          counted = tally-watched m n em te'.counted ∙ sym (tally_quiet (counted_watch f e) (watch f.function e.function) over_counted IsCounted-watched se q x i');
+          counted = tally-watched m n em te'.counted
+              ∙ sym (tally_quiet (counted_watch f e) (watch f.function e.function) over_counted IsCounted-watched se q x i');
         }
 
-    pub watch_over : {B P : CountedFunction → TimedList → Type 0} (v w c y : Datum) (m n k : ℕ) → IsCountedFunction (over_counted c q x.0) → v ≡ answer f.function q x → m ≡ visits_at f.visits q x → TakesSample B e (pair_samples q (f.function q)) (x.0, pair x.1 v) w n → event_in w ≡ Some c → TakesSample (StandsVia P) (over_counted c q x.0) [] x y k → TakesSample (StandsVia P) (counted_switch_at (counted_watch f e) (watch f.function e.function) over_counted) q x y (suc (m + n) + k)
+    pub watch_over : {B P : CountedFunction → TimedList → Type 0} (v w c y : Datum) (m n k : ℕ) → IsCountedFunction (over_counted c q x.0)
+        → v ≡ answer f.function q x → m ≡ visits_at f.visits q x → TakesSample B e (pair_samples q (f.function q)) (x.0, pair x.1 v) w n → event_in w ≡ Some c
+        → TakesSample (StandsVia P) (over_counted c q x.0) [] x y k
+        → TakesSample (StandsVia P) (counted_switch_at (counted_watch f e) (watch f.function e.function) over_counted) q x y (suc (m + n) + k)
     watch_over {B} {P} v w c y m n k ct av em te h tg =
         let te' : TakesSample B e (pair_samples q (f.function q)) (x.0, pair x.1 (answer f.function q x)) w n = moved {B = B} v w n av te in
         switch_at_took (counted_watch f e) (watch f.function e.function) over_counted IsCounted-watched se {P = P} q x c y (suc (m + n)) k ct i
         (event_is (answer (watch f.function e.function) q x) c (answer-watch w (Some c) te'.answered h)) (tally-watched m n em te'.counted) tg
 
   module _ (t : Datum → CountedFunction → CountedFunction) (q : TimedList) (x : ℕ × Datum) (i : first_event (watch f.function e.function q) ≡ None) where
-    pub k_switch_took : {A B : CountedFunction → TimedList → Type 0} (v w : Datum) (m n : ℕ) → TakesSample A f q x v m → TakesSample B e (pair_samples q (f.function q)) (x.0, pair x.1 v) w n → event_in w ≡ None → TakesSample (StandsVia (KSwitchStands A B t)) (counted_k_switch f e t) q x v (suc (m + n))
+    pub k_switch_took : {A B : CountedFunction → TimedList → Type 0} (v w : Datum) (m n : ℕ) → TakesSample A f q x v m
+        → TakesSample B e (pair_samples q (f.function q)) (x.0, pair x.1 v) w n → event_in w ≡ None
+        → TakesSample (StandsVia (KSwitchStands A B t)) (counted_k_switch f e t) q x v (suc (m + n))
     k_switch_took {A} {B} v w m n tf te h =
-        let quiet : Quiet (λ c p d. t c (counted_resume f p d)) q x i B v (suc (m + n)) = watch_quiet (λ c p d. t c (counted_resume f p d)) q x i {B = B} v w m n tf.answered tf.counted te h in
+        let quiet : Quiet (λ c p d. t c (counted_resume f p d)) q x i B v (suc (m + n)) =
+        watch_quiet (λ c p d. t c (counted_resume f p d)) q x i {B = B} v w m n tf.answered tf.counted te h in
         record {
-          stands = Via-here (counted_k_switch f e t) (q ++ x ∷ []) (record { f = f; e = e; is_f = cf; is_e = ce; unseen = quiet.unseen; first_part = tf.stands; second_part = quiet.watcher; same = refl });
+          stands = Via-here (counted_k_switch f e t) (q ++ x ∷ [])
+              (record { f = f; e = e; is_f = cf; is_e = ce; unseen = quiet.unseen; first_part = tf.stands; second_part = quiet.watcher; same = refl });
           answered = quiet.answered;
           counted = quiet.counted;
         }
 
-    pub k_switch_over_took : {A B P : CountedFunction → TimedList → Type 0} (v w c y : Datum) (m n k : ℕ) → IsCountedFunction (t c (counted_resume f q x.0)) → TakesSample A f q x v m → TakesSample B e (pair_samples q (f.function q)) (x.0, pair x.1 v) w n → event_in w ≡ Some c → TakesSample (StandsVia P) (t c (counted_resume f q x.0)) [] x y k → TakesSample (StandsVia P) (counted_k_switch f e t) q x y (suc (m + n) + k)
-    k_switch_over_took {A} {B} {P} v w c y m n k ct tf te h tg = watch_over (λ c p d. t c (counted_resume f p d)) q x i {B = B} {P = P} v w c y m n k ct tf.answered tf.counted te h tg
+    pub k_switch_over_took : {A B P : CountedFunction → TimedList → Type 0} (v w c y : Datum) (m n k : ℕ) → IsCountedFunction (t c (counted_resume f q x.0))
+        → TakesSample A f q x v m → TakesSample B e (pair_samples q (f.function q)) (x.0, pair x.1 v) w n → event_in w ≡ Some c
+        → TakesSample (StandsVia P) (t c (counted_resume f q x.0)) [] x y k → TakesSample (StandsVia P) (counted_k_switch f e t) q x y (suc (m + n) + k)
+    k_switch_over_took {A} {B} {P} v w c y m n k ct tf te h tg =
+        watch_over (λ c p d. t c (counted_resume f p d)) q x i {B = B} {P = P} v w c y m n k ct tf.answered tf.counted te h tg

@@ -19,7 +19,9 @@ use Rattle.step_core.proofs.VisitSums.{IsCount, AtMost-weaker, AtMost-taken_over
 pub IsCount-weaker : (v w : ℕ) (f : VisitCounts) → v ≤ w → IsCount v f → IsCount w f
 IsCount-weaker v w f l c = record { counted = c.counted; bounded = λ xs. AtMost-weaker v w (f xs) l (c.bounded xs) }
 
-pub IsCount-taken_over : (e : SignalFunction) → IsSignalFunction e → (v w : ℕ) (ns : VisitCounts) → IsCount v ns → (u : Datum → TimedList → ℕ → VisitCounts) → ((c : Datum) (p : TimedList) (d : ℕ) → IsCount w (u c p d)) → IsCount (v + w) (λ xs. switch_counts (first_event (e xs)) (ns xs) (λ n c. u c (take n xs) (step_of (drop n xs)) (drop n xs)))
+pub IsCount-taken_over : (e : SignalFunction) → IsSignalFunction e → (v w : ℕ) (ns : VisitCounts) → IsCount v ns → (u : Datum → TimedList → ℕ → VisitCounts)
+    → ((c : Datum) (p : TimedList) (d : ℕ) → IsCount w (u c p d))
+    → IsCount (v + w) (λ xs. switch_counts (first_event (e xs)) (ns xs) (λ n c. u c (take n xs) (step_of (drop n xs)) (drop n xs)))
 IsCount-taken_over e se v w ns cn u cu = record {
   counted = λ xs.
       length-taken_over (e xs) (ns xs) (λ n c. u c (take n xs) (step_of (drop n xs)) (drop n xs))
@@ -33,37 +35,54 @@ IsCount-taken_over e se v w ns cn u cu = record {
 }
 
 mutual
-  pub IsCount-visits : {L : Type 0} (val : L → List Datum → Datum → Datum) (net : Network L) (E : Context) (C : List VisitCounts) (ws : List ℕ) → AllSignals E.olds → AllCounts ws C → IsCount (weight net ws) (visits val net E C)
+  pub IsCount-visits : {L : Type 0} (val : L → List Datum → Datum → Datum) (net : Network L) (E : Context) (C : List VisitCounts) (ws : List ℕ)
+      → AllSignals E.olds → AllCounts ws C → IsCount (weight net ws) (visits val net E C)
   IsCount-visits val (seq f g) E C ws s a =
-      IsCount-and_one (weight f ws + weight g ws) _ (IsCount-added (weight f ws) (weight g ws) (visits val f E C) (λ xs. visits val g E C (with_values xs (meaning val f E xs))) (IsCount-visits val f E C ws s a)
-      (IsCount-before (weight g ws) (λ xs. with_values xs (meaning val f E xs)) (visits val g E C) (λ xs. length-zip_with _ xs (meaning val f E xs) ((IsSignal-meaning val f E s).sized xs)) (IsCount-visits val g E C ws s a)))
+      IsCount-and_one (weight f ws + weight g ws) _
+      (IsCount-added (weight f ws) (weight g ws) (visits val f E C) (λ xs. visits val g E C (with_values xs (meaning val f E xs)))
+      (IsCount-visits val f E C ws s a)
+      (IsCount-before (weight g ws) (λ xs. with_values xs (meaning val f E xs)) (visits val g E C)
+      (λ xs. length-zip_with _ xs (meaning val f E xs) ((IsSignal-meaning val f E s).sized xs)) (IsCount-visits val g E C ws s a)))
   IsCount-visits val (first f) E C ws s a =
-      IsCount-and_one (weight f ws) _ (IsCount-before (weight f ws) (each_value left) (visits val f E C) (λ xs. length-map xs _) (IsCount-visits val f E C ws s a))
-  IsCount-visits val (par fs) E C ws s a = IsCount-and_one (total (weights fs ws)) _ (IsCount-sum_of_all (weights fs ws) (visits_all val fs E C) (AllCounts-visits_all val fs E C ws s a))
+      IsCount-and_one (weight f ws) _
+      (IsCount-before (weight f ws) (each_value left) (visits val f E C) (λ xs. length-map xs _) (IsCount-visits val f E C ws s a))
+  IsCount-visits val (par fs) E C ws s a = IsCount-and_one (total (weights fs ws)) _
+      (IsCount-sum_of_all (weights fs ws) (visits_all val fs E C) (AllCounts-visits_all val fs E C ws s a))
   IsCount-visits val (loop_pre c f) E C ws s a =
-      IsCount-and_one (weight f ws) _ (IsCount-before (weight f ws) (fed (val c E.params unit) (meaning val f E)) (visits val f E C) (length-fed (val c E.params unit) (meaning val f E) (IsSignal-meaning val f E s)) (IsCount-visits val f E C ws s a))
+      IsCount-and_one (weight f ws) _
+      (IsCount-before (weight f ws) (fed (val c E.params unit) (meaning val f E)) (visits val f E C)
+      (length-fed (val c E.params unit) (meaning val f E) (IsSignal-meaning val f E s)) (IsCount-visits val f E C ws s a))
   IsCount-visits val (switch f t) E C ws s a =
       IsCount-weaker (suc (weight f ws) + weight t ws) (suc (weight f ws + weight t ws)) _ (omega arith)
-      (IsCount-taken_over (rights (meaning val f E)) (IsSignal-rights (meaning val f E) (IsSignal-meaning val f E s)) (suc (weight f ws)) (weight t ws) (λ xs. and_one (visits val f E C xs))
+      (IsCount-taken_over (rights (meaning val f E)) (IsSignal-rights (meaning val f E) (IsSignal-meaning val f E s)) (suc (weight f ws)) (weight t ws)
+      (λ xs. and_one (visits val f E C xs))
       (IsCount-and_one (weight f ws) (visits val f E C) (IsCount-visits val f E C ws s a))
       (λ c p d. visits val t (with_param E c) C) (λ c p d. IsCount-visits val t (with_param E c) C ws s a))
   IsCount-visits val (d_switch f t) E C ws s a =
       IsCount-weaker (suc (weight f ws) + weight t ws) (suc (weight f ws + weight t ws)) _ (omega arith)
-      (IsCount-taken_over (rights (meaning val f E)) (IsSignal-rights (meaning val f E) (IsSignal-meaning val f E s)) (suc (weight f ws)) (weight t ws) (λ xs. and_one (visits val f E C xs))
+      (IsCount-taken_over (rights (meaning val f E)) (IsSignal-rights (meaning val f E) (IsSignal-meaning val f E s)) (suc (weight f ws)) (weight t ws)
+      (λ xs. and_one (visits val f E C xs))
       (IsCount-and_one (weight f ws) (visits val f E C) (IsCount-visits val f E C ws s a))
       (λ c p d. visits val t (with_param E c) C) (λ c p d. IsCount-visits val t (with_param E c) C ws s a))
   IsCount-visits val (r_switch f t) E C ws s a =
-      IsCount-and_one (weight f ws + weight t ws) _ (IsCount-pieces (visits val f E C) (λ c. visits val t (with_param E c) C) (weight f ws) (weight t ws) (IsCount-visits val f E C ws s a) (λ c. IsCount-visits val t (with_param E c) C ws s a))
+      IsCount-and_one (weight f ws + weight t ws) _
+      (IsCount-pieces (visits val f E C) (λ c. visits val t (with_param E c) C) (weight f ws) (weight t ws) (IsCount-visits val f E C ws s a)
+      (λ c. IsCount-visits val t (with_param E c) C ws s a))
   IsCount-visits val (k_switch f e t) E C ws s a =
       let sf : IsSignalFunction (meaning val f E) = IsSignal-meaning val f E s in
       let cf : IsCount (weight f ws) (visits val f E C) = IsCount-visits val f E C ws s a in
-      IsCount-weaker (suc (weight f ws + weight e ws) + weight t (ws ++ weight f ws ∷ [])) (suc (weight f ws + weight e ws + weight t (ws ++ weight f ws ∷ []))) _ (omega arith)
+      IsCount-weaker (suc (weight f ws + weight e ws) + weight t (ws ++ weight f ws ∷ [])) (suc (weight f ws + weight e ws + weight t (ws ++ weight f ws ∷ [])))
+      _ (omega arith)
       (IsCount-taken_over (watch (meaning val f E) (meaning val e E)) (IsSignal-watching (meaning val f E) (meaning val e E) sf (IsSignal-meaning val e E s))
-      (suc (weight f ws + weight e ws)) (weight t (ws ++ weight f ws ∷ [])) (λ xs. and_one (add_counts (visits val f E C xs) (visits val e E C (pair_samples xs (meaning val f E xs)))))
-      (IsCount-and_one (weight f ws + weight e ws) _ (IsCount-added (weight f ws) (weight e ws) (visits val f E C) (λ xs. visits val e E C (pair_samples xs (meaning val f E xs))) cf
-      (IsCount-before (weight e ws) (λ xs. pair_samples xs (meaning val f E xs)) (visits val e E C) (λ xs. length-zip_with _ xs (meaning val f E xs) (sf.sized xs)) (IsCount-visits val e E C ws s a))))
+      (suc (weight f ws + weight e ws)) (weight t (ws ++ weight f ws ∷ []))
+      (λ xs. and_one (add_counts (visits val f E C xs) (visits val e E C (pair_samples xs (meaning val f E xs)))))
+      (IsCount-and_one (weight f ws + weight e ws) _
+      (IsCount-added (weight f ws) (weight e ws) (visits val f E C) (λ xs. visits val e E C (pair_samples xs (meaning val f E xs))) cf
+      (IsCount-before (weight e ws) (λ xs. pair_samples xs (meaning val f E xs)) (visits val e E C)
+      (λ xs. length-zip_with _ xs (meaning val f E xs) (sf.sized xs)) (IsCount-visits val e E C ws s a))))
       (λ c p d. visits val t (with_olds (with_param E c) (resume (meaning val f E) p d ∷ [])) (C ++ resume_counts (visits val f E C) p d ∷ []))
-      (λ c p d. IsCount-visits val t (with_olds (with_param E c) (resume (meaning val f E) p d ∷ [])) (C ++ resume_counts (visits val f E C) p d ∷ []) (ws ++ weight f ws ∷ [])
+      (λ c p d. IsCount-visits val t (with_olds (with_param E c) (resume (meaning val f E) p d ∷ [])) (C ++ resume_counts (visits val f E C) p d ∷ [])
+      (ws ++ weight f ws ∷ [])
       (AllSignals-append E.olds _ s (and_signal (IsSignal-resume (meaning val f E) sf p d) no_signal))
       (AllCounts-append ws (weight f ws ∷ []) C _ a (and_count (IsCount-resume (weight f ws) (visits val f E C) cf p d) no_count))))
   IsCount-visits val (p_switch r fs e t) E C ws s a =
@@ -72,14 +91,20 @@ mutual
       let rv : Datum → Datum = val r E.params in
       let together : SignalFunction = collect rv (meanings val fs E) in
       let st : IsSignalFunction together = IsSignal-collect rv (meanings val fs E) sf in
-      IsCount-weaker (suc (total (weights fs ws) + weight e ws) + weight t (ws ++ weights fs ws)) (suc (total (weights fs ws) + weight e ws + weight t (ws ++ weights fs ws))) _ (omega arith)
+      IsCount-weaker (suc (total (weights fs ws) + weight e ws) + weight t (ws ++ weights fs ws))
+      (suc (total (weights fs ws) + weight e ws + weight t (ws ++ weights fs ws))) _ (omega arith)
       (IsCount-taken_over (watch together (meaning val e E)) (IsSignal-watching together (meaning val e E) st (IsSignal-meaning val e E s))
-      (suc (total (weights fs ws) + weight e ws)) (weight t (ws ++ weights fs ws)) (λ xs. and_one (add_counts (sum_by_route rv 0 (visits_all val fs E C) xs) (visits val e E C (pair_samples xs (together xs)))))
-      (IsCount-and_one (total (weights fs ws) + weight e ws) _ (IsCount-added (total (weights fs ws)) (weight e ws) (sum_by_route rv 0 (visits_all val fs E C)) (λ xs. visits val e E C (pair_samples xs (together xs)))
+      (suc (total (weights fs ws) + weight e ws)) (weight t (ws ++ weights fs ws))
+      (λ xs. and_one (add_counts (sum_by_route rv 0 (visits_all val fs E C) xs) (visits val e E C (pair_samples xs (together xs)))))
+      (IsCount-and_one (total (weights fs ws) + weight e ws) _
+      (IsCount-added (total (weights fs ws)) (weight e ws) (sum_by_route rv 0 (visits_all val fs E C))
+      (λ xs. visits val e E C (pair_samples xs (together xs)))
       (IsCount-sum_by_route rv 0 (weights fs ws) (visits_all val fs E C) cf)
-      (IsCount-before (weight e ws) (λ xs. pair_samples xs (together xs)) (visits val e E C) (λ xs. length-zip_with _ xs (together xs) (st.sized xs)) (IsCount-visits val e E C ws s a))))
+      (IsCount-before (weight e ws) (λ xs. pair_samples xs (together xs)) (visits val e E C) (λ xs. length-zip_with _ xs (together xs) (st.sized xs))
+      (IsCount-visits val e E C ws s a))))
       (λ c p d. visits val t (with_olds (with_param E c) (freeze_all rv 0 (meanings val fs E) p d)) (C ++ freeze_counts rv 0 (visits_all val fs E C) p d))
-      (λ c p d. IsCount-visits val t (with_olds (with_param E c) (freeze_all rv 0 (meanings val fs E) p d)) (C ++ freeze_counts rv 0 (visits_all val fs E C) p d) (ws ++ weights fs ws)
+      (λ c p d. IsCount-visits val t (with_olds (with_param E c) (freeze_all rv 0 (meanings val fs E) p d))
+      (C ++ freeze_counts rv 0 (visits_all val fs E C) p d) (ws ++ weights fs ws)
       (AllSignals-append E.olds _ s (AllSignals-frozen_all rv 0 (meanings val fs E) sf p d))
       (AllCounts-append ws (weights fs ws) C _ a (AllCounts-frozen rv 0 (weights fs ws) (visits_all val fs E C) cf p d))))
   IsCount-visits val (old k) E C ws s a = IsCount-first_and_one (weight_at ws k) (counts_at C k) (IsCount-counts_at ws C a k)
@@ -93,6 +118,7 @@ mutual
   IsCount-visits val time E C ws s a = IsCount-ones
   IsCount-visits val integral E C ws s a = IsCount-ones
 
-  pub AllCounts-visits_all : {L : Type 0} (val : L → List Datum → Datum → Datum) (fs : Networks L) (E : Context) (C : List VisitCounts) (ws : List ℕ) → AllSignals E.olds → AllCounts ws C → AllCounts (weights fs ws) (visits_all val fs E C)
+  pub AllCounts-visits_all : {L : Type 0} (val : L → List Datum → Datum → Datum) (fs : Networks L) (E : Context) (C : List VisitCounts) (ws : List ℕ)
+      → AllSignals E.olds → AllCounts ws C → AllCounts (weights fs ws) (visits_all val fs E C)
   AllCounts-visits_all val no_members E C ws s a = no_count
   AllCounts-visits_all val (and_member f fs) E C ws s a = and_count (IsCount-visits val f E C ws s a) (AllCounts-visits_all val fs E C ws s a)

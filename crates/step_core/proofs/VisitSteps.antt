@@ -33,5 +33,6 @@ last-append_from a (m ∷ ms) ns l = last-append_from m ms ns l
 pub last-drop : (n : ℕ) (ns : List ℕ) → n < length ns → last_count (drop n ns) ≡ last_count ns
 last-drop n ns l = sym (last-append_from 0 (take n ns) (drop n ns) (omega (arith, length-drop n ns))) ∙ ap last_count (take-append-drop n ns)
 
-pub last-resume_counts : (v : VisitCounts) (p : TimedList) (d : ℕ) (x : ℕ × Datum) (xs : TimedList) → length p < length (v (p ++ (d, x.1) ∷ xs)) → last_count (resume_counts v p d (x ∷ xs)) ≡ last_count (v (p ++ (d, x.1) ∷ xs))
+pub last-resume_counts : (v : VisitCounts) (p : TimedList) (d : ℕ) (x : ℕ × Datum) (xs : TimedList) → length p < length (v (p ++ (d, x.1) ∷ xs))
+    → last_count (resume_counts v p d (x ∷ xs)) ≡ last_count (v (p ++ (d, x.1) ∷ xs))
 last-resume_counts v p d x xs l = last-drop (length p) (v (p ++ (d, x.1) ∷ xs)) l

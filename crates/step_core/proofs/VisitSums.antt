@@ -64,7 +64,11 @@ length-first_and_one [] = refl
 length-first_and_one (n ∷ ns) = refl
 
 pub IsCount-first_and_one : (w : ℕ) (v : VisitCounts) → IsCount w v → IsCount (suc w) (λ xs. first_and_one (v xs))
-IsCount-first_and_one w v c = record { counted = λ xs. length-first_and_one (v xs) ∙ c.counted xs; bounded = λ xs. AtMost-first_and_one w (v xs) (c.bounded xs) }
+IsCount-first_and_one w v c = record {
+  counted = λ xs. length-first_and_one (v xs)
+      ∙ c.counted xs;
+  bounded = λ xs. AtMost-first_and_one w (v xs) (c.bounded xs);
+}
 
 pub IsCount-added : (v w : ℕ) (f g : VisitCounts) → IsCount v f → IsCount w g → IsCount (v + w) (λ xs. add_counts (f xs) (g xs))
 IsCount-added v w f g cf cg = record {
@@ -73,7 +77,8 @@ IsCount-added v w f g cf cg = record {
 }
 
 -- a part that gets another list of as many samples
-pub IsCount-before : (w : ℕ) (h : TimedList → TimedList) (v : VisitCounts) → ((xs : TimedList) → length (h xs) ≡ length xs) → IsCount w v → IsCount w (λ xs. v (h xs))
+pub IsCount-before : (w : ℕ) (h : TimedList → TimedList) (v : VisitCounts) → ((xs : TimedList) → length (h xs) ≡ length xs) → IsCount w v
+    → IsCount w (λ xs. v (h xs))
 IsCount-before w h v lh c = record { counted = λ xs. c.counted (h xs) ∙ lh xs; bounded = λ xs. c.bounded (h xs) }
 
 length-both : (ms ns : List ℕ) → length ms ≡ length ns → length (both_at_first ms ns) ≡ length ns
@@ -83,7 +88,8 @@ length-both (m ∷ ms) [] e = refl
 length-both (m ∷ ms) (n ∷ ns) e = refl
 
 module _ (vs : List Datum) (ns : List ℕ) (go : ℕ → Datum → List ℕ) where
-  pub length-taken_over : length vs ≡ length ns → ((n : ℕ) (c : Datum) → n < length vs → length (go n c) ≡ length ns - n) → Outlook vs → length (switch_counts (first_event vs) ns go) ≡ length ns
+  pub length-taken_over : length vs ≡ length ns → ((n : ℕ) (c : Datum) → n < length vs → length (go n c) ≡ length ns - n) → Outlook vs
+      → length (switch_counts (first_event vs) ns go) ≡ length ns
   length-taken_over e l (never i) = ap (λ o. length (switch_counts o ns go)) i.is
   length-taken_over e l (once n c i) =
       let w : n < length vs = i.within in
@@ -91,7 +97,8 @@ module _ (vs : List Datum) (ns : List ℕ) (go : ℕ → Datum → List ℕ) whe
       let lb : length (both_at_first (drop n ns) (go n c)) ≡ length (go n c) = length-both (drop n ns) (go n c) (omega (arith, length-drop n ns)) in
       ap (λ o. length (switch_counts o ns go)) i.is ∙ (omega (arith, length-append (take n ns) (both_at_first (drop n ns) (go n c)), length-take n ns))
 
-  pub AtMost-taken_over : (v w : ℕ) → AtMost v ns → ((n : ℕ) (c : Datum) → AtMost w (go n c)) → Outlook vs → AtMost (v + w) (switch_counts (first_event vs) ns go)
+  pub AtMost-taken_over : (v w : ℕ) → AtMost v ns → ((n : ℕ) (c : Datum) → AtMost w (go n c)) → Outlook vs
+      → AtMost (v + w) (switch_counts (first_event vs) ns go)
   AtMost-taken_over v w a b (never i) = rw i.is (AtMost-weaker v (v + w) ns (omega arith) a)
   AtMost-taken_over v w a b (once n c i) =
       rw i.is (AtMost-append (v + w) (take n ns) (both_at_first (drop n ns) (go n c))
@@ -124,7 +131,8 @@ module _ (f : VisitCounts) (t : Datum → VisitCounts) (v w : ℕ) (cf : IsCount
 
   AtMost-flat : (ps : List (Datum × TimedList)) → AtMost (v + w) (flat_map (λ piece. t piece.0 piece.1) ps)
   AtMost-flat [] = no_item
-  AtMost-flat (p ∷ ps) = AtMost-append (v + w) (t p.0 p.1) (flat_map (λ piece. t piece.0 piece.1) ps) (AtMost-weaker w (v + w) (t p.0 p.1) (omega arith) ((ct p.0).bounded p.1)) (AtMost-flat ps)
+  AtMost-flat (p ∷ ps) = AtMost-append (v + w) (t p.0 p.1) (flat_map (λ piece. t piece.0 piece.1) ps)
+      (AtMost-weaker w (v + w) (t p.0 p.1) (omega arith) ((ct p.0).bounded p.1)) (AtMost-flat ps)
 
   pub IsCount-pieces : IsCount (v + w) (λ xs. f (pieces xs).0 ++ flat_map (λ piece. t piece.0 piece.1) (pieces xs).1)
   IsCount-pieces = record {
@@ -161,9 +169,11 @@ pub AllCounts-append : (us ws : List ℕ) (fs gs : List VisitCounts) → AllCoun
 AllCounts-append us ws fs gs no_count b = b
 AllCounts-append us ws fs gs (and_count {ws = us'} {vs = fs'} c a) b = and_count c (AllCounts-append us' ws fs' gs a b)
 
-pub AllCounts-frozen : (r : Datum → Datum) (i : ℕ) (ws : List ℕ) (vs : List VisitCounts) → AllCounts ws vs → (p : TimedList) (d : ℕ) → AllCounts ws (freeze_counts r i vs p d)
+pub AllCounts-frozen : (r : Datum → Datum) (i : ℕ) (ws : List ℕ) (vs : List VisitCounts) → AllCounts ws vs → (p : TimedList) (d : ℕ)
+    → AllCounts ws (freeze_counts r i vs p d)
 AllCounts-frozen r i ws vs no_count p d = no_count
-AllCounts-frozen r i ws vs (and_count {w = w} {ws = ws'} {v = v} {vs = vs'} c a) p d = and_count (IsCount-resume w v c (route r i p) d) (AllCounts-frozen r (suc i) ws' vs' a p d)
+AllCounts-frozen r i ws vs (and_count {w = w} {ws = ws'} {v = v} {vs = vs'} c a) p d =
+    and_count (IsCount-resume w v c (route r i p) d) (AllCounts-frozen r (suc i) ws' vs' a p d)
 
 pub IsCount-sum_of_all : (ws : List ℕ) (vs : List VisitCounts) → AllCounts ws vs → IsCount (total ws) (sum_of_all vs)
 IsCount-sum_of_all ws vs no_count = IsCount-zeros
@@ -172,7 +182,8 @@ IsCount-sum_of_all ws vs (and_count {w = w} {ws = ws'} {v = v} {vs = vs'} c a) =
 pub IsCount-sum_by_route : (r : Datum → Datum) (i : ℕ) (ws : List ℕ) (vs : List VisitCounts) → AllCounts ws vs → IsCount (total ws) (sum_by_route r i vs)
 IsCount-sum_by_route r i ws vs no_count = IsCount-zeros
 IsCount-sum_by_route r i ws vs (and_count {w = w} {ws = ws'} {v = v} {vs = vs'} c a) =
-    IsCount-added w (total ws') (λ xs. v (route r i xs)) (sum_by_route r (suc i) vs') (IsCount-before w (route r i) v (λ xs. length-map xs _) c) (IsCount-sum_by_route r (suc i) ws' vs' a)
+    IsCount-added w (total ws') (λ xs. v (route r i xs)) (sum_by_route r (suc i) vs') (IsCount-before w (route r i) v (λ xs. length-map xs _) c)
+    (IsCount-sum_by_route r (suc i) ws' vs' a)
 
 pub IsCount-counts_at : (ws : List ℕ) (vs : List VisitCounts) → AllCounts ws vs → (k : ℕ) → IsCount (weight_at ws k) (counts_at vs k)
 IsCount-counts_at ws vs no_count k = IsCount-zeros

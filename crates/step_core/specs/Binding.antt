@@ -15,7 +15,8 @@ pub record Binding : Type 0 where
 
 -- the code of a binding, by which the check tells bindings apart
 abbrev pub binding_code : Coded Binding
-binding_code = code_by (TypeTree × Network ℕ) (coded× type_code (network_code coded_ℕ)) (λ b. (b.input, b.rows)) (λ p. record { input = p.0; rows = p.1 }) (λ _. refl)
+binding_code = code_by (TypeTree × Network ℕ) (coded× type_code (network_code coded_ℕ))
+    (λ b. (b.input, b.rows)) (λ p. record { input = p.0; rows = p.1 }) (λ _. refl)
 
 -- each row that the network names is there, and kept for the types at its place
 abbrev pub FitsTable : List KeyTree → Binding → Type 0

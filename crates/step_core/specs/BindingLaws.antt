@@ -6,4 +6,5 @@ use Rattle.step_core.specs.RowTyping.{network_by}
 
 -- what fits a table fits it with more rows, and is the same network
 abbrev pub GrownTableLaw : Type 0
-GrownTableLaw = (keys more : List KeyTree) (b : Binding) → FitsTable keys b → FitsTable (keys ++ more) b × (network_by (keys ++ more) b.rows ≡ network_by keys b.rows)
+GrownTableLaw = (keys more : List KeyTree) (b : Binding) → FitsTable keys b
+    → FitsTable (keys ++ more) b × (network_by (keys ++ more) b.rows ≡ network_by keys b.rows)

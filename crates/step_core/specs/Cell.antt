@@ -27,7 +27,8 @@ abbrev pub count_down : ℕ → List (ℕ × Datum) → List (ℕ × Datum)
 count_down d [] = []
 count_down d (i ∷ is) = (i.0 - d, i.1) ∷ count_down d is
 
--- those that are due in d leave the queue, the last of them is out: what is out then, and what still waits
+-- those that are due in d leave the queue, the last of them is out: what is out then, and what
+-- still waits
 abbrev pub due : ℕ → Datum → List (ℕ × Datum) → Datum × List (ℕ × Datum)
 due d out [] = (out, [])
 due d out (i ∷ is) = if nat_le i.0 d then due d i.1 is else (out, count_down d (i ∷ is))
@@ -45,19 +46,26 @@ abbrev pub cell_step : Cell → ℕ × Datum → Cell × Datum
 cell_step (previous v) x = (previous x.1, v)
 cell_step (queue q out is) x = enqueue q x.1 (due x.0 out is)
 cell_step (latest v) x = (latest (latest_event v (x.1 ∷ [])), latest_event v (x.1 ∷ []))
-cell_step (waiting left c) x = if nat_le left x.0 then (over, event c) else (waiting (left - x.0) c, no_event)
+cell_step (waiting left c) x = if nat_le left x.0 then (over, event c)
+    else (waiting (left - x.0) c, no_event)
 cell_step over x = (over, no_event)
-cell_step (recurring q left c) x = if nat_le left x.0 then (recurring q (q - (x.0 - left) % q) c, event c) else (recurring q (left - x.0) c, no_event)
+cell_step (recurring q left c) x =
+    if nat_le left x.0 then (recurring q (q - (x.0 - left) % q) c, event c)
+    else (recurring q (left - x.0) c, no_event)
 cell_step (ticking z) x = let z' = int_wrap w64 (z +ℤ pos x.0) in (ticking z', int z')
-cell_step (summing z before) x = let z' = int_wrap w64 (z +ℤ (pos x.0 *ℤ before)) in (summing z' (int_of x.1), int z')
+cell_step (summing z before) x =
+    let z' = int_wrap w64 (z +ℤ (pos x.0 *ℤ before)) in (summing z' (int_of x.1), int z')
 
 -- what waits at now, by its time and value: at least l is left to it, and more to the later ones
 pub data Pending (q now : ℕ) : ℕ → List (ℕ × Datum) → List ℕ → List Datum → Type 0 where
   none_pending : {l : ℕ} → Pending q now l [] [] []
-  one_pending : {l left t : ℕ} {v : Datum} {is : List (ℕ × Datum)} {ts : List ℕ} {vs : List Datum} → l ≤ left → left ≤ q → now + left ≡ t + q → Pending q now left is ts vs → Pending q now l ((left, v) ∷ is) (t ∷ ts) (v ∷ vs)
+  one_pending : {l left t : ℕ} {v : Datum} {is : List (ℕ × Datum)} {ts : List ℕ} {vs : List Datum}
+      → l ≤ left → left ≤ q → now + left ≡ t + q → Pending q now left is ts vs
+      → Pending q now l ((left, v) ∷ is) (t ∷ ts) (v ∷ vs)
 
 -- of these times and values the early ones are due, the late ones wait
-pub record QueueWaits (q now : ℕ) (c out : Datum) (is : List (ℕ × Datum)) (ts : List ℕ) (vs : List Datum) : Type 0 where
+pub record QueueWaits (q now : ℕ) (c out : Datum) (is : List (ℕ × Datum)) (ts : List ℕ)
+    (vs : List Datum) : Type 0 where
   pub early_times : List ℕ
   pub late_times : List ℕ
   pub early_values : List Datum
@@ -71,10 +79,15 @@ pub record QueueWaits (q now : ℕ) (c out : Datum) (is : List (ℕ × Datum)) (
 -- h's formula after y and p is what the cell goes on with
 abbrev pub Keeps : Cell → (TimedList → Datum) → ℕ × Datum → TimedList → Type 0
 Keeps (previous v) h y p = (c : Datum) × (h ≡ i_pre_value c) × (v ≡ last_or c (values (y ∷ p)))
-Keeps (queue q out is) h y p = (c : Datum) × (h ≡ delay_value q c) × (1 ≤ q) × QueueWaits q (time_at (y ∷ p)) c out is (times (y ∷ p)) (values (y ∷ p))
-Keeps (latest v) h y p = (c : Datum) × (h ≡ (λ p. latest_event c (values p))) × (v ≡ latest_event c (values (y ∷ p)))
-Keeps (waiting left c) h y p = (q : ℕ) × (h ≡ after_value q c) × (1 ≤ left) × (time_at (y ∷ p) + left ≡ q)
+Keeps (queue q out is) h y p = (c : Datum) × (h ≡ delay_value q c) × (1 ≤ q)
+    × QueueWaits q (time_at (y ∷ p)) c out is (times (y ∷ p)) (values (y ∷ p))
+Keeps (latest v) h y p = (c : Datum) × (h ≡ (λ p. latest_event c (values p)))
+    × (v ≡ latest_event c (values (y ∷ p)))
+Keeps (waiting left c) h y p = (q : ℕ) × (h ≡ after_value q c) × (1 ≤ left)
+    × (time_at (y ∷ p) + left ≡ q)
 Keeps over h y p = (q : ℕ) × (c : Datum) × (h ≡ after_value q c) × (q ≤ time_at (y ∷ p))
-Keeps (recurring q left c) h y p = (h ≡ repeatedly_value q c) × (1 ≤ left) × (left ≤ q) × (time_at (y ∷ p) + left ≡ q * suc (time_at (y ∷ p) / q))
+Keeps (recurring q left c) h y p = (h ≡ repeatedly_value q c) × (1 ≤ left) × (left ≤ q)
+    × (time_at (y ∷ p) + left ≡ q * suc (time_at (y ∷ p) / q))
 Keeps (ticking z) h y p = (h ≡ time_value) × (z ≡ int_wrap w64 (pos (time_at (y ∷ p))))
-Keeps (summing z before) h y p = (h ≡ integral_value) × (int z ≡ integral_value (y ∷ p)) × (before ≡ last_or (int_of y.1) (map int_of (values p)))
+Keeps (summing z before) h y p = (h ≡ integral_value) × (int z ≡ integral_value (y ∷ p))
+    × (before ≡ last_or (int_of y.1) (map int_of (values p)))

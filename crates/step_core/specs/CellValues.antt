@@ -13,11 +13,13 @@ use Rattle.step_core.specs.Stepping.{Starts, Steps}
 use Rattle.step_core.specs.EmptyScope.{empty_scope}
 use Rattle.step_core.specs.RowTyping.{RowTyped, RowsTyped, row_expression, network_by}
 
--- the state of a network of rows, from an input type to an output type, in which these values are held
+-- the state of a network of rows, from an input type to an output type, in which these values are
+-- held
 pub data HoldsCells (keys : List KeyTree)
     : Network ℕ → TypeTree → TypeTree → State Expression → List Datum → Type 0 where
   arr_holds : {k : ℕ} {A B : TypeTree}
-      → RowTyped keys k [] A B → HoldsCells keys (arr k) A B (arr_state (row_expression keys k) []) []
+      → RowTyped keys k [] A B
+      → HoldsCells keys (arr k) A B (arr_state (row_expression keys k) []) []
   seq_holds : {f g : Network ℕ} {A B C : TypeTree} {a b : State Expression} {us vs : List Datum}
       → HoldsCells keys f A B a us → HoldsCells keys g B C b vs
       → HoldsCells keys (seq f g) A C (seq_state a b) (us ++ vs)
@@ -25,7 +27,8 @@ pub data HoldsCells (keys : List KeyTree)
       → HasType v A → HoldsCells keys (i_pre k) A A (cell_state (previous v)) (v ∷ [])
 
 -- The network, started on x, answers y, and the values that its state holds were added.
-pub record StartOf (keys : List KeyTree) (rows : Network ℕ) (A B : TypeTree) (x y : Datum) (before now : List Datum) : Type 0 where
+pub record StartOf (keys : List KeyTree) (rows : Network ℕ) (A B : TypeTree) (x y : Datum)
+    (before now : List Datum) : Type 0 where
   pub state : State Expression
   pub cells : List Datum
   pub visits : ℕ
@@ -34,8 +37,10 @@ pub record StartOf (keys : List KeyTree) (rows : Network ℕ) (A B : TypeTree) (
   pub answer_typed : HasType y B
   pub added : now ≡ before ++ cells
 
--- From a state that holds the first of these values, the network steps by x to one whose values were added; it answers y, and leaves the rest.
-pub record StepOf (keys : List KeyTree) (rows : Network ℕ) (A B : TypeTree) (from : State Expression) (x : ℕ × Datum) (y : Datum) (before now : List Datum) : Type 0 where
+-- From a state that holds the first of these values, the network steps by x to one whose values
+-- were added; it answers y, and leaves the rest.
+pub record StepOf (keys : List KeyTree) (rows : Network ℕ) (A B : TypeTree)
+    (from : State Expression) (x : ℕ × Datum) (y : Datum) (before now : List Datum) : Type 0 where
   pub state : State Expression
   pub cells : List Datum
   pub visits : ℕ
@@ -46,16 +51,20 @@ pub record StepOf (keys : List KeyTree) (rows : Network ℕ) (A B : TypeTree) (f
 
 -- what a start does, whatever the types are
 abbrev pub StartsTyped : List KeyTree → Network ℕ → Datum → Datum → List Datum → List Datum → Type 0
-StartsTyped keys rows x y before now = (A B : TypeTree) → RowsTyped keys rows A B → HasType x A → StartOf keys rows A B x y before now
+StartsTyped keys rows x y before now = (A B : TypeTree) → RowsTyped keys rows A B → HasType x A
+    → StartOf keys rows A B x y before now
 
 -- the cells begin with the values that some state of the network holds
 abbrev pub BeginsWithState : List KeyTree → Network ℕ → List Datum → Type 0
 BeginsWithState keys rows cells =
-    ∥ ((A : TypeTree) × (B : TypeTree) × (a : State Expression) × (us : List Datum) × (vs : List Datum)
+    ∥ ((A : TypeTree) × (B : TypeTree) × (a : State Expression) × (us : List Datum)
+    × (vs : List Datum)
     × HoldsCells keys rows A B a us × (cells ≡ us ++ vs)) ∥₁
 
--- from each state that holds the first of these values: the rest is left, and what a step does on a sample of the input type
-abbrev pub StepsTyped : List KeyTree → Network ℕ → List Datum → ℕ × Datum → Datum → List Datum → List Datum → List Datum → Type 0
+-- from each state that holds the first of these values: the rest is left, and what a step does on a
+-- sample of the input type
+abbrev pub StepsTyped : List KeyTree → Network ℕ → List Datum → ℕ × Datum → Datum → List Datum
+    → List Datum → List Datum → Type 0
 StepsTyped keys rows cells x y before now rest =
     (A B : TypeTree) (from : State Expression) (us vs : List Datum)
     → HoldsCells keys rows A B from us → cells ≡ us ++ vs

@@ -25,10 +25,17 @@ abbrev pub context_with_olds : CountedContext → List CountedFunction → Count
 context_with_olds S os = record { params = S.params; olds = S.olds ++ os }
 
 -- what a network outputs in a context, and its visits
-abbrev pub counted_meaning : {L : Type 0} → (L → List Datum → Datum → Datum) → Network L → CountedContext → CountedFunction
-counted_meaning val net S = record { function = meaning val net (context_in S); visits = visits val net (context_in S) (counts_of_all S.olds) }
+abbrev pub counted_meaning : {L : Type 0} → (L → List Datum → Datum → Datum) → Network L
+    → CountedContext → CountedFunction
+counted_meaning val net S =
+    record {
+      function = meaning val net (context_in S);
+      visits =
+          visits val net (context_in S) (counts_of_all S.olds);
+    }
 
 -- the counted function of each member
-abbrev pub counted_meanings : {L : Type 0} → (L → List Datum → Datum → Datum) → Networks L → CountedContext → List CountedFunction
+abbrev pub counted_meanings : {L : Type 0} → (L → List Datum → Datum → Datum) → Networks L
+    → CountedContext → List CountedFunction
 counted_meanings val no_members S = []
 counted_meanings val (and_member f fs) S = counted_meaning val f S ∷ counted_meanings val fs S

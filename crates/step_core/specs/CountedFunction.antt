@@ -20,19 +20,25 @@ pub record IsCountedFunction (c : CountedFunction) : Type 0 where
   pub is_count : IsCount heaviest c.visits
 
 -- c after p goes on as d after q
-pub record Continues (c : CountedFunction) (p : TimedList) (d : CountedFunction) (q : TimedList) : Type 0 where
-  pub answers : (r : TimedList) (x : ℕ × Datum) → answer c.function (p ++ r) x ≡ answer d.function (q ++ r) x
-  pub tallies : (r : TimedList) (x : ℕ × Datum) → visits_at c.visits (p ++ r) x ≡ visits_at d.visits (q ++ r) x
+pub record Continues (c : CountedFunction) (p : TimedList) (d : CountedFunction) (q : TimedList) :
+    Type 0 where
+  pub answers : (r : TimedList) (x : ℕ × Datum)
+      → answer c.function (p ++ r) x ≡ answer d.function (q ++ r) x
+  pub tallies : (r : TimedList) (x : ℕ × Datum)
+      → visits_at c.visits (p ++ r) x ≡ visits_at d.visits (q ++ r) x
 
 -- c after p goes on as some counted function after a past that have P
-pub record StandsVia (P : CountedFunction → TimedList → Type 0) (c : CountedFunction) (p : TimedList) : Type 0 where
+pub record StandsVia (P : CountedFunction → TimedList
+    → Type 0) (c : CountedFunction) (p : TimedList) : Type 0 where
   pub other : CountedFunction
   pub past : TimedList
   pub holds : P other past
   pub goes_on : Continues c p other past
 
 -- x was taken in: what is now has P after it, y was answered, n nodes were visited
-pub record TakesSample (P : CountedFunction → TimedList → Type 0) (c : CountedFunction) (p : TimedList) (x : ℕ × Datum) (y : Datum) (n : ℕ) : Type 0 where
-  pub stands : P c (p ++ x ∷ [])
-  pub answered : y ≡ answer c.function p x
-  pub counted : n ≡ visits_at c.visits p x
+pub record TakesSample (P : CountedFunction → TimedList
+    → Type 0) (c : CountedFunction) (p : TimedList) (x : ℕ × Datum) (y : Datum) (n : ℕ) : Type 0
+  where
+    pub stands : P c (p ++ x ∷ [])
+    pub answered : y ≡ answer c.function p x
+    pub counted : n ≡ visits_at c.visits p x

@@ -1,4 +1,5 @@
--- Which expressions of a network have rows in a table, and the network with the rows in their place.
+-- Which expressions of a network have rows in a table, and the network with the rows in their
+-- place.
 use Rattle.std.specs.Prelude.{◌≡◌, ℕ, List, [], ◌∷◌, ◌++◌, All, Contains, Some, slice_get, ◌⊎◌}
 use Rattle.leaf_core.specs.Expression.{Expression}
 use Rattle.leaf_core.specs.KeyTree.{KeyTree}
@@ -17,7 +18,8 @@ AllFound keys ns = All (λ n. Contains keys n.key) ns
 -- this is the position of the first need that has no row
 abbrev pub FirstMissing : List KeyTree → List Need → List ℕ → Type 0
 FirstMissing keys [] p = ⊥
-FirstMissing keys (n ∷ ns) p = ((Contains keys n.key → ⊥) × (p ≡ n.position)) ⊎ (Contains keys n.key × FirstMissing keys ns p)
+FirstMissing keys (n ∷ ns) p = ((Contains keys n.key → ⊥) × (p ≡ n.position))
+    ⊎ (Contains keys n.key × FirstMissing keys ns p)
 
 -- a refusal, other than `Memory`, names the position of the first need that has no row
 abbrev pub Misses : List KeyTree → List Need → BindFault → Type 0
@@ -28,7 +30,8 @@ Misses keys ns F.Memory = Unit {0}
 abbrev pub FindsAll : List KeyTree → TypedNetwork → Type 0
 FindsAll keys t = (ns : List Need) × LeavesOf t ns × AllFound keys ns
 
--- a refusal, other than `Memory`, names the position of the network's first expression that has no row
+-- a refusal, other than `Memory`, names the position of the network's first expression that has no
+-- row
 abbrev pub MissesIn : List KeyTree → TypedNetwork → BindFault → Type 0
 MissesIn keys t (F.MissingLeaf p) = (ns : List Need) × LeavesOf t ns × FirstMissing keys ns p
 MissesIn keys t F.Memory = Unit {0}
@@ -44,14 +47,17 @@ BeginsWith net ns =
     ∥ ((at : List ℕ) × (A : TypeTree) × (B : TypeTree) × (d : NetTyped [] [] net A B)
     × (rest : List Need) × (ns ≡ leaves_by at d ++ rest)) ∥₁
 
--- where its needs come first, the network became one of rows for the same types, with the same expressions; each of its needs has a row, and those behind are left
+-- where its needs come first, the network became one of rows for the same types, with the same
+-- expressions; each of its needs has a row, and those behind are left
 abbrev pub LowersTo : List KeyTree → Network Expression → List Need → Network ℕ → List Need → Type 0
 LowersTo keys net ns low left =
     (at : List ℕ) (A B : TypeTree) (d : NetTyped [] [] net A B) (rest : List Need)
     → ns ≡ leaves_by at d ++ rest
-    → RowsTyped keys low A B × (network_by keys low ≡ net) × AllFound keys (leaves_by at d) × (left ≡ rest)
+    → RowsTyped keys low A B × (network_by keys low ≡ net) × AllFound keys (leaves_by at d)
+    × (left ≡ rest)
 
--- where its needs come first, a refusal, other than `Memory`, names the position of the first of its needs that has no row
+-- where its needs come first, a refusal, other than `Memory`, names the position of the first of
+-- its needs that has no row
 abbrev pub Refuses : List KeyTree → Network Expression → List Need → BindFault → Type 0
 Refuses keys net ns fault =
     (at : List ℕ) (A B : TypeTree) (d : NetTyped [] [] net A B) (rest : List Need)

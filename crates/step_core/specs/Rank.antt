@@ -1,4 +1,5 @@
--- What states and scopes weigh: what is left to visit, whatever fires or resumes. It falls at each call of the engine.
+-- What states and scopes weigh: what is left to visit, whatever fires or resumes. It falls at each
+-- call of the engine.
 use Rattle.std.specs.Prelude.{ℕ, suc, ◌+◌, List, [], ◌∷◌, ◌++◌, max}
 use Rattle.net_syntax.specs.Weight.{weight, total}
 use Rattle.step_core.specs.State.{State, States, Scope, Frozens, Frozen, arr_state, seq_state, first_state, par_state, loop_state, cell_state, accum_state, switch_state, d_switch_state, r_switch_state, k_switch_state, p_switch_state, no_state, and_state, scope, no_frozen, and_frozen, unstarted, paused}
@@ -17,7 +18,8 @@ abbrev mutual
   rank (d_switch_state a t s) = suc (rank a + weight t (ranks_in s))
   rank (r_switch_state a t s) = suc (max (rank a) (weight t (ranks_in s)))
   rank (k_switch_state a b t s) = suc (rank a + rank b + weight t (ranks_in s ++ rank a ∷ []))
-  rank (p_switch_state r as' b t s) = suc (total (ranks as') + rank b + weight t (ranks_in s ++ ranks as'))
+  rank (p_switch_state r as' b t s) =
+      suc (total (ranks as') + rank b + weight t (ranks_in s ++ ranks as'))
 
   -- the same of each member
   pub ranks : {L : Type 0} → States L → List ℕ

@@ -1,4 +1,5 @@
--- Networks over the rows of a table of stored closures, which contracts see as the list of the rows' keys.
+-- Networks over the rows of a table of stored closures, which contracts see as the list of the
+-- rows' keys.
 use Rattle.std.specs.Prelude.{◌≡◌, ℕ, List, [], Option, Some, None, slice_get}
 use Rattle.sample_core.specs.TypeTree.{TypeTree}
 use Rattle.leaf_core.specs.Expression.{Expression, input}
@@ -20,13 +21,16 @@ row_expression keys k = expression_in (slice_get keys k)
 abbrev pub network_by : List KeyTree → Network ℕ → Network Expression
 network_by keys rows = map_network (row_expression keys) rows
 
--- row k is kept for parameters of types Ps and an input of type A, and its expression is of type B there
-pub record RowTyped (keys : List KeyTree) (k : ℕ) (Ps : List TypeTree) (A B : TypeTree) : Type 0 where
-  pub expr : Expression
-  pub is_row : slice_get keys k ≡ Some (record { expr = expr; params = Ps; input = A })
-  pub is_typed : ExpressionTyped expr Ps A B
+-- row k is kept for parameters of types Ps and an input of type A, and its expression is of type B
+-- there
+pub record RowTyped (keys : List KeyTree) (k : ℕ) (Ps : List TypeTree) (A B : TypeTree) : Type 0
+  where
+    pub expr : Expression
+    pub is_row : slice_get keys k ≡ Some (record { expr = expr; params = Ps; input = A })
+    pub is_typed : ExpressionTyped expr Ps A B
 
--- with nothing in scope, the network is one from A to B: each row that it names is there, and kept for the types at its place
+-- with nothing in scope, the network is one from A to B: each row that it names is there, and kept
+-- for the types at its place
 abbrev pub RowsTyped : List KeyTree → Network ℕ → TypeTree → TypeTree → Type 0
 RowsTyped keys rows A B = Typed (RowTyped keys) AnyType [] [] rows A B
 

@@ -15,7 +15,8 @@ use Rattle.step_core.specs.EmptyScope.{empty_context}
 use Rattle.step_core.specs.RowTyping.{RowsTyped, network_by}
 use Rattle.step_core.specs.CellValues.{HoldsCells}
 
--- the input type, the keys of the table's rows, the network over rows, the values that its cells hold, and how many samples it got
+-- the input type, the keys of the table's rows, the network over rows, the values that its cells
+-- hold, and how many samples it got
 pub record RunnerState : Type 0 where
   pub input : TypeTree
   pub keys : List KeyTree
@@ -30,7 +31,9 @@ network_in r = network_by r.keys r.rows
 -- Before the first sample nothing is held; after samples, what a state holds that stands for them.
 abbrev pub StandsAfter : RunnerState → TimedList → Type 0
 StandsAfter r [] = (B : TypeTree) × RowsTyped r.keys r.rows r.input B × (r.cells ≡ [])
-StandsAfter r (x ∷ p) = (B : TypeTree) × (a : State Expression) × HoldsCells r.keys r.rows r.input B a r.cells × Stands value_of a (counted_meaning value_of (network_in r) empty_context) (x ∷ p)
+StandsAfter r (x ∷ p) = (B : TypeTree) × (a : State Expression)
+    × HoldsCells r.keys r.rows r.input B a r.cells
+    × Stands value_of a (counted_meaning value_of (network_in r) empty_context) (x ∷ p)
 
 -- the running network got just these samples
 pub record StandsFor (r : RunnerState) (p : TimedList) : Type 0 where
@@ -41,8 +44,10 @@ pub record StandsFor (r : RunnerState) (p : TimedList) : Type 0 where
 abbrev pub HasPast : RunnerState → Type 0
 HasPast r = ∥ ((p : TimedList) × StandsFor r p) ∥₁
 
--- A sample x was taken in and y answered. The same network runs, on inputs of the same type, and one sample more is
--- counted. Whatever the samples so far were, the runner now stands for them and x, and y is the next value of the
+-- A sample x was taken in and y answered. The same network runs, on inputs of the same type, and
+-- one sample more is
+-- counted. Whatever the samples so far were, the runner now stands for them and x, and y is the
+-- next value of the
 -- network's stream.
 pub record Pushes (r : RunnerState) (x : ℕ × Datum) (y : Datum) (now : RunnerState) : Type 0 where
   pub same_network : network_in now ≡ network_in r

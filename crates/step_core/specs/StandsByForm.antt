@@ -6,14 +6,16 @@ use Rattle.step_core.specs.CountedFunction.{CountedFunction, IsCountedFunction}
 use Rattle.step_core.specs.CountedForms.{counted_arr, counted_cell, counted_seq, counted_first, counted_loop, counted_par, counted_switch, counted_d_switch, counted_r_switch, counted_k_switch, counted_p_switch, functions_of}
 use Rattle.step_core.specs.Cell.{Cell, Keeps}
 
--- In each record A and B are what the parts stand for; the whole has the counted function c after the past q.
+-- In each record A and B are what the parts stand for; the whole has the counted function c after
+-- the past q.
 
 -- `arr`: each value by itself
 pub record ArrStands (h : Datum → Datum) (c : CountedFunction) (q : TimedList) : Type 0 where
   pub same : c ≡ counted_arr h
 
 -- `>>>`: the second part runs on what the first output
-pub record SeqStands (A B : CountedFunction → TimedList → Type 0) (c : CountedFunction) (q : TimedList) : Type 0 where
+pub record SeqStands (A B : CountedFunction → TimedList
+    → Type 0) (c : CountedFunction) (q : TimedList) : Type 0 where
   pub f : CountedFunction
   pub g : CountedFunction
   pub is_f : IsCountedFunction f
@@ -23,24 +25,29 @@ pub record SeqStands (A B : CountedFunction → TimedList → Type 0) (c : Count
   pub same : c ≡ counted_seq f g
 
 -- `first`: the part runs on the left components
-pub record FirstStands (A : CountedFunction → TimedList → Type 0) (c : CountedFunction) (q : TimedList) : Type 0 where
+pub record FirstStands (A : CountedFunction → TimedList
+    → Type 0) (c : CountedFunction) (q : TimedList) : Type 0 where
   pub f : CountedFunction
   pub is_f : IsCountedFunction f
   pub first_part : A f (each_value left q)
   pub same : c ≡ counted_first f
 
 -- `parB`: the members run on the same samples
-pub record ParStands (M : List CountedFunction → TimedList → Type 0) (c : CountedFunction) (q : TimedList) : Type 0 where
+pub record ParStands (M : List CountedFunction → TimedList
+    → Type 0) (c : CountedFunction) (q : TimedList) : Type 0 where
   pub cs : List CountedFunction
   pub members : M cs q
   pub same : c ≡ counted_par cs
 
 -- `loopPre`: v is fed back next
-pub record LoopStands (v : Datum) (A : CountedFunction → TimedList → Type 0) (c : CountedFunction) (q : TimedList) : Type 0 where
+pub record LoopStands (v : Datum) (A : CountedFunction → TimedList
+    → Type 0) (c : CountedFunction) (q : TimedList) : Type 0 where
   pub z : Datum
   pub f : CountedFunction
   pub is_f : IsCountedFunction f
-  pub fed_next : v ≡ last_or z (map right (f.function (pair_samples q (feedback_values z f.function q (length q)))))
+  pub fed_next : v
+      ≡ last_or z
+      (map right (f.function (pair_samples q (feedback_values z f.function q (length q)))))
   pub first_part : A f (pair_samples q (feedback_values z f.function q (length q)))
   pub same : c ≡ counted_loop z f
 
@@ -54,13 +61,15 @@ pub record CellStands (k : Cell) (c : CountedFunction) (q : TimedList) : Type 0 
   pub same : c ≡ counted_cell h
 
 -- `accumBy`: acc is the accumulator so far
-pub record AccumStands (g : Datum → Datum) (acc : Datum) (c : CountedFunction) (q : TimedList) : Type 0 where
+pub record AccumStands (g : Datum
+    → Datum) (acc : Datum) (c : CountedFunction) (q : TimedList) : Type 0 where
   pub z : Datum
   pub so_far : acc ≡ fold_events g z (values q)
   pub same : c ≡ counted_cell (accum_by_value g z)
 
 -- `switch` before its first event
-pub record SwitchStands (A : CountedFunction → TimedList → Type 0) (t : Datum → CountedFunction) (c : CountedFunction) (q : TimedList) : Type 0 where
+pub record SwitchStands (A : CountedFunction → TimedList → Type 0) (t : Datum
+    → CountedFunction) (c : CountedFunction) (q : TimedList) : Type 0 where
   pub f : CountedFunction
   pub is_f : IsCountedFunction f
   pub unseen : first_event (rights f.function q) ≡ None
@@ -68,7 +77,8 @@ pub record SwitchStands (A : CountedFunction → TimedList → Type 0) (t : Datu
   pub same : c ≡ counted_switch f t
 
 -- `dSwitch` before its first event
-pub record DSwitchStands (A : CountedFunction → TimedList → Type 0) (t : Datum → CountedFunction) (c : CountedFunction) (q : TimedList) : Type 0 where
+pub record DSwitchStands (A : CountedFunction → TimedList → Type 0) (t : Datum
+    → CountedFunction) (c : CountedFunction) (q : TimedList) : Type 0 where
   pub f : CountedFunction
   pub is_f : IsCountedFunction f
   pub unseen : first_event (rights f.function q) ≡ None
@@ -77,10 +87,12 @@ pub record DSwitchStands (A : CountedFunction → TimedList → Type 0) (t : Dat
 
 -- no sample of q has an event
 pub record Uncut (q : TimedList) : Type 0 where
-  pub one_piece : (rest : TimedList) → pieces (q ++ rest) ≡ (each_value left q ++ (pieces rest).0, (pieces rest).1)
+  pub one_piece : (rest : TimedList)
+      → pieces (q ++ rest) ≡ (each_value left q ++ (pieces rest).0, (pieces rest).1)
 
 -- `rSwitch`: what runs now counts as its f, after an event too
-pub record RSwitchStands (A : CountedFunction → TimedList → Type 0) (t : Datum → CountedFunction) (c : CountedFunction) (q : TimedList) : Type 0 where
+pub record RSwitchStands (A : CountedFunction → TimedList → Type 0) (t : Datum
+    → CountedFunction) (c : CountedFunction) (q : TimedList) : Type 0 where
   pub f : CountedFunction
   pub is_f : IsCountedFunction f
   pub uncut : Uncut q
@@ -88,7 +100,8 @@ pub record RSwitchStands (A : CountedFunction → TimedList → Type 0) (t : Dat
   pub same : c ≡ counted_r_switch f t
 
 -- `kSwitch` before the first event of e
-pub record KSwitchStands (A B : CountedFunction → TimedList → Type 0) (t : Datum → CountedFunction → CountedFunction) (c : CountedFunction) (q : TimedList) : Type 0 where
+pub record KSwitchStands (A B : CountedFunction → TimedList → Type 0) (t : Datum → CountedFunction
+    → CountedFunction) (c : CountedFunction) (q : TimedList) : Type 0 where
   pub f : CountedFunction
   pub e : CountedFunction
   pub is_f : IsCountedFunction f
@@ -99,7 +112,9 @@ pub record KSwitchStands (A B : CountedFunction → TimedList → Type 0) (t : D
   pub same : c ≡ counted_k_switch f e t
 
 -- `pSwitch` before the first event of e
-pub record PSwitchStands (r : Datum → Datum) (M : List CountedFunction → TimedList → Type 0) (B : CountedFunction → TimedList → Type 0) (t : Datum → List CountedFunction → CountedFunction) (c : CountedFunction) (q : TimedList) : Type 0 where
+pub record PSwitchStands (r : Datum → Datum) (M : List CountedFunction → TimedList
+    → Type 0) (B : CountedFunction → TimedList → Type 0) (t : Datum → List CountedFunction
+    → CountedFunction) (c : CountedFunction) (q : TimedList) : Type 0 where
   pub cs : List CountedFunction
   pub e : CountedFunction
   pub is_e : IsCountedFunction e

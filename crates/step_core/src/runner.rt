@@ -44,7 +44,8 @@ impl<'a> Runner<'a> {
         requires { FitsTable (rows_of table.now) bound.now }
         ensures stands { StandsFor (runner_state result) [] }
         ensures input { (runner_state result).input ≡ bound.now.input }
-        ensures network { network_in (runner_state result) ≡ network_by (rows_of table.now) bound.now.rows }
+        ensures network { network_in (runner_state result)
+            ≡ network_by (rows_of table.now) bound.now.rows }
         ensures samples { (runner_state result).samples ≡ 0 }
     {
         Runner {
@@ -66,7 +67,9 @@ impl<'a> Runner<'a> {
         requires typed { HasType (datum_of sample.now) (runner_state self.old).input }
         requires later { 0 < (runner_state self.old).samples → (1 ≤ step) × (step < 2 ^ 63) }
         requires room { (runner_state self.old).samples < 2 ^ 63 }
-        ensures pushed { IfOk result (λ y. Pushes (runner_state self.old) (step, datum_of sample.now) (datum_of y) (runner_state self.new)) }
+        ensures pushed { IfOk result
+            (λ y. Pushes (runner_state self.old) (step, datum_of sample.now) (datum_of y)
+            (runner_state self.new)) }
         ensures unchanged { OnErr result (runner_state self.new ≡ runner_state self.old) }
     {
         self.next.clear();

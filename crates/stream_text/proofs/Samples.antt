@@ -46,16 +46,19 @@ with_step_from d (Err f) x h = absurd (cc)
 
 first_typed : ReadingLaw → (A : TypeTree) (n : ℕ) (line : List ℕ) (x : ℕ × Datum) → first_line A n line ≡ Ok x → HasType x.1 A
 first_typed law A n line x h =
-    let one : (if bytes_eq line (codes "=") then Err (S.NothingBefore n) else with_step 0 (whole_value A n line)) ≡ Ok x = from_else (is_some (behind 43 line)) _ _ x h in
+    let one : (if bytes_eq line (codes "=") then Err (S.NothingBefore n) else with_step 0 (whole_value A n line)) ≡ Ok x =
+    from_else (is_some (behind 43 line)) _ _ x h in
     let two : with_step 0 (whole_value A n line) ≡ Ok x = from_else (bytes_eq line (codes "=")) _ _ x one in
     whole_typed law A n line x.1 (with_step_from 0 (whole_value A n line) x two).0
 
 -- behind its step, a later line has a value of the type; the step is the one in front
-later_typed : ReadingLaw → (A : TypeTree) (n : ℕ) (before : Datum) (o : Option (ℕ × List ℕ)) (x : ℕ × Datum) → HasType before A → later_line A n before o ≡ Ok x → HasType x.1 A × ((rest : List ℕ) × (o ≡ Some (x.0, rest)))
+later_typed : ReadingLaw → (A : TypeTree) (n : ℕ) (before : Datum) (o : Option (ℕ × List ℕ)) (x : ℕ × Datum) → HasType before A → later_line A n before o ≡ Ok x
+    → HasType x.1 A × ((rest : List ℕ) × (o ≡ Some (x.0, rest)))
 later_typed law A n before None x t h = absurd (cc)
 later_typed law A n before (Some (d, rest)) x t h = go (bytes_eq rest (codes "=")) h
   where
-    go : (b : Bool) → (if b then Ok (d, before) else with_step d (whole_value A n rest)) ≡ Ok x → HasType x.1 A × ((more : List ℕ) × ◌≡◌ {A = Option (ℕ × List ℕ)} (Some (d, rest)) (Some (x.0, more)))
+    go : (b : Bool) → (if b then Ok (d, before) else with_step d (whole_value A n rest)) ≡ Ok x
+        → HasType x.1 A × ((more : List ℕ) × ◌≡◌ {A = Option (ℕ × List ℕ)} (Some (d, rest)) (Some (x.0, more)))
     go true q =
         let e : (d, before) ≡ x = is_ok q in
         (subst (λ y. HasType y.1 A) e t, (rest, ap (λ y. Some (y.0, rest)) e))
@@ -76,7 +79,8 @@ first_of_while f (b ∷ bs) d ds h = go (f b) refl h
     go false q e = absurd (cc)
 
 -- digits that write a step write a number from 1 to 2^63 - 1
-step_range : (ds : List ℕ) → ((d : ℕ) (more : List ℕ) → ds ≡ d ∷ more → is_ascii_digit d ≡ true) → is_step ds ≡ true → (1 ≤ digits_value 10 ds) × (digits_value 10 ds < 2 ^ 63)
+step_range : (ds : List ℕ) → ((d : ℕ) (more : List ℕ) → ds ≡ d ∷ more → is_ascii_digit d ≡ true) → is_step ds ≡ true
+    → (1 ≤ digits_value 10 ds) × (digits_value 10 ds < 2 ^ 63)
 step_range [] f h = absurd (cc)
 step_range (d ∷ ds) f h =
     let digit : is_ascii_digit d ≡ true = f d ds refl in
@@ -99,27 +103,34 @@ stepped_range line s h = go (behind 43 line) h
     go None e = absurd (cc)
     go (Some bs) e =
         let ds : List ℕ = take_while is_ascii_digit bs in
-        let f : (is_step ds ≡ true) × (digits_value 10 ds ≡ s.0) = followed_is (is_step ds) (digits_value 10 ds) (behind 32 (drop (prefix_len is_ascii_digit bs) bs)) s e in
+        let f : (is_step ds ≡ true)
+        × (digits_value 10 ds ≡ s.0) = followed_is (is_step ds) (digits_value 10 ds) (behind 32 (drop (prefix_len is_ascii_digit bs) bs)) s e in
         subst (λ n. (1 ≤ n) × (n < 2 ^ 63)) f.1 (step_range ds (first_of_while is_ascii_digit bs) f.0)
 
 -- behind the limits, the line is read by what it holds
-after_limits : (A : TypeTree) (n : ℕ) (before : Option Datum) (line : List ℕ) (x : ℕ × Datum) → line_read A n before line ≡ Ok x → line_after A n before line ≡ Ok x
+after_limits : (A : TypeTree) (n : ℕ) (before : Option Datum) (line : List ℕ) (x : ℕ × Datum) → line_read A n before line ≡ Ok x
+    → line_after A n before line ≡ Ok x
 after_limits A n before line x h = from_else (nat_lt 65536 (length line)) _ _ x (from_else (nat_lt 1000000 n) _ _ x h)
 
 -- a line that is read is one of the first 1,000,000
 pub read_few : (A : TypeTree) (n : ℕ) (before : Option Datum) (line : List ℕ) (x : ℕ × Datum) → line_read A n before line ≡ Ok x → n ≤ 1000000
 read_few A n before line x e = go (nat_lt 1000000 n) refl e
   where
-    go : (b : Bool) → nat_lt 1000000 n ≡ b → (if b then Err (S.TooManySamples n) else (if nat_lt 65536 (length line) then Err (S.LineTooLong n) else line_after A n before line)) ≡ Ok x → n ≤ 1000000
+    go : (b : Bool) → nat_lt 1000000 n ≡ b
+        → (if b then Err (S.TooManySamples n) else (if nat_lt 65536 (length line) then Err (S.LineTooLong n) else line_after A n before line)) ≡ Ok x
+        → n ≤ 1000000
     go true q h = absurd (cc)
     go false q h = grind (arith, nat_tests)
 
-pub read_typed : ReadingLaw → (A : TypeTree) (n taken : ℕ) (before : Option Datum) (line : List ℕ) (x : ℕ × Datum) → IsBefore A taken before → line_read A n before line ≡ Ok x → HasType x.1 A
+pub read_typed : ReadingLaw → (A : TypeTree) (n taken : ℕ) (before : Option Datum) (line : List ℕ) (x : ℕ × Datum) → IsBefore A taken before
+    → line_read A n before line ≡ Ok x → HasType x.1 A
 read_typed law A n taken None line x t h = first_typed law A n line x (after_limits A n None line x h)
 read_typed law A n taken (Some v) line x t h = (later_typed law A n v (step_in line) x t (after_limits A n (Some v) line x h)).0
 
-pub read_step : ReadingLaw → (A : TypeTree) (n taken : ℕ) (before : Option Datum) (line : List ℕ) (x : ℕ × Datum) → IsBefore A taken before → line_read A n before line ≡ Ok x → 0 < taken → (1 ≤ x.0) × (x.0 < 2 ^ 63)
+pub read_step : ReadingLaw → (A : TypeTree) (n taken : ℕ) (before : Option Datum) (line : List ℕ) (x : ℕ × Datum) → IsBefore A taken before
+    → line_read A n before line ≡ Ok x → 0 < taken → (1 ≤ x.0) × (x.0 < 2 ^ 63)
 read_step law A n taken None line x t h l = absurd (omega (arith, t))
 read_step law A n taken (Some v) line x t h l =
-    let s : HasType x.1 A × ((rest : List ℕ) × (step_in line ≡ Some (x.0, rest))) = later_typed law A n v (step_in line) x t (after_limits A n (Some v) line x h) in
+    let s : HasType x.1 A
+    × ((rest : List ℕ) × (step_in line ≡ Some (x.0, rest))) = later_typed law A n v (step_in line) x t (after_limits A n (Some v) line x h) in
     stepped_range line (x.0, s.1.0) s.1.1

@@ -11,7 +11,8 @@ use Rattle.stream_text.specs.StepText.{is_step}
 pub digit_in_range : (b : ℕ) → is_ascii_digit b ≡ true → (48 ≤ b) × (b ≤ 57)
 digit_in_range b h = (grind (arith, nat_tests), grind (arith, nat_tests))
 
-pub next_value : (ds : List ℕ) (i : ℕ) → i < length ds → is_ascii_digit (get_or ds i 0) ≡ true → digits_value 10 (take (i + 1) ds) ≡ digits_value 10 (take i ds) * 10 + (get_or ds i 0 - 48)
+pub next_value : (ds : List ℕ) (i : ℕ) → i < length ds → is_ascii_digit (get_or ds i 0) ≡ true
+    → digits_value 10 (take (i + 1) ds) ≡ digits_value 10 (take i ds) * 10 + (get_or ds i 0 - 48)
 next_value ds i l h =
     let r : (48 ≤ get_or ds i 0) × (get_or ds i 0 ≤ 57) = digit_in_range (get_or ds i 0) h in
     omega (arith, digits_value_more 10 ds i l, digit_value_digit (get_or ds i 0) r)
@@ -24,5 +25,6 @@ not_step ds n h = go ds (omega (arith, digits_value-take-le 10 ds n (omega arith
     go [] l = refl
     go (c ∷ cs) l = grind (arith, nat_tests)
 
-pub no_step : (ds : List ℕ) (n : ℕ) (r : Option ℕ) → r ≡ None → 2 ^ 63 ≤ digits_value 10 (take n ds) → r ≡ (if is_step ds then Some (digits_value 10 ds) else None)
+pub no_step : (ds : List ℕ) (n : ℕ) (r : Option ℕ) → r ≡ None → 2 ^ 63 ≤ digits_value 10 (take n ds)
+    → r ≡ (if is_step ds then Some (digits_value 10 ds) else None)
 no_step ds n r e h = e ∙ sym (ap (λ p. if p then Some (digits_value 10 ds) else None) (not_step ds n h))

@@ -22,7 +22,9 @@ step_then _ d _ = None
 -- the digits at the front as a step, and what stands behind them and a space
 abbrev pub step_at_front : List ℕ → Option (ℕ × List ℕ)
 step_at_front bs =
-    step_then (is_step (take_while is_ascii_digit bs)) (digits_value 10 (take_while is_ascii_digit bs)) (behind 32 (drop (prefix_len is_ascii_digit bs) bs))
+    step_then (is_step (take_while is_ascii_digit bs))
+    (digits_value 10 (take_while is_ascii_digit bs))
+    (behind 32 (drop (prefix_len is_ascii_digit bs) bs))
 
 -- the step at the front, and what stands behind it and a space, where there are bytes
 abbrev pub step_if : Option (List ℕ) → Option (ℕ × List ℕ)

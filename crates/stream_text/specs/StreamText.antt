@@ -12,10 +12,12 @@ use Rattle.stream_text.specs.TextLines.{lines_of}
 use Rattle.stream_text.specs.declared.fault.StreamFault.{StreamFault}
 use Rattle.stream_text.specs.declared.fault.StreamFault.TheVariants as S
 
--- a value that was read off the front of so many bytes of line n is whole where it takes all of them
+-- a value that was read off the front of so many bytes of line n is whole where it takes all of
+-- them
 abbrev pub if_whole : ℕ → ℕ → Result (Datum × ℕ) ValueFault → Result Datum StreamFault
 if_whole n size (Err fault) = Err (S.Value n fault)
-if_whole n size (Ok (v, taken)) = if nat_eq taken size then Ok v else Err (S.Value n (V.NotAValue taken))
+if_whole n size (Ok (v, taken)) = if nat_eq taken size then Ok v
+    else Err (S.Value n (V.NotAValue taken))
 
 -- the value that all of the bytes write, in line n
 abbrev pub whole_value : TypeTree → ℕ → List ℕ → Result Datum StreamFault
@@ -27,14 +29,18 @@ with_step d value = value >>= (λ v. Ok (d, v))
 
 -- line 1 is a value; its step is 0, since no network sees it
 abbrev pub first_line : TypeTree → ℕ → List ℕ → Result (ℕ × Datum) StreamFault
-first_line A n line = if is_some (behind 43 line) then Err (S.Step n) else (if bytes_eq line (codes "=") then Err (S.NothingBefore n) else with_step 0 (whole_value A n line))
+first_line A n line = if is_some (behind 43 line) then Err (S.Step n)
+    else (if bytes_eq line (codes "=") then Err (S.NothingBefore n)
+    else with_step 0 (whole_value A n line))
 
 -- behind its step, a later line is `=`, which repeats the value before, or a value
 abbrev pub later_line : TypeTree → ℕ → Datum → Option (ℕ × List ℕ) → Result (ℕ × Datum) StreamFault
 later_line A n before None = Err (S.Step n)
-later_line A n before (Some (d, rest)) = if bytes_eq rest (codes "=") then Ok (d, before) else with_step d (whole_value A n rest)
+later_line A n before (Some (d, rest)) = if bytes_eq rest (codes "=") then Ok (d, before)
+    else with_step d (whole_value A n rest)
 
--- the value before a line, of which so many were taken: none before line 1, and later one of the type
+-- the value before a line, of which so many were taken: none before line 1, and later one of the
+-- type
 abbrev pub IsBefore : TypeTree → ℕ → Option Datum → Type 0
 IsBefore A taken None = taken ≡ 0
 IsBefore A taken (Some v) = HasType v A
@@ -44,9 +50,11 @@ abbrev pub line_after : TypeTree → ℕ → Option Datum → List ℕ → Resul
 line_after A n None line = first_line A n line
 line_after A n (Some before) line = later_line A n before (step_in line)
 
--- The sample of line n, where the value before it is given; or what is wrong with the line. The limits come first.
+-- The sample of line n, where the value before it is given; or what is wrong with the line. The
+-- limits come first.
 abbrev pub line_read : TypeTree → ℕ → Option Datum → List ℕ → Result (ℕ × Datum) StreamFault
-line_read A n before line = if nat_lt 1000000 n then Err (S.TooManySamples n) else (if nat_lt 65536 (length line) then Err (S.LineTooLong n) else line_after A n before line)
+line_read A n before line = if nat_lt 1000000 n then Err (S.TooManySamples n)
+    else (if nat_lt 65536 (length line) then Err (S.LineTooLong n) else line_after A n before line)
 
 -- What a stream holds: the samples of the lines before the first faulty one, and that line's fault.
 pub record Samples : Type 0 where
@@ -61,7 +69,8 @@ then_samples (Ok x) rest = record { taken = x ∷ (rest x).taken; fault = (rest 
 -- what the lines from line n on hold, where the value before them is given
 abbrev pub samples_from : TypeTree → ℕ → Option Datum → List (List ℕ) → Samples
 samples_from A n before [] = record { taken = []; fault = None }
-samples_from A n before (line ∷ lines) = then_samples (line_read A n before line) (λ x. samples_from A (suc n) (Some x.1) lines)
+samples_from A n before (line ∷ lines) =
+    then_samples (line_read A n before line) (λ x. samples_from A (suc n) (Some x.1) lines)
 
 -- What a text holds, as a stream of values of type A.
 abbrev pub samples : TypeTree → List ℕ → Samples

@@ -33,7 +33,8 @@ pub fn read_line(
     before: Option<&Sample>,
     line: &[u8],
 ) -> Result<(u64, Sample), StreamFault>
-    ensures { Gives sample_view result (line_read (type_of ty.now) number (before_view before.entry) line.now) }
+    ensures { Gives sample_view result
+        (line_read (type_of ty.now) number (before_view before.entry) line.now) }
 {
     if number > MOST_SAMPLES {
         return Err(StreamFault::TooManySamples { line: number });
@@ -72,7 +73,8 @@ fn read_later(
     before: &Sample,
     line: &[u8],
 ) -> Result<(u64, Sample), StreamFault>
-    ensures { Gives sample_view result (later_line (type_of ty.now) number (datum_of before.now) (step_in line.now)) }
+    ensures { Gives sample_view result
+        (later_line (type_of ty.now) number (datum_of before.now) (step_in line.now)) }
 {
     let Some((step, rest)) = split_step(line) else {
         return Err(StreamFault::Step { line: number });

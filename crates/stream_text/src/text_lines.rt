@@ -12,7 +12,8 @@ fn line_feed_at(text: &[u8]) -> Option<usize>
     ensures within { IfSome result (λ at. at < length text.now) }
     ensures found { IfSome result (λ at. slice_index text.now at ≡ LINE_FEED) }
     ensures first { IfSome result (λ at. (k : ℕ) → k < at → slice_index text.now k ≢ LINE_FEED) }
-    ensures none { IfNone result ((k : ℕ) → k < length text.now → slice_index text.now k ≢ LINE_FEED) }
+    ensures none { IfNone result ((k : ℕ) → k < length text.now
+        → slice_index text.now k ≢ LINE_FEED) }
 {
     memchr(LINE_FEED, text)
 }

@@ -15,7 +15,8 @@ pub record Allowed (r : RunnerState) (x : ℕ × Datum) : Type 0 where
   pub later : 0 < r.samples → (1 ≤ x.0) × (x.0 < 2 ^ 63)
   pub room : r.samples < 2 ^ 63
 
-pub allowed : ReadingLaw → (r : RunnerState) (A : TypeTree) (n : ℕ) (before : Option Datum) (line : List ℕ) (x : ℕ × Datum) → IsAt r A n before → line_read A n before line ≡ Ok x → Allowed r x
+pub allowed : ReadingLaw → (r : RunnerState) (A : TypeTree) (n : ℕ) (before : Option Datum) (line : List ℕ) (x : ℕ × Datum) → IsAt r A n before
+    → line_read A n before line ≡ Ok x → Allowed r x
 allowed law r A n before line x a h = record {
   typed = subst (λ B. HasType x.1 B) (sym a.of_type) (read_typed law A n r.samples before line x a.value h);
   later = read_step law A n r.samples before line x a.value h;

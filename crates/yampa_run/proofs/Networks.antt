@@ -25,11 +25,13 @@ pub text_refused : (bytes : List ℕ) (f : NetTextFault) → IsFileFault bytes f
 text_refused bytes f wrong (Refused.Line status line) h = inr (h.1, by_text f h.0 wrong h.2)
 text_refused bytes f wrong Refused.Memory h = tt
 
-pub types_refused : (bytes : List ℕ) (A : TypeTree) (net : Network Expression) (f : TypeFault) → IsFile bytes A net → (f ≢ T.Memory → check A net ≡ Err f) → (r : Refusal) → RefusesTypes f r → HasNoNetwork (Some bytes) r
+pub types_refused : (bytes : List ℕ) (A : TypeTree) (net : Network Expression) (f : TypeFault) → IsFile bytes A net → (f ≢ T.Memory → check A net ≡ Err f)
+    → (r : Refusal) → RefusesTypes f r → HasNoNetwork (Some bytes) r
 types_refused bytes A net f file e (Refused.Line status line) h = inr (h.1, by_types A net f file (e h.0) h.2)
 types_refused bytes A net f file e Refused.Memory h = tt
 
 -- what is asked of a file that has no network is refused
-pub lacking : (told : KnownFiles) (words : List (List ℕ)) (what : RequestTree) → request_in words ≡ Some what → (r : Refusal) → HasNoNetwork (told (file_of what)) r → IsRefusal told words r
+pub lacking : (told : KnownFiles) (words : List (List ℕ)) (what : RequestTree) → request_in words ≡ Some what → (r : Refusal)
+    → HasNoNetwork (told (file_of what)) r → IsRefusal told words r
 lacking told words what e (Refused.Line status line) h = inr (record { what = what; asks = e; lacks = h })
 lacking told words what e Refused.Memory h = tt

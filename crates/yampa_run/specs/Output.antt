@@ -19,7 +19,13 @@ pub record Output : Type 0 where
   pub bytes : List ℕ
   pub fault : Option StreamFault
 
--- What a run of a network with inputs of type A writes on a text: the lines of its stream meaning on the samples
+-- What a run of a network with inputs of type A writes on a text: the lines of its stream meaning
+-- on the samples
 -- before the first faulty line, and that line's fault.
 abbrev pub output_of : TypeTree → Network Expression → List ℕ → Output
-output_of A net text = record { bytes = spelled_lines (stream_of net (samples A text).taken); fault = (samples A text).fault }
+output_of A net text =
+    record {
+      bytes = spelled_lines (stream_of net (samples A text).taken);
+      fault =
+          (samples A text).fault;
+    }

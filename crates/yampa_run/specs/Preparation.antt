@@ -26,7 +26,8 @@ use Rattle.yampa_run.specs.declared.preparation.Refusal.TheVariants as Refused
 abbrev pub KnownFiles : Type 0
 KnownFiles = List ℕ → Option (List ℕ)
 
--- t is the typed network of the bytes: they are a network file of its input type and its tree, and it has its types, weight and height within the limits
+-- t is the typed network of the bytes: they are a network file of its input type and its tree, and
+-- it has its types, weight and height within the limits
 pub record IsNetworkIn (bytes : List ℕ) (t : TypedNetwork) : Type 0 where
   pub file : IsFile bytes t.input t.net
   pub typed : WithinLimits t
@@ -36,29 +37,37 @@ abbrev pub IsNetworkOf : Option (List ℕ) → TypedNetwork → Type 0
 IsNetworkOf None t = ⊤
 IsNetworkOf (Some bytes) t = IsNetworkIn bytes t
 
--- the bytes are no network file, or one whose network has no types within the limits, and the line says why
+-- the bytes are no network file, or one whose network has no types within the limits, and the line
+-- says why
 pub data IsRefusedWith (bytes line : List ℕ) : Type 0 where
-  by_text : (f : NetTextFault) → f ≢ V.Memory → IsFileFault bytes f → line ≡ text_words f → IsRefusedWith bytes line
-  by_types : (A : TypeTree) (net : Network Expression) (f : TypeFault) → IsFile bytes A net → check A net ≡ Err f → line ≡ type_words f → IsRefusedWith bytes line
+  by_text : (f : NetTextFault) → f ≢ V.Memory → IsFileFault bytes f → line ≡ text_words f
+      → IsRefusedWith bytes line
+  by_types : (A : TypeTree) (net : Network Expression) (f : TypeFault) → IsFile bytes A net
+      → check A net ≡ Err f → line ≡ type_words f → IsRefusedWith bytes line
 
 -- a file is refused with that line, where its bytes are told
 abbrev pub IsRefusedOf : Option (List ℕ) → List ℕ → Type 0
 IsRefusedOf None line = ⊤
 IsRefusedOf (Some bytes) line = IsRefusedWith bytes line
 
--- why there is no network of a file: it wasn't read, with status 3, and nothing is told of it; or it is refused, with status 1; or memory was short
+-- why there is no network of a file: it wasn't read, with status 3, and nothing is told of it; or
+-- it is refused, with status 1; or memory was short
 abbrev pub HasNoNetwork : Option (List ℕ) → Refusal → Type 0
-HasNoNetwork told (Refused.Line status line) = ((status ≡ 3) × (told ≡ None) × (string_bytes line ≡ unread_words)) ⊎ ((status ≡ 1) × IsRefusedOf told (string_bytes line))
+HasNoNetwork told (Refused.Line status line) =
+    ((status ≡ 3) × (told ≡ None) × (string_bytes line ≡ unread_words))
+    ⊎ ((status ≡ 1) × IsRefusedOf told (string_bytes line))
 HasNoNetwork told Refused.Memory = ⊤
 
 -- a refusal for that fault of a text: its line with status 1, or memory was short
 abbrev pub RefusesText : NetTextFault → Refusal → Type 0
-RefusesText f (Refused.Line status line) = (f ≢ V.Memory) × (status ≡ 1) × (string_bytes line ≡ text_words f)
+RefusesText f (Refused.Line status line) = (f ≢ V.Memory) × (status ≡ 1)
+    × (string_bytes line ≡ text_words f)
 RefusesText f Refused.Memory = ⊤
 
 -- a refusal for that fault of types: its line with status 1, or memory was short
 abbrev pub RefusesTypes : TypeFault → Refusal → Type 0
-RefusesTypes f (Refused.Line status line) = (f ≢ T.Memory) × (status ≡ 1) × (string_bytes line ≡ type_words f)
+RefusesTypes f (Refused.Line status line) = (f ≢ T.Memory) × (status ≡ 1)
+    × (string_bytes line ≡ type_words f)
 RefusesTypes f Refused.Memory = ⊤
 
 -- a network's types in one line
@@ -67,7 +76,8 @@ arrow_line t = type_spelling t.input ++ (codes " -> " ++ type_spelling t.output)
 
 -- the lines on a weight and a height, behind a line
 abbrev pub size_lines : ℕ → ℕ → List ℕ
-size_lines weight height = codes "\nweight " ++ (decimal weight ++ (codes "\nheight " ++ (decimal height ++ codes "\n")))
+size_lines weight height = codes "\nweight "
+    ++ (decimal weight ++ (codes "\nheight " ++ (decimal height ++ codes "\n")))
 
 -- the lines of the command `types`
 abbrev pub types_lines : TypedNetwork → List ℕ
@@ -104,18 +114,23 @@ file_of (types name) = name
 file_of (run name) = name
 
 -- the words ask something of a file that has no network
-pub record LacksNetwork (told : KnownFiles) (words : List (List ℕ)) (refusal : Refusal) : Type 0 where
-  pub what : RequestTree
-  pub asks : request_in words ≡ Some what
-  pub lacks : HasNoNetwork (told (file_of what)) refusal
+pub record LacksNetwork (told : KnownFiles) (words : List (List ℕ)) (refusal : Refusal) : Type 0
+  where
+    pub what : RequestTree
+    pub asks : request_in words ≡ Some what
+    pub lacks : HasNoNetwork (told (file_of what)) refusal
 
--- why nothing is done: the words ask for nothing that is there, with status 2; or their file has no network; or memory was short
+-- why nothing is done: the words ask for nothing that is there, with status 2; or their file has no
+-- network; or memory was short
 abbrev pub IsRefusal : KnownFiles → List (List ℕ) → Refusal → Type 0
-IsRefusal told words (Refused.Line status line) = ((status ≡ 2) × AsksNothing words) ⊎ LacksNetwork told words (Refused.Line status line)
+IsRefusal told words (Refused.Line status line) = ((status ≡ 2) × AsksNothing words)
+    ⊎ LacksNetwork told words (Refused.Line status line)
 IsRefusal told words Refused.Memory = ⊤
 
--- a refusal for a table that takes no more: its line with status 1 where it is full, or memory was short
+-- a refusal for a table that takes no more: its line with status 1 where it is full, or memory was
+-- short
 abbrev pub RefusesTable : TableFault → Refusal → Type 0
-RefusesTable A.Full (Refused.Line status line) = (status ≡ 1) × (string_bytes line ≡ codes "table full")
+RefusesTable A.Full (Refused.Line status line) = (status ≡ 1)
+    × (string_bytes line ≡ codes "table full")
 RefusesTable A.Memory (Refused.Line status line) = ⊥
 RefusesTable fault Refused.Memory = ⊤

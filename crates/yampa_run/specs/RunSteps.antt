@@ -21,14 +21,18 @@ pub record IsAt (r : RunnerState) (A : TypeTree) (n : ℕ) (before : Option Datu
   pub number : n ≡ suc r.samples
   pub value : IsBefore A r.samples before
 
--- The network takes the sample x in and answers y, and y's line is written: the runner and what is written, before and behind it.
-pub record Answers (r : RunnerState) (x : ℕ × Datum) (out : List ℕ) (r' : RunnerState) (out' : List ℕ) : Type 0 where
+-- The network takes the sample x in and answers y, and y's line is written: the runner and what is
+-- written, before and behind it.
+pub record Answers (r : RunnerState) (x : ℕ × Datum) (out : List ℕ) (r' : RunnerState)
+    (out' : List ℕ) : Type 0 where
   pub y : Datum
   pub pushes : Pushes r x y r'
   pub writes : out' ≡ out ++ (spelling y ++ 10 ∷ [])
 
--- Line n holds the sample x, which the network answers and whose value is kept: the runner, the value before and what is written, before the line and behind it.
-pub record RunsLine (r : RunnerState) (n : ℕ) (line : List ℕ) (before : Option Datum) (out : List ℕ) (r' : RunnerState) (before' : Option Datum) (out' : List ℕ) : Type 0 where
+-- Line n holds the sample x, which the network answers and whose value is kept: the runner, the
+-- value before and what is written, before the line and behind it.
+pub record RunsLine (r : RunnerState) (n : ℕ) (line : List ℕ) (before : Option Datum) (out : List ℕ)
+    (r' : RunnerState) (before' : Option Datum) (out' : List ℕ) : Type 0 where
   pub x : ℕ × Datum
   pub reads : line_read r.input n before line ≡ Ok x
   pub keeps : before' ≡ Some x.1
@@ -56,21 +60,25 @@ abbrev pub samples_before : Binding → List ℕ → ℕ
 samples_before b text = length (samples b.input text).taken
 
 -- A run on a text without a fault: all of its lines are written, one for each sample.
-pub record RunsToEnd (keys : List KeyTree) (b : Binding) (text out : List ℕ) (lines : ℕ) : Type 0 where
-  pub bytes : out ≡ (output_on keys b text).bytes
-  pub faultless : (output_on keys b text).fault ≡ None
-  pub counted : lines ≡ samples_before b text
+pub record RunsToEnd (keys : List KeyTree) (b : Binding) (text out : List ℕ) (lines : ℕ) : Type 0
+  where
+    pub bytes : out ≡ (output_on keys b text).bytes
+    pub faultless : (output_on keys b text).fault ≡ None
+    pub counted : lines ≡ samples_before b text
 
 -- A run that the text's first faulty line ends: the lines of the samples before it are written.
-pub record StopsAtFault (keys : List KeyTree) (b : Binding) (text out : List ℕ) (lines : ℕ) (fault : StreamFault) : Type 0 where
+pub record StopsAtFault (keys : List KeyTree) (b : Binding) (text out : List ℕ) (lines : ℕ)
+    (fault : StreamFault) : Type 0 where
   pub bytes : out ≡ (output_on keys b text).bytes
   pub first : (output_on keys b text).fault ≡ Some fault
   pub of_text : IsOfText fault
   pub counted : lines ≡ samples_before b text
 
 -- A run that is refused memory: some of its lines are written, each whole.
-pub record StopsForMemory (keys : List KeyTree) (b : Binding) (text out : List ℕ) (lines : ℕ) : Type 0 where
-  pub bytes : out ≡ spelled_lines (take lines (stream_of (network_by keys b.rows) (samples b.input text).taken))
+pub record StopsForMemory (keys : List KeyTree) (b : Binding) (text out : List ℕ) (lines : ℕ) : Type
+    0 where
+  pub bytes : out
+      ≡ spelled_lines (take lines (stream_of (network_by keys b.rows) (samples b.input text).taken))
   pub counted : lines ≤ samples_before b text
 
 -- what each fault of a run tells; nothing else ends one early

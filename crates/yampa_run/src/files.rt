@@ -22,5 +22,6 @@ pub trait Files {
     /// nothing is told of it.
     fn read(&self, alloc: Global, name: &str) -> Result<Vec<u8>, FileFault>
         ensures agrees { IfOk result (λ bytes. AgreesWith (told self.now name.now) bytes.items) }
-        ensures unread { IfErr result (λ fault. fault ≡ FileFault.Unread → told self.now name.now ≡ None) };
+        ensures unread { IfErr result (λ fault. fault ≡ FileFault.Unread
+            → told self.now name.now ≡ None) };
 }

@@ -44,9 +44,12 @@ pub fn add_row(
     run: Run,
 ) -> Result<(), TableFault>
     requires callable { Run.IsAlwaysCallable run }
-    requires computes { (ps : _) (x : _) (v : _) → Run.post run ps x (Ok v) → Computes need.now.key (map datum_of ps.now) (datum_of x.now) (datum_of v) }
-    ensures known { Contains (rows_of table.old) need.now.key → rows_of table.new ≡ rows_of table.old }
-    ensures grown { OnOk result ((Contains (rows_of table.old) need.now.key → ⊥) → rows_of table.new ≡ rows_of table.old ++ need.now.key ∷ []) }
+    requires computes { (ps : _) (x : _) (v : _) → Run.post run ps x (Ok v)
+        → Computes need.now.key (map datum_of ps.now) (datum_of x.now) (datum_of v) }
+    ensures known { Contains (rows_of table.old) need.now.key
+        → rows_of table.new ≡ rows_of table.old }
+    ensures grown { OnOk result ((Contains (rows_of table.old) need.now.key → ⊥)
+        → rows_of table.new ≡ rows_of table.old ++ need.now.key ∷ []) }
     ensures unchanged { OnErr result (rows_of table.new ≡ rows_of table.old) }
     ensures full { IfErr result (λ fault. fault ≡ TableFault.Full
         → (length (rows_of table.old) ≡ 4096)

@@ -58,8 +58,12 @@ pub fn prepare<F: Files>(alloc: Global, words: &[&str], files: &F) -> Result<Job
 
 /// What a request asks for.
 fn job_of<F: Files>(alloc: Global, request: Request<'_>, files: &F) -> Result<Job, Refusal>
-    ensures asked { IfOk result (λ job. (words : List (List ℕ)) → request_in words ≡ Some (request_view request.entry) → IsRequested (F.told files.now) words job) }
-    ensures refused { IfErr result (λ e. (words : List (List ℕ)) → request_in words ≡ Some (request_view request.entry) → IsRefusal (F.told files.now) words e) }
+    ensures asked { IfOk result (λ job. (words : List (List ℕ))
+        → request_in words ≡ Some (request_view request.entry)
+        → IsRequested (F.told files.now) words job) }
+    ensures refused { IfErr result (λ e. (words : List (List ℕ))
+        → request_in words ≡ Some (request_view request.entry)
+        → IsRefusal (F.told files.now) words e) }
 {
     match request {
         Request::Types { net } => match types_of(alloc, net, files) {
@@ -75,8 +79,10 @@ fn job_of<F: Files>(alloc: Global, request: Request<'_>, files: &F) -> Result<Jo
 
 /// What a reply to the words leads to.
 fn told_by(reply: Reply) -> Result<Job, Refusal>
-    ensures asked { IfOk result (λ job. (told : KnownFiles) (words : List (List ℕ)) → ReadsWords words (Err reply) → IsRequested told words job) }
-    ensures refused { IfErr result (λ e. (told : KnownFiles) (words : List (List ℕ)) → ReadsWords words (Err reply) → IsRefusal told words e) }
+    ensures asked { IfOk result (λ job. (told : KnownFiles) (words : List (List ℕ))
+        → ReadsWords words (Err reply) → IsRequested told words job) }
+    ensures refused { IfErr result (λ e. (told : KnownFiles) (words : List (List ℕ))
+        → ReadsWords words (Err reply) → IsRefusal told words e) }
 {
     match reply {
         Reply::Help(text) => Ok(Job::Print(text)),
@@ -87,7 +93,8 @@ fn told_by(reply: Reply) -> Result<Job, Refusal>
 
 /// The lines of the command `types` on the file of that name.
 fn types_of<F: Files>(alloc: Global, name: &str, files: &F) -> Result<String, Refusal>
-    ensures lines { IfOk result (λ text. TellsTypes (F.told files.now name.now) (string_bytes text)) }
+    ensures lines { IfOk result
+        (λ text. TellsTypes (F.told files.now name.now) (string_bytes text)) }
     ensures refused { IfErr result (HasNoNetwork (F.told files.now name.now)) }
 {
     match load(alloc, name, files) {
@@ -181,7 +188,8 @@ fn push_arrow(text: &mut String, net: &TypedNet) -> Result<(), Memory>
 
 /// Adds a line feed, and the lines of a network's weight and height.
 fn push_sizes(text: &mut String, weight: u32, height: u32) -> Result<(), Memory>
-    ensures { OnOk result (string_bytes text.new ≡ string_bytes text.old ++ size_lines weight height) }
+    ensures { OnOk result (string_bytes text.new ≡ string_bytes text.old
+        ++ size_lines weight height) }
 {
     push_words(text, "\nweight ")?;
     push_number(text, u64::from(weight))?;

@@ -69,7 +69,8 @@ fn push_stream(out: &mut String, fault: &StreamFault) -> Result<(), Memory>
 }
 
 fn push_value_fault(out: &mut String, line: u64, fault: &ValueFault) -> Result<(), Memory>
-    ensures { OnOk result (string_bytes out.new ≡ string_bytes out.old ++ value_words line fault.now) }
+    ensures { OnOk result (string_bytes out.new ≡ string_bytes out.old
+        ++ value_words line fault.now) }
 {
     match fault {
         ValueFault::NotAValue { at } => push_place(out, line, "no value at ", *at),
@@ -90,7 +91,8 @@ fn push_at(out: &mut String, line: u64, what: &str) -> Result<(), Memory>
 }
 
 fn push_place(out: &mut String, line: u64, what: &str, place: usize) -> Result<(), Memory>
-    ensures { OnOk result (string_bytes out.new ≡ string_bytes out.old ++ at_line line (what.now ++ decimal place)) }
+    ensures { OnOk result (string_bytes out.new ≡ string_bytes out.old
+        ++ at_line line (what.now ++ decimal place)) }
 {
     push_at(out, line, what)?;
     push_number(out, place as u64)?;

@@ -106,9 +106,15 @@ fn run_line(
     state: &mut LineState,
     out: &mut Vec<u8>,
 ) -> Result<(), StreamFault>
-    requires { IsAt (runner_state runner.old) (type_of ty.now) number (option_map datum_of state.old.before) }
-    ensures runs { OnOk result (RunsLine (runner_state runner.old) number line.now (option_map datum_of state.old.before) out.old.items (runner_state runner.new) (option_map datum_of state.new.before) out.new.items) }
-    ensures told { IfErr result (λ fault. fault ≢ Fault.Memory → line_read (type_of ty.now) number (option_map datum_of state.old.before) line.now ≡ Err fault) }
+    requires { IsAt (runner_state runner.old) (type_of ty.now) number
+        (option_map datum_of state.old.before) }
+    ensures runs { OnOk result
+        (RunsLine (runner_state runner.old) number line.now (option_map datum_of state.old.before)
+        out.old.items (runner_state runner.new) (option_map datum_of state.new.before)
+        out.new.items) }
+    ensures told { IfErr result (λ fault. fault ≢ Fault.Memory
+        → line_read (type_of ty.now) number (option_map datum_of state.old.before) line.now
+        ≡ Err fault) }
     ensures kept { OnErr result (out.new.items ≡ out.old.items) }
 {
     // By these laws the sample is of the type.
@@ -130,7 +136,9 @@ fn run_sample(
     requires typed { HasType (datum_of sample) (runner_state runner.old).input }
     requires later { 0 < (runner_state runner.old).samples → (1 ≤ step) × (step < 2 ^ 63) }
     requires room { (runner_state runner.old).samples < 2 ^ 63 }
-    ensures answers { OnOk result (Answers (runner_state runner.old) (step, datum_of sample) out.old.items (runner_state runner.new) out.new.items) }
+    ensures answers { OnOk result
+        (Answers (runner_state runner.old) (step, datum_of sample) out.old.items
+        (runner_state runner.new) out.new.items) }
     ensures keeps { OnOk result (option_map datum_of state.new.before ≡ Some (datum_of sample)) }
     ensures memory { IfErr result (λ fault. fault ≡ StreamFault.Memory) }
     ensures kept { OnErr result (out.new.items ≡ out.old.items) }
@@ -160,7 +168,9 @@ fn answer(
     requires typed { HasType (datum_of sample.now) (runner_state runner.old).input }
     requires later { 0 < (runner_state runner.old).samples → (1 ≤ step) × (step < 2 ^ 63) }
     requires room { (runner_state runner.old).samples < 2 ^ 63 }
-    ensures answers { OnOk result (Answers (runner_state runner.old) (step, datum_of sample.now) out.old.items (runner_state runner.new) out.new.items) }
+    ensures answers { OnOk result
+        (Answers (runner_state runner.old) (step, datum_of sample.now) out.old.items
+        (runner_state runner.new) out.new.items) }
     ensures kept { OnErr result (out.new.items ≡ out.old.items) }
 {
     let answer = runner.push(step, sample)?;
@@ -171,7 +181,8 @@ fn answer(
 
 /// Adds a line with the value's spelling to `out`. `text` is room for it.
 fn write_line(text: &mut String, value: &Sample, out: &mut Vec<u8>) -> Result<(), Memory>
-    ensures written { OnOk result (out.new.items ≡ out.old.items ++ (spelling (datum_of value.now) ++ 10 ∷ [])) }
+    ensures written { OnOk result
+        (out.new.items ≡ out.old.items ++ (spelling (datum_of value.now) ++ 10 ∷ [])) }
     ensures kept { OnErr result (out.new.items ≡ out.old.items) }
 {
     text.clear();

@@ -4,12 +4,16 @@ use Rattle.command_line.proofs.command.parse.Goals as goal
 
 pub returns-in-Some : goal.returns-in-Some
 returns-in-Some c =
-    taken _ (map (λ w. w.now) c.args.words.now) c.in-Ok.matches c.in_ok-make_command.ensures c.in-Ok.ensures.matches c.in-Ok.ensures.kinds ∙ sym c.in-Some.ensures
+    taken _ (map (λ w. w.now) c.args.words.now) c.in-Ok.matches c.in_ok-make_command.ensures c.in-Ok.ensures.matches c.in-Ok.ensures.kinds
+    ∙ sym c.in-Some.ensures
 
 pub returns-in-None : goal.returns-in-None
 returns-in-None c =
-    told_nothing (map (λ w. w.now) c.args.words.now) (nothing _ (map (λ w. w.now) c.args.words.now) c.in-Ok.matches c.in_ok-make_command.ensures c.in-Ok.ensures.matches c.in-Ok.ensures.kinds c.in-None.ensures) c.no_such_command.result c.no_such_command.ensures
+    told_nothing (map (λ w. w.now) c.args.words.now)
+    (nothing _ (map (λ w. w.now) c.args.words.now) c.in-Ok.matches c.in_ok-make_command.ensures c.in-Ok.ensures.matches c.in-Ok.ensures.kinds
+    c.in-None.ensures) c.no_such_command.result c.no_such_command.ensures
 
 pub returns-in-Err : goal.returns-in-Err
 returns-in-Err c =
-    replied _ (map (λ w. w.now) c.args.words.now) c.in-Err.error c.in_ok-make_command.ensures c.in-Err.ensures.kinds c.reply_to-reply.result c.reply_to-reply.ensures
+    replied _ (map (λ w. w.now) c.args.words.now) c.in-Err.error c.in_ok-make_command.ensures c.in-Err.ensures.kinds c.reply_to-reply.result
+    c.reply_to-reply.ensures

@@ -10,8 +10,15 @@ same_parts-returns-then-all-others t c =
     grind (arith, common_steps, e)
 
 pub same_parts-same_expr-requires : goal.same_parts-same_expr-requires
-same_parts-same_expr-requires t c =
-    (omega (arith, c.decreases, element_smaller c.as_slice-all.result.now _ c.loop-i.i c.index-all-i.result c.loop-i-test.true c.index-all-i.is c.as_slice-all.ensures), tt)
+same_parts-same_expr-requires t c = (
+  omega (
+    arith,
+    c.decreases,
+    element_smaller c.as_slice-all.result.now _ c.loop-i.i c.index-all-i.result c.loop-i-test.true c.index-all-i.is
+        c.as_slice-all.ensures,
+  ),
+  tt,
+)
 
 pub same_inside-same_part-requires : goal.same_inside-same_part-requires
 same_inside-same_part-requires t c = grind (arith, common_steps, nodes_inside)

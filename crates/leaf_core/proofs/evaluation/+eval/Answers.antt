@@ -4,8 +4,15 @@ use Rattle.leaf_core.proofs.Places.{element_smaller}
 use Rattle.leaf_core.proofs.evaluation.+eval.Goals as goal
 
 pub eval_elements-eval-requires : goal.eval_elements-eval-requires
-eval_elements-eval-requires t c =
-    (omega (arith, c.decreases, element_smaller c.as_slice-element-items.result.now _ c.loop-element.element-index c.element-item.result c.loop-element-test.true c.element-item.is c.as_slice-element-items.ensures), tt)
+eval_elements-eval-requires t c = (
+  omega (
+    arith,
+    c.decreases,
+    element_smaller c.as_slice-element-items.result.now _ c.loop-element.element-index c.element-item.result c.loop-element-test.true
+        c.element-item.is c.as_slice-element-items.ensures,
+  ),
+  tt,
+)
 
 pub eval_on_event-returns-in_default : goal.eval_on_event-returns-in_default
 eval_on_event-returns-in_default t c = grind (arith, common_steps)

@@ -8,13 +8,11 @@ use Rattle.leaf_core.proofs.evaluation.+eval.Given as goal
 -- the values so far, and those of the elements to come, are those of all
 abbrev pub invariant-eval_elements-loop-element : goal.invariant-eval_elements-loop-element
 invariant-eval_elements-loop-element l =
-    map datum_of l.values.items ++ values_of (expressions_of (map expression_of (drop l.element-index l.element-items))) (map datum_of l.params) (datum_of l.x) ≡ values_of (expressions_of (map expression_of l.element-items)) (map datum_of l.params) (datum_of l.x)
+    map datum_of l.values.items ++ values_of (expressions_of (map expression_of (drop l.element-index l.element-items))) (map datum_of l.params) (datum_of l.x)
+    ≡ values_of (expressions_of (map expression_of l.element-items)) (map datum_of l.params) (datum_of l.x)
 
 abbrev pub decreases-eval : goal.decreases-eval
 decreases-eval l = 6 * nodes_in (expression_of l.expr.now)
-
-abbrev pub decreases-eval_pair : goal.decreases-eval_pair
-decreases-eval_pair l = 6 * (nodes_in l.a.now + nodes_in l.b.now) + 2
 
 abbrev pub decreases-eval_part : goal.decreases-eval_part
 decreases-eval_part l = 6 * nodes_in l.e.now + 3
@@ -28,44 +26,17 @@ decreases-eval_off l = 6 * nodes_in l.e.now + 1
 abbrev pub decreases-look : goal.decreases-look
 decreases-look l = 6 * nodes_in l.expr.now + 1
 
-abbrev pub decreases-eval_then : goal.decreases-eval_then
-decreases-eval_then l = 6 * (nodes_in l.f.now + nodes_in l.g.now) + 2
-
-abbrev pub decreases-eval_two : goal.decreases-eval_two
-decreases-eval_two l = 6 * (nodes_in l.a.now + nodes_in l.b.now) + 3
-
 abbrev pub decreases-eval_with : goal.decreases-eval_with
 decreases-eval_with l = 6 * nodes_in l.part.now + 2
 
-abbrev pub decreases-eval_if : goal.decreases-eval_if
-decreases-eval_if l = 6 * (nodes_in l.c.now + nodes_in l.a.now + nodes_in l.b.now) + 3
-
-abbrev pub decreases-eval_on : goal.decreases-eval_on
-decreases-eval_on l = 6 * (nodes_in l.e.now + nodes_in l.d.now + nodes_in l.b.now) + 3
-
-abbrev pub decreases-eval_on_event : goal.decreases-eval_on_event
-decreases-eval_on_event l = 6 * (nodes_in l.d.now + nodes_in l.b.now) + 2
-
 abbrev pub decreases-eval_body : goal.decreases-eval_body
 decreases-eval_body l = 6 * nodes_in l.b.now + 1
-
-abbrev pub decreases-eval_nth : goal.decreases-eval_nth
-decreases-eval_nth l = 6 * (nodes_in l.e.now + nodes_in l.i.now + nodes_in l.d.now) + 5
-
-abbrev pub decreases-eval_element : goal.decreases-eval_element
-decreases-eval_element l = 6 * (nodes_in l.i.now + nodes_in l.d.now) + 4
 
 abbrev pub decreases-eval_len : goal.decreases-eval_len
 decreases-eval_len l = 6 * nodes_in l.e.now + 2
 
 abbrev pub decreases-eval_child : goal.decreases-eval_child
 decreases-eval_child l = 6 * nodes_in l.part.now + 1
-
-abbrev pub decreases-eval_numbers : goal.decreases-eval_numbers
-decreases-eval_numbers l = 6 * (nodes_in l.a.now + nodes_in l.b.now) + 4
-
-abbrev pub decreases-eval_sum : goal.decreases-eval_sum
-decreases-eval_sum l = 6 * (nodes_in l.a.now + nodes_in l.b.now) + 4
 
 abbrev pub decreases-eval_number : goal.decreases-eval_number
 decreases-eval_number l = 6 * nodes_in l.part.now + 3
@@ -78,3 +49,33 @@ decreases-eval_truth l = 6 * nodes_in l.part.now + 2
 
 abbrev pub decreases-eval_elements : goal.decreases-eval_elements
 decreases-eval_elements l = 6 * nodes_in_all (expressions_of l.elements.now) + 1
+
+abbrev pub decreases-eval_pair : goal.decreases-eval_pair
+decreases-eval_pair l = 6 * (nodes_in l.a.now + nodes_in l.b.now) + 2
+
+abbrev pub decreases-eval_then : goal.decreases-eval_then
+decreases-eval_then l = 6 * (nodes_in l.f.now + nodes_in l.g.now) + 2
+
+abbrev pub decreases-eval_two : goal.decreases-eval_two
+decreases-eval_two l = 6 * (nodes_in l.a.now + nodes_in l.b.now) + 3
+
+abbrev pub decreases-eval_on_event : goal.decreases-eval_on_event
+decreases-eval_on_event l = 6 * (nodes_in l.d.now + nodes_in l.b.now) + 2
+
+abbrev pub decreases-eval_element : goal.decreases-eval_element
+decreases-eval_element l = 6 * (nodes_in l.i.now + nodes_in l.d.now) + 4
+
+abbrev pub decreases-eval_numbers : goal.decreases-eval_numbers
+decreases-eval_numbers l = 6 * (nodes_in l.a.now + nodes_in l.b.now) + 4
+
+abbrev pub decreases-eval_sum : goal.decreases-eval_sum
+decreases-eval_sum l = 6 * (nodes_in l.a.now + nodes_in l.b.now) + 4
+
+abbrev pub decreases-eval_if : goal.decreases-eval_if
+decreases-eval_if l = 6 * (nodes_in l.c.now + nodes_in l.a.now + nodes_in l.b.now) + 3
+
+abbrev pub decreases-eval_on : goal.decreases-eval_on
+decreases-eval_on l = 6 * (nodes_in l.e.now + nodes_in l.d.now + nodes_in l.b.now) + 3
+
+abbrev pub decreases-eval_nth : goal.decreases-eval_nth
+decreases-eval_nth l = 6 * (nodes_in l.e.now + nodes_in l.i.now + nodes_in l.d.now) + 5

@@ -6,22 +6,23 @@ use Rattle.leaf_core.proofs.feed.+feed.Given as goal
 
 abbrev pub invariant-feed_all-loop-e : goal.invariant-feed_all-loop-e
 invariant-feed_all-loop-e g l =
-    fold g.H.Hasher.write l.state (expressions_writes (expressions_of (map expression_of (drop l.e-index l.e-items)))) ≡ fold g.H.Hasher.write l.initial.state (expressions_writes (expressions_of (map expression_of l.e-items)))
-
-abbrev pub decreases-feed_expr : goal.decreases-feed_expr
-decreases-feed_expr g l = 6 * nodes_in (expression_of l.expr.now) + 1
+    fold g.H.Hasher.write l.state (expressions_writes (expressions_of (map expression_of (drop l.e-index l.e-items))))
+    ≡ fold g.H.Hasher.write l.initial.state (expressions_writes (expressions_of (map expression_of l.e-items)))
 
 abbrev pub decreases-feed_inside : goal.decreases-feed_inside
 decreases-feed_inside g l = 6 * nodes_in (expression_of l.expr.now)
 
-abbrev pub decreases-feed_two : goal.decreases-feed_two
-decreases-feed_two g l = 6 * (nodes_in l.a.now + nodes_in l.b.now) + 3
-
-abbrev pub decreases-feed_three : goal.decreases-feed_three
-decreases-feed_three g l = 6 * (nodes_in l.a.now + nodes_in l.b.now + nodes_in l.c.now) + 4
+abbrev pub decreases-feed_expr : goal.decreases-feed_expr
+decreases-feed_expr g l = 6 * nodes_in (expression_of l.expr.now) + 1
 
 abbrev pub decreases-feed_list : goal.decreases-feed_list
 decreases-feed_list g l = 6 * nodes_in_all (expressions_of l.all.now) + 3
 
 abbrev pub decreases-feed_all : goal.decreases-feed_all
 decreases-feed_all g l = 6 * nodes_in_all (expressions_of l.all.now) + 2
+
+abbrev pub decreases-feed_two : goal.decreases-feed_two
+decreases-feed_two g l = 6 * (nodes_in l.a.now + nodes_in l.b.now) + 3
+
+abbrev pub decreases-feed_three : goal.decreases-feed_three
+decreases-feed_three g l = 6 * (nodes_in l.a.now + nodes_in l.b.now + nodes_in l.c.now) + 4

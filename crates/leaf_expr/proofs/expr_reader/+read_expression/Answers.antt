@@ -101,7 +101,8 @@ pub last_two-returns : goal.last_two-returns
 last_two-returns t c = two_parts _ _ _ c.in_ok-a.ensures c.in_ok-b.ensures c.in_ok-end.ensures
 
 pub unary-returns-in_err-a : goal.unary-returns-in_err-a
-unary-returns-in_err-a t c = told _ _ _ _ c.from_residual.ensures.1 (no_part _ _ Expression expression_sort _ no_place (unary_of c.args.form) _ c.in_err-a.ensures)
+unary-returns-in_err-a t c = told _ _ _ _ c.from_residual.ensures.1
+    (no_part _ _ Expression expression_sort _ no_place (unary_of c.args.form) _ c.in_err-a.ensures)
 
 pub unary-returns-in_err-end : goal.unary-returns-in_err-end
 unary-returns-in_err-end t c =
@@ -157,7 +158,8 @@ elements-returns t c = made _ c.in_ok-all.ensures c.in_ok-elements.ensures
 
 pub items-returns-in_err-expr : goal.items-returns-in_err-expr
 items-returns-in_err-expr t c =
-    told _ _ _ _ c.from_residual.ensures.1 (gone _ _ (map expression_of c.loop-end.all.items) _ _ _ c.loop-end.invariant c.in_default.ensures.token c.in_err-expr.ensures)
+    told _ _ _ _ c.from_residual.ensures.1
+    (gone _ _ (map expression_of c.loop-end.all.items) _ _ _ c.loop-end.invariant c.in_default.ensures.token c.in_err-expr.ensures)
 
 pub items-returns-in_err-push : goal.items-returns-in_err-push
 items-returns-in_err-push t c = told_memory _ _ _ c.from_residual-in_err-push.ensures.1

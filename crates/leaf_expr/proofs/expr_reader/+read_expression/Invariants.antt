@@ -5,6 +5,10 @@ use Rattle.leaf_expr.specs.Token.{tokens_from}
 use Rattle.leaf_expr.proofs.ItemSteps.{with_front}
 use Rattle.leaf_expr.proofs.expr_reader.+read_expression.Given as goal
 
+-- the elements so far, and those that follow, are all
+abbrev pub invariant-items-loop-end : goal.invariant-items-loop-end
+invariant-items-loop-end l = with_front (map expression_of l.all.items) (items_at l.text l.room l.next) ≡ items_at l.text l.room l.at
+
 abbrev pub decreases-read_expression : goal.decreases-read_expression
 decreases-read_expression l = 6 * l.room
 
@@ -43,7 +47,3 @@ decreases-items l = 6 * l.room + 1
 
 abbrev pub decreases-items-loop-end : goal.decreases-items-loop-end
 decreases-items-loop-end l = length (tokens_from l.next l.text)
-
--- the elements so far, and those that follow, are all
-abbrev pub invariant-items-loop-end : goal.invariant-items-loop-end
-invariant-items-loop-end l = with_front (map expression_of l.all.items) (items_at l.text l.room l.next) ≡ items_at l.text l.room l.at

@@ -11,13 +11,23 @@ pub returns-in-Some-unary_named : goal.returns-in-Some-unary_named
 returns-in-Some-unary_named c = sym (in_unary c.args.word.now (sym c.in_default.ensures) _ (sym c.in-Some-unary_named.ensures))
 
 pub returns-in-Some-binary_named : goal.returns-in-Some-binary_named
-returns-in-Some-binary_named c = sym (in_binary c.args.word.now (sym c.in_default.ensures) (sym c.in_default-unary_named.ensures) _ (sym c.in-Some-binary_named.ensures))
+returns-in-Some-binary_named c =
+    sym (in_binary c.args.word.now (sym c.in_default.ensures) (sym c.in_default-unary_named.ensures) _ (sym c.in-Some-binary_named.ensures))
 
 pub returns-in-Some-ternary_named : goal.returns-in-Some-ternary_named
-returns-in-Some-ternary_named c = sym (in_ternary c.args.word.now (sym c.in_default.ensures) (sym c.in_default-unary_named.ensures) (sym c.in_default-binary_named.ensures) _ (sym c.in-Some-ternary_named.ensures))
+returns-in-Some-ternary_named c =
+    sym
+    (in_ternary c.args.word.now (sym c.in_default.ensures) (sym c.in_default-unary_named.ensures) (sym c.in_default-binary_named.ensures) _
+    (sym c.in-Some-ternary_named.ensures))
 
 pub returns-in_err-form : goal.returns-in_err-form
-returns-in_err-form c = ap (option_map form_row) c.from_residual.ensures ∙ c.in_err-form.ensures ∙ sym (in_typed c.args.word.now (sym c.in_default.ensures) (sym c.in_default-unary_named.ensures) (sym c.in_default-binary_named.ensures) (sym c.in_default-ternary_named.ensures))
+returns-in_err-form c = ap (option_map form_row) c.from_residual.ensures ∙ c.in_err-form.ensures
+    ∙ sym
+    (in_typed c.args.word.now (sym c.in_default.ensures) (sym c.in_default-unary_named.ensures) (sym c.in_default-binary_named.ensures)
+    (sym c.in_default-ternary_named.ensures))
 
 pub returns-in_ok-form : goal.returns-in_ok-form
-returns-in_ok-form c = sym (in_typed c.args.word.now (sym c.in_default.ensures) (sym c.in_default-unary_named.ensures) (sym c.in_default-binary_named.ensures) (sym c.in_default-ternary_named.ensures) ∙ sym c.in_ok-form.ensures)
+returns-in_ok-form c =
+    sym
+    (in_typed c.args.word.now (sym c.in_default.ensures) (sym c.in_default-unary_named.ensures) (sym c.in_default-binary_named.ensures)
+    (sym c.in_default-ternary_named.ensures) ∙ sym c.in_ok-form.ensures)

@@ -49,4 +49,5 @@ add_child-add_leaves-output-requires t c =
 
 pub add_child-returns-clause-added : goal.add_child-returns-clause-added
 add_child-returns-clause-added t c =
-    adds_as c.add_leaves-output.result type_of _ _ _ _ _ _ _ _ c.in_ok-push.ensures.items (ap (map_network expression_of) (sym c.get.ensures)) c.add_leaves-output.ensures.added
+    adds_as c.add_leaves-output.result type_of _ _ _ _ _ _ _ _ c.in_ok-push.ensures.items (ap (map_network expression_of) (sym c.get.ensures))
+    c.add_leaves-output.ensures.added

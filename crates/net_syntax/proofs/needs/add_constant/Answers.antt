@@ -8,4 +8,7 @@ checked_type-requires c = typed_i_pre _ _ _ c.requires
 
 pub returns : goal.returns
 returns c =
-    record { added = if_ok c.try_copy.result _ _ (λ o h. adds_i_pre _ _ _ _ _ _ _ _ c.in_ok-output.ensures (ap type_of h) c.in_ok-added.ensures) c.try_copy.ensures }
+    record {
+      added = if_ok c.try_copy.result _ _ (λ o h. adds_i_pre _ _ _ _ _ _ _ _ c.in_ok-output.ensures (ap type_of h) c.in_ok-added.ensures)
+          c.try_copy.ensures;
+    }

@@ -6,4 +6,5 @@ use Rattle.net_syntax.proofs.position.push_position.Given as goal
 -- the text begins as it did, and what stands there and the child numbers to come is the whole
 abbrev pub invariant-loop-child : goal.invariant-loop-child
 invariant-loop-child l =
-    Extends (string_bytes l.initial.text) (string_bytes l.text) × (string_bytes l.text ++ child_numbers (drop l.child-index l.child-items) ≡ string_bytes l.initial.text ++ child_numbers l.child-items)
+    Extends (string_bytes l.initial.text) (string_bytes l.text)
+    × (string_bytes l.text ++ child_numbers (drop l.child-index l.child-items) ≡ string_bytes l.initial.text ++ child_numbers l.child-items)

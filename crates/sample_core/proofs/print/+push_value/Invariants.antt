@@ -8,7 +8,9 @@ use Rattle.sample_core.proofs.print.+push_value.Given as goal
 -- the text begins as it did, and what stands there and the spelling of the elements to come is the whole
 abbrev pub invariant-push_list-loop-v : goal.invariant-push_list-loop-v
 invariant-push_list-loop-v l =
-    Extends (string_bytes l.initial.text) (string_bytes l.text) × (string_bytes l.text ++ spellings (list_of (map datum_of (drop l.v-index l.v-items))) ≡ string_bytes l.initial.text ++ spellings (list_of (map datum_of l.v-items)))
+    Extends (string_bytes l.initial.text) (string_bytes l.text)
+    × (string_bytes l.text ++ spellings (list_of (map datum_of (drop l.v-index l.v-items))) ≡ string_bytes l.initial.text
+    ++ spellings (list_of (map datum_of l.v-items)))
 
 abbrev pub decreases-push_value : goal.decreases-push_value
 decreases-push_value l = 3 * datum_size (datum_of l.sample.now)

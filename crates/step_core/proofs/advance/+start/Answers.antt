@@ -12,10 +12,19 @@ pub constant-requires : goal.constant-requires
 constant-requires g t c = fits_i_pre _ _ (subst (FitsRows _) (ap rows_in c.in-IPre.is) c.requires)
 
 pub start-requires : goal.start-requires
-start-requires g t c = (search rules, fits_first _ _ (map_network row_number c.in-Seq.g) (subst (FitsRows _) (ap rows_in c.in-Seq.is ∙ (λ i. seq (map_network row_number (sym c.get.ensures i)) (map_network row_number c.in-Seq.g))) c.requires))
+start-requires g t c = (
+  search rules,
+  fits_first _ _ (map_network row_number c.in-Seq.g)
+      (subst (FitsRows _) (ap rows_in c.in-Seq.is ∙ (λ i. seq (map_network row_number (sym c.get.ensures i)) (map_network row_number c.in-Seq.g))) c.requires),
+)
 
 pub start-answer-requires : goal.start-answer-requires
-start-answer-requires g t c = (search rules, fits_second _ (map_network row_number c.in-Seq.f) _ (subst (FitsRows _) (ap rows_in c.in-Seq.is ∙ (λ i. seq (map_network row_number c.in-Seq.f) (map_network row_number (sym c.get-in-Seq.ensures i)))) c.requires))
+start-answer-requires g t c = (
+  search rules,
+  fits_second _ (map_network row_number c.in-Seq.f) _
+      (subst (FitsRows _) (ap rows_in c.in-Seq.is ∙ (λ i. seq (map_network row_number c.in-Seq.f) (map_network row_number (sym c.get-in-Seq.ensures i))))
+      c.requires),
+)
 
 pub returns-in-Arr : goal.returns-in-Arr
 returns-in-Arr g t c = if_ok c.call.result _ _ (λ y h. arr_begun _ _ _ _ _ _ (ap rows_in c.in-Arr.is) h) c.call.ensures

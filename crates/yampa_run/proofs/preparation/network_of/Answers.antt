@@ -12,4 +12,5 @@ returns-in-Ok-check_types-clause-network c =
 pub returns-in_ok-refusal-in-Err-check_types-clause-refused :
     goal.returns-in_ok-refusal-in-Err-check_types-clause-refused
 returns-in_ok-refusal-in-Err-check_types-clause-refused c =
-    types_refused c.args.bytes.now _ _ c.in-Err-check_types.fault c.in-Ok.ensures.found c.in-Err-check_types.ensures c.in_ok-refusal-in-Err-check_types.field-0 c.in_ok-refusal-in-Err-check_types.ensures
+    types_refused c.args.bytes.now _ _ c.in-Err-check_types.fault c.in-Ok.ensures.found c.in-Err-check_types.ensures c.in_ok-refusal-in-Err-check_types.field-0
+    c.in_ok-refusal-in-Err-check_types.ensures

@@ -16,14 +16,21 @@ seen_copied None = refl
 seen_copied (Some v) = refl
 
 -- what a line holds, by the value before as the state keeps it
-read_as_kept : (A : TypeTree) (n : ℕ) (o : Option (Bor Sample)) (kept : Option Sample) (line : List ℕ) (x : ℕ × Datum) → option_copied o ≡ kept → line_read A n (before_view o) line ≡ Ok x → line_read A n (option_map datum_of kept) line ≡ Ok x
+read_as_kept : (A : TypeTree) (n : ℕ) (o : Option (Bor Sample)) (kept : Option Sample) (line : List ℕ) (x : ℕ × Datum) → option_copied o ≡ kept
+    → line_read A n (before_view o) line ≡ Ok x → line_read A n (option_map datum_of kept) line ≡ Ok x
 read_as_kept A n o kept line x e h = subst (λ (b : Option Datum). line_read A n b line ≡ Ok x) (seen_copied o ∙ ap (option_map datum_of) e) h
 
 pub run_sample-requires-clause-typed : goal.run_sample-requires-clause-typed
-run_sample-requires-clause-typed g c = (allowed c.reading_laws.ensures.found _ _ _ _ c.args.line.now (sample_view (c.in-Ok.step, c.in-Ok.sample)) c.requires (read_as_kept (type_of c.args.ty.now) c.args.number _ c.args.state.now.before c.args.line.now _ c.as_ref.ensures.value c.in-Ok.ensures)).typed
+run_sample-requires-clause-typed g c =
+    (allowed c.reading_laws.ensures.found _ _ _ _ c.args.line.now (sample_view (c.in-Ok.step, c.in-Ok.sample)) c.requires
+    (read_as_kept (type_of c.args.ty.now) c.args.number _ c.args.state.now.before c.args.line.now _ c.as_ref.ensures.value c.in-Ok.ensures)).typed
 
 pub run_sample-requires-clause-later : goal.run_sample-requires-clause-later
-run_sample-requires-clause-later g c = (allowed c.reading_laws.ensures.found _ _ _ _ c.args.line.now (sample_view (c.in-Ok.step, c.in-Ok.sample)) c.requires (read_as_kept (type_of c.args.ty.now) c.args.number _ c.args.state.now.before c.args.line.now _ c.as_ref.ensures.value c.in-Ok.ensures)).later
+run_sample-requires-clause-later g c =
+    (allowed c.reading_laws.ensures.found _ _ _ _ c.args.line.now (sample_view (c.in-Ok.step, c.in-Ok.sample)) c.requires
+    (read_as_kept (type_of c.args.ty.now) c.args.number _ c.args.state.now.before c.args.line.now _ c.as_ref.ensures.value c.in-Ok.ensures)).later
 
 pub run_sample-requires-clause-room : goal.run_sample-requires-clause-room
-run_sample-requires-clause-room g c = (allowed c.reading_laws.ensures.found _ _ _ _ c.args.line.now (sample_view (c.in-Ok.step, c.in-Ok.sample)) c.requires (read_as_kept (type_of c.args.ty.now) c.args.number _ c.args.state.now.before c.args.line.now _ c.as_ref.ensures.value c.in-Ok.ensures)).room
+run_sample-requires-clause-room g c =
+    (allowed c.reading_laws.ensures.found _ _ _ _ c.args.line.now (sample_view (c.in-Ok.step, c.in-Ok.sample)) c.requires
+    (read_as_kept (type_of c.args.ty.now) c.args.number _ c.args.state.now.before c.args.line.now _ c.as_ref.ensures.value c.in-Ok.ensures)).room
