@@ -37,13 +37,25 @@ elements-loop-element-preserved t c =
     (map datum_of c.loop-element.all.items) c.loop-element.rest.now c.in-Some.element.now c.in_ok-sample.after.now (datum_of c.in_ok-sample.sample) s
     (omega arith) c.in_ok-sample.ensures.exact in
     let i = c.in_ok-push.ensures.items in
-    let k : length c.args.text.now - length c.loop-element.all.items - 1 ≡ length c.args.text.now - length c.push.new.self.items = omega (arith, simp length-append at (ap length i)) in
-    let m : map datum_of c.push.new.self.items ≡ map datum_of c.loop-element.all.items ++ datum_of c.in_ok-sample.sample ∷ [] = grind (arith, common_steps, i) in
-    (ap (λ vs. with_front vs (elements_at (value_at c.args.size (type_of c.args.ty.now)) (length c.args.text.now - length c.push.new.self.items) c.in_ok-sample.after.now)) m ∙ ap (λ n. with_front (map datum_of c.loop-element.all.items ++ datum_of c.in_ok-sample.sample ∷ []) (elements_at (value_at c.args.size (type_of c.args.ty.now)) n c.in_ok-sample.after.now)) (sym k) ∙ sym o ∙ c.loop-element.invariant.0, let n : length c.in_ok-sample.after.now ≤ length c.in-Some.element.now = c.in_ok-sample.ensures.shorter in omega (arith, simp length-append at (ap length i)))
+    let k : length c.args.text.now - length c.loop-element.all.items - 1 ≡ length c.args.text.now - length c.push.new.self.items =
+    omega (arith, simp length-append at (ap length i)) in
+    let m : map datum_of c.push.new.self.items ≡ map datum_of c.loop-element.all.items ++ datum_of c.in_ok-sample.sample
+    ∷ [] = grind (arith, common_steps, i) in (
+      ap (λ vs.
+          with_front vs
+          (elements_at (value_at c.args.size (type_of c.args.ty.now)) (length c.args.text.now - length c.push.new.self.items) c.in_ok-sample.after.now)) m
+          ∙ ap
+          (λ n. with_front (map datum_of c.loop-element.all.items ++ datum_of c.in_ok-sample.sample ∷ [])
+          (elements_at (value_at c.args.size (type_of c.args.ty.now)) n c.in_ok-sample.after.now)) (sym k) ∙ sym o ∙ c.loop-element.invariant.0,
+      let n : length c.in_ok-sample.after.now ≤ length c.in-Some.element.now = c.in_ok-sample.ensures.shorter in
+          omega (arith, simp length-append at (ap length i)),
+    )
 
 pub element_value-returns-in-Some-clause-exact : goal.element_value-returns-in-Some-clause-exact
 element_value-returns-in-Some-clause-exact t c =
     let f : SFits w64 c.in-Some.n = search rules in
     let k : type_of c.args.ty.now ≡ int_ty = ap type_of c.in-Int.is in
-    let n : value_at c.args.size (type_of c.args.ty.now) c.args.text.now ≡ Ok (int c.in-Some.n, c.in-Some.rest.now) = ap (λ A. value_at c.args.size A c.args.text.now) k ∙ spells_read c.args.size int_ty c.args.text.now (int c.in-Some.n) c.in-Some.rest.now c.in-Some.ensures.spelled in
+    let n : value_at c.args.size (type_of c.args.ty.now) c.args.text.now ≡ Ok (int c.in-Some.n, c.in-Some.rest.now) =
+    ap (λ A. value_at c.args.size A c.args.text.now) k
+    ∙ spells_read c.args.size int_ty c.args.text.now (int c.in-Some.n) c.in-Some.rest.now c.in-Some.ensures.spelled in
     simp to_z-of_z n
