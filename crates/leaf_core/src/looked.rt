@@ -34,7 +34,9 @@ impl<'v> Looked<'v> {
 /// Where the value of a path stands: of the input, of a parameter, or of a part of what stands on a
 /// path. `None` for another expression, and where there is no such parameter.
 pub fn path_at<'v>(expr: &Expr, params: &'v [Sample], x: &'v Sample) -> Option<&'v Sample>
-    ensures { IfSome result (λ v. datum_of v.now ≡ value_of (expression_of expr.now) (map datum_of params.now) (datum_of x.now)) }
+    ensures { IfSome result
+        (λ v. datum_of v.now ≡
+        value_of (expression_of expr.now) (map datum_of params.now) (datum_of x.now)) }
 {
     match expr {
         Expr::Input => Some(x),

@@ -99,7 +99,8 @@ pub fn part<'v>(form: &Expr, value: &'v Sample) -> &'v Sample
 
 /// Parameter k, from 0; `None` where there is none.
 pub fn param(params: &[Sample], k: u32) -> Option<&Sample>
-    ensures { MatchOption result (param_at (map datum_of params.now) k ≡ unit) (λ v. param_at (map datum_of params.now) k ≡ datum_of v.now) }
+    ensures { MatchOption result (param_at (map datum_of params.now) k ≡ unit)
+        (λ v. param_at (map datum_of params.now) k ≡ datum_of v.now) }
 {
     match params.get(k as usize) {
         Some(value) => Some(value),
@@ -119,7 +120,8 @@ pub fn copied_param(alloc: Global, params: &[Sample], k: u32) -> Result<Sample, 
 
 /// The element of a list value at a place, from 0; `None` outside.
 pub fn element(value: &Sample, at: i64) -> Option<&Sample>
-    ensures { MatchOption result ((d : Datum) → element_at (datum_of value.now) at d ≡ d) (λ found. (d : Datum) → element_at (datum_of value.now) at d ≡ datum_of found.now) }
+    ensures { MatchOption result ((d : Datum) → element_at (datum_of value.now) at d ≡ d)
+        (λ found. (d : Datum) → element_at (datum_of value.now) at d ≡ datum_of found.now) }
 {
     let Sample::List(all) = value else {
         return None;

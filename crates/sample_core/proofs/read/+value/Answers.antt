@@ -38,5 +38,7 @@ pub element_value-returns-in-Some-clause-exact : goal.element_value-returns-in-S
 element_value-returns-in-Some-clause-exact t c =
     let f : SFits w64 c.in-Some.n = search rules in
     let k : type_of c.args.ty.now ≡ int_ty = ap type_of c.in-Int.is in
-    let n : value_at c.args.size (type_of c.args.ty.now) c.args.text.now ≡ Ok (int c.in-Some.n, c.in-Some.rest.now) = ap (λ A. value_at c.args.size A c.args.text.now) k ∙ spells_read c.args.size int_ty c.args.text.now (int c.in-Some.n) c.in-Some.rest.now c.in-Some.ensures.spelled in
+    let n : value_at c.args.size (type_of c.args.ty.now) c.args.text.now ≡ Ok (int c.in-Some.n, c.in-Some.rest.now) =
+    ap (λ A. value_at c.args.size A c.args.text.now) k ∙
+    spells_read c.args.size int_ty c.args.text.now (int c.in-Some.n) c.in-Some.rest.now c.in-Some.ensures.spelled in
     simp to_z-of_z n

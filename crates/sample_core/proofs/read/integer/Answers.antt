@@ -8,5 +8,6 @@ use Rattle.sample_core.proofs.read.integer.Goals as goal
 pub returns-in-Some-clause-exact : goal.returns-in-Some-clause-exact
 returns-in-Some-clause-exact c =
     let f : SFits w64 c.in-Some.n = search rules in
-    let n : number_at c.args.size c.args.text.now ≡ Ok (int c.in-Some.n, c.in-Some.rest.now) = number_read c.args.size c.in-Some.n c.args.text.now c.in-Some.rest.now c.in-Some.ensures.spelled in
+    let n : number_at c.args.size c.args.text.now ≡ Ok (int c.in-Some.n, c.in-Some.rest.now) =
+    number_read c.args.size c.in-Some.n c.args.text.now c.in-Some.rest.now c.in-Some.ensures.spelled in
     simp to_z-of_z n
