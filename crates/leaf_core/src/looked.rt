@@ -35,8 +35,8 @@ impl<'v> Looked<'v> {
 /// path. `None` for another expression, and where there is no such parameter.
 pub fn path_at<'v>(expr: &Expr, params: &'v [Sample], x: &'v Sample) -> Option<&'v Sample>
     ensures { IfSome result
-        (λ v. datum_of v.now ≡ value_of (expression_of expr.now) (map datum_of params.now)
-        (datum_of x.now)) }
+        (λ v. datum_of v.now ≡
+        value_of (expression_of expr.now) (map datum_of params.now) (datum_of x.now)) }
 {
     match expr {
         Expr::Input => Some(x),

@@ -120,9 +120,8 @@ pub fn copied_param(alloc: Global, params: &[Sample], k: u32) -> Result<Sample, 
 
 /// The element of a list value at a place, from 0; `None` outside.
 pub fn element(value: &Sample, at: i64) -> Option<&Sample>
-    ensures { MatchOption result ((d : Datum)
-        → element_at (datum_of value.now) at d ≡ d) (λ found. (d : Datum)
-        → element_at (datum_of value.now) at d ≡ datum_of found.now) }
+    ensures { MatchOption result ((d : Datum) → element_at (datum_of value.now) at d ≡ d)
+        (λ found. (d : Datum) → element_at (datum_of value.now) at d ≡ datum_of found.now) }
 {
     let Sample::List(all) = value else {
         return None;

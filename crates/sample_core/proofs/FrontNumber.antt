@@ -20,8 +20,8 @@ pub digit_in_range : (b : ℕ) → is_ascii_digit b ≡ true → (48 ≤ b) × (
 digit_in_range b h = (grind (arith, nat_tests), grind (arith, nat_tests))
 
 -- one digit more is digits
-pub digits_more : (ds : List ℕ) (i : ℕ) → i < length ds → is_ascii_digit (get_or ds i 0) ≡ true → all_ascii_digits (take i ds) ≡ true
-    → all_ascii_digits (take (i + 1) ds) ≡ true
+pub digits_more : (ds : List ℕ) (i : ℕ) → i < length ds → is_ascii_digit (get_or ds i 0) ≡ true → all_ascii_digits (take i ds) ≡ true →
+    all_ascii_digits (take (i + 1) ds) ≡ true
 digits_more [] i l h e = absurd (omega arith)
 digits_more (d ∷ ds) zero l h e = tells_all_ascii_digits.more d [] (digit_in_range d h) refl
 digits_more (d ∷ ds) (suc i) l h e =
@@ -30,8 +30,8 @@ digits_more (d ∷ ds) (suc i) l h e =
     ap (λ n. all_ascii_digits (take n (d ∷ ds))) (sym k) ∙ tells_all_ascii_digits.more d (take (i + 1) ds) p.0 (digits_more ds i (omega arith) h p.1)
 
 -- one digit more, ten times the number and the digit
-pub value_more : (ds : List ℕ) (i : ℕ) → i < length ds → is_ascii_digit (get_or ds i 0) ≡ true
-    → digits_value 10 (take (i + 1) ds) ≡ digits_value 10 (take i ds) * 10 + (get_or ds i 0 - 48)
+pub value_more : (ds : List ℕ) (i : ℕ) → i < length ds → is_ascii_digit (get_or ds i 0) ≡ true →
+    digits_value 10 (take (i + 1) ds) ≡ digits_value 10 (take i ds) * 10 + (get_or ds i 0 - 48)
 value_more ds i l h =
     let r : (48 ≤ get_or ds i 0) × (get_or ds i 0 ≤ 57) = digit_in_range (get_or ds i 0) h in
     omega (arith, digits_value_more 10 ds i l, digit_value_digit (get_or ds i 0) r)
@@ -41,8 +41,8 @@ pub plain_spelled : (n : ℕ) (text rest : List ℕ) → n < 10 ^ 18 → text �
 plain_spelled n text rest l e g = record { typed = int_has (record { sfits = omega arith }); spells = e; apart = g }
 
 -- a number with a '-'
-pub minus_spelled : (n : ℕ) (text rest : List ℕ) → 0 < n → n < 10 ^ 18 → text ≡ decimal n ++ rest → goes_on rest ≡ false
-    → SpellsValue (int (neg_ℤ (pos n))) int_ty (45 ∷ text) rest
+pub minus_spelled : (n : ℕ) (text rest : List ℕ) → 0 < n → n < 10 ^ 18 → text ≡ decimal n ++ rest → goes_on rest ≡ false →
+    SpellsValue (int (neg_ℤ (pos n))) int_ty (45 ∷ text) rest
 minus_spelled zero text rest s l e g = absurd (omega arith)
 minus_spelled (suc n) text rest s l e g = record { typed = int_has (record { sfits = omega arith }); spells = ap (λ x. 45 ∷ x) e; apart = g }
 
@@ -53,8 +53,8 @@ behind_minus (b ∷ bs) digits e l h =
     ap (λ x. x ∷ bs) e ∙ ap (λ x. 45 ∷ x) (sym (take_all (length (b ∷ bs) - 1) bs (omega arith)) ∙ h)
 
 -- the spelling of a number in front, and what is behind it
-pub front_spelled : (text : List ℕ) (i : ℕ) → all_ascii_digits (take i text) ≡ true → 0 < length (take i text)
-    → (get_or (take i text) 0 0 ≡ 48 → length (take i text) ≡ 1) → digits_value 10 (take i text) < 10 ^ 18
-    → text ≡ decimal (digits_value 10 (take i text)) ++ drop i text
-front_spelled text i a s f l = sym (take-append-drop i text)
-    ∙ ap (λ x. x ++ drop i text) (sym (decimal-digits_value (numerals_by_value _ tells_all_ascii_digits) (take i text) a s f (omega arith)))
+pub front_spelled : (text : List ℕ) (i : ℕ) → all_ascii_digits (take i text) ≡ true → 0 < length (take i text) →
+    (get_or (take i text) 0 0 ≡ 48 → length (take i text) ≡ 1) → digits_value 10 (take i text) < 10 ^ 18 →
+    text ≡ decimal (digits_value 10 (take i text)) ++ drop i text
+front_spelled text i a s f l = sym (take-append-drop i text) ∙
+    ap (λ x. x ++ drop i text) (sym (decimal-digits_value (numerals_by_value _ tells_all_ascii_digits) (take i text) a s f (omega arith)))

@@ -331,10 +331,7 @@ fn element_value<'t>(
     ensures shorter { IfOk result (λ x. length x.1.now ≤ length text.now) }
 {
     match ty {
-        Ty::Int => match front_number(text) {
-            Some((n, rest)) => Ok((Sample::Int(n), rest)),
-            None => value(alloc, size, text, ty),
-        },
+        Ty::Int => integer(size, text),
         _ => value(alloc, size, text, ty),
     }
 }

@@ -68,7 +68,8 @@ impl Model for SamplePair {
     ghost use Rattle.sample_core.specs.Depth.{depth_le};
     ghost use Rattle.std.proofs.Common.{arith};
 
-    ghost size_decreases = { λ a h. Prim.omega (arith, depth_le a.parts.value.0, depth_le a.parts.value.1) };
+    ghost size_decreases = { λ a h.
+        Prim.omega (arith, depth_le a.parts.value.0, depth_le a.parts.value.1) };
 }
 
 impl Model for SampleChild {

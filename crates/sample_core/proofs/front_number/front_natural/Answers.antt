@@ -11,6 +11,6 @@ returns-clause-spelled c =
     let o = rw f at (c.if-not-is_one_spelling.ensures.first refl) in
     let v : c.front_digits-len.result.1 ≡ digits_value 10 (take c.front_digits-len.result.0 c.args.text.now) = c.front_digits-len.ensures.value in
     let l : digits_value 10 (take c.front_digits-len.result.0 c.args.text.now) < 10 ^ 18 = rw v at c.front_digits-len.ensures.small in
-    front_spelled c.args.text.now c.front_digits-len.result.0 c.front_digits-len.ensures.digits s o l
-    ∙ ap (λ n. decimal n ++ drop c.front_digits-len.result.0 c.args.text.now) (sym v)
-    ∙ ap (λ x. decimal c.front_digits-len.result.1 ++ x) (sym c.split_at.ensures.back)
+    front_spelled c.args.text.now c.front_digits-len.result.0 c.front_digits-len.ensures.digits s o l ∙
+    ap (λ n. decimal n ++ drop c.front_digits-len.result.0 c.args.text.now) (sym v) ∙
+    ap (λ x. decimal c.front_digits-len.result.1 ++ x) (sym c.split_at.ensures.back)

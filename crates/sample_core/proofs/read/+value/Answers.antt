@@ -1,14 +1,10 @@
-use Rattle.std.proofs.Common.{◌≡◌, ◌≢◌, Err, ◌-◌, ◌∷◌, ◌++◌, [], length, map, ◌≤◌, length-append, rules, arith, sym, ap, ◌∙◌, Ok, w64, SFits}
+use Rattle.std.proofs.Common.{◌≡◌, ◌≢◌, Err, ◌-◌, ◌∷◌, ◌++◌, [], length, map, ◌≤◌, length-append, rules, arith, sym, ap, ◌∙◌}
 use Rattle.std.proofs.lemmas.Grind.{common_steps}
 use Rattle.sample_core.specs.Reading.{value_at, elements_at}
 use Rattle.sample_core.specs.declared.fault.ValueFault.TheVariants.{Memory}
 use Rattle.sample_core.specs.ValueView.{datum_of}
 use Rattle.sample_core.specs.TypeView.{type_of}
 use Rattle.sample_core.proofs.ReadSteps.{with_front, front_alone, none_more, one_more, fault_inside}
-use Rattle.std.proofs.lemmas.Int.{to_z-of_z}
-use Rattle.sample_core.specs.Datum.{int}
-use Rattle.sample_core.specs.TypeTree.{int_ty}
-use Rattle.sample_core.proofs.ReadingIs.{spells_read}
 use Rattle.sample_core.proofs.read.+value.Goals as goal
 
 pub elements-returns-clause-exact : goal.elements-returns-clause-exact
@@ -50,12 +46,3 @@ elements-loop-element-preserved t c =
       let n : length c.in_ok-sample.after.now ≤ length c.in-Some.element.now = c.in_ok-sample.ensures.shorter in
           omega (arith, simp length-append at (ap length i)),
     )
-
-pub element_value-returns-in-Some-clause-exact : goal.element_value-returns-in-Some-clause-exact
-element_value-returns-in-Some-clause-exact t c =
-    let f : SFits w64 c.in-Some.n = search rules in
-    let k : type_of c.args.ty.now ≡ int_ty = ap type_of c.in-Int.is in
-    let n : value_at c.args.size (type_of c.args.ty.now) c.args.text.now ≡ Ok (int c.in-Some.n, c.in-Some.rest.now) =
-    ap (λ A. value_at c.args.size A c.args.text.now) k
-    ∙ spells_read c.args.size int_ty c.args.text.now (int c.in-Some.n) c.in-Some.rest.now c.in-Some.ensures.spelled in
-    simp to_z-of_z n
