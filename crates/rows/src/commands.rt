@@ -105,11 +105,9 @@ yampa run net | yampa 1 input Int (iPre -0) ; -0 => status 1 network: number at 
 yampa run net | yampa 1 input Int (arr (p -1)) => status 1 network: number at byte 26
 yampa run net | yampa 1 input Int (arr (fst x)) => status 1 network: mismatch in (at 0)
 yampa run net | ‹parameter› => status 1 network: no parameter in (at 0)
-yampa run net | yampa 1 input (Pair Int Int) (>>> (arr (fst x)) (iPre (pair 1 2))) => status 1
-network: types differ at (at 1)
+yampa run net | yampa 1 input (Pair Int Int) (>>> (arr (fst x)) (iPre (pair 1 2))) => status 1 network: types differ at (at 1)
 yampa run net | ‹late truth› => status 1 network: types differ at (at 1)
-yampa run net | yampa 1 input Int (>>> (arr x) (>>> (arr x) (arr (add x true)))) => status 1
-network: mismatch in (at 1 1 0)
+yampa run net | yampa 1 input Int (>>> (arr x) (>>> (arr x) (arr (add x true)))) => status 1 network: mismatch in (at 1 1 0)
 yampa run net | ‹same› => run
 yampa run net | ; a comment␤yampa 1 input Int identity => run
 yampa run net | yampa 1␉input␍␤Int␤(>>> (arr x)(iPre 3)) => run
@@ -119,8 +117,7 @@ yampa run net | yampa 1 input Int ~(arr x) => status 1 network: syntax at byte 1
 yampa run net | ‹tallest› => run
 yampa run net | ‹too tall› => status 1 network: too deep
 yampa run net | yampa 1 input Int (arr {255*(neg }x{255*)}) => run
-yampa run net | yampa 1 input Int (arr {256*(neg }x{256*)}) => status 1 network: expression too
-deep in (at 0)
+yampa run net | yampa 1 input Int (arr {256*(neg }x{256*)}) => status 1 network: expression too deep in (at 0)
 yampa run net | yampa 1 input {31*(Event }Int{31*)}(arr x) => run
 yampa run net | ‹deep event› => status 1 network: expression too deep in (at 0)
 yampa run net | yampa 1 input {32*(Event }Int{32*)}(arr x) => status 1 network: too deep

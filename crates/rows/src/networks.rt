@@ -226,23 +226,18 @@ yampa 1 input Int(>>>(arr(add x 1));␤(iPre 0)) => yampa 1␤input Int␤(>>> (
 yampa 1 input (Pair Int Bool) identity => yampa 1␤input (Pair Int Bool)␤(arr x)␤
 yampa 1 input Unit (constant -7) => yampa 1␤input Unit␤(arr (then unit -7))␤
 yampa 1 input Int (arr (gate Int x true)) => yampa 1␤input Int␤(arr (if true x (none Int)))␤
-yampa 1 input Int (arr (attach Int (event 1) 2)) => yampa 1␤input
-Int␤(arr (on (event 1) (none Int) (event (pair (snd x) (then (fst x) 2)))))␤
+yampa 1 input Int (arr (attach Int (event 1) 2)) => yampa 1␤input Int␤(arr (on (event 1) (none Int) (event (pair (snd x) (then (fst x) 2)))))␤
 yampa 1 input Int (>>> (arr x) (iPre 0)) => yampa 1␤input Int␤(>>> (arr x) (iPre 0))␤
-␉; first␍; (␤yampa␍1;)␤input;x␤(List Int)(>>>(arr x)(iPre(list Int)));end => yampa 1␤input
-(List Int)␤(>>> (arr x) (iPre (list Int)))␤
+␉; first␍; (␤yampa␍1;)␤input;x␤(List Int)(>>>(arr x)(iPre(list Int)));end => yampa 1␤input (List Int)␤(>>> (arr x) (iPre (list Int)))␤
 yampa 1 input Int identity ; (time) => yampa 1␤input Int␤(arr x)␤
 § What is printed is read to the same.
-yampa 1␤input Int␤(>>> (arr (add x 1)) (iPre 0))␤ => yampa 1␤input
-Int␤(>>> (arr (add x 1)) (iPre 0))␤
+yampa 1␤input Int␤(>>> (arr (add x 1)) (iPre 0))␤ => yampa 1␤input Int␤(>>> (arr (add x 1)) (iPre 0))␤
 yampa 1␤input (Pair Int Bool)␤(arr x)␤ => yampa 1␤input (Pair Int Bool)␤(arr x)␤
 yampa 1␤input Unit␤(arr (then unit -7))␤ => yampa 1␤input Unit␤(arr (then unit -7))␤
 yampa 1␤input Int␤(arr (if true x (none Int)))␤ => yampa 1␤input Int␤(arr (if true x (none Int)))␤
-yampa 1␤input Int␤(arr (on (event 1) (none Int) (event (pair (snd x) (then (fst x) 2)))))␤ => yampa
-1␤input Int␤(arr (on (event 1) (none Int) (event (pair (snd x) (then (fst x) 2)))))␤
+yampa 1␤input Int␤(arr (on (event 1) (none Int) (event (pair (snd x) (then (fst x) 2)))))␤ => yampa 1␤input Int␤(arr (on (event 1) (none Int) (event (pair (snd x) (then (fst x) 2)))))␤
 yampa 1␤input Int␤(>>> (arr x) (iPre 0))␤ => yampa 1␤input Int␤(>>> (arr x) (iPre 0))␤
-yampa 1␤input (List Int)␤(>>> (arr x) (iPre (list Int)))␤ => yampa 1␤input
-(List Int)␤(>>> (arr x) (iPre (list Int)))␤
+yampa 1␤input (List Int)␤(>>> (arr x) (iPre (list Int)))␤ => yampa 1␤input (List Int)␤(>>> (arr x) (iPre (list Int)))␤
 yampa 1␤input Int␤(arr x)␤ => yampa 1␤input Int␤(arr x)␤
 ";
 

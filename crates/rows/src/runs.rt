@@ -186,8 +186,7 @@ static RUNS: &str = "
 ‹increment› | 5␤6 => 0␤status 1 stream: line 2: step
 ‹increment› | 5␤+1 == => 0␤status 1 stream: line 2: no value at 0
 ‹increment› | ␤ => status 1 stream: line 1: no value at 0
-yampa 1 input (Pair Int Int) (>>> (iPre (pair 1 2)) (arr (sub (fst x) (mul (snd x) (neg 3))))) |
-(pair 10 -1)␤+2 (pair 0 0)␤+3 (pair 5 => 7␤7␤status 1 stream: line 3: no value at 7
+yampa 1 input (Pair Int Int) (>>> (iPre (pair 1 2)) (arr (sub (fst x) (mul (snd x) (neg 3))))) | (pair 10 -1)␤+2 (pair 0 0)␤+3 (pair 5 => 7␤7␤status 1 stream: line 3: no value at 7
 § One expression for each shape that has a closure of its own, and one for all others.
 ‹same› | 5␤+1 -6 => 5␤-6␤
 yampa 1 input Int (arr 7) | 5␤+1 6 => 7␤7␤

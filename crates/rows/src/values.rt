@@ -158,8 +158,7 @@ Int | 99999999999999999999 => number range at 0
 (List (Event Bool)) | (list none (event true)) => (list none (event true)) to 24
 (Pair Int (List Int)) | (pair 1 (list 2 3)) => (pair 1 (list 2 3)) to 19
 (Pair (List (Event Bool)) Unit) | (pair (list) unit) => (pair (list) unit) to 18
-(Pair (List (Event Bool)) Unit) | (pair (list (event true) none (event false)) unit) =>
-(pair (list (event true) none (event false)) unit) to 50
+(Pair (List (Event Bool)) Unit) | (pair (list (event true) none (event false)) unit) => (pair (list (event true) none (event false)) unit) to 50
 (List Int) | (list{13000* 1234}) => (list{13000* 1234}) to 65006
 (List Int) | (list ) => no value at 6
 (List Int) | (list(1) => no value at 5
@@ -176,20 +175,15 @@ Int | 99999999999999999999 => number range at 0
 (Pair Int (Event Int)) | (pair 5 7) => other type at 8
 (Pair Int (Event Int)) | (pair 5 (event true)) => other type at 15
 (Pair Int (Event Int)) | (pair 5 (event 99999999999999999999)) => number range at 15
-{30*(Pair (List Int) }Int{30*)} | {30*(pair (list[1000* 7]) }7{30*)} =>
-{30*(pair (list[1000* 7]) }7{30*)} to 60421
+{30*(Pair (List Int) }Int{30*)} | {30*(pair (list[1000* 7]) }7{30*)} => {30*(pair (list[1000* 7]) }7{30*)} to 60421
 {31*(List }Int{31*)} | {31*(list }7{19999* 7}{31*)} => {31*(list }7{19999* 7}{31*)} to 40216
 § A value with every form of types in it, and faults in it.
 (Pair (List (Event Int)) (Pair Bool Unit)) | (pair (list (event 05) => no value at 19
-(Pair (List (Event Int)) (Pair Bool Unit)) |
-(pair (list (event 5 none) (pair true unit)) => no value at 20
+(Pair (List (Event Int)) (Pair Bool Unit)) | (pair (list (event 5 none) (pair true unit)) => no value at 20
 (Pair (List (Event Int)) (Pair Bool Unit)) | (pair (list (event 5) nope) => no value at 22
-(Pair (List (Event Int)) (Pair Bool Unit)) | (pair (list (event 5)) (pair true units)) => no value
-at 34
-(Pair (List (Event Int)) (Pair Bool Unit)) |
-(pair (list (event 5)) (pair true unit) => no value at 39
-(Pair (List (Event Int)) (Pair Bool Unit)) | (pair (list (event 5))(pair true unit)) => no value at
-22
+(Pair (List (Event Int)) (Pair Bool Unit)) | (pair (list (event 5)) (pair true units)) => no value at 34
+(Pair (List (Event Int)) (Pair Bool Unit)) | (pair (list (event 5)) (pair true unit) => no value at 39
+(Pair (List (Event Int)) (Pair Bool Unit)) | (pair (list (event 5))(pair true unit)) => no value at 22
 (Pair (List (Event Int)) (Pair Bool Unit)) | (pair (list  none) (pair true unit)) => no value at 12
 (Pair (List (Event Int)) (Pair Bool Unit)) | (pair (list none ) ( => no value at 17
 (Pair (List (Event Int)) (Pair Bool Unit)) | (pair (listnone) ( => no value at 6
@@ -201,38 +195,20 @@ at 34
 (Pair (List (Event Int)) (Pair Bool Unit)) | (pair (list (event 5)) true) => other type at 23
 (Pair (List (Event Int)) (Pair Bool Unit)) | (pair (list) (pair 1 unit)) => other type at 19
 (Pair (List (Event Int)) (Pair Bool Unit)) | (pair (list) (pair true (list))) => other type at 24
-(Pair (List (Event Int)) (Pair Bool Unit)) | (pair (list) (pair 99999999999999999999 unit)) => other
-type at 19
+(Pair (List (Event Int)) (Pair Bool Unit)) | (pair (list) (pair 99999999999999999999 unit)) => other type at 19
 (Pair (List (Event Int)) (Pair Bool Unit)) | none => other type at 0
-(Pair (List (Event Int)) (Pair Bool Unit)) |
-(pair (list (event 9223372036854775808)) => number range at 19
-(Pair (List (Event Int)) (Pair Bool Unit)) |
-(pair (list (event 1) (event -9223372036854775809)) => number range at 29
-(Pair (List (Event Int)) (Pair Bool Unit)) |
-(pair (list (event 9223372036854775808) 5) => number range at 19
+(Pair (List (Event Int)) (Pair Bool Unit)) | (pair (list (event 9223372036854775808)) => number range at 19
+(Pair (List (Event Int)) (Pair Bool Unit)) | (pair (list (event 1) (event -9223372036854775809)) => number range at 29
+(Pair (List (Event Int)) (Pair Bool Unit)) | (pair (list (event 9223372036854775808) 5) => number range at 19
 (Pair (List (Event Int)) (Pair Bool Unit)) | (pair (list (event -0) 5) => no value at 19
 (Pair (List (Event Int)) (Pair Bool Unit)) | (pair (list 5 (event -0)) => other type at 12
-(Pair (List (Event Int)) (Pair Bool Unit)) |
-(pair (list (event 5) none (event -7)) (pair true unit)) =>
-(pair (list (event 5) none (event -7)) (pair true unit)) to 56
-(Pair (List (Event Int)) (Pair Bool Unit)) |
-(pair (list (event 5) none (event -7)) (pair true unit))  =>
-(pair (list (event 5) none (event -7)) (pair true unit)) to 56
-(Pair (List (Event Int)) (Pair Bool Unit)) |
-(pair (list (event 5) none (event -7)) (pair true unit))) =>
-(pair (list (event 5) none (event -7)) (pair true unit)) to 56
-(Pair (List (Event Int)) (Pair Bool Unit)) |
-(pair (list (event 5) none (event -7)) (pair true unit))5 =>
-(pair (list (event 5) none (event -7)) (pair true unit)) to 56
-(Pair (List (Event Int)) (Pair Bool Unit)) |
-(pair (list (event 5) none (event -7)) (pair true unit))x =>
-(pair (list (event 5) none (event -7)) (pair true unit)) to 56
-(Pair (List (Event Int)) (Pair Bool Unit)) |
-(pair (list (event 5) none (event -7)) (pair true unit))(list) =>
-(pair (list (event 5) none (event -7)) (pair true unit)) to 56
-(Pair (List (Event Int)) (Pair Bool Unit)) |
-(pair (list (event 5) none (event -7)) (pair true unit))␤ =>
-(pair (list (event 5) none (event -7)) (pair true unit)) to 56
+(Pair (List (Event Int)) (Pair Bool Unit)) | (pair (list (event 5) none (event -7)) (pair true unit)) => (pair (list (event 5) none (event -7)) (pair true unit)) to 56
+(Pair (List (Event Int)) (Pair Bool Unit)) | (pair (list (event 5) none (event -7)) (pair true unit))  => (pair (list (event 5) none (event -7)) (pair true unit)) to 56
+(Pair (List (Event Int)) (Pair Bool Unit)) | (pair (list (event 5) none (event -7)) (pair true unit))) => (pair (list (event 5) none (event -7)) (pair true unit)) to 56
+(Pair (List (Event Int)) (Pair Bool Unit)) | (pair (list (event 5) none (event -7)) (pair true unit))5 => (pair (list (event 5) none (event -7)) (pair true unit)) to 56
+(Pair (List (Event Int)) (Pair Bool Unit)) | (pair (list (event 5) none (event -7)) (pair true unit))x => (pair (list (event 5) none (event -7)) (pair true unit)) to 56
+(Pair (List (Event Int)) (Pair Bool Unit)) | (pair (list (event 5) none (event -7)) (pair true unit))(list) => (pair (list (event 5) none (event -7)) (pair true unit)) to 56
+(Pair (List (Event Int)) (Pair Bool Unit)) | (pair (list (event 5) none (event -7)) (pair true unit))␤ => (pair (list (event 5) none (event -7)) (pair true unit)) to 56
 ";
 
 #[test]

@@ -140,28 +140,16 @@ Int | 3 | (list Bool) => (List Bool) (list)
 (List Int) | (list 10 11) | (len x) => Int 2
 (List Int) | (list) | (len x) => Int 0
 § Short forms, which mean what their core forms do.
-(Pair (Event Int) (Event Int)) | (pair (event 1) (event 2)) | (lMerge (fst x) (snd x)) =>
-(Event Int) (event 1) of (on (fst x) (snd x) (event (snd x)))
-(Pair (Event Int) (Event Int)) | (pair none (event 2)) | (lMerge (fst x) (snd x)) => (Event Int)
-(event 2) of (on (fst x) (snd x) (event (snd x)))
-(Pair (Event Int) (Event Int)) | (pair (event 1) none) | (lMerge (fst x) (snd x)) => (Event Int)
-(event 1) of (on (fst x) (snd x) (event (snd x)))
-(Pair (Event Int) (Event Int)) | (pair none none) | (lMerge (fst x) (snd x)) => (Event Int) none of
-(on (fst x) (snd x) (event (snd x)))
-(Pair (Event Int) Bool) | (pair (event 4) true) | (gate Int (fst x) (snd x)) => (Event Int)
-(event 4) of (if (snd x) (fst x) (none Int))
-(Pair (Event Int) Bool) | (pair (event 4) false) | (gate Int (fst x) (snd x)) => (Event Int) none of
-(if (snd x) (fst x) (none Int))
-(Pair (Event Bool) Int) | (pair (event true) 9) | (tag Int (fst x) (snd x)) => (Event Int) (event 9)
-of (on (fst x) (none Int) (event (then (fst x) (snd x))))
-(Pair (Event Bool) Int) | (pair none 9) | (tag Int (fst x) (snd x)) => (Event Int) none of
-(on (fst x) (none Int) (event (then (fst x) (snd x))))
-(Pair (Event Bool) Int) | (pair (event true) 9) | (attach (Pair Bool Int) (fst x) (snd x)) =>
-(Event (Pair Bool Int)) (event (pair true 9)) of
-(on (fst x) (none (Pair Bool Int)) (event (pair (snd x) (then (fst x) (snd x)))))
-(Pair (Event Bool) Int) | (pair none 9) | (attach (Pair Bool Int) (fst x) (snd x)) =>
-(Event (Pair Bool Int)) none of
-(on (fst x) (none (Pair Bool Int)) (event (pair (snd x) (then (fst x) (snd x)))))
+(Pair (Event Int) (Event Int)) | (pair (event 1) (event 2)) | (lMerge (fst x) (snd x)) => (Event Int) (event 1) of (on (fst x) (snd x) (event (snd x)))
+(Pair (Event Int) (Event Int)) | (pair none (event 2)) | (lMerge (fst x) (snd x)) => (Event Int) (event 2) of (on (fst x) (snd x) (event (snd x)))
+(Pair (Event Int) (Event Int)) | (pair (event 1) none) | (lMerge (fst x) (snd x)) => (Event Int) (event 1) of (on (fst x) (snd x) (event (snd x)))
+(Pair (Event Int) (Event Int)) | (pair none none) | (lMerge (fst x) (snd x)) => (Event Int) none of (on (fst x) (snd x) (event (snd x)))
+(Pair (Event Int) Bool) | (pair (event 4) true) | (gate Int (fst x) (snd x)) => (Event Int) (event 4) of (if (snd x) (fst x) (none Int))
+(Pair (Event Int) Bool) | (pair (event 4) false) | (gate Int (fst x) (snd x)) => (Event Int) none of (if (snd x) (fst x) (none Int))
+(Pair (Event Bool) Int) | (pair (event true) 9) | (tag Int (fst x) (snd x)) => (Event Int) (event 9) of (on (fst x) (none Int) (event (then (fst x) (snd x))))
+(Pair (Event Bool) Int) | (pair none 9) | (tag Int (fst x) (snd x)) => (Event Int) none of (on (fst x) (none Int) (event (then (fst x) (snd x))))
+(Pair (Event Bool) Int) | (pair (event true) 9) | (attach (Pair Bool Int) (fst x) (snd x)) => (Event (Pair Bool Int)) (event (pair true 9)) of (on (fst x) (none (Pair Bool Int)) (event (pair (snd x) (then (fst x) (snd x)))))
+(Pair (Event Bool) Int) | (pair none 9) | (attach (Pair Bool Int) (fst x) (snd x)) => (Event (Pair Bool Int)) none of (on (fst x) (none (Pair Bool Int)) (event (pair (snd x) (then (fst x) (snd x)))))
 § The largest expressions: 100,000 nodes, and height 256 with 99,570 nodes.
 Int | 3 | (len (list Int{99998* 0})) => Int 99998
 Int | 3 | (len (list Int{392* [253*(neg ]x[253*)]})) => Int 392
