@@ -12,6 +12,7 @@ CRATES = [
     ("net_syntax", "Networks"),
     ("net_types", "The type checker"),
     ("net_text", "Texts of networks"),
+    ("cell_core", "Cells"),
     ("step_core", "Stepping"),
     ("stream_text", "Texts of streams"),
     ("command_line", "The command line"),

@@ -12,7 +12,7 @@ use Rattle.leaf_core.specs.KeyTree.{KeyTree}
 use Rattle.net_syntax.specs.Network.{Network, arr, seq, i_pre}
 use Rattle.net_syntax.specs.Typing as T
 use Rattle.leaf_core.proofs.Soundness.{typed_value}
-use Rattle.step_core.specs.Cell.{previous}
+use Rattle.cell_core.specs.Cell.{previous}
 use Rattle.step_core.specs.State.{State, arr_state, seq_state, cell_state}
 use Rattle.step_core.specs.Stepping as G
 use Rattle.step_core.specs.Stepping.{Starts, Steps}

@@ -3,21 +3,22 @@ use Rattle.std.proofs.Common.{◌≡◌, ℕ, suc, ◌+◌, ◌*◌, ◌/◌, �
 use Rattle.std.proofs.Math.Nat.{div-eq_of_lt}
 use Rattle.std.proofs.lemmas.Bool.{le-leb, lt-leb, le-ltb}
 use Rattle.std.specs.Int.{int_wrap, w64}
-use Rattle.sample_core.specs.Datum.{Datum, no_event, event, int, int_of}
+use Rattle.sample_core.specs.Datum.{Datum, unit, bool, int, pair, no_event, event, list, right, int_of}
 use Rattle.net_syntax.specs.SignalFunction.{TimedList, last_or, values, fold_events, accum_by_value, if_event, delay_value, after_value, repeatedly_value, time_value, integral_value, when}
 use Rattle.step_core.specs.CountedFunction.{StandsVia, TakesSample}
 use Rattle.step_core.specs.CountedForms.{counted_cell}
-use Rattle.step_core.specs.Cell.{Cell, Keeps, cell_step, after_cell, queue, waiting, over, recurring, ticking, summing}
+use Rattle.cell_core.specs.Cell.{Cell, Keeps, cell_step, after_cell, previous, queue, latest, accumulating, waiting, over, recurring, ticking, summing}
 use Rattle.step_core.specs.StandsByForm.{CellStands, AccumStands}
 use Rattle.net_syntax.proofs.Steps.{last_or-push}
 use Rattle.net_syntax.proofs.PlainSteps.{answer-by_past}
 use Rattle.net_syntax.proofs.CellSteps.{values_push, fold_events-append}
 use Rattle.step_core.proofs.CountedFunctions.{Via-here}
-use Rattle.step_core.proofs.DelayCells.{pick, waits-out, waits_first}
-use Rattle.step_core.proofs.KeptCells.{Kept, keeps_step}
+use Rattle.cell_core.specs.CellLaws.{handed_next, put_in, IsRight}
+use Rattle.cell_core.proofs.DelayCells.{pick, waits-out, waits_first}
+use Rattle.cell_core.proofs.KeptCells.{cell_step_law}
 use Rattle.step_core.proofs.PlainCounts.{tally-ones}
 
-pub cell_starts : (k : Cell) (h : TimedList → Datum) (x : ℕ × Datum) (v : Datum) → Keeps k h x [] → v ≡ h (x ∷ [])
+pub cell_starts : (k : Cell) (h : TimedList → Datum) (x : ℕ × Datum) (v : Datum) → Keeps right k h x [] → v ≡ h (x ∷ [])
     → TakesSample (StandsVia (CellStands k)) (counted_cell h) [] x v 1
 cell_starts k h x v e a = record {
   stands = Via-here (counted_cell h) (x ∷ []) (record { h = h; first_sample = x; further = []; keeps = e; same_past = refl; same = refl });
@@ -32,8 +33,8 @@ wrapped-zero = refl
 pub delay_starts : (q : ℕ) (c : Datum) (z : ℕ × Datum)
     → TakesSample (StandsVia (CellStands (queue (suc q) c ((suc q, z.1) ∷ [])))) (counted_cell (delay_value (suc q) c)) [] z c 1
 delay_starts q c z =
-    cell_starts (queue (suc q) c ((suc q, z.1) ∷ [])) (delay_value (suc q) c) z c (c, refl, omega arith, waits_first q c z.1)
-    (sym (waits-out (suc q) 0 c c ((suc q, z.1) ∷ []) (0 ∷ []) (z.1 ∷ []) (waits_first q c z.1)))
+    cell_starts (queue (suc q) c ((suc q, z.1) ∷ [])) (delay_value (suc q) c) z c (c, refl, omega arith, waits_first (suc q) c z.1 (omega arith))
+    (sym (waits-out (suc q) 0 c c ((suc q, z.1) ∷ []) (0 ∷ []) (z.1 ∷ []) (waits_first (suc q) c z.1 (omega arith))))
 
 pub after_starts : (q : ℕ) (c : Datum) (k : Cell) (v : Datum) (z : ℕ × Datum) → after_cell q c ≡ (k, v)
     → TakesSample (StandsVia (CellStands k)) (counted_cell (after_value q c)) [] z v 1
@@ -65,10 +66,34 @@ pub integral_starts : (z : ℕ × Datum) → TakesSample (StandsVia (CellStands 
 integral_starts z = cell_starts (summing (pos 0) (int_of z.1)) integral_value z (int (pos 0)) (refl, ap int (sym wrapped-zero), refl)
     (ap int (sym wrapped-zero))
 
-pub cell_took : (k k' : Cell) (h : TimedList → Datum) (y : ℕ × Datum) (q : TimedList) (x : ℕ × Datum) (v : Datum) → cell_step k x ≡ (k', v) → Keeps k h y q
+-- a leaf that gives the event's value leaves what is handed in
+put_in-right : (acc a : Datum) → put_in right acc a ≡ a
+put_in-right acc unit = refl
+put_in-right acc (bool b) = refl
+put_in-right acc (int n) = refl
+put_in-right acc (pair v w) = refl
+put_in-right acc no_event = refl
+put_in-right acc (event v) = refl
+put_in-right acc (list vs) = refl
+
+handed-right : (k : Cell) (a : Datum) → handed_next k right a ≡ a
+handed-right (previous v) a = refl
+handed-right (queue q out is) a = refl
+handed-right (latest v) a = refl
+handed-right (accumulating acc) a = put_in-right acc a
+handed-right (waiting left c) a = refl
+handed-right over a = refl
+handed-right (recurring q left c) a = refl
+handed-right (ticking z) a = refl
+handed-right (summing z before) a = refl
+
+pub cell_took : (k k' : Cell) (h : TimedList → Datum) (y : ℕ × Datum) (q : TimedList) (x : ℕ × Datum) (v : Datum)
+    → cell_step k x ≡ (k', v) → Keeps right k h y q
     → TakesSample (StandsVia (CellStands k')) (counted_cell h) (y ∷ q) x v 1
 cell_took k k' h y q x v e i =
-    let r : Kept h y q x (k', v) = subst (Kept h y q x) e (keeps_step k h y q x i) in
+    let here : IsRight right h y (q ++ x ∷ []) (cell_step k x) =
+    subst (λ a. IsRight right h y (q ++ x ∷ []) (cell_step k (x.0, a))) (handed-right k x.1) (cell_step_law right k h y q x i) in
+    let r : IsRight right h y (q ++ x ∷ []) (k', v) = subst (IsRight right h y (q ++ x ∷ [])) e here in
     record {
       stands = Via-here (counted_cell h) (y ∷ (q ++ x ∷ []))
           (record { h = h; first_sample = y; further = q ++ x ∷ []; keeps = r.0; same_past = refl; same = refl });

@@ -8,7 +8,7 @@ use Rattle.std.proofs.lemmas.List.{map_push}
 use Rattle.step_core.specs.CountedFunction.{CountedFunction, IsCountedFunction, StandsVia, TakesSample}
 use Rattle.step_core.specs.CountedForms.{functions_of, same_input, route_by, counted_k_switch, counted_p_switch, counted_resume, counted_resume_each}
 use Rattle.step_core.specs.CountedContext.{CountedContext, context_with_param, context_with_olds, counted_meaning, counted_meanings}
-use Rattle.step_core.specs.Cell.{previous, queue, latest, recurring}
+use Rattle.cell_core.specs.Cell.{previous, queue, latest, recurring}
 use Rattle.step_core.specs.State.{State, States, Scope, Frozen, scope, no_frozen, and_frozen, unstarted, paused, params_of, frozens_of, push_param, all_unstarted, all_paused, arr_state, par_state, loop_state, cell_state, accum_state, k_switch_state, p_switch_state}
 use Rattle.step_core.specs.Stands.{StandsDirectly, StandDirectly, Denotes, AllDenote, FrozenDenotes, Stands}
 use Rattle.step_core.specs.Stepping

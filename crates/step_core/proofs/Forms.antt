@@ -7,7 +7,7 @@ use Rattle.step_core.specs.CountedForms.{counted_cell, same_input, route_by, cou
 use Rattle.step_core.specs.StandsByForm.{ArrStands, SeqStands, FirstStands, ParStands, LoopStands, AccumStands, SwitchStands, DSwitchStands, RSwitchStands, KSwitchStands, PSwitchStands, CellStands}
 use Rattle.step_core.specs.Stepping.{event_in, restart_in}
 use Rattle.step_core.proofs.PlainCounts.{arr_took, seq_took, first_took, loop_took}
-use Rattle.step_core.specs.Cell.{Cell, cell_step}
+use Rattle.cell_core.specs.Cell.{Cell, cell_step}
 use Rattle.step_core.proofs.CellCounts.{accum_took, cell_took}
 use Rattle.step_core.proofs.SwitchCounts.{switch_took, switch_over_took, d_switch_took, d_switch_over_took, k_switch_took, k_switch_over_took}
 use Rattle.step_core.proofs.RestartCounts.{r_switch_took, r_switch_over_took, cut_is}

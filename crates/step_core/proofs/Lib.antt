@@ -9,8 +9,6 @@ pub mod RestartCounts
 pub mod MemberCounts
 pub mod CountedContexts
 pub mod OldCounts
-pub mod DelayCells
-pub mod KeptCells
 pub mod CellCounts
 pub mod Forms
 pub mod EngineMeets

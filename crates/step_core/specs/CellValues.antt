@@ -7,7 +7,7 @@ use Rattle.leaf_core.specs.Expression.{Expression}
 use Rattle.leaf_core.specs.ExpressionValue.{value_of}
 use Rattle.leaf_core.specs.KeyTree.{KeyTree}
 use Rattle.net_syntax.specs.Network.{Network, arr, seq, i_pre}
-use Rattle.step_core.specs.Cell.{previous}
+use Rattle.cell_core.specs.Cell.{previous}
 use Rattle.step_core.specs.State.{State, arr_state, seq_state, cell_state}
 use Rattle.step_core.specs.Stepping.{Starts, Steps}
 use Rattle.step_core.specs.EmptyScope.{empty_scope}

@@ -3,7 +3,6 @@ pub mod EnvironmentVisits
 pub mod CountedFunction
 pub mod CountedForms
 pub mod CountedContext
-pub mod Cell
 pub mod State
 pub mod StandsByForm
 pub mod Stands

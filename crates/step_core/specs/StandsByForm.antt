@@ -4,7 +4,7 @@ use Rattle.sample_core.specs.Datum.{Datum, left, right}
 use Rattle.net_syntax.specs.SignalFunction.{TimedList, each_value, with_values, pair_samples, values, accum_by_value, fold_events, feedback_values, first_event, rights, watch, last_or, collect, pieces}
 use Rattle.step_core.specs.CountedFunction.{CountedFunction, IsCountedFunction}
 use Rattle.step_core.specs.CountedForms.{counted_arr, counted_cell, counted_seq, counted_first, counted_loop, counted_par, counted_switch, counted_d_switch, counted_r_switch, counted_k_switch, counted_p_switch, functions_of}
-use Rattle.step_core.specs.Cell.{Cell, Keeps}
+use Rattle.cell_core.specs.Cell.{Cell, Keeps}
 
 -- In each record A and B are what the parts stand for; the whole has the counted function c after
 -- the past q.
@@ -51,12 +51,13 @@ pub record LoopStands (v : Datum) (A : CountedFunction → TimedList
   pub first_part : A f (pair_samples q (feedback_values z f.function q (length q)))
   pub same : c ≡ counted_loop z f
 
--- a cell: it keeps what its formula needs of the past
+-- a cell: it keeps what its formula needs of the past. An accumulator gets what it is handed in
+-- events
 pub record CellStands (k : Cell) (c : CountedFunction) (q : TimedList) : Type 0 where
   pub h : TimedList → Datum
   pub first_sample : ℕ × Datum
   pub further : TimedList
-  pub keeps : Keeps k h first_sample further
+  pub keeps : Keeps right k h first_sample further
   pub same_past : q ≡ first_sample ∷ further
   pub same : c ≡ counted_cell h
 

@@ -2,7 +2,7 @@
 use Rattle.std.specs.Prelude.{ℕ, zero, suc, List, [], ◌∷◌, ◌++◌, Option, Some, None}
 use Rattle.sample_core.specs.Datum.{Datum}
 use Rattle.net_syntax.specs.Network.{Network, Networks, no_members, and_member}
-use Rattle.step_core.specs.Cell.{Cell}
+use Rattle.cell_core.specs.Cell.{Cell}
 
 mutual
   -- the state of a network that runs, a node of the state for a node of the network

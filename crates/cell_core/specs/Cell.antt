@@ -1,8 +1,8 @@
--- The cells: what they keep, how they start and step, and what they stand for.
+-- The cells: what they keep, how they step, and what they stand for.
 use Rattle.std.specs.Prelude.{◌≡◌, ℕ, suc, ◌+◌, ◌-◌, ◌*◌, ◌/◌, ◌%◌, ◌≤◌, ℤ, pos, ◌+ℤ◌, ◌*ℤ◌, nat_le, if◌then◌else◌, List, [], ◌∷◌, ◌++◌, length, map}
 use Rattle.std.specs.Int.{int_wrap, w64}
 use Rattle.sample_core.specs.Datum.{Datum, int, event, no_event, int_of}
-use Rattle.net_syntax.specs.SignalFunction.{TimedList, values, times, time_at, last_or, i_pre_value, latest_event, delay_value, after_value, repeatedly_value, time_value, integral_value, latest_by}
+use Rattle.net_syntax.specs.SignalFunction.{TimedList, values, times, time_at, last_or, i_pre_value, latest_event, delay_value, if_event, fold_events, accum_by_value, after_value, repeatedly_value, time_value, integral_value, latest_by}
 
 -- what a cell keeps from one sample to the next
 pub data Cell : Type 0 where
@@ -12,6 +12,8 @@ pub data Cell : Type 0 where
   queue : ℕ → Datum → List (ℕ × Datum) → Cell
   -- `hold`: the value of the latest event
   latest : Datum → Cell
+  -- `accumBy`: the accumulator
+  accumulating : Datum → Cell
   -- `after`: the time left, or past
   waiting : ℕ → Datum → Cell
   over : Cell
@@ -41,11 +43,13 @@ enqueue q v r = (queue q r.0 (r.1 ++ (q, v) ∷ []), r.0)
 abbrev pub after_cell : ℕ → Datum → Cell × Datum
 after_cell q c = if nat_le q 0 then (over, event c) else (waiting q c, no_event)
 
--- the step of a cell
+-- the step of a cell. An `accumBy` is handed the new accumulator in the place of the event's value
 abbrev pub cell_step : Cell → ℕ × Datum → Cell × Datum
 cell_step (previous v) x = (previous x.1, v)
 cell_step (queue q out is) x = enqueue q x.1 (due x.0 out is)
 cell_step (latest v) x = (latest (latest_event v (x.1 ∷ [])), latest_event v (x.1 ∷ []))
+cell_step (accumulating acc) x =
+    (accumulating (latest_event acc (x.1 ∷ [])), if_event x.1 (latest_event acc (x.1 ∷ [])))
 cell_step (waiting left c) x = if nat_le left x.0 then (over, event c)
     else (waiting (left - x.0) c, no_event)
 cell_step over x = (over, no_event)
@@ -76,18 +80,20 @@ pub record QueueWaits (q now : ℕ) (c out : Datum) (is : List (ℕ × Datum)) (
   pub is_out : (later : ℕ) → now ≤ later → latest_by q later c early_times early_values ≡ out
   pub waiting_ones : Pending q now 1 is late_times late_values
 
--- h's formula after y and p is what the cell goes on with
-abbrev pub Keeps : Cell → (TimedList → Datum) → ℕ × Datum → TimedList → Type 0
-Keeps (previous v) h y p = (c : Datum) × (h ≡ i_pre_value c) × (v ≡ last_or c (values (y ∷ p)))
-Keeps (queue q out is) h y p = (c : Datum) × (h ≡ delay_value q c) × (1 ≤ q)
+-- h's formula after y and p is what the cell goes on with; g is what the leaf of an `accumBy` gives
+abbrev pub Keeps : (Datum → Datum) → Cell → (TimedList → Datum) → ℕ × Datum → TimedList → Type 0
+Keeps g (previous v) h y p = (c : Datum) × (h ≡ i_pre_value c) × (v ≡ last_or c (values (y ∷ p)))
+Keeps g (queue q out is) h y p = (c : Datum) × (h ≡ delay_value q c) × (1 ≤ q)
     × QueueWaits q (time_at (y ∷ p)) c out is (times (y ∷ p)) (values (y ∷ p))
-Keeps (latest v) h y p = (c : Datum) × (h ≡ (λ p. latest_event c (values p)))
+Keeps g (latest v) h y p = (c : Datum) × (h ≡ (λ p. latest_event c (values p)))
     × (v ≡ latest_event c (values (y ∷ p)))
-Keeps (waiting left c) h y p = (q : ℕ) × (h ≡ after_value q c) × (1 ≤ left)
+Keeps g (accumulating acc) h y p = (z : Datum) × (h ≡ accum_by_value g z)
+    × (acc ≡ fold_events g z (values (y ∷ p)))
+Keeps g (waiting left c) h y p = (q : ℕ) × (h ≡ after_value q c) × (1 ≤ left)
     × (time_at (y ∷ p) + left ≡ q)
-Keeps over h y p = (q : ℕ) × (c : Datum) × (h ≡ after_value q c) × (q ≤ time_at (y ∷ p))
-Keeps (recurring q left c) h y p = (h ≡ repeatedly_value q c) × (1 ≤ left) × (left ≤ q)
+Keeps g over h y p = (q : ℕ) × (c : Datum) × (h ≡ after_value q c) × (q ≤ time_at (y ∷ p))
+Keeps g (recurring q left c) h y p = (h ≡ repeatedly_value q c) × (1 ≤ left) × (left ≤ q)
     × (time_at (y ∷ p) + left ≡ q * suc (time_at (y ∷ p) / q))
-Keeps (ticking z) h y p = (h ≡ time_value) × (z ≡ int_wrap w64 (pos (time_at (y ∷ p))))
-Keeps (summing z before) h y p = (h ≡ integral_value) × (int z ≡ integral_value (y ∷ p))
+Keeps g (ticking z) h y p = (h ≡ time_value) × (z ≡ int_wrap w64 (pos (time_at (y ∷ p))))
+Keeps g (summing z before) h y p = (h ≡ integral_value) × (int z ≡ integral_value (y ∷ p))
     × (before ≡ last_or (int_of y.1) (map int_of (values p)))

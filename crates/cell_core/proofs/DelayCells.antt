@@ -3,7 +3,7 @@ use Rattle.std.proofs.Common.{◌≡◌, ℕ, suc, ◌+◌, ◌-◌, ◌≤◌, 
 use Rattle.std.proofs.lemmas.Bool.{cases_lt, le-leb, lt-leb}
 use Rattle.sample_core.specs.Datum.{Datum}
 use Rattle.net_syntax.specs.SignalFunction.{latest_by}
-use Rattle.step_core.specs.Cell.{Pending, none_pending, one_pending, QueueWaits, due, count_down}
+use Rattle.cell_core.specs.Cell.{Pending, none_pending, one_pending, QueueWaits, due, count_down}
 use Rattle.net_syntax.proofs.CellSteps.{latest_by-append}
 
 -- a choice by a comparison
@@ -110,18 +110,15 @@ waits-out q now c out is ts vs k =
     ∙ ap (λ o. latest_by q now o k.late_times k.late_values) (k.is_out now (le_refl now))
     ∙ pending-out q now out k.waiting_ones (le_refl 1)
 
-pub waits_first : (q : ℕ) (c v : Datum) → QueueWaits (suc q) 0 c c ((suc q, v) ∷ []) (0 ∷ []) (v ∷ [])
-waits_first q c v =
-    record {
-      early_times = [];
-      late_times = 0 ∷ [];
-      early_values = [];
-      late_values = v
-          ∷ [];
-      all_times = refl;
-      all_values = refl;
-      matched = refl;
-      is_out = λ later h. refl;
-      waiting_ones =
-          one_pending (omega arith) (omega arith) refl none_pending;
-    }
+pub waits_first : (q : ℕ) (c v : Datum) → 1 ≤ q → QueueWaits q 0 c c ((q, v) ∷ []) (0 ∷ []) (v ∷ [])
+waits_first q c v l = record {
+  early_times = [];
+  late_times = 0 ∷ [];
+  early_values = [];
+  late_values = v ∷ [];
+  all_times = refl;
+  all_values = refl;
+  matched = refl;
+  is_out = λ later k. refl;
+  waiting_ones = one_pending l (le_refl q) refl none_pending;
+}

@@ -1,0 +1,5 @@
+pub mod Queues
+pub mod Lines
+pub mod DelayCells
+pub mod KeptCells
+pub mod CellStarts

@@ -1,0 +1,25 @@
+-- What the code's cells are.
+use Rattle.std.specs.Prelude.{Some, None}
+use Rattle.sample_core.specs.Datum.{Datum}
+use Rattle.sample_core.specs.ValueView.{datum_of}
+use Rattle.sample_core.specs.declared.sample.Sample.{Sample}
+use Rattle.cell_core.specs.Cell.{Cell, previous, latest, accumulating, waiting, over, ticking, summing}
+use Rattle.cell_core.specs.Parts.{delay_of, recurring_of}
+use Rattle.cell_core.specs.declared.cell.Cell as C
+use Rattle.cell_core.specs.declared.cell.Cell.TheVariants as V
+
+-- the cell that a `Cell` is
+abbrev pub cell_of : C.Cell → Cell
+cell_of (V.IPre v) = previous (datum_of v)
+cell_of (V.Delay d) = delay_of d
+cell_of (V.Hold v) = latest (datum_of v)
+cell_of (V.AccumBy acc) = accumulating (datum_of acc)
+cell_of (V.After None) = over
+cell_of (V.After (Some w)) = waiting w.0 w.1
+cell_of (V.Repeatedly r) = recurring_of r
+cell_of (V.Time z) = ticking z
+cell_of (V.Integral z before) = summing z before
+
+-- the cell and the answer that a start or a step gives
+abbrev pub outcome_of : C.Cell × Sample → Cell × Datum
+outcome_of r = (cell_of r.0, datum_of r.1)

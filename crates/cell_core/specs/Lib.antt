@@ -1,0 +1,9 @@
+pub mod Cell
+pub mod Queue
+pub mod Entries
+pub mod Fronts
+pub mod Walk
+pub mod Parts
+pub mod CellView
+pub mod Start
+pub mod CellLaws

@@ -1,0 +1,119 @@
+// The cells.
+
+ghost use Rattle.std.specs.Prelude.{◌≡◌, ◌≢◌, ◌<◌, ◌^◌, IfOk, MatchOption};
+ghost use Rattle.sample_core.specs.Datum.{Datum};
+ghost use Rattle.sample_core.specs.ValueView.{datum_of};
+ghost use Rattle.cell_core.specs.CellView.{cell_of, outcome_of};
+ghost use Rattle.cell_core.specs.Cell.{cell_step, accumulating};
+ghost use Rattle.cell_core.specs.Start.{IsWithin, cell_start};
+
+use crate::delay::Delay;
+use crate::form::Form;
+use crate::recurring::Recurring;
+use crate::{start, step};
+use sample_core::{Memory, Sample, SampleChild};
+use std::alloc::Global;
+
+/// What a cell keeps from one sample to the next. Copies of it share its parts.
+#[derive(Drop)]
+pub enum Cell {
+    /// `iPre`: the sample before.
+    IPre(Sample),
+    /// `delay`: what is out, and what waits.
+    Delay(Delay),
+    /// `hold`: the value of the latest event, or the constant.
+    Hold(Sample),
+    /// `accumBy`: the accumulator.
+    AccumBy(Sample),
+    /// `after`: the time that is left and what its event will carry; nothing once it is past.
+    After(Option<(u64, SampleChild)>),
+    /// `repeatedly`: the time that is left to the next multiple.
+    Repeatedly(Recurring),
+    /// `time`: the time since the first sample, wrapping.
+    Time(i64),
+    /// `integral`: the sum so far, wrapping, and the sample before.
+    Integral(i64, i64),
+}
+
+impl Cell {
+    /// A cell after its first sample, and its answer to it. `constant` is the value of the form's
+    /// constant; `time` and `integral`, which have none, don't look at it. For `accumBy` the
+    /// sample is, in place of an event v, the event of the leaf's answer at the pair of the
+    /// constant and v. A `delay` and a `repeatedly` need a q of at least 1.
+    ///
+    /// `Memory` where a growth was refused, or a count of references is full.
+    pub fn start(
+        alloc: Global,
+        form: Form,
+        constant: Sample,
+        sample: &Sample,
+    ) -> Result<(Cell, Sample), Memory>
+        requires { IsWithin form }
+        ensures { IfOk result
+            (λ r. outcome_of r ≡ cell_start form (datum_of constant) (datum_of sample.now)) }
+    {
+        match form {
+            Form::IPre => start::i_pre(alloc, constant, sample),
+            Form::Delay(q) => start::delay(alloc, q, constant, sample),
+            Form::Hold => step::hold(alloc, &constant, sample),
+            Form::AccumBy => step::accum_by(alloc, &constant, sample),
+            Form::After(q) => start::after(alloc, q, constant),
+            Form::Repeatedly(q) => start::repeatedly(alloc, q, constant),
+            Form::Time => Ok(start::time()),
+            Form::Integral => Ok(start::integral(sample)),
+        }
+    }
+
+    /// The cell after one sample more, and its answer to it. `dt` is the time since the sample
+    /// before, at most 2^63 - 1. For `accumBy` the sample is, in place of an event v, the event of
+    /// the leaf's answer at the pair of the `accumulator` and v.
+    ///
+    /// Only a `delay` takes memory: `Memory` where a growth was refused, or a count of references
+    /// is full. This cell stays as it is.
+    pub fn step(&self, alloc: Global, dt: u64, sample: &Sample) -> Result<(Cell, Sample), Memory>
+        requires { dt < 2 ^ 63 }
+        ensures { IfOk result
+            (λ r. outcome_of r ≡ cell_step (cell_of self.now) (dt, datum_of sample.now)) }
+    {
+        match self {
+            Cell::IPre(before) => step::i_pre(alloc, before, sample),
+            Cell::Delay(delay) => step::delay(alloc, delay, dt, sample),
+            Cell::Hold(latest) => step::hold(alloc, latest, sample),
+            Cell::AccumBy(accumulator) => step::accum_by(alloc, accumulator, sample),
+            Cell::After(None) => Ok((Cell::After(None), Sample::NoEvent)),
+            Cell::After(Some((left, value))) => step::after(*left, value, dt),
+            Cell::Repeatedly(recurring) => step::repeatedly(recurring, dt),
+            Cell::Time(time) => Ok(step::time(*time, dt)),
+            Cell::Integral(sum, before) => Ok(step::integral(*sum, *before, dt, sample)),
+        }
+    }
+
+    /// The accumulator of an `accumBy`; nothing for another cell.
+    pub fn accumulator(&self) -> Option<&Sample>
+        ensures { MatchOption result ((acc : Datum) → cell_of self.now ≢ accumulating acc)
+            (λ acc. cell_of self.now ≡ accumulating (datum_of acc.now)) }
+    {
+        match self {
+            Cell::AccumBy(accumulator) => Some(accumulator),
+            _ => None,
+        }
+    }
+
+    /// The same cell, with its parts shared. It takes no memory; `Memory` only where a count of
+    /// references is full.
+    pub fn try_copy(&self, alloc: Global) -> Result<Cell, Memory>
+        ensures { IfOk result (λ c. cell_of c ≡ cell_of self.now) }
+    {
+        Ok(match self {
+            Cell::IPre(before) => Cell::IPre(before.try_copy(alloc)?),
+            Cell::Delay(delay) => Cell::Delay(delay.try_copy(alloc)?),
+            Cell::Hold(latest) => Cell::Hold(latest.try_copy(alloc)?),
+            Cell::AccumBy(accumulator) => Cell::AccumBy(accumulator.try_copy(alloc)?),
+            Cell::After(None) => Cell::After(None),
+            Cell::After(Some((left, value))) => Cell::After(Some((*left, value.try_copy()?))),
+            Cell::Repeatedly(recurring) => Cell::Repeatedly(recurring.try_copy()?),
+            Cell::Time(time) => Cell::Time(*time),
+            Cell::Integral(sum, before) => Cell::Integral(*sum, *before),
+        })
+    }
+}

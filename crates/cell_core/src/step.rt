@@ -1,0 +1,151 @@
+// How each cell steps.
+
+ghost use Rattle.std.specs.Prelude.{◌≡◌, ◌<◌, ◌^◌, pos, ◌+ℤ◌, ◌*ℤ◌, IfOk};
+ghost use Rattle.std.specs.Int.{int_wrap, w64};
+ghost use Rattle.sample_core.specs.Datum.{unit};
+ghost use Rattle.sample_core.specs.ValueView.{datum_of};
+ghost use Rattle.cell_core.specs.CellView.{cell_of, outcome_of};
+ghost use Rattle.cell_core.specs.Parts.{delay_of, recurring_of};
+ghost use Rattle.cell_core.specs.Cell.{cell_step, previous, latest, accumulating, waiting, ticking, summing};
+
+use crate::cell::Cell;
+use crate::delay::Delay;
+use crate::recurring::Recurring;
+use crate::start::whole_of;
+use sample_core::{Memory, Sample, SampleChild};
+use std::alloc::Global;
+
+/// An `iPre` answers the sample before and keeps this one.
+pub(crate) fn i_pre(
+    alloc: Global,
+    before: &Sample,
+    sample: &Sample,
+) -> Result<(Cell, Sample), Memory>
+    ensures { IfOk result
+        (λ r. outcome_of r ≡ cell_step (previous (datum_of before.now)) (0, datum_of sample.now)) }
+{
+    let kept = sample.try_copy(alloc)?;
+    let answer = before.try_copy(alloc)?;
+    Ok((Cell::IPre(kept), answer))
+}
+
+/// A `delay` lets out what is due, and the sample waits.
+pub(crate) fn delay(
+    alloc: Global,
+    delay: &Delay,
+    dt: u64,
+    sample: &Sample,
+) -> Result<(Cell, Sample), Memory>
+    ensures { IfOk result
+        (λ r. outcome_of r ≡ cell_step (delay_of delay.now) (dt, datum_of sample.now)) }
+{
+    let (delay, answer) = delay.step(alloc, dt, sample)?;
+    Ok((Cell::Delay(delay), answer))
+}
+
+/// A `hold` keeps and answers an event's value, else what it has kept.
+pub(crate) fn hold(alloc: Global, kept: &Sample, sample: &Sample) -> Result<(Cell, Sample), Memory>
+    ensures { IfOk result
+        (λ r. outcome_of r ≡ cell_step (latest (datum_of kept.now)) (0, datum_of sample.now)) }
+{
+    let value = match sample {
+        Sample::Event(value) => value.get(),
+        _ => kept,
+    };
+    let kept = value.try_copy(alloc)?;
+    let answer = value.try_copy(alloc)?;
+    Ok((Cell::Hold(kept), answer))
+}
+
+/// An `accumBy` keeps an event's value and answers the event.
+pub(crate) fn accum_by(
+    alloc: Global,
+    kept: &Sample,
+    sample: &Sample,
+) -> Result<(Cell, Sample), Memory>
+    ensures { IfOk result
+        (λ r. outcome_of r
+        ≡ cell_step (accumulating (datum_of kept.now)) (0, datum_of sample.now)) }
+{
+    match sample {
+        Sample::Event(value) => {
+            let accumulator = value.get().try_copy(alloc)?;
+            let answer = sample.try_copy(alloc)?;
+            Ok((Cell::AccumBy(accumulator), answer))
+        }
+        _ => {
+            let accumulator = kept.try_copy(alloc)?;
+            Ok((Cell::AccumBy(accumulator), Sample::NoEvent))
+        }
+    }
+}
+
+/// An `after` that isn't past: its event comes where no more than dt is left.
+pub(crate) fn after(left: u64, value: &SampleChild, dt: u64) -> Result<(Cell, Sample), Memory>
+    ensures { IfOk result
+        (λ r. outcome_of r ≡ cell_step (waiting left value.now) (dt, unit)) }
+{
+    let value = value.try_copy()?;
+    if left <= dt {
+        Ok((Cell::After(None), Sample::Event(value)))
+    } else {
+        Ok((Cell::After(Some((left - dt, value))), Sample::NoEvent))
+    }
+}
+
+/// A `repeatedly`: its event comes where no more than dt is left to a multiple.
+pub(crate) fn repeatedly(recurring: &Recurring, dt: u64) -> Result<(Cell, Sample), Memory>
+    ensures { IfOk result
+        (λ r. outcome_of r ≡ cell_step (recurring_of recurring.now) (dt, unit)) }
+{
+    let (recurring, answer) = recurring.step(dt)?;
+    Ok((Cell::Repeatedly(recurring), answer))
+}
+
+/// A `time` is dt more.
+pub(crate) fn time(before: i64, dt: u64) -> (Cell, Sample)
+    requires { dt < 2 ^ 63 }
+    ensures { outcome_of result ≡ cell_step (ticking before) (dt, unit) }
+{
+    let time = wrapped_sum(before, signed(dt));
+    (Cell::Time(time), Sample::Int(time))
+}
+
+/// An `integral` is dt times the sample before more.
+pub(crate) fn integral(sum: i64, before: i64, dt: u64, sample: &Sample) -> (Cell, Sample)
+    requires { dt < 2 ^ 63 }
+    ensures { outcome_of result ≡ cell_step (summing sum before) (dt, datum_of sample.now) }
+{
+    let sum = wrapped_area(sum, before, dt);
+    (Cell::Integral(sum, whole_of(sample)), Sample::Int(sum))
+}
+
+// The sum and dt times the number modulo 2^64, read as signed.
+fn wrapped_area(sum: i64, before: i64, dt: u64) -> i64
+    requires { dt < 2 ^ 63 }
+    ensures { result ≡ int_wrap w64 (sum +ℤ (pos dt *ℤ before)) }
+{
+    wrapped_sum(sum, wrapped_product(signed(dt), before))
+}
+
+// A step as a signed number.
+fn signed(dt: u64) -> i64
+    requires { dt < 2 ^ 63 }
+    ensures { result ≡ pos dt }
+{
+    dt as i64
+}
+
+// The sum modulo 2^64, read as signed.
+fn wrapped_sum(m: i64, n: i64) -> i64
+    ensures { result ≡ int_wrap w64 (m +ℤ n) }
+{
+    m.wrapping_add(n)
+}
+
+// The product modulo 2^64, read as signed.
+fn wrapped_product(m: i64, n: i64) -> i64
+    ensures { result ≡ int_wrap w64 (m *ℤ n) }
+{
+    m.wrapping_mul(n)
+}
