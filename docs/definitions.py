@@ -13,6 +13,7 @@ CRATES = [
     ("net_types", "The type checker"),
     ("net_text", "Texts of networks"),
     ("cell_core", "Cells"),
+    ("state_core", "States"),
     ("step_core", "Stepping"),
     ("stream_text", "Texts of streams"),
     ("command_line", "The command line"),

@@ -13,10 +13,10 @@ use Rattle.net_syntax.specs.Network.{Network, arr, seq, i_pre}
 use Rattle.net_syntax.specs.Typing as T
 use Rattle.leaf_core.proofs.Soundness.{typed_value}
 use Rattle.cell_core.specs.Cell.{previous}
-use Rattle.step_core.specs.State.{State, arr_state, seq_state, cell_state}
+use Rattle.state_core.specs.State.{State, arr_state, seq_state, cell_state}
 use Rattle.step_core.specs.Stepping as G
 use Rattle.step_core.specs.Stepping.{Starts, Steps}
-use Rattle.step_core.specs.EmptyScope.{empty_scope}
+use Rattle.state_core.specs.EmptyScope.{empty_scope}
 use Rattle.step_core.specs.RowTyping.{RowTyped, RowsTyped, FitsRows, row_expression, expression_in}
 use Rattle.step_core.specs.CellValues.{HoldsCells, arr_holds, seq_holds, i_pre_holds, BeginsWithState, StartOf, StepOf, StartsTyped, StepsTyped, IsFirst}
 

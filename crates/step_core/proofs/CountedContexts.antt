@@ -5,13 +5,13 @@ use Rattle.sample_core.specs.Datum.{Datum}
 use Rattle.net_syntax.specs.SignalFunction.{TimedList, SignalFunction, route, par_function, switch_at, watch, first_event, pair_samples, step_of, freeze_all, resume, collect}
 use Rattle.net_syntax.specs.Network.{Network, Networks, par, k_switch, p_switch, no_members, and_member}
 use Rattle.net_syntax.specs.Meaning.{old_at, meaning, meanings}
-use Rattle.step_core.specs.Visits.{VisitCounts, counts_at, visits, visits_all, freeze_counts, and_one, add_counts, sum_of_all, sum_by_route, switch_counts, resume_counts}
+use Rattle.state_core.specs.Visits.{VisitCounts, counts_at, visits, visits_all, freeze_counts, and_one, add_counts, sum_of_all, sum_by_route, switch_counts, resume_counts}
 use Rattle.net_syntax.specs.Weight.{weight}
-use Rattle.step_core.specs.CountedFunction.{CountedFunction, IsCountedFunction}
-use Rattle.step_core.specs.CountedForms.{functions_of, counts_of_all, route_by, counted_resume, counted_resume_each, counted_par, counted_k_switch, counted_p_switch}
-use Rattle.step_core.specs.CountedContext.{CountedContext, context_in, context_with_param, context_with_olds, counted_meaning, counted_meanings}
-use Rattle.step_core.specs.State.{States, Scope, Frozens, Frozen, no_state, and_state, scope, no_frozen, and_frozen, append_frozens, frozen_at, push_param, push_olds, all_unstarted, all_paused}
-use Rattle.step_core.specs.Stands.{StandDirectly, Denotes, AllDenote, FrozenDenotes}
+use Rattle.state_core.specs.CountedFunction.{CountedFunction, IsCountedFunction}
+use Rattle.state_core.specs.CountedForms.{functions_of, counts_of_all, route_by, counted_resume, counted_resume_each, counted_par, counted_k_switch, counted_p_switch}
+use Rattle.state_core.specs.CountedContext.{CountedContext, context_in, context_with_param, context_with_olds, counted_meaning, counted_meanings}
+use Rattle.state_core.specs.State.{States, Scope, Frozens, Frozen, no_state, and_state, scope, no_frozen, and_frozen, append_frozens, frozen_at, push_param, push_olds, all_unstarted, all_paused}
+use Rattle.state_core.specs.Stands.{StandDirectly, Denotes, AllDenote, FrozenDenotes}
 use Rattle.net_syntax.proofs.Meanings.{IsSignal-meaning}
 use Rattle.step_core.proofs.VisitBounds.{IsCount-visits}
 use Rattle.step_core.proofs.VisitSums.{AllCounts}

@@ -3,14 +3,14 @@ use Rattle.std.proofs.Common.{◌≡◌, ℕ, suc, ◌+◌, List, [], ◌∷◌,
 use Rattle.sample_core.specs.Datum.{Datum, unit, left, right, pair, list, list_of, no_event}
 use Rattle.net_syntax.specs.SignalFunction.{TimedList, SignalFunction, last_or, each_value, first_event, rights, watch, collect, i_pre_value, latest_event, values, if_event, IsSignalFunction}
 use Rattle.net_syntax.specs.Network.{Network, Networks, arr, loop_pre, i_pre, delay, hold, accum_by, after, repeatedly, switch, d_switch, r_switch, p_switch}
-use Rattle.step_core.specs.Visits.{first_and_one}
+use Rattle.state_core.specs.Visits.{first_and_one}
 use Rattle.std.proofs.lemmas.List.{map_push}
-use Rattle.step_core.specs.CountedFunction.{CountedFunction, IsCountedFunction, StandsVia, TakesSample}
-use Rattle.step_core.specs.CountedForms.{functions_of, same_input, route_by, counted_k_switch, counted_p_switch, counted_resume, counted_resume_each}
-use Rattle.step_core.specs.CountedContext.{CountedContext, context_with_param, context_with_olds, counted_meaning, counted_meanings}
+use Rattle.state_core.specs.CountedFunction.{CountedFunction, IsCountedFunction, StandsVia, TakesSample}
+use Rattle.state_core.specs.CountedForms.{functions_of, same_input, route_by, counted_k_switch, counted_p_switch, counted_resume, counted_resume_each}
+use Rattle.state_core.specs.CountedContext.{CountedContext, context_with_param, context_with_olds, counted_meaning, counted_meanings}
 use Rattle.cell_core.specs.Cell.{previous, queue, latest, recurring}
-use Rattle.step_core.specs.State.{State, States, Scope, Frozen, scope, no_frozen, and_frozen, unstarted, paused, params_of, frozens_of, push_param, all_unstarted, all_paused, arr_state, par_state, loop_state, cell_state, accum_state, k_switch_state, p_switch_state}
-use Rattle.step_core.specs.Stands.{StandsDirectly, StandDirectly, Denotes, AllDenote, FrozenDenotes, Stands}
+use Rattle.state_core.specs.State.{State, States, Scope, Frozen, scope, no_frozen, and_frozen, unstarted, paused, params_of, frozens_of, push_param, all_unstarted, all_paused, arr_state, par_state, loop_state, cell_state, accum_state, k_switch_state, p_switch_state}
+use Rattle.state_core.specs.Stands.{StandsDirectly, StandDirectly, Denotes, AllDenote, FrozenDenotes, Stands}
 use Rattle.step_core.specs.Stepping
 use Rattle.step_core.specs.Stepping.{Starts, StartsEach, Resumes, Steps, StepsEach, event_in, restart_in}
 use Rattle.net_syntax.proofs.Steps.{signal-nil}

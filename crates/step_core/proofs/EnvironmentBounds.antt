@@ -3,7 +3,7 @@ use Rattle.std.proofs.Common.{List, [], ◌∷◌}
 use Rattle.sample_core.specs.Datum.{Datum}
 use Rattle.net_syntax.specs.Network.{Network}
 use Rattle.net_syntax.specs.Environment.{Environment, context_of, closed, param, frozen}
-use Rattle.step_core.specs.Visits.{visits}
+use Rattle.state_core.specs.Visits.{visits}
 use Rattle.net_syntax.specs.Weight.{weight}
 use Rattle.step_core.specs.EnvironmentVisits.{counts_of, weights_of, visits_of}
 use Rattle.net_syntax.proofs.Meanings.{AllSignals-context_of}

@@ -2,9 +2,9 @@
 use Rattle.std.proofs.Common.{◌≡◌, ℕ, suc, ◌+◌, List, [], ◌∷◌, sym, subst, Some, None}
 use Rattle.sample_core.specs.Datum.{Datum, left, right, pair, list, list_of}
 use Rattle.net_syntax.specs.SignalFunction.{TimedList, if_event, fold_events}
-use Rattle.step_core.specs.CountedFunction.{CountedFunction, IsCountedFunction, StandsVia, TakesSample}
-use Rattle.step_core.specs.CountedForms.{counted_cell, same_input, route_by, counted_resume, counted_resume_each}
-use Rattle.step_core.specs.StandsByForm.{ArrStands, SeqStands, FirstStands, ParStands, LoopStands, AccumStands, SwitchStands, DSwitchStands, RSwitchStands, KSwitchStands, PSwitchStands, CellStands}
+use Rattle.state_core.specs.CountedFunction.{CountedFunction, IsCountedFunction, StandsVia, TakesSample}
+use Rattle.state_core.specs.CountedForms.{counted_cell, same_input, route_by, counted_resume, counted_resume_each}
+use Rattle.state_core.specs.StandsByForm.{ArrStands, SeqStands, FirstStands, ParStands, LoopStands, AccumStands, SwitchStands, DSwitchStands, RSwitchStands, KSwitchStands, PSwitchStands, CellStands}
 use Rattle.step_core.specs.Stepping.{event_in, restart_in}
 use Rattle.step_core.proofs.PlainCounts.{arr_took, seq_took, first_took, loop_took}
 use Rattle.cell_core.specs.Cell.{Cell, cell_step}

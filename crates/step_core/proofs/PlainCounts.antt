@@ -3,10 +3,10 @@ use Rattle.std.proofs.Common.{◌≡◌, ℕ, suc, ◌+◌, ◌<◌, List, [], �
 use Rattle.std.proofs.lemmas.List.{map_push, length-map}
 use Rattle.sample_core.specs.Datum.{Datum, left, right, pair}
 use Rattle.net_syntax.specs.SignalFunction.{TimedList, with_values, each_value, last_or, IsSignalFunction, answer}
-use Rattle.step_core.specs.Visits.{VisitCounts, ones, add_counts}
-use Rattle.step_core.specs.CountedFunction.{CountedFunction, IsCountedFunction, StandsVia, TakesSample, visits_at}
-use Rattle.step_core.specs.CountedForms.{counted_arr, counted_seq, counted_first, counted_loop}
-use Rattle.step_core.specs.StandsByForm.{ArrStands, SeqStands, FirstStands, LoopStands}
+use Rattle.state_core.specs.Visits.{VisitCounts, ones, add_counts}
+use Rattle.state_core.specs.CountedFunction.{CountedFunction, IsCountedFunction, StandsVia, TakesSample, visits_at}
+use Rattle.state_core.specs.CountedForms.{counted_arr, counted_seq, counted_first, counted_loop}
+use Rattle.state_core.specs.StandsByForm.{ArrStands, SeqStands, FirstStands, LoopStands}
 use Rattle.net_syntax.proofs.Zips.{length-zip_with}
 use Rattle.net_syntax.proofs.Feedback.{fed, length-fed}
 use Rattle.net_syntax.proofs.Steps.{last_or-push, signal-push}

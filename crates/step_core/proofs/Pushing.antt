@@ -9,11 +9,11 @@ use Rattle.leaf_core.specs.ExpressionValue.{value_of}
 use Rattle.net_syntax.specs.Network.{Network}
 use Rattle.net_syntax.specs.SignalFunction.{TimedList}
 use Rattle.net_syntax.specs.TypedNetwork.{stream_of}
-use Rattle.step_core.specs.CountedFunction.{TakesSample}
-use Rattle.step_core.specs.CountedContext.{counted_meaning}
-use Rattle.step_core.specs.State.{State}
-use Rattle.step_core.specs.Stands.{Stands}
-use Rattle.step_core.specs.EmptyScope.{empty_context}
+use Rattle.state_core.specs.CountedFunction.{TakesSample}
+use Rattle.state_core.specs.CountedContext.{counted_meaning}
+use Rattle.state_core.specs.State.{State}
+use Rattle.state_core.specs.Stands.{Stands}
+use Rattle.state_core.specs.EmptyScope.{empty_context}
 use Rattle.step_core.specs.Binding.{FitsTable}
 use Rattle.step_core.specs.RowTyping.{FitsRows, RowsTyped}
 use Rattle.step_core.specs.CellValues.{HoldsCells, BeginsWithState, StartOf, StepOf, StartsTyped, StepsTyped}

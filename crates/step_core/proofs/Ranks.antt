@@ -4,7 +4,7 @@ use Rattle.std.proofs.Math.Nat.{max-le, le-max_left, le-max_right}
 use Rattle.sample_core.specs.Datum.{Datum}
 use Rattle.net_syntax.specs.Network.{Network, Networks, arr, seq, first, par, loop_pre, i_pre, delay, hold, accum_by, after, repeatedly, time, integral, switch, d_switch, r_switch, k_switch, p_switch, old, no_members, and_member}
 use Rattle.net_syntax.specs.Weight.{weight, weights, weight_at, total}
-use Rattle.step_core.specs.State.{State, States, Scope, Frozens, Frozen, no_state, and_state, scope, no_frozen, and_frozen, unstarted, paused, append_frozens, frozens_of, frozen_at, push_param, push_olds, all_unstarted, all_paused}
+use Rattle.state_core.specs.State.{State, States, Scope, Frozens, Frozen, no_state, and_state, scope, no_frozen, and_frozen, unstarted, paused, append_frozens, frozens_of, frozen_at, push_param, push_olds, all_unstarted, all_paused}
 use Rattle.step_core.specs.Stepping
 use Rattle.step_core.specs.Stepping.{Starts, StartsEach, Resumes, Steps, StepsEach}
 use Rattle.step_core.specs.Rank.{rank, ranks, ranks_in, frozen_ranks, frozen_rank}

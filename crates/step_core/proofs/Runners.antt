@@ -6,13 +6,13 @@ use Rattle.net_syntax.specs.Network.{Network}
 use Rattle.net_syntax.specs.Environment.{closed, outputs}
 use Rattle.step_core.specs.EnvironmentVisits.{visits_of}
 use Rattle.net_syntax.specs.Weight.{weight}
-use Rattle.step_core.specs.Visits.{AtMost, no_item, and_item}
-use Rattle.step_core.specs.CountedFunction.{CountedFunction, IsCountedFunction, TakesSample}
-use Rattle.step_core.specs.CountedContext.{counted_meaning}
-use Rattle.step_core.specs.State.{State}
-use Rattle.step_core.specs.Stands.{Stands}
+use Rattle.state_core.specs.Visits.{AtMost, no_item, and_item}
+use Rattle.state_core.specs.CountedFunction.{CountedFunction, IsCountedFunction, TakesSample}
+use Rattle.state_core.specs.CountedContext.{counted_meaning}
+use Rattle.state_core.specs.State.{State}
+use Rattle.state_core.specs.Stands.{Stands}
 use Rattle.step_core.specs.Stepping.{Starts, Steps}
-use Rattle.step_core.specs.EmptyScope.{empty_context, empty_scope}
+use Rattle.state_core.specs.EmptyScope.{empty_context, empty_scope}
 use Rattle.net_syntax.proofs.Steps.{signal-push}
 use Rattle.step_core.proofs.EnvironmentBounds.{IsCount-visited}
 use Rattle.step_core.proofs.MemberCounts.{no_counted}

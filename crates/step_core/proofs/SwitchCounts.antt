@@ -3,10 +3,10 @@ use Rattle.std.proofs.Common.{◌≡◌, ℕ, suc, ◌+◌, ◌<◌, List, [], �
 use Rattle.std.proofs.lemmas.List.{take_at, drop_at}
 use Rattle.sample_core.specs.Datum.{Datum, event, left, right, pair}
 use Rattle.net_syntax.specs.SignalFunction.{TimedList, SignalFunction, last_or, first_event, step_of, lefts, rights, watch, pair_samples, resume, IsSignalFunction, answer}
-use Rattle.step_core.specs.Visits.{VisitCounts, both_at_first, switch_counts, and_one, add_counts}
-use Rattle.step_core.specs.CountedFunction.{CountedFunction, IsCountedFunction, Continues, StandsVia, TakesSample, visits_at}
-use Rattle.step_core.specs.CountedForms.{counted_switch_at, counted_switch, counted_d_switch, counted_watch, counted_k_switch, counted_resume}
-use Rattle.step_core.specs.StandsByForm.{SwitchStands, DSwitchStands, KSwitchStands}
+use Rattle.state_core.specs.Visits.{VisitCounts, both_at_first, switch_counts, and_one, add_counts}
+use Rattle.state_core.specs.CountedFunction.{CountedFunction, IsCountedFunction, Continues, StandsVia, TakesSample, visits_at}
+use Rattle.state_core.specs.CountedForms.{counted_switch_at, counted_switch, counted_d_switch, counted_watch, counted_k_switch, counted_resume}
+use Rattle.state_core.specs.StandsByForm.{SwitchStands, DSwitchStands, KSwitchStands}
 use Rattle.step_core.specs.Stepping.{event_in}
 use Rattle.net_syntax.proofs.Zips.{length-zip_with}
 use Rattle.net_syntax.proofs.Events.{IsPlain}

@@ -5,7 +5,7 @@ use Rattle.sample_core.specs.Datum.{Datum, unit, left}
 use Rattle.net_syntax.specs.SignalFunction.{TimedList, SignalFunction, with_values, pair_samples, each_value, first_event, step_of, rights, watch, collect, resume, freeze_all, IsSignalFunction}
 use Rattle.net_syntax.specs.Network.{Network, Networks, arr, seq, first, par, loop_pre, i_pre, delay, hold, accum_by, after, repeatedly, time, integral, switch, d_switch, r_switch, k_switch, p_switch, old, no_members, and_member}
 use Rattle.net_syntax.specs.Meaning.{Context, with_param, with_olds, meaning, meanings}
-use Rattle.step_core.specs.Visits.{VisitCounts, add_counts, and_one, switch_counts, resume_counts, freeze_counts, sum_by_route, counts_at, visits, visits_all}
+use Rattle.state_core.specs.Visits.{VisitCounts, add_counts, and_one, switch_counts, resume_counts, freeze_counts, sum_by_route, counts_at, visits, visits_all}
 use Rattle.net_syntax.specs.Weight.{weight, weights, weight_at, total}
 use Rattle.net_syntax.proofs.Zips.{length-zip_with}
 use Rattle.net_syntax.proofs.Events.{outlook}

@@ -3,12 +3,12 @@ use Rattle.std.proofs.Common.{◌≡◌, ℕ, zero, suc, ◌+◌, ◌-◌, ◌�
 use Rattle.std.proofs.lemmas.List.{length-map}
 use Rattle.sample_core.specs.Datum.{Datum}
 use Rattle.net_syntax.specs.SignalFunction.{TimedList, pieces, route, first_event}
-use Rattle.step_core.specs.Visits.{VisitCounts, ones, zeros, add_counts, and_one, first_and_one, both_at_first, switch_counts, resume_counts, freeze_counts, sum_by_route, sum_of_all, counts_at}
+use Rattle.state_core.specs.Visits.{VisitCounts, ones, zeros, add_counts, and_one, first_and_one, both_at_first, switch_counts, resume_counts, freeze_counts, sum_by_route, sum_of_all, counts_at}
 use Rattle.net_syntax.specs.Weight.{total, weight_at}
 use Rattle.net_syntax.proofs.Zips.{length-zip_with}
 use Rattle.net_syntax.proofs.Events.{Outlook, never, once}
 use Rattle.net_syntax.proofs.Restarting.{uncut_or_cut}
-pub use Rattle.step_core.specs.Visits.{AtMost, no_item, and_item, IsCount}
+pub use Rattle.state_core.specs.Visits.{AtMost, no_item, and_item, IsCount}
 
 pub AtMost-weaker : (v w : ℕ) (ns : List ℕ) → v ≤ w → AtMost v ns → AtMost w ns
 AtMost-weaker v w [] l a = no_item

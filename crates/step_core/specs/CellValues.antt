@@ -8,9 +8,9 @@ use Rattle.leaf_core.specs.ExpressionValue.{value_of}
 use Rattle.leaf_core.specs.KeyTree.{KeyTree}
 use Rattle.net_syntax.specs.Network.{Network, arr, seq, i_pre}
 use Rattle.cell_core.specs.Cell.{previous}
-use Rattle.step_core.specs.State.{State, arr_state, seq_state, cell_state}
+use Rattle.state_core.specs.State.{State, arr_state, seq_state, cell_state}
 use Rattle.step_core.specs.Stepping.{Starts, Steps}
-use Rattle.step_core.specs.EmptyScope.{empty_scope}
+use Rattle.state_core.specs.EmptyScope.{empty_scope}
 use Rattle.step_core.specs.RowTyping.{RowTyped, RowsTyped, row_expression, network_by}
 
 -- the state of a network of rows, from an input type to an output type, in which these values are

@@ -4,7 +4,7 @@ use Rattle.sample_core.specs.Datum.{Datum}
 use Rattle.net_syntax.specs.SignalFunction.{TimedList}
 use Rattle.net_syntax.specs.Network.{Network}
 use Rattle.net_syntax.specs.Environment.{Environment, context_of, closed, param, frozen}
-use Rattle.step_core.specs.Visits.{VisitCounts, visits, resume_counts}
+use Rattle.state_core.specs.Visits.{VisitCounts, visits, resume_counts}
 use Rattle.net_syntax.specs.Weight.{weight}
 
 -- the counts of the frozen networks in scope, each resumed with the step that it was frozen with

@@ -1,16 +1,7 @@
-pub mod Visits
 pub mod EnvironmentVisits
-pub mod CountedFunction
-pub mod CountedForms
-pub mod CountedContext
-pub mod State
-pub mod StandsByForm
-pub mod Stands
 pub mod Stepping
-pub mod EmptyScope
 pub mod Rank
 pub mod RowTyping
-pub mod RowsView
 pub mod Binding
 pub mod CellValues
 pub mod RunnerState

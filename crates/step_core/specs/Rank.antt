@@ -2,7 +2,7 @@
 -- call of the engine.
 use Rattle.std.specs.Prelude.{ℕ, suc, ◌+◌, List, [], ◌∷◌, ◌++◌, max}
 use Rattle.net_syntax.specs.Weight.{weight, total}
-use Rattle.step_core.specs.State.{State, States, Scope, Frozens, Frozen, arr_state, seq_state, first_state, par_state, loop_state, cell_state, accum_state, switch_state, d_switch_state, r_switch_state, k_switch_state, p_switch_state, no_state, and_state, scope, no_frozen, and_frozen, unstarted, paused}
+use Rattle.state_core.specs.State.{State, States, Scope, Frozens, Frozen, arr_state, seq_state, first_state, par_state, loop_state, cell_state, accum_state, switch_state, d_switch_state, r_switch_state, k_switch_state, p_switch_state, no_state, and_state, scope, no_frozen, and_frozen, unstarted, paused}
 
 abbrev mutual
   -- the nodes that one sample may still visit in a state

@@ -8,10 +8,10 @@ use Rattle.leaf_core.specs.KeyTree.{KeyTree}
 use Rattle.net_syntax.specs.Network.{Network}
 use Rattle.net_syntax.specs.SignalFunction.{TimedList}
 use Rattle.net_syntax.specs.TypedNetwork.{stream_of}
-use Rattle.step_core.specs.CountedContext.{counted_meaning}
-use Rattle.step_core.specs.State.{State}
-use Rattle.step_core.specs.Stands.{Stands}
-use Rattle.step_core.specs.EmptyScope.{empty_context}
+use Rattle.state_core.specs.CountedContext.{counted_meaning}
+use Rattle.state_core.specs.State.{State}
+use Rattle.state_core.specs.Stands.{Stands}
+use Rattle.state_core.specs.EmptyScope.{empty_context}
 use Rattle.step_core.specs.RowTyping.{RowsTyped, network_by}
 use Rattle.step_core.specs.CellValues.{HoldsCells}
 

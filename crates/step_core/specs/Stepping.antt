@@ -3,9 +3,9 @@ use Rattle.std.specs.Prelude.{◌≡◌, ℕ, suc, ◌+◌, pos, List, [], ◌�
 use Rattle.sample_core.specs.Datum.{Datum, unit, event, no_event, pair, left, right, list, list_of, int, int_of}
 use Rattle.net_syntax.specs.SignalFunction.{fold_events, if_event, latest_event}
 use Rattle.net_syntax.specs.Network.{Network, Networks, arr, seq, first, par, loop_pre, i_pre, delay, hold, accum_by, after, repeatedly, time, integral, switch, d_switch, r_switch, k_switch, p_switch, old, no_members, and_member}
-use Rattle.step_core.specs.CountedForms.{same_input, route_by}
+use Rattle.state_core.specs.CountedForms.{same_input, route_by}
 use Rattle.cell_core.specs.Cell.{Cell, previous, queue, latest, recurring, ticking, summing, after_cell, cell_step}
-use Rattle.step_core.specs.State.{State, States, Scope, Frozen, arr_state, seq_state, first_state, par_state, loop_state, cell_state, accum_state, switch_state, d_switch_state, r_switch_state, k_switch_state, p_switch_state, no_state, and_state, unstarted, paused, params_of, frozens_of, frozen_at, push_param, push_old, push_olds, all_unstarted, all_paused}
+use Rattle.state_core.specs.State.{State, States, Scope, Frozen, arr_state, seq_state, first_state, par_state, loop_state, cell_state, accum_state, switch_state, d_switch_state, r_switch_state, k_switch_state, p_switch_state, no_state, and_state, unstarted, paused, params_of, frozens_of, frozen_at, push_param, push_old, push_olds, all_unstarted, all_paused}
 
 -- what an event carries
 abbrev pub event_in : Datum → Option Datum

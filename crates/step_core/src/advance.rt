@@ -7,7 +7,7 @@ ghost use Rattle.sample_core.specs.ValueView.{datum_of};
 ghost use Rattle.leaf_core.specs.ExpressionValue.{value_of};
 ghost use Rattle.leaf_core.specs.KeyTree.{KeyTree};
 ghost use Rattle.leaf_table.specs.Rows.{rows_of};
-ghost use Rattle.step_core.specs.RowsView.{rows_in};
+ghost use Rattle.state_core.specs.RowsView.{rows_in};
 ghost use Rattle.step_core.specs.CellValues.{BeginsWithState, StartsTyped, StepsTyped, IsFirst};
 ghost use Rattle.step_core.specs.RowTyping.{FitsRows};
 

@@ -8,7 +8,7 @@ ghost use Rattle.net_syntax.specs.NetworkView.{tree_of};
 ghost use Rattle.net_syntax.specs.NeedView.{need_of};
 ghost use Rattle.step_core.specs.Binding.{FitsTable};
 ghost use Rattle.step_core.specs.RowTyping.{network_by};
-ghost use Rattle.step_core.specs.RowsView.{row_number, rows_in};
+ghost use Rattle.state_core.specs.RowsView.{row_number, rows_in};
 ghost use Rattle.step_core.specs.Lookup.{BeginsWith, FindsAll, IsFirstRow, LowersTo, Misses, MissesIn, Names, Refuses};
 
 use crate::bound::Bound;

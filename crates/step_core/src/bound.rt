@@ -2,7 +2,7 @@
 
 ghost use Rattle.std.specs.Prelude.{◌≡◌};
 ghost use Rattle.sample_core.specs.TypeView.{type_of};
-ghost use Rattle.step_core.specs.RowsView.{rows_in};
+ghost use Rattle.state_core.specs.RowsView.{rows_in};
 
 use leaf_table::LeafId;
 use net_syntax::Net;
@@ -24,7 +24,7 @@ impl Model for Bound {
     ghost coded = { binding_code };
 
     ghost use Rattle.sample_core.specs.TypeView.{type_of};
-    ghost use Rattle.step_core.specs.RowsView.{rows_in};
+    ghost use Rattle.state_core.specs.RowsView.{rows_in};
 
     ghost view = { λ b. record { input = type_of b.input; rows = rows_in b.net } };
 }

@@ -1,6 +1,6 @@
 use Rattle.std.proofs.Common.{rules, ap, sym, ◌∙◌, subst}
 use Rattle.net_syntax.specs.Network.{seq, map_network}
-use Rattle.step_core.specs.RowsView.{row_number, rows_in}
+use Rattle.state_core.specs.RowsView.{row_number, rows_in}
 use Rattle.step_core.specs.RowTyping.{FitsRows}
 use Rattle.step_core.proofs.Advancing.{fits_arr, fits_i_pre, fits_first, fits_second, arr_begun, i_pre_begun, seq_begun, if_ok}
 use Rattle.step_core.proofs.advance.+start.Goals as goal

@@ -3,7 +3,7 @@ use Rattle.std.proofs.lemmas.List.{length-map}
 use Rattle.sample_core.specs.ValueView.{datum_of}
 use Rattle.leaf_table.specs.Rows.{rows_of}
 use Rattle.net_syntax.specs.Network.{seq, map_network}
-use Rattle.step_core.specs.RowsView.{row_number, rows_in}
+use Rattle.state_core.specs.RowsView.{row_number, rows_in}
 use Rattle.step_core.specs.CellValues.{BeginsWithState}
 use Rattle.step_core.proofs.Advancing.{state_row, state_cell, state_first, state_second, arr_moved, i_pre_moved, seq_moved, if_ok}
 use Rattle.step_core.proofs.advance.+step.Goals as goal

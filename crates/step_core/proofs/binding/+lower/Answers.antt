@@ -5,7 +5,7 @@ use Rattle.net_syntax.specs.Network.{seq, map_network}
 use Rattle.net_syntax.specs.NetworkView.{tree_of}
 use Rattle.net_syntax.specs.NeedView.{need_of}
 use Rattle.step_core.specs.Lookup.{BeginsWith, Misses, Refuses}
-use Rattle.step_core.specs.RowsView.{row_number}
+use Rattle.state_core.specs.RowsView.{row_number}
 use Rattle.step_core.proofs.Bindings.{some_arr, some_i_pre, begins_first, begins_second, lowered_arr, lowered_i_pre, lowered_seq, lowers_as, refused_arr, refused_i_pre, refused_first, refused_second, refuses_as}
 use Rattle.step_core.proofs.binding.+lower.Goals as goal
 

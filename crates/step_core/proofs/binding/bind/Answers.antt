@@ -5,7 +5,7 @@ use Rattle.net_syntax.specs.NetworkView.{tree_of}
 use Rattle.net_syntax.specs.NeedView.{need_of}
 use Rattle.step_core.specs.Lookup.{Refuses}
 use Rattle.step_core.specs.RowTyping.{RowsTyped}
-use Rattle.step_core.specs.RowsView.{rows_in}
+use Rattle.state_core.specs.RowsView.{rows_in}
 use Rattle.step_core.proofs.Bindings.{bound_network, missed_in, if_err, whole_begins}
 use Rattle.step_core.proofs.binding.bind.Goals as goal
 

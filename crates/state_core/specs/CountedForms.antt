@@ -2,8 +2,8 @@
 use Rattle.std.specs.Prelude.{ℕ, suc, pos, List, [], ◌∷◌, map, length, drop, take, flat_map, ◌++◌}
 use Rattle.sample_core.specs.Datum.{Datum, left, pair, int}
 use Rattle.net_syntax.specs.SignalFunction.{TimedList, SignalFunction, values, by_past, seq_function, first_function, par_function, loop_pre_function, feedback_values, pair_samples, with_values, each_value, rights, switch_function, d_switch_function, switch_at, step_of, first_event, pieces, r_switch_function, watch, resume, collect, route}
-use Rattle.step_core.specs.Visits.{VisitCounts, ones, add_counts, and_one, sum_of_all, sum_by_route, switch_counts, resume_counts}
-use Rattle.step_core.specs.CountedFunction.{CountedFunction}
+use Rattle.state_core.specs.Visits.{VisitCounts, ones, add_counts, and_one, sum_of_all, sum_by_route, switch_counts, resume_counts}
+use Rattle.state_core.specs.CountedFunction.{CountedFunction}
 
 -- what each counted function outputs
 abbrev pub functions_of : List CountedFunction → List SignalFunction

@@ -3,9 +3,9 @@ use Rattle.std.specs.Prelude.{List, [], ◌∷◌, ◌++◌}
 use Rattle.sample_core.specs.Datum.{Datum}
 use Rattle.net_syntax.specs.Network.{Network, Networks, no_members, and_member}
 use Rattle.net_syntax.specs.Meaning.{Context, meaning}
-use Rattle.step_core.specs.Visits.{visits}
-use Rattle.step_core.specs.CountedFunction.{CountedFunction}
-use Rattle.step_core.specs.CountedForms.{functions_of, counts_of_all}
+use Rattle.state_core.specs.Visits.{visits}
+use Rattle.state_core.specs.CountedFunction.{CountedFunction}
+use Rattle.state_core.specs.CountedForms.{functions_of, counts_of_all}
 
 -- the parameters in scope, and the counted functions of the frozen networks there
 pub record CountedContext : Type 0 where

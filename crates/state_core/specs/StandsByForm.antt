@@ -2,8 +2,8 @@
 use Rattle.std.specs.Prelude.{◌≡◌, ℕ, List, ◌∷◌, ◌++◌, None, map, length}
 use Rattle.sample_core.specs.Datum.{Datum, left, right}
 use Rattle.net_syntax.specs.SignalFunction.{TimedList, each_value, with_values, pair_samples, values, accum_by_value, fold_events, feedback_values, first_event, rights, watch, last_or, collect, pieces}
-use Rattle.step_core.specs.CountedFunction.{CountedFunction, IsCountedFunction}
-use Rattle.step_core.specs.CountedForms.{counted_arr, counted_cell, counted_seq, counted_first, counted_loop, counted_par, counted_switch, counted_d_switch, counted_r_switch, counted_k_switch, counted_p_switch, functions_of}
+use Rattle.state_core.specs.CountedFunction.{CountedFunction, IsCountedFunction}
+use Rattle.state_core.specs.CountedForms.{counted_arr, counted_cell, counted_seq, counted_first, counted_loop, counted_par, counted_switch, counted_d_switch, counted_r_switch, counted_k_switch, counted_p_switch, functions_of}
 use Rattle.cell_core.specs.Cell.{Cell, Keeps}
 
 -- In each record A and B are what the parts stand for; the whole has the counted function c after

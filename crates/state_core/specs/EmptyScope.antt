@@ -1,7 +1,7 @@
 -- Where a whole network runs: with nothing in scope.
 use Rattle.std.specs.Prelude.{[]}
-use Rattle.step_core.specs.CountedContext.{CountedContext}
-use Rattle.step_core.specs.State.{Scope, scope, no_frozen}
+use Rattle.state_core.specs.CountedContext.{CountedContext}
+use Rattle.state_core.specs.State.{Scope, scope, no_frozen}
 
 -- nothing in scope
 abbrev pub empty_context : CountedContext

@@ -2,7 +2,7 @@
 use Rattle.std.specs.Prelude.{◌≡◌, ℕ, [], ◌∷◌, ◌++◌}
 use Rattle.sample_core.specs.Datum.{Datum}
 use Rattle.net_syntax.specs.SignalFunction.{TimedList, SignalFunction, last_or, IsSignalFunction, answer}
-use Rattle.step_core.specs.Visits.{IsCount, VisitCounts}
+use Rattle.state_core.specs.Visits.{IsCount, VisitCounts}
 
 -- what a network outputs, and how many nodes each of its samples visits
 pub record CountedFunction : Type 0 where

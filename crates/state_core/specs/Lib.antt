@@ -1,0 +1,16 @@
+pub mod Visits
+pub mod CountedFunction
+pub mod CountedForms
+pub mod CountedContext
+pub mod State
+pub mod EmptyScope
+pub mod StandsByForm
+pub mod Stands
+pub mod RowsView
+pub mod ParamsView
+pub mod AccumulatorView
+pub mod StateCode
+pub mod Sizes
+pub mod StateView
+pub mod Depth
+pub mod StillNetwork

@@ -1,0 +1,170 @@
+-- The codes of states, scopes and frozen networks, by which the check tells them apart.
+use Rattle.std.specs.Prelude.{◌≡◌, ℕ, refl, List}
+use Rattle.std.proofs.Common.{ap, arith}
+use Rattle.std.specs.Coded.{Coded, coded_ℕ, coded_ℤ, coded_list, coded×}
+use base.Stored.{Gv, gnil, gnum, gcons, num, coded_via}
+use denote.Struct.Codes.{itself}
+use Rattle.sample_core.specs.Datum.{Datum}
+use Rattle.sample_core.specs.DatumCode.{datum_code}
+use Rattle.sample_core.specs.CodeNode.{node, tag_of, part0, part1, part2, part3, head_of, rest_of}
+use Rattle.net_syntax.specs.NetworkCode.{network_code}
+use Rattle.cell_core.specs.Cell.{Cell, previous, queue, latest, accumulating, waiting, over, recurring, ticking, summing}
+use Rattle.state_core.specs.State.{State, States, Scope, Frozens, Frozen, arr_state, seq_state, first_state, par_state, loop_state, cell_state, accum_state, switch_state, d_switch_state, r_switch_state, k_switch_state, p_switch_state, no_state, and_state, scope, no_frozen, and_frozen, unstarted, paused}
+
+-- waiting values and the time that is left to them
+abbrev pub waiting_code : Coded (List (ℕ × Datum))
+waiting_code = coded_list (coded× coded_ℕ datum_code)
+
+-- a cell's code: the number of its form, and then its parts
+abbrev pub cell_to_code : Cell → Gv
+cell_to_code (previous v) = node 0 (datum_code.code v) gnil gnil gnil
+cell_to_code (queue q out is) = node 1 (gnum q) (datum_code.code out) (waiting_code.code is) gnil
+cell_to_code (latest v) = node 2 (datum_code.code v) gnil gnil gnil
+cell_to_code (waiting left c) = node 3 (gnum left) (datum_code.code c) gnil gnil
+cell_to_code over = node 4 gnil gnil gnil gnil
+cell_to_code (recurring q left c) = node 5 (gnum q) (gnum left) (datum_code.code c) gnil
+cell_to_code (ticking z) = node 6 (coded_ℤ.code z) gnil gnil gnil
+cell_to_code (summing z before) = node 7 (coded_ℤ.code z) (coded_ℤ.code before) gnil gnil
+cell_to_code (accumulating acc) = node 8 (datum_code.code acc) gnil gnil gnil
+
+-- cells with one code are the same
+pub cell_to_code_inj : (x y : Cell) → cell_to_code x ≡ cell_to_code y → x ≡ y
+cell_to_code_inj (previous v) (previous w) e = ap previous (datum_code.inj v w (ap part0 e))
+cell_to_code_inj (queue q v is) (queue q' w js) e = λ i. queue (num (part0 (e i)))
+    (datum_code.inj v w (ap part1 e) i) (waiting_code.inj is js (ap part2 e) i)
+cell_to_code_inj (latest v) (latest w) e = ap latest (datum_code.inj v w (ap part0 e))
+cell_to_code_inj (waiting l v) (waiting l' w) e = λ i. waiting (num (part0 (e i)))
+    (datum_code.inj v w (ap part1 e) i)
+cell_to_code_inj over over e = refl
+cell_to_code_inj (recurring q l v) (recurring q' l' w) e = λ i. recurring (num (part0 (e i)))
+    (num (part1 (e i))) (datum_code.inj v w (ap part2 e) i)
+cell_to_code_inj (ticking z) (ticking z') e = ap ticking (coded_ℤ.inj z z' (ap part0 e))
+cell_to_code_inj (summing z b) (summing z' b') e = λ i. summing (coded_ℤ.inj z z' (ap part0 e) i)
+    (coded_ℤ.inj b b' (ap part1 e) i)
+cell_to_code_inj (accumulating v) (accumulating w) e = ap accumulating
+    (datum_code.inj v w (ap part0 e))
+cell_to_code_inj _ _ e = absurd (omega (arith, ap tag_of e))
+
+-- cells told apart by their codes
+abbrev pub cell_code : Coded Cell
+cell_code = coded_via itself cell_to_code cell_to_code_inj
+
+-- the code of values
+abbrev pub values_code : Coded (List Datum)
+values_code = coded_list datum_code
+
+module _ {L : Type 0} (c : Coded L) where
+  abbrev mutual
+    -- a state's code: the number of its form, and then its parts
+    pub to_code : State L → Gv
+    to_code (arr_state e ps) = node 0 (c.code e) (values_code.code ps) gnil gnil
+    to_code (seq_state a b) = node 1 (to_code a) (to_code b) gnil gnil
+    to_code (first_state a) = node 2 (to_code a) gnil gnil gnil
+    to_code (par_state as') = node 3 (to_codes as') gnil gnil gnil
+    to_code (loop_state v a) = node 4 (datum_code.code v) (to_code a) gnil gnil
+    to_code (cell_state k) = node 5 (cell_to_code k) gnil gnil gnil
+    to_code (accum_state g ps v) = node 6 (c.code g) (values_code.code ps) (datum_code.code v) gnil
+    to_code (switch_state a t s) = node 7 (to_code a) ((network_code c).code t)
+        (scope_to_code s) gnil
+    to_code (d_switch_state a t s) = node 8 (to_code a) ((network_code c).code t)
+        (scope_to_code s) gnil
+    to_code (r_switch_state a t s) = node 9 (to_code a) ((network_code c).code t)
+        (scope_to_code s) gnil
+    to_code (k_switch_state a b t s) = node 10 (to_code a) (to_code b) ((network_code c).code t)
+        (scope_to_code s)
+    to_code (p_switch_state r as' b t s) = node 11 (gcons (c.code r) (to_codes as')) (to_code b)
+        ((network_code c).code t) (scope_to_code s)
+
+    -- the code of members' states
+    pub to_codes : States L → Gv
+    to_codes no_state = gnil
+    to_codes (and_state a as') = gcons (to_code a) (to_codes as')
+
+    -- the code of a scope
+    pub scope_to_code : Scope L → Gv
+    scope_to_code (scope ps fs) = gcons (values_code.code ps) (frozens_to_code fs)
+
+    -- the code of frozen networks
+    pub frozens_to_code : Frozens L → Gv
+    frozens_to_code no_frozen = gnil
+    frozens_to_code (and_frozen f fs) = gcons (frozen_to_code f) (frozens_to_code fs)
+
+    -- the code of a frozen network
+    pub frozen_to_code : Frozen L → Gv
+    frozen_to_code (unstarted net s) = node 0 ((network_code c).code net)
+        (scope_to_code s) gnil gnil
+    frozen_to_code (paused a d) = node 1 (to_code a) (gnum d) gnil gnil
+
+  mutual
+    -- states with one code are the same
+    pub to_code_inj : (x y : State L) → to_code x ≡ to_code y → x ≡ y
+    to_code_inj (arr_state a ps) (arr_state b qs) e = λ i. arr_state (c.inj a b (ap part0 e) i)
+        (values_code.inj ps qs (ap part1 e) i)
+    to_code_inj (seq_state a b) (seq_state a' b') e = λ i. seq_state
+        (to_code_inj a a' (ap part0 e) i) (to_code_inj b b' (ap part1 e) i)
+    to_code_inj (first_state a) (first_state a') e = ap first_state (to_code_inj a a' (ap part0 e))
+    to_code_inj (par_state as') (par_state bs) e = ap par_state (to_codes_inj as' bs (ap part0 e))
+    to_code_inj (loop_state v a) (loop_state w b) e = λ i. loop_state
+        (datum_code.inj v w (ap part0 e) i) (to_code_inj a b (ap part1 e) i)
+    to_code_inj (cell_state k) (cell_state k') e = ap cell_state
+        (cell_to_code_inj k k' (ap part0 e))
+    to_code_inj (accum_state g ps v) (accum_state h qs w) e = λ i. accum_state
+        (c.inj g h (ap part0 e) i) (values_code.inj ps qs (ap part1 e) i)
+        (datum_code.inj v w (ap part2 e) i)
+    to_code_inj (switch_state a t s) (switch_state a' t' s') e = λ i. switch_state
+        (to_code_inj a a' (ap part0 e) i) ((network_code c).inj t t' (ap part1 e) i)
+        (scope_to_code_inj s s' (ap part2 e) i)
+    to_code_inj (d_switch_state a t s) (d_switch_state a' t' s') e = λ i. d_switch_state
+        (to_code_inj a a' (ap part0 e) i) ((network_code c).inj t t' (ap part1 e) i)
+        (scope_to_code_inj s s' (ap part2 e) i)
+    to_code_inj (r_switch_state a t s) (r_switch_state a' t' s') e = λ i. r_switch_state
+        (to_code_inj a a' (ap part0 e) i) ((network_code c).inj t t' (ap part1 e) i)
+        (scope_to_code_inj s s' (ap part2 e) i)
+    to_code_inj (k_switch_state a b t s) (k_switch_state a' b' t' s') e = λ i. k_switch_state
+        (to_code_inj a a' (ap part0 e) i) (to_code_inj b b' (ap part1 e) i)
+        ((network_code c).inj t t' (ap part2 e) i) (scope_to_code_inj s s' (ap part3 e) i)
+    to_code_inj (p_switch_state r as' b t s)
+        (p_switch_state r' bs b' t' s') e = λ i. p_switch_state
+        (c.inj r r' (ap (λ g. head_of (part0 g)) e) i)
+        (to_codes_inj as' bs (ap (λ g. rest_of (part0 g)) e) i) (to_code_inj b b' (ap part1 e) i)
+        ((network_code c).inj t t' (ap part2 e) i) (scope_to_code_inj s s' (ap part3 e) i)
+    to_code_inj _ _ e = absurd (omega (arith, ap tag_of e))
+
+    -- members' states with one code are the same
+    pub to_codes_inj : (x y : States L) → to_codes x ≡ to_codes y → x ≡ y
+    to_codes_inj no_state no_state e = refl
+    to_codes_inj (and_state a as') (and_state b bs) e = λ i. and_state
+        (to_code_inj a b (ap head_of e) i) (to_codes_inj as' bs (ap rest_of e) i)
+    to_codes_inj _ _ e = cc
+
+    -- scopes with one code are the same
+    pub scope_to_code_inj : (x y : Scope L) → scope_to_code x ≡ scope_to_code y → x ≡ y
+    scope_to_code_inj (scope ps fs) (scope qs gs) e = λ i. scope
+        (values_code.inj ps qs (ap head_of e) i) (frozens_to_code_inj fs gs (ap rest_of e) i)
+
+    -- frozen networks with one code are the same
+    pub frozens_to_code_inj : (x y : Frozens L) → frozens_to_code x ≡ frozens_to_code y → x ≡ y
+    frozens_to_code_inj no_frozen no_frozen e = refl
+    frozens_to_code_inj (and_frozen f fs) (and_frozen g gs) e = λ i. and_frozen
+        (frozen_to_code_inj f g (ap head_of e) i) (frozens_to_code_inj fs gs (ap rest_of e) i)
+    frozens_to_code_inj _ _ e = cc
+
+    -- the same of one
+    pub frozen_to_code_inj : (x y : Frozen L) → frozen_to_code x ≡ frozen_to_code y → x ≡ y
+    frozen_to_code_inj (unstarted net s) (unstarted net' s') e = λ i. unstarted
+        ((network_code c).inj net net' (ap part0 e) i) (scope_to_code_inj s s' (ap part1 e) i)
+    frozen_to_code_inj (paused a d) (paused b d') e = λ i. paused (to_code_inj a b (ap part0 e) i)
+        (num (part1 (e i)))
+    frozen_to_code_inj _ _ e = absurd (omega (arith, ap tag_of e))
+
+  -- states told apart by their codes
+  abbrev pub state_code : Coded (State L)
+  state_code = coded_via itself to_code to_code_inj
+
+  -- members' states told apart by their codes
+  abbrev pub states_code : Coded (States L)
+  states_code = coded_via itself to_codes to_codes_inj
+
+  -- frozen networks told apart by their codes
+  abbrev pub frozens_code : Coded (Frozens L)
+  frozens_code = coded_via itself frozens_to_code frozens_to_code_inj

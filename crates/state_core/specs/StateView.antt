@@ -1,0 +1,97 @@
+-- What the code's states, scopes and frozen networks are as clean ones.
+use Rattle.std.specs.Prelude.{◌≡◌, ℕ, List, [], ◌∷◌, Option, Some, None}
+use Rattle.std.proofs.Common.{Bor}
+use Rattle.sample_core.specs.Datum.{Datum}
+use Rattle.sample_core.specs.ValueView.{datum_of}
+use Rattle.net_syntax.specs.Network.{Network, Networks, arr, seq, first, par, no_members, and_member}
+use Rattle.state_core.specs.RowsView.{row_number, rows_in}
+use Rattle.cell_core.specs.CellView.{cell_of}
+use Rattle.state_core.specs.AccumulatorView.{accumulator_state}
+use Rattle.state_core.specs.State.{State, States, Scope, Frozens, Frozen, arr_state, seq_state, first_state, par_state, loop_state, cell_state, switch_state, d_switch_state, r_switch_state, k_switch_state, p_switch_state, no_state, and_state, scope, no_frozen, and_frozen, unstarted, paused, frozen_at}
+use Rattle.state_core.specs.declared.state.State.{State as CodeState}
+use Rattle.state_core.specs.declared.state.State.TheVariants as S
+use Rattle.state_core.specs.declared.state.Node.{Node}
+use Rattle.state_core.specs.declared.state.Node.TheVariants as N
+use Rattle.state_core.specs.declared.env.Env.{Env}
+use Rattle.state_core.specs.declared.env.Olds.{Olds}
+use Rattle.state_core.specs.declared.env.Olds.TheVariants as O
+use Rattle.state_core.specs.declared.env.Frozen.{Frozen as CodeFrozen}
+use Rattle.state_core.specs.declared.env.Frozen.TheVariants as F
+
+abbrev mutual
+  -- the state of a network that keeps nothing; one that keeps something has none, and gets k
+  pub still_of : {L : Type 0} → L → Network L → List Datum → State L
+  still_of k (arr e) ps = arr_state e ps
+  still_of k (seq f g) ps = seq_state (still_of k f ps) (still_of k g ps)
+  still_of k (first f) ps = first_state (still_of k f ps)
+  still_of k (par fs) ps = par_state (stills_of k fs ps)
+  still_of k _ ps = arr_state k ps
+
+  -- the same of members
+  pub stills_of : {L : Type 0} → L → Networks L → List Datum → States L
+  stills_of k no_members ps = no_state
+  stills_of k (and_member f fs) ps = and_state (still_of k f ps) (stills_of k fs ps)
+
+-- the frozen networks in scope
+abbrev pub olds_of : Olds → Frozens ℕ
+olds_of O.Nothing = no_frozen
+olds_of (O.All fs) = fs
+
+-- the scope that an `Env` is
+abbrev pub scope_of : Env → Scope ℕ
+scope_of e = scope e.params (olds_of e.olds)
+
+-- the state that a `State` is
+abbrev pub state_of : CodeState → State ℕ
+state_of (S.Still f ps) = still_of 0 (rows_in f.net.now) ps
+state_of (S.Cell k) = cell_state (cell_of k)
+state_of (S.AccumBy a) = accumulator_state a
+state_of (S.Whole w) = w
+
+-- the states of members
+abbrev pub states_of : List CodeState → States ℕ
+states_of [] = no_state
+states_of (a ∷ as') = and_state (state_of a) (states_of as')
+
+-- the state that a `Node` is
+abbrev pub node_of : Node → State ℕ
+node_of (N.Seq a b) = seq_state (state_of a) (state_of b)
+node_of (N.First a) = first_state (state_of a)
+node_of (N.Par as') = par_state as'
+node_of (N.LoopPre v a) = loop_state (datum_of v) (state_of a)
+node_of (N.Switch a t s) = switch_state (state_of a) (rows_in t.now) (scope_of s)
+node_of (N.DSwitch a t s) = d_switch_state (state_of a) (rows_in t.now) (scope_of s)
+node_of (N.RSwitch a t s) = r_switch_state (state_of a) (rows_in t.now) (scope_of s)
+node_of (N.KSwitch a b t s) = k_switch_state (state_of a) (state_of b) (rows_in t.now) (scope_of s)
+node_of (N.PSwitch r as' b t s) = p_switch_state (row_number r) as' (state_of b) (rows_in t.now)
+    (scope_of s)
+
+-- the frozen network that a `Frozen` is
+abbrev pub frozen_of : CodeFrozen → Frozen ℕ
+frozen_of (F.Unstarted net s) = unstarted (rows_in net.now) (scope_of s)
+frozen_of (F.Paused a d) = paused (state_of a) d
+
+-- the frozen networks in order
+abbrev pub frozens_in : List CodeFrozen → Frozens ℕ
+frozens_in [] = no_frozen
+frozens_in (f ∷ fs) = and_frozen (frozen_of f) (frozens_in fs)
+
+-- the frozen network that was found, if one was
+abbrev pub frozen_in : Option CodeFrozen → Option (Frozen ℕ)
+frozen_in (Some f) = Some (frozen_of f)
+frozen_in None = None
+
+-- what a network, its scope, its state and a step are frozen as
+abbrev pub frozen_from : Network ℕ → Scope ℕ → Option (Bor CodeState) → ℕ → Frozen ℕ
+frozen_from net s (Some a) d = paused (state_of a.now) d
+frozen_from net s None d = unstarted net s
+
+-- the states of members behind those of others
+abbrev pub append_states : States ℕ → States ℕ → States ℕ
+append_states no_state bs = bs
+append_states (and_state a as') bs = and_state a (append_states as' bs)
+
+-- what a look-up of frozen network k finds
+abbrev pub IsFrozenAt : Frozens ℕ → ℕ → Option (Bor CodeFrozen) → Type 0
+IsFrozenAt fs k (Some f) = frozen_at fs k ≡ Some (frozen_of f.now)
+IsFrozenAt fs k None = frozen_at fs k ≡ None

@@ -1,0 +1,86 @@
+// Parameters in scope.
+
+ghost use Rattle.std.specs.Prelude.{◌≡◌, ◌++◌, ◌∷◌, [], IfOk, map};
+ghost use Rattle.sample_core.specs.ValueView.{datum_of};
+
+use sample_core::{Memory, Sample};
+use std::alloc::Global;
+use std::marker::Model;
+use std::rc::Rc;
+
+/// The values of the parameters in scope, parameter 0 first. Copies share them. Contracts see them
+/// as a list of values.
+#[derive(Drop)]
+pub struct Params {
+    all: Option<Rc<Vec<Sample>>>,
+}
+
+impl Model for Params {
+    ghost use Rattle.std.specs.Prelude.{List, map};
+    ghost use Rattle.std.specs.Coded.{coded_list};
+    ghost use Rattle.sample_core.specs.Datum.{Datum};
+    ghost use Rattle.sample_core.specs.DatumCode.{datum_code};
+
+    ghost Value = { List Datum };
+
+    ghost coded = { coded_list datum_code };
+
+    ghost use Rattle.state_core.specs.ParamsView.{values_in};
+
+    ghost view = { λ a. values_in a.all };
+}
+
+impl Params {
+    /// No parameters. It takes no memory.
+    pub fn none() -> Params
+        ensures { result ≡ [] }
+    {
+        Params { all: None }
+    }
+
+    /// The values in order.
+    pub fn as_slice(&self) -> &[Sample]
+        ensures { map datum_of result.now ≡ self.now }
+    {
+        match &self.all {
+            Some(all) => all.as_slice(),
+            None => &[],
+        }
+    }
+
+    /// The same parameters, shared. It takes no memory; `Memory` only where a count of references
+    /// is full.
+    pub fn try_copy(&self) -> Result<Params, Memory>
+        ensures { IfOk result (λ ps. ps ≡ self.now) }
+    {
+        match &self.all {
+            Some(all) => Ok(Params {
+                all: Some(all.clone()?),
+            }),
+            None => Ok(Params { all: None }),
+        }
+    }
+
+    /// These parameters and one more behind them. `Memory` where a growth was refused.
+    pub fn and(&self, alloc: Global, value: &Sample) -> Result<Params, Memory>
+        ensures { IfOk result (λ ps. ps ≡ self.now ++ datum_of value.now ∷ []) }
+    {
+        let mut all = copied(alloc, self.as_slice(), 1)?;
+        let value = value.try_copy(alloc)?;
+        all.push(value)?;
+        let all = Rc::new(alloc, all)?;
+        Ok(Params { all: Some(all) })
+    }
+}
+
+/// Copies of the values, with room for so many more. `Memory` where a growth was refused.
+fn copied(alloc: Global, values: &[Sample], more: usize) -> Result<Vec<Sample>, Memory>
+    ensures { IfOk result (λ copies. copies.items ≡ values.now) }
+{
+    let mut copies = Vec::with_capacity(alloc, values.len().saturating_add(more))?;
+    for value in values {
+        let value = value.try_copy(alloc)?;
+        copies.push(value)?;
+    }
+    Ok(copies)
+}
