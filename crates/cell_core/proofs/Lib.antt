@@ -3,3 +3,4 @@ pub mod Lines
 pub mod DelayCells
 pub mod KeptCells
 pub mod CellStarts
+pub mod Wraps

@@ -1,6 +1,6 @@
 // The cells.
 
-ghost use Rattle.std.specs.Prelude.{◌≡◌, ◌≢◌, ◌<◌, ◌^◌, IfOk, MatchOption};
+ghost use Rattle.std.specs.Prelude.{◌≡◌, ◌≢◌, IfOk, MatchOption};
 ghost use Rattle.sample_core.specs.Datum.{Datum};
 ghost use Rattle.sample_core.specs.ValueView.{datum_of};
 ghost use Rattle.cell_core.specs.CellView.{cell_of, outcome_of};
@@ -65,13 +65,12 @@ impl Cell {
     }
 
     /// The cell after one sample more, and its answer to it. `dt` is the time since the sample
-    /// before, at most 2^63 - 1. For `accumBy` the sample is, in place of an event v, the event of
+    /// before. For `accumBy` the sample is, in place of an event v, the event of
     /// the leaf's answer at the pair of the `accumulator` and v.
     ///
     /// Only a `delay` takes memory: `Memory` where a growth was refused, or a count of references
     /// is full. This cell stays as it is.
     pub fn step(&self, alloc: Global, dt: u64, sample: &Sample) -> Result<(Cell, Sample), Memory>
-        requires { dt < 2 ^ 63 }
         ensures { IfOk result
             (λ r. outcome_of r ≡ cell_step (cell_of self.now) (dt, datum_of sample.now)) }
     {

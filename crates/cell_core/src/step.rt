@@ -1,6 +1,6 @@
 // How each cell steps.
 
-ghost use Rattle.std.specs.Prelude.{◌≡◌, ◌<◌, ◌^◌, pos, ◌+ℤ◌, ◌*ℤ◌, IfOk};
+ghost use Rattle.std.specs.Prelude.{◌≡◌, pos, ◌+ℤ◌, ◌*ℤ◌, IfOk};
 ghost use Rattle.std.specs.Int.{int_wrap, w64};
 ghost use Rattle.sample_core.specs.Datum.{unit};
 ghost use Rattle.sample_core.specs.ValueView.{datum_of};
@@ -104,36 +104,39 @@ pub(crate) fn repeatedly(recurring: &Recurring, dt: u64) -> Result<(Cell, Sample
 
 /// A `time` is dt more.
 pub(crate) fn time(before: i64, dt: u64) -> (Cell, Sample)
-    requires { dt < 2 ^ 63 }
     ensures { outcome_of result ≡ cell_step (ticking before) (dt, unit) }
 {
-    let time = wrapped_sum(before, signed(dt));
+    let time = wrapped_time(before, dt);
     (Cell::Time(time), Sample::Int(time))
 }
 
 /// An `integral` is dt times the sample before more.
 pub(crate) fn integral(sum: i64, before: i64, dt: u64, sample: &Sample) -> (Cell, Sample)
-    requires { dt < 2 ^ 63 }
     ensures { outcome_of result ≡ cell_step (summing sum before) (dt, datum_of sample.now) }
 {
     let sum = wrapped_area(sum, before, dt);
     (Cell::Integral(sum, whole_of(sample)), Sample::Int(sum))
 }
 
+// A step modulo 2^64, read as signed.
+fn signed(dt: u64) -> i64
+    ensures { result ≡ int_wrap w64 (pos dt) }
+{
+    dt.cast_signed()
+}
+
+// The time dt later modulo 2^64, read as signed.
+fn wrapped_time(before: i64, dt: u64) -> i64
+    ensures { result ≡ int_wrap w64 (before +ℤ pos dt) }
+{
+    wrapped_sum(before, signed(dt))
+}
+
 // The sum and dt times the number modulo 2^64, read as signed.
 fn wrapped_area(sum: i64, before: i64, dt: u64) -> i64
-    requires { dt < 2 ^ 63 }
     ensures { result ≡ int_wrap w64 (sum +ℤ (pos dt *ℤ before)) }
 {
     wrapped_sum(sum, wrapped_product(signed(dt), before))
-}
-
-// A step as a signed number.
-fn signed(dt: u64) -> i64
-    requires { dt < 2 ^ 63 }
-    ensures { result ≡ pos dt }
-{
-    dt as i64
 }
 
 // The sum modulo 2^64, read as signed.
