@@ -14,7 +14,8 @@ pub mod Forms
 pub mod EngineMeets
 pub mod Runners
 pub mod Ranks
-pub mod Advancing
-pub mod Pushing
-pub mod Bindings
-pub mod GrownTables
+pub mod StateTypings
+pub mod StillRuns
+pub mod RunForms
+pub mod PlanForms
+pub mod RunCells

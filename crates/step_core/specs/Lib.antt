@@ -3,8 +3,12 @@ pub mod Stepping
 pub mod Rank
 pub mod RowTyping
 pub mod Binding
-pub mod CellValues
-pub mod RunnerState
-pub mod RunnerView
-pub mod Lookup
-pub mod BindingLaws
+pub mod StateTyping
+pub mod Called
+pub mod Runs
+pub mod Still
+pub mod Outcome
+pub mod Joined
+pub mod SourceView
+pub mod Plans
+pub mod EventView

@@ -1,0 +1,51 @@
+-- What a plan says of what runs.
+use Rattle.std.specs.Prelude.{◌≡◌, ℕ, List, Option, Some, None}
+use Rattle.sample_core.specs.Datum.{Datum, unit}
+use Rattle.sample_core.specs.ValueView.{datum_of}
+use Rattle.cell_core.specs.Cell.{accumulator_of}
+use Rattle.cell_core.specs.CellView.{cell_of}
+use Rattle.leaf_core.specs.KeyTree.{KeyTree}
+use Rattle.leaf_table.specs.declared.table.LeafId.{LeafId}
+use Rattle.state_core.specs.State.{Frozen}
+use Rattle.state_core.specs.RowsView.{rows_in, row_number}
+use Rattle.state_core.specs.StateView.{scope_of}
+use Rattle.step_core.specs.Called.{Called}
+use Rattle.step_core.specs.SourceView.{source_of, sources_of}
+use Rattle.step_core.specs.Runs.{StillBy, StartBy, GatherBy, CellBy, AccumBy, SeqBy, FirstBy, ParBy, LoopBy, SwitchBy, DSwitchBy, RSwitchBy, KSwitchBy, PSwitchBy, OldBy}
+use Rattle.step_core.specs.declared.plan.Plan.{Plan}
+use Rattle.step_core.specs.declared.plan.Plan.TheVariants as P
+use Rattle.step_core.specs.declared.plan.Back.{Back}
+use Rattle.step_core.specs.declared.plan.Back.TheVariants as B
+
+-- the number of a constant's row
+abbrev pub number_of : Option LeafId → Option ℕ
+number_of (Some c) = Some (row_number c)
+number_of None = None
+
+-- u is what is fed back
+abbrev pub IsFed : List KeyTree → Back → Datum → Type 0
+IsFed keys (B.Row c ps) u = Called keys (row_number c) ps.now unit u
+IsFed keys (B.Value v) u = u ≡ datum_of v.now
+
+-- w, whose next sample comes after the step d, runs by the plan's parts
+abbrev pub PlanBy : Frozen ℕ → ℕ → Plan → Type 0
+PlanBy w d (P.Still f ps) = StillBy w (rows_in f.net.now) ps.now
+PlanBy w d (P.Start form c ps) = StartBy w form (number_of c) ps.now
+PlanBy w d (P.Gather g z ps) = GatherBy w (row_number g) (row_number z) ps.now
+PlanBy w d (P.Cell k) = CellBy w (cell_of k.now)
+PlanBy w d (P.AccumBy a) =
+    AccumBy w (row_number a.now.leaf) a.now.params (accumulator_of (cell_of a.now.cell))
+PlanBy w d (P.Seq f g) = SeqBy w (source_of f d) (source_of g d)
+PlanBy w d (P.First f) = FirstBy w (source_of f d)
+PlanBy w d (P.Par fs) = ParBy w (sources_of fs d)
+PlanBy w d (P.LoopPre b f) = (keys : List KeyTree) (u : Datum) → IsFed keys b u
+    → LoopBy keys w u (source_of f d)
+PlanBy w d (P.Switch f t s) = SwitchBy w (source_of f d) (rows_in t.now) (scope_of s.now)
+PlanBy w d (P.DSwitch f t s) = DSwitchBy w (source_of f d) (rows_in t.now) (scope_of s.now)
+PlanBy w d (P.RSwitch f t s) = RSwitchBy w (source_of f d) (rows_in t.now) (scope_of s.now)
+PlanBy w d (P.KSwitch f e t s) =
+    KSwitchBy w (source_of f d) (source_of e d) (rows_in t.now) (scope_of s.now)
+PlanBy w d (P.PSwitch r fs e t s) =
+    PSwitchBy w (row_number r) (sources_of fs d) (source_of e d) (rows_in t.now) (scope_of s.now)
+PlanBy w d (P.Old f k) = OldBy w (source_of f k)
+PlanBy w d P.Beyond = Unit {0}

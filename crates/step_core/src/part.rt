@@ -1,0 +1,62 @@
+// Parts of values.
+
+ghost use Rattle.std.specs.Prelude.{◌≡◌, IfOk};
+ghost use Rattle.sample_core.specs.Datum.{left, right, pair};
+ghost use Rattle.sample_core.specs.ValueView.{datum_of};
+ghost use Rattle.step_core.specs.Stepping.{event_in, restart_in};
+ghost use Rattle.step_core.specs.EventView.{event_found, restart_found};
+
+use sample_core::{Memory, Sample, SamplePair};
+use std::alloc::Global;
+
+/// The first part of a pair; another value itself.
+pub(crate) fn first(value: &Sample) -> &Sample
+    ensures { datum_of result.now ≡ left (datum_of value.now) }
+{
+    match value {
+        Sample::Pair(pair) => pair.first(),
+        _ => value,
+    }
+}
+
+/// The second part of a pair; another value itself.
+pub(crate) fn second(value: &Sample) -> &Sample
+    ensures { datum_of result.now ≡ right (datum_of value.now) }
+{
+    match value {
+        Sample::Pair(pair) => pair.second(),
+        _ => value,
+    }
+}
+
+/// A pair of two values. `Memory` where a growth was refused.
+pub(crate) fn paired(alloc: Global, v: Sample, w: Sample) -> Result<Sample, Memory>
+    ensures { IfOk result (λ p. datum_of p ≡ pair (datum_of v) (datum_of w)) }
+{
+    let pair = SamplePair::new(alloc, v, w)?;
+    Ok(Sample::Pair(pair))
+}
+
+/// What an event carries; `None` for another value.
+pub(crate) fn event_of(value: &Sample) -> Option<&Sample>
+    ensures { event_found result ≡ event_in (datum_of value.now) }
+{
+    match value {
+        Sample::Event(event) => Some(event.get()),
+        _ => None,
+    }
+}
+
+/// The sample and what the event carries, of a pair of a sample and an event; `None` for another
+/// value.
+pub(crate) fn restart_of(value: &Sample) -> Option<(&Sample, &Sample)>
+    ensures { restart_found result ≡ restart_in (datum_of value.now) }
+{
+    match value {
+        Sample::Pair(pair) => match pair.second() {
+            Sample::Event(event) => Some((pair.first(), event.get())),
+            _ => None,
+        },
+        _ => None,
+    }
+}

@@ -1,0 +1,195 @@
+// What a sample is to do, by the form of what runs.
+
+ghost use Rattle.std.specs.Prelude.{◌≡◌, ℕ};
+ghost use Rattle.state_core.specs.RowsView.{rows_in};
+ghost use Rattle.state_core.specs.State.{unstarted, paused, params_of, Frozen as FrozenState, Scope};
+ghost use Rattle.state_core.specs.StateView.{state_of, scope_of, node_of, frozen_of};
+ghost use Rattle.step_core.specs.Plans.{PlanBy};
+ghost use Rattle.step_core.specs.Runs.{OldBy};
+ghost use Rattle.step_core.specs.SourceView.{source_of};
+
+use cell_core::{Cell, Form};
+use leaf_table::LeafId;
+use net_syntax::Net;
+use sample_core::Sample;
+use state_core::{Accumulator, Env, Frozen, Node, Params, State, Still};
+
+/// What runs next: a network that has not started, in a scope, or a state.
+#[derive(Clone, Copy)]
+pub(crate) enum Source<'s, 'n> {
+    Net(&'n Net<LeafId>, &'s Env<'n>),
+    State(&'s State<'n>),
+}
+
+/// Members that run next: networks that have not started, in one scope, or states.
+#[derive(Clone, Copy)]
+pub(crate) enum Sources<'s, 'n> {
+    Nets(&'n [Net<LeafId>], &'s Env<'n>),
+    States(&'s [State<'n>]),
+}
+
+/// What a `loopPre` feeds back: what a row answers, at the start, or a value.
+#[derive(Clone, Copy)]
+pub(crate) enum Back<'s> {
+    Row(LeafId, &'s Params),
+    Value(&'s Sample),
+}
+
+/// What is to do, by parts.
+#[derive(Clone, Copy)]
+pub(crate) enum Plan<'s, 'n> {
+    /// A network that keeps nothing, with its parameters.
+    Still(Still<'n>, &'s Params),
+    /// A cell starts: its form, the row of its constant, if it has one, and the parameters.
+    Start(Form, Option<LeafId>, &'s Params),
+    /// An `accumBy` starts: its leaf's row, the row of its constant, and the parameters.
+    Gather(LeafId, LeafId, &'s Params),
+    /// A cell steps.
+    Cell(&'s Cell),
+    /// An `accumBy` steps.
+    AccumBy(&'s Accumulator),
+    /// `>>>`.
+    Seq(Source<'s, 'n>, Source<'s, 'n>),
+    /// `first`.
+    First(Source<'s, 'n>),
+    /// `parB`.
+    Par(Sources<'s, 'n>),
+    /// `loopPre`, with what is fed back.
+    LoopPre(Back<'s>, Source<'s, 'n>),
+    /// `switch`, with the network that takes over and its scope.
+    Switch(Source<'s, 'n>, &'n Net<LeafId>, &'s Env<'n>),
+    /// `dSwitch` likewise.
+    DSwitch(Source<'s, 'n>, &'n Net<LeafId>, &'s Env<'n>),
+    /// `rSwitch` likewise.
+    RSwitch(Source<'s, 'n>, &'n Net<LeafId>, &'s Env<'n>),
+    /// `kSwitch` likewise, with the part that watches.
+    KSwitch(Source<'s, 'n>, Source<'s, 'n>, &'n Net<LeafId>, &'s Env<'n>),
+    /// `pSwitch` likewise: the routing, the members, and the part that watches them.
+    PSwitch(
+        LeafId,
+        Sources<'s, 'n>,
+        Source<'s, 'n>,
+        &'n Net<LeafId>,
+        &'s Env<'n>,
+    ),
+    /// `old`: what is resumed, with its step.
+    Old(Source<'s, 'n>, u64),
+    /// No frozen network has that level.
+    Beyond,
+}
+
+/// What is to do.
+pub(crate) fn plan_of<'s, 'n>(from: Source<'s, 'n>) -> Plan<'s, 'n>
+    ensures { (d : ℕ) → PlanBy (source_of from.entry d) d result }
+{
+    match from {
+        Source::Net(net, env) => plan_start(net, env),
+        Source::State(state) => plan_step(state),
+    }
+}
+
+/// What a start is to do.
+fn plan_start<'s, 'n>(net: &'n Net<LeafId>, env: &'s Env<'n>) -> Plan<'s, 'n>
+    ensures { (d : ℕ)
+        → PlanBy (unstarted (rows_in net.entry.now) (scope_of env.entry.now)) d result }
+{
+    match Still::of(net) {
+        Some(still) => Plan::Still(still, &env.params),
+        None => plan_form(net, env),
+    }
+}
+
+/// What a start of a network that keeps something is to do, by its form.
+fn plan_form<'s, 'n>(net: &'n Net<LeafId>, env: &'s Env<'n>) -> Plan<'s, 'n>
+    ensures { (d : ℕ)
+        → PlanBy (unstarted (rows_in net.entry.now) (scope_of env.entry.now)) d result }
+{
+    match net {
+        Net::Arr(_) => Plan::Beyond,
+        Net::Seq(f, g) => Plan::Seq(Source::Net(f.get(), env), Source::Net(g.get(), env)),
+        Net::First(f) => Plan::First(Source::Net(f.get(), env)),
+        Net::Par(fs) => Plan::Par(Sources::Nets(fs.as_slice(), env)),
+        Net::LoopPre(c, f) => {
+            Plan::LoopPre(Back::Row(*c, &env.params), Source::Net(f.get(), env))
+        }
+        Net::Switch(f, t) => Plan::Switch(Source::Net(f.get(), env), t.get(), env),
+        Net::DSwitch(f, t) => Plan::DSwitch(Source::Net(f.get(), env), t.get(), env),
+        Net::RSwitch(f, t) => Plan::RSwitch(Source::Net(f.get(), env), t.get(), env),
+        Net::KSwitch(f, e, t) => {
+            let f = Source::Net(f.get(), env);
+            Plan::KSwitch(f, Source::Net(e.get(), env), t.get(), env)
+        }
+        Net::PSwitch(r, fs, e, t) => {
+            let fs = Sources::Nets(fs.as_slice(), env);
+            Plan::PSwitch(*r, fs, Source::Net(e.get(), env), t.get(), env)
+        }
+        Net::Old(k) => match env.olds.get(*k) {
+            Some(frozen) => plan_resume(frozen),
+            None => Plan::Beyond,
+        },
+        _ => plan_cell(net, &env.params),
+    }
+}
+
+/// What a start of a cell is to do.
+fn plan_cell<'s, 'n>(net: &'n Net<LeafId>, params: &'s Params) -> Plan<'s, 'n>
+    ensures { (d : ℕ) (s : Scope ℕ) → params_of s ≡ params.entry.now
+        → PlanBy (unstarted (rows_in net.entry.now) s) d result }
+{
+    match net {
+        Net::IPre(c) => Plan::Start(Form::IPre, Some(*c), params),
+        Net::Delay(q, c) => Plan::Start(Form::Delay(*q), Some(*c), params),
+        Net::Hold(c) => Plan::Start(Form::Hold, Some(*c), params),
+        Net::AccumBy(g, z) => Plan::Gather(*g, *z, params),
+        Net::After(q, c) => Plan::Start(Form::After(*q), Some(*c), params),
+        Net::Repeatedly(q, c) => Plan::Start(Form::Repeatedly(*q), Some(*c), params),
+        Net::Time => Plan::Start(Form::Time, None, params),
+        Net::Integral => Plan::Start(Form::Integral, None, params),
+        _ => Plan::Beyond,
+    }
+}
+
+/// What a step is to do.
+fn plan_step<'s, 'n>(state: &'s State<'n>) -> Plan<'s, 'n>
+    ensures { (d : ℕ) → PlanBy (paused (state_of state.entry.now) d) d result }
+{
+    match state {
+        State::Still(still, params) => Plan::Still(*still, params),
+        State::Cell(cell) => Plan::Cell(cell),
+        State::AccumBy(accumulator) => Plan::AccumBy(accumulator),
+        State::Whole(whole) => plan_node(whole.get()),
+    }
+}
+
+/// What a step of a node is to do.
+fn plan_node<'s, 'n>(node: &'s Node<'n>) -> Plan<'s, 'n>
+    ensures { (d : ℕ) → PlanBy (paused (node_of node.entry.now) d) d result }
+{
+    match node {
+        Node::Seq(a, b) => Plan::Seq(Source::State(a), Source::State(b)),
+        Node::First(a) => Plan::First(Source::State(a)),
+        Node::Par(all) => Plan::Par(Sources::States(all.as_slice())),
+        Node::LoopPre(fed_back, a) => Plan::LoopPre(Back::Value(fed_back), Source::State(a)),
+        Node::Switch(a, t, env) => Plan::Switch(Source::State(a), *t, env),
+        Node::DSwitch(a, t, env) => Plan::DSwitch(Source::State(a), *t, env),
+        Node::RSwitch(a, t, env) => Plan::RSwitch(Source::State(a), *t, env),
+        Node::KSwitch(a, b, t, env) => {
+            Plan::KSwitch(Source::State(a), Source::State(b), *t, env)
+        }
+        Node::PSwitch(r, all, b, t, env) => {
+            let members = Sources::States(all.as_slice());
+            Plan::PSwitch(*r, members, Source::State(b), *t, env)
+        }
+    }
+}
+
+/// `old` of a frozen network.
+fn plan_resume<'s, 'n>(frozen: &'s Frozen<'n>) -> Plan<'s, 'n>
+    ensures { (w : FrozenState ℕ) → OldBy w (frozen_of frozen.entry.now)
+        → (d : ℕ) → PlanBy w d result }
+{
+    match frozen {
+        Frozen::Unstarted { net, env } => Plan::Old(Source::Net(*net, env), 0),
+        Frozen::Paused { state, step } => Plan::Old(Source::State(state), *step),
+    }
+}
