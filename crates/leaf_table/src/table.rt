@@ -119,6 +119,13 @@ impl LeafTable {
         }
     }
 
+    /// How many rows the table has.
+    pub fn len(&self) -> usize
+        ensures { result ≡ length (rows_of self.now) }
+    {
+        self.rows.len()
+    }
+
     /// What the row's closure answers to the parameters' values, parameter 0 first, and the input
     /// `x`. At arguments of its key's types that is the value of its key's expression. The row
     /// must be there. `Memory` where the closure was refused a growth.

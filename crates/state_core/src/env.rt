@@ -149,7 +149,7 @@ impl<'n> Frozen<'n> {
     {
         match self {
             Frozen::Unstarted { net, env } => unstarted(*net, env),
-            Frozen::Paused { state, step } => paused(alloc, state, *step),
+            Frozen::Paused { state, step } => pause(alloc, state, *step),
         }
     }
 }
@@ -258,7 +258,7 @@ pub fn freeze<'n>(
         ≡ frozen_from (rows_in net.entry.now) (scope_of env.now) state.entry step) }
 {
     match state {
-        Some(state) => paused(alloc, state, step),
+        Some(state) => pause(alloc, state, step),
         None => unstarted(net, env),
     }
 }
@@ -272,8 +272,9 @@ fn unstarted<'n>(net: &'n Net<LeafId>, env: &Env<'n>) -> Result<Frozen<'n>, Memo
     Ok(Frozen::Unstarted { net, env })
 }
 
-/// The state, with the step of the sample that it does not see.
-fn paused<'n>(alloc: Global, state: &State<'n>, step: u64) -> Result<Frozen<'n>, Memory>
+/// The state frozen, with the step of the sample that it does not see. It takes no memory; `Memory`
+/// only where a count of references is full.
+pub fn pause<'n>(alloc: Global, state: &State<'n>, step: u64) -> Result<Frozen<'n>, Memory>
     ensures { IfOk result (λ f. frozen_of f ≡ paused_state (state_of state.now) step) }
 {
     let state = state.try_copy(alloc)?;

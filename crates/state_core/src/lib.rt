@@ -9,7 +9,7 @@ mod state;
 mod still;
 
 pub use accumulator::Accumulator;
-pub use env::{Env, Frozen, OldList, Olds, freeze, push_old, push_olds, push_param};
+pub use env::{Env, Frozen, OldList, Olds, freeze, pause, push_old, push_olds, push_param};
 pub use params::Params;
 pub use part::{gather, route};
 pub use state::{Node, State, States, Whole};

@@ -73,8 +73,8 @@ p_switch_new_by n r fs e t s h = subst (λ z. PSwitchBy (unstarted z s) r (all_u
 pub p_switch_on_by : (w : State ℕ) (r : ℕ) (as' : States ℕ) (b : State ℕ) (t : Network ℕ) (s : Scope ℕ) (d : ℕ) → w ≡ p_switch_state r as' b t s → PSwitchBy (paused w d) r (all_paused as' d) (paused b d) t s
 p_switch_on_by w r as' b t s d h = subst (λ z. PSwitchBy (paused z d) r (all_paused as' d) (paused b d) t s) (sym h) R.p_switch_on
 
-pub cell_on_by : (r : State ℕ) (k : Cell) (d : ℕ) → r ≡ cell_state k → CellBy (paused r d) k
-cell_on_by r k d e = subst (λ z. CellBy (paused z d) k) (sym e) R.cell_on
+pub cell_on_by : (r : State ℕ) (k : Cell) (d : ℕ) → r ≡ cell_state k → CellBy (paused r d) d k
+cell_on_by r k d e = subst (λ z. CellBy (paused z d) d k) (sym e) R.cell_on
 
 pub accum_on_by : (r : State ℕ) (g : ℕ) (ps : List Datum) (acc : Datum) (d : ℕ) → r ≡ accum_state g ps acc → AccumBy (paused r d) g ps acc
 accum_on_by r g ps acc d e = subst (λ z. AccumBy (paused z d) g ps acc) (sym e) R.accum_on

@@ -52,8 +52,8 @@ module _ (keys : List KeyTree) where
   start_runs form c ps x v q h e w R.time_new A B ft t = one_visit w x _ q e (G.resume_unstarted G.start_time)
   start_runs form c ps x v q h e w R.integral_new A B ft t = one_visit w x _ q e (G.resume_unstarted G.start_integral)
 
-  pub cell_runs : (k : Cell) (dt : ℕ) (x : Datum) (q : Cell × Datum) → q ≡ cell_step k (dt, x) → RunsWhere keys (paused (cell_state k) dt) x (cell_state q.0) q.1 1
-  cell_runs k dt x q e A B ft t = one_visit _ x _ q e (G.resume_paused (G.step_cell refl))
+  pub cell_runs : (k : Cell) (dt : ℕ) (x : Datum) (q : Cell × Datum) → q ≡ cell_step k (dt, x) → (w : Frozen ℕ) → CellBy w dt k → RunsWhere keys w x (cell_state q.0) q.1 1
+  cell_runs k dt x q e w R.cell_on A B ft t = one_visit _ x _ q e (G.resume_paused (G.step_cell refl))
 
   -- what is put in for a sample is the event of the row's value
   put_in_row : (g : ℕ) (ps : List Datum) (acc x a : Datum) {Ps : List TypeTree} {V Z : TypeTree} → IsPutIn keys g ps acc x a → RowTyped keys g Ps (pair_ty Z V) Z → TypedParams Ps ps → HasType acc Z

@@ -32,7 +32,7 @@ abbrev pub PlanBy : Frozen ℕ → ℕ → Plan → Type 0
 PlanBy w d (P.Still f ps) = StillBy w (rows_in f.net.now) ps.now
 PlanBy w d (P.Start form c ps) = StartBy w form (number_of c) ps.now
 PlanBy w d (P.Gather g z ps) = GatherBy w (row_number g) (row_number z) ps.now
-PlanBy w d (P.Cell k) = CellBy w (cell_of k.now)
+PlanBy w d (P.Cell k) = CellBy w d (cell_of k.now)
 PlanBy w d (P.AccumBy a) =
     AccumBy w (row_number a.now.leaf) a.now.params (accumulator_of (cell_of a.now.cell))
 PlanBy w d (P.Seq f g) = SeqBy w (source_of f d) (source_of g d)

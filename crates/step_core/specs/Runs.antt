@@ -52,9 +52,9 @@ pub data GatherBy : Frozen ℕ → ℕ → ℕ → List Datum → Type 0 where
   gather_new : {g z : ℕ} {s : Scope ℕ}
       → GatherBy (unstarted (accum_by g z) s) g z (params_of s)
 
--- a cell's step by the cell
-pub data CellBy : Frozen ℕ → Cell → Type 0 where
-  cell_on : {k : Cell} {d : ℕ} → CellBy (paused (cell_state k) d) k
+-- a cell's step by the time and the cell
+pub data CellBy : Frozen ℕ → ℕ → Cell → Type 0 where
+  cell_on : {k : Cell} {d : ℕ} → CellBy (paused (cell_state k) d) d k
 
 -- a step of an `accumBy` by its leaf's row, the parameters and the accumulator
 pub data AccumBy : Frozen ℕ → ℕ → List Datum → Datum → Type 0 where
@@ -119,15 +119,22 @@ pub data RunsEach (keys : List KeyTree) (h : ℕ → Datum → Datum) (x : Datum
   runs_also : {i : ℕ} {f : Frozen ℕ} {fs : Frozens ℕ} {a : State ℕ} {as' : States ℕ} {y : Datum} {ys : List Datum} {m n : ℕ} →
       Resumes (row_value keys) f (h i x) a y m → RunsEach keys h x (suc i) fs as' ys n → RunsEach keys h x i (and_frozen f fs) (and_state a as') (y ∷ ys) (m + n)
 
--- the members' states and answers were added
-pub record RanEach (keys : List KeyTree) (h : ℕ → Datum → Datum) (x : Datum) (i : ℕ) (fs : Frozens ℕ) (before now : States ℕ) (old new : List Datum) (counted : ℕ) : Type 0 where
+-- what members led to: their states, their answers and how many nodes they visited
+pub record Gathered : Type 0 where
+  pub states : States ℕ
+  pub answers : List Datum
+  pub visits : ℕ
+
+-- what the members led to was added
+pub record RanEach (keys : List KeyTree) (h : ℕ → Datum → Datum) (x : Datum) (i : ℕ) (fs : Frozens ℕ)
+    (before now : Gathered) : Type 0 where
   pub states : States ℕ
   pub answers : List Datum
   pub visits : ℕ
   pub runs : RunsEach keys h x i fs states answers visits
-  pub is_count : visits < 2 ^ 32 → counted ≡ visits
-  pub states_added : now ≡ append_states before states
-  pub answers_added : new ≡ old ++ answers
+  pub states_added : now.states ≡ append_states before.states states
+  pub answers_added : now.answers ≡ before.answers ++ answers
+  pub visits_added : before.visits + visits < 2 ^ 32 → now.visits ≡ before.visits + visits
 
 -- what is handed to member i: the sample itself, or what row r makes of the sample and i
 pub data Router : Type 0 where
@@ -146,8 +153,8 @@ HandsOut keys (by_row r ps) A D = (Ps : List TypeTree) × RowTyped keys r Ps (pa
     × TypedParams Ps ps
 
 -- the same wherever they are typed, up to member 64
-abbrev pub RunEachWhere : List KeyTree → Router → ℕ → Frozens ℕ → Datum → States ℕ → States ℕ
-    → List Datum → List Datum → ℕ → Type 0
-RunEachWhere keys h i fs x before now ys zs n = (k : ℕ) (A D B : TypeTree) → HandsOut keys h A D
+abbrev pub RunEachWhere : List KeyTree → Router → ℕ → Frozens ℕ → Datum → Gathered → Gathered
+    → Type 0
+RunEachWhere keys h i fs x before now = (k : ℕ) (A D B : TypeTree) → HandsOut keys h A D
     → i + k ≤ 64 → FrozensTyped keys fs (copies k (arrow D B)) → HasType x A
-    → RanEach keys (handed keys h) x i fs before now ys zs n
+    → RanEach keys (handed keys h) x i fs before now

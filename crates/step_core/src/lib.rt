@@ -2,8 +2,12 @@
 #![tactic(auto)]
 
 mod bound;
+mod cells;
 mod count;
 mod part;
 mod plan;
+mod ran;
+mod rows;
+mod still;
 
 pub use bound::Bound;
