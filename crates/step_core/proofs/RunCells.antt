@@ -8,7 +8,7 @@ use Rattle.net_syntax.specs.SignalFunction.{latest_event, fold_events, if_event}
 use Rattle.net_syntax.specs.Network.{Network, i_pre, delay, hold, accum_by, after, repeatedly, time, integral}
 use Rattle.net_syntax.specs.Typing as N
 use Rattle.net_syntax.proofs.TypedLists.{typed_event}
-use Rattle.cell_core.specs.Cell.{Cell, cell_step, after_cell, accumulating}
+use Rattle.cell_core.specs.Cell.{Cell, cell_step, after_cell, accumulating, accumulator_of}
 use Rattle.cell_core.specs.Start.{cell_start}
 use Rattle.cell_core.specs.CellLaws.{put_in}
 use Rattle.cell_core.proofs.KeptCells.{put_in-latest, put_in-if_event}
@@ -21,6 +21,7 @@ use Rattle.step_core.specs.RowTyping.{RowTyped}
 use Rattle.step_core.specs.StateTyping as T
 use Rattle.step_core.specs.StateTyping.{row_value}
 use Rattle.step_core.specs.Called.{Called, IsConstant, IsPutIn}
+use Rattle.step_core.specs.Outcome.{Outcome}
 use Rattle.step_core.specs.Runs as R
 use Rattle.step_core.specs.Runs.{Ran, RunsWhere, StartBy, GatherBy, CellBy, AccumBy}
 use Rattle.step_core.proofs.StateTypings.{row_typed, params_typed}
@@ -103,3 +104,27 @@ module _ (keys : List KeyTree) where
         resumes = subst (λ u. Resumes (row_value keys) (paused (accum_state g ps acc) d) x (accum_state g ps b) u 1) (sym (now_answered g ps acc x a b y e p)) (G.resume_paused (G.step_accum (now_held g ps acc x a b y e p)));
         is_count = λ _. refl;
       }
+
+  -- the same for what the code holds
+  pub outcome_where : (w : Frozen ℕ) (x y : Datum) (o : Outcome) (a : State ℕ) (n : ℕ) → o ≡ record { state = a; answer = y; visits = n } → RunsWhere keys w x a y n
+      → RunsWhere keys w x o.state o.answer o.visits
+  outcome_where w x y o a n e h = subst (λ (z : Outcome). RunsWhere keys w x z.state z.answer z.visits) (sym e) h
+
+  pub gather_where : (g z : ℕ) (ps : List Datum) (x v a : Datum) (q : Cell × Datum) (o : Outcome) (r : State ℕ) (qs rs : List Datum) → q ≡ cell_start F.AccumBy v a
+      → rs ≡ ps → Called keys z rs unit v → IsPutIn keys g ps v x a → o ≡ record { state = r; answer = q.1; visits = 1 } → r ≡ accum_state g qs (accumulator_of q.0) → qs ≡ ps
+      → (w : Frozen ℕ) → GatherBy w g z ps → RunsWhere keys w x o.state o.answer o.visits
+  gather_where g z ps x v a q o r qs rs e er hz hp eo es eq w k =
+      let same : (accumulating (accumulator_of q.0), q.1) ≡ cell_start F.AccumBy v a = ap (λ (u : Cell × Datum). (accumulating (accumulator_of u.0), u.1)) e in
+      outcome_where w x q.1 o r 1 eo (subst (λ t. RunsWhere keys w x t q.1 1) (sym (es ∙ ap (λ us. accum_state g us (accumulator_of q.0)) eq))
+      (gather_runs g z ps x v a (accumulator_of q.0) q.1 (subst (λ us. Called keys z us unit v) er hz) hp same w k))
+
+  pub accum_where : (g f l dt : ℕ) (ps qs rs : List Datum) (k j : Cell) (h x a : Datum) (q : Cell × Datum) (o : Outcome) (r : State ℕ) → q ≡ cell_step j (dt, a) → j ≡ k
+      → k ≡ accumulating h → f ≡ g → qs ≡ ps → IsPutIn keys f qs h x a → o ≡ record { state = r; answer = q.1; visits = 1 }
+      → r ≡ accum_state l rs (accumulator_of q.0) → l ≡ g → rs ≡ ps → (w : Frozen ℕ) → AccumBy w g ps (accumulator_of k) → RunsWhere keys w x o.state o.answer o.visits
+  accum_where g f l dt ps qs rs k j h x a q o r e ej ek ef eq hp eo es el er w b =
+      let here : q ≡ cell_step (accumulating h) (dt, a) = e ∙ ap (λ u. cell_step u (dt, a)) (ej ∙ ek) in
+      let same : (accumulating (accumulator_of q.0), q.1) ≡ cell_step (accumulating h) (0, a) = ap (λ (u : Cell × Datum). (accumulating (accumulator_of u.0), u.1)) here in
+      let held : accumulator_of k ≡ h = ap accumulator_of ek in
+      let put : IsPutIn keys g ps h x a = subst (λ us. IsPutIn keys g us h x a) eq (subst (λ u. IsPutIn keys u qs h x a) ef hp) in
+      outcome_where w x q.1 o r 1 eo (subst (λ t. RunsWhere keys w x t q.1 1) (sym (es ∙ (λ i. accum_state (el i) (er i) (accumulator_of q.0))))
+      (accum_runs g ps h x a (accumulator_of q.0) q.1 put same w (subst (λ u. AccumBy w g ps u) held b)))
