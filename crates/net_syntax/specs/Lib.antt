@@ -22,3 +22,4 @@ pub mod Leaves
 pub mod NeedView
 pub mod ArrowView
 pub mod Left
+pub mod LeafWalk
