@@ -23,3 +23,4 @@ pub mod NeedView
 pub mod ArrowView
 pub mod Left
 pub mod LeafWalk
+pub mod FormView

@@ -2,6 +2,7 @@
 #![tactic(auto)]
 
 mod arrow;
+mod forms;
 mod laws;
 mod measure;
 mod need;
@@ -12,6 +13,7 @@ mod position;
 mod typed_net;
 
 pub use arrow::Arrow;
+pub use forms::{LeafForm, PairForm};
 pub use laws::{output_examples, stream_laws, switching_laws, typing_laws, weight_examples};
 pub use measure::{MOST_HEIGHT, MOST_WEIGHT, height, is_oversized, weight};
 pub use need::LeafNeed;
