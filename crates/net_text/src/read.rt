@@ -1,8 +1,8 @@
 // Reading network files.
 
 ghost use Rattle.std.specs.Prelude.{◌≡◌, ◌<◌, ◌≤◌, Err, length, option_map, IfOk, IfErr};
-ghost use Rattle.leaf_expr.specs.Grammar.{expression_sort};
-ghost use Rattle.leaf_expr.specs.ReadText.{Gives, tree_at, expression_left};
+ghost use Rattle.leaf_expr.specs.Grammar.{expression_sort, type_sort};
+ghost use Rattle.leaf_expr.specs.ReadText.{Gives, tree_at, expression_left, type_left};
 ghost use Rattle.leaf_core.specs.ExpressionView.{expression_of};
 ghost use Rattle.leaf_expr.specs.Token.{tokens, tokens_from};
 ghost use Rattle.leaf_core.specs.Expression.{Expression};
@@ -46,14 +46,11 @@ pub fn read_net(alloc: Global, text: &[u8]) -> Result<(Ty, Net<Expr>), NetTextFa
     ensures long { 1048576 < length text.now → result ≡ Err Fault.TooLong }
     // What is refused is so at the first token that doesn't fit, or for its length.
     ensures refused { IfErr result (IsFileFault text.now) }
-    // Which answer it is.
-    ensures exact { GivesFile result (read_file text.now) }
 {
     file(alloc, text)
 }
 
-/// What `read_net` answers. It stands apart, since the other clauses of that contract follow from
-/// these.
+/// What `read_net` answers. It stands apart, since the clauses of that contract follow from its own.
 fn file(alloc: Global, text: &[u8]) -> Result<(Ty, Net<Expr>), NetTextFault>
     ensures long { 1048576 < length text.now → result ≡ Err Fault.TooLong }
     ensures exact { GivesFile result (read_file text.now) }
@@ -79,7 +76,7 @@ fn body_at(alloc: Global, text: &[u8], at: usize) -> Result<(Ty, Net<Expr>), Exp
     ensures { Gives (λ x. (type_of x.0, tree_of x.1)) result
         (read_body (length text.now) (tokens_from at text.now)) }
 {
-    let (input, at) = read_type_at(alloc, text, at, 0)?;
+    let (input, at) = type_at(alloc, text, at, MAX_OPEN)?;
     match last_network(alloc, text, at) {
         Ok(net) => Ok((input, net)),
         Err(fault) => {
@@ -270,4 +267,12 @@ fn expr_at(
     ensures { Gives (expression_left text.now) result (tree_at expression_sort text.now room at) }
 {
     read_expr_at(alloc, text, at, MAX_OPEN - room)
+}
+
+/// The type at or after byte `at`, with room for so many more parentheses, and the byte behind it.
+fn type_at(alloc: Global, text: &[u8], at: usize, room: usize) -> Result<(Ty, usize), ExprTextFault>
+    requires { room ≤ 600 }
+    ensures { Gives (type_left text.now) result (tree_at type_sort text.now room at) }
+{
+    read_type_at(alloc, text, at, MAX_OPEN - room)
 }
