@@ -19,3 +19,4 @@ pub mod NaturalSteps
 pub mod Joined
 pub mod Answered
 pub mod FrontSteps
+pub mod PartSteps

@@ -4,8 +4,10 @@
 mod fault;
 mod form;
 mod laws;
+mod network_reader;
 mod print;
 mod read;
+mod sugar;
 
 pub use fault::NetTextFault;
 pub use laws::{file_laws, grammar_rows, printing_laws, reading_laws};
