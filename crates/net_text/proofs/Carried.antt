@@ -5,7 +5,7 @@ use Rattle.leaf_expr.specs.Token.{opening, closing, word, PlacedToken}
 use Rattle.leaf_expr.specs.Sexpr.{Sexpr, Sexprs, atom, form, last, more}
 use Rattle.leaf_expr.specs.Language.{Places, Maker, Row, no_place, place, places, meaning, make_tree}
 use Rattle.leaf_expr.specs.Grammar.{leaf, Sort, Tree, row_at, has_form}
-use Rattle.leaf_expr.specs.TreeReader.{Read, read, read_form, read_head, read_row, read_parts, read_all, read_end}
+use Rattle.leaf_expr.specs.TreeReader.{Read, read, read_form, read_head, read_row, read_parts, read_all}
 use Rattle.leaf_expr.proofs.PartSteps.{end_same, head_same}
 use Rattle.net_text.specs.Grammar.{networks, NetSort, NetTree, leaf_sort, leaf_places, leaf_maker, leaf_row, net_word_at, net_row_at}
 use Rattle.sample_core.specs.Answer.{◌>>=◌}

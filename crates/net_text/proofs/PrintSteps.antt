@@ -1,5 +1,5 @@
 -- Steps of printing networks, as the code takes them.
-use Rattle.std.proofs.Common.{ℕ, suc, zero, ◌+◌, ◌≤◌, ◌<◌, List, [], ◌∷◌, length, arith, get_or}
+use Rattle.std.proofs.Common.{ℕ, suc, zero, ◌≤◌, ◌<◌, List, [], ◌∷◌, length, arith, get_or}
 use Rattle.net_syntax.specs.Network.{network_size, networks_size}
 use Rattle.net_syntax.specs.NetworkView.{network_of, members_of}
 use Rattle.net_syntax.specs.declared.net.Net.{Net}

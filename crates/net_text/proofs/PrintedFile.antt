@@ -80,8 +80,10 @@ mutual
       let k = printed t r.3 in
       let m : meaning networks members_sort (form (codes "col") (network_sexprs fs)) ≡ Some fs = h.1 networks_of ∙ ap Some (listed_are fs) in
       (rw (leaf_means c r.0, m, j.0, k.0) refl, rw (expression_plain c r.0, h.2, j.1, k.1) refl)
-  printed (old k) r = (let i : meaning networks (leaf_sort index_sort) (atom (decimal k)) ≡ Some k = index_kept k r in rw i refl,
-      rw (decimal_is_word k (omega arith)) refl)
+  printed (old k) r = (
+    let i : meaning networks (leaf_sort index_sort) (atom (decimal k)) ≡ Some k = index_kept k r in rw i refl,
+    rw (decimal_is_word k (omega arith)) refl,
+  )
 
   members_printed : (fs : Networks Expression) → AllWritable fs →
       ((make : List (Network Expression) → Network Expression) →

@@ -10,6 +10,6 @@ mod read;
 mod sugar;
 
 pub use fault::NetTextFault;
-pub use laws::{file_laws, grammar_rows, printing_laws, reading_laws};
+pub use laws::{file_laws, grammar_rows, printing_laws, reading_laws, sugar_laws};
 pub use print::{print_net, push_net};
 pub use read::read_net;

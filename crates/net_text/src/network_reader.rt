@@ -165,12 +165,7 @@ fn leaf_form_at(
 }
 
 /// The time of the form at or after byte `at`, and the byte behind it.
-fn time_at(
-    text: &[u8],
-    at: usize,
-    room: usize,
-    form: Timer,
-) -> Result<(u64, usize), ExprTextFault>
+fn time_at(text: &[u8], at: usize, room: usize, form: Timer) -> Result<(u64, usize), ExprTextFault>
     ensures { Gives (λ x. (x.0, x.1, tokens_from x.1 text.now)) result
         (sort_at (time_sort (timer_of form)) text.now room at) }
 {
@@ -292,8 +287,11 @@ fn last_two_at(
 ) -> Result<(NetChild<Expr>, NetChild<Expr>, usize), ExprTextFault>
     requires { room ≤ 600 }
     ensures { Gives
-        (λ x. ((map_network expression_of x.0, map_network expression_of x.1), x.2,
-        tokens_from x.2 text.now)) result
+        (λ x. (
+          (map_network expression_of x.0, map_network expression_of x.1),
+          x.2,
+          tokens_from x.2 text.now,
+        )) result
         (last_two_read text.now room at) }
 {
     let (g, at) = child_at(alloc, text, at, room)?;
@@ -422,8 +420,15 @@ fn last_three_at(
 ) -> Result<(Members<Expr>, NetChild<Expr>, NetChild<Expr>, usize), ExprTextFault>
     requires { room ≤ 600 }
     ensures { Gives
-        (λ x. ((map_networks expression_of x.0, map_network expression_of x.1,
-        map_network expression_of x.2), x.3, tokens_from x.3 text.now)) result
+        (λ x. (
+          (
+            map_networks expression_of x.0,
+            map_network expression_of x.1,
+            map_network expression_of x.2,
+          ),
+          x.3,
+          tokens_from x.3 text.now,
+        )) result
         (last_three_read text.now room at) }
 {
     let (all, at) = col_at(alloc, text, at, room)?;

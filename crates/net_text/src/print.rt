@@ -169,11 +169,7 @@ fn push_last(text: &mut String, f: &NetChild<Expr>) -> Result<(), Memory>
 
 /// The last two networks of a form, and the form's end.
 #[cycle(push_net)]
-fn push_last_two(
-    text: &mut String,
-    f: &NetChild<Expr>,
-    g: &NetChild<Expr>,
-) -> Result<(), Memory>
+fn push_last_two(text: &mut String, f: &NetChild<Expr>, g: &NetChild<Expr>) -> Result<(), Memory>
     ensures { Adds result (string_bytes text.old) (string_bytes text.new)
         (spellings
         (more (network_sexpr (map_network expression_of f.now))

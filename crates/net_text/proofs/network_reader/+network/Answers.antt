@@ -8,7 +8,7 @@ use Rattle.leaf_expr.specs.Grammar.{expression_sort}
 use Rattle.leaf_expr.specs.Language.{no_place, places}
 use Rattle.leaf_expr.specs.Token.{tokens_from}
 use Rattle.leaf_expr.proofs.FrontSteps.{in_form, in_word, front_refused}
-use Rattle.leaf_expr.proofs.ItemSteps.{done, more, gone, front_none}
+use Rattle.leaf_expr.proofs.ItemSteps.{done, more, gone}
 use Rattle.leaf_expr.proofs.ReadCounts.{read_shortens}
 use Rattle.leaf_expr.proofs.ReadSteps.{given, made, told, told_memory}
 use Rattle.leaf_expr.proofs.PartSteps.{part, no_part, ended, no_end, parts_made, parts_refused}

@@ -2,7 +2,7 @@ use Rattle.std.proofs.Common.{◌≡◌, ◌++◌, ◌∷◌, [], subst, string_
 use Rattle.std.specs.Prelude.{codes}
 use Rattle.std.proofs.lemmas.Grind.{common_steps}
 use Rattle.leaf_core.specs.ExpressionView.{expression_of}
-use Rattle.leaf_expr.specs.Sexpr.{Sexprs, form, more, last, spelling, spellings}
+use Rattle.leaf_expr.specs.Sexpr.{form, more, last, spelling, spellings}
 use Rattle.leaf_expr.specs.Printing.{expression_sexpr}
 use Rattle.leaf_expr.proofs.Joined.{adds_behind, adds_next}
 use Rattle.net_syntax.specs.Network.{map_network, map_networks}
