@@ -20,3 +20,5 @@ pub mod Position
 pub mod Place
 pub mod Leaves
 pub mod NeedView
+pub mod ArrowView
+pub mod Left

@@ -83,3 +83,7 @@ module _ {L : Type 0} (c : Coded L) where
   -- networks told apart by their codes
   abbrev pub network_code : Coded (Network L)
   network_code = coded_via itself to_code to_code_inj
+
+  -- members told apart by their codes
+  abbrev pub networks_code : Coded (Networks L)
+  networks_code = coded_via itself to_codes to_codes_inj

@@ -1,8 +1,9 @@
 -- What the code's networks are as trees.
+use Rattle.std.specs.Prelude.{List, [], ◌∷◌}
 use Rattle.leaf_core.specs.Expression.{Expression}
 use Rattle.leaf_core.specs.ExpressionView.{expression_of}
 use Rattle.leaf_core.specs.declared.expr.Expr.{Expr}
-use Rattle.net_syntax.specs.Network.{Network, arr, seq, i_pre, map_network}
+use Rattle.net_syntax.specs.Network.{Network, Networks, arr, seq, first, par, loop_pre, i_pre, delay, hold, accum_by, after, repeatedly, time, integral, switch, d_switch, r_switch, k_switch, p_switch, old, no_members, and_member, map_network}
 use Rattle.net_syntax.specs.declared.net.Net.{Net}
 use Rattle.net_syntax.specs.declared.net.Net.TheVariants as V
 
@@ -10,7 +11,28 @@ use Rattle.net_syntax.specs.declared.net.Net.TheVariants as V
 abbrev pub network_of : {L : Type 0} → Net L → Network L
 network_of (V.Arr e) = arr e
 network_of (V.Seq f g) = seq f g
+network_of (V.First f) = first f
+network_of (V.Par fs) = par fs
+network_of (V.LoopPre c f) = loop_pre c f
 network_of (V.IPre c) = i_pre c
+network_of (V.Delay q c) = delay q c
+network_of (V.Hold c) = hold c
+network_of (V.AccumBy g z) = accum_by g z
+network_of (V.After q c) = after q c
+network_of (V.Repeatedly q c) = repeatedly q c
+network_of V.Time = time
+network_of V.Integral = integral
+network_of (V.Switch f t) = switch f t
+network_of (V.DSwitch f t) = d_switch f t
+network_of (V.RSwitch f t) = r_switch f t
+network_of (V.KSwitch f e t) = k_switch f e t
+network_of (V.PSwitch r fs e t) = p_switch r fs e t
+network_of (V.Old k) = old k
+
+-- the members that some `Net`s are
+abbrev pub members_of : {L : Type 0} → List (Net L) → Networks L
+members_of [] = no_members
+members_of (f ∷ fs) = and_member (network_of f) (members_of fs)
 
 -- the network that a `Net` of expressions is
 abbrev pub tree_of : Net Expr → Network Expression

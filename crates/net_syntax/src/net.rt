@@ -1,9 +1,8 @@
 // Networks, over leaves of any type.
 
 ghost use Rattle.std.specs.Prelude.{◌≡◌, IfOk};
-ghost use Rattle.net_syntax.specs.NetworkView.{network_of};
+ghost use Rattle.net_syntax.specs.NetworkView.{network_of, members_of};
 
-use leaf_core::Expr;
 use sample_core::Memory;
 use std::alloc::Global;
 use std::marker::Model;
@@ -17,8 +16,41 @@ pub enum Net<L> {
     Arr(L),
     /// `(>>> f g)`: what f outputs is what g gets.
     Seq(NetChild<L>, NetChild<L>),
+    /// `(first f)`: f on the left components.
+    First(NetChild<L>),
+    /// `(parB f1 .. fn)`: the list of what the members output, each of which gets the input.
+    Par(Members<L>),
+    /// `(loopPre c f)`: f also gets its own second output of the sample before, at first c.
+    LoopPre(L, NetChild<L>),
     /// `(iPre c)`: c first, then each sample one later.
     IPre(L),
+    /// `(delay q c)`: what came in q or more time before, c where nothing had.
+    Delay(u64, L),
+    /// `(hold c)`: the latest event's value, c before the first.
+    Hold(L),
+    /// `(accumBy g z)`: at each event, what g makes of the accumulator, at first z, and the value.
+    AccumBy(L, L),
+    /// `(after q c)`: one event with c, at the first sample when q has passed.
+    After(u64, L),
+    /// `(repeatedly q c)`: an event with c whenever a multiple of q has passed.
+    Repeatedly(u64, L),
+    /// `time`: the time since the start.
+    Time,
+    /// `integral`: the sum of the inputs, each times the step behind it.
+    Integral,
+    /// `(switch f t)`: f up to its first event, and from that sample on t.
+    Switch(NetChild<L>, NetChild<L>),
+    /// `(dSwitch f t)`: the same, with f's output at the event's sample.
+    DSwitch(NetChild<L>, NetChild<L>),
+    /// `(rSwitch f t)`: f, and from each event in the input on t anew.
+    RSwitch(NetChild<L>, NetChild<L>),
+    /// `(kSwitch f e t)`: f up to e's first event, and from that sample on t, with f frozen.
+    KSwitch(NetChild<L>, NetChild<L>, NetChild<L>),
+    /// `(pSwitch r (col f1 .. fn) e t)`: the members, each on what r routes to it, up to e's first
+    /// event, and from that sample on t, with the members frozen.
+    PSwitch(L, Members<L>, NetChild<L>, NetChild<L>),
+    /// `(old k)`: frozen network k, from 0, the outermost first, resumed.
+    Old(u32),
 }
 
 /// A network inside a network. Contracts see it as the network's tree; copies share it.
@@ -45,6 +77,34 @@ impl<L> Model for NetChild<L> {
     ghost use Rattle.net_syntax.specs.Depth.{depth_le};
 
     ghost size_decreases = { λ a h. depth_le a.inner.value };
+}
+
+/// The members of `parB` or `pSwitch`, in order. Contracts see them as the members' trees; copies
+/// share them.
+#[cycle(net)]
+#[derive(Drop)]
+pub struct Members<L> {
+    all: Rc<Vec<Net<L>>>,
+}
+
+impl<L> Model for Members<L> {
+    ghost use Rattle.net_syntax.specs.Network.{Networks, networks_size};
+    ghost use Rattle.net_syntax.specs.NetworkCode.{networks_code};
+
+    ghost Value = { Networks L };
+
+    ghost coded = { networks_code L.code };
+
+    ghost use Rattle.net_syntax.specs.NetworkView.{members_of};
+
+    ghost view = { λ a. members_of a.all.value.items };
+
+    ghost size = { networks_size };
+
+    ghost use Rattle.net_syntax.specs.Depth.{depths_le};
+    ghost use Rattle.std.proofs.Common.{arith};
+
+    ghost size_decreases = { λ a h. Prim.omega (arith, depths_le a.all.value.items) };
 }
 
 impl<L> NetChild<L> {
@@ -77,16 +137,32 @@ impl<L> NetChild<L> {
     }
 }
 
-impl Net<Expr> {
-    /// A copy, whose parts are shared with it. It takes no memory; `Memory` only where a count of
-    /// references is full.
-    pub fn try_copy(&self, alloc: Global) -> Result<Net<Expr>, Memory>
-        ensures { IfOk result (λ n. n ≡ self.now) }
+impl<L> Members<L> {
+    /// The networks as members, in order. `Memory` where a growth was refused.
+    pub fn new(alloc: Global, all: Vec<Net<L>>) -> Result<Members<L>, Memory>
+    where
+        L: Drop,
+        ensures { IfOk result (λ fs. fs ≡ members_of all.items) }
     {
-        Ok(match self {
-            Net::Arr(e) => Net::Arr(e.try_copy(alloc)?),
-            Net::Seq(f, g) => Net::Seq(f.try_copy()?, g.try_copy()?),
-            Net::IPre(c) => Net::IPre(c.try_copy(alloc)?),
-        })
+        let all = Rc::new(alloc, all)?;
+        Ok(Members { all })
+    }
+
+    /// The members in order.
+    pub fn as_slice(&self) -> &[Net<L>]
+        ensures { members_of result.now ≡ self.now }
+    {
+        self.all.as_slice()
+    }
+
+    /// The same members, shared. It takes no memory; `Memory` only where a count of references is
+    /// full.
+    pub fn try_copy(&self) -> Result<Members<L>, Memory>
+    where
+        L: Drop,
+        ensures { IfOk result (λ fs. fs ≡ self.now) }
+    {
+        let all = self.all.clone()?;
+        Ok(Members { all })
     }
 }
