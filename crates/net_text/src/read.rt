@@ -46,7 +46,8 @@ pub fn read_net(alloc: Global, text: &[u8]) -> Result<(Ty, Net<Expr>), NetTextFa
     file(alloc, text)
 }
 
-/// What `read_net` answers. It stands apart, since the clauses of that contract follow from its own.
+/// What `read_net` answers. It stands apart, since the clauses of that contract follow from its
+/// own.
 fn file(alloc: Global, text: &[u8]) -> Result<(Ty, Net<Expr>), NetTextFault>
     ensures long { 1048576 < length text.now → result ≡ Err Fault.TooLong }
     ensures exact { GivesFile result (read_file text.now) }

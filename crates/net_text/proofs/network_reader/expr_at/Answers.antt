@@ -6,6 +6,7 @@ use Rattle.net_text.proofs.network_reader.expr_at.Goals as goal
 
 pub returns : goal.returns
 returns c =
-    subst (λ room. Gives (expression_left c.args.text.now) c.read_expr_at.result (tree_at expression_sort c.args.text.now room c.args.at)) (omega (arith, c.requires))
+    subst (λ room. Gives (expression_left c.args.text.now) c.read_expr_at.result (tree_at expression_sort c.args.text.now room c.args.at))
+    (omega (arith, c.requires))
     (tree_given expression_sort c.args.text.now (600 - (600 - c.args.room)) c.args.at (expression_left c.args.text.now) c.read_expr_at.result
     c.read_expr_at.ensures.found c.read_expr_at.ensures.refused)

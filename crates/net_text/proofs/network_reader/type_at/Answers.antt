@@ -6,6 +6,7 @@ use Rattle.net_text.proofs.network_reader.type_at.Goals as goal
 
 pub returns : goal.returns
 returns c =
-    subst (λ room. Gives (type_left c.args.text.now) c.read_type_at.result (tree_at type_sort c.args.text.now room c.args.at)) (omega (arith, c.requires))
+    subst (λ room. Gives (type_left c.args.text.now) c.read_type_at.result (tree_at type_sort c.args.text.now room c.args.at))
+    (omega (arith, c.requires))
     (tree_given type_sort c.args.text.now (600 - (600 - c.args.room)) c.args.at (type_left c.args.text.now) c.read_type_at.result
     c.read_type_at.ensures.found c.read_type_at.ensures.refused)
