@@ -18,7 +18,8 @@ pub mod Forms
 pub mod ReadSteps
 pub mod WordSteps
 pub mod ItemSteps
-pub mod IndexSteps
+pub mod NaturalSteps
 pub mod Joined
 pub mod Answered
 pub mod FrontSteps
+pub mod PartSteps

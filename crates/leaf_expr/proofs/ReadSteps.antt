@@ -1,12 +1,12 @@
 -- Steps of reading, as the code takes them.
-use Rattle.std.proofs.Common.{◌≡◌, ◌≢◌, ℕ, zero, suc, ◌+◌, List, ◌∷◌, refl, ap, ◌∙◌, sym, subst, arith, Result, Ok, Err, Some, None}
+use Rattle.std.proofs.Common.{◌≡◌, ◌≢◌, ℕ, zero, suc, ◌+◌, false, List, [], ◌∷◌, refl, ap, ◌∙◌, sym, subst, arith, Result, Ok, Err, Some, None}
 use Rattle.std.specs.Result.{IsErrAnd}
-use Rattle.leaf_expr.specs.Token.{opening, closing, PlacedToken}
+use Rattle.leaf_expr.specs.Token.{opening, closing, word, PlacedToken}
 use Rattle.sample_core.specs.TypeTree.{TypeTree}
 use Rattle.leaf_core.specs.Expression.{Expression, no_event_expr}
-use Rattle.leaf_expr.specs.Language.{Places, Maker, Row, no_place, place}
+use Rattle.leaf_expr.specs.Language.{Language, Places, Maker, Row, no_place, place}
 use Rattle.leaf_expr.specs.Grammar.{leaf, Sort, Tree, type_sort, expression_sort, row_at, e}
-use Rattle.leaf_expr.specs.TreeReader.{Read, unfit_token, read, read_form, read_head, read_row, read_parts, read_end}
+use Rattle.leaf_expr.specs.TreeReader.{Read, unfit_token, word_read, read, read_form, read_head, read_row, read_parts, read_end}
 use Rattle.leaf_expr.specs.ReadText.{Gives}
 use Rattle.leaf_expr.specs.declared.text_fault.ExprTextFault.{ExprTextFault}
 use Rattle.sample_core.specs.Answer.{◌>>=◌}
@@ -59,6 +59,16 @@ unnamed {n = n} {ts = ts} size room m s us e f =
 pub headless : (x : ExprTextFault) (size room m : ℕ) (s : Sort) (us : List PlacedToken) → Refuses x (read_head leaf size room us) →
     Refuses x (read_form leaf size (read leaf size m) room s us)
 headless x size room m s us p = passed x (read_head leaf size room us) _ p
+
+-- a tree of a sort without forms is a word
+pub formless_read : (L : Language) (size room : ℕ) (s : L.Sort) (ts : List PlacedToken) → L.has_form s ≡ false →
+    read L size room s ts ≡ (read_head leaf size room ts >>= (λ h. word_read h.0 h.1 h.2 (L.word_at s h.1)))
+formless_read L size room s [] f = refl
+formless_read L size room s ((n, word w) ∷ ts) f = refl
+formless_read L size zero s ((n, closing) ∷ ts) f = refl
+formless_read L size (suc room) s ((n, closing) ∷ ts) f = refl
+formless_read L size zero s ((n, opening) ∷ ts) f = refl
+formless_read L size (suc room) s ((n, opening) ∷ ts) f = rw f refl
 
 -- what was read, made into something else
 abbrev pub with : {T R : Type 0} → (T → R) → Read T → Read R

@@ -5,7 +5,7 @@ ghost use Rattle.sample_core.specs.TypeView.{type_of};
 ghost use Rattle.sample_core.specs.TypeTree.{TypeTree};
 ghost use Rattle.leaf_core.specs.Expression.{Expression};
 ghost use Rattle.leaf_expr.specs.Form.{form_row, unary_row, binary_row, ternary_row, typed_row};
-ghost use Rattle.leaf_expr.specs.Grammar.{leaf, expression_sort, index_sort, type_sort};
+ghost use Rattle.leaf_expr.specs.Grammar.{leaf, expression_sort, type_sort};
 ghost use Rattle.leaf_expr.specs.Language.{Begins};
 ghost use Rattle.leaf_expr.specs.ReadText.{Gives, tree_at, word_tree, form_at, row_parts, last_two_at, none_at, expression_left, type_left, items_at, items_left, IsFault};
 ghost use Rattle.leaf_core.specs.ExpressionView.{expression_of};
@@ -14,30 +14,18 @@ ghost use Rattle.leaf_expr.specs.Token.{PlacedToken, tokens_from};
 ghost use Rattle.leaf_expr.specs.declared.text_fault.ExprTextFault.TheVariants as Fault;
 
 use crate::form::{Binary, Form, Ternary, Typed, Unary, form_named};
+use crate::number_reader::read_index;
 use crate::text_fault::ExprTextFault;
 use crate::token::token_at;
 use crate::tree_front::{Front, closing_at, form_end, form_head, front_at};
 use crate::type_reader::{MAX_OPEN, read_type};
-use crate::word::{WordFault, expr_word, index_word};
+use crate::word::{WordFault, expr_word};
 use leaf_core::{Expr, ExprChild, Exprs};
 use sample_core::Ty;
 use std::alloc::Global;
 
 /// The most bytes that a text may have.
 pub const MAX_LENGTH: usize = 1_048_576;
-
-/// The number of a parameter, at or after byte `at`, and the byte behind it.
-fn read_index(text: &[u8], at: usize, room: usize) -> Result<(u32, usize), ExprTextFault>
-    ensures { Gives (λ x. (x.0, x.1, tokens_from x.1 text.now)) result
-        (tree_at index_sort text.now room at) }
-{
-    let (start, end) = form_head(text, at, room)?;
-    match index_word(&text[start..end]) {
-        Ok(k) => Ok((k, end)),
-        Err(WordFault::Misspelt) => Err(ExprTextFault::Number { at: start }),
-        Err(WordFault::Unfit) => Err(ExprTextFault::Syntax { at: start }),
-    }
-}
 
 /// The expression at or after byte `at`, with room for so many more parentheses, and the byte
 /// behind it.

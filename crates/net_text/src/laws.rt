@@ -3,7 +3,7 @@
 ghost use Rattle.leaf_expr.specs.ReadLaws.{FoundLaw, OnlyLaw, OneReadingLaw, FaultLaw, OneFaultLaw};
 ghost use Rattle.net_text.specs.Grammar.{networks};
 ghost use Rattle.net_text.specs.FileLaws.{ReadFileLaw, OneFileLaw, FileFaultLaw, LeafMeaningLaw, PrintedFileLaw};
-ghost use Rattle.net_text.specs.FileRows.{NetworkRows, IdentityIs, ConstantIs, FileFaultRows};
+ghost use Rattle.net_text.specs.FileRows.{CellRows, NetworkRows, SugarRows, IdentityIs, ConstantIs, SecondIs, BesideIs, FanOutIs, NeverIs, NowIs, EdgeIs, AccumHoldByIs, FileFaultRows, NumberFaultRows, MembersFaultRows};
 
 /// Reading a network, or what stands inside one, at the front of tokens: what is read is in the
 /// grammar, what is in the grammar is read whatever follows, there is one reading, a fault is
@@ -31,11 +31,25 @@ pub fn printing_laws()
     ensures { PrintedFileLaw }
 {}
 
-/// Each form of networks, read once, refusals by place and kind, and each sugar as the core form
-/// that it stands for.
+/// Each form of networks, read once, and refusals by place and kind.
 pub fn grammar_rows()
+    ensures cells { CellRows }
     ensures networks { NetworkRows }
+    ensures sugar { SugarRows }
     ensures faults { FileFaultRows }
+    ensures numbers { NumberFaultRows }
+    ensures members { MembersFaultRows }
+{}
+
+/// Each sugar as the forms that it stands for, whatever its parts are.
+pub fn sugar_laws()
     ensures identity { IdentityIs }
     ensures constant { ConstantIs }
+    ensures second { SecondIs }
+    ensures beside { BesideIs }
+    ensures fan_out { FanOutIs }
+    ensures never { NeverIs }
+    ensures now { NowIs }
+    ensures edge { EdgeIs }
+    ensures accum_hold_by { AccumHoldByIs }
 {}

@@ -1,4 +1,4 @@
-use Rattle.std.proofs.Common.{◌≡◌, ◌∷◌, ◌++◌, ◌+◌, [], length, map, refl, arith}
+use Rattle.std.proofs.Common.{◌≡◌, ◌∷◌, ◌++◌, [], length, map, refl, arith}
 use Rattle.std.proofs.lemmas.Grind.{common_steps}
 use Rattle.leaf_core.specs.Expression.{Expression}
 use Rattle.leaf_expr.specs.Form.{form_row, unary_of, binary_of, ternary_of, typed_by}
@@ -10,7 +10,6 @@ use Rattle.leaf_expr.proofs.FrontSteps.{in_form, in_word, front_refused}
 use Rattle.leaf_expr.proofs.ItemSteps.{done, more, gone, list_parts, list_refuses, no_list_type}
 use Rattle.leaf_expr.proofs.ReadCounts.{read_shortens}
 use Rattle.leaf_expr.proofs.ReadSteps.{given, made, told, told_memory, headless, named, unnamed, no_part, no_end, one_part, no_second, no_two_end, two_parts, two_refused, two_done, no_last_two, three_parts, no_typed, no_typed_two, typed_parts}
-use Rattle.leaf_expr.specs.declared.form.Form.TheVariants as Form
 use Rattle.leaf_expr.proofs.expr_reader.+read_expression.Goals as goal
 
 pub parts-returns-in-Param : goal.parts-returns-in-Param
@@ -52,7 +51,7 @@ items-loop-end-smaller t c = read_shortens leaf (length c.args.text.now) c.args.
 pub items-returns-in-Some : goal.items-returns-in-Some
 items-returns-in-Some t c =
     let text = c.args.text.now in
-    done (length text) c.args.room c.in-Some.end (map expression_of c.loop-end.all.items) (tokens_from c.loop-end.next text)
+    done leaf expression_sort (length text) c.args.room c.in-Some.end (map expression_of c.loop-end.all.items) (tokens_from c.loop-end.next text)
     (tokens_from c.in-Some.end text) _ c.loop-end.invariant c.in-Some.ensures.behind c.in-Some.ensures.token
 
 pub items-loop-end-preserved : goal.items-loop-end-preserved
@@ -60,7 +59,7 @@ items-loop-end-preserved t c =
     let p = c.in_ok-push.ensures.items in
     let m : map expression_of c.push.new.self.items ≡ map expression_of c.loop-end.all.items ++ expression_of c.in_ok-expr.expr ∷ [] =
     grind (arith, common_steps, p) in
-    more (length c.args.text.now) c.args.room c.in_ok-expr.behind (map expression_of c.loop-end.all.items) (map expression_of c.push.new.self.items)
+    more leaf expression_sort (length c.args.text.now) c.args.room c.in_ok-expr.behind (map expression_of c.loop-end.all.items) (map expression_of c.push.new.self.items)
     (expression_of c.in_ok-expr.expr) (tokens_from c.loop-end.next c.args.text.now) (tokens_from c.in_ok-expr.behind c.args.text.now) _
     c.loop-end.invariant c.in_default.ensures.token c.in_ok-expr.ensures m
 
@@ -159,7 +158,7 @@ elements-returns t c = made _ c.in_ok-all.ensures c.in_ok-elements.ensures
 pub items-returns-in_err-expr : goal.items-returns-in_err-expr
 items-returns-in_err-expr t c =
     told _ _ _ _ c.from_residual.ensures.1
-    (gone _ _ (map expression_of c.loop-end.all.items) _ _ _ c.loop-end.invariant c.in_default.ensures.token c.in_err-expr.ensures)
+    (gone leaf expression_sort _ _ (map expression_of c.loop-end.all.items) _ _ _ c.loop-end.invariant c.in_default.ensures.token c.in_err-expr.ensures)
 
 pub items-returns-in_err-push : goal.items-returns-in_err-push
 items-returns-in_err-push t c = told_memory _ _ _ c.from_residual-in_err-push.ensures.1

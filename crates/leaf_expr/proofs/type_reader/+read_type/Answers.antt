@@ -3,7 +3,6 @@ use Rattle.sample_core.specs.TypeTree.{TypeTree, pair_ty, event_ty, list_ty}
 use Rattle.leaf_expr.specs.Form.{type_row}
 use Rattle.leaf_expr.specs.Grammar.{leaf, type_sort}
 use Rattle.leaf_expr.specs.Language.{no_place, place}
-use Rattle.leaf_expr.specs.declared.form.TypeForm.TheVariants as Form
 use Rattle.leaf_expr.proofs.FrontSteps.{in_form, in_word, front_refused}
 use Rattle.leaf_expr.proofs.ReadSteps.{given, made, told, told_memory, headless, named, unnamed, no_part, no_end, one_part, one_done, one_refused, two_types, no_second_type}
 use Rattle.leaf_expr.proofs.type_reader.+read_type.Goals as goal

@@ -2,7 +2,7 @@ use Rattle.std.proofs.Common.{◌-◌, subst, arith}
 use Rattle.leaf_expr.specs.Grammar.{expression_sort}
 use Rattle.leaf_expr.specs.ReadText.{Gives, expression_left, tree_at}
 use Rattle.leaf_expr.proofs.Answered.{tree_given}
-use Rattle.net_text.proofs.read.expr_at.Goals as goal
+use Rattle.net_text.proofs.network_reader.expr_at.Goals as goal
 
 pub returns : goal.returns
 returns c =
