@@ -1,6 +1,6 @@
 -- What the code's readers answer: what the reader of the grammar does on the tokens from some byte
 -- on.
-use Rattle.std.specs.Prelude.{◌<◌, ℕ, Bool, true, false, List, [], ◌∷◌, length, slice_range, map, Result, Ok, Err, Option, Some, None}
+use Rattle.std.specs.Prelude.{ℕ, Bool, true, false, List, [], ◌∷◌, length, slice_range, map, Result, Ok, Err, Option, Some, None, ⊤}
 use Rattle.sample_core.specs.TypeTree.{TypeTree}
 use Rattle.sample_core.specs.TypeView.{type_of}
 use Rattle.sample_core.specs.declared.ty.Ty.{Ty}
@@ -15,7 +15,6 @@ use Rattle.leaf_expr.specs.Grammar.{leaf, Tree, Sort, type_sort, expression_sort
 use Rattle.leaf_expr.specs.TreeReader.{Read, word_read, read, read_head, read_form, read_parts, read_all}
 use Rattle.leaf_expr.specs.Language.{Row, no_place, place}
 use Rattle.leaf_expr.specs.ReadLaws.{Stops}
-use Rattle.leaf_expr.specs.Text.{NoText}
 use Rattle.leaf_expr.specs.declared.text_fault.ExprTextFault.{ExprTextFault}
 use Rattle.sample_core.specs.Answer.{◌>>=◌, GivesUnless}
 use Rattle.leaf_expr.specs.declared.text_fault.ExprTextFault.TheVariants.{TooLong, Memory}
@@ -99,15 +98,9 @@ begins_closing ((n, closing) ∷ ts) = true
 begins_closing (x ∷ ts) = false
 
 -- Why no tree of the sort stands in the text from byte n on, with room for so many parentheses: the
--- first token
--- that doesn't fit, or the end. `TooLong` doesn't come, and `Memory` says nothing of the text.
+-- first token that doesn't fit, or the end. `TooLong` doesn't come, and `Memory` says nothing of
+-- the text.
 abbrev pub IsFault : (s : Sort) → List ℕ → ℕ → ℕ → ExprTextFault → Type 0
-IsFault s text room n Memory = Unit {0}
+IsFault s text room n Memory = ⊤
 IsFault s text room n TooLong = ⊥
 IsFault s text room n f = Stops leaf (length text) room s (tokens_from n text) f
-
--- why the text is no tree of the sort; `Memory` says nothing of the text
-abbrev pub IsTextFault : (s : Sort) → List ℕ → ExprTextFault → Type 0
-IsTextFault s text Memory = Unit {0}
-IsTextFault s text TooLong = 1048576 < length text
-IsTextFault s text f = NoText s text f

@@ -7,9 +7,9 @@ ghost use Rattle.leaf_core.specs.Expression.{Expression};
 ghost use Rattle.leaf_expr.specs.Form.{form_row, unary_row, binary_row, ternary_row, typed_row};
 ghost use Rattle.leaf_expr.specs.Grammar.{leaf, expression_sort, type_sort};
 ghost use Rattle.leaf_expr.specs.Language.{Begins};
-ghost use Rattle.leaf_expr.specs.ReadText.{Gives, tree_at, word_tree, form_at, row_parts, last_two_at, none_at, expression_left, type_left, items_at, items_left, IsFault, IsTextFault};
+ghost use Rattle.leaf_expr.specs.ReadText.{Gives, tree_at, word_tree, form_at, row_parts, last_two_at, none_at, expression_left, type_left, items_at, items_left, IsFault};
 ghost use Rattle.leaf_core.specs.ExpressionView.{expression_of};
-ghost use Rattle.leaf_expr.specs.Text.{read_text, whole, IsText};
+ghost use Rattle.leaf_expr.specs.Text.{read_text, whole, IsText, IsTextFault};
 ghost use Rattle.leaf_expr.specs.Token.{PlacedToken, tokens_from};
 ghost use Rattle.leaf_expr.specs.declared.text_fault.ExprTextFault.TheVariants as Fault;
 
@@ -290,8 +290,8 @@ fn items(
     }
 }
 
-/// What `read_type_at` answers. It stands apart, since the other clauses of that contract follow
-/// from its exact one.
+/// What `read_type_at` answers. It stands apart, since the clauses of that contract follow from its
+/// own.
 fn type_at(
     alloc: Global,
     text: &[u8],
@@ -303,8 +303,8 @@ fn type_at(
     read_type(alloc, text, at, MAX_OPEN.saturating_sub(depth))
 }
 
-/// What `read_expr_at` answers. It stands apart, since the other clauses of that contract follow
-/// from its exact one.
+/// What `read_expr_at` answers. It stands apart, since the clauses of that contract follow from its
+/// own.
 fn expr_at(
     alloc: Global,
     text: &[u8],
@@ -331,8 +331,8 @@ fn only_expr(alloc: Global, text: &[u8]) -> Result<Expr, ExprTextFault>
     }
 }
 
-/// What `read_expr` answers. It stands apart, since the other clauses of that contract follow from
-/// these.
+/// What `read_expr` answers. It stands apart, since the clauses of that contract follow from its
+/// own.
 fn whole_expr(alloc: Global, text: &[u8]) -> Result<Expr, ExprTextFault>
     ensures long { 1048576 < length text.now → result ≡ Err Fault.TooLong }
     ensures exact { Gives expression_of result (read_text expression_sort text.now) }
@@ -367,9 +367,6 @@ pub fn read_type_at(
         → Gives (type_left text.now) result (Ok (t, n, rest)) }
     // What is refused is so at the first token that doesn't fit.
     ensures refused { IfErr result (IsFault type_sort text.now (600 - depth) at) }
-    // Which answer it is.
-    ensures exact { Gives (type_left text.now) result
-        (tree_at type_sort text.now (600 - depth) at) }
 {
     type_at(alloc, text, at, depth)
 }
@@ -400,9 +397,6 @@ pub fn read_expr_at(
         → Gives (expression_left text.now) result (Ok (t, n, rest)) }
     // What is refused is so at the first token that doesn't fit.
     ensures refused { IfErr result (IsFault expression_sort text.now (600 - depth) at) }
-    // Which answer it is.
-    ensures exact { Gives (expression_left text.now) result
-        (tree_at expression_sort text.now (600 - depth) at) }
 {
     expr_at(alloc, text, at, depth)
 }
@@ -426,8 +420,6 @@ pub fn read_expr(alloc: Global, text: &[u8]) -> Result<Expr, ExprTextFault>
     ensures long { 1048576 < length text.now → result ≡ Err Fault.TooLong }
     // What is refused is so at the first token that doesn't fit, or for its length.
     ensures refused { IfErr result (IsTextFault expression_sort text.now) }
-    // Which answer it is.
-    ensures exact { Gives expression_of result (read_text expression_sort text.now) }
 {
     whole_expr(alloc, text)
 }

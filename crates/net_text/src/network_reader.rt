@@ -119,7 +119,12 @@ fn expr_at(
 }
 
 /// The type at or after byte `at`, with room for so many more parentheses, and the byte behind it.
-fn type_at(alloc: Global, text: &[u8], at: usize, room: usize) -> Result<(Ty, usize), ExprTextFault>
+pub(crate) fn type_at(
+    alloc: Global,
+    text: &[u8],
+    at: usize,
+    room: usize,
+) -> Result<(Ty, usize), ExprTextFault>
     requires { room ≤ 600 }
     ensures { Gives (type_left text.now) result (tree_at type_sort text.now room at) }
 {

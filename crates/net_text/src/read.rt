@@ -14,10 +14,8 @@ ghost use Rattle.net_text.specs.ReadNet.{GivesFile, last_network_at};
 ghost use Rattle.net_text.specs.declared.fault.NetTextFault.TheVariants as Fault;
 
 use crate::fault::NetTextFault;
-use crate::network_reader::network_at;
-use leaf_expr::{
-    Expr, ExprTextFault, Lexeme, MAX_LENGTH, MAX_OPEN, lexeme_at, read_type_at, token_at,
-};
+use crate::network_reader::{network_at, type_at};
+use leaf_expr::{Expr, ExprTextFault, Lexeme, MAX_LENGTH, MAX_OPEN, lexeme_at, token_at};
 use net_syntax::Net;
 use sample_core::Ty;
 use std::alloc::Global;
@@ -44,14 +42,12 @@ pub fn read_net(alloc: Global, text: &[u8]) -> Result<(Ty, Net<Expr>), NetTextFa
     ensures long { 1048576 < length text.now → result ≡ Err Fault.TooLong }
     // What is refused is so at the first token that doesn't fit, or for its length.
     ensures refused { IfErr result (IsFileFault text.now) }
-    // Which answer it is.
-    ensures exact { GivesFile result (read_file text.now) }
 {
     file(alloc, text)
 }
 
-/// What `read_net` answers. It stands apart, since the other clauses of that contract follow from
-/// these.
+/// What `read_net` answers. It stands apart, since the clauses of that contract follow from its
+/// own.
 fn file(alloc: Global, text: &[u8]) -> Result<(Ty, Net<Expr>), NetTextFault>
     ensures long { 1048576 < length text.now → result ≡ Err Fault.TooLong }
     ensures exact { GivesFile result (read_file text.now) }
@@ -77,7 +73,7 @@ fn body_at(alloc: Global, text: &[u8], at: usize) -> Result<(Ty, Net<Expr>), Exp
     ensures { Gives (λ x. (type_of x.0, tree_of x.1)) result
         (read_body (length text.now) (tokens_from at text.now)) }
 {
-    let (input, at) = read_type_at(alloc, text, at, 0)?;
+    let (input, at) = type_at(alloc, text, at, MAX_OPEN)?;
     match last_network(alloc, text, at) {
         Ok(net) => Ok((input, net)),
         Err(fault) => {
