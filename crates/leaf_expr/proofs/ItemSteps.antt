@@ -1,15 +1,12 @@
 -- Trees of one sort up to the end of a form, one after the other.
 use Rattle.std.proofs.Common.{◌≡◌, ℕ, zero, suc, ◌<◌, ◌≤◌, false, List, [], ◌∷◌, ◌++◌, length, refl, sym, ap, ◌∙◌, ◌-◌, arith, append_assoc, Ok, Err}
 use Rattle.std.proofs.lemmas.List.{append-nil}
-use Rattle.sample_core.specs.TypeTree.{TypeTree}
 use Rattle.leaf_expr.specs.Token.{opening, closing, word, PlacedToken}
-use Rattle.leaf_core.specs.Expression.{Expression, list_expr, expressions_of}
-use Rattle.leaf_expr.specs.Language.{Language, place, places}
-use Rattle.leaf_expr.specs.Grammar.{leaf, type_sort, expression_sort}
-use Rattle.leaf_expr.specs.TreeReader.{Read, read, read_all, read_parts}
+use Rattle.leaf_expr.specs.Language.{Language}
+use Rattle.leaf_expr.specs.TreeReader.{Read, read, read_all}
 use Rattle.leaf_expr.specs.ReadText.{begins_closing}
 use Rattle.leaf_expr.specs.declared.text_fault.ExprTextFault.{ExprTextFault}
-use Rattle.leaf_expr.proofs.ReadSteps.{Refuses, with, with_bind, passed}
+use Rattle.leaf_expr.proofs.ReadSteps.{Refuses, with, with_bind}
 use Rattle.leaf_expr.proofs.ReadCounts.{read_all_count, read_shortens}
 use Rattle.sample_core.specs.Answer.{◌>>=◌}
 
@@ -100,29 +97,3 @@ module _ (L : Language) where
     pub gone : (front : List (L.Tree s)) (f : ExprTextFault) (ts : List PlacedToken) (all : Read (List (L.Tree s)))
         → with_front front (items ts) ≡ all → begins_closing ts ≡ false → Refuses f (read L size room s ts) → Refuses f all
     gone front f ts all e b r = λ m. sym e ∙ ap (with_front front) (refused ts f b (r m))
-
-    -- what is made of the trees up to the end of the form
-    pub all_made : {R : Type 0} {xs : List (L.Tree s)} {n : ℕ} {us : List PlacedToken} (make : List (L.Tree s) → R) (ts : List PlacedToken)
-        → items ts ≡ Ok (xs, n, us) → read_all L size (read L size room s) (length ts) make ts ≡ Ok (make xs, n, us)
-    all_made make ts p = with_all size (read L size room s) make (length ts) (λ xs. xs) ts ∙ ap (with make) p
-
-    pub all_refused : {R : Type 0} (f : ExprTextFault) (make : List (L.Tree s) → R) (ts : List PlacedToken) → Refuses f (items ts)
-        → Refuses f (read_all L size (read L size room s) (length ts) make ts)
-    all_refused f make ts p = λ m. with_all size (read L size room s) make (length ts) (λ xs. xs) ts ∙ ap (with make) (p m)
-
--- a list expression by its type and its elements
-module _ (size room : ℕ) where
-  pub list_parts : {T : TypeTree} {es : List Expression} {n j : ℕ} {us ws : List PlacedToken} (ts : List PlacedToken)
-      → read leaf size room type_sort ts ≡ Ok (T, n, us) → items leaf expression_sort size room us ≡ Ok (es, j, ws)
-      → read_parts leaf size (read leaf size room) room (place type_sort (places expression_sort)) (λ A xs. list_expr A (expressions_of xs)) ts
-      ≡ Ok (list_expr T (expressions_of es), j, ws)
-  list_parts {T = T} {us = us} ts p q = rw p (all_made leaf expression_sort size room (λ xs. list_expr T (expressions_of xs)) us q)
-
-  pub list_refuses : {T : TypeTree} {n : ℕ} {us : List PlacedToken} (f : ExprTextFault) (ts : List PlacedToken)
-      → read leaf size room type_sort ts ≡ Ok (T, n, us) → Refuses f (items leaf expression_sort size room us)
-      → Refuses f (read_parts leaf size (read leaf size room) room (place type_sort (places expression_sort)) (λ A xs. list_expr A (expressions_of xs)) ts)
-  list_refuses {T = T} {us = us} f ts p q = rw p (all_refused leaf expression_sort size room f (λ xs. list_expr T (expressions_of xs)) us q)
-
-  pub no_list_type : (f : ExprTextFault) (ts : List PlacedToken) → Refuses f (read leaf size room type_sort ts)
-      → Refuses f (read_parts leaf size (read leaf size room) room (place type_sort (places expression_sort)) (λ A xs. list_expr A (expressions_of xs)) ts)
-  no_list_type f ts p = passed f (read leaf size room type_sort ts) _ p

@@ -1,11 +1,12 @@
--- The parts of a form, one after the other, in any language.
-use Rattle.std.proofs.Common.{◌≡◌, ℕ, List, [], ◌∷◌, refl, sym, ap, ◌∙◌, subst, Ok}
+-- Forms and their parts, one after the other, in any language.
+use Rattle.std.proofs.Common.{◌≡◌, ℕ, List, [], ◌∷◌, refl, sym, ap, ◌∙◌, subst, Ok, Err, Some, None}
 use Rattle.leaf_expr.specs.Token.{opening, closing, word, PlacedToken}
-use Rattle.leaf_expr.specs.Language.{Language, Places, Maker, no_place, place, places}
+use Rattle.leaf_expr.specs.Language.{Language, Places, Maker, Row, no_place, place, places}
 use Rattle.leaf_expr.specs.Grammar.{leaf}
-use Rattle.leaf_expr.specs.TreeReader.{Read, read, read_parts, read_head, read_end}
+use Rattle.leaf_expr.specs.TreeReader.{Read, read, read_form, read_row, read_parts, read_head, read_end}
 use Rattle.leaf_expr.specs.declared.text_fault.ExprTextFault.{ExprTextFault}
-use Rattle.leaf_expr.proofs.ReadSteps.{Refuses, with, with_bind, passed}
+use Rattle.leaf_expr.specs.declared.text_fault.ExprTextFault.TheVariants.{Syntax}
+use Rattle.leaf_expr.proofs.ReadSteps.{Refuses, with, with_bind, with_refused, passed, ok_same}
 use Rattle.leaf_expr.proofs.ItemSteps.{with_all}
 use Rattle.sample_core.specs.Answer.{◌>>=◌}
 
@@ -23,6 +24,25 @@ module _ (L : Language) (size room : ℕ) where
   head_same ((n, closing) ∷ ts) = refl
   head_same ((n, word w) ∷ ts) = refl
 
+  -- a form by its word
+  pub named : {n : ℕ} {w : List ℕ} {ts : List PlacedToken} (m : ℕ) (s : L.Sort) (us : List PlacedToken) (r : Row L.Sort L.Tree (L.Tree s)) →
+      read_head leaf size room us ≡ Ok (n, w, ts) → Some r ≡ L.row_at s w →
+      read_form L size (read L size m) room s us ≡ read_parts L size (read L size m) room r.takes r.makes ts
+  named {n = n} {ts = ts} m s us r p q =
+      ap (λ h. h >>= (λ h. read_row L size (read L size m) room h.0 (L.row_at s h.1) h.2)) (head_same us ∙ p)
+      ∙ ap (λ o. read_row L size (read L size m) room n o ts) (sym q)
+
+  pub unnamed : {n : ℕ} {w : List ℕ} {ts : List PlacedToken} (m : ℕ) (s : L.Sort) (us : List PlacedToken) → read_head leaf size room us ≡ Ok (n, w, ts) →
+      None ≡ L.row_at s w → read_form L size (read L size m) room s us ≡ Err (Syntax n)
+  unnamed {n = n} {ts = ts} m s us p q =
+      ap (λ h. h >>= (λ h. read_row L size (read L size m) room h.0 (L.row_at s h.1) h.2)) (head_same us ∙ p)
+      ∙ ap (λ o. read_row L size (read L size m) room n o ts) (sym q)
+
+  -- a form without a word
+  pub headless : (x : ExprTextFault) (m : ℕ) (s : L.Sort) (us : List PlacedToken) → Refuses x (read_head leaf size room us) →
+      Refuses x (read_form L size (read L size m) room s us)
+  headless x m s us p = passed x (read_head L size room us) _ (subst (Refuses x) (sym (head_same us)) p)
+
   -- the parts that a form takes, and its end
   abbrev pub parts : {R : Type 0} → (qs : Places L.Sort) → Maker L.Tree qs R → List PlacedToken → Read R
   parts qs make ts = read_parts L size (read L size room) room qs make ts
@@ -35,6 +55,23 @@ module _ (L : Language) (size room : ℕ) where
   pub no_part : {R : Type 0} (s : L.Sort) (x : ExprTextFault) (qs : Places L.Sort) (make : L.Tree s → Maker L.Tree qs R) (ts : List PlacedToken) →
       Refuses x (read L size room s ts) → Refuses x (parts (place s qs) make ts)
   no_part s x qs make ts p = passed x (read L size room s ts) _ p
+
+  -- a part made into something else
+  pub made_part : {Q R : Type 0} (s : L.Sort) (h : L.Tree s → Q) {q : Q} {n : ℕ} {us : List PlacedToken} (qs : Places L.Sort) (make : Q → Maker L.Tree qs R)
+      (ts : List PlacedToken) → with h (read L size room s ts) ≡ Ok (q, n, us) → parts (place s qs) (λ x. make (h x)) ts ≡ parts qs (make q) us
+  made_part {Q = Q} s h {q = q} {n = n} {us = us} qs make ts p = go (read L size room s ts) p
+    where
+      go : (r : Read (L.Tree s)) → with h r ≡ Ok (q, n, us) → (r >>= (λ x. parts qs (make (h x.0)) x.2)) ≡ parts qs (make q) us
+      go (Ok y) p =
+          let e = ok_same _ _ p in
+          let i : h y.0 ≡ q = ap (λ (z : Q × ℕ × List PlacedToken). z.0) e in
+          let j : y.2 ≡ us = ap (λ (z : Q × ℕ × List PlacedToken). z.2) e in
+          rw (i, j) refl
+      go (Err d) p = absurd (cc)
+
+  pub no_made_part : {Q R : Type 0} (s : L.Sort) (h : L.Tree s → Q) (x : ExprTextFault) (qs : Places L.Sort) (make : Q → Maker L.Tree qs R)
+      (ts : List PlacedToken) → Refuses x (with h (read L size room s ts)) → Refuses x (parts (place s qs) (λ x. make (h x)) ts)
+  no_made_part s h x qs make ts p = with_refused x h (read L size room s ts) _ p
 
   -- behind the last part stands the end
   pub ended : {R : Type 0} (r : R) {j : ℕ} {ws : List PlacedToken} (ts : List PlacedToken) → read_end leaf size room ts ≡ Ok (j, ws) →

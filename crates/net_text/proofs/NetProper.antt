@@ -36,7 +36,8 @@ foreign members_sort w e = refl
 foreign (time_sort g) w e = chosen_unfit (is_number_word w) _ _ e
 
 carry : (s : Sort) (us : List PlacedToken) → Completes leaf s us → Completes networks (leaf_sort s) us
-carry s us c = record { end = c.end; stop = c.stop; part = c.part; tree = c.tree; spells = c.spells; means = meaning_same s c.part ∙ c.means }
+carry s us c =
+    record { end = c.end; stop = c.stop; part = c.part; tree = c.tree; spells = c.spells; means = meaning_same s c.part ∙ c.means }
 
 -- each form takes the time 1
 one_fits : (g : Timer) → natural_at (least g) (greatest g) (codes "1") ≡ reads 1

@@ -6,11 +6,11 @@ use Rattle.leaf_core.specs.ExpressionView.{expression_of}
 use Rattle.leaf_core.specs.declared.expr.Expr.{Expr}
 use Rattle.leaf_expr.specs.Token.{PlacedToken}
 use Rattle.leaf_expr.specs.WordReading.{natural_at}
-use Rattle.leaf_expr.specs.Language.{Places, Maker, Row, place, places}
+use Rattle.leaf_expr.specs.Language.{Places, Maker, place, places}
 use Rattle.leaf_expr.specs.Grammar.{leaf, Sort, Tree}
-use Rattle.leaf_expr.specs.TreeReader.{Read, word_read, read, read_form, read_head, read_row, read_parts}
+use Rattle.leaf_expr.specs.TreeReader.{Read, word_read, read, read_head}
 use Rattle.leaf_expr.proofs.ReadSteps.{Refuses, passed, formless_read}
-use Rattle.leaf_expr.proofs.PartSteps.{head_same, parts, part, no_part}
+use Rattle.leaf_expr.proofs.PartSteps.{parts, part, no_part}
 use Rattle.leaf_expr.specs.declared.text_fault.ExprTextFault.{ExprTextFault}
 use Rattle.leaf_expr.specs.declared.text_fault.ExprTextFault.TheVariants as E
 use Rattle.sample_core.specs.TypeTree.{TypeTree}
@@ -21,25 +21,6 @@ use Rattle.net_syntax.specs.declared.net.Net.{Net}
 use Rattle.net_text.specs.File.{at_end, read_network}
 use Rattle.net_text.specs.Grammar.{networks, NetSort, NetTree, network_sort, members_sort, leaf_sort, time_sort, Timer, least, greatest, row, net_row_at, net_word_at, col_rows}
 use Rattle.net_text.proofs.Carried.{read_same}
-
-module _ (size room m : ℕ) (s : NetSort) (us : List PlacedToken) where
-  -- a form by its word
-  pub named : {n : ℕ} {w : List ℕ} {ts : List PlacedToken} (r : Row NetSort NetTree (NetTree s)) → read_head leaf size room us ≡ Ok (n, w, ts) →
-      Some r ≡ net_row_at s w →
-      read_form networks size (read networks size m) room s us ≡ read_parts networks size (read networks size m) room r.takes r.makes ts
-  named {n = n} {ts = ts} r p q =
-      ap (λ h. h >>= (λ h. read_row networks size (read networks size m) room h.0 (net_row_at s h.1) h.2)) (head_same networks size room us ∙ p)
-      ∙ ap (λ o. read_row networks size (read networks size m) room n o ts) (sym q)
-
-  pub unnamed : {n : ℕ} {w : List ℕ} {ts : List PlacedToken} → read_head leaf size room us ≡ Ok (n, w, ts) → None ≡ net_row_at s w →
-      read_form networks size (read networks size m) room s us ≡ Err (E.Syntax n)
-  unnamed {n = n} {ts = ts} p q =
-      ap (λ h. h >>= (λ h. read_row networks size (read networks size m) room h.0 (net_row_at s h.1) h.2)) (head_same networks size room us ∙ p)
-      ∙ ap (λ o. read_row networks size (read networks size m) room n o ts) (sym q)
-
-  -- a form without a word
-  pub headless : (x : ExprTextFault) → Refuses x (read_head leaf size room us) → Refuses x (read_form networks size (read networks size m) room s us)
-  headless x p = passed x (read_head networks size room us) _ (subst (Refuses x) (sym (head_same networks size room us)) p)
 
 -- `col` alone begins the members of `pSwitch`
 pub col_named : (w : List ℕ) → bytes_eq w (codes "col") ≡ true → Some (row (codes "col") (places network_sort) networks_of) ≡ net_row_at members_sort w

@@ -132,8 +132,8 @@ NeverIs = (T : Sexpr) → MeanSame (one (codes "never") T)
 abbrev pub NowIs : Type 0
 NowIs = (c : Sexpr) → MeanSame (one (codes "now") c) (two (codes "after") (atom (codes "0")) c)
 
--- `edge` means
--- `(>>> (&&& identity (iPre true)) (arr (if (and (fst x) (not (snd x))) (event unit) (none Unit))))`
+-- `edge` means `(>>> (&&& identity (iPre true)) (arr RISE))`, where RISE is
+-- `(if (and (fst x) (not (snd x))) (event unit) (none Unit))`
 abbrev pub EdgeIs : Type 0
 EdgeIs =
     MeanSame (atom (codes "edge"))

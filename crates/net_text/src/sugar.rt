@@ -108,8 +108,8 @@ fn rises(alloc: Global) -> Result<NetChild<Expr>, Memory>
     Ok(NetChild::new(alloc, Net::Arr(Expr::If(test, event, none)))?)
 }
 
-/// `(>>> (&&& identity (iPre true)) (arr (if (and (fst x) (not (snd x))) (event unit) (none
-/// Unit))))`.
+/// `(>>> (&&& identity (iPre true)) (arr RISE))`, where RISE is
+/// `(if (and (fst x) (not (snd x))) (event unit) (none Unit))`.
 pub(crate) fn edge(alloc: Global) -> Result<Net<Expr>, Memory>
     ensures { IfOk result (λ net. tree_of net ≡ sugar.edge) }
 {

@@ -11,13 +11,13 @@ use Rattle.leaf_expr.proofs.FrontSteps.{in_form, in_word, front_refused}
 use Rattle.leaf_expr.proofs.ItemSteps.{done, more, gone}
 use Rattle.leaf_expr.proofs.ReadCounts.{read_shortens}
 use Rattle.leaf_expr.proofs.ReadSteps.{given, made, told, told_memory}
-use Rattle.leaf_expr.proofs.PartSteps.{part, no_part, ended, no_end, parts_made, parts_refused}
+use Rattle.leaf_expr.proofs.PartSteps.{named, unnamed, headless, part, no_part, ended, no_end, parts_made, parts_refused}
 use Rattle.net_syntax.specs.Network.{Network, Networks, networks_of, loop_pre, par, k_switch, p_switch, map_network, map_networks}
 use Rattle.leaf_core.specs.Expression.{Expression}
 use Rattle.net_syntax.specs.NetworkView.{tree_of}
 use Rattle.net_text.specs.Form.{form_row, unary_of, binary_of}
 use Rattle.net_text.specs.Grammar.{networks, network_sort, members_sort, row, f, col}
-use Rattle.net_text.proofs.ReadSteps.{named, unnamed, headless, col_named, col_unnamed, col_no_word, leaf_part, no_leaf, members_are}
+use Rattle.net_text.proofs.ReadSteps.{col_named, col_unnamed, col_no_word, leaf_part, no_leaf, members_are}
 use Rattle.net_text.proofs.network_reader.+network.Goals as goal
 
 pub network_at-returns-in_err-start : goal.network_at-returns-in_err-start
@@ -31,14 +31,14 @@ pub network_at-returns-in-Word : goal.network_at-returns-in-Word
 network_at-returns-in-Word t c = in_word networks network_sort _ _ _ _ _ c.in-Word.is c.in_ok-start.ensures.front c.word_network.ensures
 
 pub form_at-returns-in_err-start : goal.form_at-returns-in_err-start
-form_at-returns-in_err-start t c = told _ _ _ _ c.from_residual.ensures.1 (headless _ _ _ network_sort _ _ c.in_err-start.ensures.head)
+form_at-returns-in_err-start t c = told _ _ _ _ c.from_residual.ensures.1 (headless networks _ _ _ _ network_sort _ c.in_err-start.ensures.head)
 
 pub form_at-returns-in-Some : goal.form_at-returns-in-Some
 form_at-returns-in-Some t c =
-    given _ _ (named _ _ _ network_sort _ (form_row c.in-Some.form) c.in_ok-start.ensures.head c.in-Some.ensures) c.parts_at.ensures
+    given _ _ (named networks _ _ _ network_sort _ (form_row c.in-Some.form) c.in_ok-start.ensures.head c.in-Some.ensures) c.parts_at.ensures
 
 pub form_at-returns-in-None : goal.form_at-returns-in-None
-form_at-returns-in-None t c = λ m. unnamed _ _ _ network_sort _ c.in_ok-start.ensures.head c.in-None.ensures
+form_at-returns-in-None t c = λ m. unnamed networks _ _ _ network_sort _ c.in_ok-start.ensures.head c.in-None.ensures
 
 pub child_at-returns-in_err-net : goal.child_at-returns-in_err-net
 child_at-returns-in_err-net t c = told _ _ _ _ c.from_residual.ensures.1 c.in_err-net.ensures
@@ -192,16 +192,16 @@ col_at-returns-in-Word t c =
     c.in_ok-start.ensures.front (λ m. col_no_word _ _ _)
 
 pub col_form_at-returns-in_err-start : goal.col_form_at-returns-in_err-start
-col_form_at-returns-in_err-start t c = told _ _ _ _ c.from_residual.ensures.1 (headless _ _ _ members_sort _ _ c.in_err-start.ensures.head)
+col_form_at-returns-in_err-start t c = told _ _ _ _ c.from_residual.ensures.1 (headless networks _ _ _ _ members_sort _ c.in_err-start.ensures.head)
 
 pub col_form_at-returns-then-word_is : goal.col_form_at-returns-then-word_is
 col_form_at-returns-then-word_is t c =
     given _ _
-    (named _ _ _ members_sort _ (row (codes "col") (places network_sort) networks_of) c.in_ok-start.ensures.head
+    (named networks _ _ _ members_sort _ (row (codes "col") (places network_sort) networks_of) c.in_ok-start.ensures.head
     (col_named _ (sym c.word_is.ensures ∙ c.if-word_is.true))) c.members_at.ensures
 
 pub col_form_at-returns-else-word_is : goal.col_form_at-returns-else-word_is
-col_form_at-returns-else-word_is t c = λ m. unnamed _ _ _ members_sort _ c.in_ok-start.ensures.head
+col_form_at-returns-else-word_is t c = λ m. unnamed networks _ _ _ members_sort _ c.in_ok-start.ensures.head
     (col_unnamed _ (sym c.word_is.ensures ∙ c.if-word_is.false))
 
 pub members_at-returns-in_err-all : goal.members_at-returns-in_err-all
