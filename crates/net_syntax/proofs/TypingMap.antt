@@ -6,7 +6,7 @@ use Rattle.net_syntax.specs.Typing.{Arrow, LeafTyping, Typed, AllTyped, arr_type
 
 module _ {L : Type 0} {T U : LeafTyping L} {M N : TypeTree → Type 0} (u : (e : L) (Ps : List TypeTree) (A B : TypeTree) → T e Ps A B
     → U e Ps A B) (v : (A : TypeTree) → M A → N A) where
-  mutual
+  abbrev mutual
     pub map_typed : {Ps : List TypeTree} {Os : List Arrow} {net : Network L} {A B : TypeTree} → Typed T M Ps Os net A B → Typed U N Ps Os net A B
     map_typed (arr_typed h) = arr_typed (u _ _ _ _ h)
     map_typed (seq_typed f g) = seq_typed (map_typed f) (map_typed g)

@@ -22,3 +22,5 @@ pub mod Leaves
 pub mod NeedView
 pub mod ArrowView
 pub mod Left
+pub mod LeafWalk
+pub mod FormView

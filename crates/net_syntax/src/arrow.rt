@@ -1,7 +1,6 @@
 // The types of a frozen network.
 
 ghost use Rattle.std.specs.Prelude.{◌≡◌, IfOk};
-ghost use Rattle.net_syntax.specs.ArrowView.{arrow_of};
 
 use sample_core::{Memory, Ty};
 use std::alloc::Global;
@@ -19,7 +18,7 @@ impl Arrow {
     /// A copy, whose parts are shared with it. It takes no memory; `Memory` only where a count of
     /// references is full.
     pub fn try_copy(&self, alloc: Global) -> Result<Arrow, Memory>
-        ensures { IfOk result (λ o. arrow_of o ≡ arrow_of self.now) }
+        ensures { IfOk result (λ o. o ≡ self.now) }
     {
         let input = self.input.try_copy(alloc)?;
         match self.output.try_copy(alloc) {

@@ -2,17 +2,22 @@
 #![tactic(auto)]
 
 mod arrow;
+mod forms;
 mod laws;
 mod measure;
 mod need;
+mod needs;
 mod net;
+mod part_types;
 mod position;
 mod typed_net;
 
 pub use arrow::Arrow;
+pub use forms::{LeafForm, PairForm};
 pub use laws::{output_examples, stream_laws, switching_laws, typing_laws, weight_examples};
 pub use measure::{MOST_HEIGHT, MOST_WEIGHT, height, is_oversized, weight};
 pub use need::LeafNeed;
+pub use needs::leaves;
 pub use net::{Members, Net, NetChild};
 pub use position::{Position, print_position, push_position};
 pub use typed_net::TypedNet;

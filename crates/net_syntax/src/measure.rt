@@ -15,6 +15,9 @@ use std::alloc::Global;
 /// The greatest weight of a network that is run.
 pub const MOST_WEIGHT: u32 = 1_000_000;
 
+/// The greatest size of a network that is walked: one of more weighs more than the greatest weight.
+const MOST_SIZE: u32 = 2_000_000;
+
 /// The greatest height of a network that is run.
 pub const MOST_HEIGHT: u32 = 256;
 
@@ -94,7 +97,7 @@ fn weight_left<L>(alloc: Global, net: &Net<L>, scope: &[u32], most: u32) -> Resu
         | Net::Time
         | Net::Integral => less(most, 1),
         Net::First(f) | Net::LoopPre(_, f) => weight_left_of_one(alloc, f, scope, most),
-        Net::Seq(f, g) | Net::Switch(f, g) | Net::DSwitch(f, g) | Net::RSwitch(f, g) => {
+        Net::Seq(f, g) | Net::RSwitch(f, g) | Net::Switch(f, g) | Net::DSwitch(f, g) => {
             weight_left_of_two(alloc, f, g, scope, most)
         }
         Net::Par(fs) => weight_left_of_all(alloc, fs, scope, most),
@@ -397,13 +400,14 @@ fn height_of_old(scope: &[u32], k: u32, room: u32) -> Result<u32, Stop>
     }
 }
 
-/// Whether more than 1,000,000 networks stand inside one another in the network. Its weight is then
-/// over its limit too. Only a network with shared parts can be so, no file is long enough; this
-/// stops at the first part too many, where a walk over all parts might never end.
+/// Whether more than 2,000,000 networks and lists of members stand inside one another in the
+/// network. Its weight is then over its limit too. Only a network with shared parts can be so, no
+/// file is long enough; this stops at the first part too many, where a walk over all parts might
+/// never end.
 pub fn is_oversized(net: &Net<Expr>) -> bool
-    ensures { result ≡ nat_lt MOST_WEIGHT (network_size (tree_of net.now)) }
+    ensures { result ≡ nat_lt MOST_SIZE (network_size (tree_of net.now)) }
 {
-    size_left(net, MOST_WEIGHT).is_none()
+    size_left(net, MOST_SIZE).is_none()
 }
 
 /// How much of `most` is left after the networks inside the network. It stops at the first too

@@ -1,20 +1,22 @@
 -- The walk and the check answer exactly the networks within the limits.
-use Rattle.std.proofs.Common.{◌≡◌, ◌∙◌, ℕ, true, min, arith, leb, [], Ok, refl, ◌≤◌, sym, le-leb, leb-true}
+use Rattle.std.proofs.Common.{◌≡◌, ◌∙◌, ℕ, true, min, arith, leb, [], Ok, Err, refl, ◌≤◌, sym, le-leb, leb-true}
 use Rattle.sample_core.specs.TypeTree.{TypeTree}
 use Rattle.leaf_core.specs.Expression.{Expression}
 use Rattle.leaf_core.specs.TypeLimits.{type_fits}
 use Rattle.leaf_core.specs.ExpressionCheck.{type_answer}
 use Rattle.leaf_core.specs.ExpressionLimits.{ExpressionTypedWithin}
 use Rattle.leaf_core.proofs.Exactness.{type_answer-exact}
-use Rattle.net_syntax.specs.Network.{Network}
+use Rattle.net_syntax.specs.Network.{Network, network_size}
 use Rattle.net_syntax.specs.Height.{height}
 use Rattle.net_syntax.specs.Weight.{weight}
 use Rattle.net_syntax.specs.TypedNetwork.{TypedNetwork}
 use Rattle.net_syntax.specs.NetworkLimits.{WithinLimits}
+use Rattle.net_types.specs.declared.fault.TypeFault.{TypeFault}
 use Rattle.net_types.specs.declared.fault.TypeFault.TheVariants as Fault
 use Rattle.net_types.specs.Check.{net_walk, check}
 use Rattle.net_types.specs.TypingLaws.{WalkLaw, CheckLaw}
-use Rattle.net_types.proofs.WalkTests.{Holds, ok_holds, next, holding, goes_on, tested, passes, within_tells, within_passes, type_fits-TypeFits, IsExact}
+use Rattle.net_types.proofs.WalkTests.{Holds, ok_holds, next, holding, goes_on, faults_on, stops, tested, passes, within_tells, within_passes, type_fits-TypeFits, IsExact}
+use Rattle.net_types.proofs.Sizes.{few_inside}
 use Rattle.net_types.proofs.WalkSound.{sound}
 use Rattle.net_types.proofs.WalkComplete.{complete}
 
@@ -32,7 +34,8 @@ walk_exact P Ps Os A net B = (
 pub check_sound : (A : TypeTree) (net : Network Expression) → Holds (λ t. (t.input ≡ A) × (t.net ≡ net) × WithinLimits t) (check A net)
 check_sound A net =
     next (within_tells A)
-    (λ Z w. next (sound (λ e Qs B. type_answer Qs B e) ExpressionTypedWithin exact [] [] [] A net)
+    (λ Z w. next (tested (leb (network_size net) 2000000) Fault.TooHeavy) (λ n s.
+    next (sound (λ e Qs B. type_answer Qs B e) ExpressionTypedWithin exact [] [] [] A net)
     (λ B d. next (tested (leb (height net []) 256) Fault.TooDeep) (λ u h. next (tested (leb (weight net []) 1000000) Fault.TooHeavy) (λ v k.
     ok_holds (
       refl,
@@ -43,15 +46,16 @@ check_sound A net =
             refl;
         its_height = refl;
       },
-    )))))
+    ))))))
 
 check_complete : (t : TypedNetwork) → WithinLimits t → check t.input t.net ≡ Ok t
 check_complete t h =
     goes_on _ (within_passes t.input h.fits.input_fits)
+    (goes_on _ (passes Fault.TooHeavy (le-leb (network_size t.net) 2000000 (few_inside t.net 1000000 h.fits.light)))
     (goes_on _ (complete (λ e Qs B. type_answer Qs B e) ExpressionTypedWithin exact [] [] [] t.input t.net t.output h.fits.typed)
     (goes_on _ (passes Fault.TooDeep (le-leb (height t.net []) 256 h.fits.low))
     (goes_on _ (passes Fault.TooHeavy (le-leb (weight t.net []) 1000000 h.fits.light))
-    (λ i. Ok (record { input = t.input; output = t.output; net = t.net; weight = sym h.its_weight i; height = sym h.its_height i })))))
+    (λ i. Ok (record { input = t.input; output = t.output; net = t.net; weight = sym h.its_weight i; height = sym h.its_height i }))))))
 
 pub check_exact : CheckLaw
 check_exact A net t = (λ e. holding (check_sound A net) e, λ h. (λ i. check (sym h.0 i) (sym h.1 i)) ∙ check_complete t h.2)
@@ -66,3 +70,9 @@ within_limits A B net w h fits typed is_weight is_height light low =
       its_weight = omega arith;
       its_height = omega arith;
     }
+
+-- the walk's fault is the check's, where the tests before it are passed
+pub check_faults : (A : TypeTree) (net : Network Expression) (f : TypeFault) → type_fits A ≡ true → network_size net ≤ 2000000 → net_walk [] [] [] A net ≡ Err f
+    → check A net ≡ Err f
+check_faults A net f fits small e =
+    faults_on _ (within_passes A (type_fits-TypeFits A fits)) (faults_on _ (passes Fault.TooHeavy (le-leb (network_size net) 2000000 small)) (stops _ e))

@@ -5,7 +5,7 @@ use Rattle.leaf_core.specs.TypeLimits.{type_fits, same_tree}
 use Rattle.leaf_core.specs.Expression.{Expression}
 use Rattle.leaf_core.specs.ExpressionCheck.{type_answer}
 use Rattle.leaf_core.specs.declared.typing.ExprFault.{ExprFault}
-use Rattle.net_syntax.specs.Network.{Network, Networks, arr, seq, first, par, loop_pre, i_pre, delay, hold, accum_by, after, repeatedly, time, integral, switch, d_switch, r_switch, k_switch, p_switch, old, no_members, and_member}
+use Rattle.net_syntax.specs.Network.{Network, Networks, network_size, arr, seq, first, par, loop_pre, i_pre, delay, hold, accum_by, after, repeatedly, time, integral, switch, d_switch, r_switch, k_switch, p_switch, old, no_members, and_member}
 use Rattle.net_syntax.specs.Typing.{Arrow, copies, members}
 use Rattle.net_syntax.specs.Height.{height}
 use Rattle.net_syntax.specs.Weight.{weight}
@@ -263,9 +263,10 @@ check_sited : (A : TypeTree) (net : Network Expression) → Ends (FaultStandsIn 
 check_sited A net =
     let t : LeafChecker Expression = λ e Qs B. type_answer Qs B e in
     ends_next (by_within t net [] A)
-    (λ Z u. ends_next (sited t [] [] [] A net)
+    (λ Z u. ends_next (by_test t net [] (leb (network_size net) 2000000) Fault.TooHeavy tt)
+    (λ n s. ends_next (sited t [] [] [] A net)
     (λ B v. ends_next (by_test t net [] (leb (height net []) 256) Fault.TooDeep tt)
-    (λ w i. ends_next (by_test t net [] (leb (weight net []) 1000000) Fault.TooHeavy tt) (λ j k. ended tt))))
+    (λ w i. ends_next (by_test t net [] (leb (weight net []) 1000000) Fault.TooHeavy tt) (λ j k. ended tt)))))
 
 pub faults_sited : FaultLaw
 faults_sited A net f e = faulting (check_sited A net) e

@@ -38,6 +38,12 @@ weaker err_holds s = err_holds
 pub goes_on : {A B : Type 0} {r : Result A TypeFault} (k : A → Result B TypeFault) {a : A} {b : B} → r ≡ Ok a → k a ≡ Ok b → (r >>= k) ≡ Ok b
 goes_on k e d = ap (λ r. r >>= k) e ∙ d
 
+pub faults_on : {A B : Type 0} {r : Result A TypeFault} (k : A → Result B TypeFault) {a : A} {f : TypeFault} → r ≡ Ok a → k a ≡ Err f → (r >>= k) ≡ Err f
+faults_on k e d = ap (λ r. r >>= k) e ∙ d
+
+pub stops : {A B : Type 0} {r : Result A TypeFault} (k : A → Result B TypeFault) {f : TypeFault} → r ≡ Err f → (r >>= k) ≡ Err f
+stops k e = ap (λ r. r >>= k) e
+
 both_true : (a b : Bool) → (a && b) ≡ true → (a ≡ true) × (b ≡ true)
 both_true true b e = (refl, e)
 both_true false b e = absurd (cc)
@@ -107,6 +113,13 @@ counted_tells P fs = weaker (tested (leb 1 (members fs) && leb (members fs) 64) 
 
 pub counted_passes : {L : Type 0} (P : List ℕ) (fs : Networks L) → 1 ≤ members fs → members fs ≤ 64 → test_members P fs ≡ Ok tt
 counted_passes P fs h k = passes (Fault.Members P) (range_in 1 64 (members fs) h k)
+
+pub counted_fails : {L : Type 0} (P : List ℕ) (fs : Networks L) → (1 ≤ members fs → members fs ≤ 64 → ⊥) → test_members P fs ≡ Err (Fault.Members P)
+counted_fails P fs h = go (leb 1 (members fs) && leb (members fs) 64) refl
+  where
+    go : (b : Bool) → (leb 1 (members fs) && leb (members fs) 64) ≡ b → test b (Fault.Members P) ≡ Err (Fault.Members P)
+    go true e = let r = in_range 1 64 (members fs) e in absurd (h r.0 r.1)
+    go false e = refl
 
 pub frozen_tells : (P : List ℕ) (Os : List Arrow) (k : ℕ) → Holds (λ o. OldAt Os k o) (old_at P Os k)
 frozen_tells P [] k = err_holds

@@ -4,25 +4,32 @@ use Rattle.sample_core.specs.Answer.{GivesUnless}
 use Rattle.sample_core.specs.TypeTree.{TypeTree}
 use Rattle.leaf_core.specs.Expression.{Expression}
 use Rattle.leaf_core.specs.ExpressionCheck.{type_answer}
-use Rattle.net_syntax.specs.Network.{Network}
+use Rattle.net_syntax.specs.Network.{Network, Networks, network_size}
 use Rattle.net_syntax.specs.Weight.{weight}
 use Rattle.net_syntax.specs.Height.{height}
 use Rattle.net_syntax.specs.Typing.{Arrow}
 use Rattle.net_syntax.specs.TypedNetwork.{TypedNetwork}
 use Rattle.net_types.specs.declared.fault.TypeFault.{TypeFault}
 use Rattle.net_types.specs.declared.fault.TypeFault.TheVariants as Fault
-use Rattle.net_types.specs.Walk.{◌>>=◌, ◌>>◌, test, within, walk}
+use Rattle.net_types.specs.Walk.{◌>>=◌, ◌>>◌, test, within, walk, walk_all}
 
 -- the output of the network of expressions at P, or the first fault in it
 abbrev pub net_walk : List ℕ → List TypeTree → List Arrow → TypeTree → Network Expression
     → Result TypeTree TypeFault
 net_walk P Ps Os A net = walk (λ e Qs B. type_answer Qs B e) P Ps Os A net
 
+-- the outputs of the members from child k on of the node at P
+abbrev pub net_walk_all : List ℕ → ℕ → List TypeTree → List Arrow → TypeTree → Networks Expression
+    → Result (List TypeTree) TypeFault
+net_walk_all P k Ps Os A fs = walk_all (λ e Qs B. type_answer Qs B e) P k Ps Os A fs
+
 -- a whole network with nothing in scope: the input's type first, then the walk, then the height,
--- last the weight
+-- last the weight. Before the walk stands one test that a network from a file always passes: only
+-- one with shared parts can have so many networks in it, and it is too heavy as well
 abbrev pub check : TypeTree → Network Expression → Result TypedNetwork TypeFault
 check A net = do
   within A
+  test (leb (network_size net) 2000000) Fault.TooHeavy
   B ← net_walk [] [] [] A net
   test (leb (height net []) 256) Fault.TooDeep
   test (leb (weight net []) 1000000) Fault.TooHeavy

@@ -1,4 +1,7 @@
 pub mod Walk
 pub mod Check
+pub mod Scopes
+pub mod WalkParts
+pub mod Sites
 pub mod FaultPlaces
 pub mod TypingLaws

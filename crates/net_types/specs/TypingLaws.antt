@@ -1,10 +1,11 @@
 -- What is to hold of the walk and of the check.
-use Rattle.std.specs.Prelude.{◌≡◌, ◌↔◌, ℕ, List, [], Ok, Err}
+use Rattle.std.specs.Prelude.{◌≡◌, ◌↔◌, ◌<◌, ℕ, List, [], Ok, Err}
 use Rattle.sample_core.specs.TypeTree.{TypeTree}
 use Rattle.leaf_core.specs.Expression.{Expression}
-use Rattle.net_syntax.specs.Network.{Network}
+use Rattle.net_syntax.specs.Network.{Network, network_size}
 use Rattle.net_syntax.specs.Typing.{Arrow}
 use Rattle.net_syntax.specs.TypedNetwork.{TypedNetwork}
+use Rattle.net_syntax.specs.Weight.{weight}
 use Rattle.net_syntax.specs.NetworkLimits.{NetTypedWithin, WithinLimits}
 use Rattle.net_types.specs.declared.fault.TypeFault.{TypeFault}
 use Rattle.net_types.specs.FaultPlaces.{FaultStandsIn}
@@ -27,3 +28,7 @@ CheckLaw = (A : TypeTree) (net : Network Expression) (t : TypedNetwork)
 abbrev pub FaultLaw : Type 0
 FaultLaw = (A : TypeTree) (net : Network Expression) (f : TypeFault) → check A net ≡ Err f
     → FaultStandsIn net [] f
+
+-- a network that is refused for its size alone is over the limit of the weight too
+abbrev pub SizeLaw : Type 0
+SizeLaw = (net : Network Expression) → 2000000 < network_size net → 1000000 < weight net []

@@ -5,28 +5,47 @@ ghost use Rattle.net_syntax.specs.NetworkView.{tree_of};
 ghost use Rattle.net_types.specs.Check.{check, Gives};
 
 use crate::fault::TypeFault;
+use crate::scope::Scope;
 use crate::walk::walk;
 use leaf_core::{Expr, type_fits};
-use net_syntax::{MOST_HEIGHT, MOST_WEIGHT, Net, TypedNet, height, weight};
+use net_syntax::{MOST_HEIGHT, MOST_WEIGHT, Net, TypedNet, height, is_oversized, weight};
 use sample_core::Ty;
 use std::alloc::Global;
 
 /// The network with its input type, its output type, its weight and its height; else the first
 /// fault.
 ///
-/// The input type is tested first: `TooDeep` over depth 32 or 256 nodes. Then each node, its parts
-/// in written order: `Expr` at an expression that is refused, and `Joint` at an `iPre` whose first
-/// output has another type than its input. Then the height: `TooDeep` over 256. Last the weight:
-/// `TooHeavy` over 1,000,000. `Memory` where a growth was refused. The forms that are there lead
-/// to no other fault.
+/// The input type is tested first: `TooDeep` over depth 32 or 256 nodes. Then the walk: each node's
+/// tests in their order, its parts in written order but for the members of `parB` and `pSwitch`,
+/// which are walked before their outputs are compared, and for `accumBy`, whose start is walked
+/// before its step.
+///
+/// - `Expr`, at an expression: it is refused, with its own fault.
+/// - `Joint`, at the node or at the part whose output it is: two types differ, as that of an `iPre`
+///   and of its input, of a continuation and of the network before it, or of two members.
+/// - `NoOld`, at an `old`: no frozen network in scope has its level.
+/// - `NotEvent`, at the node for its input, at a part for its output: it isn't an event's type.
+/// - `NotPair`, likewise: it isn't a pair's type.
+/// - `Members`, at a `parB` or a `pSwitch`: it has no members or more than 64.
+/// - `Number`, at an `after`, a `repeatedly` or a `delay`: its q is outside the range.
+/// - `TooDeep`: a type that a node makes, as its output or as a part's input, is over depth 32 or
+///   256 nodes.
+///
+/// Then the height: `TooDeep` over 256. Last the weight: `TooHeavy` over 1,000,000. A network with
+/// so many parts, shared ones counted each time, that no file could hold it is `TooHeavy` before
+/// the walk. `Memory` where a growth was refused.
 pub fn check_types(alloc: Global, input: Ty, net: Net<Expr>) -> Result<TypedNet, TypeFault>
     ensures { Gives (λ typed. typed) result (check (type_of input) (tree_of net)) }
 {
     if !type_fits(&input) {
         return Err(TypeFault::TooDeep);
     }
+    if is_oversized(&net) {
+        return Err(TypeFault::TooHeavy);
+    }
     let mut path = Vec::new(alloc);
-    let output = walk(alloc, &mut path, &input, &net)?;
+    let scope = Scope::new(alloc);
+    let output = walk(alloc, &mut path, &scope, &input, &net)?;
     let height = height(alloc, &net)?;
     if height > MOST_HEIGHT {
         return Err(TypeFault::TooDeep);

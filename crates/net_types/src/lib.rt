@@ -5,6 +5,10 @@
 mod check;
 mod fault;
 mod laws;
+mod nodes;
+mod scope;
+mod site;
+mod types;
 mod walk;
 
 pub use check::check_types;

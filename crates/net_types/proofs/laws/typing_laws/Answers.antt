@@ -1,4 +1,5 @@
 use Rattle.net_types.proofs.Checks.{walk_exact, check_exact}
+use Rattle.net_types.proofs.Sizes.{size_law}
 use Rattle.net_types.proofs.FaultsSited.{faults_sited}
 use Rattle.net_types.proofs.laws.typing_laws.Goals as goal
 
@@ -10,3 +11,6 @@ returns-clause-check c = check_exact
 
 pub returns-clause-faults : goal.returns-clause-faults
 returns-clause-faults c = faults_sited
+
+pub returns-clause-sizes : goal.returns-clause-sizes
+returns-clause-sizes c = size_law

@@ -1,0 +1,81 @@
+-- The walk of a node is that of its parts, where the first of them are known.
+use Rattle.std.proofs.Common.{◌≡◌, ◌∙◌, ℕ, suc, List, [], ◌∷◌, length, Result, Ok, Err, refl, sym, ap, subst}
+use Rattle.sample_core.specs.TypeTree.{TypeTree, int_ty, list_ty, pair_ty}
+use Rattle.leaf_core.specs.Expression.{Expression}
+use Rattle.leaf_core.specs.ExpressionView.{expression_of}
+use Rattle.leaf_core.specs.declared.expr.Expr.{Expr}
+use Rattle.net_syntax.specs.Network.{Network, Networks, map_networks, p_switch}
+use Rattle.net_syntax.specs.NetworkView.{members_of}
+use Rattle.net_syntax.specs.Typing.{Arrow, arrow, members}
+use Rattle.net_syntax.specs.declared.net.Net.{Net}
+use Rattle.net_types.specs.declared.fault.TypeFault.{TypeFault}
+use Rattle.net_types.specs.Walk.{◌>>=◌, ◌>>◌, ◌↓◌, as_event, one_output, test_members, within}
+use Rattle.net_types.specs.Check.{Gives, net_walk_all}
+use Rattle.net_types.specs.Scopes.{InScope, and_olds, and_param}
+use Rattle.net_types.specs.WalkParts.{freezing_walk, leaf_walk, next_walk, routed_walk, walk_in, watch_walk}
+use Rattle.net_types.proofs.ScopeLists.{members_counted}
+
+-- an answer is given as it is written otherwise
+pub gives_as : {X Y : Type 0} (view : X → Y) (result : Result X TypeFault) {a b : Result Y TypeFault} → a ≡ b → Gives view result b → Gives view result a
+gives_as view result e g = subst (λ a. Gives view result a) (sym e) g
+
+-- what comes after a scope that is known
+watched : (w e : Result TypeTree TypeFault) (c : TypeTree → Result TypeTree TypeFault) (f : TypeTree → InScope) (k : InScope → Result TypeTree TypeFault)
+    (S : InScope)
+    → (w >> (e >>= (λ E. c E >>= (λ C. Ok (f C))))) ≡ Ok S → (w >> (e >>= (λ E. c E >>= (λ C. k (f C))))) ≡ k S
+watched (Err x) e c f k S h = absurd (cc)
+watched (Ok A) (Err x) c f k S h = absurd (cc)
+watched (Ok A) (Ok E) c f k S h = go (c E) h
+  where
+    go : (r : Result TypeTree TypeFault) → (r >>= (λ C. Ok (f C))) ≡ Ok S → (r >>= (λ C. k (f C))) ≡ k S
+    go (Err x) h = absurd (cc)
+    go (Ok C) h = cc
+
+freezing_as : (P : List ℕ) (k : ℕ) (S inner : InScope) (A B : TypeTree) (n : ℕ) (o : Arrow) (e t : Network Expression) → watch_walk (P ↓ k) S A B e ≡ Ok inner
+    → freezing_walk P k S A B n o e t ≡ next_walk (P ↓ suc k) (and_olds inner n o) A B t
+freezing_as P k S inner A B n o e t h =
+    watched (within (pair_ty A B)) (walk_in (P ↓ k) S (pair_ty A B) e) (λ E. as_event (P ↓ k) E) (λ C. and_param S C)
+    (λ R. next_walk (P ↓ suc k) (and_olds R n o) A B t) inner h
+
+-- a switch that freezes gives what its continuation does, under the scope that its event makes
+pub freezing_gives : {X : Type 0} (view : X → TypeTree) (result : Result X TypeFault) (P Q : List ℕ) (k j m n : ℕ) (S inner after : InScope)
+    (A B L : TypeTree) (o : Arrow) (e t : Network Expression) → L ≡ B → j ≡ k → m ≡ suc k → Q ≡ P
+    → after ≡ and_olds inner n o → watch_walk (P ↓ j) S A L e ≡ Ok inner
+    → Gives view result (next_walk (Q ↓ m) after A L t) → Gives view result (freezing_walk P k S A B n o e t)
+freezing_gives view result P Q k j m n S inner after A B L o e t l i g q a h d =
+    gives_as view result (freezing_as P k S inner A B n o e t (rw (l, i) at h)) (rw (q, g, a, l) at d)
+
+-- what comes after the types of members that are known
+routed : (u : Result Unit TypeFault) (w d : Result TypeTree TypeFault) (m : TypeTree → Result (List TypeTree) TypeFault)
+    (one : List TypeTree → Result TypeTree TypeFault) (k : Arrow → Result TypeTree TypeFault) (o : Arrow) → u ≡ Ok tt
+    → ((w >> d) >>= (λ D. (m D >>= one) >>= (λ B. Ok (arrow D B)))) ≡ Ok o → (u >> (w >> (d >>= (λ D. m D >>= (λ Bs. one Bs >>= (λ B. k (arrow D B))))))) ≡ k o
+routed (Err x) w d m one k o c h = absurd (cc)
+routed (Ok v) (Err x) d m one k o c h = absurd (cc)
+routed (Ok v) (Ok A) (Err x) m one k o c h = absurd (cc)
+routed (Ok v) (Ok A) (Ok D) m one k o c h = go (m D) h
+  where
+    then : (r : Result TypeTree TypeFault) → (r >>= (λ B. Ok (arrow D B))) ≡ Ok o → (r >>= (λ B. k (arrow D B))) ≡ k o
+    then (Err x) h = absurd (cc)
+    then (Ok B) h = cc
+
+    go : (r : Result (List TypeTree) TypeFault) → ((r >>= one) >>= (λ B. Ok (arrow D B))) ≡ Ok o → (r >>= (λ Bs. one Bs >>= (λ B. k (arrow D B)))) ≡ k o
+    go (Err x) h = absurd (cc)
+    go (Ok Bs) h = then (one Bs) h
+
+p_switch_as : (P : List ℕ) (S : InScope) (A : TypeTree) (r : Expression) (fs : Networks Expression) (e t : Network Expression) (o : Arrow)
+    → test_members P fs ≡ Ok tt → routed_walk P S A r fs ≡ Ok o
+    → walk_in P S A (p_switch r fs e t) ≡ freezing_walk P (suc (members fs)) S A (list_ty o.output) (members fs) o e t
+p_switch_as P S A r fs e t o c h =
+    routed (test_members P fs) (within (pair_ty A int_ty)) (leaf_walk (P ↓ 0) S (pair_ty A int_ty) r) (λ D. net_walk_all P 1 S.params S.olds D fs)
+    (λ Bs. one_output P 1 Bs) (λ q. freezing_walk P (suc (members fs)) S A (list_ty q.output) (members fs) q e t) o c h
+
+-- a `pSwitch` gives what is left of it, where its members' types are known
+pub p_switch_gives : {X : Type 0} (view : X → TypeTree) (result : Result X TypeFault) (P Q : List ℕ) (S : InScope) (A : TypeTree) (r : Expression)
+    (ms : Networks Expr) (xs : List (Net Expr)) (n : ℕ) (o : Arrow) (e t : Network Expression) → members_of xs ≡ ms → n ≡ length xs → Q ≡ P
+    → test_members P (map_networks expression_of (members_of xs)) ≡ Ok tt → routed_walk P S A r (map_networks expression_of (members_of xs)) ≡ Ok o
+    → Gives view result (freezing_walk Q (suc n) S A (list_ty o.output) n o e t)
+    → Gives view result (walk_in P S A (p_switch r (map_networks expression_of ms) e t))
+p_switch_gives view result P Q S A r ms xs n o e t m l q c h d =
+    subst (λ ns. Gives view result (walk_in P S A (p_switch r (map_networks expression_of ns) e t))) m
+    (gives_as view result (p_switch_as P S A r (map_networks expression_of (members_of xs)) e t o c h)
+    (rw (q, l ∙ sym (members_counted xs)) at d))

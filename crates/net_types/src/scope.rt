@@ -1,0 +1,120 @@
+// The types of what is in scope: parameters, and networks that were frozen.
+
+ghost use Rattle.std.specs.Prelude.{◌≡◌, ◌++◌, IfOk, OnOk, map};
+ghost use Rattle.sample_core.specs.TypeView.{type_of};
+ghost use Rattle.net_syntax.specs.ArrowView.{arrow_of};
+ghost use Rattle.net_syntax.specs.Typing.{arrow, copies};
+ghost use Rattle.net_types.specs.Scopes.{and_olds, and_param, empty};
+
+use net_syntax::Arrow;
+use sample_core::{Memory, Ty, try_copy_types};
+use std::alloc::Global;
+use std::marker::Model;
+
+/// The types of the parameters and of the frozen networks in scope, the outermost first.
+#[derive(Drop)]
+pub(crate) struct Scope {
+    params: Vec<Ty>,
+    olds: Vec<Arrow>,
+}
+
+impl Model for Scope {
+    ghost use Rattle.net_types.specs.Scopes.{InScope, in_scope_code};
+
+    ghost Value = { InScope };
+
+    ghost coded = { in_scope_code };
+
+    ghost use Rattle.std.specs.Prelude.{map};
+    ghost use Rattle.sample_core.specs.TypeView.{type_of};
+    ghost use Rattle.net_syntax.specs.ArrowView.{arrow_of};
+
+    ghost view = { λ a. record { params = map type_of a.params.items; olds = map arrow_of a.olds.items } };
+}
+
+impl Scope {
+    /// Nothing in scope.
+    pub(crate) fn new(alloc: Global) -> Scope
+        ensures { result ≡ empty }
+    {
+        Scope {
+            params: Vec::new(alloc),
+            olds: Vec::new(alloc),
+        }
+    }
+
+    /// The types of the parameters.
+    pub(crate) fn params(&self) -> &[Ty]
+        ensures { map type_of result.now ≡ self.now.params }
+    {
+        &self.params
+    }
+
+    /// The types of the frozen networks.
+    pub(crate) fn olds(&self) -> &[Arrow]
+        ensures { map arrow_of result.now ≡ self.now.olds }
+    {
+        &self.olds
+    }
+
+    /// The scope with one more parameter, of the type. `Memory` where a growth was refused.
+    pub(crate) fn and_param(&self, alloc: Global, param: &Ty) -> Result<Scope, Memory>
+        ensures { IfOk result (λ s. s ≡ and_param self.now (type_of param.now)) }
+    {
+        let mut params = try_copy_types(alloc, &self.params)?;
+        let param = param.try_copy(alloc)?;
+        params.push(param)?;
+        let olds = copied_olds(alloc, &self.olds)?;
+        Ok(Scope { params, olds })
+    }
+
+    /// Adds frozen networks of the types, `count` of them. `Memory` where a growth was refused.
+    pub(crate) fn add_olds(
+        &mut self,
+        alloc: Global,
+        count: u32,
+        types: &Arrow,
+    ) -> Result<(), Memory>
+        ensures { OnOk result (self.new ≡ and_olds self.old count (arrow_of types.now)) }
+    {
+        add_copies(alloc, &mut self.olds, count, types)
+    }
+}
+
+/// A network from the one type to the other. `Memory` where a growth was refused.
+pub(crate) fn arrow_between(alloc: Global, input: &Ty, output: &Ty) -> Result<Arrow, Memory>
+    ensures { IfOk result (λ o. arrow_of o ≡ arrow (type_of input.now) (type_of output.now)) }
+{
+    let input = input.try_copy(alloc)?;
+    match output.try_copy(alloc) {
+        Ok(output) => Ok(Arrow { input, output }),
+        Err(refused) => {
+            drop(input);
+            Err(refused)
+        }
+    }
+}
+
+/// Copies of the types, in order.
+fn copied_olds(alloc: Global, olds: &[Arrow]) -> Result<Vec<Arrow>, Memory>
+    ensures { IfOk result (λ copied. copied.items ≡ olds.now) }
+{
+    let mut copied = Vec::with_capacity(alloc, olds.len())?;
+    for old in olds {
+        let copy = old.try_copy(alloc)?;
+        copied.push(copy)?;
+    }
+    Ok(copied)
+}
+
+/// Adds copies of the types, `count` of them.
+fn add_copies(alloc: Global, olds: &mut Vec<Arrow>, count: u32, types: &Arrow) -> Result<(), Memory>
+    ensures { OnOk result (map arrow_of olds.new.items
+        ≡ map arrow_of olds.old.items ++ copies count (arrow_of types.now)) }
+{
+    for _ in 0..count {
+        let copy = types.try_copy(alloc)?;
+        olds.push(copy)?;
+    }
+    Ok(())
+}

@@ -1,0 +1,184 @@
+// The tests that a node makes of types, numbers and members, and where their faults stand.
+
+ghost use Rattle.std.specs.Prelude.{◌≡◌, ◌+◌, ◌≤◌, ℕ, IfOk, length, map};
+ghost use Rattle.sample_core.specs.TypeView.{type_of};
+ghost use Rattle.net_syntax.specs.Network.{map_networks};
+ghost use Rattle.net_syntax.specs.NetworkView.{members_of};
+ghost use Rattle.leaf_core.specs.ExpressionView.{expression_of};
+ghost use Rattle.net_types.specs.Walk.{all_same, as_event, as_pair, expect_same, one_output, test_members, test_range};
+ghost use Rattle.net_types.specs.Check.{Gives};
+ghost use Rattle.net_types.specs.Sites.{site_of};
+
+use crate::fault::TypeFault;
+use leaf_core::Expr;
+use net_syntax::{Net, Position};
+use sample_core::{Memory, Ty, same_type};
+use std::alloc::Global;
+
+/// How many members `parB` and `pSwitch` may have.
+const MOST_MEMBERS: usize = 64;
+
+/// Where a test of a node puts its fault: at the node, or at one of its children.
+#[derive(Clone, Copy)]
+pub(crate) enum Site {
+    Node,
+    Child(u32),
+}
+
+/// The position of the site, where the node stands at the path.
+fn position_of(alloc: Global, path: &[u32], site: Site) -> Result<Position, Memory>
+    ensures { IfOk result (λ p. p ≡ site_of path.now site) }
+{
+    match site {
+        Site::Node => Position::of_node(alloc, path),
+        Site::Child(k) => Position::of_child(alloc, path, k),
+    }
+}
+
+/// Tests that the type is the one that is wanted; else `Joint` at the site.
+pub(crate) fn same_at(
+    alloc: Global,
+    path: &[u32],
+    site: Site,
+    wanted: &Ty,
+    ty: &Ty,
+) -> Result<(), TypeFault>
+    ensures { Gives (λ _. type_of wanted.now) result
+        (expect_same (site_of path.now site) (type_of wanted.now) (type_of ty.now)) }
+{
+    if same_type(wanted, ty) {
+        return Ok(());
+    }
+    let position = position_of(alloc, path, site)?;
+    Err(TypeFault::Joint { position })
+}
+
+/// The type, where it is the one that is wanted; else `Joint` at the site.
+pub(crate) fn wanted_at(
+    alloc: Global,
+    path: &[u32],
+    site: Site,
+    wanted: &Ty,
+    ty: Ty,
+) -> Result<Ty, TypeFault>
+    ensures { Gives type_of result
+        (expect_same (site_of path.now site) (type_of wanted.now) (type_of ty)) }
+{
+    if same_type(wanted, &ty) {
+        return Ok(ty);
+    }
+    drop(ty);
+    let position = position_of(alloc, path, site)?;
+    Err(TypeFault::Joint { position })
+}
+
+/// The two parts of a pair type; else `NotPair` at the site.
+pub(crate) fn pair_at<'a>(
+    alloc: Global,
+    path: &[u32],
+    site: Site,
+    ty: &'a Ty,
+) -> Result<(&'a Ty, &'a Ty), TypeFault>
+    ensures { Gives (λ parts. (type_of parts.0.now, type_of parts.1.now)) result
+        (as_pair (site_of path.now site) (type_of ty.now)) }
+{
+    if let Ty::Pair(left, right) = ty {
+        return Ok((left.get(), right.get()));
+    }
+    let position = position_of(alloc, path, site)?;
+    Err(TypeFault::NotPair { position })
+}
+
+/// The type of what an event type carries; else `NotEvent` at the site.
+pub(crate) fn event_at<'a>(
+    alloc: Global,
+    path: &[u32],
+    site: Site,
+    ty: &'a Ty,
+) -> Result<&'a Ty, TypeFault>
+    ensures { Gives (λ carried. type_of carried.now) result
+        (as_event (site_of path.now site) (type_of ty.now)) }
+{
+    if let Ty::Event(carried) = ty {
+        return Ok(carried.get());
+    }
+    let position = position_of(alloc, path, site)?;
+    Err(TypeFault::NotEvent { position })
+}
+
+/// Tests that the number is from `low` to `high`; else `Number` at the node.
+pub(crate) fn in_range(
+    alloc: Global,
+    path: &[u32],
+    low: u64,
+    high: u64,
+    number: u64,
+) -> Result<(), TypeFault>
+    ensures { Gives (λ _. tt) result (test_range path.now low high number) }
+{
+    if low <= number && number <= high {
+        return Ok(());
+    }
+    let position = Position::of_node(alloc, path)?;
+    Err(TypeFault::Number { position })
+}
+
+/// How many members there are, where they are 1 to 64; else `Members` at the node.
+pub(crate) fn count_members(
+    alloc: Global,
+    path: &[u32],
+    members: &[Net<Expr>],
+) -> Result<u32, TypeFault>
+    ensures counted { IfOk result (λ n. n ≡ length members.now) }
+    ensures few { IfOk result (λ n. n ≤ 64) }
+    ensures answer { Gives (λ _. tt) result
+        (test_members path.now (map_networks expression_of (members_of members.now))) }
+{
+    let count = members.len();
+    if 1 <= count && count <= MOST_MEMBERS {
+        return Ok(count as u32);
+    }
+    let position = Position::of_node(alloc, path)?;
+    Err(TypeFault::Members { position })
+}
+
+/// The one type of the outputs of members, the first of which is child `first` of the node; else
+/// `Joint` at the first that differs from the first member's.
+pub(crate) fn one_type(
+    alloc: Global,
+    path: &[u32],
+    first: u32,
+    outputs: &[Ty],
+) -> Result<Ty, TypeFault>
+    requires { first + length outputs.now ≤ 4294967295 }
+    ensures { Gives type_of result (one_output path.now first (map type_of outputs.now)) }
+{
+    let Some((output, others)) = outputs.split_first() else {
+        let position = Position::of_node(alloc, path)?;
+        return Err(TypeFault::Members { position });
+    };
+    all_same_at(alloc, path, first + 1, output, others)?;
+    let output = output.try_copy(alloc)?;
+    Ok(output)
+}
+
+/// Tests that the outputs of members, the first of which is child `first` of the node, are all
+/// the type that is wanted; else `Joint` at the first that isn't.
+fn all_same_at(
+    alloc: Global,
+    path: &[u32],
+    first: u32,
+    wanted: &Ty,
+    outputs: &[Ty],
+) -> Result<(), TypeFault>
+    requires { first + length outputs.now ≤ 4294967295 }
+    ensures { Gives (λ _. type_of wanted.now) result
+        (all_same path.now first (type_of wanted.now) (map type_of outputs.now)) }
+{
+    let mut child = first;
+    for output in outputs {
+        same_at(alloc, path, Site::Child(child), wanted, output)?;
+        child += 1;
+    }
+    Ok(())
+}
