@@ -12,3 +12,5 @@ pub mod Joined
 pub mod SourceView
 pub mod Plans
 pub mod EventView
+pub mod Lookup
+pub mod Lowering
