@@ -19,3 +19,4 @@ pub mod StillRuns
 pub mod RunForms
 pub mod PlanForms
 pub mod RunCells
+pub mod FrozenMembers
