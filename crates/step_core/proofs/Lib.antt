@@ -20,3 +20,6 @@ pub mod RunForms
 pub mod PlanForms
 pub mod RunCells
 pub mod FrozenMembers
+pub mod StateLists
+pub mod Falling
+pub mod RunMembers

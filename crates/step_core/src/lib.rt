@@ -4,6 +4,7 @@
 mod bound;
 mod cells;
 mod count;
+mod each;
 mod fire;
 mod part;
 mod plan;
