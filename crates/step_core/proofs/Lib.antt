@@ -23,3 +23,4 @@ pub mod FrozenMembers
 pub mod StateLists
 pub mod Falling
 pub mod RunMembers
+pub mod RunJoins

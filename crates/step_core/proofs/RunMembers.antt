@@ -131,3 +131,99 @@ module _ (keys : List KeyTree) where
             (subst (λ y. Resumes (row_value keys) (paused (par_state as') d) x (par_state each.states) y (suc each.visits)) (sym (hr.1 ∙ all_is.1)) go);
         is_count = λ l. let i : all.visits ≡ each.visits = all_is.2 (omega (arith, l)) in let j : r.visits ≡ suc (all.visits + 0) = hr.2 (omega (arith, i, l)) in omega (arith, i, j);
       }
+
+  -- `pSwitch` that goes on
+  pub p_switch_kept : (w : Frozen ℕ) (r : ℕ) (ps : List Datum) (ms : Frozens ℕ) (q : Frozen ℕ) (t : Network ℕ) (s : Scope ℕ) (x z : Datum) (before now : Gathered) (all : ListOutcome) (two o : Outcome)
+      → PSwitchBy w r ms q t s → ps ≡ params_of s → before ≡ nothing_yet → RunEachWhere keys (by_row r ps) 0 ms x before now → IsListed now all → z ≡ pair x all.list
+      → RunsWhere keys q z two.state two.answer two.visits → event_in two.answer ≡ None
+      → IsRan o (p_switch_state r all.states two.state t s) all.list (suc (all.visits + two.visits)) → RunsWhere keys w x o.state o.answer o.visits
+  p_switch_kept w r ps ms q t s x z before now all two o (R.p_switch_new {fs = fs} {e = e}) ep eb hs hl ez hq ev hr A B (T.unstarted_typed (N.p_switch_typed {B = B'} {C = C} {D = D} lo hi _ rr tf _ te tg) ts) h =
+      let hd = (_, rr, subst (λ vs. TypedParams _ vs) (sym ep) (params_typed keys ts)) in
+      let each0 : RanEach keys (route_by (row_value keys r ps)) x 0 (all_unstarted fs s) before now = hs (members fs) A D B' hd hi (unstarted_all keys tf ts) h in
+      let each : RanEach keys (route_by (row_value keys r (params_of s))) x 0 (all_unstarted fs s) before now = subst (λ vs. RanEach keys (route_by (row_value keys r vs)) x 0 (all_unstarted fs s) before now) ep each0 in
+      let all_is = listed_is (route_by (row_value keys r (params_of s))) 0 x (all_unstarted fs s) before now all eb each hl in
+      let tl : HasType (list (list_of each.answers)) (list_ty B') = (list_has (each_starts_typed keys (each_started fs s each.runs) tf ts (λ i b. route_typed keys rr (params_typed keys ts) h hi i (omega (arith, b)))).1) in
+      let z_is : z ≡ pair x (list (list_of each.answers)) = ez ∙ ap (pair x) all_is.1 in
+      let watched : Ran keys (unstarted e s) (pair x (list (list_of each.answers))) two.state two.answer two.visits = subst (λ v. RunsWhere keys (unstarted e s) v two.state two.answer two.visits) z_is hq (pair_ty A (list_ty B')) (event_ty C) (T.unstarted_typed te ts) (pair_has h tl) in
+      let go : Resumes (row_value keys) (unstarted (p_switch r fs e t) s) x (p_switch_state r each.states two.state t s) (list (list_of each.answers)) (suc (each.visits + watched.visits)) = G.resume_unstarted (G.start_p_switch (each_started fs s each.runs) (started keys watched.resumes) ev) in
+      record {
+        visits = suc (each.visits + watched.visits);
+        resumes = subst (λ a. Resumes (row_value keys) (unstarted (p_switch r fs e t) s) x a o.answer (suc (each.visits + watched.visits))) (sym (hr.0 ∙ ap (λ bs. p_switch_state r bs two.state t s) all_is.0))
+            (subst (λ y. Resumes (row_value keys) (unstarted (p_switch r fs e t) s) x (p_switch_state r each.states two.state t s) y (suc (each.visits + watched.visits))) (sym (hr.1 ∙ all_is.1)) go);
+        is_count = λ l.
+            let i : all.visits ≡ each.visits = all_is.2 (omega (arith, l)) in
+            let j : two.visits ≡ watched.visits = watched.is_count (omega (arith, l)) in
+            let n : o.visits ≡ suc (all.visits + two.visits) = hr.2 (omega (arith, i, j, l)) in
+            omega (arith, i, j, n);
+      }
+  p_switch_kept w r ps ms q t s x z before now all two o (R.p_switch_on {as' = as'} {b = b0} {d = d}) ep eb hs hl ez hq ev hr A B (T.paused_typed (T.p_switch_state_typed {n = k} {A = A'} {B = B'} {C = C} {D = D} hi rr tas tb ts tg)) h =
+      let hd = (_, rr, subst (λ vs. TypedParams _ vs) (sym ep) (params_typed keys ts)) in
+      let each0 : RanEach keys (route_by (row_value keys r ps)) x 0 (all_paused as' d) before now = hs k A D B' hd hi (paused_all keys d tas) h in
+      let each : RanEach keys (route_by (row_value keys r (params_of s))) x 0 (all_paused as' d) before now = subst (λ vs. RanEach keys (route_by (row_value keys r vs)) x 0 (all_paused as' d) before now) ep each0 in
+      let all_is = listed_is (route_by (row_value keys r (params_of s))) 0 x (all_paused as' d) before now all eb each hl in
+      let tl : HasType (list (list_of each.answers)) (list_ty B') = (list_has (each_steps_typed keys (each_stepped as' d each.runs) tas (λ i b. route_typed keys rr (params_typed keys ts) h hi i (omega (arith, b)))).1) in
+      let z_is : z ≡ pair x (list (list_of each.answers)) = ez ∙ ap (pair x) all_is.1 in
+      let watched : Ran keys (paused b0 d) (pair x (list (list_of each.answers))) two.state two.answer two.visits = subst (λ v. RunsWhere keys (paused b0 d) v two.state two.answer two.visits) z_is hq (pair_ty A (list_ty B')) (event_ty C) (T.paused_typed tb) (pair_has h tl) in
+      let go : Resumes (row_value keys) (paused (p_switch_state r as' b0 t s) d) x (p_switch_state r each.states two.state t s) (list (list_of each.answers)) (suc (each.visits + watched.visits)) = G.resume_paused (G.step_p_switch (each_stepped as' d each.runs) (stepped keys watched.resumes) ev) in
+      record {
+        visits = suc (each.visits + watched.visits);
+        resumes = subst (λ a. Resumes (row_value keys) (paused (p_switch_state r as' b0 t s) d) x a o.answer (suc (each.visits + watched.visits))) (sym (hr.0 ∙ ap (λ bs. p_switch_state r bs two.state t s) all_is.0))
+            (subst (λ y. Resumes (row_value keys) (paused (p_switch_state r as' b0 t s) d) x (p_switch_state r each.states two.state t s) y (suc (each.visits + watched.visits))) (sym (hr.1 ∙ all_is.1)) go);
+        is_count = λ l.
+            let i : all.visits ≡ each.visits = all_is.2 (omega (arith, l)) in
+            let j : two.visits ≡ watched.visits = watched.is_count (omega (arith, l)) in
+            let n : o.visits ≡ suc (all.visits + two.visits) = hr.2 (omega (arith, i, j, l)) in
+            omega (arith, i, j, n);
+      }
+
+  -- and one that is taken over from
+  pub p_switch_over : (w : Frozen ℕ) (r : ℕ) (ps : List Datum) (ms : Frozens ℕ) (q : Frozen ℕ) (t : Network ℕ) (s s' : Scope ℕ) (x z u : Datum) (before now : Gathered) (all : ListOutcome) (two over o : Outcome) (b : ℕ)
+      → PSwitchBy w r ms q t s → ps ≡ params_of s → before ≡ nothing_yet → RunEachWhere keys (by_row r ps) 0 ms x before now → IsListed now all → z ≡ pair x all.list
+      → RunsWhere keys q z two.state two.answer two.visits → event_in two.answer ≡ Some u → s' ≡ push_olds (push_param s u) ms → RunsWhere keys (unstarted t s') x over.state over.answer over.visits
+      → (suc (all.visits + two.visits) < 2 ^ 32 → b ≡ suc (all.visits + two.visits)) → IsRan o over.state over.answer (b + over.visits) → RunsWhere keys w x o.state o.answer o.visits
+  p_switch_over w r ps ms q t s s' x z u before now all two over o b (R.p_switch_new {fs = fs} {e = e}) ep eb hs hl ez hq ev es ho hb hr A B (T.unstarted_typed (N.p_switch_typed {B = B'} {C = C} {D = D} lo hi _ rr tf _ te tg) ts) h =
+      let hd = (_, rr, subst (λ vs. TypedParams _ vs) (sym ep) (params_typed keys ts)) in
+      let each0 : RanEach keys (route_by (row_value keys r ps)) x 0 (all_unstarted fs s) before now = hs (members fs) A D B' hd hi (unstarted_all keys tf ts) h in
+      let each : RanEach keys (route_by (row_value keys r (params_of s))) x 0 (all_unstarted fs s) before now = subst (λ vs. RanEach keys (route_by (row_value keys r vs)) x 0 (all_unstarted fs s) before now) ep each0 in
+      let all_is = listed_is (route_by (row_value keys r (params_of s))) 0 x (all_unstarted fs s) before now all eb each hl in
+      let tl : HasType (list (list_of each.answers)) (list_ty B') = (list_has (each_starts_typed keys (each_started fs s each.runs) tf ts (λ i b. route_typed keys rr (params_typed keys ts) h hi i (omega (arith, b)))).1) in
+      let z_is : z ≡ pair x (list (list_of each.answers)) = ez ∙ ap (pair x) all_is.1 in
+      let watched : Ran keys (unstarted e s) (pair x (list (list_of each.answers))) two.state two.answer two.visits = subst (λ v. RunsWhere keys (unstarted e s) v two.state two.answer two.visits) z_is hq (pair_ty A (list_ty B')) (event_ty C) (T.unstarted_typed te ts) (pair_has h tl) in
+      let tu : HasType two.answer (event_ty C) = (resumes_typed keys watched.resumes (T.unstarted_typed te ts) (pair_has h tl)).1 in
+      let third : Ran keys (unstarted t (push_olds (push_param s u) (all_unstarted fs s))) x over.state over.answer over.visits = subst (λ v. RunsWhere keys (unstarted t v) x over.state over.answer over.visits) es ho A B (T.unstarted_typed tg (pushed_olds keys (pushed_param keys ts (event_typed tu ev)) (unstarted_all keys tf ts))) h in
+      let go : Resumes (row_value keys) (unstarted (p_switch r fs e t) s) x over.state over.answer (suc (each.visits + watched.visits) + third.visits) = G.resume_unstarted (G.fire_p_switch (each_started fs s each.runs) (started keys watched.resumes) ev (started keys third.resumes)) in
+      record {
+        visits = suc (each.visits + watched.visits) + third.visits;
+        resumes = subst (λ a. Resumes (row_value keys) (unstarted (p_switch r fs e t) s) x a o.answer (suc (each.visits + watched.visits) + third.visits)) (sym hr.0)
+            (subst (λ y. Resumes (row_value keys) (unstarted (p_switch r fs e t) s) x over.state y (suc (each.visits + watched.visits) + third.visits)) (sym hr.1) go);
+        is_count = λ l.
+            let i : all.visits ≡ each.visits = all_is.2 (omega (arith, l)) in
+            let j : two.visits ≡ watched.visits = watched.is_count (omega (arith, l)) in
+            let k : over.visits ≡ third.visits = third.is_count (omega (arith, l)) in
+            let c : b ≡ suc (all.visits + two.visits) = hb (omega (arith, i, j, l)) in
+            let n : o.visits ≡ b + over.visits = hr.2 (omega (arith, i, j, k, c, l)) in
+            omega (arith, i, j, k, c, n);
+      }
+  p_switch_over w r ps ms q t s s' x z u before now all two over o b (R.p_switch_on {as' = as'} {b = b0} {d = d}) ep eb hs hl ez hq ev es ho hb hr A B (T.paused_typed (T.p_switch_state_typed {n = k} {A = A'} {B = B'} {C = C} {D = D} hi rr tas tb ts tg)) h =
+      let hd = (_, rr, subst (λ vs. TypedParams _ vs) (sym ep) (params_typed keys ts)) in
+      let each0 : RanEach keys (route_by (row_value keys r ps)) x 0 (all_paused as' d) before now = hs k A D B' hd hi (paused_all keys d tas) h in
+      let each : RanEach keys (route_by (row_value keys r (params_of s))) x 0 (all_paused as' d) before now = subst (λ vs. RanEach keys (route_by (row_value keys r vs)) x 0 (all_paused as' d) before now) ep each0 in
+      let all_is = listed_is (route_by (row_value keys r (params_of s))) 0 x (all_paused as' d) before now all eb each hl in
+      let tl : HasType (list (list_of each.answers)) (list_ty B') = (list_has (each_steps_typed keys (each_stepped as' d each.runs) tas (λ i b. route_typed keys rr (params_typed keys ts) h hi i (omega (arith, b)))).1) in
+      let z_is : z ≡ pair x (list (list_of each.answers)) = ez ∙ ap (pair x) all_is.1 in
+      let watched : Ran keys (paused b0 d) (pair x (list (list_of each.answers))) two.state two.answer two.visits = subst (λ v. RunsWhere keys (paused b0 d) v two.state two.answer two.visits) z_is hq (pair_ty A (list_ty B')) (event_ty C) (T.paused_typed tb) (pair_has h tl) in
+      let tu : HasType two.answer (event_ty C) = (resumes_typed keys watched.resumes (T.paused_typed tb) (pair_has h tl)).1 in
+      let third : Ran keys (unstarted t (push_olds (push_param s u) (all_paused as' d))) x over.state over.answer over.visits = subst (λ v. RunsWhere keys (unstarted t v) x over.state over.answer over.visits) es ho A B (T.unstarted_typed tg (pushed_olds keys (pushed_param keys ts (event_typed tu ev)) (paused_all keys d tas))) h in
+      let go : Resumes (row_value keys) (paused (p_switch_state r as' b0 t s) d) x over.state over.answer (suc (each.visits + watched.visits) + third.visits) = G.resume_paused (G.step_p_switch_over (each_stepped as' d each.runs) (stepped keys watched.resumes) ev (started keys third.resumes)) in
+      record {
+        visits = suc (each.visits + watched.visits) + third.visits;
+        resumes = subst (λ a. Resumes (row_value keys) (paused (p_switch_state r as' b0 t s) d) x a o.answer (suc (each.visits + watched.visits) + third.visits)) (sym hr.0)
+            (subst (λ y. Resumes (row_value keys) (paused (p_switch_state r as' b0 t s) d) x over.state y (suc (each.visits + watched.visits) + third.visits)) (sym hr.1) go);
+        is_count = λ l.
+            let i : all.visits ≡ each.visits = all_is.2 (omega (arith, l)) in
+            let j : two.visits ≡ watched.visits = watched.is_count (omega (arith, l)) in
+            let k : over.visits ≡ third.visits = third.is_count (omega (arith, l)) in
+            let c : b ≡ suc (all.visits + two.visits) = hb (omega (arith, i, j, l)) in
+            let n : o.visits ≡ b + over.visits = hr.2 (omega (arith, i, j, k, c, l)) in
+            omega (arith, i, j, k, c, n);
+      }

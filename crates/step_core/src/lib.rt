@@ -10,6 +10,7 @@ mod part;
 mod plan;
 mod ran;
 mod rows;
+mod run;
 mod still;
 
 pub use bound::Bound;
