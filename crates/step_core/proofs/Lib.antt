@@ -20,3 +20,8 @@ pub mod RunForms
 pub mod PlanForms
 pub mod RunCells
 pub mod Lowerings
+pub mod FrozenMembers
+pub mod StateLists
+pub mod Falling
+pub mod RunMembers
+pub mod RunJoins

@@ -81,7 +81,7 @@ mutual
   weights-mono (and_member f fs) ms ns h = and_no_more (weight-mono f ms ns h) (weights-mono fs ms ns h)
 
 module _ {L : Type 0} where
-  ranks-param : (s : Scope L) (c : Datum) → ranks_in (push_param s c) ≡ ranks_in s
+  pub ranks-param : (s : Scope L) (c : Datum) → ranks_in (push_param s c) ≡ ranks_in s
   ranks-param (scope ps fs) c = refl
 
   frozen_ranks-append : (fs gs : Frozens L) → frozen_ranks (append_frozens fs gs) ≡ frozen_ranks fs ++ frozen_ranks gs
@@ -89,14 +89,14 @@ module _ {L : Type 0} where
   frozen_ranks-append (and_frozen f fs) gs = ap (λ ns. frozen_rank f ∷ ns) (frozen_ranks-append fs gs)
 
   -- in what a switch puts in scope
-  ranks-olds : (s : Scope L) (c : Datum) (gs : Frozens L) → ranks_in (push_olds (push_param s c) gs) ≡ ranks_in s ++ frozen_ranks gs
+  pub ranks-olds : (s : Scope L) (c : Datum) (gs : Frozens L) → ranks_in (push_olds (push_param s c) gs) ≡ ranks_in s ++ frozen_ranks gs
   ranks-olds (scope ps fs) c gs = frozen_ranks-append fs gs
 
-  ranks-unstarted : (fs : Networks L) (s : Scope L) → frozen_ranks (all_unstarted fs s) ≡ weights fs (ranks_in s)
+  pub ranks-unstarted : (fs : Networks L) (s : Scope L) → frozen_ranks (all_unstarted fs s) ≡ weights fs (ranks_in s)
   ranks-unstarted no_members s = refl
   ranks-unstarted (and_member f fs) s = ap (λ ns. weight f (ranks_in s) ∷ ns) (ranks-unstarted fs s)
 
-  ranks-paused : (as' : States L) (d : ℕ) → frozen_ranks (all_paused as' d) ≡ ranks as'
+  pub ranks-paused : (as' : States L) (d : ℕ) → frozen_ranks (all_paused as' d) ≡ ranks as'
   ranks-paused no_state d = refl
   ranks-paused (and_state a as') d = ap (λ ns. rank a ∷ ns) (ranks-paused as' d)
 
@@ -109,7 +109,7 @@ module _ {L : Type 0} where
   rank-at (and_frozen g fs) zero f e = sym (ap (λ o. frozen_rank (frozen_else g o)) e)
   rank-at (and_frozen g fs) (suc k) f e = rank-at fs k f e
 
-  rank-in : (s : Scope L) (k : ℕ) (f : Frozen L) → frozen_at (frozens_of s) k ≡ Some f → frozen_rank f ≡ weight_at (ranks_in s) k
+  pub rank-in : (s : Scope L) (k : ℕ) (f : Frozen L) → frozen_at (frozens_of s) k ≡ Some f → frozen_rank f ≡ weight_at (ranks_in s) k
   rank-in (scope ps fs) k f e = rank-at fs k f e
 
 -- r is what the state weighs, n what was visited, w what was there

@@ -32,10 +32,10 @@ right_typed : {v : Datum} {A B : TypeTree} → HasType v (pair_ty A B) → HasTy
 right_typed (pair_has a b) = b
 
 module _ (keys : List KeyTree) where
-  started : {net : Network ℕ} {s : Scope ℕ} {x : Datum} {a : State ℕ} {y : Datum} {n : ℕ} → Resumes (row_value keys) (unstarted net s) x a y n → Starts (row_value keys) net s x a y n
+  pub started : {net : Network ℕ} {s : Scope ℕ} {x : Datum} {a : State ℕ} {y : Datum} {n : ℕ} → Resumes (row_value keys) (unstarted net s) x a y n → Starts (row_value keys) net s x a y n
   started (G.resume_unstarted k) = k
 
-  stepped : {a : State ℕ} {d : ℕ} {x : Datum} {b : State ℕ} {y : Datum} {n : ℕ} → Resumes (row_value keys) (paused a d) x b y n → Steps (row_value keys) a (d, x) b y n
+  pub stepped : {a : State ℕ} {d : ℕ} {x : Datum} {b : State ℕ} {y : Datum} {n : ℕ} → Resumes (row_value keys) (paused a d) x b y n → Steps (row_value keys) a (d, x) b y n
   stepped (G.resume_paused k) = k
 
   mutual

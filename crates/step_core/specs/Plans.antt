@@ -1,6 +1,6 @@
 -- What a plan says of what runs.
-use Rattle.std.specs.Prelude.{◌≡◌, ℕ, List, Option, Some, None}
-use Rattle.sample_core.specs.Datum.{Datum, unit}
+use Rattle.std.specs.Prelude.{◌≡◌, ℕ, pos, List, Option, Some, None}
+use Rattle.sample_core.specs.Datum.{Datum, unit, pair, int}
 use Rattle.sample_core.specs.ValueView.{datum_of}
 use Rattle.cell_core.specs.Cell.{accumulator_of}
 use Rattle.cell_core.specs.CellView.{cell_of}
@@ -11,9 +11,11 @@ use Rattle.state_core.specs.RowsView.{rows_in, row_number}
 use Rattle.state_core.specs.StateView.{scope_of}
 use Rattle.step_core.specs.Called.{Called}
 use Rattle.step_core.specs.SourceView.{source_of, sources_of}
-use Rattle.step_core.specs.Runs.{StillBy, StartBy, GatherBy, CellBy, AccumBy, SeqBy, FirstBy, ParBy, LoopBy, SwitchBy, DSwitchBy, RSwitchBy, KSwitchBy, PSwitchBy, OldBy}
+use Rattle.step_core.specs.Runs.{StillBy, StartBy, GatherBy, CellBy, AccumBy, SeqBy, FirstBy, ParBy, LoopBy, SwitchBy, DSwitchBy, RSwitchBy, KSwitchBy, PSwitchBy, OldBy, Router, to_all, by_row}
 use Rattle.step_core.specs.declared.plan.Plan.{Plan}
 use Rattle.step_core.specs.declared.plan.Plan.TheVariants as P
+use Rattle.step_core.specs.declared.plan.Route.{Route}
+use Rattle.step_core.specs.declared.plan.Route.TheVariants as W
 use Rattle.step_core.specs.declared.plan.Back.{Back}
 use Rattle.step_core.specs.declared.plan.Back.TheVariants as B
 
@@ -26,6 +28,16 @@ number_of None = None
 abbrev pub IsFed : List KeyTree → Back → Datum → Type 0
 IsFed keys (B.Row c ps) u = Called keys (row_number c) ps.now unit u
 IsFed keys (B.Value v) u = u ≡ datum_of v.now
+
+-- what a collection's members are handed
+abbrev pub router_of : Route → Router
+router_of W.ToAll = to_all
+router_of (W.ByRow r ps) = by_row (row_number r) ps.now
+
+-- y is what member i is handed
+abbrev pub IsRouted : List KeyTree → Router → ℕ → Datum → Datum → Type 0
+IsRouted keys to_all i x y = y ≡ x
+IsRouted keys (by_row r ps) i x y = Called keys r ps (pair x (int (pos i))) y
 
 -- w, whose next sample comes after the step d, runs by the plan's parts
 abbrev pub PlanBy : Frozen ℕ → ℕ → Plan → Type 0

@@ -7,10 +7,13 @@ mod cells;
 mod count;
 mod fault;
 mod lowering;
+mod each;
+mod fire;
 mod part;
 mod plan;
 mod ran;
 mod rows;
+mod run;
 mod still;
 
 pub use binding::bind;

@@ -35,6 +35,14 @@ pub(crate) enum Back<'s> {
     Value(&'s Sample),
 }
 
+/// What a collection hands to its members: the sample, or what a row makes of it and the member's
+/// number.
+#[derive(Clone, Copy)]
+pub(crate) enum Route<'s> {
+    ToAll,
+    ByRow(LeafId, &'s Params),
+}
+
 /// What is to do, by parts.
 #[derive(Clone, Copy)]
 pub(crate) enum Plan<'s, 'n> {

@@ -77,7 +77,7 @@ impl<'n> Ran<'n> {
 }
 
 /// A node round its parts' states.
-fn around<'n>(
+pub(crate) fn around<'n>(
     alloc: Global,
     node: Node<'n>,
     answer: Sample,

@@ -1,0 +1,209 @@
+// What one sample led to in members.
+
+ghost use Rattle.std.specs.Prelude.{◌≡◌, ◌+◌, ◌++◌, ◌∷◌, [], suc, IfOk, MatchOption, ℕ};
+ghost use Rattle.sample_core.specs.Datum.{list, list_of};
+ghost use Rattle.sample_core.specs.ValueView.{datum_of};
+ghost use Rattle.state_core.specs.RowsView.{rows_in, row_number};
+ghost use Rattle.state_core.specs.State.{no_state, and_state, no_frozen, and_frozen, par_state, p_switch_state};
+ghost use Rattle.state_core.specs.StateView.{state_of, scope_of, append_states};
+ghost use Rattle.step_core.specs.Outcome.{IsRan, IsListed, IsAdded};
+ghost use Rattle.step_core.specs.Plans.{router_of, IsRouted};
+ghost use Rattle.step_core.specs.SourceView.{source_of, sources_of};
+
+use crate::count;
+use crate::plan::{Route, Source, Sources};
+use crate::ran::{Ran, around};
+use crate::rows::Rows;
+use leaf_table::LeafId;
+use net_syntax::Net;
+use sample_core::{Memory, Sample};
+use state_core::{Env, Node, State, States, gather, route};
+use std::alloc::Global;
+use std::marker::Model;
+
+/// What a sample led to in the members so far: their states, their answers, and how many nodes
+/// they visited. Contracts see it as a record of clean ones.
+#[derive(Drop)]
+pub(crate) struct Each<'n> {
+    states: Vec<State<'n>>,
+    answers: Vec<Sample>,
+    visits: u32,
+}
+
+impl<'n> Model for Each<'n> {
+    ghost use Rattle.std.specs.Prelude.{map};
+    ghost use Rattle.step_core.specs.Outcome.{gathered_code};
+    ghost use Rattle.step_core.specs.Runs.{Gathered};
+
+    ghost Value = { Gathered };
+
+    ghost coded = { gathered_code };
+
+    ghost use Rattle.sample_core.specs.ValueView.{datum_of};
+    ghost use Rattle.state_core.specs.StateView.{states_of};
+
+    ghost view = { λ a. record {
+        states = states_of a.states.items;
+        answers = map datum_of a.answers.items;
+        visits = a.visits
+    } };
+}
+
+/// What a sample led to in all members: their states, the list of their answers, and how many
+/// nodes they visited. Contracts see it as a record of clean ones.
+#[derive(Drop)]
+pub(crate) struct Listed<'n> {
+    states: Vec<State<'n>>,
+    list: Sample,
+    visits: u32,
+}
+
+impl<'n> Model for Listed<'n> {
+    ghost use Rattle.step_core.specs.Outcome.{ListOutcome, list_outcome_code};
+
+    ghost Value = { ListOutcome };
+
+    ghost coded = { list_outcome_code };
+
+    ghost use Rattle.sample_core.specs.ValueView.{datum_of};
+
+    ghost use Rattle.state_core.specs.StateView.{states_of};
+
+    ghost view = { λ a. record {
+        states = states_of a.states.items;
+        list = datum_of a.list;
+        visits = a.visits
+    } };
+}
+
+impl<'n> Each<'n> {
+    /// No member so far.
+    pub(crate) fn none(alloc: Global) -> Each<'n>
+        ensures { result ≡ record { states = no_state; answers = []; visits = 0 } }
+    {
+        Each {
+            states: Vec::new(alloc),
+            answers: Vec::new(alloc),
+            visits: 0,
+        }
+    }
+
+    /// One member more. `Memory` where a growth was refused.
+    pub(crate) fn and(mut self, one: Ran<'n>) -> Result<Each<'n>, Memory>
+        ensures { IfOk result (λ e. IsAdded self.entry one.entry e) }
+    {
+        let visits = count::both(self.visits, one.visits());
+        let (state, answer) = one.into_parts();
+        self.states.push(state)?;
+        self.answers.push(answer)?;
+        self.visits = visits;
+        Ok(self)
+    }
+
+    /// All members. `Memory` where a growth was refused.
+    pub(crate) fn listed(self, alloc: Global) -> Result<Listed<'n>, Memory>
+        ensures { IfOk result (λ l. IsListed self.entry l) }
+    {
+        let list = gather(alloc, self.answers)?;
+        Ok(Listed {
+            states: self.states,
+            list,
+            visits: self.visits,
+        })
+    }
+}
+
+impl<'n> Listed<'n> {
+    /// The list of the answers.
+    pub(crate) fn list(&self) -> &Sample
+        ensures { datum_of result.now ≡ self.now.list }
+    {
+        &self.list
+    }
+
+    /// The visits.
+    pub(crate) fn visits(&self) -> u32
+        ensures { result ≡ self.now.visits }
+    {
+        self.visits
+    }
+
+    /// The states and the list.
+    fn into_parts(self) -> (States<'n>, Sample)
+        ensures states { result.0 ≡ self.entry.states }
+        ensures list { datum_of result.1 ≡ self.entry.list }
+    {
+        (States::new(self.states), self.list)
+    }
+}
+
+/// `parB` round what its members led to.
+pub(crate) fn join_par<'n>(alloc: Global, all: Listed<'n>) -> Result<Ran<'n>, Memory>
+    ensures { IfOk result (λ r.
+        IsRan r (par_state all.entry.states) all.entry.list (suc (all.entry.visits + 0))) }
+{
+    let visits = count::node(all.visits(), 0);
+    let (states, list) = all.into_parts();
+    around(alloc, Node::Par(states), list, visits)
+}
+
+/// `pSwitch` round what its parts led to.
+pub(crate) fn keep_p_switch<'n>(
+    alloc: Global,
+    r: LeafId,
+    all: Listed<'n>,
+    two: Ran<'n>,
+    t: &'n Net<LeafId>,
+    env: &Env<'n>,
+) -> Result<Ran<'n>, Memory>
+    ensures { IfOk result (λ o.
+        IsRan o (p_switch_state (row_number r) all.entry.states two.entry.state
+            (rows_in t.entry.now) (scope_of env.now))
+        all.entry.list (suc (all.entry.visits + two.entry.visits))) }
+{
+    let visits = count::node(all.visits(), two.visits());
+    let env = env.try_copy()?;
+    let (watch, _answer) = two.into_parts();
+    let (states, list) = all.into_parts();
+    let node = Node::PSwitch(r, states, watch, t, env);
+    around(alloc, node, list, visits)
+}
+
+/// The first of some members, and those behind it; nothing where there is none.
+pub(crate) fn first_of<'s, 'n>(
+    members: Sources<'s, 'n>,
+) -> Option<(Source<'s, 'n>, Sources<'s, 'n>)>
+    ensures { (d : ℕ) → MatchOption result (sources_of members.entry d ≡ no_frozen)
+        (λ r. sources_of members.entry d ≡ and_frozen (source_of r.0 d) (sources_of r.1 d)) }
+{
+    match members {
+        Sources::Nets(nets, env) => match nets.split_first() {
+            Some((net, rest)) => Some((Source::Net(net, env), Sources::Nets(rest, env))),
+            None => None,
+        },
+        Sources::States(states) => match states.split_first() {
+            Some((state, rest)) => Some((Source::State(state), Sources::States(rest))),
+            None => None,
+        },
+    }
+}
+
+/// What member i is handed. `Memory` where a growth was refused.
+pub(crate) fn routed<R: Rows>(
+    alloc: Global,
+    rows: &R,
+    router: Route<'_>,
+    i: u32,
+    x: &Sample,
+) -> Result<Sample, Memory>
+    ensures { IfOk result (λ y.
+        IsRouted (R.keys rows.now) (router_of router.entry) i (datum_of x.now) (datum_of y)) }
+{
+    match router {
+        Route::ToAll => x.try_copy(alloc),
+        Route::ByRow(r, params) => {
+            let asked = route(alloc, x, i)?;
+            rows.call(r, params.as_slice(), &asked)
+        }
+    }
+}
