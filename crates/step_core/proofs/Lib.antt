@@ -23,5 +23,8 @@ pub mod Lowerings
 pub mod FrozenMembers
 pub mod StateLists
 pub mod Falling
-pub mod RunMembers
 pub mod RunJoins
+pub mod GrownTables
+pub mod MappedNetworks
+pub mod Pushing
+pub mod RunMembers

@@ -15,7 +15,9 @@ use Rattle.net_syntax.specs.NetworkView.{members_of}
 use Rattle.net_syntax.specs.Place.{◌>>=◌}
 use Rattle.net_syntax.specs.Typing.{Arrow, arrow, copies, members, LeafTyping, Typed, AllTyped, AnyType, arr_typed, seq_typed, first_typed, par_typed, loop_typed, i_pre_typed, delay_typed, hold_typed, accum_typed, after_typed, repeatedly_typed, time_typed, integral_typed, switch_typed, d_switch_typed, r_switch_typed, k_switch_typed, p_switch_typed, old_typed, no_members_typed, and_member_typed}
 use Rattle.net_syntax.specs.TypedNetwork.{TypedNetwork, NetTyped}
+use Rattle.net_syntax.specs.Weight.{weight}
 use Rattle.net_syntax.specs.declared.net.Net.{Net}
+use Rattle.net_syntax.proofs.MappedMeasures.{weight_map}
 use Rattle.state_core.specs.RowsView.{row_number, rows_in}
 use Rattle.step_core.specs.RowTyping.{RowTyped, RowsTyped, row_expression, network_by, expression_in}
 use Rattle.step_core.specs.Lookup.{AllFound, FirstMissing, Misses, MissesIn, RowsOf, no_rows, and_row, AddsRows}
@@ -247,3 +249,9 @@ one_answer w x z y u a b = ap (value_left x) (sym a ∙ b)
 pub nothing_there : {X : Type 0} (xs : List X) → length xs ≡ 0 → xs ≡ []
 nothing_there [] h = refl
 nothing_there (x ∷ xs) h = cc
+
+-- a network of rows weighs what the network of their expressions weighs
+pub light_rows : (keys : List KeyTree) (t : TypedNetwork) (low : Network ℕ) → network_by keys low ≡ t.net → weight t.net [] ≤ 1000000
+    → weight low [] ≤ 1000000
+light_rows keys t low same light =
+    subst (λ n. n ≤ 1000000) (ap (λ o. weight o []) (sym same) ∙ weight_map (row_expression keys) low []) light

@@ -14,3 +14,7 @@ pub mod Plans
 pub mod EventView
 pub mod Lookup
 pub mod Lowering
+pub mod BindingLaws
+pub mod RunnerState
+pub mod StateOption
+pub mod RunnerView

@@ -1,12 +1,13 @@
-use Rattle.std.proofs.Common.{rules, ◌≡◌, [], map, ap, sym, subst, ◌∙◌, IfErr}
+use Rattle.std.proofs.Common.{rules, ◌≡◌, ◌≤◌, [], map, ap, sym, subst, ◌∙◌, IfErr}
 use Rattle.sample_core.specs.TypeView.{type_of}
 use Rattle.leaf_table.specs.Rows.{rows_of}
 use Rattle.net_syntax.specs.NeedView.{need_of}
 use Rattle.net_syntax.specs.NetworkView.{tree_of}
+use Rattle.net_syntax.specs.Weight.{weight}
 use Rattle.state_core.specs.RowsView.{row_number, rows_in}
 use Rattle.step_core.specs.Lookup.{Misses, AddsRows}
 use Rattle.step_core.specs.RowTyping.{RowsTyped, network_by}
-use Rattle.step_core.proofs.Lowerings.{LoweredTo, all_rows_found, found_some, if_err, missed_in, one_answer, whole_lowered}
+use Rattle.step_core.proofs.Lowerings.{LoweredTo, all_rows_found, found_some, if_err, light_rows, missed_in, one_answer, whole_lowered}
 use Rattle.step_core.proofs.binding.bind.Goals.{After-deref-2}
 use Rattle.step_core.proofs.binding.bind.Goals as goal
 
@@ -41,9 +42,10 @@ pub returns-clause-fits : goal.returns-clause-fits
 returns-clause-fits g c =
     let m = made g (goal.at.returns-clause-fits g c).After-deref-2 in
     let input : type_of c.in_ok-input.input ≡ c.args.net.now.input = ap type_of c.in_ok-input.ensures ∙ c.input.ensures in
+    let rows : rows_in c.in_ok-lowered.lowered ≡ m.low = one_answer _ _ _ _ _ c.in_ok-lowered.ensures m.filled in
     (c.args.net.now.output, subst (λ A. RowsTyped (rows_of c.args.table.now) (rows_in c.in_ok-lowered.lowered) A c.args.net.now.output) (sym input)
-    (subst (λ o. RowsTyped (rows_of c.args.table.now) o c.args.net.now.input c.args.net.now.output)
-    (sym (one_answer _ _ _ _ _ c.in_ok-lowered.ensures m.filled)) m.typed))
+    (subst (λ o. RowsTyped (rows_of c.args.table.now) o c.args.net.now.input c.args.net.now.output) (sym rows) m.typed),
+    subst (λ o. weight o [] ≤ 1000000) (sym rows) (light_rows _ c.args.net.now _ m.same c.net.ensures.limits.fits.light))
 
 pub returns-clause-found : goal.returns-clause-found
 returns-clause-found g c =

@@ -1,0 +1,110 @@
+// Running a bound network, sample by sample.
+
+ghost use Rattle.std.specs.Prelude.{◌≡◌, ◌<◌, ◌≤◌, ◌+◌, ◌^◌, [], IfOk, OnErr};
+ghost use Rattle.sample_core.specs.HasType.{HasType};
+ghost use Rattle.sample_core.specs.ValueView.{datum_of};
+ghost use Rattle.leaf_table.specs.Rows.{rows_of};
+ghost use Rattle.step_core.specs.Binding.{FitsTable};
+ghost use Rattle.step_core.specs.RunnerState.{HasPast};
+ghost use Rattle.step_core.specs.StateOption.{state_in};
+
+use crate::bound::Bound;
+use crate::plan::Source;
+use crate::run::run;
+use leaf_table::LeafTable;
+use sample_core::{Memory, Sample};
+use state_core::{Env, Olds, Params, State};
+use std::alloc::Global;
+
+/// A network that runs. It borrows the network and the table, and holds the network's state, once
+/// it has started. What it holds stands for the samples that it got.
+#[derive(Drop)]
+pub struct Runner<'a> {
+    alloc: Global,
+    bound: &'a Bound,
+    table: &'a LeafTable,
+    state: Option<State<'a>>,
+    samples: u64,
+    visits: u32,
+    ghost past: { HasPast (record {
+      input = bound.now.input;
+      keys = rows_of table.now;
+      rows = bound.now.rows;
+      state = state_in state;
+      samples = samples;
+      visits = visits;
+    }) },
+}
+
+impl<'a> Runner<'a> {
+    ghost use Rattle.step_core.specs.RunnerState.{RunnerState, network_in, StandsFor, Pushes};
+    ghost use Rattle.step_core.specs.RunnerView.{runner_state};
+    ghost use Rattle.step_core.specs.RowTyping.{network_by};
+
+    /// The network before its first sample, on the table that it was bound to, or on that table
+    /// with more rows. It takes no memory.
+    pub fn new(alloc: Global, bound: &'a Bound, table: &'a LeafTable) -> Runner<'a>
+        requires { FitsTable (rows_of table.now) bound.now }
+        ensures stands { StandsFor (runner_state result) [] }
+        ensures input { (runner_state result).input ≡ bound.now.input }
+        ensures network { network_in (runner_state result)
+            ≡ network_by (rows_of table.now) bound.now.rows }
+        ensures samples { (runner_state result).samples ≡ 0 }
+    {
+        Runner {
+            alloc,
+            bound,
+            table,
+            state: None,
+            samples: 0,
+            visits: 0,
+        }
+    }
+
+    /// The network's answer to one sample more. The sample must be of the network's input type.
+    /// `step` is the time since the sample before, from 1 to 2^63 - 1; a first sample's step is
+    /// ignored. There must be fewer than 2^63 samples before.
+    ///
+    /// `Memory` where a growth was refused; the runner is then as it was before the call.
+    pub fn push(&mut self, step: u64, sample: &Sample) -> Result<Sample, Memory>
+        requires typed { HasType (datum_of sample.now) (runner_state self.old).input }
+        requires later { 0 < (runner_state self.old).samples → (1 ≤ step) × (step < 2 ^ 63) }
+        requires room { (runner_state self.old).samples < 2 ^ 63 }
+        ensures pushed { IfOk result
+            (λ y. Pushes (runner_state self.old) (step, datum_of sample.now) (datum_of y)
+            (runner_state self.new)) }
+        ensures unchanged { OnErr result (runner_state self.new ≡ runner_state self.old) }
+    {
+        let env = Env {
+            params: Params::none(),
+            olds: Olds::Nothing,
+        };
+        let from = match &self.state {
+            Some(state) => Source::State(state),
+            None => Source::Net(self.bound.net(), &env),
+        };
+        let ran = run(self.alloc, self.table, from, step, sample)?;
+        let visits = ran.visits();
+        let (state, answer) = ran.into_parts();
+        let before = self.state.replace(state);
+        drop(before);
+        self.samples += 1;
+        self.visits = visits;
+        Ok(answer)
+    }
+
+    /// How many samples the network has answered. One that was refused isn't counted.
+    pub fn samples(&self) -> u64
+        ensures { result ≡ (runner_state self.now).samples }
+    {
+        self.samples
+    }
+
+    /// How many nodes of the network the last sample visited, where a visit is one start or step of
+    /// one node; 0 before the first.
+    pub fn last_visits(&self) -> u32
+        ensures { result ≡ (runner_state self.now).visits }
+    {
+        self.visits
+    }
+}
