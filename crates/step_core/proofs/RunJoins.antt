@@ -66,10 +66,10 @@ module _ (keys : List KeyTree) where
   switch_kept w p t s x one r k hp ev j = switch_goes keys p t s x one.answer r.answer one.state r.state one.visits r.visits j.0 j.1 hp ev j.2 w k
 
   pub switch_over : (w p : Frozen ℕ) (t : Network ℕ) (s s' : Scope ℕ) (x u : Datum) (one over r : Outcome) (b : ℕ) → SwitchBy w p t s → RunsTo p x one → event_in (right one.answer) ≡ Some u
-      → s' ≡ push_param s u → RunsTo (unstarted t s') x over → (suc (one.visits + 0) < 2 ^ 32 → b ≡ suc (one.visits + 0)) → IsRan r over.state over.answer (b + over.visits) → RunsTo w x r
-  switch_over w p t s s' x u one over r b k hp ev es hq hb j =
+      → s' ≡ push_param s u → RunsTo (unstarted t s') x over → (m : ℕ) → m ≡ one.visits → (suc (m + 0) < 2 ^ 32 → b ≡ suc (m + 0)) → IsRan r over.state over.answer (b + over.visits) → RunsTo w x r
+  switch_over w p t s s' x u one over r b k hp ev es hq m em hb j =
       answers w x over.answer r j.1 (turned w x over.answer r over.state j.0
-      (switch_fires keys p t s s' x one.answer u over.answer one.state over.state one.visits over.visits r.visits es hp ev hq (counted_over one.visits over.visits b r.visits hb j.2) w k))
+      (switch_fires keys p t s s' x one.answer u over.answer one.state over.state one.visits over.visits r.visits es hp ev hq (counted_over one.visits over.visits b r.visits (subst (λ n. suc (n + 0) < 2 ^ 32 → b ≡ suc (n + 0)) em hb) j.2) w k))
 
   pub d_switch_kept : (w p : Frozen ℕ) (t : Network ℕ) (s : Scope ℕ) (x : Datum) (one r : Outcome) → DSwitchBy w p t s → RunsTo p x one → event_in (right one.answer) ≡ None
       → IsRan r (d_switch_state one.state t s) (left one.answer) (suc (one.visits + 0)) → RunsTo w x r
@@ -98,11 +98,12 @@ module _ (keys : List KeyTree) where
       (k_switch_goes keys p q t s x one.answer z two.answer one.state two.state r.state one.visits two.visits r.visits j.0 ez hp hq ev j.2 w k)
 
   pub k_switch_over : (w p q : Frozen ℕ) (t : Network ℕ) (s s' : Scope ℕ) (x z u : Datum) (one two over r : Outcome) (b : ℕ) → KSwitchBy w p q t s → RunsTo p x one → z ≡ pair x one.answer → RunsTo q z two
-      → event_in two.answer ≡ Some u → s' ≡ push_old (push_param s u) p → RunsTo (unstarted t s') x over → (suc (one.visits + two.visits) < 2 ^ 32 → b ≡ suc (one.visits + two.visits))
-      → IsRan r over.state over.answer (b + over.visits) → RunsTo w x r
-  k_switch_over w p q t s s' x z u one two over r b k hp ez hq ev es ho hb j =
+      → event_in two.answer ≡ Some u → s' ≡ push_old (push_param s u) p → RunsTo (unstarted t s') x over → (m : ℕ) → m ≡ one.visits → (n : ℕ) → n ≡ two.visits
+      → (suc (m + n) < 2 ^ 32 → b ≡ suc (m + n)) → IsRan r over.state over.answer (b + over.visits) → RunsTo w x r
+  k_switch_over w p q t s s' x z u one two over r b k hp ez hq ev es ho m em n en hb j =
       answers w x over.answer r j.1 (turned w x over.answer r over.state j.0
-      (k_switch_fires keys p q t s s' x one.answer z two.answer u over.answer one.state two.state over.state one.visits two.visits over.visits b r.visits es ez hp hq ev ho hb j.2 w k))
+      (k_switch_fires keys p q t s s' x one.answer z two.answer u over.answer one.state two.state over.state one.visits two.visits over.visits b r.visits es ez hp hq ev ho
+      (subst (λ i. suc (i + two.visits) < 2 ^ 32 → b ≡ suc (i + two.visits)) em (subst (λ i. suc (m + i) < 2 ^ 32 → b ≡ suc (m + i)) en hb)) j.2 w k))
 
   pub old_over : (w f : Frozen ℕ) (x : Datum) (over r : Outcome) → OldBy w f → RunsTo f x over → IsRan r over.state over.answer (suc (over.visits + 0)) → RunsTo w x r
   old_over w f x over r k hf j =

@@ -1,5 +1,6 @@
 -- What one sample does to members, and to the collections round them.
-use Rattle.std.proofs.Common.{◌≡◌, ℕ, zero, suc, ◌+◌, ◌<◌, ◌≤◌, ◌^◌, pos, List, [], ◌∷◌, ◌++◌, Some, None, refl, sym, ap, ◌∙◌, subst, arith, append_assoc, append-nil}
+use Rattle.std.proofs.Common.{◌≡◌, ℕ, zero, suc, ◌+◌, ◌<◌, ◌≤◌, ◌^◌, ◌%◌, pos, List, [], ◌∷◌, ◌++◌, Some, None, refl, sym, ap, ◌∙◌, subst, arith, append_assoc, append-nil}
+use Rattle.std.proofs.Math.Nat.{mod-eq_of_lt}
 use Rattle.sample_core.specs.Datum.{Datum, pair, int, list, list_of}
 use Rattle.sample_core.specs.TypeTree.{TypeTree, int_ty, pair_ty, event_ty, list_ty}
 use Rattle.sample_core.specs.HasType.{HasType, TypedParams, pair_has, list_has}
@@ -56,9 +57,9 @@ module _ (keys : List KeyTree) where
   none_run h i ms x g e = subst (λ z. RunEachWhere keys h i z x g g) (sym e) (none_at h i x g)
 
   -- what is routed is what the member is handed, and typed
-  routed_is : (h : Router) (i n : ℕ) (x z : Datum) {A D : TypeTree} → HandsOut keys h A D → i < n → n ≤ 64 → HasType x A → IsRouted keys h i x z → z ≡ handed keys h i x
-  routed_is to_all i n x z hd l u t r = r
-  routed_is (by_row r ps) i n x z hd l u t k = called_value keys r ps (pair x (int (pos i))) z k hd.1 hd.2 (pair_has t (small_number n i u l))
+  routed_is : (h : Router) (i n : ℕ) (x z : Datum) (A D : TypeTree) → HandsOut keys h A D → i < n → n ≤ 64 → HasType x A → IsRouted keys h i x z → z ≡ handed keys h i x
+  routed_is to_all i n x z A D hd l u t r = r
+  routed_is (by_row r ps) i n x z A D hd l u t k = called_value keys r ps (pair x (int (pos i))) z k hd.1 hd.2 (pair_has t (small_number n i u l))
 
   handed_typed : (h : Router) (i n : ℕ) (x : Datum) {A D : TypeTree} → HandsOut keys h A D → i < n → n ≤ 64 → HasType x A → HasType (handed keys h i x) D
   handed_typed to_all i n x hd l u t = subst (λ X. HasType x X) hd t
@@ -69,7 +70,7 @@ module _ (keys : List KeyTree) where
   also_at h i j p ps x z one before mid now hr hp ad ej hs zero A D B hd l tf t = elim tf [ ]
   also_at h i j p ps x z one before mid now hr hp ad ej hs (suc k) A D B hd l (T.and_frozen_typed tf tfs) t =
       let here : i < i + suc k = omega arith in
-      let same : z ≡ handed keys h i x = routed_is h i (i + suc k) x z hd here l t hr in
+      let same : z ≡ handed keys h i x = routed_is h i (i + suc k) x z A D hd here l t hr in
       let tz : HasType z D = subst (λ v. HasType v D) (sym same) (handed_typed h i (i + suc k) x hd here l t) in
       let next : j ≡ suc i = ej (omega (arith, l)) in
       let r : Ran keys p z one.state one.answer one.visits = hp D B tf tz in
@@ -112,7 +113,7 @@ module _ (keys : List KeyTree) where
   pub par_joined : (w : Frozen ℕ) (ms : Frozens ℕ) (x : Datum) (before now : Gathered) (all : ListOutcome) (r : Outcome) → ParBy w ms → before ≡ nothing_yet → RunEachWhere keys to_all 0 ms x before now
       → IsListed now all → IsRan r (par_state all.states) all.list (suc (all.visits + 0)) → RunsWhere keys w x r.state r.answer r.visits
   par_joined w ms x before now all r (R.par_new {fs = fs} {s = s}) e hs hl hr A B (T.unstarted_typed (N.par_typed {B = B'} lo hi tf _) ts) t =
-      let each : RanEach keys same_input x 0 (all_unstarted fs s) before now = hs (members fs) A A B' refl hi (unstarted_all keys tf ts) t in
+      let each : RanEach keys same_input x 0 (all_unstarted fs s) before now = hs (members fs) A A B' refl (omega (arith, hi)) (unstarted_all keys tf ts) t in
       let all_is = listed_is same_input 0 x (all_unstarted fs s) before now all e each hl in
       let go : Resumes (row_value keys) (unstarted (par fs) s) x (par_state each.states) (list (list_of each.answers)) (suc each.visits) = G.resume_unstarted (G.start_par (each_started fs s each.runs)) in
       record {
@@ -122,7 +123,7 @@ module _ (keys : List KeyTree) where
         is_count = λ l. let i : all.visits ≡ each.visits = all_is.2 (omega (arith, l)) in let j : r.visits ≡ suc (all.visits + 0) = hr.2 (omega (arith, i, l)) in omega (arith, i, j);
       }
   par_joined w ms x before now all r (R.par_on {as' = as'} {d = d}) e hs hl hr A B (T.paused_typed (T.par_state_typed {n = k} {B = B'} hi tas)) t =
-      let each : RanEach keys same_input x 0 (all_paused as' d) before now = hs k A A B' refl hi (paused_all keys d tas) t in
+      let each : RanEach keys same_input x 0 (all_paused as' d) before now = hs k A A B' refl (omega (arith, hi)) (paused_all keys d tas) t in
       let all_is = listed_is same_input 0 x (all_paused as' d) before now all e each hl in
       let go : Resumes (row_value keys) (paused (par_state as') d) x (par_state each.states) (list (list_of each.answers)) (suc each.visits) = G.resume_paused (G.step_par (each_stepped as' d each.runs)) in
       record {
@@ -137,9 +138,9 @@ module _ (keys : List KeyTree) where
       → PSwitchBy w r ms q t s → ps ≡ params_of s → before ≡ nothing_yet → RunEachWhere keys (by_row r ps) 0 ms x before now → IsListed now all → z ≡ pair x all.list
       → RunsWhere keys q z two.state two.answer two.visits → event_in two.answer ≡ None
       → IsRan o (p_switch_state r all.states two.state t s) all.list (suc (all.visits + two.visits)) → RunsWhere keys w x o.state o.answer o.visits
-  p_switch_kept w r ps ms q t s x z before now all two o (R.p_switch_new {fs = fs} {e = e}) ep eb hs hl ez hq ev hr A B (T.unstarted_typed (N.p_switch_typed {B = B'} {C = C} {D = D} lo hi _ rr tf _ te tg) ts) h =
-      let hd = (_, rr, subst (λ vs. TypedParams _ vs) (sym ep) (params_typed keys ts)) in
-      let each0 : RanEach keys (route_by (row_value keys r ps)) x 0 (all_unstarted fs s) before now = hs (members fs) A D B' hd hi (unstarted_all keys tf ts) h in
+  p_switch_kept w r ps ms q t s x z before now all two o (R.p_switch_new {fs = fs} {e = e}) ep eb hs hl ez hq ev hr A B (T.unstarted_typed (N.p_switch_typed {Ps = Ps} {B = B'} {C = C} {D = D} lo hi _ rr tf _ te tg) ts) h =
+      let hd : HandsOut keys (by_row r ps) A D = (Ps, rr, subst (λ vs. TypedParams Ps vs) (sym ep) (params_typed keys ts)) in
+      let each0 : RanEach keys (route_by (row_value keys r ps)) x 0 (all_unstarted fs s) before now = hs (members fs) A D B' hd (omega (arith, hi)) (unstarted_all keys tf ts) h in
       let each : RanEach keys (route_by (row_value keys r (params_of s))) x 0 (all_unstarted fs s) before now = subst (λ vs. RanEach keys (route_by (row_value keys r vs)) x 0 (all_unstarted fs s) before now) ep each0 in
       let all_is = listed_is (route_by (row_value keys r (params_of s))) 0 x (all_unstarted fs s) before now all eb each hl in
       let tl : HasType (list (list_of each.answers)) (list_ty B') = (list_has (each_starts_typed keys (each_started fs s each.runs) tf ts (λ i b. route_typed keys rr (params_typed keys ts) h hi i (omega (arith, b)))).1) in
@@ -156,9 +157,9 @@ module _ (keys : List KeyTree) where
             let n : o.visits ≡ suc (all.visits + two.visits) = hr.2 (omega (arith, i, j, l)) in
             omega (arith, i, j, n);
       }
-  p_switch_kept w r ps ms q t s x z before now all two o (R.p_switch_on {as' = as'} {b = b0} {d = d}) ep eb hs hl ez hq ev hr A B (T.paused_typed (T.p_switch_state_typed {n = k} {A = A'} {B = B'} {C = C} {D = D} hi rr tas tb ts tg)) h =
-      let hd = (_, rr, subst (λ vs. TypedParams _ vs) (sym ep) (params_typed keys ts)) in
-      let each0 : RanEach keys (route_by (row_value keys r ps)) x 0 (all_paused as' d) before now = hs k A D B' hd hi (paused_all keys d tas) h in
+  p_switch_kept w r ps ms q t s x z before now all two o (R.p_switch_on {as' = as'} {b = b0} {d = d}) ep eb hs hl ez hq ev hr A B (T.paused_typed (T.p_switch_state_typed {n = k} {Ps = Ps} {A = A'} {B = B'} {C = C} {D = D} hi rr tas tb ts tg)) h =
+      let hd : HandsOut keys (by_row r ps) A D = (Ps, rr, subst (λ vs. TypedParams Ps vs) (sym ep) (params_typed keys ts)) in
+      let each0 : RanEach keys (route_by (row_value keys r ps)) x 0 (all_paused as' d) before now = hs k A D B' hd (omega (arith, hi)) (paused_all keys d tas) h in
       let each : RanEach keys (route_by (row_value keys r (params_of s))) x 0 (all_paused as' d) before now = subst (λ vs. RanEach keys (route_by (row_value keys r vs)) x 0 (all_paused as' d) before now) ep each0 in
       let all_is = listed_is (route_by (row_value keys r (params_of s))) 0 x (all_paused as' d) before now all eb each hl in
       let tl : HasType (list (list_of each.answers)) (list_ty B') = (list_has (each_steps_typed keys (each_stepped as' d each.runs) tas (λ i b. route_typed keys rr (params_typed keys ts) h hi i (omega (arith, b)))).1) in
@@ -180,10 +181,10 @@ module _ (keys : List KeyTree) where
   pub p_switch_over : (w : Frozen ℕ) (r : ℕ) (ps : List Datum) (ms : Frozens ℕ) (q : Frozen ℕ) (t : Network ℕ) (s s' : Scope ℕ) (x z u : Datum) (before now : Gathered) (all : ListOutcome) (two over o : Outcome) (b : ℕ)
       → PSwitchBy w r ms q t s → ps ≡ params_of s → before ≡ nothing_yet → RunEachWhere keys (by_row r ps) 0 ms x before now → IsListed now all → z ≡ pair x all.list
       → RunsWhere keys q z two.state two.answer two.visits → event_in two.answer ≡ Some u → s' ≡ push_olds (push_param s u) ms → RunsWhere keys (unstarted t s') x over.state over.answer over.visits
-      → (suc (all.visits + two.visits) < 2 ^ 32 → b ≡ suc (all.visits + two.visits)) → IsRan o over.state over.answer (b + over.visits) → RunsWhere keys w x o.state o.answer o.visits
-  p_switch_over w r ps ms q t s s' x z u before now all two over o b (R.p_switch_new {fs = fs} {e = e}) ep eb hs hl ez hq ev es ho hb hr A B (T.unstarted_typed (N.p_switch_typed {B = B'} {C = C} {D = D} lo hi _ rr tf _ te tg) ts) h =
-      let hd = (_, rr, subst (λ vs. TypedParams _ vs) (sym ep) (params_typed keys ts)) in
-      let each0 : RanEach keys (route_by (row_value keys r ps)) x 0 (all_unstarted fs s) before now = hs (members fs) A D B' hd hi (unstarted_all keys tf ts) h in
+      → (m : ℕ) → m ≡ all.visits → (n : ℕ) → n ≡ two.visits → (suc (m + n) < 2 ^ 32 → b ≡ suc (m + n)) → IsRan o over.state over.answer (b + over.visits) → RunsWhere keys w x o.state o.answer o.visits
+  p_switch_over w r ps ms q t s s' x z u before now all two over o b (R.p_switch_new {fs = fs} {e = e}) ep eb hs hl ez hq ev es ho m em n en hb hr A B (T.unstarted_typed (N.p_switch_typed {Ps = Ps} {B = B'} {C = C} {D = D} lo hi _ rr tf _ te tg) ts) h =
+      let hd : HandsOut keys (by_row r ps) A D = (Ps, rr, subst (λ vs. TypedParams Ps vs) (sym ep) (params_typed keys ts)) in
+      let each0 : RanEach keys (route_by (row_value keys r ps)) x 0 (all_unstarted fs s) before now = hs (members fs) A D B' hd (omega (arith, hi)) (unstarted_all keys tf ts) h in
       let each : RanEach keys (route_by (row_value keys r (params_of s))) x 0 (all_unstarted fs s) before now = subst (λ vs. RanEach keys (route_by (row_value keys r vs)) x 0 (all_unstarted fs s) before now) ep each0 in
       let all_is = listed_is (route_by (row_value keys r (params_of s))) 0 x (all_unstarted fs s) before now all eb each hl in
       let tl : HasType (list (list_of each.answers)) (list_ty B') = (list_has (each_starts_typed keys (each_started fs s each.runs) tf ts (λ i b. route_typed keys rr (params_typed keys ts) h hi i (omega (arith, b)))).1) in
@@ -200,13 +201,13 @@ module _ (keys : List KeyTree) where
             let i : all.visits ≡ each.visits = all_is.2 (omega (arith, l)) in
             let j : two.visits ≡ watched.visits = watched.is_count (omega (arith, l)) in
             let k : over.visits ≡ third.visits = third.is_count (omega (arith, l)) in
-            let c : b ≡ suc (all.visits + two.visits) = hb (omega (arith, i, j, l)) in
-            let n : o.visits ≡ b + over.visits = hr.2 (omega (arith, i, j, k, c, l)) in
-            omega (arith, i, j, k, c, n);
+            let c : b ≡ suc (m + n) = hb (omega (arith, i, j, em, en, l)) in
+            let e2 : o.visits ≡ b + over.visits = hr.2 (omega (arith, i, j, k, c, em, en, l)) in
+            omega (arith, i, j, k, c, e2, em, en);
       }
-  p_switch_over w r ps ms q t s s' x z u before now all two over o b (R.p_switch_on {as' = as'} {b = b0} {d = d}) ep eb hs hl ez hq ev es ho hb hr A B (T.paused_typed (T.p_switch_state_typed {n = k} {A = A'} {B = B'} {C = C} {D = D} hi rr tas tb ts tg)) h =
-      let hd = (_, rr, subst (λ vs. TypedParams _ vs) (sym ep) (params_typed keys ts)) in
-      let each0 : RanEach keys (route_by (row_value keys r ps)) x 0 (all_paused as' d) before now = hs k A D B' hd hi (paused_all keys d tas) h in
+  p_switch_over w r ps ms q t s s' x z u before now all two over o b (R.p_switch_on {as' = as'} {b = b0} {d = d}) ep eb hs hl ez hq ev es ho m em n en hb hr A B (T.paused_typed (T.p_switch_state_typed {n = k} {Ps = Ps} {A = A'} {B = B'} {C = C} {D = D} hi rr tas tb ts tg)) h =
+      let hd : HandsOut keys (by_row r ps) A D = (Ps, rr, subst (λ vs. TypedParams Ps vs) (sym ep) (params_typed keys ts)) in
+      let each0 : RanEach keys (route_by (row_value keys r ps)) x 0 (all_paused as' d) before now = hs k A D B' hd (omega (arith, hi)) (paused_all keys d tas) h in
       let each : RanEach keys (route_by (row_value keys r (params_of s))) x 0 (all_paused as' d) before now = subst (λ vs. RanEach keys (route_by (row_value keys r vs)) x 0 (all_paused as' d) before now) ep each0 in
       let all_is = listed_is (route_by (row_value keys r (params_of s))) 0 x (all_paused as' d) before now all eb each hl in
       let tl : HasType (list (list_of each.answers)) (list_ty B') = (list_has (each_steps_typed keys (each_stepped as' d each.runs) tas (λ i b. route_typed keys rr (params_typed keys ts) h hi i (omega (arith, b)))).1) in
@@ -223,7 +224,11 @@ module _ (keys : List KeyTree) where
             let i : all.visits ≡ each.visits = all_is.2 (omega (arith, l)) in
             let j : two.visits ≡ watched.visits = watched.is_count (omega (arith, l)) in
             let k : over.visits ≡ third.visits = third.is_count (omega (arith, l)) in
-            let c : b ≡ suc (all.visits + two.visits) = hb (omega (arith, i, j, l)) in
-            let n : o.visits ≡ b + over.visits = hr.2 (omega (arith, i, j, k, c, l)) in
-            omega (arith, i, j, k, c, n);
+            let c : b ≡ suc (m + n) = hb (omega (arith, i, j, em, en, l)) in
+            let e2 : o.visits ≡ b + over.visits = hr.2 (omega (arith, i, j, k, c, em, en, l)) in
+            omega (arith, i, j, k, c, e2, em, en);
       }
+
+-- the number of the next member
+pub next_number : (i : ℕ) → i < 64 → (i + 1) % 4294967296 ≡ suc i
+next_number i l = let small : i + 1 < 4294967296 = omega (arith, l) in let e : i + 1 ≡ suc i = omega arith in mod-eq_of_lt small ∙ e
