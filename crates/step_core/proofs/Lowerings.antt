@@ -56,9 +56,12 @@ module _ (keys : List KeyTree) where
   one_more ms os P Q F G hf hg ks rest rows =
       let s = split_rows ms os ks rows in
       let a = hf s.0 (s.1 ++ rest) s.2 in
-      let b = hg a.0 a.1 s.1 rest s.3 in
-      (b.0, b.1, ap (λ o. F (o ++ rest) >>= (λ c. G c.0 c.1)) s.4 ∙ ap (λ o. F o >>= (λ c. G c.0 c.1)) (append_assoc s.0 s.1 rest)
-      ∙ ap (λ o. o >>= (λ c. G c.0 c.1)) a.2 ∙ b.2)
+      let b = hg a.0 a.1 s.1 rest s.3 in (
+        b.0,
+        b.1,
+        ap (λ o. F (o ++ rest) >>= (λ c. G c.0 c.1)) s.4 ∙ ap (λ o. F o >>= (λ c. G c.0 c.1)) (append_assoc s.0 s.1 rest)
+            ∙ ap (λ o. o >>= (λ c. G c.0 c.1)) a.2 ∙ b.2,
+      )
 
   made : {X Y : Type 0} (ms : List Need) (P : X → Type 0) (Q : Y → Type 0) (F : List ℕ → Filled X) (f : X → Y) → Fills ms P F → ((x : X) → P x → Q (f x))
       → Fills ms Q (λ ks. F ks >>= (λ a. Some (f a.0, a.1)))
@@ -148,8 +151,10 @@ module _ (keys : List KeyTree) where
         (λ a p. made (leaves_by (at ++ 1 ∷ []) de ++ leaves_by (at ++ 2 ∷ []) dt) (λ q. E q.0 × T q.1) R
         (λ ks. fill e ks >>= (λ b. fill t b.1 >>= (λ c. both b.0 c.0 c.1))) (λ q. k_switch a q.0 q.1)
         (two (leaves_by (at ++ 1 ∷ []) de) (leaves_by (at ++ 2 ∷ []) dt) E T e t (filled (at ++ 1 ∷ []) de) (filled (at ++ 2 ∷ []) dt))
-        (λ q r. (k_switch_typed p.0 m r.0.0 r.1.0,
-        λ i. k_switch (p.1 i) (r.0.1 i) (r.1.1 i)))))
+        (λ q r. (
+          k_switch_typed p.0 m r.0.0 r.1.0,
+          λ i. k_switch (p.1 i) (r.0.1 i) (r.1.1 i),
+        ))))
     filled at (p_switch_typed {Ps = Ps} {Os = Os} {r = r} {fs = fs} {e = e} {t = t} {A = A} {B = B} {C = C} {D = D} l u m h ds n de dt) =
         let R : Network ℕ → Type 0 = IsRows Ps Os (p_switch r fs e t) A (list_ty B) in
         let E : Network ℕ → Type 0 = IsRows Ps Os e (pair_ty A (list_ty B)) (event_ty C) in
@@ -167,9 +172,11 @@ module _ (keys : List KeyTree) where
         (λ a ks. (fill e ks >>= (λ b. fill t b.1 >>= (λ c. both b.0 c.0 c.1))) >>= (λ p. Some (p_switch k a p.0.0 p.0.1, p.1))) (filled_members at 1 ds)
         (λ a p. made (es ++ ts) (λ q. E q.0 × T q.1) R (λ ks. fill e ks >>= (λ b. fill t b.1 >>= (λ c. both b.0 c.0 c.1))) (λ q. p_switch k a q.0 q.1)
         (two es ts E T e t (filled (at ++ suc (members fs) ∷ []) de) (filled (at ++ suc (suc (members fs)) ∷ []) dt))
-        (λ q s. (p_switch_typed (subst (λ j. 1 ≤ j) (sym p.2) l) (subst (λ j. j ≤ 64) (sym p.2) u) m z.0 p.0 n s.0.0
-        (subst (λ j. Typed (RowTyped keys) AnyType (Ps ++ C ∷ []) (Os ++ copies j (arrow D B)) q.1 A (list_ty B)) (sym p.2) s.1.0),
-        λ i. p_switch (z.1 i) (p.1 i) (s.0.1 i) (s.1.1 i))))))
+        (λ q s. (
+          p_switch_typed (subst (λ j. 1 ≤ j) (sym p.2) l) (subst (λ j. j ≤ 64) (sym p.2) u) m z.0 p.0 n s.0.0
+              (subst (λ j. Typed (RowTyped keys) AnyType (Ps ++ C ∷ []) (Os ++ copies j (arrow D B)) q.1 A (list_ty B)) (sym p.2) s.1.0),
+          λ i. p_switch (z.1 i) (p.1 i) (s.0.1 i) (s.1.1 i),
+        )))))
 
     filled_members : {Ps : List TypeTree} {Os : List Arrow} {fs : Networks Expression} {A B : TypeTree} (at : List ℕ) (k : ℕ)
         (ds : AllTyped ExpressionTyped AnyType Ps Os fs A B) → Fills (member_leaves_by at k ds) (AreRows Ps Os fs A B) (fill_members fs)

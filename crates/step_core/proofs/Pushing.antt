@@ -16,7 +16,7 @@ use Rattle.state_core.specs.CountedContext.{counted_meaning}
 use Rattle.state_core.specs.CountedFunction.{TakesSample}
 use Rattle.state_core.specs.EmptyScope.{empty_context, empty_scope}
 use Rattle.state_core.specs.Stands.{Stands}
-use Rattle.state_core.specs.State.{State, Frozen, unstarted, paused}
+use Rattle.state_core.specs.State.{State, Frozen, scope, no_frozen, unstarted, paused}
 use Rattle.step_core.specs.Binding.{Binding, FitsTable}
 use Rattle.step_core.specs.EnvironmentVisits.{visits_of}
 use Rattle.step_core.specs.RowTyping.{RowsTyped, network_by, row_expression}
@@ -140,3 +140,19 @@ new_stands r none unvisited nothing h = record {
   light = omega (arith, h.2, same_weight r);
   holds_past = record { output = h.0; typed = h.1; no_state = nothing };
 }
+
+-- the first sample, where the network and its scope are these by equations
+pub first_pushed_from : (r : RunnerState) (x : ℕ × Datum) (y : Datum) (a : State ℕ) (m : ℕ) (rows : Network ℕ) (ps : List Datum) → r.state ≡ None
+    → HasType x.1 r.input → rows ≡ r.rows → ps ≡ [] → RunsWhere r.keys (unstarted rows (scope ps no_frozen)) x.1 a y m → Pushes r x y (later r a m)
+first_pushed_from r x y a m rows ps none t same empty runs = first_pushed r x y a m none t
+    (subst (λ o. RunsWhere r.keys (unstarted r.rows (scope o no_frozen)) x.1 a y m) empty
+    (subst (λ o. RunsWhere r.keys (unstarted o (scope ps no_frozen)) x.1 a y m) same runs))
+
+-- the same for a runner whose values are these by equations
+pub pushed_as : (r : RunnerState) (x : ℕ × Datum) (y y' : Datum) (a : State ℕ) (m m' n : ℕ) (s : Option (State ℕ)) → s ≡ Some a → n ≡ suc r.samples
+    → m' ≡ m → y' ≡ y → Pushes r x y (later r a m)
+    → Pushes r x y' (record { input = r.input; keys = r.keys; rows = r.rows; state = s; samples = n; visits = m' })
+pushed_as r x y y' a m m' n s e k v w one =
+    subst (λ o. Pushes r x y' (record { input = r.input; keys = r.keys; rows = r.rows; state = o; samples = n; visits = m' })) (sym e)
+    (subst (λ o. Pushes r x y' (record { input = r.input; keys = r.keys; rows = r.rows; state = Some a; samples = o; visits = m' })) (sym k)
+    (subst (λ o. Pushes r x y' (later r a o)) (sym v) (subst (λ o. Pushes r x o (later r a m)) (sym w) one)))

@@ -248,4 +248,3 @@ module _ (keys : List KeyTree) where
   old_runs f x y a m c hf hc w (R.old_new e) A B (T.unstarted_typed (N.old_typed o) ts) h =
       let one : Ran keys f x a y m = hf A B (old_typed keys ts o e) h in
       record { visits = suc one.visits; resumes = G.resume_unstarted (G.start_old e one.resumes); is_count = λ l. let i : m ≡ one.visits = one.is_count (omega arith) in let e : c ≡ suc (m + 0) = hc (omega arith) in omega arith }
-

@@ -84,11 +84,7 @@ pub(crate) fn start_accum<'n, R: Rows>(
     let input = put_in(alloc, rows, g, params, &value, x)?;
     let kept = params.try_copy()?;
     let (cell, answer) = Cell::start(alloc, Form::AccumBy, value, &input)?;
-    Ok(Ran::new(
-        State::AccumBy(Accumulator::new(g, kept, cell)),
-        answer,
-        1,
-    ))
+    Ok(Ran::new(State::AccumBy(Accumulator::new(g, kept, cell)), answer, 1))
 }
 
 /// A further sample of a cell.
@@ -116,7 +112,7 @@ pub(crate) fn step_accum<'n, R: Rows>(
 ) -> Result<Ran<'n>, Memory>
     ensures { IfOk result (λ r. (w : Frozen ℕ)
         → AccumBy w (row_number from.now.leaf) from.now.params
-            (accumulator_of (cell_of from.now.cell))
+        (accumulator_of (cell_of from.now.cell))
         → RunsWhere (R.keys rows.now) w (datum_of x.now) r.state r.answer r.visits) }
 {
     match from.cell().accumulator() {

@@ -43,9 +43,9 @@ impl<'n> Model for Each<'n> {
     ghost use Rattle.state_core.specs.StateView.{states_of};
 
     ghost view = { λ a. record {
-        states = states_of a.states.items;
-        answers = map datum_of a.answers.items;
-        visits = a.visits
+      states = states_of a.states.items;
+      answers = map datum_of a.answers.items;
+      visits = a.visits;
     } };
 }
 
@@ -66,13 +66,12 @@ impl<'n> Model for Listed<'n> {
     ghost coded = { list_outcome_code };
 
     ghost use Rattle.sample_core.specs.ValueView.{datum_of};
-
     ghost use Rattle.state_core.specs.StateView.{states_of};
 
     ghost view = { λ a. record {
-        states = states_of a.states.items;
-        list = datum_of a.list;
-        visits = a.visits
+      states = states_of a.states.items;
+      list = datum_of a.list;
+      visits = a.visits;
     } };
 }
 
@@ -158,7 +157,7 @@ pub(crate) fn keep_p_switch<'n>(
 ) -> Result<Ran<'n>, Memory>
     ensures { IfOk result (λ o.
         IsRan o (p_switch_state (row_number r) all.entry.states two.entry.state
-            (rows_in t.entry.now) (scope_of env.now))
+        (rows_in t.entry.now) (scope_of env.now))
         all.entry.list (suc (all.entry.visits + two.entry.visits))) }
 {
     let visits = count::node(all.visits(), two.visits());

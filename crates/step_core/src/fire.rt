@@ -79,11 +79,7 @@ pub(crate) fn fire_olds<'n>(
 }
 
 /// What runs, frozen as it was before the sample, with the sample's step.
-fn frozen_source<'n>(
-    alloc: Global,
-    from: Source<'_, 'n>,
-    dt: u64,
-) -> Result<Frozen<'n>, Memory>
+fn frozen_source<'n>(alloc: Global, from: Source<'_, 'n>, dt: u64) -> Result<Frozen<'n>, Memory>
     ensures { IfOk result (λ f. frozen_of f ≡ source_of from.entry dt) }
 {
     match from {

@@ -163,8 +163,10 @@ fn lower_two<'a>(
         (map row_number rows.now) ≢ None }
     ensures { IfOk result (λ r. fill_pair (map_network expression_of f.now)
         (map_network expression_of g.now) (map row_number rows.now)
-        ≡ Some ((map_network row_number r.0, map_network row_number r.1),
-        map row_number r.2.now)) }
+        ≡ Some (
+          (map_network row_number r.0, map_network row_number r.1),
+          map row_number r.2.now,
+        )) }
 {
     let (f, rest) = lower_child(alloc, f, rows)?;
     match lower_child(alloc, g, rest) {

@@ -73,13 +73,7 @@ pub(crate) enum Plan<'s, 'n> {
     /// `kSwitch` likewise, with the part that watches.
     KSwitch(Source<'s, 'n>, Source<'s, 'n>, &'n Net<LeafId>, &'s Env<'n>),
     /// `pSwitch` likewise: the routing, the members, and the part that watches them.
-    PSwitch(
-        LeafId,
-        Sources<'s, 'n>,
-        Source<'s, 'n>,
-        &'n Net<LeafId>,
-        &'s Env<'n>,
-    ),
+    PSwitch(LeafId, Sources<'s, 'n>, Source<'s, 'n>, &'n Net<LeafId>, &'s Env<'n>),
     /// `old`: what is resumed, with its step.
     Old(Source<'s, 'n>, u64),
     /// No frozen network has that level.

@@ -188,7 +188,7 @@ pub(crate) fn keep_k_switch<'n>(
 ) -> Result<Ran<'n>, Memory>
     ensures { IfOk result (λ r.
         IsRan r (k_switch_state one.entry.state two.entry.state (rows_in t.entry.now)
-            (scope_of env.now))
+        (scope_of env.now))
         one.entry.answer (suc (one.entry.visits + two.entry.visits))) }
 {
     let visits = count::node(one.visits, two.visits);

@@ -10,17 +10,16 @@ ghost use Rattle.step_core.specs.Runs.{RunsWhere, RunEachWhere, StillBy};
 ghost use Rattle.step_core.specs.SourceView.{source_of, sources_of};
 
 use crate::cells::{start_accum, start_cell, step_accum, step_cell};
-use crate::count;
 use crate::each::{Each, first_of, join_par, keep_p_switch, routed};
 use crate::fire::{fire, fire_old, fire_olds};
 use crate::part::{first, paired, restart_of, second};
 use crate::plan::{Back, Plan, Route, Source, Sources, plan_of};
 use crate::ran::{
-    Ran, join_first, join_loop, join_seq, keep_d_switch, keep_k_switch, keep_r_switch,
-    keep_switch, resumed, take_over, take_over_late,
+    Ran, join_first, join_loop, join_seq, keep_d_switch, keep_k_switch, keep_r_switch, keep_switch,
+    resumed, take_over, take_over_late,
 };
 use crate::rows::Rows;
-use crate::still;
+use crate::{count, still};
 use sample_core::{Memory, Sample};
 use state_core::{Params, State, Still, push_param};
 use std::alloc::Global;

@@ -8,11 +8,11 @@ ghost use Rattle.net_syntax.specs.Network.{map_networks};
 ghost use Rattle.step_core.specs.Still.{AppliesWhere, ApplyWhere};
 
 use crate::count;
+use crate::part::{first, paired, second};
 use crate::rows::Rows;
 use leaf_table::LeafId;
 use net_syntax::Net;
 use sample_core::{Memory, Sample};
-use crate::part::{first, paired, second};
 use state_core::gather;
 use std::alloc::Global;
 

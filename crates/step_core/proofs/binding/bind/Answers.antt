@@ -42,10 +42,12 @@ pub returns-clause-fits : goal.returns-clause-fits
 returns-clause-fits g c =
     let m = made g (goal.at.returns-clause-fits g c).After-deref-2 in
     let input : type_of c.in_ok-input.input ≡ c.args.net.now.input = ap type_of c.in_ok-input.ensures ∙ c.input.ensures in
-    let rows : rows_in c.in_ok-lowered.lowered ≡ m.low = one_answer _ _ _ _ _ c.in_ok-lowered.ensures m.filled in
-    (c.args.net.now.output, subst (λ A. RowsTyped (rows_of c.args.table.now) (rows_in c.in_ok-lowered.lowered) A c.args.net.now.output) (sym input)
-    (subst (λ o. RowsTyped (rows_of c.args.table.now) o c.args.net.now.input c.args.net.now.output) (sym rows) m.typed),
-    subst (λ o. weight o [] ≤ 1000000) (sym rows) (light_rows _ c.args.net.now _ m.same c.net.ensures.limits.fits.light))
+    let rows : rows_in c.in_ok-lowered.lowered ≡ m.low = one_answer _ _ _ _ _ c.in_ok-lowered.ensures m.filled in (
+      c.args.net.now.output,
+      subst (λ A. RowsTyped (rows_of c.args.table.now) (rows_in c.in_ok-lowered.lowered) A c.args.net.now.output) (sym input)
+          (subst (λ o. RowsTyped (rows_of c.args.table.now) o c.args.net.now.input c.args.net.now.output) (sym rows) m.typed),
+      subst (λ o. weight o [] ≤ 1000000) (sym rows) (light_rows _ c.args.net.now _ m.same c.net.ensures.limits.fits.light),
+    )
 
 pub returns-clause-found : goal.returns-clause-found
 returns-clause-found g c =

@@ -27,4 +27,3 @@ returns-in-Integral c = λ d s e. start_by _ _ s _ _ _ (ap rows_in c.in-Integral
 
 pub returns-in-AccumBy : goal.returns-in-AccumBy
 returns-in-AccumBy c = λ d s e. gather_by _ _ _ s _ (ap rows_in c.in-AccumBy.is) e
-

@@ -31,4 +31,3 @@ returns-in-KSwitch c = λ d. k_switch_on_by _ _ _ _ _ d (ap node_of c.in-KSwitch
 
 pub returns-in-PSwitch : goal.returns-in-PSwitch
 returns-in-PSwitch c = λ d. p_switch_on_by _ _ _ _ _ _ d (ap node_of c.in-PSwitch.is ∙ ap (λ as'. p_switch_state (row_number c.in-PSwitch.r) as' (state_of c.in-PSwitch.b) (rows_in c.in-PSwitch.t.now) (scope_of c.in-PSwitch.env)) (sym c.as_slice-in-PSwitch.ensures))
-

@@ -16,4 +16,3 @@ returns-in-Cell c = λ d. cell_on_by _ _ d (ap state_of c.in-Cell.is)
 
 pub returns-in-AccumBy : goal.returns-in-AccumBy
 returns-in-AccumBy c = λ d. accum_on_by _ _ _ _ d (ap state_of c.in-AccumBy.is)
-
