@@ -1,18 +1,19 @@
 -- What the code's readers answer, said by the grammar alone.
-use Rattle.std.proofs.Common.{◌≡◌, ℕ, List, length, subst, IfOk, Result, Ok, Err}
+use Rattle.std.proofs.Common.{◌≡◌, ℕ, List, length, refl, subst, IfOk, Result, Ok, Err}
 use Rattle.std.specs.Prelude.{IfErr}
 use Rattle.leaf_expr.specs.Token.{PlacedToken, tokens_from}
 use Rattle.leaf_expr.specs.Language.{Begins}
 use Rattle.leaf_expr.specs.Grammar.{leaf, Sort, Tree}
-use Rattle.leaf_expr.specs.Text.{read_text, IsText}
+use Rattle.leaf_expr.specs.Text.{read_text, IsText, IsTextFault}
 use Rattle.leaf_expr.specs.ReadLaws.{Stops}
-use Rattle.leaf_expr.specs.ReadText.{Gives, IsFault, IsTextFault, tree_at}
+use Rattle.leaf_expr.specs.ReadText.{Gives, IsFault, tree_at}
 use Rattle.leaf_expr.specs.declared.text_fault.ExprTextFault.{ExprTextFault}
 use Rattle.leaf_expr.proofs.ReadFound.{found}
 use Rattle.leaf_expr.proofs.ReadOnly.{only}
 use Rattle.leaf_expr.proofs.ReadFaults.{stops, stops_not_long}
+use Rattle.leaf_expr.proofs.OneFault.{refuses}
 use Rattle.leaf_expr.proofs.LeafProper.{leaf_proper}
-use Rattle.leaf_expr.proofs.TextLaws.{text_found, text_read, text_fault, longer}
+use Rattle.leaf_expr.proofs.TextLaws.{text_found, text_read, text_fault}
 use Rattle.leaf_expr.specs.declared.text_fault.ExprTextFault.TheVariants.{Syntax, Number, TooDeep, TooLong, Memory}
 
 module _ (s : Sort) (text : List ℕ) where
@@ -38,6 +39,19 @@ module _ (s : Sort) (text : List ℕ) where
     tree_refused (Err (Number k)) h = stopped (Number k) (h (λ q. cc))
     tree_refused (Err (TooDeep k)) h = stopped (TooDeep k) (h (λ q. cc))
 
+    refused : (e : ExprTextFault) → Stops leaf (length text) room s (tokens_from n text) e → tree_at s text room n ≡ Err e
+    refused e h = refuses leaf leaf_proper (length text) room s (tokens_from n text) e h
+
+    -- what is found and refused so is what reading gives
+    pub tree_given : (r : Result X ExprTextFault) → IfOk r (λ x. Begins leaf room s (view x).0 (tokens_from n text) (view x).1 (view x).2)
+        → IfErr r (IsFault s text room n) → Gives view r (tree_at s text room n)
+    tree_given (Ok x) b h = only leaf leaf_proper (length text) room s b.part (tokens_from n text) (view x).1 (view x).2 (view x).0 b.spells b.means b.within
+    tree_given (Err Memory) b h = λ d. absurd (d refl)
+    tree_given (Err TooLong) b h = absurd h
+    tree_given (Err (Syntax k)) b h = λ d. refused (Syntax k) h
+    tree_given (Err (Number k)) b h = λ d. refused (Number k) h
+    tree_given (Err (TooDeep k)) b h = λ d. refused (TooDeep k) h
+
   module _ {X : Type 0} (view : X → Tree s) where
     pub whole_found : (r : Result X ExprTextFault) → Gives view r (read_text s text) → IfOk r (λ x. IsText s text (view x))
     whole_found (Ok x) h = text_found s text (view x) h
@@ -49,7 +63,7 @@ module _ (s : Sort) (text : List ℕ) where
     pub whole_refused : (r : Result X ExprTextFault) → Gives view r (read_text s text) → IfErr r (IsTextFault s text)
     whole_refused (Ok x) h = tt
     whole_refused (Err Memory) h = tt
-    whole_refused (Err TooLong) h = longer s text (h (λ q. cc))
+    whole_refused (Err TooLong) h = text_fault s text TooLong (λ q. cc) (h (λ q. cc))
     whole_refused (Err (Syntax k)) h = text_fault s text (Syntax k) (λ q. cc) (h (λ q. cc))
     whole_refused (Err (Number k)) h = text_fault s text (Number k) (λ q. cc) (h (λ q. cc))
     whole_refused (Err (TooDeep k)) h = text_fault s text (TooDeep k) (λ q. cc) (h (λ q. cc))

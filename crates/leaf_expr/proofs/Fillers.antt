@@ -1,18 +1,20 @@
--- Whatever was read so far can be completed to a tree, and leads to one place.
-use Rattle.std.proofs.Common.{◌≡◌, ℕ, zero, suc, ◌+◌, Bool, true, ◌&&◌, if◌then◌else◌, List, [], ◌∷◌, ◌++◌, refl, sym, ap, arith, Option, Some, None, append_assoc}
+-- Whatever was read so far is a viable prefix of a tree, and leads to one place.
+use Rattle.std.proofs.Common.{◌≡◌, ℕ, zero, suc, ◌+◌, ◌≤◌, Bool, true, ◌&&◌, if◌then◌else◌, List, [], ◌∷◌, ◌++◌, refl, sym, ap, arith, Option, Some, None, append_assoc}
 use Rattle.sample_core.specs.Number.{is_number_word}
 use Rattle.leaf_expr.specs.Token.{opening, closing, word, PlacedToken}
-use Rattle.leaf_expr.specs.Sexpr.{Sexprs, form, last, more, SpellAll, form_spells, last_spells, more_spells}
+use Rattle.leaf_expr.specs.Sexpr.{Sexprs, form, last, more, SpellAll, form_spells, last_spells, more_spells, depth}
 use Rattle.leaf_expr.specs.Language.{Language, Places, Maker, Row, no_place, place, places, make_tree}
 use Rattle.leaf_expr.specs.TreeReader.{unfit_token}
-use Rattle.leaf_expr.specs.ReadLaws.{Completes, Whole, LeadsIn, at_tree, at_word, in_form, at_end, in_part, behind, in_item, behind_item, fault_at, Misfit}
+use Rattle.leaf_expr.specs.ReadLaws.{OpensAtMost, Completes, ViablePrefix, Whole, LeadsIn, at_tree, at_word, in_form, at_end, in_part, behind, in_item, behind_item, fault_at, Misfit}
+use Rattle.leaf_expr.proofs.Opened.{opens_both}
 use Rattle.leaf_expr.proofs.Proper.{Proper}
 use Rattle.leaf_expr.specs.declared.text_fault.ExprTextFault.{ExprTextFault}
 use Rattle.leaf_expr.specs.declared.text_fault.ExprTextFault.TheVariants.{Syntax, Number}
 
 module _ (L : Language) where
-  -- as `Completes`, of the parts of a form
-  pub record CompletesAll (s : L.Sort) (qs : Places L.Sort) (make : Maker L.Tree qs (L.Tree s)) (us : List PlacedToken) : Type 0 where
+  -- as `ViablePrefix`, of the parts of a form
+  pub record ViableParts (room : ℕ) (s : L.Sort) (qs : Places L.Sort) (make : Maker L.Tree qs (L.Tree s)) (us : List PlacedToken) : Type 0 where
+    pub opens : OpensAtMost room us
     pub end : List PlacedToken
     pub parts : Sexprs
     pub tree : L.Tree s
@@ -28,11 +30,21 @@ module _ (L : Language) where
     pub leads : LeadsIn L qs before next opened
     pub called : e ≡ fault_at L left x next
 
+  -- nothing is a viable prefix, where something makes it a tree
+  pub viable_none : (room : ℕ) (s : L.Sort) → Completes L s [] → ViablePrefix L room s []
+  viable_none room s c = record { opens = tt; completes = c }
+
+  -- so is a form's parenthesis
+  pub viable_open : (room : ℕ) (s : L.Sort) (n : ℕ) → Completes L s ((n, opening) ∷ []) → ViablePrefix L (suc room) s ((n, opening) ∷ [])
+  viable_open room s n c = record { opens = tt; completes = c }
+
   -- behind a part begun, and behind a part read
-  pub begun : {s q : L.Sort} (qs : Places L.Sort) (make : Maker L.Tree (place q qs) (L.Tree s)) (us : List PlacedToken) (c : Completes L q us)
-      → CompletesAll s qs (make c.tree) [] → CompletesAll s (place q qs) make us
-  begun qs make us c d =
+  pub begun : (room : ℕ) {s q : L.Sort} (qs : Places L.Sort) (make : Maker L.Tree (place q qs) (L.Tree s)) (us : List PlacedToken)
+      (v : ViablePrefix L room q us) → ViableParts room s qs (make v.completes.tree) [] → ViableParts room s (place q qs) make us
+  begun room {q = q} qs make us v d =
+      let c : Completes L q us = v.completes in
       record {
+        opens = v.opens;
         end = c.end ++ d.end;
         parts = more c.part d.parts;
         tree = d.tree;
@@ -41,9 +53,12 @@ module _ (L : Language) where
         means = rw c.means d.means;
       }
 
-  pub begun_many : {s q : L.Sort} (make : List (L.Tree q) → L.Tree s) (us : List PlacedToken) → Completes L q us → CompletesAll s (places q) make us
-  begun_many make us c =
+  pub begun_many : (room : ℕ) {s q : L.Sort} (make : List (L.Tree q) → L.Tree s) (us : List PlacedToken) → ViablePrefix L room q us
+      → ViableParts room s (places q) make us
+  begun_many room {q = q} make us v =
+      let c : Completes L q us = v.completes in
       record {
+        opens = v.opens;
         end = c.end;
         parts = more c.part last;
         tree = make (c.tree ∷ []);
@@ -52,10 +67,16 @@ module _ (L : Language) where
         means = rw c.means refl;
       }
 
-  pub passed : {s q : L.Sort} (qs : Places L.Sort) (make : Maker L.Tree (place q qs) (L.Tree s)) (t : L.Tree q) (front us : List PlacedToken)
-      → Whole L q t front → CompletesAll s qs (make t) us → CompletesAll s (place q qs) make (front ++ us)
-  passed qs make t front us p d =
+  -- a part that is read has room, and then tokens that have
+  opens_past : (room : ℕ) {q : L.Sort} (t : L.Tree q) (front us : List PlacedToken) (p : Whole L q t front) → depth p.part ≤ room → OpensAtMost room us
+      → OpensAtMost room (front ++ us)
+  opens_past room t front us p d o = opens_both p.part room (front ++ us) p.stop us (p.spells us) d o
+
+  pub passed : (room : ℕ) {s q : L.Sort} (qs : Places L.Sort) (make : Maker L.Tree (place q qs) (L.Tree s)) (t : L.Tree q) (front us : List PlacedToken)
+      (p : Whole L q t front) → depth p.part ≤ room → ViableParts room s qs (make t) us → ViableParts room s (place q qs) make (front ++ us)
+  passed room qs make t front us p w d =
       record {
+        opens = opens_past room t front us p w d.opens;
         end = d.end;
         parts = more p.part d.parts;
         tree = d.tree;
@@ -64,10 +85,12 @@ module _ (L : Language) where
         means = rw p.means d.means;
       }
 
-  pub passed_many : {s q : L.Sort} (make : List (L.Tree q) → L.Tree s) (t : L.Tree q) (front us : List PlacedToken) → Whole L q t front
-      → CompletesAll s (places q) (λ xs. make (t ∷ xs)) us → CompletesAll s (places q) make (front ++ us)
-  passed_many make t front us p d =
+  pub passed_many : (room : ℕ) {s q : L.Sort} (make : List (L.Tree q) → L.Tree s) (t : L.Tree q) (front us : List PlacedToken)
+      (p : Whole L q t front) → depth p.part ≤ room → ViableParts room s (places q) (λ xs. make (t ∷ xs)) us
+      → ViableParts room s (places q) make (front ++ us)
+  passed_many room make t front us p w d =
       record {
+        opens = opens_past room t front us p w d.opens;
         end = d.end;
         parts = more p.part d.parts;
         tree = d.tree;
@@ -76,9 +99,9 @@ module _ (L : Language) where
         means = rw p.means d.means;
       }
 
-  pub completes_form : (s : L.Sort) (n m : ℕ) (w : List ℕ) (r : Row L.Sort L.Tree (L.Tree s)) (us : List PlacedToken) → L.row_at s w ≡ Some r
-      → CompletesAll s r.takes r.makes us → Completes L s ((n, opening) ∷ (m, word w) ∷ us)
-  completes_form s n m w r us a d =
+  completes_form : (room : ℕ) (s : L.Sort) (n m : ℕ) (w : List ℕ) (r : Row L.Sort L.Tree (L.Tree s)) (us : List PlacedToken) → L.row_at s w ≡ Some r
+      → ViableParts room s r.takes r.makes us → Completes L s ((n, opening) ∷ (m, word w) ∷ us)
+  completes_form room s n m w r us a d =
       record {
         end = d.end ++ (0, closing) ∷ [];
         stop = 1;
@@ -88,6 +111,10 @@ module _ (L : Language) where
             form_spells {k = 0} (rw append_assoc (d.spell ((0, closing) ∷ ts)));
         means = rw a d.means;
       }
+
+  pub viable_form : (room : ℕ) (s : L.Sort) (n m : ℕ) (w : List ℕ) (r : Row L.Sort L.Tree (L.Tree s)) (us : List PlacedToken) → L.row_at s w ≡ Some r
+      → ViableParts room s r.takes r.makes us → ViablePrefix L (suc room) s ((n, opening) ∷ (m, word w) ∷ us)
+  viable_form room s n m w r us a d = record { opens = d.opens; completes = completes_form room s n m w r us a d }
 
   pub misfit_form : (room : ℕ) (s : L.Sort) (n m : ℕ) (w : List ℕ) (r : Row L.Sort L.Tree (L.Tree s)) (us : List PlacedToken) (x : PlacedToken)
       (e : ExprTextFault) → L.has_form s ≡ true → L.row_at s w ≡ Some r → MisfitIn room r.takes us x e
@@ -166,7 +193,8 @@ module _ (L : Language) where
   misfit_form_here room s n = at_place (suc room) s (n, opening) _ refl
 
   module _ (proper : Proper L) where
-    pub fill : (s : L.Sort) (qs : Places L.Sort) (make : Maker L.Tree qs (L.Tree s)) → CompletesAll s qs make []
-    fill s no_place make = record { end = []; parts = last; tree = make; spell = λ ts. last_spells; means = refl }
-    fill s (place q qs) make = begun qs make [] (proper.filler q) (fill s qs (make (proper.filler q).tree))
-    fill s (places q) make = record { end = []; parts = last; tree = make []; spell = λ ts. last_spells; means = refl }
+    pub fill : (room : ℕ) (s : L.Sort) (qs : Places L.Sort) (make : Maker L.Tree qs (L.Tree s)) → ViableParts room s qs make []
+    unfolding viable_none
+    fill room s no_place make = record { opens = tt; end = []; parts = last; tree = make; spell = λ ts. last_spells; means = refl }
+    fill room s (place q qs) make = begun room qs make [] (viable_none room q (proper.filler q)) (fill room s qs (make (proper.filler q).tree))
+    fill room s (places q) make = record { opens = tt; end = []; parts = last; tree = make []; spell = λ ts. last_spells; means = refl }

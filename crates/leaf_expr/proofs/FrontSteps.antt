@@ -3,7 +3,6 @@ use Rattle.std.proofs.Common.{◌≡◌, ℕ, zero, suc, ◌+◌, ◌-◌, true,
 use Rattle.std.specs.List.{slice_range}
 use Rattle.leaf_expr.specs.Token.{opening, closing, word, PlacedToken, tokens_from}
 use Rattle.leaf_expr.specs.Language.{Language}
-use Rattle.leaf_expr.specs.Grammar.{word_at}
 use Rattle.leaf_expr.specs.TreeReader.{word_read, read, read_form}
 use Rattle.leaf_expr.specs.Front.{read_front, front_from, front_left}
 use Rattle.leaf_expr.specs.ReadText.{Gives}

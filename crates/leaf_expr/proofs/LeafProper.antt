@@ -18,7 +18,7 @@ formless expression_sort w h = absurd (cc)
 formless index_sort w h = refl
 
 -- where a table of words reads nothing, what is given stands
-among_unread : {T : Type 0} (w : List ℕ) (xs : List (List ℕ × T)) (r v : WordReading T) → ((x : T) → reads x ≢ v) → word_among w xs r ≡ v → r ≡ v
+pub among_unread : {T : Type 0} (w : List ℕ) (xs : List (List ℕ × T)) (r v : WordReading T) → ((x : T) → reads x ≢ v) → word_among w xs r ≡ v → r ≡ v
 among_unread w [] r v n e = e
 among_unread {T = T} w (x ∷ xs) r v n e = go (bytes_eq w x.0) (λ p. among_unread w xs r v n p) e
   where
@@ -26,11 +26,11 @@ among_unread {T = T} w (x ∷ xs) r v n e = go (bytes_eq w x.0) (λ p. among_unr
     go true f p = absurd (n x.1 p)
     go false f p = f p
 
-chosen_misspelt : {T : Type 0} (a b : Bool) (x : T) → (if a then (if b then reads x else misspelt) else unfit) ≡ misspelt → a ≡ true
+pub chosen_misspelt : {T : Type 0} (a b : Bool) (x : T) → (if a then (if b then reads x else misspelt) else unfit) ≡ misspelt → a ≡ true
 chosen_misspelt true b x e = refl
 chosen_misspelt false b x e = absurd (cc)
 
-chosen_unfit : {T : Type 0} (a b : Bool) (x : T) → (if a then (if b then reads x else misspelt) else unfit) ≡ unfit → a ≡ false
+pub chosen_unfit : {T : Type 0} (a b : Bool) (x : T) → (if a then (if b then reads x else misspelt) else unfit) ≡ unfit → a ≡ false
 chosen_unfit true true x e = absurd (cc)
 chosen_unfit true false x e = absurd (cc)
 chosen_unfit false b x e = refl

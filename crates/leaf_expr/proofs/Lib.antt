@@ -1,9 +1,12 @@
 pub mod ReadFound
 pub mod Proper
 pub mod ReadOnly
+pub mod ReadDeep
+pub mod Opened
 pub mod ReadCounts
 pub mod Fillers
 pub mod ReadFaults
+pub mod OneFault
 pub mod Numbers
 pub mod TokenLaws
 pub mod LeafProper
@@ -15,7 +18,8 @@ pub mod Forms
 pub mod ReadSteps
 pub mod WordSteps
 pub mod ItemSteps
-pub mod IndexSteps
+pub mod NaturalSteps
 pub mod Joined
 pub mod Answered
 pub mod FrontSteps
+pub mod PartSteps

@@ -26,13 +26,21 @@ some_bind None g y e = absurd (cc)
 
 module _ (L : Language) where
   -- reading at the front of a part does not see a closing parenthesis
-  read_all_spelled : {T R : Type 0} (size : ℕ) (reader : List PlacedToken → Read T) (n : ℕ) (make : List T
+  pub read_all_spelled : {T R : Type 0} (size : ℕ) (reader : List PlacedToken → Read T) (n : ℕ) (make : List T
       → R) (p : Sexpr) (ts : List PlacedToken) (m : ℕ) (rest : List PlacedToken) → Spells p ts m rest
       → read_all L size reader (suc n) make ts ≡ (reader ts >>= (λ x. read_all L size reader n (λ xs. make (x.0 ∷ xs)) x.2))
   read_all_spelled size reader n make p ts m rest atom_spells = refl
   read_all_spelled size reader n make p ts m rest (form_spells h) = refl
 
   module _ (proper : Proper L) where
+    -- a sort without forms has no row
+    pub formless_means : (s : L.Sort) (w : List ℕ) (ps : Sexprs) (t : L.Tree s) → L.has_form s ≡ false → meaning L s (form w ps) ≡ Some t → ⊥
+    formless_means s w ps t f e = go (L.row_at s w) (proper.formless s w f) e
+      where
+        go : (r : Option (Row L.Sort L.Tree (L.Tree s))) → r ≡ None → option_and_then (λ z. make_tree L s z.takes z.makes ps) r ≡ Some t → ⊥
+        go None i j = cc
+        go (Some r) i j = cc
+
     module _ (size room : ℕ) (reader : (s : L.Sort) → List PlacedToken
         → Read (L.Tree s)) (h : (s : L.Sort) (p : Sexpr) (ts : List PlacedToken) (n : ℕ) (rest : List PlacedToken) (t : L.Tree s) → Spells p ts n rest
         → meaning L s p ≡ Some t → depth p ≤ room → reader s ts ≡ Ok (t, n, rest)) where
@@ -66,19 +74,14 @@ module _ (L : Language) where
       only_row s m k ps ts rest t None a e d = absurd (cc)
       only_row s m k ps ts rest t (Some r) a e d = only_parts s k r.takes r.makes ps ts rest t a e d
 
-      -- a sort without forms has no row
       only_opened : (s : L.Sort) (b : Bool) (n m k : ℕ) (w : List ℕ) (ps : Sexprs) (ts rest : List PlacedToken) (t : L.Tree s) → L.has_form s ≡ b
           → SpellAll ps ts ((k, closing) ∷ rest) → meaning L s (form w ps) ≡ Some t → depths ps ≤ room
           → (if b then read_form L size reader room s ((m, word w) ∷ ts) else Err (Syntax n)) ≡ Ok (t, suc k, rest)
       only_opened s true n m k w ps ts rest t f a e d = only_row s m k ps ts rest t (L.row_at s w) a e d
       only_opened s false n m k w ps ts rest t f a e d =
-          absurd (go (L.row_at s w) (proper.formless s w f) e)
-        where
-          go : (r : Option (Row L.Sort L.Tree (L.Tree s))) → r ≡ None → option_and_then (λ z. make_tree L s z.takes z.makes ps) r ≡ Some t → ⊥
-          go None i j = cc
-          go (Some r) i j = cc
+          absurd (formless_means s w ps t f e)
 
-    only_word : (s : L.Sort) (n : ℕ) (w : List ℕ) (ts : List PlacedToken) (t : L.Tree s) (r : WordReading (L.Tree s)) → read_word r ≡ Some t
+    pub only_word : (s : L.Sort) (n : ℕ) (w : List ℕ) (ts : List PlacedToken) (t : L.Tree s) (r : WordReading (L.Tree s)) → read_word r ≡ Some t
         → word_read n w ts r ≡ Ok (t, n + length w, ts)
     only_word s n w ts t (reads x) e = cc
     only_word s n w ts t misspelt e = absurd (cc)

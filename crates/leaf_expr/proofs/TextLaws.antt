@@ -1,25 +1,25 @@
 -- Whole texts.
 use Rattle.std.proofs.Common.{arith, ◌≡◌, ℕ, ◌+◌, ◌≤◌, ◌<◌, ◌≢◌, Bool, true, false, nat_lt, List, [], ◌∷◌, ◌++◌, length, refl, sym, ap, ◌∙◌, subst, Result, Ok, Err, if◌then◌else◌}
-use Rattle.std.proofs.lemmas.Bool.{ltb-false, ltb-true, le-ltb}
+use Rattle.std.proofs.lemmas.Bool.{ltb-false, ltb-true, le-ltb, lt-ltb}
 use Rattle.std.proofs.lemmas.List.{append-nil}
 use Rattle.sample_core.specs.TypeTree.{TypeTree}
-use Rattle.leaf_expr.specs.Token.{opening, closing, word, PlacedToken, tokens, tokens_in, begins_word}
-use Rattle.leaf_expr.specs.Sexpr.{Spells, spelling, depth}
+use Rattle.leaf_expr.specs.Token.{opening, closing, word, tokens, tokens_in, begins_word}
+use Rattle.leaf_expr.specs.Sexpr.{spelling, depth}
 use Rattle.leaf_expr.specs.Language.{Begins}
 use Rattle.leaf_expr.specs.Grammar.{leaf, Sort, Tree, type_sort, expression_sort}
 use Rattle.leaf_expr.specs.Printing.{expression_sexpr, type_sexpr}
 use Rattle.leaf_expr.specs.TreeReader.{Read, unfit_token, read}
-use Rattle.leaf_expr.specs.ReadLaws.{Stops, too_short, at_token, Misfit}
-use Rattle.leaf_expr.specs.Text.{whole, read_text, PrintedTypeLaw, PrintedTextLaw, IsText, NoText, ends, fails, follows, ReadTextLaw, OneTextLaw, TextFaultLaw, PrintedLaw}
+use Rattle.leaf_expr.specs.Text.{whole, read_text, PrintedTypeLaw, PrintedTextLaw, IsText, IsTextFault, NoText, no_tree, follows, ReadTextLaw, OneTextLaw, TextFaultLaw, PrintedLaw}
 use Rattle.leaf_expr.proofs.ReadFound.{found}
 use Rattle.leaf_expr.proofs.ReadOnly.{only}
-use Rattle.leaf_expr.proofs.ReadFaults.{framed, one_reading, stops, stops_not_long, err_is}
+use Rattle.leaf_expr.proofs.ReadFaults.{one_reading, stops, stops_not_long, err_is}
+use Rattle.leaf_expr.proofs.OneFault.{refuses}
 use Rattle.leaf_expr.proofs.TokenLaws.{spells_printed}
 use Rattle.leaf_expr.proofs.PrintedMeans.{expression_means, expression_plain, type_means, type_plain}
 use Rattle.leaf_expr.proofs.LeafProper.{leaf_proper}
 use Rattle.leaf_expr.proofs.Joined.{type_spelled}
 use Rattle.leaf_expr.specs.declared.text_fault.ExprTextFault.{ExprTextFault}
-use Rattle.leaf_expr.specs.declared.text_fault.ExprTextFault.TheVariants.{TooLong}
+use Rattle.leaf_expr.specs.declared.text_fault.ExprTextFault.TheVariants.{Syntax, Number, TooDeep, TooLong, Memory}
 
 pub printed_begins : PrintedLaw
 printed_begins e room n bs r d b =
@@ -89,30 +89,39 @@ longer s text h = go (nat_lt 1048576 (length text)) refl h
 no_text : (s : Sort) (bs : List ℕ) (e : ExprTextFault) (r : Read (Tree s)) → read leaf (length bs) 600 s (tokens bs) ≡ r → whole r ≡ Err e → NoText s bs e
 no_text s bs e (Ok (t, n, [])) p q = absurd (cc)
 no_text s bs e (Ok (t, n, x ∷ rest)) p q =
-    let b : Begins leaf 600 s t (tokens bs) n (x ∷ rest) = found leaf (length bs) 600 s (tokens bs) (t, n, x ∷ rest) p in
-    let f : (front : List PlacedToken) × (tokens bs ≡ front ++ x ∷ rest)
-    × ((us : List PlacedToken) → Spells b.part (front ++ us) n us) = framed b.part (tokens bs) n (x ∷ rest) b.spells in
-    let i : e ≡ unfit_token 600 x = cc in
-    let d : depth b.part ≤ 600 = b.within in
-    follows f.0 x rest f.1 (λ us u m c. absurd (
-    let o : (t ≡ u) × (n ≡ m)
-    × (x ∷ us ≡ []) = one_reading leaf leaf_proper 600 600 s t u (f.0 ++ x ∷ us) n m (x ∷ us) []
-    (record { part = b.part; spells = f.2 (x ∷ us); means = b.means; within = d }) c in
-    let z : x ∷ us ≡ [] = o.2 in cc)) t n
-    (record { part = b.part; spells = subst (λ us. Spells b.part us n []) (append-nil f.0) (f.2 []); means = b.means; within = d }) i
-no_text s bs e (Err f) p q = go (stops leaf leaf_proper (length bs) 600 s (tokens bs) f p)
-  where
-    i : f ≡ e
-    i = cc
+    let i : e ≡ unfit_token 600 x = cc in follows t n x rest (found leaf (length bs) 600 s (tokens bs) (t, n, x ∷ rest) p) i
+no_text s bs e (Err f) p q = no_tree (stops leaf leaf_proper (length bs) 600 s (tokens bs) e (p ∙ ap Err (err_is q)))
 
-    go : Stops leaf (length bs) 600 s (tokens bs) f → NoText s bs e
-    go (too_short a h v) = ends (sym i ∙ a) (λ t n b. h t n [] b) v
-    go (at_token before x after a h v m) = fails before x after a (λ us t n c. h us t n [] c) v (subst (λ z. Misfit leaf 600 s before x z) i m)
-
-pub text_fault : TextFaultLaw
-text_fault s bs e d p =
+text_refused : (s : Sort) (bs : List ℕ) (e : ExprTextFault) → e ≢ TooLong → read_text s bs ≡ Err e → (length bs ≤ 1048576) × NoText s bs e
+text_refused s bs e d p =
     let i : (length bs ≤ 1048576) × (whole (read leaf (length bs) 600 s (tokens bs)) ≡ Err e) = short_text s bs (Err e) (λ q. d (err_is q)) p in
-    no_text s bs e (read leaf (length bs) 600 s (tokens bs)) refl i.1
+    (i.0, no_text s bs e (read leaf (length bs) 600 s (tokens bs)) refl i.1)
+
+pub text_fault : (s : Sort) (bs : List ℕ) (e : ExprTextFault) → e ≢ Memory → read_text s bs ≡ Err e → IsTextFault s bs e
+text_fault s bs Memory d p = absurd (d refl)
+text_fault s bs TooLong d p = longer s bs p
+text_fault s bs (Syntax k) d p = text_refused s bs (Syntax k) (λ q. cc) p
+text_fault s bs (Number k) d p = text_refused s bs (Number k) (λ q. cc) p
+text_fault s bs (TooDeep k) d p = text_refused s bs (TooDeep k) (λ q. cc) p
+
+refuses_text : (s : Sort) (bs : List ℕ) (e : ExprTextFault) → (length bs ≤ 1048576) × NoText s bs e → read_text s bs ≡ Err e
+refuses_text s bs e (l, h) =
+    ap (λ c. if c then Err TooLong else whole (read leaf (length bs) 600 s (tokens bs))) (le-ltb 1048576 (length bs) l) ∙ go h
+  where
+    go : NoText s bs e → whole (read leaf (length bs) 600 s (tokens bs)) ≡ Err e
+    go (no_tree i) = ap whole (refuses leaf leaf_proper (length bs) 600 s (tokens bs) e i)
+    go (follows t n x after b q) =
+        ap whole (only leaf leaf_proper (length bs) 600 s b.part (tokens bs) n (x ∷ after) t b.spells b.means b.within) ∙ ap Err (sym q)
+
+refuses_for : (s : Sort) (bs : List ℕ) (e : ExprTextFault) → e ≢ Memory → IsTextFault s bs e → read_text s bs ≡ Err e
+refuses_for s bs Memory d h = absurd (d refl)
+refuses_for s bs TooLong d h = ap (λ c. if c then Err TooLong else whole (read leaf (length bs) 600 s (tokens bs))) (lt-ltb 1048576 (length bs) h)
+refuses_for s bs (Syntax k) d h = refuses_text s bs (Syntax k) h
+refuses_for s bs (Number k) d h = refuses_text s bs (Number k) h
+refuses_for s bs (TooDeep k) d h = refuses_text s bs (TooDeep k) h
+
+pub text_fault_law : TextFaultLaw
+text_fault_law s bs e d = (text_fault s bs e d, refuses_for s bs e d)
 
 pub printed_text : PrintedTextLaw
 printed_text e r d l = text_read expression_sort (spelling (expression_sexpr e)) e

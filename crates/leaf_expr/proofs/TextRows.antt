@@ -29,7 +29,7 @@ long_rows = (refl, refl, refl, refl, refl)
 
 pub fault_rows : FaultRows
 unfolding word_at words row_at rows
-fault_rows = (refl, refl, refl, refl, refl, refl, refl, refl, refl, refl, refl, refl)
+fault_rows = (refl, refl, refl, refl, refl, refl, refl, refl, refl, refl, refl, refl, refl)
 
 pub merge_is : MergeIs
 unfolding word_at words row_at rows

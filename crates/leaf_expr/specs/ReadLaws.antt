@@ -1,12 +1,20 @@
 -- What reading a tree off the front of the tokens answers, said by the grammar alone.
-use Rattle.std.specs.Prelude.{◌≡◌, ℕ, zero, suc, ◌+◌, true, ◌&&◌, if◌then◌else◌, List, [], ◌∷◌, ◌++◌, Option, Some, None, Ok, Err}
+use Rattle.std.specs.Prelude.{◌≡◌, ◌↔◌, ℕ, zero, suc, ◌+◌, true, ◌&&◌, if◌then◌else◌, List, [], ◌∷◌, ◌++◌, Option, Some, None, Ok, Err, ⊤}
 use Rattle.sample_core.specs.Number.{is_number_word}
-use Rattle.leaf_expr.specs.Token.{opening, word, PlacedToken}
+use Rattle.leaf_expr.specs.Token.{opening, closing, word, PlacedToken}
 use Rattle.leaf_expr.specs.Sexpr.{Sexpr, Spells}
 use Rattle.leaf_expr.specs.Language.{Language, Places, Row, no_place, place, places, Begins, meaning}
 use Rattle.leaf_expr.specs.TreeReader.{read}
 use Rattle.leaf_expr.specs.declared.text_fault.ExprTextFault.{ExprTextFault}
 use Rattle.leaf_expr.specs.declared.text_fault.ExprTextFault.TheVariants.{Syntax, Number, TooDeep}
+
+-- at no place of the tokens are more than so many further parentheses open
+abbrev pub OpensAtMost : ℕ → List PlacedToken → Type 0
+OpensAtMost room [] = ⊤
+OpensAtMost room ((n, word w) ∷ ts) = OpensAtMost room ts
+OpensAtMost room ((n, closing) ∷ ts) = OpensAtMost (suc room) ts
+OpensAtMost zero ((n, opening) ∷ ts) = ⊥
+OpensAtMost (suc room) ((n, opening) ∷ ts) = OpensAtMost room ts
 
 module _ (L : Language) where
   -- Some tokens behind us make it a tree, whatever follows; it may open more parentheses than there
@@ -18,6 +26,12 @@ module _ (L : Language) where
     pub tree : L.Tree s
     pub spells : (ts : List PlacedToken) → Spells part (us ++ (end ++ ts)) stop ts
     pub means : meaning L s part ≡ Some tree
+
+  -- a viable prefix of a tree: tokens that never have more than so many parentheses open, and that
+  -- some tokens behind them, which may open more, make a tree
+  pub record ViablePrefix (room : ℕ) (s : L.Sort) (us : List PlacedToken) : Type 0 where
+    pub opens : OpensAtMost room us
+    pub completes : Completes s us
 
   -- the tokens front are a tree of the sort, whatever follows
   pub record Whole (q : L.Sort) (t : L.Tree q) (front : List PlacedToken) : Type 0 where
@@ -72,19 +86,20 @@ module _ (L : Language) where
     pub leads : Leads s before next opened
     pub called : e ≡ fault_at left x next
 
-  -- No tree stands at the front of ts: they end too early, or no tokens that go so far as x have
-  -- one.
-  -- What comes before could have gone on to one.
+  -- No tree stands at the front of ts. They are a viable prefix of one and end too early; or x is
+  -- the first token that doesn't fit: the tokens before it are a viable prefix, with it they are
+  -- none, and no tokens that go so far have a tree at their front.
   pub data Stops (size room : ℕ) (s : L.Sort) (ts : List PlacedToken) (e : ExprTextFault) : Type 0
     where
       too_short : e ≡ Syntax size
           → ((t : L.Tree s) (n : ℕ) (rest : List PlacedToken) → Begins L room s t ts n rest → ⊥)
-          → Completes s ts → Stops size room s ts e
+          → ViablePrefix room s ts → Stops size room s ts e
       at_token : (before : List PlacedToken) (x : PlacedToken) (after : List PlacedToken)
           → ts ≡ before ++ x ∷ after
           → ((more : List PlacedToken) (t : L.Tree s) (n : ℕ) (rest : List PlacedToken)
-          → Begins L room s t (before ++ x ∷ more) n rest → ⊥) → Completes s before
-          → Misfit room s before x e → Stops size room s ts e
+          → Begins L room s t (before ++ x ∷ more) n rest → ⊥) → ViablePrefix room s before
+          → (ViablePrefix room s (before ++ x ∷ []) → ⊥) → Misfit room s before x e
+          → Stops size room s ts e
 
   -- a tree that is read stands at the front of the tokens
   abbrev pub FoundLaw : Type 0
@@ -104,7 +119,12 @@ module _ (L : Language) where
       (rest more : List PlacedToken) → Begins L r s t ts n rest → Begins L q s u ts m more
       → (t ≡ u) × (n ≡ m) × (rest ≡ more)
 
-  -- a fault that is answered is the first token that doesn't fit, or the end
+  -- a fault is answered exactly where it is the first token that doesn't fit, or the end
   abbrev pub FaultLaw : Type 0
   FaultLaw = (size room : ℕ) (s : L.Sort) (ts : List PlacedToken) (e : ExprTextFault)
-      → read L size room s ts ≡ Err e → Stops size room s ts e
+      → read L size room s ts ≡ Err e ↔ Stops size room s ts e
+
+  -- tokens have at most one fault
+  abbrev pub OneFaultLaw : Type 0
+  OneFaultLaw = (size room : ℕ) (s : L.Sort) (ts : List PlacedToken) (e f : ExprTextFault)
+      → Stops size room s ts e → Stops size room s ts f → e ≡ f

@@ -1,6 +1,6 @@
 -- What the code's readers answer: what the reader of the grammar does on the tokens from some byte
 -- on.
-use Rattle.std.specs.Prelude.{◌≢◌, ◌<◌, ℕ, Bool, true, false, List, [], ◌∷◌, length, slice_range, map, Result, Ok, Err, Option, Some, None}
+use Rattle.std.specs.Prelude.{ℕ, Bool, true, false, List, [], ◌∷◌, length, slice_range, map, Result, Ok, Err, Option, Some, None, ⊤}
 use Rattle.sample_core.specs.TypeTree.{TypeTree}
 use Rattle.sample_core.specs.TypeView.{type_of}
 use Rattle.sample_core.specs.declared.ty.Ty.{Ty}
@@ -8,14 +8,13 @@ use Rattle.leaf_core.specs.Expression.{Expression, no_event_expr}
 use Rattle.leaf_core.specs.ExpressionView.{expression_of}
 use Rattle.leaf_core.specs.declared.expr.Expr.{Expr}
 use Rattle.leaf_expr.specs.Token.{PlacedToken, closing, tokens_from}
-use Rattle.leaf_expr.specs.WordReading.{WordReading, reads, misspelt, unfit}
+use Rattle.leaf_expr.specs.WordReading.{WordReading, reads, misspelt, unfit, natural_at}
 use Rattle.leaf_expr.specs.declared.word.WordFault.{WordFault}
 use Rattle.leaf_expr.specs.declared.word.WordFault.TheVariants as W
 use Rattle.leaf_expr.specs.Grammar.{leaf, Tree, Sort, type_sort, expression_sort, e, word_at}
-use Rattle.leaf_expr.specs.TreeReader.{Read, word_read, read, read_form, read_parts, read_all}
+use Rattle.leaf_expr.specs.TreeReader.{Read, word_read, read, read_head, read_form, read_parts, read_all}
 use Rattle.leaf_expr.specs.Language.{Row, no_place, place}
 use Rattle.leaf_expr.specs.ReadLaws.{Stops}
-use Rattle.leaf_expr.specs.Text.{NoText}
 use Rattle.leaf_expr.specs.declared.text_fault.ExprTextFault.{ExprTextFault}
 use Rattle.sample_core.specs.Answer.{◌>>=◌, GivesUnless}
 use Rattle.leaf_expr.specs.declared.text_fault.ExprTextFault.TheVariants.{TooLong, Memory}
@@ -28,6 +27,12 @@ Gives view result read = GivesUnless Memory view result read
 -- a tree of the sort in the text from byte n on, with room for so many more parentheses
 abbrev pub tree_at : (s : Sort) → List ℕ → ℕ → ℕ → Read (Tree s)
 tree_at s text room n = read leaf (length text) room s (tokens_from n text)
+
+-- a natural number from low to high in the text from byte n on, with room for so many more
+-- parentheses
+abbrev pub natural_read : ℕ → ℕ → List ℕ → ℕ → ℕ → Read ℕ
+natural_read low high text room n = read_head leaf (length text) room (tokens_from n text)
+    >>= (λ h. word_read h.0 h.1 h.2 (natural_at low high h.1))
 
 -- a type, the byte behind it, and the tokens from there on
 abbrev pub type_left : List ℕ → Ty × ℕ → TypeTree × ℕ × List PlacedToken
@@ -93,15 +98,9 @@ begins_closing ((n, closing) ∷ ts) = true
 begins_closing (x ∷ ts) = false
 
 -- Why no tree of the sort stands in the text from byte n on, with room for so many parentheses: the
--- first token
--- that doesn't fit, or the end. `TooLong` doesn't come, and `Memory` says nothing of the text.
+-- first token that doesn't fit, or the end. `TooLong` doesn't come, and `Memory` says nothing of
+-- the text.
 abbrev pub IsFault : (s : Sort) → List ℕ → ℕ → ℕ → ExprTextFault → Type 0
-IsFault s text room n Memory = Unit {0}
+IsFault s text room n Memory = ⊤
 IsFault s text room n TooLong = ⊥
 IsFault s text room n f = Stops leaf (length text) room s (tokens_from n text) f
-
--- why the text is no tree of the sort; `Memory` says nothing of the text
-abbrev pub IsTextFault : (s : Sort) → List ℕ → ExprTextFault → Type 0
-IsTextFault s text Memory = Unit {0}
-IsTextFault s text TooLong = 1048576 < length text
-IsTextFault s text f = NoText s text f

@@ -1,5 +1,5 @@
 -- Whole texts of one type or expression.
-use Rattle.std.specs.Prelude.{◌≡◌, ◌≢◌, ℕ, ◌+◌, ◌≤◌, nat_lt, false, List, [], ◌∷◌, ◌++◌, length, Result, Ok, Err, if◌then◌else◌}
+use Rattle.std.specs.Prelude.{◌≡◌, ◌≢◌, ◌↔◌, ℕ, ◌+◌, ◌≤◌, ◌<◌, nat_lt, false, List, [], ◌∷◌, ◌++◌, length, Result, Ok, Err, if◌then◌else◌, ⊤}
 use Rattle.sample_core.specs.TypeTree.{TypeTree}
 use Rattle.sample_core.specs.Spelling.{type_spelling}
 use Rattle.leaf_expr.specs.Token.{PlacedToken, tokens, tokens_in, begins_word}
@@ -7,11 +7,11 @@ use Rattle.leaf_core.specs.Expression.{Expression}
 use Rattle.leaf_expr.specs.Sexpr.{spelling, depth}
 use Rattle.leaf_expr.specs.Language.{Begins}
 use Rattle.leaf_expr.specs.Grammar.{leaf, Sort, Tree, type_sort, expression_sort}
-use Rattle.leaf_expr.specs.ReadLaws.{Completes, Misfit}
+use Rattle.leaf_expr.specs.ReadLaws.{Stops}
 use Rattle.leaf_expr.specs.Printing.{expression_sexpr, type_sexpr, InRange}
 use Rattle.leaf_expr.specs.TreeReader.{Read, unfit_token, read}
 use Rattle.leaf_expr.specs.declared.text_fault.ExprTextFault.{ExprTextFault}
-use Rattle.leaf_expr.specs.declared.text_fault.ExprTextFault.TheVariants.{Syntax, TooLong}
+use Rattle.leaf_expr.specs.declared.text_fault.ExprTextFault.TheVariants.{Syntax, TooLong, Memory}
 
 -- the tree that was read, where no token follows it
 abbrev pub whole : {T : Type 0} → Read T → Result T ExprTextFault
@@ -31,21 +31,17 @@ pub record IsText (s : Sort) (bs : List ℕ) (t : Tree s) : Type 0 where
   pub stop : ℕ
   pub begins : Begins leaf 600 s t (tokens bs) stop []
 
--- No text is one tree: the tokens end too early, or a token doesn't fit where a tree goes on, or
--- one follows a tree.
+-- why the bytes are no one tree: none stands at their front, or a token stands behind it
 pub data NoText (s : Sort) (bs : List ℕ) (e : ExprTextFault) : Type 0 where
-  ends : e ≡ Syntax (length bs) → ((t : Tree s) (n : ℕ) → Begins leaf 600 s t (tokens bs) n [] → ⊥)
-      → Completes leaf s (tokens bs) → NoText s bs e
-  fails : (before : List PlacedToken) (x : PlacedToken) (after : List PlacedToken)
-      → tokens bs ≡ before ++ x ∷ after
-      → ((more : List PlacedToken) (t : Tree s) (n : ℕ)
-      → Begins leaf 600 s t (before ++ x ∷ more) n [] → ⊥) → Completes leaf s before
-      → Misfit leaf 600 s before x e → NoText s bs e
-  follows : (before : List PlacedToken) (x : PlacedToken) (after : List PlacedToken)
-      → tokens bs ≡ before ++ x ∷ after
-      → ((more : List PlacedToken) (t : Tree s) (n : ℕ)
-      → Begins leaf 600 s t (before ++ x ∷ more) n [] → ⊥) → (t : Tree s) (n : ℕ)
-      → Begins leaf 600 s t before n [] → e ≡ Syntax x.0 → NoText s bs e
+  no_tree : Stops leaf (length bs) 600 s (tokens bs) e → NoText s bs e
+  follows : (t : Tree s) (n : ℕ) (x : PlacedToken) (after : List PlacedToken)
+      → Begins leaf 600 s t (tokens bs) n (x ∷ after) → e ≡ Syntax x.0 → NoText s bs e
+
+-- why the bytes are no text of the sort; `Memory` says nothing of them
+abbrev pub IsTextFault : (s : Sort) → List ℕ → ExprTextFault → Type 0
+IsTextFault s bs Memory = ⊤
+IsTextFault s bs TooLong = 1048576 < length bs
+IsTextFault s bs e = (length bs ≤ 1048576) × NoText s bs e
 
 -- the reader of whole texts answers exactly the texts of a tree
 abbrev pub ReadTextLaw : Type 0
@@ -56,10 +52,10 @@ ReadTextLaw = (s : Sort) (bs : List ℕ) (t : Tree s)
 abbrev pub OneTextLaw : Type 0
 OneTextLaw = (s : Sort) (bs : List ℕ) (t u : Tree s) → IsText s bs t → IsText s bs u → t ≡ u
 
--- a fault that is answered, other than for its length, tells why the text is no tree
+-- a fault is answered exactly where it tells why the text is no tree
 abbrev pub TextFaultLaw : Type 0
-TextFaultLaw = (s : Sort) (bs : List ℕ) (e : ExprTextFault) → e ≢ TooLong → read_text s bs ≡ Err e
-    → NoText s bs e
+TextFaultLaw = (s : Sort) (bs : List ℕ) (e : ExprTextFault) → e ≢ Memory
+    → read_text s bs ≡ Err e ↔ IsTextFault s bs e
 
 -- a printed expression is read again before any bytes that do not go on its last word
 abbrev pub PrintedLaw : Type 0

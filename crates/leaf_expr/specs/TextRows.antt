@@ -2,7 +2,7 @@
 use Rattle.std.specs.Prelude.{◌≡◌, ℕ, true, false, List, [], ◌∷◌, Ok, Err, codes, pos, negsuc}
 use Rattle.sample_core.specs.TypeTree.{TypeTree, unit_ty, bool_ty, int_ty, pair_ty, event_ty, list_ty}
 use Rattle.leaf_core.specs.Expression.{Expression, input, param, unit_expr, bool_expr, int_expr, pair_expr, fst, snd, then_expr, neg, add, sub, mul, less, equal, not_expr, and_expr, or_expr, if_expr, no_event_expr, event_expr, on, list_expr, nth, len, no_more, and_then}
-use Rattle.leaf_expr.specs.Token.{opening, word}
+use Rattle.leaf_expr.specs.Token.{opening, word, tokens}
 use Rattle.leaf_expr.specs.Sexpr.{Sexpr, atom}
 use Rattle.leaf_expr.specs.Language.{meaning}
 use Rattle.leaf_expr.specs.Grammar.{leaf, type_sort, expression_sort}
@@ -123,3 +123,4 @@ FaultRows =
     × (read_text type_sort (codes "(List 5)") ≡ Err (Syntax 6))
     × (read leaf 11 1 expression_sort ((0, opening) ∷ (1, word (codes "fst")) ∷ (5, opening) ∷ [])
     ≡ Err (TooDeep 5))
+    × (read leaf 23 1 expression_sort (tokens (codes "(pair (fst (fst x)) 01)")) ≡ Err (TooDeep 6))

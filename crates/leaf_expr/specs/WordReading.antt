@@ -30,10 +30,10 @@ map_reading f (reads x) = reads (f x)
 map_reading f misspelt = misspelt
 map_reading f unfit = unfit
 
--- a number as that of a parameter: from 0 to 65,535
-abbrev pub index : ℤ → Option ℕ
-index (pos k) = if nat_le k 65535 then Some k else None
-index (negsuc k) = None
+-- a number as a natural number from low to high
+abbrev pub natural : ℕ → ℕ → ℤ → Option ℕ
+natural low high (pos k) = if nat_le low k && nat_le k high then Some k else None
+natural low high (negsuc k) = None
 
 -- a number word that is read is the one spelling of its number, and each number in range is read
 -- from it

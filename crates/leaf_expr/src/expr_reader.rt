@@ -5,39 +5,27 @@ ghost use Rattle.sample_core.specs.TypeView.{type_of};
 ghost use Rattle.sample_core.specs.TypeTree.{TypeTree};
 ghost use Rattle.leaf_core.specs.Expression.{Expression};
 ghost use Rattle.leaf_expr.specs.Form.{form_row, unary_row, binary_row, ternary_row, typed_row};
-ghost use Rattle.leaf_expr.specs.Grammar.{leaf, expression_sort, index_sort, type_sort};
+ghost use Rattle.leaf_expr.specs.Grammar.{leaf, expression_sort, type_sort};
 ghost use Rattle.leaf_expr.specs.Language.{Begins};
-ghost use Rattle.leaf_expr.specs.ReadText.{Gives, tree_at, word_tree, form_at, row_parts, last_two_at, none_at, expression_left, type_left, items_at, items_left, IsFault, IsTextFault};
+ghost use Rattle.leaf_expr.specs.ReadText.{Gives, tree_at, word_tree, form_at, row_parts, last_two_at, none_at, expression_left, type_left, items_at, items_left, IsFault};
 ghost use Rattle.leaf_core.specs.ExpressionView.{expression_of};
-ghost use Rattle.leaf_expr.specs.Text.{read_text, whole, IsText};
+ghost use Rattle.leaf_expr.specs.Text.{read_text, whole, IsText, IsTextFault};
 ghost use Rattle.leaf_expr.specs.Token.{PlacedToken, tokens_from};
 ghost use Rattle.leaf_expr.specs.declared.text_fault.ExprTextFault.TheVariants as Fault;
 
 use crate::form::{Binary, Form, Ternary, Typed, Unary, form_named};
+use crate::number_reader::read_index;
 use crate::text_fault::ExprTextFault;
 use crate::token::token_at;
 use crate::tree_front::{Front, closing_at, form_end, form_head, front_at};
 use crate::type_reader::{MAX_OPEN, read_type};
-use crate::word::{WordFault, expr_word, index_word};
+use crate::word::{WordFault, expr_word};
 use leaf_core::{Expr, ExprChild, Exprs};
 use sample_core::Ty;
 use std::alloc::Global;
 
 /// The most bytes that a text may have.
 pub const MAX_LENGTH: usize = 1_048_576;
-
-/// The number of a parameter, at or after byte `at`, and the byte behind it.
-fn read_index(text: &[u8], at: usize, room: usize) -> Result<(u32, usize), ExprTextFault>
-    ensures { Gives (λ x. (x.0, x.1, tokens_from x.1 text.now)) result
-        (tree_at index_sort text.now room at) }
-{
-    let (start, end) = form_head(text, at, room)?;
-    match index_word(&text[start..end]) {
-        Ok(k) => Ok((k, end)),
-        Err(WordFault::Misspelt) => Err(ExprTextFault::Number { at: start }),
-        Err(WordFault::Unfit) => Err(ExprTextFault::Syntax { at: start }),
-    }
-}
 
 /// The expression at or after byte `at`, with room for so many more parentheses, and the byte
 /// behind it.
@@ -302,8 +290,8 @@ fn items(
     }
 }
 
-/// What `read_type_at` answers. It stands apart, since the other clauses of that contract follow
-/// from its exact one.
+/// What `read_type_at` answers. It stands apart, since the clauses of that contract follow from its
+/// own.
 fn type_at(
     alloc: Global,
     text: &[u8],
@@ -315,8 +303,8 @@ fn type_at(
     read_type(alloc, text, at, MAX_OPEN.saturating_sub(depth))
 }
 
-/// What `read_expr_at` answers. It stands apart, since the other clauses of that contract follow
-/// from its exact one.
+/// What `read_expr_at` answers. It stands apart, since the clauses of that contract follow from its
+/// own.
 fn expr_at(
     alloc: Global,
     text: &[u8],
@@ -343,8 +331,8 @@ fn only_expr(alloc: Global, text: &[u8]) -> Result<Expr, ExprTextFault>
     }
 }
 
-/// What `read_expr` answers. It stands apart, since the other clauses of that contract follow from
-/// these.
+/// What `read_expr` answers. It stands apart, since the clauses of that contract follow from its
+/// own.
 fn whole_expr(alloc: Global, text: &[u8]) -> Result<Expr, ExprTextFault>
     ensures long { 1048576 < length text.now → result ≡ Err Fault.TooLong }
     ensures exact { Gives expression_of result (read_text expression_sort text.now) }
@@ -379,9 +367,6 @@ pub fn read_type_at(
         → Gives (type_left text.now) result (Ok (t, n, rest)) }
     // What is refused is so at the first token that doesn't fit.
     ensures refused { IfErr result (IsFault type_sort text.now (600 - depth) at) }
-    // Which answer it is.
-    ensures exact { Gives (type_left text.now) result
-        (tree_at type_sort text.now (600 - depth) at) }
 {
     type_at(alloc, text, at, depth)
 }
@@ -412,9 +397,6 @@ pub fn read_expr_at(
         → Gives (expression_left text.now) result (Ok (t, n, rest)) }
     // What is refused is so at the first token that doesn't fit.
     ensures refused { IfErr result (IsFault expression_sort text.now (600 - depth) at) }
-    // Which answer it is.
-    ensures exact { Gives (expression_left text.now) result
-        (tree_at expression_sort text.now (600 - depth) at) }
 {
     expr_at(alloc, text, at, depth)
 }
@@ -438,8 +420,6 @@ pub fn read_expr(alloc: Global, text: &[u8]) -> Result<Expr, ExprTextFault>
     ensures long { 1048576 < length text.now → result ≡ Err Fault.TooLong }
     // What is refused is so at the first token that doesn't fit, or for its length.
     ensures refused { IfErr result (IsTextFault expression_sort text.now) }
-    // Which answer it is.
-    ensures exact { Gives expression_of result (read_text expression_sort text.now) }
 {
     whole_expr(alloc, text)
 }

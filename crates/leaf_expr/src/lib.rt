@@ -4,6 +4,7 @@
 
 mod expr_reader;
 mod form;
+mod number_reader;
 mod print;
 mod text_fault;
 mod text_laws;
@@ -17,11 +18,12 @@ pub use leaf_core::{
     Expr, ExprChild, ExprFault, Exprs, LeafKey, Literal, Shape, eval, expr_fits, same_expr,
     shape_laws, shape_of, type_fits, type_of_expr, typing_laws,
 };
+pub use number_reader::{read_index, read_natural};
 pub use print::{print_expr, push_expr};
 pub use text_fault::ExprTextFault;
 pub use text_laws::{
     grammar_rows, number_laws, printing_laws, reading_laws, sugar_laws, whole_text_laws,
 };
 pub use token::{Lexeme, lexeme_at, token_at};
-pub use tree_front::{Front, form_end, form_head, front_at};
+pub use tree_front::{Front, closing_at, form_end, form_head, front_at};
 pub use type_reader::MAX_OPEN;

@@ -2,18 +2,19 @@
 
 ghost use Rattle.leaf_expr.specs.Grammar.{leaf};
 ghost use Rattle.leaf_expr.specs.WordReading.{NumberLaw, NaturalLaw};
-ghost use Rattle.leaf_expr.specs.ReadLaws.{FoundLaw, OnlyLaw, OneReadingLaw, FaultLaw};
+ghost use Rattle.leaf_expr.specs.ReadLaws.{FoundLaw, OnlyLaw, OneReadingLaw, FaultLaw, OneFaultLaw};
 ghost use Rattle.leaf_expr.specs.Text.{ReadTextLaw, OneTextLaw, TextFaultLaw, PrintedLaw, PrintedTypeLaw, PrintedTextLaw};
 ghost use Rattle.leaf_expr.specs.TextRows.{TypeRows, WordRows, UnaryRows, BinaryRows, LongRows, MergeIs, GateIs, TagIs, AttachIs, FaultRows};
 
 /// Reading at the front of tokens: what is read is in the grammar, what is in the grammar is read
-/// whatever follows, there is one reading, and a fault is the first token that doesn't fit, by its
-/// place and kind.
+/// whatever follows, there is one reading, a fault is answered exactly where it is the first token
+/// that doesn't fit, by its place and kind, and there is one fault.
 pub fn reading_laws()
     ensures found { FoundLaw leaf }
     ensures only { OnlyLaw leaf }
     ensures one { OneReadingLaw leaf }
     ensures fault { FaultLaw leaf }
+    ensures one_fault { OneFaultLaw leaf }
 {}
 
 /// Reading a whole text: the same, with nothing behind the tree.

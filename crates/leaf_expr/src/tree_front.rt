@@ -72,8 +72,8 @@ pub fn form_end(text: &[u8], at: usize, room: usize) -> Result<usize, ExprTextFa
     }
 }
 
-/// The byte behind the `)` that is the next token, where it is one.
-pub(crate) fn closing_at(text: &[u8], at: usize) -> Option<usize>
+/// The byte behind the `)` that is the first token at or after byte `at`, where it is one.
+pub fn closing_at(text: &[u8], at: usize) -> Option<usize>
     ensures token { MatchOption result (begins_closing (tokens_from at text.now) ≡ false)
         (λ end. tokens_from at text.now ≡ (end - 1, closing) ∷ tokens_from end text.now) }
     ensures behind { IfSome result (λ end. 0 < end) }

@@ -1,18 +1,15 @@
-// Words that are a type, an expression or a parameter's number by themselves.
+// Words that are a type, an expression or a number by themselves.
 
-ghost use Rattle.std.specs.Prelude.{◌≡◌, option_map};
+ghost use Rattle.std.specs.Prelude.{◌≡◌, ◌<◌, ◌≤◌, ◌^◌, IfSome, IfOk, option_map};
 ghost use Rattle.sample_core.specs.TypeView.{type_of};
-ghost use Rattle.leaf_expr.specs.Grammar.{word_at, type_sort, expression_sort, index_sort};
-ghost use Rattle.leaf_expr.specs.WordReading.{integer_at, index};
+ghost use Rattle.leaf_expr.specs.Grammar.{word_at, type_sort, expression_sort};
+ghost use Rattle.leaf_expr.specs.WordReading.{integer_at, natural, natural_at};
 ghost use Rattle.leaf_expr.specs.ReadText.{fit, word_reading};
 ghost use Rattle.leaf_core.specs.ExpressionView.{expression_of};
 
 use leaf_core::{Expr, Literal};
 use sample_core::number::{is_number_spelling, is_number_word, number};
 use sample_core::{Ty, word_is};
-
-/// The greatest number that a parameter is called by in a text.
-const MAX_INDEX: i64 = 65_535;
 
 /// Why a word doesn't fit where a number may stand.
 #[derive(Clone, Copy)]
@@ -56,24 +53,27 @@ fn integer_word(word: &[u8]) -> Result<i64, WordFault>
     }
 }
 
-/// The number as a parameter's, where it is in their range.
-fn index_of(n: i64) -> Option<u32>
-    ensures { result ≡ index n }
+/// The number as a natural number from `low` to `high`, where it is one.
+fn natural_of(n: i64, low: u64, high: u64) -> Option<u64>
+    ensures number { result ≡ natural low high n }
+    ensures within { IfSome result (λ k. (low ≤ k) × (k ≤ high)) }
 {
-    if n < 0 || n > MAX_INDEX {
+    if n < 0 || (n as u64) < low || n as u64 > high {
         None
     } else {
-        Some(n as u32)
+        Some(n as u64)
     }
 }
 
-/// The parameter's number that the word is.
-#[tactic(auto, using(crate::proofs::IndexSteps::index_refused, crate::proofs::IndexSteps::index_found, crate::proofs::IndexSteps::index_wild))]
-pub(crate) fn index_word(word: &[u8]) -> Result<u32, WordFault>
-    ensures { word_reading (λ k. k) result ≡ word_at index_sort word.now }
+/// The natural number from `low` to `high` that the word is.
+#[tactic(auto, using(crate::proofs::NaturalSteps::natural_refused, crate::proofs::NaturalSteps::natural_found, crate::proofs::NaturalSteps::natural_wild))]
+pub(crate) fn natural_word(word: &[u8], low: u64, high: u64) -> Result<u64, WordFault>
+    requires { high < 2 ^ 63 }
+    ensures number { word_reading (λ k. k) result ≡ natural_at low high word.now }
+    ensures within { IfOk result (λ k. (low ≤ k) × (k ≤ high)) }
 {
     let n = integer_word(word)?;
-    match index_of(n) {
+    match natural_of(n, low, high) {
         Some(k) => Ok(k),
         None => Err(WordFault::Misspelt),
     }

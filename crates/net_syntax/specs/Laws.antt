@@ -1,5 +1,5 @@
 -- Laws of every network in every environment.
-use Rattle.std.specs.Prelude.{◌≡◌, ℕ, List, length, take}
+use Rattle.std.specs.Prelude.{◌≡◌, ℕ, List, [], Some, All, length, take}
 use Rattle.sample_core.specs.TypeTree.{TypeTree}
 use Rattle.leaf_core.specs.Expression.{Expression}
 use Rattle.leaf_core.specs.ExpressionValue.{value_of}
@@ -7,9 +7,10 @@ use Rattle.net_syntax.specs.SignalFunction.{TimedList, retime}
 use Rattle.net_syntax.specs.Network.{Network}
 use Rattle.net_syntax.specs.Environment.{Environment}
 use Rattle.net_syntax.specs.Typing.{Arrow, TypedValues, TypedSamples}
-use Rattle.net_syntax.specs.TypedNetwork.{outputs_of, NetTyped}
+use Rattle.net_syntax.specs.TypedNetwork.{TypedNetwork, outputs_of, NetTyped}
 use Rattle.net_syntax.specs.NetworkLimits.{NetTypedWithin}
-use Rattle.net_syntax.specs.Leaves.{leaves_by}
+use Rattle.net_syntax.specs.Leaves.{Need, LeavesOf, leaves_by}
+use Rattle.net_syntax.specs.Place.{a_leaf, a_network, at}
 use Rattle.net_syntax.specs.Sameness.{SameNet}
 use Rattle.net_syntax.specs.AlikeEnvironments.{EnvironmentTyped, SameOutputs}
 
@@ -61,3 +62,8 @@ OneListLaw =
 abbrev pub WithinLaw : Type 0
 WithinLaw = (Ps : List TypeTree) (Os : List Arrow) (net : Network Expression) (A B : TypeTree)
     → NetTypedWithin Ps Os net A B → NetTyped Ps Os net A B
+
+-- each expression that is listed of a network stands at its position
+abbrev pub PositionLaw : Type 0
+PositionLaw = (t : TypedNetwork) (ns : List Need) → LeavesOf t ns
+    → All (λ n. at (a_network t.net) n.position ≡ Some (a_leaf n.key.expr, [])) ns

@@ -112,11 +112,7 @@ fn copied_accum(alloc: Global, g: &Expr, z: &Expr) -> Result<Net<Expr>, Memory>
 }
 
 /// A copy of a form of two networks.
-fn copied_pair(
-    form: PairForm,
-    f: &NetChild<Expr>,
-    g: &NetChild<Expr>,
-) -> Result<Net<Expr>, Memory>
+fn copied_pair(form: PairForm, f: &NetChild<Expr>, g: &NetChild<Expr>) -> Result<Net<Expr>, Memory>
     ensures { IfOk result (λ n. n ≡ pair_form_of form f.now g.now) }
 {
     let f = f.try_copy()?;

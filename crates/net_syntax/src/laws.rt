@@ -9,6 +9,7 @@ ghost use Rattle.net_syntax.specs.Laws.{
   SameLaw,
   OneTypeLaw,
   OneListLaw,
+  PositionLaw,
   WithinLaw,
 };
 ghost use Rattle.net_syntax.specs.SwitchLaws.{
@@ -57,13 +58,14 @@ pub fn stream_laws()
 {}
 
 /// A typed network outputs typed values, the same ones in alike environments, and it has one
-/// output type and one list of expressions.
+/// output type and one list of expressions, each of which stands at its position.
 pub fn typing_laws()
     ensures typed { TypedOutputsLaw }
     ensures alike { AlikeLaw }
     ensures same { SameLaw }
     ensures one_type { OneTypeLaw }
     ensures one_list { OneListLaw }
+    ensures positions { PositionLaw }
     ensures within { WithinLaw }
 {}
 

@@ -5,7 +5,8 @@ use Rattle.leaf_expr.specs.Token.{opening, closing, word, PlacedToken}
 use Rattle.leaf_expr.specs.Sexpr.{Sexpr, Sexprs, atom, form, last, more}
 use Rattle.leaf_expr.specs.Language.{Places, Maker, Row, no_place, place, places, meaning, make_tree}
 use Rattle.leaf_expr.specs.Grammar.{leaf, Sort, Tree, row_at, has_form}
-use Rattle.leaf_expr.specs.TreeReader.{Read, read, read_form, read_head, read_row, read_parts, read_all, read_end}
+use Rattle.leaf_expr.specs.TreeReader.{Read, read, read_form, read_head, read_row, read_parts, read_all}
+use Rattle.leaf_expr.proofs.PartSteps.{end_same, head_same}
 use Rattle.net_text.specs.Grammar.{networks, NetSort, NetTree, leaf_sort, leaf_places, leaf_maker, leaf_row, net_word_at, net_row_at}
 use Rattle.sample_core.specs.Answer.{◌>>=◌}
 use Rattle.leaf_expr.specs.declared.text_fault.ExprTextFault.{ExprTextFault}
@@ -16,18 +17,6 @@ bind_same (Ok x) g h same = same x
 bind_same (Err e) g h same = refl
 
 module _ (size : ℕ) where
-  pub end_same : (room : ℕ) (ts : List PlacedToken) → read_end networks size room ts ≡ read_end leaf size room ts
-  end_same room [] = refl
-  end_same room ((n, opening) ∷ ts) = refl
-  end_same room ((n, closing) ∷ ts) = refl
-  end_same room ((n, word w) ∷ ts) = refl
-
-  pub head_same : (room : ℕ) (ts : List PlacedToken) → read_head networks size room ts ≡ read_head leaf size room ts
-  head_same room [] = refl
-  head_same room ((n, opening) ∷ ts) = refl
-  head_same room ((n, closing) ∷ ts) = refl
-  head_same room ((n, word w) ∷ ts) = refl
-
   all_same : {T R : Type 0} (g h : List PlacedToken → Read T) → ((ts : List PlacedToken) → g ts ≡ h ts) → (n : ℕ) (make : List T → R) (ts : List PlacedToken)
       → read_all networks size g n make ts ≡ read_all leaf size h n make ts
   all_same g h same zero make ts = refl
@@ -42,7 +31,7 @@ module _ (size : ℕ) where
       → Read (Tree s)) (same : (s : Sort) (ts : List PlacedToken) → g (leaf_sort s) ts ≡ h s ts) (room : ℕ) where
     parts_same : (R : Type 0) (qs : Places Sort) (make : Maker Tree qs R) (ts : List PlacedToken)
         → read_parts networks size g room (leaf_places qs) (leaf_maker R qs make) ts ≡ read_parts leaf size h room qs make ts
-    parts_same R no_place x ts = ap (λ r. r >>= (λ y. Ok (x, y.0, y.1))) (end_same room ts)
+    parts_same R no_place x ts = ap (λ r. r >>= (λ y. Ok (x, y.0, y.1))) (end_same networks size room ts)
     parts_same R (place s qs) make ts = ap (λ r. r >>= (λ x. read_parts networks size g room (leaf_places qs) (leaf_maker R qs (make x.0)) x.2)) (same s ts)
         ∙ bind_same (h s ts) _ _ (λ x. parts_same R qs (make x.0) x.2)
     parts_same R (places s) make ts = all_same (g (leaf_sort s)) (h s) (same s) (length ts) make ts
@@ -54,7 +43,7 @@ module _ (size : ℕ) where
 
     form_same : (s : Sort) (ts : List PlacedToken) → read_form networks size g room (leaf_sort s) ts ≡ read_form leaf size h room s ts
     unfolding net_row_at
-    form_same s ts = ap (λ r. r >>= (λ k. read_row networks size g room k.0 (net_row_at (leaf_sort s) k.1) k.2)) (head_same room ts)
+    form_same s ts = ap (λ r. r >>= (λ k. read_row networks size g room k.0 (net_row_at (leaf_sort s) k.1) k.2)) (head_same networks size room ts)
         ∙ bind_same (read_head leaf size room ts) _ _ (λ k. row_same k.0 (row_at s k.1) k.2)
 
   pub read_same : (room : ℕ) (s : Sort) (ts : List PlacedToken) → read networks size room (leaf_sort s) ts ≡ read leaf size room s ts

@@ -1,7 +1,7 @@
 -- The reader of network files answers exactly the files, and why bytes are none.
 use Rattle.std.proofs.Common.{◌≡◌, ◌≢◌, ℕ, ◌≤◌, ◌<◌, Bool, true, false, if◌then◌else◌, nat_lt, List, [], ◌∷◌, length, refl, sym, ap, ◌∙◌, subst, Option, Some, None, Result, Ok, Err, IfOk}
 use Rattle.std.specs.Prelude.{codes, bytes_eq, option_and_then, IfErr}
-use Rattle.std.proofs.lemmas.Bool.{ltb-false, ltb-true, le-ltb}
+use Rattle.std.proofs.lemmas.Bool.{ltb-false, ltb-true, le-ltb, lt-ltb}
 use Rattle.std.proofs.lemmas.Slice.Eq.{bytes_eq-Decides}
 use Rattle.sample_core.specs.TypeTree.{TypeTree}
 use Rattle.sample_core.specs.TypeView.{type_of}
@@ -15,13 +15,14 @@ use Rattle.leaf_expr.specs.TreeReader.{read}
 use Rattle.leaf_expr.proofs.ReadFound.{found, bind_ok}
 use Rattle.leaf_expr.proofs.ReadOnly.{only, some_bind}
 use Rattle.leaf_expr.proofs.ReadFaults.{stops, stops_not_long}
+use Rattle.leaf_expr.proofs.OneFault.{refuses}
 use Rattle.leaf_expr.proofs.LeafProper.{leaf_proper}
 use Rattle.net_syntax.specs.Network.{Network}
 use Rattle.net_syntax.specs.NetworkView.{tree_of}
 use Rattle.net_syntax.specs.declared.net.Net.{Net}
 use Rattle.net_text.specs.Grammar.{networks, network_sort}
 use Rattle.net_text.specs.File.{in_file, behind_word, behind_header, at_end, read_network, read_body, body_fault, read_behind, read_file}
-use Rattle.net_text.specs.FileLaws.{header_tokens, HasHeader, IsFile, NoFile, no_type, no_network, follows, IsFileFault, ReadFileLaw, OneFileLaw}
+use Rattle.net_text.specs.FileLaws.{header_tokens, HasHeader, IsFile, NoFile, no_type, no_network, follows, IsFileFault, ReadFileLaw, OneFileLaw, FileFaultLaw}
 use Rattle.net_text.specs.ReadNet.{GivesFile}
 use Rattle.net_text.specs.declared.fault.NetTextFault.{NetTextFault}
 use Rattle.net_text.specs.declared.fault.NetTextFault.TheVariants as V
@@ -114,17 +115,23 @@ header_behind : (bs : List ℕ) (ts : List PlacedToken) → HasHeader bs ts → 
 header_behind bs ts h = ap behind_header h.starts
 
 module _ (bs : List ℕ) where
+  -- what is read of bytes with a header, where they are no more than files have
+  past_header : (ts : List PlacedToken) → length bs ≤ 1048576 → HasHeader bs ts → read_file bs ≡ body_fault (read_body (length bs) ts)
+  past_header ts l h =
+      ap (λ c. if c then Err V.TooLong else read_behind (length bs) (behind_header (tokens bs))) (le-ltb 1048576 (length bs) l)
+      ∙ ap (read_behind (length bs)) (header_behind bs ts h)
+
+  -- a type that stands behind the header is read
+  read_type : (ts : List PlacedToken) (A : TypeTree) (n : ℕ) (us : List PlacedToken) → Begins leaf 600 type_sort A ts n us
+      → read leaf (length bs) 600 type_sort ts ≡ Ok (A, n, us)
+  read_type ts A n us b = only leaf leaf_proper (length bs) 600 type_sort b.part ts n us A b.spells b.means b.within
+
   pub file_read : (A : TypeTree) (f : Network Expression) → IsFile bs A f → read_file bs ≡ Ok (A, f)
   file_read A f h =
-      let b : Begins leaf 600 type_sort A h.behind h.type_end h.network = h.input in
       let c : Begins networks 600 network_sort f h.network h.network_end [] = h.body in
-      let p : read leaf (length bs) 600 type_sort h.behind ≡ Ok (A, h.type_end, h.network) =
-      only leaf leaf_proper (length bs) 600 type_sort b.part h.behind h.type_end h.network A b.spells b.means b.within in
       let q : read networks (length bs) 600 network_sort h.network ≡ Ok (f, h.network_end, []) =
       only networks networks_proper (length bs) 600 network_sort c.part h.network h.network_end [] f c.spells c.means c.within in
-      ap (λ l. if l then Err V.TooLong else read_behind (length bs) (behind_header (tokens bs))) (le-ltb 1048576 (length bs) h.short)
-      ∙ ap (read_behind (length bs)) (header_behind bs h.behind h.headed)
-      ∙ ap (λ r. body_fault (r >>= read_network (length bs))) p
+      past_header h.behind h.short h.headed ∙ ap (λ r. body_fault (r >>= read_network (length bs))) (read_type h.behind A h.type_end h.network h.input)
       ∙ ap (λ r. body_fault (r >>= (λ g. at_end (A, g.0) g.2))) q
 
   body_found : (ts : List PlacedToken) → HasHeader bs ts → length bs ≤ 1048576 → (A : TypeTree) (f : Network Expression) → read_body (length bs) ts ≡ Ok (A, f)
@@ -224,6 +231,40 @@ module _ (bs : List ℕ) where
       go true q e = ltb-true 1048576 (length bs) q
       go false q e = absurd (not_long (behind_refused E.TooLong (λ r. cc) e))
 
+  pub file_fault : (e : NetTextFault) → e ≢ V.Memory → read_file bs ≡ Err e → IsFileFault bs e
+  file_fault V.Header d p = headless p
+  file_fault (V.Syntax n) d p = file_refused (E.Syntax n) (λ q. cc) p
+  file_fault (V.Number n) d p = file_refused (E.Number n) (λ q. cc) p
+  file_fault (V.TooDeep n) d p = file_refused (E.TooDeep n) (λ q. cc) p
+  file_fault V.TooLong d p = longer p
+  file_fault V.Memory d p = absurd (d refl)
+
+  -- where no file is, the fault is answered
+  refuses_body : (e : ExprTextFault) → length bs ≤ 1048576 → NoFile bs e → read_file bs ≡ Err (in_file e)
+  refuses_body e l (no_type ts h s) =
+      past_header ts l h ∙ ap (λ r. body_fault (r >>= read_network (length bs))) (refuses leaf leaf_proper (length bs) 600 type_sort ts e s)
+  refuses_body e l (no_network ts h A n us a s) =
+      past_header ts l h ∙ ap (λ r. body_fault (r >>= read_network (length bs))) (read_type ts A n us a)
+      ∙ ap (λ r. body_fault (r >>= (λ g. at_end (A, g.0) g.2))) (refuses networks networks_proper (length bs) 600 network_sort us e s)
+  refuses_body e l (follows ts h A n us a f m x after b q) =
+      past_header ts l h ∙ ap (λ r. body_fault (r >>= read_network (length bs))) (read_type ts A n us a)
+      ∙ ap (λ r. body_fault (r >>= (λ g. at_end (A, g.0) g.2)))
+      (only networks networks_proper (length bs) 600 network_sort b.part us m (x ∷ after) f b.spells b.means b.within) ∙ ap (λ d. Err (in_file d)) (sym q)
+
+  refuses_file : (e : NetTextFault) → e ≢ V.Memory → IsFileFault bs e → read_file bs ≡ Err e
+  refuses_file V.Header d h =
+      ap (λ c. if c then Err V.TooLong else read_behind (length bs) (behind_header (tokens bs))) (le-ltb 1048576 (length bs) h.0)
+      ∙ go (behind_header (tokens bs)) refl
+    where
+      go : (o : Option (List PlacedToken)) → behind_header (tokens bs) ≡ o → read_behind (length bs) (behind_header (tokens bs)) ≡ Err V.Header
+      go None p = ap (read_behind (length bs)) p
+      go (Some ts) p = absurd (h.1 ts (headed_by ts p))
+  refuses_file (V.Syntax n) d h = refuses_body (E.Syntax n) h.0 h.1
+  refuses_file (V.Number n) d h = refuses_body (E.Number n) h.0 h.1
+  refuses_file (V.TooDeep n) d h = refuses_body (E.TooDeep n) h.0 h.1
+  refuses_file V.TooLong d h = ap (λ c. if c then Err V.TooLong else read_behind (length bs) (behind_header (tokens bs))) (lt-ltb 1048576 (length bs) h)
+  refuses_file V.Memory d h = absurd (d refl)
+
   -- what the call returned, said by the grammar alone
   pub net_found : (r : Result (Ty × Net Expr) NetTextFault) → GivesFile r (read_file bs) → IfOk r (λ x. IsFile bs (type_of x.0) (tree_of x.1))
   net_found (Ok x) h = file_found (type_of x.0) (tree_of x.1) h
@@ -235,15 +276,18 @@ module _ (bs : List ℕ) where
 
   pub net_refused : (r : Result (Ty × Net Expr) NetTextFault) → GivesFile r (read_file bs) → IfErr r (IsFileFault bs)
   net_refused (Ok x) h = tt
-  net_refused (Err V.Header) h = headless (h (λ q. cc))
-  net_refused (Err (V.Syntax n)) h = file_refused (E.Syntax n) (λ q. cc) (h (λ q. cc))
-  net_refused (Err (V.Number n)) h = file_refused (E.Number n) (λ q. cc) (h (λ q. cc))
-  net_refused (Err (V.TooDeep n)) h = file_refused (E.TooDeep n) (λ q. cc) (h (λ q. cc))
-  net_refused (Err V.TooLong) h = longer (h (λ q. cc))
+  net_refused (Err V.Header) h = file_fault V.Header (λ q. cc) (h (λ q. cc))
+  net_refused (Err (V.Syntax n)) h = file_fault (V.Syntax n) (λ q. cc) (h (λ q. cc))
+  net_refused (Err (V.Number n)) h = file_fault (V.Number n) (λ q. cc) (h (λ q. cc))
+  net_refused (Err (V.TooDeep n)) h = file_fault (V.TooDeep n) (λ q. cc) (h (λ q. cc))
+  net_refused (Err V.TooLong) h = file_fault V.TooLong (λ q. cc) (h (λ q. cc))
   net_refused (Err V.Memory) h = tt
 
 pub read_file_law : ReadFileLaw
 read_file_law bs A f = (file_found bs A f, file_read bs A f)
+
+pub file_fault_law : FileFaultLaw
+file_fault_law bs e d = (file_fault bs e d, refuses_file bs e d)
 
 pub one_file : OneFileLaw
 one_file bs A B f g h i = let p : (A, f) ≡ (B, g) = file_is (sym (file_read bs A f h) ∙ file_read bs B g i) in (ap (λ x. x.0) p, ap (λ x. x.1) p)

@@ -4,4 +4,5 @@ pub mod NetProper
 pub mod FileRead
 pub mod NetRows
 pub mod PrintedFile
-pub mod Joined
+pub mod PrintSteps
+pub mod Forms

@@ -1,61 +1,102 @@
 -- The language of networks is proper.
-use Rattle.std.proofs.Common.{◌≡◌, ℕ, Bool, true, false, ◌&&◌, List, [], ◌∷◌, refl, ap, ◌∙◌, None, if◌then◌else◌}
-use Rattle.std.specs.Prelude.{codes, bytes_eq, option_map}
+use Rattle.std.proofs.Common.{◌≡◌, ℕ, true, false, ◌&&◌, List, [], ◌∷◌, refl, ap, ◌∙◌, None}
+use Rattle.std.specs.Prelude.{codes, option_map}
 use Rattle.sample_core.specs.Number.{is_number_word}
-use Rattle.leaf_expr.specs.WordReading.{reads, misspelt, unfit}
+use Rattle.leaf_expr.specs.WordReading.{reads, misspelt, unfit, natural_at}
 use Rattle.leaf_expr.specs.Token.{opening, closing, word, PlacedToken}
-use Rattle.leaf_expr.specs.Sexpr.{atom, form, last, more, atom_spells, form_spells, last_spells, more_spells}
-use Rattle.leaf_core.specs.Expression.{input}
-use Rattle.leaf_expr.specs.Grammar.{leaf, Sort, word_at, words}
+use Rattle.leaf_expr.specs.Sexpr.{atom, form, last, atom_spells, form_spells, last_spells}
+use Rattle.leaf_expr.specs.Language.{read_word}
+use Rattle.leaf_expr.specs.Grammar.{leaf, Sort}
 use Rattle.leaf_expr.specs.ReadLaws.{Completes}
 use Rattle.leaf_expr.proofs.Proper.{Proper}
-use Rattle.leaf_expr.proofs.LeafProper.{leaf_proper}
-use Rattle.net_syntax.specs.Network.{arr}
-use Rattle.net_text.specs.Grammar.{networks, NetSort, leaf_sort, network_sort, net_words, net_word_at, net_rows, net_row_at, net_has_form, net_takes_number, leaf_row}
+use Rattle.leaf_expr.proofs.LeafProper.{leaf_proper, among_unread, chosen_misspelt, chosen_unfit}
+use Rattle.net_syntax.specs.Network.{par, time, no_members}
+use Rattle.net_text.specs.Grammar.{networks, NetSort, leaf_sort, network_sort, members_sort, time_sort, Timer, delay_timer, after_timer, repeatedly_timer, least, greatest, net_words, net_word_at, net_rows, net_row_at, col_rows, net_has_form, net_takes_number, leaf_row}
 use Rattle.net_text.proofs.Carried.{meaning_same}
 
 formless : (s : NetSort) (w : List ℕ) → net_has_form s ≡ false → net_row_at s w ≡ None
 unfolding net_row_at
 formless (leaf_sort s) w h = ap (option_map leaf_row) (leaf_proper.formless s w h)
 formless network_sort w h = absurd (cc)
-
-not_misspelt : {T : Type 0} (b : Bool) (x : T) → (if b then reads x else unfit) ≡ misspelt → ⊥
-not_misspelt true x e = cc
-not_misspelt false x e = cc
+formless members_sort w h = absurd (cc)
+formless (time_sort g) w h = refl
 
 spoilt : (s : NetSort) (w : List ℕ) → net_word_at s w ≡ misspelt → (net_takes_number s && is_number_word w) ≡ true
-unfolding net_word_at net_words
+unfolding net_word_at
 spoilt (leaf_sort s) w e = leaf_proper.spoilt s w e
-spoilt network_sort w e = absurd (not_misspelt (bytes_eq w (codes "identity")) (arr input) e)
+spoilt network_sort w e = absurd (let i : unfit ≡ misspelt = among_unread w net_words unfit misspelt (λ x q. cc) e in cc)
+spoilt members_sort w e = absurd (cc)
+spoilt (time_sort g) w e = chosen_misspelt (is_number_word w) _ _ e
 
 foreign : (s : NetSort) (w : List ℕ) → net_word_at s w ≡ unfit → (net_takes_number s && is_number_word w) ≡ false
 unfolding net_word_at
 foreign (leaf_sort s) w e = leaf_proper.foreign s w e
 foreign network_sort w e = refl
+foreign members_sort w e = refl
+foreign (time_sort g) w e = chosen_unfit (is_number_word w) _ _ e
 
 carry : (s : Sort) (us : List PlacedToken) → Completes leaf s us → Completes networks (leaf_sort s) us
-carry s us c = record { end = c.end; stop = c.stop; part = c.part; tree = c.tree; spells = c.spells; means = meaning_same s c.part ∙ c.means }
+carry s us c =
+    record { end = c.end; stop = c.stop; part = c.part; tree = c.tree; spells = c.spells; means = meaning_same s c.part ∙ c.means }
+
+-- each form takes the time 1
+one_fits : (g : Timer) → natural_at (least g) (greatest g) (codes "1") ≡ reads 1
+one_fits delay_timer = refl
+one_fits after_timer = refl
+one_fits repeatedly_timer = refl
 
 filler : (s : NetSort) → Completes networks s []
-unfolding net_word_at net_words
+unfolding net_word_at net_words net_row_at col_rows
 filler (leaf_sort s) = carry s [] (leaf_proper.filler s)
-filler network_sort =
-    record { end = (0, word (codes "identity")) ∷ []; stop = 8; part = atom (codes "identity"); tree = arr input; spells = λ ts. atom_spells; means = refl }
+filler network_sort = record { end = (0, word (codes "time")) ∷ []; stop = 4; part = atom (codes "time"); tree = time; spells = λ ts. atom_spells; means = refl }
+filler members_sort =
+    record {
+      end = (0, opening) ∷ (0, word (codes "col")) ∷ (0, closing)
+          ∷ [];
+      stop = 1;
+      part = form (codes "col") last;
+      tree = no_members;
+      spells = λ ts.
+          form_spells last_spells;
+      means = refl;
+    }
+filler (time_sort g) =
+    record {
+      end = (0, word (codes "1")) ∷ [];
+      stop = 1;
+      part = atom (codes "1");
+      tree = 1;
+      spells = λ ts.
+          atom_spells;
+      means = ap read_word (one_fits g);
+    }
 
 opener : (s : NetSort) (n : ℕ) → net_has_form s ≡ true → Completes networks s ((n, opening) ∷ [])
-unfolding net_word_at net_row_at net_rows word_at words
+unfolding net_word_at net_words net_row_at net_rows col_rows
 opener (leaf_sort s) n h = carry s ((n, opening) ∷ []) (leaf_proper.opener s n h)
 opener network_sort n h =
     record {
-      end = (0, word (codes "arr")) ∷ (0, word (codes "x")) ∷ (0, closing)
+      end = (0, word (codes "parB")) ∷ (0, closing)
           ∷ [];
       stop = 1;
-      part = form (codes "arr") (more (atom (codes "x")) last);
-      tree = arr input;
+      part = form (codes "parB") last;
+      tree = par no_members;
       spells = λ ts.
-          form_spells (more_spells {n = 1} atom_spells last_spells);
+          form_spells last_spells;
       means = refl;
     }
+opener members_sort n h =
+    record {
+      end = (0, word (codes "col")) ∷ (0, closing)
+          ∷ [];
+      stop = 1;
+      part = form (codes "col") last;
+      tree = no_members;
+      spells = λ ts.
+          form_spells last_spells;
+      means = refl;
+    }
+opener (time_sort g) n h = absurd (cc)
 
 pub networks_proper : Proper networks
 networks_proper = record { formless = formless; spoilt = spoilt; foreign = foreign; filler = filler; opener = opener }

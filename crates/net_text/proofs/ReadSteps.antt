@@ -1,44 +1,61 @@
 -- Steps of reading networks, as the code takes them.
-use Rattle.std.proofs.Common.{◌≡◌, ℕ, List, [], ◌∷◌, refl, sym, ap, subst, ◌∙◌, Result, Ok, Err, Some, None}
-use Rattle.leaf_expr.specs.Token.{PlacedToken}
+use Rattle.std.proofs.Common.{◌≡◌, ℕ, true, false, List, [], ◌∷◌, refl, sym, ap, subst, ◌∙◌, Result, Ok, Err, Some, None, map}
+use Rattle.std.specs.Prelude.{codes, bytes_eq}
 use Rattle.leaf_core.specs.Expression.{Expression}
-use Rattle.leaf_expr.specs.Language.{no_place}
-use Rattle.leaf_expr.specs.Grammar.{leaf, expression_sort}
-use Rattle.leaf_expr.specs.TreeReader.{Read, read, read_form, read_head, read_row, read_parts}
-use Rattle.leaf_expr.proofs.ReadSteps.{Refuses, passed}
+use Rattle.leaf_core.specs.ExpressionView.{expression_of}
+use Rattle.leaf_core.specs.declared.expr.Expr.{Expr}
+use Rattle.leaf_expr.specs.Token.{PlacedToken}
+use Rattle.leaf_expr.specs.WordReading.{natural_at}
+use Rattle.leaf_expr.specs.Language.{Places, Maker, place, places}
+use Rattle.leaf_expr.specs.Grammar.{leaf, Sort, Tree}
+use Rattle.leaf_expr.specs.TreeReader.{Read, word_read, read, read_head}
+use Rattle.leaf_expr.proofs.ReadSteps.{Refuses, passed, formless_read}
+use Rattle.leaf_expr.proofs.PartSteps.{parts, part, no_part}
 use Rattle.leaf_expr.specs.declared.text_fault.ExprTextFault.{ExprTextFault}
-use Rattle.sample_core.specs.TypeTree.{TypeTree}
-use Rattle.net_syntax.specs.Network.{Network}
-use Rattle.net_text.specs.File.{at_end, read_network}
-use Rattle.net_text.specs.Grammar.{networks, network_sort, leaf_sort, net_row_at, NetRow, e}
-use Rattle.net_text.proofs.Carried.{head_same, read_same}
-use Rattle.sample_core.specs.Answer.{◌>>=◌}
 use Rattle.leaf_expr.specs.declared.text_fault.ExprTextFault.TheVariants as E
+use Rattle.sample_core.specs.TypeTree.{TypeTree}
+use Rattle.sample_core.specs.Answer.{◌>>=◌}
+use Rattle.net_syntax.specs.Network.{Network, networks_of, and_member, map_networks}
+use Rattle.net_syntax.specs.NetworkView.{tree_of, members_of}
+use Rattle.net_syntax.specs.declared.net.Net.{Net}
+use Rattle.net_text.specs.File.{at_end, read_network}
+use Rattle.net_text.specs.Grammar.{networks, NetSort, NetTree, network_sort, members_sort, leaf_sort, time_sort, Timer, least, greatest, row, net_row_at, net_word_at, col_rows}
+use Rattle.net_text.proofs.Carried.{read_same}
 
-module _ (size room m : ℕ) (us : List PlacedToken) where
-  -- a form by its word
-  pub named : {n : ℕ} {w : List ℕ} {ts : List PlacedToken} (r : NetRow) → read_head leaf size room us ≡ Ok (n, w, ts) →
-      Some r ≡ net_row_at network_sort w →
-      read_form networks size (read networks size m) room network_sort us ≡ read_parts networks size (read networks size m) room r.takes r.makes ts
-  named {n = n} {ts = ts} r p q =
-      ap (λ h. h >>= (λ h. read_row networks size (read networks size m) room h.0 (net_row_at network_sort h.1) h.2)) (head_same size room us ∙ p)
-      ∙ ap (λ o. read_row networks size (read networks size m) room n o ts) (sym q)
+-- `col` alone begins the members of `pSwitch`
+pub col_named : (w : List ℕ) → bytes_eq w (codes "col") ≡ true → Some (row (codes "col") (places network_sort) networks_of) ≡ net_row_at members_sort w
+unfolding net_row_at col_rows
+col_named w e = rw e refl
 
-  pub unnamed : {n : ℕ} {w : List ℕ} {ts : List PlacedToken} → read_head leaf size room us ≡ Ok (n, w, ts) → None ≡ net_row_at network_sort w →
-      read_form networks size (read networks size m) room network_sort us ≡ Err (E.Syntax n)
-  unnamed {n = n} {ts = ts} p q =
-      ap (λ h. h >>= (λ h. read_row networks size (read networks size m) room h.0 (net_row_at network_sort h.1) h.2)) (head_same size room us ∙ p)
-      ∙ ap (λ o. read_row networks size (read networks size m) room n o ts) (sym q)
+pub col_unnamed : (w : List ℕ) → bytes_eq w (codes "col") ≡ false → None ≡ net_row_at members_sort w
+unfolding net_row_at col_rows
+col_unnamed w e = rw e refl
 
-  -- a form without a word
-  pub headless : (x : ExprTextFault) → Refuses x (read_head leaf size room us) → Refuses x (read_form networks size (read networks size m) room network_sort us)
-  headless x p = passed x (read_head networks size room us) _ (subst (Refuses x) (sym (head_same size room us)) p)
+-- the members of `pSwitch` are no word
+pub col_no_word : (n : ℕ) (w : List ℕ) (ts : List PlacedToken) → word_read n w ts (net_word_at members_sort w) ≡ Err (E.Syntax n)
+unfolding net_word_at
+col_no_word n w ts = refl
 
--- a form of one expression
-module _ (size room : ℕ) where
-  pub no_leaf : (x : ExprTextFault) (make : Expression → Network Expression) (ts : List PlacedToken) → Refuses x (read leaf size room expression_sort ts) →
-      Refuses x (read_parts networks size (read networks size room) room (e no_place) make ts)
-  no_leaf x make ts p = passed x (read networks size room (leaf_sort expression_sort) ts) _ (subst (Refuses x) (sym (read_same size room expression_sort ts)) p)
+module _ (size room : ℕ) {R : Type 0} where
+  -- a type or an expression as a part
+  pub leaf_part : (s : Sort) {a : Tree s} {n : ℕ} {us : List PlacedToken} (ps : Places NetSort) (make : Tree s → Maker NetTree ps R) (ts : List PlacedToken) →
+      read leaf size room s ts ≡ Ok (a, n, us) → parts networks size room (place (leaf_sort s) ps) make ts ≡ parts networks size room ps (make a) us
+  leaf_part s ps make ts p = part networks size room (leaf_sort s) ps make ts (read_same size room s ts ∙ p)
+
+  pub no_leaf : (s : Sort) (x : ExprTextFault) (ps : Places NetSort) (make : Tree s → Maker NetTree ps R) (ts : List PlacedToken) →
+      Refuses x (read leaf size room s ts) → Refuses x (parts networks size room (place (leaf_sort s) ps) make ts)
+  no_leaf s x ps make ts p = no_part networks size room (leaf_sort s) x ps make ts (subst (Refuses x) (sym (read_same size room s ts)) p)
+
+-- the time of a form is a number
+pub time_read : (size room : ℕ) (g : Timer) (ts : List PlacedToken) → read networks size room (time_sort g) ts
+    ≡ (read_head leaf size room ts >>= (λ h. word_read h.0 h.1 h.2 (natural_at (least g) (greatest g) h.1)))
+unfolding net_word_at
+time_read size room g ts = formless_read networks size room (time_sort g) ts refl
+
+-- the code's members are the networks that were read
+pub members_are : (all : List (Net Expr)) → map_networks expression_of (members_of all) ≡ networks_of (map tree_of all)
+members_are [] = refl
+members_are (x ∷ xs) = ap (and_member (tree_of x)) (members_are xs)
 
 -- a network with nothing behind it, with the type before it
 module _ (A : TypeTree) where

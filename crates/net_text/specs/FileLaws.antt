@@ -1,5 +1,5 @@
 -- What reading a network file answers, said by the grammar alone.
-use Rattle.std.specs.Prelude.{◌≡◌, ℕ, ◌≤◌, ◌<◌, List, [], ◌∷◌, length, codes, Ok}
+use Rattle.std.specs.Prelude.{◌≡◌, ◌≢◌, ◌↔◌, ℕ, ◌≤◌, ◌<◌, List, [], ◌∷◌, length, codes, Ok, Err}
 use Rattle.sample_core.specs.TypeTree.{TypeTree}
 use Rattle.leaf_core.specs.Expression.{Expression}
 use Rattle.leaf_expr.specs.Token.{PlacedToken, word, tokens}
@@ -74,6 +74,11 @@ ReadFileLaw = (bs : List ℕ) (A : TypeTree) (f : Network Expression)
 abbrev pub OneFileLaw : Type 0
 OneFileLaw = (bs : List ℕ) (A B : TypeTree) (f g : Network Expression) → IsFile bs A f
     → IsFile bs B g → (A ≡ B) × (f ≡ g)
+
+-- a fault is answered exactly where it tells why the bytes are no file
+abbrev pub FileFaultLaw : Type 0
+FileFaultLaw = (bs : List ℕ) (e : NetTextFault) → e ≢ V.Memory
+    → read_file bs ≡ Err e ↔ IsFileFault bs e
 
 -- types and expressions inside networks are those that they are by themselves
 abbrev pub LeafMeaningLaw : Type 0

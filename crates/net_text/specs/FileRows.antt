@@ -1,13 +1,14 @@
 -- Each form of networks, read once, and the sugar in terms of the core forms.
-use Rattle.std.specs.Prelude.{◌≡◌, ℕ, List, ◌++◌, pos, Ok, Err, codes}
-use Rattle.sample_core.specs.TypeTree.{int_ty}
-use Rattle.leaf_core.specs.Expression.{Expression, input, unit_expr, int_expr}
+use Rattle.std.specs.Prelude.{◌≡◌, ◌^◌, ℕ, List, ◌++◌, true, pos, Ok, Err, codes}
+use Rattle.sample_core.specs.TypeTree.{unit_ty, int_ty}
+use Rattle.leaf_core.specs.Expression.{Expression, input, unit_expr, bool_expr, int_expr, pair_expr, fst, snd, then_expr, not_expr, and_expr, if_expr, no_event_expr, event_expr}
 use Rattle.leaf_expr.specs.Sexpr.{Sexpr, atom}
 use Rattle.leaf_expr.specs.Language.{meaning}
-use Rattle.leaf_expr.specs.Printing.{one, two}
-use Rattle.net_syntax.specs.Network.{Network, arr, seq, i_pre}
+use Rattle.leaf_expr.specs.Printing.{one, two, three}
+use Rattle.net_syntax.specs.Network.{Network, arr, seq, first, par, loop_pre, i_pre, delay, hold, accum_by, after, repeatedly, time, integral, switch, d_switch, r_switch, k_switch, p_switch, old, no_members, and_member}
 use Rattle.net_text.specs.Grammar.{networks, network_sort}
 use Rattle.net_text.specs.File.{read_file}
+use Rattle.net_text.specs.declared.fault.NetTextFault.{NetTextFault}
 use Rattle.net_text.specs.declared.fault.NetTextFault.TheVariants as V
 
 -- the file of that network, with numbers as its input
@@ -18,29 +19,181 @@ file_of bs = codes "yampa 1 input Int " ++ bs
 abbrev pub IsNetwork : List ℕ → Network Expression → Type 0
 IsNetwork bs f = read_file (file_of bs) ≡ Ok (int_ty, f)
 
--- each form of networks
-abbrev pub NetworkRows : Type 0
-NetworkRows =
+-- the text is no network, for that fault; the network begins at byte 18
+abbrev pub IsNoNetwork : List ℕ → NetTextFault → Type 0
+IsNoNetwork bs f = read_file (file_of bs) ≡ Err f
+
+-- each form without networks
+abbrev pub CellRows : Type 0
+CellRows =
     IsNetwork (codes "(arr x)") (arr input)
     × IsNetwork (codes "(iPre 0)") (i_pre (int_expr (pos 0)))
-    × IsNetwork (codes "(>>> (arr x) (iPre unit))") (seq (arr input) (i_pre unit_expr))
+    × IsNetwork (codes "(hold unit)") (hold unit_expr)
+    × IsNetwork (codes "(delay 1 x)") (delay 1 input)
+    × IsNetwork (codes "(delay 4096 x)") (delay 4096 input)
+    × IsNetwork (codes "(after 0 x)") (after 0 input)
+    × IsNetwork (codes "(after 4611686018427387904 x)") (after (2 ^ 62) input)
+    × IsNetwork (codes "(repeatedly 1 x)") (repeatedly 1 input)
+    × IsNetwork (codes "(repeatedly 4611686018427387904 x)") (repeatedly (2 ^ 62) input)
+    × IsNetwork (codes "(accumBy x unit)") (accum_by input unit_expr)
+    × IsNetwork (codes "time") time
+    × IsNetwork (codes "integral") integral
+    × IsNetwork (codes "(old 0)") (old 0)
+    × IsNetwork (codes "(old 65535)") (old 65535)
+
+-- each form that holds networks
+abbrev pub NetworkRows : Type 0
+NetworkRows =
+    IsNetwork (codes "(first time)") (first time)
+    × IsNetwork (codes "(>>> time integral)") (seq time integral)
+    × IsNetwork (codes "(switch time integral)") (switch time integral)
+    × IsNetwork (codes "(dSwitch time integral)") (d_switch time integral)
+    × IsNetwork (codes "(rSwitch time integral)") (r_switch time integral)
+    × IsNetwork (codes "(loopPre x time)") (loop_pre input time)
+    × IsNetwork (codes "(kSwitch time integral (old 0))") (k_switch time integral (old 0))
+    × IsNetwork (codes "(parB)") (par no_members)
+    × IsNetwork (codes "(parB time integral)")
+    (par (and_member time (and_member integral no_members)))
+    × IsNetwork (codes "(pSwitch x (col) time integral)") (p_switch input no_members time integral)
+    × IsNetwork (codes "(pSwitch x (col time integral) (old 0) (old 1))")
+    (p_switch input (and_member time (and_member integral no_members)) (old 0) (old 1))
+
+-- the parts of a pair turned round
+abbrev pub turned : Expression
+turned = pair_expr (snd input) (fst input)
+
+-- sugar: each word and form of it, read once, as the core forms that it stands for
+abbrev pub SugarRows : Type 0
+SugarRows =
+    IsNetwork (codes "identity") (arr input)
+    × IsNetwork (codes "(constant x)") (arr (then_expr unit_expr input))
+    × IsNetwork (codes "(second time)") (seq (arr turned) (seq (first time) (arr turned)))
+    × IsNetwork (codes "(*** time integral)")
+    (seq (first time) (seq (arr turned) (seq (first integral) (arr turned))))
+    × IsNetwork (codes "(&&& time integral)")
+    (seq (arr (pair_expr input input))
+    (seq (first time) (seq (arr turned) (seq (first integral) (arr turned)))))
+    × IsNetwork (codes "(never Int)") (arr (no_event_expr int_ty))
+    × IsNetwork (codes "(now x)") (after 0 input)
+    × IsNetwork (codes "edge")
+    (seq
+    (seq (arr (pair_expr input input))
+    (seq (first (arr input))
+    (seq (arr turned) (seq (first (i_pre (bool_expr true))) (arr turned)))))
+    (arr
+    (if_expr (and_expr (fst input) (not_expr (snd input))) (event_expr unit_expr)
+    (no_event_expr unit_ty))))
+    × IsNetwork (codes "(accumHoldBy x unit)") (seq (accum_by input unit_expr) (hold unit_expr))
+
+-- the two texts mean one network, or neither means one
+abbrev pub MeanSame : Sexpr → Sexpr → Type 0
+MeanSame p q = meaning networks network_sort p ≡ meaning networks network_sort q
 
 -- sugar: `identity` means `(arr x)`
 abbrev pub IdentityIs : Type 0
-IdentityIs = meaning networks network_sort (atom (codes "identity"))
-    ≡ meaning networks network_sort (one (codes "arr") (atom (codes "x")))
+IdentityIs = MeanSame (atom (codes "identity")) (one (codes "arr") (atom (codes "x")))
 
--- `(constant e)` means `(arr (then unit e))`
+-- `(constant e)` means `(arr (then unit e))`, whatever e is; so with the forms below
 abbrev pub ConstantIs : Type 0
-ConstantIs = (e : Sexpr)
-    → meaning networks network_sort (one (codes "constant") e)
-    ≡ meaning networks network_sort (one (codes "arr") (two (codes "then") (atom (codes "unit")) e))
+ConstantIs = (e : Sexpr) → MeanSame (one (codes "constant") e)
+    (one (codes "arr") (two (codes "then") (atom (codes "unit")) e))
 
--- refusals: by place and kind
+-- `(arr (pair (snd x) (fst x)))`
+abbrev pub swapping : Sexpr
+swapping =
+    one (codes "arr")
+    (two (codes "pair") (one (codes "snd") (atom (codes "x")))
+    (one (codes "fst") (atom (codes "x"))))
+
+-- `(second f)` means `(>>> (arr SWAP) (>>> (first f) (arr SWAP)))`, where SWAP is
+-- `(pair (snd x) (fst x))`
+abbrev pub SecondIs : Type 0
+SecondIs = (f : Sexpr) → MeanSame (one (codes "second") f)
+    (two (codes ">>>") swapping (two (codes ">>>") (one (codes "first") f) swapping))
+
+-- `(*** f g)` means `(>>> (first f) (second g))`
+abbrev pub BesideIs : Type 0
+BesideIs = (f g : Sexpr) → MeanSame (two (codes "***") f g)
+    (two (codes ">>>") (one (codes "first") f) (one (codes "second") g))
+
+-- `(&&& f g)` means `(>>> (arr (pair x x)) (*** f g))`
+abbrev pub FanOutIs : Type 0
+FanOutIs = (f g : Sexpr) → MeanSame (two (codes "&&&") f g)
+    (two (codes ">>>")
+    (one (codes "arr") (two (codes "pair") (atom (codes "x")) (atom (codes "x"))))
+    (two (codes "***") f g))
+
+-- `(never T)` means `(arr (none T))`
+abbrev pub NeverIs : Type 0
+NeverIs = (T : Sexpr) → MeanSame (one (codes "never") T)
+    (one (codes "arr") (one (codes "none") T))
+
+-- `(now c)` means `(after 0 c)`
+abbrev pub NowIs : Type 0
+NowIs = (c : Sexpr) → MeanSame (one (codes "now") c) (two (codes "after") (atom (codes "0")) c)
+
+-- `edge` means `(>>> (&&& identity (iPre true)) (arr RISE))`, where RISE is
+-- `(if (and (fst x) (not (snd x))) (event unit) (none Unit))`
+abbrev pub EdgeIs : Type 0
+EdgeIs =
+    MeanSame (atom (codes "edge"))
+    (two (codes ">>>")
+    (two (codes "&&&") (atom (codes "identity")) (one (codes "iPre") (atom (codes "true"))))
+    (one (codes "arr")
+    (three (codes "if")
+    (two (codes "and") (one (codes "fst") (atom (codes "x")))
+    (one (codes "not") (one (codes "snd") (atom (codes "x")))))
+    (one (codes "event") (atom (codes "unit"))) (one (codes "none") (atom (codes "Unit"))))))
+
+-- `(accumHoldBy g z)` means `(>>> (accumBy g z) (hold z))`
+abbrev pub AccumHoldByIs : Type 0
+AccumHoldByIs = (g z : Sexpr) → MeanSame (two (codes "accumHoldBy") g z)
+    (two (codes ">>>") (two (codes "accumBy") g z) (one (codes "hold") z))
+
+-- refusals of headers and of what stands where a network must
 abbrev pub FileFaultRows : Type 0
 FileFaultRows =
-    (read_file (codes "yampa 1 input Int (arr") ≡ Err (V.Syntax 22))
-    × (read_file (codes "yampa 1 input Int (arr 01)") ≡ Err (V.Number 23))
-    × (read_file (codes "yampa 3 input Int time") ≡ Err V.Header)
-    × (read_file (codes "yampa 1 input Int time") ≡ Err (V.Syntax 18))
-    × (read_file (codes "yampa 1 input Int identity )") ≡ Err (V.Syntax 27))
+    (read_file (codes "yampa 3 input Int time") ≡ Err V.Header)
+    × (read_file (codes "yampa 2 input Int time") ≡ Err V.Header)
+    × IsNoNetwork (codes "(arr") (V.Syntax 22)
+    × IsNoNetwork (codes "(arr 01)") (V.Number 23)
+    × IsNoNetwork (codes "identity )") (V.Syntax 27)
+    × IsNoNetwork (codes "arr") (V.Syntax 18)
+    × IsNoNetwork (codes "5") (V.Syntax 18)
+    × IsNoNetwork (codes "(5 time)") (V.Syntax 19)
+    × IsNoNetwork (codes "(time)") (V.Syntax 19)
+    × IsNoNetwork (codes "(identity)") (V.Syntax 19)
+    × IsNoNetwork (codes "(edge)") (V.Syntax 19)
+    × IsNoNetwork (codes "(col time)") (V.Syntax 19)
+    × IsNoNetwork (codes "(drSwitch time time)") (V.Syntax 19)
+    × IsNoNetwork (codes "(--> 0 time)") (V.Syntax 19)
+    × IsNoNetwork (codes "(parB time") (V.Syntax 28)
+    × IsNoNetwork (codes "(never 5)") (V.Syntax 25)
+    × IsNoNetwork (codes "(loopPre 01 time)") (V.Number 27)
+
+-- refusals of numbers of frozen networks and of times
+abbrev pub NumberFaultRows : Type 0
+NumberFaultRows =
+    IsNoNetwork (codes "(old)") (V.Syntax 22)
+    × IsNoNetwork (codes "(old x)") (V.Syntax 23)
+    × IsNoNetwork (codes "(old -1)") (V.Number 23)
+    × IsNoNetwork (codes "(old 65536)") (V.Number 23)
+    × IsNoNetwork (codes "(delay 01 0)") (V.Number 25)
+    × IsNoNetwork (codes "(delay x 0)") (V.Syntax 25)
+    × IsNoNetwork (codes "(delay (p 0) 0)") (V.Syntax 25)
+    × IsNoNetwork (codes "(delay 0 0)") (V.Number 25)
+    × IsNoNetwork (codes "(delay 4097 0)") (V.Number 25)
+    × IsNoNetwork (codes "(delay 18446744073709551616 0)") (V.Number 25)
+    × IsNoNetwork (codes "(after -1 0)") (V.Number 25)
+    × IsNoNetwork (codes "(after 4611686018427387905 0)") (V.Number 25)
+    × IsNoNetwork (codes "(repeatedly 0 0)") (V.Number 30)
+    × IsNoNetwork (codes "(repeatedly 4611686018427387905 0)") (V.Number 30)
+
+-- refusals of what stands where the members of `pSwitch` must
+abbrev pub MembersFaultRows : Type 0
+MembersFaultRows =
+    IsNoNetwork (codes "(pSwitch x time time time)") (V.Syntax 29)
+    × IsNoNetwork (codes "(pSwitch x 5 time time)") (V.Syntax 29)
+    × IsNoNetwork (codes "(pSwitch x (parB) time time)") (V.Syntax 30)
+    × IsNoNetwork (codes "(pSwitch x (col time") (V.Syntax 38)
+    × IsNoNetwork (codes "(pSwitch x (col) time)") (V.Syntax 39)

@@ -1,3 +1,4 @@
+pub mod Sugar
 pub mod Grammar
 pub mod Form
 pub mod File

@@ -1,11 +1,12 @@
 -- The one printed form of networks and of network files: core forms alone.
-use Rattle.std.specs.Prelude.{ℕ, List, [], ◌∷◌, ◌++◌, codes}
+use Rattle.std.specs.Prelude.{ℕ, ◌≤◌, List, [], ◌∷◌, ◌++◌, codes}
 use Rattle.std.specs.Fmt.{decimal}
 use Rattle.sample_core.specs.TypeTree.{TypeTree}
 use Rattle.sample_core.specs.Spelling.{type_spelling}
 use Rattle.leaf_core.specs.Expression.{Expression}
 use Rattle.leaf_expr.specs.Sexpr.{Sexpr, Sexprs, atom, form, last, more, spelling}
 use Rattle.leaf_expr.specs.Printing.{one, two, three, expression_sexpr, InRange}
+use Rattle.net_text.specs.Grammar.{Timer, least, greatest, delay_timer, after_timer, repeatedly_timer}
 use Rattle.net_syntax.specs.Network.{Network, Networks, arr, seq, first, par, loop_pre, i_pre, delay, hold, accum_by, after, repeatedly, time, integral, switch, d_switch, r_switch, k_switch, p_switch, old, no_members, and_member}
 
 abbrev mutual
@@ -46,9 +47,34 @@ abbrev pub file_spelling : TypeTree → Network Expression → List ℕ
 file_spelling A f = codes "yampa 1\ninput "
     ++ (type_spelling A ++ (10 ∷ (spelling (network_sexpr f) ++ 10 ∷ [])))
 
--- a network of the forms that files have so far, whose numbers are in their ranges
-abbrev pub Writable : Network Expression → Type 0
-Writable (arr e) = InRange e
-Writable (i_pre e) = InRange e
-Writable (seq f g) = Writable f × Writable g
-Writable _ = ⊥
+-- the time is in the range of its form
+abbrev pub TimeFits : Timer → ℕ → Type 0
+TimeFits g q = (least g ≤ q) × (q ≤ greatest g)
+
+-- the numbers of a network are in the ranges of their places
+abbrev mutual
+  pub Writable : Network Expression → Type 0
+  Writable (arr e) = InRange e
+  Writable (i_pre c) = InRange c
+  Writable (hold c) = InRange c
+  Writable (delay q c) = TimeFits delay_timer q × InRange c
+  Writable (after q c) = TimeFits after_timer q × InRange c
+  Writable (repeatedly q c) = TimeFits repeatedly_timer q × InRange c
+  Writable (accum_by g z) = InRange g × InRange z
+  Writable time = Unit {0}
+  Writable integral = Unit {0}
+  Writable (first f) = Writable f
+  Writable (seq f g) = Writable f × Writable g
+  Writable (switch f t) = Writable f × Writable t
+  Writable (d_switch f t) = Writable f × Writable t
+  Writable (r_switch f t) = Writable f × Writable t
+  Writable (k_switch f e t) = Writable f × Writable e × Writable t
+  Writable (loop_pre c f) = InRange c × Writable f
+  Writable (par fs) = AllWritable fs
+  Writable (p_switch r fs e t) = InRange r × AllWritable fs × Writable e × Writable t
+  Writable (old k) = k ≤ 65535
+
+  -- the same of members
+  pub AllWritable : Networks Expression → Type 0
+  AllWritable no_members = Unit {0}
+  AllWritable (and_member f fs) = Writable f × AllWritable fs

@@ -5,26 +5,28 @@ use Rattle.sample_core.specs.TypeTree.{TypeTree}
 use Rattle.sample_core.specs.TypeView.{type_of}
 use Rattle.sample_core.specs.declared.ty.Ty.{Ty}
 use Rattle.leaf_core.specs.Expression.{Expression}
+use Rattle.leaf_core.specs.ExpressionView.{expression_of}
 use Rattle.leaf_core.specs.declared.expr.Expr.{Expr}
 use Rattle.leaf_expr.specs.declared.text_fault.ExprTextFault.{ExprTextFault}
+use Rattle.leaf_expr.specs.Language.{Places, Maker, no_place}
 use Rattle.leaf_expr.specs.Token.{PlacedToken, tokens_from}
 use Rattle.leaf_expr.specs.TreeReader.{word_read, Read, read, read_form, read_parts}
-use Rattle.net_syntax.specs.Network.{Network}
+use Rattle.net_syntax.specs.Network.{Network, Networks, map_network, map_networks}
 use Rattle.net_syntax.specs.NetworkView.{tree_of}
 use Rattle.net_syntax.specs.declared.net.Net.{Net}
-use Rattle.net_text.specs.Grammar.{networks, network_sort, net_word_at, NetRow}
+use Rattle.net_text.specs.Grammar.{networks, NetSort, NetTree, network_sort, net_word_at, NetRow, f, col}
 use Rattle.net_text.specs.File.{at_end}
 use Rattle.net_text.specs.declared.fault.NetTextFault.{NetTextFault}
 use Rattle.net_text.specs.declared.fault.NetTextFault.TheVariants as V
 use Rattle.sample_core.specs.Answer.{◌>>=◌, GivesUnless}
 
--- a network in the text from byte n on, with room for so many more parentheses
-abbrev pub network_at : List ℕ → ℕ → ℕ → Read (Network Expression)
-network_at text room n = read networks (length text) room network_sort (tokens_from n text)
+-- a tree of the sort in the text from byte n on, with room for so many more parentheses
+abbrev pub sort_at : (s : NetSort) → List ℕ → ℕ → ℕ → Read (NetTree s)
+sort_at s text room n = read networks (length text) room s (tokens_from n text)
 
--- the same, and nothing behind it
+-- a network, and nothing behind it, in the text from byte n on
 abbrev pub last_network_at : List ℕ → ℕ → Result (Network Expression) ExprTextFault
-last_network_at text n = network_at text 600 n >>= (λ f. at_end f.0 f.2)
+last_network_at text n = sort_at network_sort text 600 n >>= (λ g. at_end g.0 g.2)
 
 -- the network that the word is from byte n up to and without byte m
 abbrev pub word_network : List ℕ → ℕ → ℕ → Read (Network Expression)
@@ -32,18 +34,43 @@ word_network text n m = word_read n (slice_range text n m) (tokens_from m text)
     (net_word_at network_sort (slice_range text n m))
 
 -- what is read behind the parenthesis of a form, in the text from byte n on
-abbrev pub form_at : List ℕ → ℕ → ℕ → Read (Network Expression)
-form_at text room n = read_form networks (length text) (read networks (length text) room) room
-    network_sort (tokens_from n text)
+abbrev pub form_at : (s : NetSort) → List ℕ → ℕ → ℕ → Read (NetTree s)
+form_at s text room n = read_form networks (length text) (read networks (length text) room) room s
+    (tokens_from n text)
 
--- the parts of a form and its end, in the text from byte n on
+-- those parts of a form and its end, in the text from byte n on
+abbrev pub parts_at : {R : Type 0} → (ps : Places NetSort) → Maker NetTree ps R → List ℕ → ℕ → ℕ
+    → Read R
+parts_at ps make text room n = read_parts networks (length text) (read networks (length text) room)
+    room ps make (tokens_from n text)
+
+-- the last two parts of a form, which are networks, and its end
+abbrev pub last_two_at : List ℕ → ℕ → ℕ → Read (Network Expression × Network Expression)
+last_two_at text room n = parts_at {R = Network Expression × Network Expression}
+    (f (f no_place)) (λ g h. (g, h)) text room n
+
+-- the last three parts of a form, which are members and two networks, and its end
+abbrev pub last_three_at : List ℕ → ℕ → ℕ
+    → Read (Networks Expression × Network Expression × Network Expression)
+last_three_at text room n =
+    parts_at {R = Networks Expression × Network Expression × Network Expression}
+    (col (f (f no_place))) (λ fs g h. (fs, g, h)) text room n
+
+-- the parts of the row's form and its end, in the text from byte n on
 abbrev pub row_parts : NetRow → List ℕ → ℕ → ℕ → Read (Network Expression)
-row_parts r text room n = read_parts networks (length text) (read networks (length text) room) room
-    r.takes r.makes (tokens_from n text)
+row_parts r text room n = parts_at r.takes r.makes text room n
 
 -- a network, the byte behind it, and the tokens from there on
 abbrev pub network_left : List ℕ → Net Expr × ℕ → Network Expression × ℕ × List PlacedToken
 network_left text x = (tree_of x.0, x.1, tokens_from x.1 text)
+
+-- the same of a network inside a network
+abbrev pub child_left : List ℕ → Network Expr × ℕ → Network Expression × ℕ × List PlacedToken
+child_left text x = (map_network expression_of x.0, x.1, tokens_from x.1 text)
+
+-- the same of members
+abbrev pub members_left : List ℕ → Networks Expr × ℕ → Networks Expression × ℕ × List PlacedToken
+members_left text x = (map_networks expression_of x.0, x.1, tokens_from x.1 text)
 
 -- what the call returned is what reading gives, unless memory ran out
 abbrev pub GivesFile : Result (Ty × Net Expr) NetTextFault

@@ -16,7 +16,8 @@ pub enum NetTextFault {
     #[error("syntax")]
     Syntax { at: usize },
     /// Where a number may stand, a number word that is badly spelt or out of range: 64 bits for a
-    /// literal, 0 to 65,535 for the number of a parameter.
+    /// literal, 0 to 65,535 for the number of a parameter or of a frozen network, 1 to 4,096 for
+    /// the time of `delay`, 0 to 2^62 for that of `after`, 1 to 2^62 for that of `repeatedly`.
     #[error("number")]
     Number { at: usize },
     /// A parenthesis that would be the 601st open at once, also where none fits.

@@ -1,83 +1,319 @@
-// The forms of networks, by the word that each begins with.
+// The forms of networks, by the word that each begins with, and the words that are networks.
 
-ghost use Rattle.std.specs.Prelude.{◌≡◌, IfOk, option_map};
-ghost use Rattle.leaf_core.specs.Expression.{unit_expr, then_expr};
+ghost use Rattle.std.specs.Prelude.{◌≡◌, ◌≤◌, ◌^◌, IfOk, option_map};
 ghost use Rattle.leaf_core.specs.ExpressionView.{expression_of};
-ghost use Rattle.net_syntax.specs.Network.{arr};
-ghost use Rattle.net_syntax.specs.NetworkView.{tree_of};
-ghost use Rattle.net_text.specs.Form.{form_row, leaf_form_of};
-ghost use Rattle.net_text.specs.Grammar.{net_row_at, net_word_at, network_sort};
 ghost use Rattle.leaf_expr.specs.ReadText.{fit};
+ghost use Rattle.net_syntax.specs.Network.{map_network};
+ghost use Rattle.net_syntax.specs.NetworkView.{tree_of};
+ghost use Rattle.net_text.specs.Form.{form_row, word_of};
+ghost use Rattle.net_text.specs.Grammar.{cell_rows, pair_rows, other_rows, net_row_among, net_row_at, net_word_at, network_sort};
 
-use leaf_expr::{Expr, ExprChild, Literal};
-use net_syntax::Net;
+use crate::sugar::{accum_hold_by, beside, constant, edge, fan_out, second};
+use leaf_expr::Expr;
+use net_syntax::{Net, NetChild};
 use sample_core::{Memory, word_is};
 use std::alloc::Global;
 
-/// A form of networks of one expression. `Constant` is sugar.
+/// A word that is a network by itself. `Identity` and `Edge` are sugar.
+#[derive(Clone, Copy)]
+pub(crate) enum NetWord {
+    Time,
+    Integral,
+    Identity,
+    Edge,
+}
+
+/// A form of one expression. `Constant` and `Now` are sugar.
 #[derive(Clone, Copy)]
 pub(crate) enum LeafForm {
     Arr,
     IPre,
+    Hold,
     Constant,
+    Now,
 }
 
-/// A form of networks, by the parts that it takes.
+/// A form of a length of time and an expression.
+#[derive(Clone, Copy)]
+pub(crate) enum Timer {
+    Delay,
+    After,
+    Repeatedly,
+}
+
+/// A form of two expressions. `AccumHoldBy` is sugar.
+#[derive(Clone, Copy)]
+pub(crate) enum Accumulator {
+    AccumBy,
+    AccumHoldBy,
+}
+
+/// A form of one network. `Second` is sugar.
+#[derive(Clone, Copy)]
+pub(crate) enum Unary {
+    First,
+    Second,
+}
+
+/// A form of two networks. `Beside`, which is `***`, and `FanOut`, which is `&&&`, are sugar.
+#[derive(Clone, Copy)]
+pub(crate) enum Binary {
+    Seq,
+    Switch,
+    DSwitch,
+    RSwitch,
+    Beside,
+    FanOut,
+}
+
+/// A form of networks, by the parts that it takes. `Never` is sugar.
 #[derive(Clone, Copy)]
 pub(crate) enum Form {
-    /// One expression.
     Leaf(LeafForm),
-    /// Two networks.
-    Seq,
+    Timer(Timer),
+    Accumulator(Accumulator),
+    Unary(Unary),
+    Binary(Binary),
+    /// An expression and a network.
+    LoopPre,
+    /// Any number of networks.
+    Par,
+    /// Three networks.
+    KSwitch,
+    /// An expression, members, and two networks.
+    PSwitch,
+    /// The number of a frozen network.
+    Old,
+    /// A type.
+    Never,
+}
+
+impl NetWord {
+    /// The network that the word is.
+    pub(crate) fn of(self, alloc: Global) -> Result<Net<Expr>, Memory>
+        ensures { IfOk result (λ net. tree_of net ≡ word_of self) }
+    {
+        match self {
+            NetWord::Time => Ok(Net::Time),
+            NetWord::Integral => Ok(Net::Integral),
+            NetWord::Identity => Ok(Net::Arr(Expr::Input)),
+            NetWord::Edge => edge(alloc),
+        }
+    }
 }
 
 impl LeafForm {
-    /// The form with that expression; `(constant e)` is `(arr (then unit e))`.
+    ghost use Rattle.net_text.specs.Form.{leaf_form_of};
+
+    /// The form with that expression.
     pub(crate) fn of(self, alloc: Global, e: Expr) -> Result<Net<Expr>, Memory>
         ensures { IfOk result (λ net. tree_of net ≡ leaf_form_of self (expression_of e)) }
     {
         match self {
             LeafForm::Arr => Ok(Net::Arr(e)),
             LeafForm::IPre => Ok(Net::IPre(e)),
+            LeafForm::Hold => Ok(Net::Hold(e)),
             LeafForm::Constant => constant(alloc, e),
+            LeafForm::Now => Ok(Net::After(0, e)),
         }
     }
 }
 
-/// `(arr (then unit e))`.
-fn constant(alloc: Global, e: Expr) -> Result<Net<Expr>, Memory>
-    ensures { IfOk result (λ net. tree_of net ≡ arr (then_expr unit_expr (expression_of e))) }
-{
-    let value = ExprChild::new(alloc, e)?;
-    let unit = ExprChild::new(alloc, Expr::Literal(Literal::Unit))?;
-    Ok(Net::Arr(Expr::Then(unit, value)))
+impl Timer {
+    ghost use Rattle.net_text.specs.Form.{timer_of, timer_form_of};
+    ghost use Rattle.net_text.specs.Grammar.{least, greatest};
+
+    /// The least time that the form takes.
+    pub(crate) fn least(self) -> u64
+        ensures { result ≡ least (timer_of self) }
+    {
+        match self {
+            Timer::Delay => 1,
+            Timer::After => 0,
+            Timer::Repeatedly => 1,
+        }
+    }
+
+    /// The greatest time that the form takes.
+    pub(crate) fn greatest(self) -> u64
+        ensures number { result ≡ greatest (timer_of self) }
+        ensures low { result ≤ 2 ^ 62 }
+    {
+        match self {
+            Timer::Delay => 4_096,
+            Timer::After => 1 << 62,
+            Timer::Repeatedly => 1 << 62,
+        }
+    }
+
+    /// The form with that time and expression.
+    pub(crate) fn of(self, q: u64, c: Expr) -> Net<Expr>
+        ensures { tree_of result ≡ timer_form_of self q (expression_of c) }
+    {
+        match self {
+            Timer::Delay => Net::Delay(q, c),
+            Timer::After => Net::After(q, c),
+            Timer::Repeatedly => Net::Repeatedly(q, c),
+        }
+    }
 }
 
-/// The form of networks that the word begins.
-#[tactic(auto, unfolding(crate::specs::Grammar::net_row_at, crate::specs::Grammar::net_rows))]
-pub(crate) fn form_named(word: &[u8]) -> Option<Form>
-    ensures { option_map form_row result ≡ net_row_at network_sort word.now }
+impl Accumulator {
+    ghost use Rattle.net_text.specs.Form.{accumulator_of};
+
+    /// The form with those expressions.
+    pub(crate) fn of(self, alloc: Global, g: Expr, z: Expr) -> Result<Net<Expr>, Memory>
+        ensures { IfOk result
+            (λ net. tree_of net ≡ accumulator_of self (expression_of g) (expression_of z)) }
+    {
+        match self {
+            Accumulator::AccumBy => Ok(Net::AccumBy(g, z)),
+            Accumulator::AccumHoldBy => accum_hold_by(alloc, g, z),
+        }
+    }
+}
+
+impl Unary {
+    ghost use Rattle.net_text.specs.Form.{unary_of};
+
+    /// The form with that network.
+    pub(crate) fn of(self, alloc: Global, f: NetChild<Expr>) -> Result<Net<Expr>, Memory>
+        ensures { IfOk result
+            (λ net. tree_of net ≡ unary_of self (map_network expression_of f)) }
+    {
+        match self {
+            Unary::First => Ok(Net::First(f)),
+            Unary::Second => second(alloc, f),
+        }
+    }
+}
+
+impl Binary {
+    ghost use Rattle.net_text.specs.Form.{binary_of};
+
+    /// The form with those networks.
+    pub(crate) fn of(
+        self,
+        alloc: Global,
+        f: NetChild<Expr>,
+        g: NetChild<Expr>,
+    ) -> Result<Net<Expr>, Memory>
+        ensures { IfOk result
+            (λ net. tree_of net
+            ≡ binary_of self (map_network expression_of f) (map_network expression_of g)) }
+    {
+        match self {
+            Binary::Seq => Ok(Net::Seq(f, g)),
+            Binary::Switch => Ok(Net::Switch(f, g)),
+            Binary::DSwitch => Ok(Net::DSwitch(f, g)),
+            Binary::RSwitch => Ok(Net::RSwitch(f, g)),
+            Binary::Beside => beside(alloc, f, g),
+            Binary::FanOut => fan_out(alloc, f, g),
+        }
+    }
+}
+
+/// The form without networks that the word begins.
+fn cell_named(word: &[u8]) -> Option<Form>
+    ensures { option_map form_row result ≡ net_row_among word.now cell_rows }
 {
     if word_is(word, "arr") {
         Some(Form::Leaf(LeafForm::Arr))
     } else if word_is(word, "iPre") {
         Some(Form::Leaf(LeafForm::IPre))
-    } else if word_is(word, ">>>") {
-        Some(Form::Seq)
+    } else if word_is(word, "hold") {
+        Some(Form::Leaf(LeafForm::Hold))
+    } else if word_is(word, "delay") {
+        Some(Form::Timer(Timer::Delay))
+    } else if word_is(word, "after") {
+        Some(Form::Timer(Timer::After))
+    } else if word_is(word, "repeatedly") {
+        Some(Form::Timer(Timer::Repeatedly))
+    } else if word_is(word, "accumBy") {
+        Some(Form::Accumulator(Accumulator::AccumBy))
     } else if word_is(word, "constant") {
         Some(Form::Leaf(LeafForm::Constant))
+    } else if word_is(word, "now") {
+        Some(Form::Leaf(LeafForm::Now))
+    } else if word_is(word, "accumHoldBy") {
+        Some(Form::Accumulator(Accumulator::AccumHoldBy))
     } else {
         None
     }
 }
 
+/// The form of one or two networks that the word begins.
+fn pair_named(word: &[u8]) -> Option<Form>
+    ensures { option_map form_row result ≡ net_row_among word.now pair_rows }
+{
+    if word_is(word, "first") {
+        Some(Form::Unary(Unary::First))
+    } else if word_is(word, ">>>") {
+        Some(Form::Binary(Binary::Seq))
+    } else if word_is(word, "switch") {
+        Some(Form::Binary(Binary::Switch))
+    } else if word_is(word, "dSwitch") {
+        Some(Form::Binary(Binary::DSwitch))
+    } else if word_is(word, "rSwitch") {
+        Some(Form::Binary(Binary::RSwitch))
+    } else if word_is(word, "second") {
+        Some(Form::Unary(Unary::Second))
+    } else if word_is(word, "***") {
+        Some(Form::Binary(Binary::Beside))
+    } else if word_is(word, "&&&") {
+        Some(Form::Binary(Binary::FanOut))
+    } else {
+        None
+    }
+}
+
+/// The form of other parts that the word begins.
+fn other_named(word: &[u8]) -> Option<Form>
+    ensures { option_map form_row result ≡ net_row_among word.now other_rows }
+{
+    if word_is(word, "loopPre") {
+        Some(Form::LoopPre)
+    } else if word_is(word, "parB") {
+        Some(Form::Par)
+    } else if word_is(word, "kSwitch") {
+        Some(Form::KSwitch)
+    } else if word_is(word, "pSwitch") {
+        Some(Form::PSwitch)
+    } else if word_is(word, "old") {
+        Some(Form::Old)
+    } else if word_is(word, "never") {
+        Some(Form::Never)
+    } else {
+        None
+    }
+}
+
+/// The form of networks that the word begins.
+pub(crate) fn form_named(word: &[u8]) -> Option<Form>
+    ensures { option_map form_row result ≡ net_row_at network_sort word.now }
+{
+    if let Some(form) = cell_named(word) {
+        Some(form)
+    } else if let Some(form) = pair_named(word) {
+        Some(form)
+    } else {
+        other_named(word)
+    }
+}
+
 /// The network that the word is.
 #[tactic(auto, unfolding(crate::specs::Grammar::net_word_at, crate::specs::Grammar::net_words))]
-pub(crate) fn network_named(word: &[u8]) -> Option<Net<Expr>>
-    ensures { net_word_at network_sort word.now ≡ fit (option_map tree_of result) }
+pub(crate) fn network_named(word: &[u8]) -> Option<NetWord>
+    ensures { net_word_at network_sort word.now ≡ fit (option_map word_of result) }
 {
-    if word_is(word, "identity") {
-        Some(Net::Arr(Expr::Input))
+    if word_is(word, "time") {
+        Some(NetWord::Time)
+    } else if word_is(word, "integral") {
+        Some(NetWord::Integral)
+    } else if word_is(word, "identity") {
+        Some(NetWord::Identity)
+    } else if word_is(word, "edge") {
+        Some(NetWord::Edge)
     } else {
         None
     }

@@ -1,27 +1,29 @@
 // What network files mean, as laws of the definitions.
 
-ghost use Rattle.leaf_expr.specs.ReadLaws.{FoundLaw, OnlyLaw, OneReadingLaw, FaultLaw};
+ghost use Rattle.leaf_expr.specs.ReadLaws.{FoundLaw, OnlyLaw, OneReadingLaw, FaultLaw, OneFaultLaw};
 ghost use Rattle.net_text.specs.Grammar.{networks};
-ghost use Rattle.net_text.specs.FileLaws.{ReadFileLaw, OneFileLaw, LeafMeaningLaw, PrintedFileLaw};
-ghost use Rattle.net_text.specs.FileRows.{NetworkRows, IdentityIs, ConstantIs, FileFaultRows};
+ghost use Rattle.net_text.specs.FileLaws.{ReadFileLaw, OneFileLaw, FileFaultLaw, LeafMeaningLaw, PrintedFileLaw};
+ghost use Rattle.net_text.specs.FileRows.{CellRows, NetworkRows, SugarRows, IdentityIs, ConstantIs, SecondIs, BesideIs, FanOutIs, NeverIs, NowIs, EdgeIs, AccumHoldByIs, FileFaultRows, NumberFaultRows, MembersFaultRows};
 
 /// Reading a network, or what stands inside one, at the front of tokens: what is read is in the
-/// grammar, what is in the grammar is read whatever follows, there is one reading, and a fault is
-/// the first token that doesn't fit, by its place and kind. Types and expressions inside networks
-/// are those that they are by themselves.
+/// grammar, what is in the grammar is read whatever follows, there is one reading, a fault is
+/// answered exactly where it is the first token that doesn't fit, by its place and kind, and there
+/// is one fault. Types and expressions inside networks are those that they are by themselves.
 pub fn reading_laws()
     ensures found { FoundLaw networks }
     ensures only { OnlyLaw networks }
     ensures one { OneReadingLaw networks }
     ensures fault { FaultLaw networks }
+    ensures one_fault { OneFaultLaw networks }
     ensures leaves { LeafMeaningLaw }
 {}
 
-/// Reading a whole file: what is read is a network file, a network file is read, and it has one
-/// reading.
+/// Reading a whole file: what is read is a network file, a network file is read, it has one
+/// reading, and a fault is answered exactly where it tells why the bytes are no file.
 pub fn file_laws()
     ensures files { ReadFileLaw }
     ensures one_file { OneFileLaw }
+    ensures fault { FileFaultLaw }
 {}
 
 /// What is printed is read back, within the limits of files.
@@ -29,11 +31,25 @@ pub fn printing_laws()
     ensures { PrintedFileLaw }
 {}
 
-/// Each form of networks, read once, refusals by place and kind, and each sugar as the core form
-/// that it stands for.
+/// Each form of networks, read once, and refusals by place and kind.
 pub fn grammar_rows()
+    ensures cells { CellRows }
     ensures networks { NetworkRows }
+    ensures sugar { SugarRows }
     ensures faults { FileFaultRows }
+    ensures numbers { NumberFaultRows }
+    ensures members { MembersFaultRows }
+{}
+
+/// Each sugar as the forms that it stands for, whatever its parts are.
+pub fn sugar_laws()
     ensures identity { IdentityIs }
     ensures constant { ConstantIs }
+    ensures second { SecondIs }
+    ensures beside { BesideIs }
+    ensures fan_out { FanOutIs }
+    ensures never { NeverIs }
+    ensures now { NowIs }
+    ensures edge { EdgeIs }
+    ensures accum_hold_by { AccumHoldByIs }
 {}

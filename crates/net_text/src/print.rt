@@ -1,17 +1,19 @@
 // The one printed form of networks and of network files.
 
-ghost use Rattle.std.specs.Prelude.{◌≡◌, ◌++◌, ◌∷◌, [], IfOk, string_bytes};
+ghost use Rattle.std.specs.Prelude.{◌≡◌, ◌++◌, ◌∷◌, [], codes, IfOk, string_bytes};
+ghost use Rattle.std.specs.Fmt.{decimal};
 ghost use Rattle.sample_core.specs.Adding.{Adds};
 ghost use Rattle.sample_core.specs.TypeView.{type_of};
-ghost use Rattle.leaf_expr.specs.Sexpr.{spelling};
-ghost use Rattle.leaf_expr.specs.Printing.{one, two, expression_sexpr};
 ghost use Rattle.leaf_core.specs.ExpressionView.{expression_of};
-ghost use Rattle.net_syntax.specs.Network.{map_network};
+ghost use Rattle.leaf_expr.specs.Sexpr.{atom, form, last, more, spelling, spellings};
+ghost use Rattle.leaf_expr.specs.Printing.{one, two, three, expression_sexpr};
+ghost use Rattle.net_syntax.specs.Network.{map_network, map_networks, old, p_switch};
 ghost use Rattle.net_syntax.specs.NetworkView.{tree_of};
-ghost use Rattle.net_text.specs.Printing.{network_sexpr, file_spelling};
+ghost use Rattle.net_text.specs.Printing.{network_sexpr, network_sexprs, file_spelling};
 
+use itoa::Buffer;
 use leaf_expr::{Expr, push_expr};
-use net_syntax::{Net, NetChild};
+use net_syntax::{Members, Net, NetChild};
 use sample_core::{Memory, Ty, push_type};
 use std::alloc::Global;
 
@@ -41,7 +43,23 @@ pub fn push_net(text: &mut String, net: &Net<Expr>) -> Result<(), Memory>
     match net {
         Net::Arr(e) => push_leaf(text, "arr", e),
         Net::Seq(f, g) => push_two(text, ">>>", f, g),
+        Net::First(f) => push_one(text, "first", f),
+        Net::Par(all) => push_par(text, all),
+        Net::LoopPre(c, f) => push_loop(text, c, f),
         Net::IPre(c) => push_leaf(text, "iPre", c),
+        Net::Delay(q, c) => push_timer(text, "delay", *q, c),
+        Net::Hold(c) => push_leaf(text, "hold", c),
+        Net::AccumBy(g, z) => push_accumulator(text, g, z),
+        Net::After(q, c) => push_timer(text, "after", *q, c),
+        Net::Repeatedly(q, c) => push_timer(text, "repeatedly", *q, c),
+        Net::Time => push_word(text, "time"),
+        Net::Integral => push_word(text, "integral"),
+        Net::Switch(f, t) => push_two(text, "switch", f, t),
+        Net::DSwitch(f, t) => push_two(text, "dSwitch", f, t),
+        Net::RSwitch(f, t) => push_two(text, "rSwitch", f, t),
+        Net::KSwitch(f, e, t) => push_k_switch(text, f, e, t),
+        Net::PSwitch(r, all, e, t) => push_p_switch(text, r, all, e, t),
+        Net::Old(k) => push_old(text, *k),
     }
 }
 
@@ -53,14 +71,30 @@ fn push_word(text: &mut String, word: &str) -> Result<(), Memory>
     Ok(())
 }
 
-/// The beginning of a form, up to its first part.
+/// The beginning of a form.
 fn push_open(text: &mut String, name: &str) -> Result<(), Memory>
-    ensures { Adds result (string_bytes text.old) (string_bytes text.new)
-        ((40 ∷ name.now) ++ (32 ∷ [])) }
+    ensures { Adds result (string_bytes text.old) (string_bytes text.new) (40 ∷ name.now) }
 {
     push_word(text, "(")?;
-    push_word(text, name)?;
-    push_word(text, " ")
+    push_word(text, name)
+}
+
+/// An expression as the next part of a form.
+fn push_next_expr(text: &mut String, expr: &Expr) -> Result<(), Memory>
+    ensures { Adds result (string_bytes text.old) (string_bytes text.new)
+        (32 ∷ spelling (expression_sexpr (expression_of expr.now))) }
+{
+    push_word(text, " ")?;
+    push_expr(text, expr)
+}
+
+/// An expression as the last part of a form, and the form's end.
+fn push_last_expr(text: &mut String, expr: &Expr) -> Result<(), Memory>
+    ensures { Adds result (string_bytes text.old) (string_bytes text.new)
+        (spellings (more (expression_sexpr (expression_of expr.now)) last) ++ (41 ∷ [])) }
+{
+    push_next_expr(text, expr)?;
+    push_word(text, ")")
 }
 
 /// A form of one expression.
@@ -69,8 +103,90 @@ fn push_leaf(text: &mut String, name: &str, e: &Expr) -> Result<(), Memory>
         (spelling (one name.now (expression_sexpr (expression_of e.now)))) }
 {
     push_open(text, name)?;
-    push_expr(text, e)?;
+    push_last_expr(text, e)
+}
+
+/// A time as the next part of a form.
+fn push_time(text: &mut String, q: u64) -> Result<(), Memory>
+    ensures { Adds result (string_bytes text.old) (string_bytes text.new) (32 ∷ decimal q) }
+{
+    push_word(text, " ")?;
+    push_word(text, Buffer::new().format(q))
+}
+
+/// A form of a time and an expression.
+fn push_timer(text: &mut String, name: &str, q: u64, c: &Expr) -> Result<(), Memory>
+    ensures { Adds result (string_bytes text.old) (string_bytes text.new)
+        (spelling
+        (two name.now (atom (decimal q)) (expression_sexpr (expression_of c.now)))) }
+{
+    push_open(text, name)?;
+    push_time(text, q)?;
+    push_last_expr(text, c)
+}
+
+/// `(accumBy g z)`.
+fn push_accumulator(text: &mut String, g: &Expr, z: &Expr) -> Result<(), Memory>
+    ensures { Adds result (string_bytes text.old) (string_bytes text.new)
+        (spelling
+        (two (codes "accumBy") (expression_sexpr (expression_of g.now))
+        (expression_sexpr (expression_of z.now)))) }
+{
+    push_open(text, "accumBy")?;
+    push_next_expr(text, g)?;
+    push_last_expr(text, z)
+}
+
+/// `(old k)`.
+fn push_old(text: &mut String, k: u32) -> Result<(), Memory>
+    ensures { Adds result (string_bytes text.old) (string_bytes text.new)
+        (spelling (network_sexpr (old k))) }
+{
+    push_word(text, "(old ")?;
+    push_word(text, Buffer::new().format(k))?;
     push_word(text, ")")
+}
+
+/// A network as the next part of a form.
+#[cycle(push_net)]
+fn push_next(text: &mut String, net: &Net<Expr>) -> Result<(), Memory>
+    ensures { Adds result (string_bytes text.old) (string_bytes text.new)
+        (32 ∷ spelling (network_sexpr (tree_of net.now))) }
+{
+    push_word(text, " ")?;
+    push_net(text, net)
+}
+
+/// A network as the last part of a form, and the form's end.
+#[cycle(push_net)]
+fn push_last(text: &mut String, f: &NetChild<Expr>) -> Result<(), Memory>
+    ensures { Adds result (string_bytes text.old) (string_bytes text.new)
+        (spellings (more (network_sexpr (map_network expression_of f.now)) last) ++ (41 ∷ [])) }
+{
+    push_next(text, f.get())?;
+    push_word(text, ")")
+}
+
+/// The last two networks of a form, and the form's end.
+#[cycle(push_net)]
+fn push_last_two(text: &mut String, f: &NetChild<Expr>, g: &NetChild<Expr>) -> Result<(), Memory>
+    ensures { Adds result (string_bytes text.old) (string_bytes text.new)
+        (spellings
+        (more (network_sexpr (map_network expression_of f.now))
+        (more (network_sexpr (map_network expression_of g.now)) last)) ++ (41 ∷ [])) }
+{
+    push_next(text, f.get())?;
+    push_last(text, g)
+}
+
+/// A form of one network.
+#[cycle(push_net)]
+fn push_one(text: &mut String, name: &str, f: &NetChild<Expr>) -> Result<(), Memory>
+    ensures { Adds result (string_bytes text.old) (string_bytes text.new)
+        (spelling (one name.now (network_sexpr (map_network expression_of f.now)))) }
+{
+    push_open(text, name)?;
+    push_last(text, f)
 }
 
 /// A form of two networks.
@@ -87,8 +203,92 @@ fn push_two(
         (network_sexpr (map_network expression_of g.now)))) }
 {
     push_open(text, name)?;
-    push_net(text, f.get())?;
-    push_word(text, " ")?;
-    push_net(text, g.get())?;
+    push_last_two(text, f, g)
+}
+
+/// `(kSwitch f e t)`.
+#[cycle(push_net)]
+fn push_k_switch(
+    text: &mut String,
+    f: &NetChild<Expr>,
+    e: &NetChild<Expr>,
+    t: &NetChild<Expr>,
+) -> Result<(), Memory>
+    ensures { Adds result (string_bytes text.old) (string_bytes text.new)
+        (spelling
+        (three (codes "kSwitch") (network_sexpr (map_network expression_of f.now))
+        (network_sexpr (map_network expression_of e.now))
+        (network_sexpr (map_network expression_of t.now)))) }
+{
+    push_open(text, "kSwitch")?;
+    push_next(text, f.get())?;
+    push_last_two(text, e, t)
+}
+
+/// `(loopPre c f)`.
+#[cycle(push_net)]
+fn push_loop(text: &mut String, c: &Expr, f: &NetChild<Expr>) -> Result<(), Memory>
+    ensures { Adds result (string_bytes text.old) (string_bytes text.new)
+        (spelling
+        (two (codes "loopPre") (expression_sexpr (expression_of c.now))
+        (network_sexpr (map_network expression_of f.now)))) }
+{
+    push_open(text, "loopPre")?;
+    push_next_expr(text, c)?;
+    push_last(text, f)
+}
+
+/// `(parB f1 .. fn)`.
+#[cycle(push_net)]
+fn push_par(text: &mut String, all: &Members<Expr>) -> Result<(), Memory>
+    ensures { Adds result (string_bytes text.old) (string_bytes text.new)
+        (spelling
+        (form (codes "parB") (network_sexprs (map_networks expression_of all.now)))) }
+{
+    push_open(text, "parB")?;
+    push_members(text, all)
+}
+
+/// `(pSwitch r (col f1 .. fn) e t)`.
+#[cycle(push_net)]
+fn push_p_switch(
+    text: &mut String,
+    r: &Expr,
+    all: &Members<Expr>,
+    e: &NetChild<Expr>,
+    t: &NetChild<Expr>,
+) -> Result<(), Memory>
+    ensures { Adds result (string_bytes text.old) (string_bytes text.new)
+        (spelling
+        (network_sexpr
+        (p_switch (expression_of r.now) (map_networks expression_of all.now)
+        (map_network expression_of e.now) (map_network expression_of t.now)))) }
+{
+    push_open(text, "pSwitch")?;
+    push_next_expr(text, r)?;
+    push_col(text, all)?;
+    push_last_two(text, e, t)
+}
+
+/// `(col f1 .. fn)` as the next part of a form.
+#[cycle(push_net)]
+fn push_col(text: &mut String, all: &Members<Expr>) -> Result<(), Memory>
+    ensures { Adds result (string_bytes text.old) (string_bytes text.new)
+        (32 ∷ spelling
+        (form (codes "col") (network_sexprs (map_networks expression_of all.now)))) }
+{
+    push_word(text, " (col")?;
+    push_members(text, all)
+}
+
+/// Members, each as the next part, and the form's end.
+#[cycle(push_net)]
+fn push_members(text: &mut String, all: &Members<Expr>) -> Result<(), Memory>
+    ensures { Adds result (string_bytes text.old) (string_bytes text.new)
+        (spellings (network_sexprs (map_networks expression_of all.now)) ++ (41 ∷ [])) }
+{
+    for net in all.as_slice() {
+        push_next(text, net)?;
+    }
     push_word(text, ")")
 }

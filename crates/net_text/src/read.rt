@@ -1,28 +1,22 @@
 // Reading network files.
 
-ghost use Rattle.std.specs.Prelude.{◌≡◌, ◌<◌, ◌≤◌, Err, length, option_map, IfOk, IfErr};
-ghost use Rattle.leaf_expr.specs.Grammar.{expression_sort};
-ghost use Rattle.leaf_expr.specs.ReadText.{Gives, tree_at, expression_left};
-ghost use Rattle.leaf_core.specs.ExpressionView.{expression_of};
+ghost use Rattle.std.specs.Prelude.{◌≡◌, ◌<◌, Err, length, option_map, IfOk, IfErr};
+ghost use Rattle.leaf_expr.specs.ReadText.{Gives};
 ghost use Rattle.leaf_expr.specs.Token.{tokens, tokens_from};
 ghost use Rattle.leaf_core.specs.Expression.{Expression};
 ghost use Rattle.sample_core.specs.TypeTree.{TypeTree};
-ghost use Rattle.net_syntax.specs.Network.{Network, map_network};
+ghost use Rattle.net_syntax.specs.Network.{Network};
 ghost use Rattle.net_syntax.specs.NetworkView.{tree_of};
 ghost use Rattle.sample_core.specs.TypeView.{type_of};
 ghost use Rattle.net_text.specs.File.{behind_word, behind_header, read_body, read_behind, read_file};
 ghost use Rattle.net_text.specs.FileLaws.{IsFile, IsFileFault};
-ghost use Rattle.net_text.specs.Form.{form_row, leaf_form_row};
-ghost use Rattle.net_text.specs.ReadNet.{GivesFile, network_at as network_read, last_network_at, word_network as word_read, form_at as form_read, row_parts, network_left};
+ghost use Rattle.net_text.specs.ReadNet.{GivesFile, last_network_at};
 ghost use Rattle.net_text.specs.declared.fault.NetTextFault.TheVariants as Fault;
 
 use crate::fault::NetTextFault;
-use crate::form::{Form, LeafForm, form_named, network_named};
-use leaf_expr::{
-    Expr, ExprTextFault, Front, Lexeme, MAX_LENGTH, MAX_OPEN, form_end, form_head, front_at,
-    lexeme_at, read_expr_at, read_type_at, token_at,
-};
-use net_syntax::{Net, NetChild};
+use crate::network_reader::{network_at, type_at};
+use leaf_expr::{Expr, ExprTextFault, Lexeme, MAX_LENGTH, MAX_OPEN, lexeme_at, token_at};
+use net_syntax::Net;
 use sample_core::Ty;
 use std::alloc::Global;
 
@@ -33,7 +27,9 @@ use std::alloc::Global;
 /// first token that doesn't fit, by its first byte, counted from 0. `Header`: it is one of the
 /// first three, or they aren't all there. `TooDeep`: a parenthesis that would be the 601st open at
 /// once, also where none fits. `Number`: where a number may stand, a number word that is badly
-/// spelt or out of range: 64 bits for a literal, 0 to 65,535 for the number of a parameter.
+/// spelt or out of range: 64 bits for a literal, 0 to 65,535 for the number of a parameter or of a
+/// frozen network, 1 to 4,096 for the time of `delay`, 0 to 2^62 for that of `after`, 1 to 2^62 for
+/// that of `repeatedly`.
 /// `Syntax`: any other, among them one behind the network, or the text's length where it ends too
 /// early. `Memory`: a growth was refused.
 pub fn read_net(alloc: Global, text: &[u8]) -> Result<(Ty, Net<Expr>), NetTextFault>
@@ -46,14 +42,12 @@ pub fn read_net(alloc: Global, text: &[u8]) -> Result<(Ty, Net<Expr>), NetTextFa
     ensures long { 1048576 < length text.now → result ≡ Err Fault.TooLong }
     // What is refused is so at the first token that doesn't fit, or for its length.
     ensures refused { IfErr result (IsFileFault text.now) }
-    // Which answer it is.
-    ensures exact { GivesFile result (read_file text.now) }
 {
     file(alloc, text)
 }
 
-/// What `read_net` answers. It stands apart, since the other clauses of that contract follow from
-/// these.
+/// What `read_net` answers. It stands apart, since the clauses of that contract follow from its
+/// own.
 fn file(alloc: Global, text: &[u8]) -> Result<(Ty, Net<Expr>), NetTextFault>
     ensures long { 1048576 < length text.now → result ≡ Err Fault.TooLong }
     ensures exact { GivesFile result (read_file text.now) }
@@ -79,7 +73,7 @@ fn body_at(alloc: Global, text: &[u8], at: usize) -> Result<(Ty, Net<Expr>), Exp
     ensures { Gives (λ x. (type_of x.0, tree_of x.1)) result
         (read_body (length text.now) (tokens_from at text.now)) }
 {
-    let (input, at) = read_type_at(alloc, text, at, 0)?;
+    let (input, at) = type_at(alloc, text, at, MAX_OPEN)?;
     match last_network(alloc, text, at) {
         Ok(net) => Ok((input, net)),
         Err(fault) => {
@@ -130,144 +124,4 @@ fn word_end(text: &[u8], at: usize, word: &str) -> Option<usize>
         Lexeme::Open(_) => None,
         Lexeme::Close(_) => None,
     }
-}
-
-/// The network at or after byte `at`, with room for so many more parentheses, and the byte behind
-/// it.
-#[cycle(network)]
-fn network_at(
-    alloc: Global,
-    text: &[u8],
-    at: usize,
-    room: usize,
-) -> Result<(Net<Expr>, usize), ExprTextFault>
-    requires { room ≤ 600 }
-    ensures { Gives (network_left text.now) result (network_read text.now room at) }
-{
-    match front_at(text, at, room)? {
-        Front::Form(start) => form_at(alloc, text, start + 1, room - 1),
-        Front::Word(start, end) => word_network(text, start, end),
-    }
-}
-
-/// The network that the word is from the first byte up to and without the second, and the latter.
-fn word_network(text: &[u8], start: usize, end: usize) -> Result<(Net<Expr>, usize), ExprTextFault>
-    requires { (start < end) × (end ≤ length text.now) }
-    ensures { Gives (network_left text.now) result (word_read text.now start end) }
-{
-    match network_named(&text[start..end]) {
-        Some(net) => Ok((net, end)),
-        None => Err(ExprTextFault::Syntax { at: start }),
-    }
-}
-
-/// What stands behind the parenthesis of a form.
-#[cycle(network)]
-#[tactic(auto, using(crate::proofs::ReadSteps::named, crate::proofs::ReadSteps::unnamed, crate::proofs::ReadSteps::headless))]
-fn form_at(
-    alloc: Global,
-    text: &[u8],
-    at: usize,
-    room: usize,
-) -> Result<(Net<Expr>, usize), ExprTextFault>
-    requires { room ≤ 600 }
-    ensures { Gives (network_left text.now) result (form_read text.now room at) }
-{
-    let (start, end) = form_head(text, at, room)?;
-    match form_named(&text[start..end]) {
-        Some(form) => parts_at(alloc, text, end, room, form),
-        None => Err(ExprTextFault::Syntax { at: start }),
-    }
-}
-
-/// The parts of a form, and its end.
-#[cycle(network)]
-fn parts_at(
-    alloc: Global,
-    text: &[u8],
-    at: usize,
-    room: usize,
-    form: Form,
-) -> Result<(Net<Expr>, usize), ExprTextFault>
-    requires { room ≤ 600 }
-    ensures { Gives (network_left text.now) result (row_parts (form_row form) text.now room at) }
-{
-    match form {
-        Form::Leaf(form) => leaf_form_at(alloc, text, at, room, form),
-        Form::Seq => seq_at(alloc, text, at, room),
-    }
-}
-
-/// Two networks, and the end of the form.
-#[cycle(network)]
-fn seq_at(
-    alloc: Global,
-    text: &[u8],
-    at: usize,
-    room: usize,
-) -> Result<(Net<Expr>, usize), ExprTextFault>
-    requires { room ≤ 600 }
-    ensures { Gives (network_left text.now) result
-        (row_parts (form_row Form.Seq) text.now room at) }
-{
-    let (f, at) = sub_at(alloc, text, at, room)?;
-    let (g, at) = sub_at(alloc, text, at, room)?;
-    let end = form_end(text, at, room)?;
-    Ok((Net::Seq(f, g), end))
-}
-
-/// A network inside a network.
-#[cycle(network)]
-fn sub_at(
-    alloc: Global,
-    text: &[u8],
-    at: usize,
-    room: usize,
-) -> Result<(NetChild<Expr>, usize), ExprTextFault>
-    requires { room ≤ 600 }
-    ensures { Gives (λ x. (map_network expression_of x.0, x.1, tokens_from x.1 text.now)) result
-        (network_read text.now room at) }
-{
-    let (net, at) = network_at(alloc, text, at, room)?;
-    Ok((NetChild::new(alloc, net)?, at))
-}
-
-/// One expression, and the end of the form.
-#[tactic(auto, using(crate::proofs::Carried::read_same))]
-fn leaf_form_at(
-    alloc: Global,
-    text: &[u8],
-    at: usize,
-    room: usize,
-    form: LeafForm,
-) -> Result<(Net<Expr>, usize), ExprTextFault>
-    requires { room ≤ 600 }
-    ensures { Gives (network_left text.now) result
-        (row_parts (leaf_form_row form) text.now room at) }
-{
-    let (e, at) = expr_at(alloc, text, at, room)?;
-    match form_end(text, at, room) {
-        Ok(end) => {
-            let net = form.of(alloc, e)?;
-            Ok((net, end))
-        }
-        Err(fault) => {
-            drop(e);
-            Err(fault)
-        }
-    }
-}
-
-/// The expression at or after byte `at`, with room for so many more parentheses, and the byte
-/// behind it.
-fn expr_at(
-    alloc: Global,
-    text: &[u8],
-    at: usize,
-    room: usize,
-) -> Result<(Expr, usize), ExprTextFault>
-    requires { room ≤ 600 }
-    ensures { Gives (expression_left text.now) result (tree_at expression_sort text.now room at) }
-{
-    read_expr_at(alloc, text, at, MAX_OPEN - room)
 }

@@ -1,3 +1,4 @@
 pub mod Allowed
 pub mod RunSteps
 mod Networks
+mod Refusals

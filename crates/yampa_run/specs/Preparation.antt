@@ -45,6 +45,16 @@ pub data IsRefusedWith (bytes line : List ℕ) : Type 0 where
   by_types : (A : TypeTree) (net : Network Expression) (f : TypeFault) → IsFile bytes A net
       → check A net ≡ Err f → line ≡ type_words f → IsRefusedWith bytes line
 
+-- bytes are refused with one line
+abbrev pub OneRefusalLaw : Type 0
+OneRefusalLaw = (bytes line other : List ℕ) → IsRefusedWith bytes line → IsRefusedWith bytes other
+    → line ≡ other
+
+-- bytes that are refused have no network
+abbrev pub NoNetworkLaw : Type 0
+NoNetworkLaw = (bytes line : List ℕ) (t : TypedNetwork) → IsRefusedWith bytes line
+    → IsNetworkIn bytes t → ⊥
+
 -- a file is refused with that line, where its bytes are told
 abbrev pub IsRefusedOf : Option (List ℕ) → List ℕ → Type 0
 IsRefusedOf None line = ⊤

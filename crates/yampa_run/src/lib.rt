@@ -5,6 +5,7 @@
 mod fault;
 mod files;
 pub mod fill;
+mod laws;
 mod preparation;
 mod printed;
 mod refused;
@@ -14,6 +15,7 @@ pub use command_line::command_rows;
 pub use fault::{RunFault, RunReport};
 pub use files::{FileFault, Files};
 pub use fill::table_refusal;
+pub use laws::refusal_laws;
 pub use preparation::{Job, Refusal, prepare};
 pub use printed::fault_line;
 pub use run::run_whole;

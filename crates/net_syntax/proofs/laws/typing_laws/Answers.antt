@@ -1,4 +1,5 @@
 use Rattle.net_syntax.proofs.StreamLaws.{outputs-typed, alike-outputs, same-outputs, one-output-type, within-typed}
+use Rattle.net_syntax.proofs.NeedPlaces.{stands-at}
 use Rattle.net_syntax.proofs.OneList.{one-list}
 use Rattle.net_syntax.proofs.laws.typing_laws.Goals as goal
 
@@ -19,3 +20,6 @@ returns-clause-within c = within-typed
 
 pub returns-clause-one_list : goal.returns-clause-one_list
 returns-clause-one_list c = one-list
+
+pub returns-clause-positions : goal.returns-clause-positions
+returns-clause-positions c = stands-at

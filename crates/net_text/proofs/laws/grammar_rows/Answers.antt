@@ -1,14 +1,20 @@
-use Rattle.net_text.proofs.NetRows.{network_rows, file_fault_rows, identity_is, constant_is}
+use Rattle.net_text.proofs.NetRows.{cell_rows_read, network_rows, sugar_rows, file_fault_rows, number_fault_rows, members_fault_rows}
 use Rattle.net_text.proofs.laws.grammar_rows.Goals as goal
+
+pub returns-clause-cells : goal.returns-clause-cells
+returns-clause-cells c = cell_rows_read
 
 pub returns-clause-networks : goal.returns-clause-networks
 returns-clause-networks c = network_rows
 
+pub returns-clause-sugar : goal.returns-clause-sugar
+returns-clause-sugar c = sugar_rows
+
 pub returns-clause-faults : goal.returns-clause-faults
 returns-clause-faults c = file_fault_rows
 
-pub returns-clause-identity : goal.returns-clause-identity
-returns-clause-identity c = identity_is
+pub returns-clause-numbers : goal.returns-clause-numbers
+returns-clause-numbers c = number_fault_rows
 
-pub returns-clause-constant : goal.returns-clause-constant
-returns-clause-constant c = constant_is
+pub returns-clause-members : goal.returns-clause-members
+returns-clause-members c = members_fault_rows

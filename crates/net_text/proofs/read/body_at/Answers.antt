@@ -8,11 +8,11 @@ use Rattle.sample_core.specs.Answer.{◌>>=◌}
 
 pub returns-in-Ok : goal.returns-in-Ok
 returns-in-Ok c =
-    ap (λ r. r >>= read_network (length c.args.text.now)) c.in_ok-input.ensures.exact ∙ body_read (type_of c.in_ok-input.input)
+    ap (λ r. r >>= read_network (length c.args.text.now)) c.in_ok-input.ensures ∙ body_read (type_of c.in_ok-input.input)
     (length c.args.text.now) c.in_ok-input.at (tokens_from c.in_ok-input.at c.args.text.now) c.in-Ok.ensures
 
 pub returns-in-Err : goal.returns-in-Err
 returns-in-Err c =
-    rw c.in_ok-input.ensures.exact
+    rw c.in_ok-input.ensures
     (body_refused (type_of c.in_ok-input.input) c.in-Err.fault (length c.args.text.now) c.in_ok-input.at
     (tokens_from c.in_ok-input.at c.args.text.now) c.in-Err.ensures)

@@ -1,0 +1,48 @@
+// Reading numbers that forms take.
+
+ghost use Rattle.std.specs.Prelude.{◌<◌, ◌≤◌, ◌^◌, IfOk};
+ghost use Rattle.leaf_expr.specs.Grammar.{index_sort};
+ghost use Rattle.leaf_expr.specs.ReadText.{Gives, tree_at, natural_read};
+ghost use Rattle.leaf_expr.specs.Token.{tokens_from};
+
+use crate::text_fault::ExprTextFault;
+use crate::tree_front::form_head;
+use crate::word::{WordFault, natural_word};
+
+/// The greatest number that a parameter or a frozen network is called by in a text.
+const MAX_INDEX: u64 = 65_535;
+
+/// The natural number from `low` to `high`, below 2^63, which must be the first token at or after
+/// byte `at`, and the byte behind it. `room` is how many more parentheses may be opened.
+///
+/// `TooDeep` at a `(` where there is no room; `Number` at a number word that is badly spelt or out
+/// of that range; `Syntax` at any other token, or at the text's length where none follows. Bytes
+/// are counted from 0.
+pub fn read_natural(
+    text: &[u8],
+    at: usize,
+    room: usize,
+    low: u64,
+    high: u64,
+) -> Result<(u64, usize), ExprTextFault>
+    requires { high < 2 ^ 63 }
+    ensures number { Gives (λ x. (x.0, x.1, tokens_from x.1 text.now)) result
+        (natural_read low high text.now room at) }
+    ensures within { IfOk result (λ x. (low ≤ x.0) × (x.0 ≤ high)) }
+{
+    let (start, end) = form_head(text, at, room)?;
+    match natural_word(&text[start..end], low, high) {
+        Ok(k) => Ok((k, end)),
+        Err(WordFault::Misspelt) => Err(ExprTextFault::Number { at: start }),
+        Err(WordFault::Unfit) => Err(ExprTextFault::Syntax { at: start }),
+    }
+}
+
+/// The number of a parameter or of a frozen network, from 0 to 65,535: as `read_natural`.
+pub fn read_index(text: &[u8], at: usize, room: usize) -> Result<(u32, usize), ExprTextFault>
+    ensures { Gives (λ x. (x.0, x.1, tokens_from x.1 text.now)) result
+        (tree_at index_sort text.now room at) }
+{
+    let (k, end) = read_natural(text, at, room, 0, MAX_INDEX)?;
+    Ok((k as u32, end))
+}

@@ -1,0 +1,520 @@
+// Reading networks.
+
+ghost use Rattle.std.specs.Prelude.{◌≡◌, ◌<◌, ◌≤◌, length, map};
+ghost use Rattle.sample_core.specs.TypeView.{type_of};
+ghost use Rattle.leaf_core.specs.ExpressionView.{expression_of};
+ghost use Rattle.leaf_expr.specs.Grammar.{type_sort, expression_sort};
+ghost use Rattle.leaf_expr.specs.Language.{no_place, places};
+ghost use Rattle.leaf_expr.specs.ReadText.{Gives, tree_at, expression_left, type_left};
+ghost use Rattle.leaf_expr.specs.Token.{tokens_from};
+ghost use Rattle.net_syntax.specs.Network.{networks_of, map_network, map_networks};
+ghost use Rattle.net_syntax.specs.NetworkView.{tree_of};
+ghost use Rattle.net_text.specs.Form.{form_row, timer_of, leaf_form_row, timer_row, accumulator_row, unary_row, binary_row};
+ghost use Rattle.net_text.specs.Grammar.{network_sort, members_sort, time_sort, e, f};
+ghost use Rattle.net_text.specs.ReadNet.{sort_at, word_network as word_read, form_at as form_read, parts_at as parts_read, last_two_at as last_two_read, last_three_at as last_three_read, row_parts, network_left, child_left, members_left};
+
+use crate::form::{Accumulator, Binary, Form, LeafForm, Timer, Unary, form_named, network_named};
+use leaf_expr::{
+    Expr, ExprTextFault, Front, MAX_OPEN, closing_at, form_end, form_head, front_at, read_expr_at,
+    read_index, read_natural, read_type_at,
+};
+use net_syntax::{Members, Net, NetChild};
+use sample_core::{Ty, word_is};
+use std::alloc::Global;
+
+/// The network at or after byte `at`, with room for so many more parentheses, and the byte behind
+/// it.
+#[cycle(network)]
+pub(crate) fn network_at(
+    alloc: Global,
+    text: &[u8],
+    at: usize,
+    room: usize,
+) -> Result<(Net<Expr>, usize), ExprTextFault>
+    requires { room ≤ 600 }
+    ensures { Gives (network_left text.now) result (sort_at network_sort text.now room at) }
+{
+    match front_at(text, at, room)? {
+        Front::Form(start) => form_at(alloc, text, start + 1, room - 1),
+        Front::Word(start, end) => word_network(alloc, text, start, end),
+    }
+}
+
+/// The network that the word is from the first byte up to and without the second, and the latter.
+fn word_network(
+    alloc: Global,
+    text: &[u8],
+    start: usize,
+    end: usize,
+) -> Result<(Net<Expr>, usize), ExprTextFault>
+    requires { (start < end) × (end ≤ length text.now) }
+    ensures { Gives (network_left text.now) result (word_read text.now start end) }
+{
+    match network_named(&text[start..end]) {
+        Some(word) => {
+            let net = word.of(alloc)?;
+            Ok((net, end))
+        }
+        None => Err(ExprTextFault::Syntax { at: start }),
+    }
+}
+
+/// What stands behind the parenthesis of a form.
+#[cycle(network)]
+fn form_at(
+    alloc: Global,
+    text: &[u8],
+    at: usize,
+    room: usize,
+) -> Result<(Net<Expr>, usize), ExprTextFault>
+    requires { room ≤ 600 }
+    ensures { Gives (network_left text.now) result (form_read network_sort text.now room at) }
+{
+    let (start, end) = form_head(text, at, room)?;
+    match form_named(&text[start..end]) {
+        Some(form) => parts_at(alloc, text, end, room, form),
+        None => Err(ExprTextFault::Syntax { at: start }),
+    }
+}
+
+/// The parts of a form, and its end.
+#[cycle(network)]
+fn parts_at(
+    alloc: Global,
+    text: &[u8],
+    at: usize,
+    room: usize,
+    form: Form,
+) -> Result<(Net<Expr>, usize), ExprTextFault>
+    requires { room ≤ 600 }
+    ensures { Gives (network_left text.now) result (row_parts (form_row form) text.now room at) }
+{
+    match form {
+        Form::Leaf(form) => leaf_form_at(alloc, text, at, room, form),
+        Form::Timer(form) => timer_at(alloc, text, at, room, form),
+        Form::Accumulator(form) => accumulator_at(alloc, text, at, room, form),
+        Form::Unary(form) => unary_at(alloc, text, at, room, form),
+        Form::Binary(form) => binary_at(alloc, text, at, room, form),
+        Form::LoopPre => loop_at(alloc, text, at, room),
+        Form::Par => par_at(alloc, text, at, room),
+        Form::KSwitch => k_switch_at(alloc, text, at, room),
+        Form::PSwitch => p_switch_at(alloc, text, at, room),
+        Form::Old => old_at(text, at, room),
+        Form::Never => never_at(alloc, text, at, room),
+    }
+}
+
+/// The expression at or after byte `at`, with room for so many more parentheses, and the byte
+/// behind it.
+fn expr_at(
+    alloc: Global,
+    text: &[u8],
+    at: usize,
+    room: usize,
+) -> Result<(Expr, usize), ExprTextFault>
+    requires { room ≤ 600 }
+    ensures { Gives (expression_left text.now) result (tree_at expression_sort text.now room at) }
+{
+    read_expr_at(alloc, text, at, MAX_OPEN - room)
+}
+
+/// The type at or after byte `at`, with room for so many more parentheses, and the byte behind it.
+pub(crate) fn type_at(
+    alloc: Global,
+    text: &[u8],
+    at: usize,
+    room: usize,
+) -> Result<(Ty, usize), ExprTextFault>
+    requires { room ≤ 600 }
+    ensures { Gives (type_left text.now) result (tree_at type_sort text.now room at) }
+{
+    read_type_at(alloc, text, at, MAX_OPEN - room)
+}
+
+/// The last expression of a form, and the form's end.
+fn last_expr_at(
+    alloc: Global,
+    text: &[u8],
+    at: usize,
+    room: usize,
+) -> Result<(Expr, usize), ExprTextFault>
+    requires { room ≤ 600 }
+    ensures { Gives (expression_left text.now) result
+        (parts_read (e no_place) (λ c. c) text.now room at) }
+{
+    let (expr, at) = expr_at(alloc, text, at, room)?;
+    match form_end(text, at, room) {
+        Ok(end) => Ok((expr, end)),
+        Err(fault) => {
+            drop(expr);
+            Err(fault)
+        }
+    }
+}
+
+/// One expression, and the end of the form.
+fn leaf_form_at(
+    alloc: Global,
+    text: &[u8],
+    at: usize,
+    room: usize,
+    form: LeafForm,
+) -> Result<(Net<Expr>, usize), ExprTextFault>
+    requires { room ≤ 600 }
+    ensures { Gives (network_left text.now) result
+        (row_parts (leaf_form_row form) text.now room at) }
+{
+    let (expr, end) = last_expr_at(alloc, text, at, room)?;
+    let net = form.of(alloc, expr)?;
+    Ok((net, end))
+}
+
+/// The time of the form at or after byte `at`, and the byte behind it.
+fn time_at(text: &[u8], at: usize, room: usize, form: Timer) -> Result<(u64, usize), ExprTextFault>
+    ensures { Gives (λ x. (x.0, x.1, tokens_from x.1 text.now)) result
+        (sort_at (time_sort (timer_of form)) text.now room at) }
+{
+    read_natural(text, at, room, form.least(), form.greatest())
+}
+
+/// A time and an expression, and the end of the form.
+fn timer_at(
+    alloc: Global,
+    text: &[u8],
+    at: usize,
+    room: usize,
+    form: Timer,
+) -> Result<(Net<Expr>, usize), ExprTextFault>
+    requires { room ≤ 600 }
+    ensures { Gives (network_left text.now) result (row_parts (timer_row form) text.now room at) }
+{
+    let (q, at) = time_at(text, at, room, form)?;
+    let (c, end) = last_expr_at(alloc, text, at, room)?;
+    Ok((form.of(q, c), end))
+}
+
+/// Two expressions, and the end of the form.
+fn accumulator_at(
+    alloc: Global,
+    text: &[u8],
+    at: usize,
+    room: usize,
+    form: Accumulator,
+) -> Result<(Net<Expr>, usize), ExprTextFault>
+    requires { room ≤ 600 }
+    ensures { Gives (network_left text.now) result
+        (row_parts (accumulator_row form) text.now room at) }
+{
+    let (g, at) = expr_at(alloc, text, at, room)?;
+    match last_expr_at(alloc, text, at, room) {
+        Ok((z, end)) => {
+            let net = form.of(alloc, g, z)?;
+            Ok((net, end))
+        }
+        Err(fault) => {
+            drop(g);
+            Err(fault)
+        }
+    }
+}
+
+/// The number of a frozen network, and the end of the form.
+fn old_at(text: &[u8], at: usize, room: usize) -> Result<(Net<Expr>, usize), ExprTextFault>
+    ensures { Gives (network_left text.now) result
+        (row_parts (form_row Form.Old) text.now room at) }
+{
+    let (k, at) = read_index(text, at, room)?;
+    let end = form_end(text, at, room)?;
+    Ok((Net::Old(k), end))
+}
+
+/// A type, and the end of the form.
+fn never_at(
+    alloc: Global,
+    text: &[u8],
+    at: usize,
+    room: usize,
+) -> Result<(Net<Expr>, usize), ExprTextFault>
+    requires { room ≤ 600 }
+    ensures { Gives (network_left text.now) result
+        (row_parts (form_row Form.Never) text.now room at) }
+{
+    let (carried, at) = type_at(alloc, text, at, room)?;
+    match form_end(text, at, room) {
+        Ok(end) => Ok((Net::Arr(Expr::NoEvent(carried)), end)),
+        Err(fault) => {
+            drop(carried);
+            Err(fault)
+        }
+    }
+}
+
+/// A network inside a network.
+#[cycle(network)]
+fn child_at(
+    alloc: Global,
+    text: &[u8],
+    at: usize,
+    room: usize,
+) -> Result<(NetChild<Expr>, usize), ExprTextFault>
+    requires { room ≤ 600 }
+    ensures { Gives (child_left text.now) result (sort_at network_sort text.now room at) }
+{
+    let (net, at) = network_at(alloc, text, at, room)?;
+    let child = NetChild::new(alloc, net)?;
+    Ok((child, at))
+}
+
+/// The last network of a form, and the form's end.
+#[cycle(network)]
+fn last_child_at(
+    alloc: Global,
+    text: &[u8],
+    at: usize,
+    room: usize,
+) -> Result<(NetChild<Expr>, usize), ExprTextFault>
+    requires { room ≤ 600 }
+    ensures { Gives (child_left text.now) result
+        (parts_read (f no_place) (λ g. g) text.now room at) }
+{
+    let (child, at) = child_at(alloc, text, at, room)?;
+    let end = form_end(text, at, room)?;
+    Ok((child, end))
+}
+
+/// The last two networks of a form, and the form's end.
+#[cycle(network)]
+fn last_two_at(
+    alloc: Global,
+    text: &[u8],
+    at: usize,
+    room: usize,
+) -> Result<(NetChild<Expr>, NetChild<Expr>, usize), ExprTextFault>
+    requires { room ≤ 600 }
+    ensures { Gives
+        (λ x. (
+          (map_network expression_of x.0, map_network expression_of x.1),
+          x.2,
+          tokens_from x.2 text.now,
+        )) result
+        (last_two_read text.now room at) }
+{
+    let (g, at) = child_at(alloc, text, at, room)?;
+    let (h, end) = last_child_at(alloc, text, at, room)?;
+    Ok((g, h, end))
+}
+
+/// One network, and the end of the form.
+#[cycle(network)]
+fn unary_at(
+    alloc: Global,
+    text: &[u8],
+    at: usize,
+    room: usize,
+    form: Unary,
+) -> Result<(Net<Expr>, usize), ExprTextFault>
+    requires { room ≤ 600 }
+    ensures { Gives (network_left text.now) result (row_parts (unary_row form) text.now room at) }
+{
+    let (g, end) = last_child_at(alloc, text, at, room)?;
+    let net = form.of(alloc, g)?;
+    Ok((net, end))
+}
+
+/// Two networks, and the end of the form.
+#[cycle(network)]
+fn binary_at(
+    alloc: Global,
+    text: &[u8],
+    at: usize,
+    room: usize,
+    form: Binary,
+) -> Result<(Net<Expr>, usize), ExprTextFault>
+    requires { room ≤ 600 }
+    ensures { Gives (network_left text.now) result (row_parts (binary_row form) text.now room at) }
+{
+    let (g, h, end) = last_two_at(alloc, text, at, room)?;
+    let net = form.of(alloc, g, h)?;
+    Ok((net, end))
+}
+
+/// Three networks, and the end of the form.
+#[cycle(network)]
+fn k_switch_at(
+    alloc: Global,
+    text: &[u8],
+    at: usize,
+    room: usize,
+) -> Result<(Net<Expr>, usize), ExprTextFault>
+    requires { room ≤ 600 }
+    ensures { Gives (network_left text.now) result
+        (row_parts (form_row Form.KSwitch) text.now room at) }
+{
+    let (g, at) = child_at(alloc, text, at, room)?;
+    let (test, t, end) = last_two_at(alloc, text, at, room)?;
+    Ok((Net::KSwitch(g, test, t), end))
+}
+
+/// An expression and a network, and the end of the form.
+#[cycle(network)]
+fn loop_at(
+    alloc: Global,
+    text: &[u8],
+    at: usize,
+    room: usize,
+) -> Result<(Net<Expr>, usize), ExprTextFault>
+    requires { room ≤ 600 }
+    ensures { Gives (network_left text.now) result
+        (row_parts (form_row Form.LoopPre) text.now room at) }
+{
+    let (c, at) = expr_at(alloc, text, at, room)?;
+    match last_child_at(alloc, text, at, room) {
+        Ok((g, end)) => Ok((Net::LoopPre(c, g), end)),
+        Err(fault) => {
+            drop(c);
+            Err(fault)
+        }
+    }
+}
+
+/// Members, and the end of the form.
+#[cycle(network)]
+fn par_at(
+    alloc: Global,
+    text: &[u8],
+    at: usize,
+    room: usize,
+) -> Result<(Net<Expr>, usize), ExprTextFault>
+    requires { room ≤ 600 }
+    ensures { Gives (network_left text.now) result
+        (row_parts (form_row Form.Par) text.now room at) }
+{
+    let (all, end) = members_at(alloc, text, at, room)?;
+    Ok((Net::Par(all), end))
+}
+
+/// An expression, members and two networks, and the end of the form.
+#[cycle(network)]
+fn p_switch_at(
+    alloc: Global,
+    text: &[u8],
+    at: usize,
+    room: usize,
+) -> Result<(Net<Expr>, usize), ExprTextFault>
+    requires { room ≤ 600 }
+    ensures { Gives (network_left text.now) result
+        (row_parts (form_row Form.PSwitch) text.now room at) }
+{
+    let (r, at) = expr_at(alloc, text, at, room)?;
+    match last_three_at(alloc, text, at, room) {
+        Ok((all, test, t, end)) => Ok((Net::PSwitch(r, all, test, t), end)),
+        Err(fault) => {
+            drop(r);
+            Err(fault)
+        }
+    }
+}
+
+/// Members and the last two networks of a form, and the form's end.
+#[cycle(network)]
+fn last_three_at(
+    alloc: Global,
+    text: &[u8],
+    at: usize,
+    room: usize,
+) -> Result<(Members<Expr>, NetChild<Expr>, NetChild<Expr>, usize), ExprTextFault>
+    requires { room ≤ 600 }
+    ensures { Gives
+        (λ x. (
+          (
+            map_networks expression_of x.0,
+            map_network expression_of x.1,
+            map_network expression_of x.2,
+          ),
+          x.3,
+          tokens_from x.3 text.now,
+        )) result
+        (last_three_read text.now room at) }
+{
+    let (all, at) = col_at(alloc, text, at, room)?;
+    let (g, h, end) = last_two_at(alloc, text, at, room)?;
+    Ok((all, g, h, end))
+}
+
+/// `(col f1 .. fn)` at or after byte `at`, with room for so many more parentheses, as members, and
+/// the byte behind it.
+#[cycle(network)]
+fn col_at(
+    alloc: Global,
+    text: &[u8],
+    at: usize,
+    room: usize,
+) -> Result<(Members<Expr>, usize), ExprTextFault>
+    requires { room ≤ 600 }
+    ensures { Gives (members_left text.now) result (sort_at members_sort text.now room at) }
+{
+    match front_at(text, at, room)? {
+        Front::Form(start) => col_form_at(alloc, text, start + 1, room - 1),
+        Front::Word(start, _) => Err(ExprTextFault::Syntax { at: start }),
+    }
+}
+
+/// What stands behind the parenthesis of `(col f1 .. fn)`.
+#[cycle(network)]
+fn col_form_at(
+    alloc: Global,
+    text: &[u8],
+    at: usize,
+    room: usize,
+) -> Result<(Members<Expr>, usize), ExprTextFault>
+    requires { room ≤ 600 }
+    ensures { Gives (members_left text.now) result (form_read members_sort text.now room at) }
+{
+    let (start, end) = form_head(text, at, room)?;
+    if word_is(&text[start..end], "col") {
+        members_at(alloc, text, end, room)
+    } else {
+        Err(ExprTextFault::Syntax { at: start })
+    }
+}
+
+/// Networks up to the end of the form as members, and the form's end.
+#[cycle(network)]
+fn members_at(
+    alloc: Global,
+    text: &[u8],
+    at: usize,
+    room: usize,
+) -> Result<(Members<Expr>, usize), ExprTextFault>
+    requires { room ≤ 600 }
+    ensures { Gives (members_left text.now) result
+        (parts_read (places network_sort) networks_of text.now room at) }
+{
+    let (all, end) = networks_at(alloc, text, at, room)?;
+    let members = Members::new(alloc, all)?;
+    Ok((members, end))
+}
+
+/// Networks up to the end of the form, and the form's end.
+#[cycle(network)]
+fn networks_at(
+    alloc: Global,
+    text: &[u8],
+    at: usize,
+    room: usize,
+) -> Result<(Vec<Net<Expr>>, usize), ExprTextFault>
+    requires { room ≤ 600 }
+    ensures { Gives (λ x. (map tree_of x.0.items, x.1, tokens_from x.1 text.now)) result
+        (parts_read (places network_sort) (λ fs. fs) text.now room at) }
+{
+    let mut all = Vec::new(alloc);
+    let mut next = at;
+    loop {
+        if let Some(end) = closing_at(text, next) {
+            return Ok((all, end));
+        }
+        let (net, behind) = network_at(alloc, text, next, room)?;
+        all.push(net)?;
+        next = behind;
+    }
+}

@@ -1,0 +1,8 @@
+use Rattle.yampa_run.proofs.Refusals.{one_refusal, no_network}
+use Rattle.yampa_run.proofs.laws.refusal_laws.Goals as goal
+
+pub returns-clause-one_line : goal.returns-clause-one_line
+returns-clause-one_line c = one_refusal
+
+pub returns-clause-no_network : goal.returns-clause-no_network
+returns-clause-no_network c = no_network
