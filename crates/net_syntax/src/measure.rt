@@ -97,7 +97,7 @@ fn weight_left<L>(alloc: Global, net: &Net<L>, scope: &[u32], most: u32) -> Resu
         | Net::Time
         | Net::Integral => less(most, 1),
         Net::First(f) | Net::LoopPre(_, f) => weight_left_of_one(alloc, f, scope, most),
-        Net::Seq(f, g) | Net::Switch(f, g) | Net::DSwitch(f, g) | Net::RSwitch(f, g) => {
+        Net::Seq(f, g) | Net::RSwitch(f, g) | Net::Switch(f, g) | Net::DSwitch(f, g) => {
             weight_left_of_two(alloc, f, g, scope, most)
         }
         Net::Par(fs) => weight_left_of_all(alloc, fs, scope, most),

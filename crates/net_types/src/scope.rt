@@ -97,7 +97,7 @@ pub(crate) fn arrow_between(alloc: Global, input: &Ty, output: &Ty) -> Result<Ar
 
 /// Copies of the types, in order.
 fn copied_olds(alloc: Global, olds: &[Arrow]) -> Result<Vec<Arrow>, Memory>
-    ensures { IfOk result (λ copied. map arrow_of copied.items ≡ map arrow_of olds.now) }
+    ensures { IfOk result (λ copied. copied.items ≡ olds.now) }
 {
     let mut copied = Vec::with_capacity(alloc, olds.len())?;
     for old in olds {

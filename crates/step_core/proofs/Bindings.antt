@@ -1,5 +1,5 @@
 -- What binding finds, and what it makes.
-use Rattle.std.proofs.Common.{◌≡◌, ℕ, ◌<◌, List, [], ◌∷◌, ◌++◌, Some, slice_get, take, length, map, sym, ap, ap₂, ◌∙◌, subst, arith, append_assoc, append-nil, Contains, inl, inr, Result, Ok, Err, IfErr}
+use Rattle.std.proofs.Common.{◌≡◌, ℕ, ◌<◌, List, [], ◌∷◌, ◌++◌, Some, slice_get, take, length, map, sym, ap, ap₂, ◌∙◌, subst, arith, append_assoc, append-nil, Contains, inl, inr, Result, Ok, Err, IfErr, Bool, true, false, ◌&&◌, refl}
 use Rattle.std.proofs.Math.Logic.{∥∥₁_elim, ∥∥₁_map}
 use Rattle.std.proofs.Math.Bridge.{le_prop}
 use Rattle.std.proofs.lemmas.Option.{slice_get_within, get_or_from_slice_get}
@@ -16,7 +16,7 @@ use Rattle.net_syntax.specs.Typing.{arr_typed, seq_typed, i_pre_typed}
 use Rattle.step_core.specs.declared.fault.BindFault.{BindFault}
 use Rattle.step_core.specs.declared.fault.BindFault.TheVariants as F
 use Rattle.step_core.specs.RowTyping.{RowsTyped, network_by, expression_in}
-use Rattle.step_core.specs.Lookup.{AllFound, FirstMissing, Misses, MissesIn, IsFirstRow, BeginsWith, LowersTo, Refuses}
+use Rattle.step_core.specs.Lookup.{AllFound, FirstMissing, Misses, MissesIn, IsFirstRow, BeginsWith, LowersTo, Refuses, stepped}
 
 -- a key that has a row
 has_row : (keys : List KeyTree) (k : ℕ) (key : KeyTree) → slice_get keys k ≡ Some key → Contains keys key
@@ -82,6 +82,8 @@ missing_behind keys (m ∷ ms) os p a h = inr (
 
 pub refused_arr : (keys : List KeyTree) (e : Expression) (ns : List Need) (fault : BindFault) → Misses keys (take 1 ns) fault → Refuses keys (arr e) ns fault
 refused_arr keys e ns F.Memory m at A B d rest q = tt
+refused_arr keys e [] F.NotYetRun m at A B d rest q = absurd m
+refused_arr keys e (n ∷ ns) F.NotYetRun m at A B d rest q = absurd m
 refused_arr keys e [] (F.MissingLeaf p) m at A B d rest q = absurd m
 refused_arr keys e (n ∷ ns) (F.MissingLeaf p) m at A B (arr_typed h) rest q =
     subst (λ o. FirstMissing keys (o ∷ []) p) (let same : n ≡ need_at at 0 e [] A B = cc in same) m
@@ -89,13 +91,21 @@ refused_arr keys e (n ∷ ns) (F.MissingLeaf p) m at A B (arr_typed h) rest q =
 pub refused_i_pre : (keys : List KeyTree) (e : Expression) (ns : List Need) (fault : BindFault) → Misses keys (take 1 ns) fault
     → Refuses keys (i_pre e) ns fault
 refused_i_pre keys e ns F.Memory m at A B d rest q = tt
+refused_i_pre keys e [] F.NotYetRun m at A B d rest q = absurd m
+refused_i_pre keys e (n ∷ ns) F.NotYetRun m at A B d rest q = absurd m
 refused_i_pre keys e [] (F.MissingLeaf p) m at A B d rest q = absurd m
 refused_i_pre keys e (n ∷ ns) (F.MissingLeaf p) m at A B (i_pre_typed h) rest q =
     subst (λ o. FirstMissing keys (o ∷ []) p) (let same : n ≡ need_at at 0 e [] unit_ty A = cc in same) m
 
+and_false : (b : Bool) → (b && false) ≡ false
+and_false true = refl
+and_false false = refl
+
 pub refused_first : (keys : List KeyTree) (f g : Network Expression) (ns : List Need) (fault : BindFault) → Refuses keys f ns fault
     → Refuses keys (seq f g) ns fault
 refused_first keys f g ns F.Memory hf at A C d rest q = tt
+refused_first keys f g ns F.NotYetRun hf at A C (seq_typed {B = B} df dg) rest q =
+    ap (λ b. b && stepped g) (hf (at ++ 0 ∷ []) A B df (leaves_by (at ++ 1 ∷ []) dg ++ rest) (behind ns _ (leaves_by (at ++ 1 ∷ []) dg) rest q))
 refused_first keys f g ns (F.MissingLeaf p) hf at A C (seq_typed {B = B} df dg) rest q =
     let ms : List Need = leaves_by (at ++ 0 ∷ []) df in
     let os : List Need = leaves_by (at ++ 1 ∷ []) dg in
@@ -104,6 +114,9 @@ refused_first keys f g ns (F.MissingLeaf p) hf at A C (seq_typed {B = B} df dg) 
 pub refused_second : (keys : List KeyTree) (f g : Network Expression) (ns middle : List Need) (a : Network ℕ) (fault : BindFault)
     → LowersTo keys f ns a middle → Refuses keys g middle fault → Refuses keys (seq f g) ns fault
 refused_second keys f g ns middle a F.Memory hf hg at A C d rest q = tt
+refused_second keys f g ns middle a F.NotYetRun hf hg at A C (seq_typed {B = B} df dg) rest q =
+    let one = hf (at ++ 0 ∷ []) A B df (leaves_by (at ++ 1 ∷ []) dg ++ rest) (behind ns _ (leaves_by (at ++ 1 ∷ []) dg) rest q) in
+    ap (λ b. stepped f && b) (hg (at ++ 1 ∷ []) B C dg rest one.3) ∙ and_false (stepped f)
 refused_second keys f g ns middle a (F.MissingLeaf p) hf hg at A C (seq_typed {B = B} df dg) rest q =
     let ms : List Need = leaves_by (at ++ 0 ∷ []) df in
     let os : List Need = leaves_by (at ++ 1 ∷ []) dg in
@@ -170,6 +183,9 @@ bound_network keys t net ms ns left low n m l lowered =
 pub missed_in : (keys : List KeyTree) (t : TypedNetwork) (net : Network Expression) (ms ns : List Need) (fault : BindFault) → net ≡ t.net → ms ≡ ns
     → LeavesOf t ns → Refuses keys net ms fault → MissesIn keys t fault
 missed_in keys t net ms ns F.Memory n m l h = tt
+missed_in keys t net ms ns F.NotYetRun n m l h =
+    let here : Refuses keys t.net ns F.NotYetRun = subst (λ o. Refuses keys o ns F.NotYetRun) n (subst (λ o. Refuses keys net o F.NotYetRun) m h) in
+    here [] t.input t.output l.0 [] (l.1 ∙ sym (append-nil (leaves_by [] l.0)))
 missed_in keys t net ms ns (F.MissingLeaf p) n m l h =
     let here : Refuses keys t.net ns (F.MissingLeaf p) = subst (λ o. Refuses keys o ns (F.MissingLeaf p)) n
     (subst (λ o. Refuses keys net o (F.MissingLeaf p)) m h) in

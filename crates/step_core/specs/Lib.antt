@@ -12,6 +12,7 @@ pub mod EmptyScope
 pub mod Rank
 pub mod RowTyping
 pub mod RowsView
+pub mod RowDepth
 pub mod Binding
 pub mod CellValues
 pub mod RunnerState

@@ -11,8 +11,8 @@ ghost use Rattle.step_core.specs.RowsView.{rows_in};
 ghost use Rattle.step_core.specs.CellValues.{BeginsWithState, StartsTyped, StepsTyped, IsFirst};
 ghost use Rattle.step_core.specs.RowTyping.{FitsRows};
 
+use crate::row_net::RowNet;
 use leaf_table::{LeafId, LeafTable};
-use net_syntax::Net;
 use sample_core::{Memory, Sample};
 use std::alloc::Global;
 
@@ -21,7 +21,7 @@ use std::alloc::Global;
 pub(crate) fn start(
     alloc: Global,
     table: &LeafTable,
-    net: &Net<LeafId>,
+    net: &RowNet,
     next: &mut Vec<Sample>,
     sample: &Sample,
 ) -> Result<Sample, Memory>
@@ -31,14 +31,14 @@ pub(crate) fn start(
         (map datum_of next.old.items) (map datum_of next.new.items)) }
 {
     match net {
-        Net::Arr(e) => table.call(*e, &[], sample),
-        Net::Seq(f, g) => {
+        RowNet::Arr(e) => table.call(*e, &[], sample),
+        RowNet::Seq(f, g) => {
             let between = start(alloc, table, f.get(), next, sample)?;
             let answer = start(alloc, table, g.get(), next, &between);
             drop(between);
             answer
         }
-        Net::IPre(c) => {
+        RowNet::IPre(c) => {
             keep(alloc, next, sample)?;
             constant(table, *c)
         }
@@ -51,7 +51,7 @@ pub(crate) fn start(
 pub(crate) fn step<'a>(
     alloc: Global,
     table: &LeafTable,
-    net: &Net<LeafId>,
+    net: &RowNet,
     cells: &'a [Sample],
     next: &mut Vec<Sample>,
     dt: u64,
@@ -64,14 +64,14 @@ pub(crate) fn step<'a>(
         (map datum_of next.new.items) (map datum_of r.1.now)) }
 {
     match net {
-        Net::Arr(e) => Ok((table.call(*e, &[], sample)?, cells)),
-        Net::Seq(f, g) => {
+        RowNet::Arr(e) => Ok((table.call(*e, &[], sample)?, cells)),
+        RowNet::Seq(f, g) => {
             let (between, rest) = step(alloc, table, f.get(), cells, next, dt, sample)?;
             let answer = step(alloc, table, g.get(), rest, next, dt, &between);
             drop(between);
             answer
         }
-        Net::IPre(_) => {
+        RowNet::IPre(_) => {
             keep(alloc, next, sample)?;
             first_cell(alloc, cells)
         }

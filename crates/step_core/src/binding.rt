@@ -13,14 +13,16 @@ ghost use Rattle.step_core.specs.Lookup.{BeginsWith, FindsAll, IsFirstRow, Lower
 
 use crate::bound::Bound;
 use crate::fault::BindFault;
+use crate::row_net::{RowChild, RowNet};
 use leaf_core::Expr;
 use leaf_table::{LeafId, LeafTable};
-use net_syntax::{LeafNeed, Net, NetChild, Position, TypedNet, leaves};
+use net_syntax::{LeafNeed, Net, Position, TypedNet, leaves};
 use sample_core::Memory;
 use std::alloc::Global;
 
 /// The network with a row of the table in the place of each expression.
-/// `MissingLeaf` where an expression has no row, at the first such from the root on.
+/// `MissingLeaf` where an expression has no row, at the first such from the root on. `NotYetRun`
+/// only where the network has a form other than `arr`, `>>>` and `iPre`.
 pub fn bind(alloc: Global, net: &TypedNet, table: &LeafTable) -> Result<Bound, BindFault>
     ensures input { IfOk result (λ b. b.input ≡ net.now.input) }
     ensures network { IfOk result (λ b. network_by (rows_of table.now) b.rows ≡ net.now.net) }
@@ -38,13 +40,14 @@ pub fn bind(alloc: Global, net: &TypedNet, table: &LeafTable) -> Result<Bound, B
 }
 
 /// The network, whose needs come first, with a row in the place of each expression, and the needs
-/// behind its own. `MissingLeaf` at the first of its own that has no row.
+/// behind its own. `MissingLeaf` at the first of its own that has no row, `NotYetRun` only where it
+/// has a form that isn't stepped.
 fn lower<'a>(
     alloc: Global,
     table: &LeafTable,
     net: &Net<Expr>,
     needs: &'a [LeafNeed],
-) -> Result<(Net<LeafId>, &'a [LeafNeed]), BindFault>
+) -> Result<(RowNet, &'a [LeafNeed]), BindFault>
     requires { BeginsWith (tree_of net.now) (map need_of needs.now) }
     ensures lowered { IfOk result (λ r. LowersTo (rows_of table.now) (tree_of net.now)
         (map need_of needs.now) (rows_in r.0) (map need_of r.1.now)) }
@@ -54,19 +57,20 @@ fn lower<'a>(
     match net {
         Net::Arr(_) => {
             let (row, rest) = first_row(alloc, table, needs)?;
-            Ok((Net::Arr(row), rest))
+            Ok((RowNet::Arr(row), rest))
         }
         Net::Seq(f, g) => {
             let (first, rest) = lower(alloc, table, f.get(), needs)?;
-            let first = NetChild::new(alloc, first)?;
+            let first = RowChild::new(alloc, first)?;
             let (second, rest) = lower(alloc, table, g.get(), rest)?;
-            let second = NetChild::new(alloc, second)?;
-            Ok((Net::Seq(first, second), rest))
+            let second = RowChild::new(alloc, second)?;
+            Ok((RowNet::Seq(first, second), rest))
         }
         Net::IPre(_) => {
             let (row, rest) = first_row(alloc, table, needs)?;
-            Ok((Net::IPre(row), rest))
+            Ok((RowNet::IPre(row), rest))
         }
+        _ => Err(BindFault::NotYetRun),
     }
 }
 

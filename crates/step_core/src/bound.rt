@@ -4,8 +4,7 @@ ghost use Rattle.std.specs.Prelude.{◌≡◌};
 ghost use Rattle.sample_core.specs.TypeView.{type_of};
 ghost use Rattle.step_core.specs.RowsView.{rows_in};
 
-use leaf_table::LeafId;
-use net_syntax::Net;
+use crate::row_net::RowNet;
 use sample_core::Ty;
 use std::marker::Model;
 
@@ -13,7 +12,7 @@ use std::marker::Model;
 #[derive(Drop)]
 pub struct Bound {
     pub(crate) input: Ty,
-    pub(crate) net: Net<LeafId>,
+    pub(crate) net: RowNet,
 }
 
 impl Model for Bound {
@@ -38,7 +37,7 @@ impl Bound {
     }
 
     /// The network over the numbers of rows.
-    pub(crate) fn net(&self) -> &Net<LeafId>
+    pub(crate) fn net(&self) -> &RowNet
         ensures { rows_in result.now ≡ self.now.rows }
     {
         &self.net

@@ -15,6 +15,9 @@ pub enum BindFault {
         /// Where the expression stands.
         position: Position,
     },
+    /// The network has a form that isn't stepped yet: another than `arr`, `>>>` and `iPre`.
+    #[error("a form that is not run yet")]
+    NotYetRun,
     /// A growth was refused.
     #[error("memory")]
     Memory,

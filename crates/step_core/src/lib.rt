@@ -6,6 +6,7 @@ mod binding;
 mod bound;
 mod fault;
 mod laws;
+mod row_net;
 mod runner;
 
 pub use binding::bind;

@@ -1,5 +1,5 @@
 use Rattle.std.proofs.Common.{rules, ap, sym, ◌∙◌, subst}
-use Rattle.net_syntax.specs.Network.{seq, map_network}
+use Rattle.net_syntax.specs.Network.{seq}
 use Rattle.step_core.specs.RowsView.{row_number, rows_in}
 use Rattle.step_core.specs.RowTyping.{FitsRows}
 use Rattle.step_core.proofs.Advancing.{fits_arr, fits_i_pre, fits_first, fits_second, arr_begun, i_pre_begun, seq_begun, if_ok}
@@ -14,15 +14,15 @@ constant-requires g t c = fits_i_pre _ _ (subst (FitsRows _) (ap rows_in c.in-IP
 pub start-requires : goal.start-requires
 start-requires g t c = (
   search rules,
-  fits_first _ _ (map_network row_number c.in-Seq.g)
-      (subst (FitsRows _) (ap rows_in c.in-Seq.is ∙ (λ i. seq (map_network row_number (sym c.get.ensures i)) (map_network row_number c.in-Seq.g))) c.requires),
+  fits_first _ _ c.in-Seq.g
+      (subst (FitsRows _) (ap rows_in c.in-Seq.is ∙ (λ i. seq (sym c.get.ensures i) c.in-Seq.g)) c.requires),
 )
 
 pub start-answer-requires : goal.start-answer-requires
 start-answer-requires g t c = (
   search rules,
-  fits_second _ (map_network row_number c.in-Seq.f) _
-      (subst (FitsRows _) (ap rows_in c.in-Seq.is ∙ (λ i. seq (map_network row_number c.in-Seq.f) (map_network row_number (sym c.get-in-Seq.ensures i))))
+  fits_second _ c.in-Seq.f _
+      (subst (FitsRows _) (ap rows_in c.in-Seq.is ∙ (λ i. seq c.in-Seq.f (sym c.get-in-Seq.ensures i)))
       c.requires),
 )
 
@@ -31,7 +31,7 @@ returns-in-Arr g t c = if_ok c.call.result _ _ (λ y h. arr_begun _ _ _ _ _ _ (a
 
 pub returns-in_ok-between-in-Seq : goal.returns-in_ok-between-in-Seq
 returns-in_ok-between-in-Seq g t c =
-    let form = ap rows_in c.in-Seq.is ∙ (λ i. seq (map_network row_number (sym c.get.ensures i)) (map_network row_number (sym c.get-in-Seq.ensures i))) in
+    let form = ap rows_in c.in-Seq.is ∙ (λ i. seq (sym c.get.ensures i) (sym c.get-in-Seq.ensures i)) in
     if_ok c.start-answer.result _ _ (λ y h. seq_begun _ _ _ _ _ _ _ _ _ _ form c.in_ok-between-in-Seq.ensures h) c.start-answer.ensures
 
 pub returns-in_ok-keep-in-IPre : goal.returns-in_ok-keep-in-IPre

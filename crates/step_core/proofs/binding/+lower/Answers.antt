@@ -35,8 +35,8 @@ returns-in_ok-row-in-IPre-clause-lowered g t c = lowers_as _ _ _ _ _ _ _ (ap tre
 pub returns-in_ok-second-in-Seq-2-clause-lowered : goal.returns-in_ok-second-in-Seq-2-clause-lowered
 returns-in_ok-second-in-Seq-2-clause-lowered g t c =
     let form = ap tree_of c.in-Seq.is ∙ (λ i. seq (map_network expression_of (sym c.get.ensures i)) (map_network expression_of (sym c.get-in-Seq.ensures i))) in
-    lowers_as _ _ _ _ _ _ _ form (λ i. seq (map_network row_number (c.in_ok-first-in-Seq-2.ensures i))
-    (map_network row_number (c.in_ok-second-in-Seq-2.ensures i)))
+    lowers_as _ _ _ _ _ _ _ form (λ i. seq (c.in_ok-first-in-Seq-2.ensures i)
+    (c.in_ok-second-in-Seq-2.ensures i))
     (lowered_seq _ _ _ _ _ _ _ _ c.in_ok-first-in-Seq.ensures.lowered c.in_ok-second-in-Seq.ensures.lowered)
 
 pub returns-in_err-row-in-Arr-clause-missing : goal.returns-in_err-row-in-Arr-clause-missing
