@@ -22,9 +22,6 @@ use yampa_run::{
     Job, Refusal, RunFault, StreamFault, fault_line, fill_table, prepare, run_whole, table_refusal,
 };
 
-/// The status of a file that is refused.
-const UNFIT: u8 = 1;
-
 /// The status of a program that could not read, write or get memory.
 const BROKEN: u8 = 3;
 
@@ -121,7 +118,6 @@ fn run_on(rt: &HostRuntime, net: &TypedNet, table: &LeafTable) -> u8 {
             status
         }
         Err(BindFault::Memory) => refuse(rt, &Refusal::Memory),
-        Err(BindFault::NotYetRun) => complain(rt, UNFIT, "a form that is not run yet"),
         // The table was filled with a row for each expression, so this doesn't come.
         Err(BindFault::MissingLeaf { position: _ }) => complain(rt, BROKEN, "no row"),
     }
