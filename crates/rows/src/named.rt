@@ -1,6 +1,6 @@
-// Networks that several tables try, by their names.
+// Files and networks that several tables try, by their names.
 
-/// The file of the network of that name, in short form; nothing where no network has it.
+/// The file or the network of that name, in short form; nothing where neither has it.
 pub fn network_named(name: &str) -> &'static str {
     match name {
         "increment" => "yampa 1 input Int (>>> (arr (add x 1)) (iPre 0))",
@@ -14,6 +14,34 @@ pub fn network_named(name: &str) -> &'static str {
         "tallest" => "yampa 1 input Int {255*(>>> (arr x) }(arr x){255*)}",
         "too tall" => "yampa 1 input Int {256*(>>> (arr x) }(arr x){256*)}",
         "deep event" => "yampa 1 input {31*(Event }Int{31*)} (arr (event x))",
+        "event above nine" => "(arr (pair x (if (less 9 x) (event x) (none Int))))",
+        "event at one" => "(arr (if (equal (fst x) 1) (event unit) (none Unit)))",
+        "resumed" => RESUMED,
+        "routed" => ROUTED,
+        "forms" => FORMS,
         _ => "",
     }
 }
+
+/// The time, frozen at the first 1, and resumed at the first 2 behind that.
+const RESUMED: &str = "(kSwitch time (arr (if (equal (fst x) 1) (event unit) (none Unit))) \
+    (switch (arr (pair -1 (if (equal x 2) (event unit) (none Unit)))) (old 0)))";
+
+/// Two members, frozen at the first 7, and resumed in the other order.
+const ROUTED: &str = "(pSwitch (fst x) (col time integral) \
+    (arr (if (equal (fst x) 7) (event unit) (none Unit))) (parB (old 1) (old 0)))";
+
+/// A network in which each of the nineteen forms stands, on numbers. It is no whole file.
+const FORMS: &str = "(parB (arr (add x 1)) (iPre 0) (delay 3 0) time integral \
+    (>>> (arr (event x)) (hold 0)) \
+    (>>> (arr (event x)) (>>> (accumBy (add (fst x) (snd x)) 0) (hold 0))) \
+    (>>> (after 5 unit) (arr 1)) \
+    (>>> (repeatedly 5 unit) (arr 1)) \
+    (>>> (arr (pair x true)) (>>> (first (arr (neg x))) (arr (fst x)))) \
+    (loopPre 0 (arr (pair (add (fst x) (snd x)) (fst x)))) \
+    (switch (arr (pair x (event x))) (arr (add x (p 0)))) \
+    (dSwitch (arr (pair x (event x))) (arr (sub x (p 0)))) \
+    (>>> (arr (pair x (event true))) (rSwitch (arr x) (arr (if (p 0) x 0)))) \
+    (kSwitch (arr (mul x 2)) (arr (event (snd x))) (>>> (old 0) (arr (add x (p 0))))) \
+    (>>> (pSwitch (fst x) (col (arr x) integral) (arr (event (len (snd x)))) \
+    (parB (old 0) (arr (p 0)))) (arr (nth x 0 0))))";
