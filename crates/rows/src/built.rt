@@ -74,6 +74,9 @@ pub fn built_told(alloc: Global, given: &str, out: &mut String) {
 
 /// A network of that form with that number.
 fn numbered_net(form: &str, number: usize) -> Net<Expr> {
+    if form == "old" {
+        return Net::Old(u32::try_from(number).unwrap_or(0));
+    }
     let constant = Expr::Literal(Literal::Int(7));
     match form {
         "after" => Net::After(number as u64, constant),
@@ -150,7 +153,7 @@ types 60 => too heavy
 
 /// Forms with numbers at the ends of their ranges and past them.
 static BUILT: &str = "
-§ Numbers that no file can have, two levels deep.
+§ Numbers at the ends of their ranges, and some that no file can have, two levels deep.
 delay 0 => number (at 1 0)
 delay 1 => Int -> Int weight 5 height 3
 delay 4096 => Int -> Int weight 5 height 3
@@ -163,6 +166,8 @@ repeatedly 0 => number (at 1 0)
 repeatedly 1 => Int -> Int weight 5 height 3
 repeatedly 4611686018427387904 => Int -> Int weight 5 height 3
 repeatedly 4611686018427387905 => number (at 1 0)
+old 0 => no old (at 1 0)
+old 4294967295 => no old (at 1 0)
 § Members, two levels deep.
 parB 0 => members 0: members (at 1 0)
 parB 1 => members 1: Int -> Int weight 6 height 4

@@ -164,6 +164,14 @@ yampa 1 input Int {599*(>>> }(( => nesting at 3014
 yampa 1 input Int {599*(>>> }(arr x ( => nesting at 3020
 yampa 1 input Int {599*(>>> }(arr ( => nesting at 3018
 yampa 1 input Int {599*(>>> }(>>> ( => nesting at 3018
+yampa 1 input Int {600*(parB } => syntax at 3618
+yampa 1 input Int {601*(parB } => nesting at 3618
+yampa 1 input Int {600*(first }) => syntax at 4218
+yampa 1 input Int {601*(kSwitch } => nesting at 5418
+yampa 1 input Int {300*(pSwitch x (col }time => syntax at 4822
+yampa 1 input Int {300*(pSwitch x (col }( => nesting at 4818
+yampa 1 input Int {599*(first }(pSwitch x (col => nesting at 4222
+yampa 1 input Int {599*(first }(loopPre (x => nesting at 4220
 § Files as they are printed: in three lines and in core forms.
 yampa 1 input Int(>>>(arr(add x 1));␤(iPre 0)) => yampa 1␤input Int␤(>>> (arr (add x 1)) (iPre 0))␤
 yampa 1 input (Pair Int Bool) identity => yampa 1␤input (Pair Int Bool)␤(arr x)␤
