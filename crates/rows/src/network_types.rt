@@ -136,6 +136,7 @@ yampa 1 input Int (>>> (arr x) (switch (arr (pair x (event true))) (arr (add x (
 yampa 1 input Int (>>> (arr x) (switch (arr (pair x (event true))) (arr (p 1)))) => no parameter (at 1 1 0)
 yampa 1 input Int (>>> (arr x) (pSwitch (pair x (p 0)) (col time) time time)) => no parameter (at 1 0)
 yampa 1 input Int (>>> (arr x) (parB time (arr true) (arr (p 0)))) => no parameter (at 1 2 0)
+yampa 1 input Int (>>> (arr x) (pSwitch x (col (arr 1) (arr true) (arr (p 0))) time time)) => no parameter (at 1 3 0)
 § Types that differ, two levels deep.
 yampa 1 input Int (>>> (arr x) (>>> (iPre true) (arr x))) => types differ (at 1 0)
 yampa 1 input Int (>>> (arr x) (>>> (delay 1 true) (arr x))) => types differ (at 1 0)
@@ -188,6 +189,7 @@ yampa 1 input Int (>>> (arr (event x)) (>>> (accumBy (p 0) (none {30*(Event }Int
 yampa 1 input Int (>>> (arr (pair x x)) (>>> (first (arr (none {30*(Event }Int{30*)}))) (arr (p 0)))) => too deep
 yampa 1 input Int (>>> (arr x) (kSwitch (arr (none {30*(Event }Int{30*)})) (arr (p 0)) (arr x))) => too deep
 yampa 1 input Int (>>> (arr (none {30*(Event }Int{30*)})) (pSwitch (p 0) (col time) time time)) => too deep
+yampa 1 input Int (>>> (arr (none {30*(Event }Int{30*)})) (pSwitch (p 0) (col) time time)) => members (at 1)
 yampa 1 input Int (>>> (arr x) (pSwitch x (col (arr (none {28*(Event }Int{28*)}))) (arr (p 0)) time)) => no parameter (at 1 2 0)
 yampa 1 input Int (>>> (arr x) (pSwitch x (col (arr (none {29*(Event }Int{29*)}))) (arr (p 0)) time)) => too deep
 ";
@@ -196,6 +198,7 @@ yampa 1 input Int (>>> (arr x) (pSwitch x (col (arr (none {29*(Event }Int{29*)})
 static FROZEN: &str = "
 § Weights at the limit and over it: frozen networks count each time that they are resumed.
 20 | (old 19) => too heavy
+20 | {256*(>>> (old 19) }(arr x){256*)} => too deep
 17 | (>>> (old 16) (>>> (old 15) (>>> (old 14) (>>> (old 12) (>>> (old 7) (>>> (old 4) (>>> (old 2) (>>> (old 1) (>>> (arr x) (>>> (arr x) (arr x))))))))))) => Int -> Int weight 1000000 height 52
 17 | (>>> (old 16) (>>> (old 15) (>>> (old 14) (>>> (old 12) (>>> (old 7) (>>> (old 4) (>>> (old 2) (>>> (old 1) (>>> (arr x) (>>> (arr x) (>>> (arr x) (arr x)))))))))))) => too heavy
 ";

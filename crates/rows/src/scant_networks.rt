@@ -1,6 +1,6 @@
 // What calls on whole networks answer where growths are refused.
 
-use crate::ballast::{Ballast, TRIES, Tally, spare_at, take_all};
+use crate::ballast::{Ballast, Tally, take_all};
 use crate::found::{Probe, all_are_found};
 use crate::needs::needs_told;
 use crate::network_types::checked_told;
@@ -65,14 +65,26 @@ fn needs_found(alloc: Global, given: Given<'_>, ballast: Option<Ballast>, out: &
     needs_told(needs, out);
 }
 
+/// How many times a call is tried, so that growths are refused one behind the other.
+const ATTEMPTS: usize = 64;
+
+/// The bytes that are left at an attempt, a few more at each; behind the last ample memory.
+fn spare_at(attempt: usize) -> usize {
+    if attempt < ATTEMPTS {
+        attempt.saturating_mul(150)
+    } else {
+        1_000_000
+    }
+}
+
 /// Tells what the tries of the call of that name answer.
 fn tally_told(alloc: Global, name: &str, given: Given<'_>, out: &mut String) {
     let mut ample = String::new(alloc);
     told(alloc, name, given, None, &mut ample);
     let mut tally = Tally::new();
-    for attempt in 0..TRIES {
+    for attempt in 0..ATTEMPTS + 1 {
         let mut scant = String::new(alloc);
-        if let Ok(ballast) = take_all(alloc, spare_at(attempt, 90)) {
+        if let Ok(ballast) = take_all(alloc, spare_at(attempt)) {
             told(alloc, name, given, Some(ballast), &mut scant);
         }
         tally = tally.with(scant.as_str(), ample.as_str(), "memory");
