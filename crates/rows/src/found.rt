@@ -1,11 +1,16 @@
 // Worked rows, and the one way to ask of each whether it goes as it was worked out.
 
+use crate::built::{built_told, doubled_told, part_told};
 use crate::commands::command_told;
+use crate::forms::form_told;
 use crate::keys::key_told;
-use crate::networks::{doubled_told, file_told, network_told, position_told};
+use crate::needs::need_told;
+use crate::network_types::{frozen_told, network_told};
+use crate::networks::file_told;
 use crate::reading::{expr_at_told, expr_told, type_at_told};
 use crate::runs::{missing_told, run_told};
 use crate::scant_memory::scant_told;
+use crate::scant_networks::scant_network_told;
 use crate::scant_runs::scant_run_told;
 use crate::shapes::shape_told;
 use crate::tables::{added_told, called_told, filled_told};
@@ -47,12 +52,20 @@ pub enum Probe {
     Tree,
     /// How a network file is printed.
     File,
-    /// A network's weight and height, or why it has no types.
+    /// A network's types, weight and height, or why it has none.
     Network,
-    /// The weight or the types of `(arr x)`, put so many times before itself: `KIND COUNT`.
+    /// The same, of so many `kSwitch` that freeze more and more: `COUNT | NETWORK`.
+    Frozen,
+    /// A network's types, weight and height, and how it is printed.
+    Form,
+    /// A network's expression of that number, with where it stands and its types: `FILE | NUMBER`.
+    Need,
+    /// A measure or the types of `(arr x)`, put so many times before itself: `KIND COUNT`.
     Doubled,
-    /// A position, by its name.
-    Position,
+    /// The types of a network with a part of that form and number: `FORM NUMBER`.
+    Built,
+    /// A position or another part of a network, by its name.
+    Part,
     /// What a command line leads to, on one file called `net`: `WORDS | FILE`.
     Command,
     /// What a network's run on a stream writes: `FILE | STREAM`.
@@ -67,6 +80,8 @@ pub enum Probe {
     Called,
     /// Whether a call, by its name, is refused memory at first and answers in the end.
     Scant,
+    /// The same of a call on a whole network.
+    ScantNetwork,
     /// The same of a table and of a runner.
     ScantRun,
 }
@@ -88,8 +103,12 @@ fn tell(alloc: Global, probe: Probe, given: &str, out: &mut String) {
         Probe::Tree => tree_told(alloc, given, out),
         Probe::File => file_told(alloc, given, out),
         Probe::Network => network_told(alloc, given, out),
+        Probe::Frozen => frozen_told(alloc, given, out),
+        Probe::Form => form_told(alloc, given, out),
+        Probe::Need => need_told(alloc, given, out),
         Probe::Doubled => doubled_told(alloc, given, out),
-        Probe::Position => position_told(alloc, given, out),
+        Probe::Built => built_told(alloc, given, out),
+        Probe::Part => part_told(alloc, given, out),
         Probe::Command => command_told(alloc, given, out),
         Probe::Run => run_told(alloc, given, out),
         Probe::Missing => missing_told(alloc, given, out),
@@ -97,6 +116,7 @@ fn tell(alloc: Global, probe: Probe, given: &str, out: &mut String) {
         Probe::Added => added_told(alloc, given, out),
         Probe::Called => called_told(alloc, given, out),
         Probe::Scant => scant_told(alloc, given, out),
+        Probe::ScantNetwork => scant_network_told(alloc, given, out),
         Probe::ScantRun => scant_run_told(alloc, given, out),
     }
 }

@@ -4,15 +4,23 @@
 #[cfg(test)]
 mod ballast;
 #[cfg(test)]
+mod built;
+#[cfg(test)]
 mod commands;
 #[cfg(test)]
 mod files;
+#[cfg(test)]
+mod forms;
 #[cfg(test)]
 mod found;
 #[cfg(test)]
 mod keys;
 #[cfg(test)]
 mod named;
+#[cfg(test)]
+mod needs;
+#[cfg(test)]
+mod network_types;
 #[cfg(test)]
 mod networks;
 #[cfg(test)]
@@ -21,6 +29,8 @@ mod reading;
 mod runs;
 #[cfg(test)]
 mod scant_memory;
+#[cfg(test)]
+mod scant_networks;
 #[cfg(test)]
 mod scant_runs;
 #[cfg(test)]

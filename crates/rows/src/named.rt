@@ -1,19 +1,48 @@
-// Networks that several tables try, by their names.
+// Files and networks that several tables try, by their names.
 
-/// The file of the network of that name, in short form; nothing where no network has it.
+/// The file or the network of that name, in short form; nothing where neither has it.
 pub fn network_named(name: &str) -> &'static str {
-    match name {
-        "increment" => "yampa 1 input Int (>>> (arr (add x 1)) (iPre 0))",
-        "same" => "yampa 1 input Int (arr x)",
-        "successor" => "yampa 1 input Int (arr (add x 1))",
-        "below six" => "yampa 1 input Int (arr (less x 6))",
-        "wrap" => "yampa 1 input Int (arr (event x))",
-        "second" => "yampa 1 input (Pair Int Int) (arr (snd x))",
-        "parameter" => "yampa 1 input Int (arr (p 0))",
-        "late truth" => "yampa 1 input Int (>>> (arr (less x 1)) (iPre 0))",
-        "tallest" => "yampa 1 input Int {255*(>>> (arr x) }(arr x){255*)}",
-        "too tall" => "yampa 1 input Int {256*(>>> (arr x) }(arr x){256*)}",
-        "deep event" => "yampa 1 input {31*(Event }Int{31*)} (arr (event x))",
-        _ => "",
+    for line in NAMED.lines() {
+        if let Some((first, text)) = line.split_once(" = ") {
+            if first == name {
+                return text;
+            }
+        }
     }
+    ""
 }
+
+/// Names, and the file or the network of each. `forms` is a network in which each of the nineteen
+/// forms stands, on numbers.
+static NAMED: &str = "
+increment = yampa 1 input Int (>>> (arr (add x 1)) (iPre 0))
+same = yampa 1 input Int (arr x)
+successor = yampa 1 input Int (arr (add x 1))
+below six = yampa 1 input Int (arr (less x 6))
+wrap = yampa 1 input Int (arr (event x))
+second = yampa 1 input (Pair Int Int) (arr (snd x))
+parameter = yampa 1 input Int (arr (p 0))
+late truth = yampa 1 input Int (>>> (arr (less x 1)) (iPre 0))
+tallest = yampa 1 input Int {255*(>>> (arr x) }(arr x){255*)}
+too tall = yampa 1 input Int {256*(>>> (arr x) }(arr x){256*)}
+deep event = yampa 1 input {31*(Event }Int{31*)} (arr (event x))
+event above nine = (arr (pair x (if (less 9 x) (event x) (none Int))))
+event at one = (arr (if (equal (fst x) 1) (event unit) (none Unit)))
+resumed = (kSwitch time (arr (if (equal (fst x) 1) (event unit) (none Unit))) \
+    (switch (arr (pair -1 (if (equal x 2) (event unit) (none Unit)))) (old 0)))
+routed = (pSwitch (fst x) (col time integral) \
+    (arr (if (equal (fst x) 7) (event unit) (none Unit))) (parB (old 1) (old 0)))
+forms = (parB (arr (add x 1)) (iPre 0) (delay 3 0) time integral \
+    (>>> (arr (event x)) (hold 0)) \
+    (>>> (arr (event x)) (>>> (accumBy (add (fst x) (snd x)) 0) (hold 0))) \
+    (>>> (after 5 unit) (arr 1)) \
+    (>>> (repeatedly 5 unit) (arr 1)) \
+    (>>> (arr (pair x true)) (>>> (first (arr (neg x))) (arr (fst x)))) \
+    (loopPre 0 (arr (pair (add (fst x) (snd x)) (fst x)))) \
+    (switch (arr (pair x (event x))) (arr (add x (p 0)))) \
+    (dSwitch (arr (pair x (event x))) (arr (sub x (p 0)))) \
+    (>>> (arr (pair x (event true))) (rSwitch (arr x) (arr (if (p 0) x 0)))) \
+    (kSwitch (arr (mul x 2)) (arr (event (snd x))) (>>> (old 0) (arr (add x (p 0))))) \
+    (>>> (pSwitch (fst x) (col (arr x) integral) (arr (event (len (snd x)))) \
+    (parB (old 0) (arr (p 0)))) (arr (nth x 0 0))))
+";

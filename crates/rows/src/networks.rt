@@ -1,18 +1,22 @@
-// Network files and networks: what is read, printed and typed, and what is refused and where.
+// Network files: what is read and printed, and what is refused and where.
 
 use crate::found::{Probe, all_are_found};
-use crate::texts::{bytes_in, numbered, say, say_at};
-use leaf_expr::{Expr, ExprFault};
-use net_syntax::{Net, NetChild, Position, print_position, push_position, weight};
+use crate::texts::{bytes_in, say, say_at};
+use leaf_expr::Expr;
+use net_syntax::Net;
 use net_text::{NetTextFault, print_net, read_net};
-use net_types::{TypeFault, check_types};
 use sample_core::{Memory, Ty};
 use std::alloc::Global;
 
 /// Tells how the file is printed once it is read, or why it isn't.
 pub fn file_told(alloc: Global, text: &str, out: &mut String) {
     let bytes = bytes_in(alloc, text);
-    match read_net(alloc, &bytes) {
+    reading_told(alloc, read_net(alloc, &bytes), out);
+}
+
+/// Tells how a copy of what was read is printed, or why nothing was read.
+pub fn reading_told(alloc: Global, read: Result<(Ty, Net<Expr>), NetTextFault>, out: &mut String) {
+    match read {
         Ok((input, net)) => {
             copy_told(alloc, &input, &net, out);
             drop(input);
@@ -23,7 +27,7 @@ pub fn file_told(alloc: Global, text: &str, out: &mut String) {
 }
 
 /// Tells why no network is read.
-fn text_fault_told(fault: NetTextFault, out: &mut String) {
+pub fn text_fault_told(fault: NetTextFault, out: &mut String) {
     match fault {
         NetTextFault::Header => say(out, "header"),
         NetTextFault::Syntax { at } => say_at(out, "syntax at", at),
@@ -45,106 +49,11 @@ fn copy_told(alloc: Global, input: &Ty, net: &Net<Expr>, out: &mut String) {
     }
 }
 
-fn printed_told(printed: Result<String, Memory>, out: &mut String) {
+/// Tells what was printed.
+pub fn printed_told(printed: Result<String, Memory>, out: &mut String) {
     match printed {
         Ok(text) => say(out, text.as_str()),
         Err(Memory) => say(out, "memory"),
-    }
-}
-
-/// Tells the network's weight and height, or why it has no types.
-pub fn network_told(alloc: Global, text: &str, out: &mut String) {
-    match read_net(alloc, text.as_bytes()) {
-        Ok((input, net)) => types_told(alloc, input, net, out),
-        Err(fault) => text_fault_told(fault, out),
-    }
-}
-
-fn types_told(alloc: Global, input: Ty, net: Net<Expr>, out: &mut String) {
-    match check_types(alloc, input, net) {
-        Ok(net) => {
-            say_at(out, "weight", net.weight() as usize);
-            say_at(out, " height", net.height() as usize);
-            drop(net);
-        }
-        Err(fault) => {
-            type_fault_told(alloc, &fault, out);
-            drop(fault);
-        }
-    }
-}
-
-/// Tells why the network has no types.
-fn type_fault_told(alloc: Global, fault: &TypeFault, out: &mut String) {
-    match fault {
-        TypeFault::Joint { position } => at_told(alloc, "types differ ", position, out),
-        TypeFault::Expr { position, fault } => at_told(alloc, words_of(fault), position, out),
-        TypeFault::TooDeep => say(out, "too deep"),
-        TypeFault::TooHeavy => say(out, "too heavy"),
-        TypeFault::Memory => say(out, "memory"),
-        _ => say(out, "another fault"),
-    }
-}
-
-fn words_of(fault: &ExprFault) -> &'static str {
-    match fault {
-        ExprFault::Mismatch => "mismatch ",
-        ExprFault::NoParam => "no parameter ",
-        ExprFault::TooDeep => "expression too deep ",
-        ExprFault::Memory => "memory ",
-    }
-}
-
-/// Tells the words, and how a copy of the position is printed.
-fn at_told(alloc: Global, words: &str, position: &Position, out: &mut String) {
-    say(out, words);
-    if let Ok(copy) = position.try_copy(alloc) {
-        drop(push_position(out, &copy));
-    }
-}
-
-/// Tells the weight of `(arr x)`, put so many times before itself, or its types at an input that is
-/// a number.
-pub fn doubled_told(alloc: Global, given: &str, out: &mut String) {
-    let (kind, times) = numbered(given);
-    match (doubled(alloc, times), kind) {
-        (Some(net), "types") => types_told(alloc, Ty::Int, Box::into_inner(net), out),
-        (Some(net), _) => weight_told(weight(alloc, &net), out),
-        (None, _) => say(out, "memory"),
-    }
-}
-
-fn weight_told(weight: Result<u32, Memory>, out: &mut String) {
-    match weight {
-        Ok(weight) => say_at(out, "weight", weight as usize),
-        Err(Memory) => say(out, "memory"),
-    }
-}
-
-/// `(arr x)`, put so many times before itself: the halves are shared.
-fn doubled(alloc: Global, times: usize) -> Option<Box<Net<Expr>>> {
-    let mut net = Box::new(alloc, Net::Arr(Expr::Input)).ok()?;
-    for _ in 0..times {
-        net = twice(alloc, Box::into_inner(net))?;
-    }
-    Some(net)
-}
-
-fn twice(alloc: Global, net: Net<Expr>) -> Option<Box<Net<Expr>>> {
-    let half = NetChild::new(alloc, net).ok()?;
-    let copy = half.try_copy().ok()?;
-    Box::new(alloc, Net::Seq(copy, half)).ok()
-}
-
-/// Tells how a position is printed that is made by a call, by its name.
-pub fn position_told(alloc: Global, given: &str, out: &mut String) {
-    let made = match given {
-        "root" => Position::of_node(alloc, &[]),
-        "child" => Position::of_child(alloc, &[0, 1], 10),
-        _ => Position::of_node(alloc, &[0, 1, 10, 4_294_967_295]),
-    };
-    if let Ok(position) = made {
-        printed_told(print_position(alloc, &position), out);
     }
 }
 
@@ -188,6 +97,10 @@ yampa 1 input Int (>-- identity 1) => syntax at 19
 yampa 1 input Int (drSwitch identity identity) => syntax at 19
 yampa 1 input Int (rpSwitchB (col identity) identity identity) => syntax at 19
 yampa 1 input Int (pre identity) => syntax at 19
+yampa 1 input Int (>-- 1 identity) => syntax at 19
+yampa 1 input Int (rpSwitchB (col identity) identity) => syntax at 19
+yampa 1 input Int (pre 0) => syntax at 19
+yampa 1 input Int (loop identity) => syntax at 19
 yampa 1 input Int (Arr x) => syntax at 19
 yampa 1 input Int (first) => syntax at 24
 yampa 1 input Int (first identity identity) => syntax at 34
@@ -234,18 +147,59 @@ yampa 1 input Int identity ; a␍ )␤ x => syntax at 35
 yampa 1 input Int ident;ity => syntax at 18
 yampa 1 input Int ~identity => syntax at 18
 yampa 1 input Int identity␋ => syntax at 18
-yampa 1 input Int (arr => syntax at 22
-yampa 1 input Int (arr 01) => number at 23
-yampa 1 input Int (arr) => syntax at 22
-yampa 1 input Int (arr x x) => syntax at 25
-yampa 1 input Int (>>> identity) => syntax at 31
-yampa 1 input Int (arr identity) => syntax at 23
-yampa 1 input Int (>>> x identity) => syntax at 23
 yampa 1 input Int identity ) => syntax at 27
 yampa 1 input Int identity identity => syntax at 27
+§ Too few parts, too many, and parts of another kind.
+yampa 1 input Int (arr => syntax at 22
+yampa 1 input Int (arr) => syntax at 22
+yampa 1 input Int (arr x x) => syntax at 25
+yampa 1 input Int (arr identity) => syntax at 23
+yampa 1 input Int (>>> identity) => syntax at 31
+yampa 1 input Int (>>> x identity) => syntax at 23
+yampa 1 input Int (first) => syntax at 24
+yampa 1 input Int (first identity identity) => syntax at 34
+yampa 1 input Int (second x) => syntax at 26
+yampa 1 input Int (*** identity) => syntax at 31
+yampa 1 input Int (parB x) => syntax at 24
+yampa 1 input Int (parB (col identity)) => syntax at 25
+yampa 1 input Int (loopPre identity identity) => syntax at 27
+yampa 1 input Int (loopPre 0 0) => syntax at 29
+yampa 1 input Int (hold) => syntax at 23
+yampa 1 input Int (accumBy x) => syntax at 28
+yampa 1 input Int (accumHoldBy x 0 0) => syntax at 35
+yampa 1 input Int (never 5) => syntax at 25
+yampa 1 input Int (now) => syntax at 22
+yampa 1 input Int (delay 1) => syntax at 26
+yampa 1 input Int (after 1 time) => syntax at 27
+yampa 1 input Int (repeatedly unit unit) => syntax at 30
+yampa 1 input Int (switch identity) => syntax at 34
+yampa 1 input Int (kSwitch identity identity) => syntax at 44
+yampa 1 input Int (pSwitch identity) => syntax at 27
+yampa 1 input Int (pSwitch x identity identity identity) => syntax at 29
+yampa 1 input Int (pSwitch x () identity identity) => syntax at 30
+yampa 1 input Int (pSwitch x (parB) identity identity) => syntax at 30
+yampa 1 input Int (pSwitch x (col x) identity identity) => syntax at 34
+yampa 1 input Int (pSwitch x (col identity) identity) => syntax at 52
+yampa 1 input Int (old) => syntax at 22
+yampa 1 input Int (old x) => syntax at 23
+yampa 1 input Int (old 0 0) => syntax at 25
+§ Numbers that are badly spelt or outside the range of their place.
+yampa 1 input Int (arr 01) => number at 23
 yampa 1 input Int (iPre -0) => number at 24
 yampa 1 input Int (iPre 9223372036854775808) => number at 24
 yampa 1 input Int (arr (p 65536)) => number at 26
+yampa 1 input Int (delay 0 0) => number at 25
+yampa 1 input Int (delay 4097 0) => number at 25
+yampa 1 input Int (delay -1 0) => number at 25
+yampa 1 input Int (delay 01 0) => number at 25
+yampa 1 input Int (after 4611686018427387905 0) => number at 25
+yampa 1 input Int (after 18446744073709551616 0) => number at 25
+yampa 1 input Int (after -1 0) => number at 25
+yampa 1 input Int (repeatedly 0 0) => number at 30
+yampa 1 input Int (repeatedly 4611686018427387905 0) => number at 30
+yampa 1 input Int (old 65536) => number at 23
+yampa 1 input Int (old -1) => number at 23
+yampa 1 input Int (old 00) => number at 23
 § The 601st parenthesis, also where none fits.
 yampa 1 input Int {601*(>>> } => nesting at 3018
 yampa 1 input Int {600*(>>> } => syntax at 3018
@@ -257,6 +211,14 @@ yampa 1 input Int {598*(>>> }(pSwitch x (col ( => nesting at 3024
 yampa 1 input Int {599*(>>> }(pSwitch x ( => nesting at 3024
 yampa 1 input Int {599*(>>> }(delay ( => nesting at 3020
 yampa 1 input Int {599*(>>> }(parB time ( => nesting at 3024
+yampa 1 input Int {600*(parB } => syntax at 3618
+yampa 1 input Int {601*(parB } => nesting at 3618
+yampa 1 input Int {600*(first }) => syntax at 4218
+yampa 1 input Int {601*(kSwitch } => nesting at 5418
+yampa 1 input Int {300*(pSwitch x (col }time => syntax at 4822
+yampa 1 input Int {300*(pSwitch x (col }( => nesting at 4818
+yampa 1 input Int {599*(first }(pSwitch x (col => nesting at 4222
+yampa 1 input Int {599*(first }(loopPre (x => nesting at 4220
 § Files as they are printed: in three lines and in core forms.
 yampa 1 input Int(>>>(arr(add x 1));␤(iPre 0)) => yampa 1␤input Int␤(>>> (arr (add x 1)) (iPre 0))␤
 yampa 1 input (Pair Int Bool) identity => yampa 1␤input (Pair Int Bool)␤(arr x)␤
@@ -277,6 +239,12 @@ yampa 1 input Int (now (p 0)) => yampa 1␤input Int␤(after 0 (p 0))␤
 yampa 1 input Int edge => yampa 1␤input Int␤(>>> (>>> (arr (pair x x)) (>>> (first (arr x)) (>>> (arr (pair (snd x) (fst x))) (>>> (first (iPre true)) (arr (pair (snd x) (fst x))))))) (arr (if (and (fst x) (not (snd x))) (event unit) (none Unit))))␤
 yampa 1 input Int (accumHoldBy (fst x) 10) => yampa 1␤input Int␤(>>> (accumBy (fst x) 10) (hold 10))␤
 yampa 1 input Int (second (second time)) => yampa 1␤input Int␤(>>> (arr (pair (snd x) (fst x))) (>>> (first (>>> (arr (pair (snd x) (fst x))) (>>> (first time) (arr (pair (snd x) (fst x)))))) (arr (pair (snd x) (fst x)))))␤
+yampa 1 input Int (parB) => yampa 1␤input Int␤(parB)␤
+yampa 1 input Int (pSwitch x (col) time time) => yampa 1␤input Int␤(pSwitch x (col) time time)␤
+yampa 1 input Int (old 65535) => yampa 1␤input Int␤(old 65535)␤
+yampa 1 input Int (parB (delay 1 0)(delay 4096 0)) => yampa 1␤input Int␤(parB (delay 1 0) (delay 4096 0))␤
+yampa 1 input Int (parB (after 0 0)(after 4611686018427387904 0)) => yampa 1␤input Int␤(parB (after 0 0) (after 4611686018427387904 0))␤
+yampa 1 input Int (parB (repeatedly 1 0)(repeatedly 4611686018427387904 0)) => yampa 1␤input Int␤(parB (repeatedly 1 0) (repeatedly 4611686018427387904 0))␤
 § What is printed is read to the same.
 yampa 1␤input Int␤time␤ => yampa 1␤input Int␤time␤
 yampa 1␤input Int␤integral␤ => yampa 1␤input Int␤integral␤
@@ -312,41 +280,4 @@ yampa 1␤input Int␤(arr x)␤ => yampa 1␤input Int␤(arr x)␤
 #[test]
 fn network_files_are_read(rt: HostRuntime) {
     all_are_found(&rt, rt.alloc(), Probe::File, FILES);
-}
-
-/// Networks at the limits and over them, and faults where they stand.
-static TYPINGS: &str = "
-§ Networks at the limits and over them, and faults where they stand.
-‹increment› => weight 3 height 2
-‹tallest› => weight 511 height 256
-‹too tall› => too deep
-yampa 1 input {32*(Event }Int{32*)} (arr (p 0)) => too deep
-‹late truth› => types differ (at 1)
-‹parameter› => no parameter (at 0)
-‹deep event› => expression too deep (at 0)
-";
-
-/// How often `(arr x)` is put before itself, and its weight, which is counted up to its limit, or
-/// its types.
-static DOUBLED: &str = "
-§ Shared halves.
-weight 18 => weight 524287
-weight 60 => weight 1000001
-types 18 => weight 524287 height 19
-types 19 => too heavy
-";
-
-/// Positions by their names.
-static POSITIONS: &str = "
-§ Positions.
-root => (at)
-child => (at 0 1 10)
-deep => (at 0 1 10 4294967295)
-";
-
-#[test]
-fn networks_are_typed(rt: HostRuntime) {
-    all_are_found(&rt, rt.alloc(), Probe::Network, TYPINGS);
-    all_are_found(&rt, rt.alloc(), Probe::Doubled, DOUBLED);
-    all_are_found(&rt, rt.alloc(), Probe::Position, POSITIONS);
 }

@@ -201,6 +201,8 @@ yampa 1 input (Pair Int Int) (arr (fst x)) | (pair 1 2) => 1␤
 ‹below six› | 5␤+1 6 => true␤false␤
 ‹wrap› | 5 => (event 5)␤
 yampa 1 input Int (arr (neg x)) | 5 => -5␤
+§ A network with a form that isn't run yet.
+yampa 1 input Int (>>> (arr x) time) | 5 => not run yet
 ";
 
 /// Networks, and where the first expression without a row stands.

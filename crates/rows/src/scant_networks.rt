@@ -1,0 +1,124 @@
+// What calls on whole networks answer where growths are refused.
+
+use crate::ballast::{Ballast, Tally, take_all};
+use crate::found::{Probe, all_are_found};
+use crate::needs::needs_told;
+use crate::network_types::checked_told;
+use crate::networks::{printed_told, reading_told};
+use crate::runs::network;
+use crate::texts::{say, written};
+use leaf_expr::Expr;
+use net_syntax::{Net, TypedNet, leaves};
+use net_text::{print_net, read_net};
+use net_types::check_types;
+use sample_core::{Memory, Ty};
+use std::alloc::Global;
+
+/// A network, whose input is a number, and the text of its file.
+#[derive(Clone, Copy)]
+struct Given<'a> {
+    net: &'a TypedNet,
+    text: &'a str,
+}
+
+/// Tells what the call of that name answers where only so much memory is left to it.
+fn told(alloc: Global, name: &str, given: Given<'_>, ballast: Option<Ballast>, out: &mut String) {
+    match name {
+        "reading a network" => net_read(alloc, given, ballast, out),
+        "printing a network" => net_printed(alloc, given, ballast, out),
+        "checking a network" => net_checked(alloc, given, ballast, out),
+        _ => needs_found(alloc, given, ballast, out),
+    }
+}
+
+fn net_read(alloc: Global, given: Given<'_>, ballast: Option<Ballast>, out: &mut String) {
+    let read = read_net(alloc, given.text.as_bytes());
+    drop(ballast);
+    reading_told(alloc, read, out);
+}
+
+fn net_printed(alloc: Global, given: Given<'_>, ballast: Option<Ballast>, out: &mut String) {
+    let printed = print_net(alloc, given.net.input(), given.net.net());
+    drop(ballast);
+    printed_told(printed, out);
+}
+
+fn net_checked(alloc: Global, given: Given<'_>, ballast: Option<Ballast>, out: &mut String) {
+    match given.net.net().try_copy(alloc) {
+        Ok(copy) => copy_checked(alloc, copy, ballast, out),
+        Err(Memory) => {
+            drop(ballast);
+            say(out, "no copy")
+        }
+    }
+}
+
+fn copy_checked(alloc: Global, net: Net<Expr>, ballast: Option<Ballast>, out: &mut String) {
+    let checked = check_types(alloc, Ty::Int, net);
+    drop(ballast);
+    checked_told(alloc, checked, out);
+}
+
+fn needs_found(alloc: Global, given: Given<'_>, ballast: Option<Ballast>, out: &mut String) {
+    let needs = leaves(alloc, given.net);
+    drop(ballast);
+    needs_told(needs, out);
+}
+
+/// How many times a call is tried, so that growths are refused one behind the other.
+const ATTEMPTS: usize = 64;
+
+/// The bytes that are left at an attempt, a few more at each; behind the last ample memory.
+fn spare_at(attempt: usize) -> usize {
+    if attempt < ATTEMPTS {
+        attempt.saturating_mul(150)
+    } else {
+        1_000_000
+    }
+}
+
+/// Tells what the tries of the call of that name answer.
+fn tally_told(alloc: Global, name: &str, given: Given<'_>, out: &mut String) {
+    let mut ample = String::new(alloc);
+    told(alloc, name, given, None, &mut ample);
+    let mut tally = Tally::new();
+    for attempt in 0..ATTEMPTS + 1 {
+        let mut scant = String::new(alloc);
+        if let Ok(ballast) = take_all(alloc, spare_at(attempt)) {
+            told(alloc, name, given, Some(ballast), &mut scant);
+        }
+        tally = tally.with(scant.as_str(), ample.as_str(), "memory");
+        drop(scant);
+    }
+    tally.tell(out);
+}
+
+/// Tells whether the call of that name is refused memory at first, and answers in the end: on a
+/// network with every form.
+pub fn scant_network_told(alloc: Global, name: &str, out: &mut String) {
+    let text = written(alloc, "yampa 1 input Int ‹forms›");
+    match network(alloc, text.as_str()) {
+        Some(net) => {
+            let given = Given {
+                net: &net,
+                text: text.as_str(),
+            };
+            tally_told(alloc, name, given, out)
+        }
+        None => say(out, "no network"),
+    }
+}
+
+/// Calls by their names.
+static CALLS: &str = "
+§ Calls on networks with little memory.
+reading a network => refused at first
+printing a network => refused at first
+checking a network => refused at first
+finding the needs => refused at first
+";
+
+#[test]
+fn calls_on_networks_are_refused_memory(rt: HostRuntime) {
+    all_are_found(&rt, rt.alloc(), Probe::ScantNetwork, CALLS);
+}
