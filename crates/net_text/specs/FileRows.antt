@@ -58,28 +58,28 @@ NetworkRows =
     × IsNetwork (codes "(pSwitch x (col time integral) (old 0) (old 1))")
     (p_switch input (and_member time (and_member integral no_members)) (old 0) (old 1))
 
--- the parts of a pair turned round
-abbrev pub turned : Expression
-turned = pair_expr (snd input) (fst input)
+-- `(pair (snd x) (fst x))`
+abbrev pub swap_expr : Expression
+swap_expr = pair_expr (snd input) (fst input)
 
 -- sugar: each word and form of it, read once, as the core forms that it stands for
 abbrev pub SugarRows : Type 0
 SugarRows =
     IsNetwork (codes "identity") (arr input)
     × IsNetwork (codes "(constant x)") (arr (then_expr unit_expr input))
-    × IsNetwork (codes "(second time)") (seq (arr turned) (seq (first time) (arr turned)))
+    × IsNetwork (codes "(second time)") (seq (arr swap_expr) (seq (first time) (arr swap_expr)))
     × IsNetwork (codes "(*** time integral)")
-    (seq (first time) (seq (arr turned) (seq (first integral) (arr turned))))
+    (seq (first time) (seq (arr swap_expr) (seq (first integral) (arr swap_expr))))
     × IsNetwork (codes "(&&& time integral)")
     (seq (arr (pair_expr input input))
-    (seq (first time) (seq (arr turned) (seq (first integral) (arr turned)))))
+    (seq (first time) (seq (arr swap_expr) (seq (first integral) (arr swap_expr)))))
     × IsNetwork (codes "(never Int)") (arr (no_event_expr int_ty))
     × IsNetwork (codes "(now x)") (after 0 input)
     × IsNetwork (codes "edge")
     (seq
     (seq (arr (pair_expr input input))
     (seq (first (arr input))
-    (seq (arr turned) (seq (first (i_pre (bool_expr true))) (arr turned)))))
+    (seq (arr swap_expr) (seq (first (i_pre (bool_expr true))) (arr swap_expr)))))
     (arr
     (if_expr (and_expr (fst input) (not_expr (snd input))) (event_expr unit_expr)
     (no_event_expr unit_ty))))
@@ -99,8 +99,8 @@ ConstantIs = (e : Sexpr) → MeanSame (one (codes "constant") e)
     (one (codes "arr") (two (codes "then") (atom (codes "unit")) e))
 
 -- `(arr (pair (snd x) (fst x)))`
-abbrev pub swapping : Sexpr
-swapping =
+abbrev pub swap_sexpr : Sexpr
+swap_sexpr =
     one (codes "arr")
     (two (codes "pair") (one (codes "snd") (atom (codes "x")))
     (one (codes "fst") (atom (codes "x"))))
@@ -109,7 +109,7 @@ swapping =
 -- `(pair (snd x) (fst x))`
 abbrev pub SecondIs : Type 0
 SecondIs = (f : Sexpr) → MeanSame (one (codes "second") f)
-    (two (codes ">>>") swapping (two (codes ">>>") (one (codes "first") f) swapping))
+    (two (codes ">>>") swap_sexpr (two (codes ">>>") (one (codes "first") f) swap_sexpr))
 
 -- `(*** f g)` means `(>>> (first f) (second g))`
 abbrev pub BesideIs : Type 0

@@ -1,18 +1,15 @@
 -- The lists of what is in scope, and the members of a network, as the code has them.
-use Rattle.std.proofs.Common.{◌≡◌, ◌∙◌, ℕ, zero, suc, ◌+◌, ◌<◌, ◌≤◌, true, false, List, [], ◌∷◌, ◌++◌, length, get_or, take, map, Ok, Err, append_assoc, refl, sym, ap, arith}
+use Rattle.std.proofs.Common.{◌≡◌, ◌∙◌, ℕ, zero, suc, ◌<◌, ◌≤◌, List, [], ◌∷◌, ◌++◌, length, get_or, map, Ok, Err, append_assoc, refl, sym, ap, arith}
 use Rattle.std.proofs.lemmas.List.{map-append}
-use Rattle.sample_core.specs.TypeTree.{TypeTree}
-use Rattle.leaf_core.specs.Expression.{Expression}
 use Rattle.leaf_core.specs.ExpressionView.{expression_of}
 use Rattle.leaf_core.specs.declared.expr.Expr.{Expr}
 use Rattle.net_syntax.specs.ArrowView.{arrow_of}
-use Rattle.net_syntax.specs.Network.{Network, Networks, no_members, and_member, map_network, map_networks}
-use Rattle.net_syntax.specs.NetworkView.{members_of, network_of}
+use Rattle.net_syntax.specs.Network.{map_networks}
+use Rattle.net_syntax.specs.NetworkView.{members_of}
 use Rattle.net_syntax.specs.Typing as T
 use Rattle.net_syntax.specs.Typing.{copies, members}
 use Rattle.net_syntax.specs.declared.arrow.Arrow.{Arrow}
 use Rattle.net_syntax.specs.declared.net.Net.{Net}
-use Rattle.net_types.specs.declared.fault.TypeFault.{TypeFault}
 use Rattle.net_types.specs.declared.fault.TypeFault.TheVariants as Fault
 use Rattle.net_types.specs.Walk.{old_at, test_members}
 use Rattle.net_types.proofs.WalkTests.{counted_passes, counted_fails}

@@ -1,5 +1,5 @@
 -- The walk of a node is that of its parts, where the first of them are known.
-use Rattle.std.proofs.Common.{◌≡◌, ◌∙◌, ℕ, suc, List, [], ◌∷◌, length, Result, Ok, Err, refl, sym, ap, subst}
+use Rattle.std.proofs.Common.{◌≡◌, ◌∙◌, ℕ, suc, List, length, Result, Ok, Err, sym, subst}
 use Rattle.sample_core.specs.TypeTree.{TypeTree, int_ty, list_ty, pair_ty}
 use Rattle.leaf_core.specs.Expression.{Expression}
 use Rattle.leaf_core.specs.ExpressionView.{expression_of}

@@ -1,6 +1,6 @@
 -- What is left of the walk of a node, where its first parts are known.
-use Rattle.std.specs.Prelude.{ℕ, suc, List, [], ◌^◌, Result, Ok}
-use Rattle.sample_core.specs.TypeTree.{TypeTree, int_ty, unit_ty, pair_ty, event_ty, list_ty}
+use Rattle.std.specs.Prelude.{ℕ, suc, List, ◌^◌, Result, Ok}
+use Rattle.sample_core.specs.TypeTree.{TypeTree, int_ty, unit_ty, pair_ty, event_ty}
 use Rattle.leaf_core.specs.Expression.{Expression}
 use Rattle.leaf_core.specs.ExpressionCheck.{type_answer}
 use Rattle.net_syntax.specs.Network.{Network, Networks}
