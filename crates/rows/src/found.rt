@@ -8,7 +8,7 @@ use crate::needs::need_told;
 use crate::network_types::{frozen_told, network_told};
 use crate::networks::file_told;
 use crate::reading::{expr_at_told, expr_told, type_at_told};
-use crate::runs::{missing_told, run_told};
+use crate::runs::{missing_told, run_told, visited_told};
 use crate::scant_memory::scant_told;
 use crate::scant_networks::scant_network_told;
 use crate::scant_runs::scant_run_told;
@@ -70,6 +70,8 @@ pub enum Probe {
     Command,
     /// What a network's run on a stream writes: `FILE | STREAM`.
     Run,
+    /// How many nodes each sample visits: `FILE | STREAM`.
+    Visits,
     /// The first expression of a network without a row in an empty table.
     Missing,
     /// What the filling of a table tells with 4,096 different expressions and one more.
@@ -111,6 +113,7 @@ fn tell(alloc: Global, probe: Probe, given: &str, out: &mut String) {
         Probe::Part => part_told(alloc, given, out),
         Probe::Command => command_told(alloc, given, out),
         Probe::Run => run_told(alloc, given, out),
+        Probe::Visits => visited_told(alloc, given, out),
         Probe::Missing => missing_told(alloc, given, out),
         Probe::Filled => filled_told(alloc, given, out),
         Probe::Added => added_told(alloc, given, out),

@@ -26,6 +26,8 @@ mod networks;
 #[cfg(test)]
 mod reading;
 #[cfg(test)]
+mod running;
+#[cfg(test)]
 mod runs;
 #[cfg(test)]
 mod scant_memory;
@@ -47,5 +49,7 @@ mod trees;
 mod typing;
 #[cfg(test)]
 mod values;
+#[cfg(test)]
+mod visits;
 #[cfg(test)]
 mod working;

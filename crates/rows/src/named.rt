@@ -27,7 +27,13 @@ tallest = yampa 1 input Int {255*(>>> (arr x) }(arr x){255*)}
 too tall = yampa 1 input Int {256*(>>> (arr x) }(arr x){256*)}
 deep event = yampa 1 input {31*(Event }Int{31*)} (arr (event x))
 event above nine = (arr (pair x (if (less 9 x) (event x) (none Int))))
+event always = (arr (pair x (event x)))
+plus event = (arr (add x (p 0)))
 event at one = (arr (if (equal (fst x) 1) (event unit) (none Unit)))
+hundreds = (arr (sub (mul 100 (nth x 0 0)) (nth x 1 0)))
+old at two = (switch (arr (pair -1 (if (equal x 2) (event unit) (none Unit)))) (old 0))
+switched twice = (switch (arr (pair x (if (less 9 x) (event x) (none Int)))) \
+    (switch (arr (pair x (event (neg (p 0))))) (arr (add x (p 1)))))
 resumed = (kSwitch time (arr (if (equal (fst x) 1) (event unit) (none Unit))) \
     (switch (arr (pair -1 (if (equal x 2) (event unit) (none Unit)))) (old 0)))
 routed = (pSwitch (fst x) (col time integral) \

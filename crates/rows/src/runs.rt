@@ -10,6 +10,7 @@ use crate::found::{Probe, all_are_found};
 use crate::scant_runs::pushes_told;
 use crate::tables::row_told;
 use crate::texts::{parted, say};
+use crate::visits::visits_told;
 use leaf_table::{LeafTable, TableFault};
 use net_syntax::{LeafNeed, TypedNet, leaves, push_position};
 use net_text::read_net;
@@ -24,6 +25,8 @@ use yampa_run::{RunFault, RunReport, fault_line, fill_table, run_whole, table_re
 pub enum Trial<'a> {
     /// What its run on this stream writes.
     Run(&'a str),
+    /// How many of its nodes each sample of this stream visits.
+    Visits(&'a str),
     /// Whether its pushes are refused memory at first, and answer in the end.
     ScantMemory,
     /// What the row of this need answers on the value.
@@ -36,8 +39,19 @@ pub enum Trial<'a> {
 /// ends early, the exit status and the line that tells why.
 pub fn run_told(alloc: Global, given: &str, out: &mut String) {
     let (file, stream) = parted(given);
-    match network(alloc, file) {
-        Some(net) => trial_told(alloc, &net, Trial::Run(stream), out),
+    file_told(alloc, file, Trial::Run(stream), out);
+}
+
+/// Tells how many nodes of the network each sample of the stream visits, `FILE | STREAM`.
+pub fn visited_told(alloc: Global, given: &str, out: &mut String) {
+    let (file, stream) = parted(given);
+    file_told(alloc, file, Trial::Visits(stream), out);
+}
+
+/// Tells what the trial of the network of a file's text finds.
+pub fn file_told(alloc: Global, text: &str, trial: Trial<'_>, out: &mut String) {
+    match network(alloc, text) {
+        Some(net) => trial_told(alloc, &net, trial, out),
         None => say(out, "no network"),
     }
 }
@@ -120,6 +134,7 @@ fn tried(alloc: Global, bound: &Bound, table: &LeafTable, trial: Trial<'_>, out:
 {
     match trial {
         Trial::Run(stream) => written_told(alloc, bound, table, stream, out),
+        Trial::Visits(stream) => visits_told(alloc, bound, table, stream, out),
         Trial::ScantMemory => pushes_told(alloc, bound, table, out),
         Trial::Call(need, x) => row_told(table, need, x, out),
         Trial::Rows => say(out, "a row for each"),
@@ -201,8 +216,35 @@ yampa 1 input (Pair Int Int) (arr (fst x)) | (pair 1 2) => 1␤
 ‹below six› | 5␤+1 6 => true␤false␤
 ‹wrap› | 5 => (event 5)␤
 yampa 1 input Int (arr (neg x)) | 5 => -5␤
-§ A network with a form that isn't run yet.
-yampa 1 input Int (>>> (arr x) time) | 5 => not run yet
+§ Sources that tell the time.
+yampa 1 input Unit (repeatedly 3 unit) | unit␤+2 =␤+2 =␤+7 =␤+1 = => none␤none␤(event unit)␤(event unit)␤(event unit)␤
+yampa 1 input Unit (after 5 7) | unit␤+9223372036854775807 =␤+1 = => none␤(event 7)␤none␤
+yampa 1 input Unit (after 0 7) | unit => (event 7)␤
+yampa 1 input Unit time | unit␤+9223372036854775807 =␤+9223372036854775807 = => 0␤9223372036854775807␤-2␤
+§ Delays, loops, and forms on events.
+yampa 1 input Int (delay 3 0) | 1␤+2 2␤+2 3␤+2 4 => 0␤0␤1␤2␤
+yampa 1 input Int (loopPre 0 (arr (pair (add (fst x) (snd x)) (add (fst x) (snd x))))) | 1␤+1 2␤+1 3 => 1␤3␤6␤
+yampa 1 input (Event Int) (accumHoldBy (add (fst x) (snd x)) 10) | none␤+1 (event 5)␤+1 none␤+1 (event 1) => 10␤15␤15␤16␤
+yampa 1 input Bool edge | true␤+1 false␤+1 true => none␤none␤(event unit)␤
+§ Switches, at a later sample, at the first one, and two at one sample.
+yampa 1 input Int (switch ‹event above nine› ‹plus event›) | 1␤+1 20␤+1 3 => 1␤40␤23␤
+yampa 1 input Int (dSwitch ‹event above nine› ‹plus event›) | 1␤+1 20␤+1 3 => 1␤20␤23␤
+yampa 1 input Int (dSwitch ‹event above nine› time) | 1␤+1 20␤+1 3 => 1␤20␤1␤
+yampa 1 input Int (switch ‹event always› ‹plus event›) | 5␤+1 6 => 10␤11␤
+yampa 1 input Int ‹switched twice› | 1␤+1 20␤+1 3 => 1␤0␤-17␤
+yampa 1 input (Pair Int (Event Int)) (rSwitch (iPre 0) (iPre (p 0))) | (pair 5 none)␤+1 (pair 6 (event 9))␤+1 (pair 7 (event 8))␤+1 (pair 4 none) => 0␤9␤8␤7␤
+yampa 1 input (Pair Int (Event Int)) (rSwitch (iPre 0) (iPre (p 0))) | (pair 5 (event 3))␤+1 (pair 6 none) => 3␤5␤
+§ Frozen networks: resumed later, at once, in another order, and twice, apart from one another.
+yampa 1 input Int ‹resumed› | 0␤+4 0␤+5 1␤+6 0␤+7 2␤+1 0 => 0␤4␤-1␤-1␤9␤10␤
+yampa 1 input Int ‹routed› | 2␤+3 2␤+4 7␤+1 0 => (list 0 0)␤(list 3 6)␤(list 14 7)␤(list 21 8)␤
+yampa 1 input Int (kSwitch time ‹event at one› (old 0)) | 0␤+4 0␤+5 1␤+6 0␤+7 2␤+1 0 => 0␤4␤9␤15␤22␤23␤
+yampa 1 input Int time | 0␤+4 0␤+5 1␤+6 0␤+7 2␤+1 0 => 0␤4␤9␤15␤22␤23␤
+yampa 1 input Int (kSwitch (iPre 0) ‹event at one› (>>> (parB (old 0) (>>> (arr (neg x)) (old 0))) ‹hundreds›)) | 5␤+1 1␤+1 7␤+1 8 => 0␤495␤101␤707␤
+yampa 1 input Int (kSwitch time ‹event at one› (>>> (parB (old 0) ‹old at two›) ‹hundreds›)) | 0␤+4 0␤+5 1␤+6 0␤+7 2␤+1 0 => 0␤4␤901␤1501␤2191␤2290␤
+§ All forms at once, and switches in the parts of switches.
+yampa 1 input Int ‹forms› | 5␤+1 6␤+5 7 => (list 6 0 0 0 0 5 5 1 1 -5 5 10 5 5 20 5)␤(list 7 5 0 1 5 6 11 1 1 -6 11 11 1 6 22 6)␤(list 8 6 6 6 35 7 18 1 1 -7 13 12 2 7 24 7)␤
+yampa 1 input Int {250*(switch (arr (pair x (event x))) }(arr x){250*)} | 5␤+1 6 => 5␤6␤
+yampa 1 input Int (kSwitch time (arr (event unit)) {200*(kSwitch (old 0) (arr (event unit)) }(old 0){200*)}) | 5␤+3 5 => 0␤3␤
 ";
 
 /// Networks, and where the first expression without a row stands.
