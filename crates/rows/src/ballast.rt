@@ -29,6 +29,13 @@ pub fn take_all(alloc: Global, spare: usize) -> Result<Ballast, AllocError> {
     Ok(Ballast { blocks })
 }
 
+impl Ballast {
+    /// Lets one block go, the smallest first.
+    pub fn release(&mut self) {
+        drop(self.blocks.pop());
+    }
+}
+
 /// How many times a call is tried, with more and more bytes left.
 pub const TRIES: usize = 8;
 

@@ -8,7 +8,7 @@ use crate::needs::need_told;
 use crate::network_types::{frozen_told, network_told};
 use crate::networks::file_told;
 use crate::reading::{expr_at_told, expr_told, type_at_told};
-use crate::runs::{missing_told, run_told, visited_told};
+use crate::runs::{missing_told, run_told, scantly_told, visited_told};
 use crate::scant_memory::scant_told;
 use crate::scant_networks::scant_network_told;
 use crate::scant_runs::scant_run_told;
@@ -86,6 +86,8 @@ pub enum Probe {
     ScantNetwork,
     /// The same of a table and of a runner.
     ScantRun,
+    /// What the pushes of a stream's samples answer, with growths refused: `FILE | STREAM`.
+    ScantStream,
 }
 
 /// Adds to the text what the probe finds.
@@ -121,6 +123,7 @@ fn tell(alloc: Global, probe: Probe, given: &str, out: &mut String) {
         Probe::Scant => scant_told(alloc, given, out),
         Probe::ScantNetwork => scant_network_told(alloc, given, out),
         Probe::ScantRun => scant_run_told(alloc, given, out),
+        Probe::ScantStream => scantly_told(alloc, given, out),
     }
 }
 

@@ -34,6 +34,8 @@ mod scant_memory;
 #[cfg(test)]
 mod scant_networks;
 #[cfg(test)]
+mod scant_pushes;
+#[cfg(test)]
 mod scant_runs;
 #[cfg(test)]
 mod shapes;

@@ -14,11 +14,12 @@ use sample_core::{Memory, Sample, Ty, has_type};
 use std::alloc::Global;
 use step_core::{Bound, Runner};
 
-/// A runner, with the type of its inputs.
+/// A runner, with the type of its inputs, and how many pushes it refused.
 #[derive(Drop)]
 pub struct Running<'a> {
     runner: Runner<'a>,
     input: &'a Ty,
+    refused: u64,
     ghost same_input: { (runner_state runner).input ≡ type_of input.now } by { Prim.hlevel (props, type_code) },
 }
 
@@ -31,6 +32,7 @@ impl<'a> Running<'a> {
         Running {
             runner,
             input: bound.input(),
+            refused: 0,
         }
     }
 
@@ -39,7 +41,9 @@ impl<'a> Running<'a> {
     pub fn push(&mut self, step: u64, sample: &Sample) -> Result<Sample, Memory> {
         let is_step = 1 <= step && step < 1 << 63;
         if is_step && self.runner.samples() < 1_000 && has_type(sample, self.input) {
-            self.runner.push(step, sample)
+            let answer = self.runner.push(step, sample);
+            self.refused = self.refused.saturating_add(u64::from(answer.is_err()));
+            answer
         } else {
             Err(Memory)
         }
@@ -48,6 +52,11 @@ impl<'a> Running<'a> {
     /// How many nodes the last sample visited.
     pub fn last_visits(&self) -> usize {
         self.runner.last_visits() as usize
+    }
+
+    /// How many pushes that the runner may be handed were refused memory.
+    pub fn refused(&self) -> u64 {
+        self.refused
     }
 
     /// The step and the value of a line of a stream; a line without a step has step 1.

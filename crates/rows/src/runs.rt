@@ -7,6 +7,7 @@ ghost use Rattle.yampa_run.specs.FaultLines.{EndsRun};
 
 use crate::commands::{refusal_told, status_told};
 use crate::found::{Probe, all_are_found};
+use crate::scant_pushes::scant_stream_told;
 use crate::scant_runs::pushes_told;
 use crate::tables::row_told;
 use crate::texts::{parted, say};
@@ -27,6 +28,8 @@ pub enum Trial<'a> {
     Run(&'a str),
     /// How many of its nodes each sample of this stream visits.
     Visits(&'a str),
+    /// What its pushes of this stream's samples answer, where growths are refused in turn.
+    ScantStream(&'a str),
     /// Whether its pushes are refused memory at first, and answer in the end.
     ScantMemory,
     /// What the row of this need answers on the value.
@@ -46,6 +49,13 @@ pub fn run_told(alloc: Global, given: &str, out: &mut String) {
 pub fn visited_told(alloc: Global, given: &str, out: &mut String) {
     let (file, stream) = parted(given);
     file_told(alloc, file, Trial::Visits(stream), out);
+}
+
+/// Tells what the network answers to the samples of the stream where growths are refused in turn,
+/// `FILE | STREAM`.
+pub fn scantly_told(alloc: Global, given: &str, out: &mut String) {
+    let (file, stream) = parted(given);
+    file_told(alloc, file, Trial::ScantStream(stream), out);
 }
 
 /// Tells what the trial of the network of a file's text finds.
@@ -135,6 +145,7 @@ fn tried(alloc: Global, bound: &Bound, table: &LeafTable, trial: Trial<'_>, out:
     match trial {
         Trial::Run(stream) => written_told(alloc, bound, table, stream, out),
         Trial::Visits(stream) => visits_told(alloc, bound, table, stream, out),
+        Trial::ScantStream(stream) => scant_stream_told(alloc, bound, table, stream, out),
         Trial::ScantMemory => pushes_told(alloc, bound, table, out),
         Trial::Call(need, x) => row_told(table, need, x, out),
         Trial::Rows => say(out, "a row for each"),

@@ -1,0 +1,90 @@
+// What a runner answers on whole streams where growths are refused in turn.
+
+ghost use Rattle.leaf_table.specs.Rows.{rows_of};
+ghost use Rattle.step_core.specs.Binding.{FitsTable};
+
+use crate::ballast::take_all;
+use crate::found::{Probe, all_are_found};
+use crate::running::Running;
+use crate::texts::say;
+use crate::working::answer_told;
+use leaf_table::LeafTable;
+use sample_core::{Memory, Sample};
+use std::alloc::Global;
+use step_core::Bound;
+
+/// Tells what the network answers to each sample of the stream, where each is pushed with no memory
+/// left, and after each refusal again with a little more; and whether any push was refused.
+pub fn scant_stream_told(
+    alloc: Global,
+    bound: &Bound,
+    table: &LeafTable,
+    stream: &str,
+    out: &mut String,
+)
+    requires { FitsTable (rows_of table.now) bound.now }
+{
+    let mut running = Running::new(alloc, bound, table);
+    for line in stream.lines() {
+        line_told(alloc, &mut running, line, out);
+    }
+    say(
+        out,
+        if running.refused() == 0 {
+            "never refused"
+        } else {
+            "refused at first"
+        },
+    );
+    drop(running);
+}
+
+fn line_told(alloc: Global, running: &mut Running<'_>, line: &str, out: &mut String) {
+    match running.line(alloc, line) {
+        (step, Some(sample)) => {
+            answer_told(scant_push(alloc, running, step, &sample), out);
+            say(out, "; ");
+        }
+        (_, None) => say(out, "no value; "),
+    }
+}
+
+/// What the pushes of the sample are answered in the end.
+fn scant_push(
+    alloc: Global,
+    running: &mut Running<'_>,
+    step: u64,
+    sample: &Sample,
+) -> Result<Sample, Memory> {
+    let mut ballast = take_all(alloc, 0)?;
+    for _ in 0..RELEASES {
+        match running.push(step, sample) {
+            Ok(answer) => {
+                drop(ballast);
+                return Ok(answer);
+            }
+            Err(Memory) => ballast.release(),
+        }
+    }
+    drop(ballast);
+    running.push(step, sample)
+}
+
+/// How many times a push is tried with little memory, before it is tried with ample memory.
+const RELEASES: usize = 1_000;
+
+/// Networks, streams, and what is answered.
+static PUSHES: &str = "
+§ Pushes with little memory, each repeated until it is answered.
+yampa 1 input Int (switch ‹event above nine› ‹plus event›) | 1␤+1 20␤+1 3 => 1; 40; 23; refused at first
+yampa 1 input Int (dSwitch ‹event above nine› ‹plus event›) | 1␤+1 20␤+1 3 => 1; 20; 23; refused at first
+yampa 1 input Int ‹switched twice› | 1␤+1 20␤+1 3 => 1; 0; -17; refused at first
+yampa 1 input (Pair Int (Event Int)) (rSwitch (iPre 0) (iPre (p 0))) | (pair 5 none)␤+1 (pair 6 (event 9))␤+1 (pair 7 (event 8))␤+1 (pair 4 none) => 0; 9; 8; 7; refused at first
+yampa 1 input Int ‹resumed› | 0␤+4 0␤+5 1␤+6 0␤+7 2␤+1 0 => 0; 4; -1; -1; 9; 10; refused at first
+yampa 1 input Int ‹routed› | 2␤+3 2␤+4 7␤+1 0 => (list 0 0); (list 3 6); (list 14 7); (list 21 8); refused at first
+";
+
+#[test]
+fn pushes_are_repeated(rt: HostRuntime) {
+    all_are_found(&rt, rt.alloc(), Probe::ScantStream, PUSHES);
+}
