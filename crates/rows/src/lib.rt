@@ -14,6 +14,8 @@ mod forms;
 #[cfg(test)]
 mod found;
 #[cfg(test)]
+mod freezing;
+#[cfg(test)]
 mod keys;
 #[cfg(test)]
 mod named;

@@ -9,6 +9,7 @@ ghost use Rattle.step_core.specs.RunnerView.{runner_state};
 
 use crate::ballast::{TRIES, Tally, spare_at, take_all};
 use crate::found::{Probe, all_are_found};
+use crate::freezing::{delay_told, members_told};
 use crate::runs::{Trial, network, trial_told};
 use crate::texts::{say, written};
 use crate::working::answer_told;
@@ -87,10 +88,13 @@ fn retried_told(mut runner: Runner<'_>, sample: &Sample, out: &mut String)
     }
 }
 
-/// Tells of the call of that name whether it is refused memory at first, and answers in the end.
+/// Tells of the call of that name whether it is refused memory at first, and answers in the end; of
+/// a freezing, what it answers.
 pub fn scant_run_told(alloc: Global, name: &str, out: &mut String) {
     match name {
         "pushing a sample" => pushing_told(alloc, out),
+        "freezing a delay" => delay_told(alloc, out),
+        "freezing members" => members_told(alloc, out),
         _ => filling_told(alloc, out),
     }
 }
@@ -146,6 +150,9 @@ static CALLS: &str = "
 § Tables and runners with little memory.
 pushing a sample => refused at first
 filling a table => refused at first
+§ States of a full delay and of 64 members, frozen without any growth.
+freezing a delay => no room, paused with step 3
+freezing members => no room, paused with step 3
 ";
 
 #[test]
