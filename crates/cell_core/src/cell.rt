@@ -13,6 +13,7 @@ use crate::recurring::Recurring;
 use crate::{start, step};
 use sample_core::{Memory, Sample, SampleChild};
 use std::alloc::Global;
+use std::rc::Rc;
 
 /// What a cell keeps from one sample to the next. Copies of it share its parts.
 #[derive(Drop)]
@@ -20,7 +21,7 @@ pub enum Cell {
     /// `iPre`: the sample before.
     IPre(Sample),
     /// `delay`: what is out, and what waits.
-    Delay(Delay),
+    Delay(Rc<Delay>),
     /// `hold`: the value of the latest event, or the constant.
     Hold(Sample),
     /// `accumBy`: the accumulator.
@@ -105,7 +106,7 @@ impl Cell {
     {
         Ok(match self {
             Cell::IPre(before) => Cell::IPre(before.try_copy(alloc)?),
-            Cell::Delay(delay) => Cell::Delay(delay.try_copy(alloc)?),
+            Cell::Delay(delay) => Cell::Delay(delay.clone()?),
             Cell::Hold(latest) => Cell::Hold(latest.try_copy(alloc)?),
             Cell::AccumBy(accumulator) => Cell::AccumBy(accumulator.try_copy(alloc)?),
             Cell::After(None) => Cell::After(None),

@@ -223,22 +223,6 @@ impl Delay {
     {
         Delay::moved(alloc, self.q, dt, self.front.line(), &self.back, sample)
     }
-
-    /// The same queue, with what waits shared. It takes no memory; `Memory` only where a count of
-    /// references is full.
-    pub(crate) fn try_copy(&self, alloc: Global) -> Result<Delay, Memory>
-        ensures { IfOk result (λ d. delay_of d ≡ delay_of self.now) }
-    {
-        let back = self.back.try_copy()?;
-        let line = self.front.line();
-        let left = line.left;
-        let front = Front::of(alloc, line, left)?;
-        Ok(Delay {
-            q: self.q,
-            front,
-            back,
-        })
-    }
 }
 
 impl Front {

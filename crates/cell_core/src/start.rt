@@ -12,6 +12,7 @@ use crate::form::Form;
 use crate::recurring::Recurring;
 use sample_core::{Memory, Sample, SampleChild};
 use std::alloc::Global;
+use std::rc::Rc;
 
 /// An `iPre` answers its constant and keeps the sample.
 pub(crate) fn i_pre(
@@ -37,6 +38,7 @@ pub(crate) fn delay(
         (λ r. outcome_of r ≡ cell_start (Form.Delay q) (datum_of constant) (datum_of sample.now)) }
 {
     let (delay, answer) = Delay::alone(alloc, q, &constant, sample)?;
+    let delay = Rc::new(alloc, delay)?;
     Ok((Cell::Delay(delay), answer))
 }
 

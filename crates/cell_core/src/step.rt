@@ -14,6 +14,7 @@ use crate::recurring::Recurring;
 use crate::start::whole_of;
 use sample_core::{Memory, Sample, SampleChild};
 use std::alloc::Global;
+use std::rc::Rc;
 
 /// An `iPre` answers the sample before and keeps this one.
 pub(crate) fn i_pre(
@@ -40,6 +41,7 @@ pub(crate) fn delay(
         (λ r. outcome_of r ≡ cell_step (delay_of delay.now) (dt, datum_of sample.now)) }
 {
     let (delay, answer) = delay.step(alloc, dt, sample)?;
+    let delay = Rc::new(alloc, delay)?;
     Ok((Cell::Delay(delay), answer))
 }
 

@@ -45,7 +45,6 @@ scope_of e = scope e.params (olds_of e.olds)
 abbrev pub state_of : CodeState → State ℕ
 state_of (S.Still f ps) = still_of 0 (rows_in f.net.now) ps
 state_of (S.Cell k) = cell_state (cell_of k)
-state_of (S.AccumBy a) = accumulator_state a
 state_of (S.Whole w) = w
 
 -- the states of members
@@ -58,6 +57,7 @@ abbrev pub node_of : Node → State ℕ
 node_of (N.Seq a b) = seq_state (state_of a) (state_of b)
 node_of (N.First a) = first_state (state_of a)
 node_of (N.Par as') = par_state as'
+node_of (N.AccumBy a) = accumulator_state a
 node_of (N.LoopPre v a) = loop_state (datum_of v) (state_of a)
 node_of (N.Switch a t s) = switch_state (state_of a) (rows_in t.now) (scope_of s)
 node_of (N.DSwitch a t s) = d_switch_state (state_of a) (rows_in t.now) (scope_of s)

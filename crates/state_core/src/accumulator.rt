@@ -1,14 +1,12 @@
 // The state of an `accumBy`.
 
-ghost use Rattle.std.specs.Prelude.{◌≡◌, IfOk, IsTrue};
+ghost use Rattle.std.specs.Prelude.{◌≡◌, IsTrue};
 ghost use Rattle.cell_core.specs.Cell.{is_accumulator};
 ghost use Rattle.cell_core.specs.CellView.{cell_of};
 
 use crate::params::Params;
 use cell_core::Cell;
 use leaf_table::LeafId;
-use sample_core::Memory;
-use std::alloc::Global;
 
 /// What an `accumBy` goes on with: its leaf's row, the parameters in its scope, and its cell.
 #[derive(Drop)]
@@ -50,18 +48,5 @@ impl Accumulator {
         ensures accumulates { IsTrue (is_accumulator (cell_of result.now)) }
     {
         &self.cell
-    }
-
-    /// The same, shared. It takes no memory; `Memory` only where a count of references is full.
-    pub fn try_copy(&self, alloc: Global) -> Result<Accumulator, Memory>
-        ensures { IfOk result (λ a. IsAccumulator self.now.leaf self.now.params self.now.cell a) }
-    {
-        let params = self.params.try_copy()?;
-        let cell = self.cell.try_copy(alloc)?;
-        Ok(Accumulator {
-            leaf: self.leaf,
-            params,
-            cell,
-        })
     }
 }

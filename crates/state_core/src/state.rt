@@ -23,13 +23,11 @@ pub enum State<'n> {
     Still(Still<'n>, Params),
     /// A cell.
     Cell(Cell),
-    /// `accumBy`.
-    AccumBy(Accumulator),
-    /// A node that has parts.
+    /// A node.
     Whole(Whole<'n>),
 }
 
-/// A node that has parts, shared. Contracts see it as the clean state.
+/// A node, shared. Contracts see it as the clean state.
 #[cycle(state)]
 #[derive(Drop)]
 pub struct Whole<'n> {
@@ -43,7 +41,7 @@ pub struct States<'n> {
     all: Vec<State<'n>>,
 }
 
-/// A node of a state, with its parts.
+/// A node of a state: one with parts, or an `accumBy`.
 #[cycle(state)]
 #[derive(Drop)]
 pub enum Node<'n> {
@@ -53,6 +51,8 @@ pub enum Node<'n> {
     First(State<'n>),
     /// `parB`.
     Par(States<'n>),
+    /// `accumBy`.
+    AccumBy(Accumulator),
     /// `loopPre`: what is fed back next, and the part.
     LoopPre(Sample, State<'n>),
     /// `switch` before its first event: the part that runs, the network that takes over, and its
@@ -163,7 +163,6 @@ impl<'n> State<'n> {
         match self {
             State::Still(still, params) => Ok(State::Still(*still, params.try_copy()?)),
             State::Cell(cell) => Ok(State::Cell(cell.try_copy(alloc)?)),
-            State::AccumBy(accumulator) => Ok(State::AccumBy(accumulator.try_copy(alloc)?)),
             State::Whole(whole) => Ok(State::Whole(whole.try_copy()?)),
         }
     }

@@ -1,7 +1,8 @@
 -- Each part of what runs weighs less than it.
 use Rattle.std.proofs.Common.{◌≡◌, ℕ, suc, ◌+◌, ◌*◌, ◌<◌, ◌≤◌, max, List, [], ◌∷◌, ◌++◌, refl, sym, ap, ◌∙◌, subst, arith, append-nil, zero, Some, None}
 use Rattle.std.proofs.Math.Nat.{le-max_left, le-max_right}
-use Rattle.sample_core.specs.Datum.{Datum}
+use Rattle.sample_core.specs.Datum.{Datum, unit}
+use Rattle.sample_core.specs.ValueView.{datum_of}
 use Rattle.leaf_core.specs.KeyTree.{KeyTree}
 use Rattle.net_syntax.specs.Network.{Network, arr, seq, first, par, loop_pre, i_pre, delay, hold, accum_by, after, repeatedly, time, integral, switch, d_switch, r_switch, k_switch, p_switch, old}
 use Rattle.net_syntax.specs.Weight.{weight, weights, weight_at, total}
@@ -9,6 +10,9 @@ use Rattle.state_core.specs.State.{State, Scope, Frozen, Frozens, arr_state, seq
 use Rattle.step_core.specs.Rank.{rank, ranks, ranks_in, frozen_rank, frozen_ranks}
 use Rattle.step_core.specs.Runs as R
 use Rattle.step_core.specs.Runs.{SeqBy, FirstBy, ParBy, LoopBy, SwitchBy, DSwitchBy, RSwitchBy, KSwitchBy, PSwitchBy, OldBy}
+use Rattle.step_core.specs.Plans.{IsFed}
+use Rattle.step_core.specs.declared.plan.Back.{Back}
+use Rattle.step_core.specs.declared.plan.Back.TheVariants as B
 use Rattle.step_core.proofs.Ranks.{ranks-param, ranks-olds, ranks-unstarted, ranks-paused, rank-in}
 
 weight_positive : (net : Network ℕ) (ws : List ℕ) → 1 ≤ weight net ws
@@ -52,14 +56,14 @@ frozen_positive (paused a d) = rank_positive a
 
 -- members are visited one by one
 pub members_fall : (fs : Frozens ℕ) (f : Frozen ℕ) (gs : Frozens ℕ) → fs ≡ and_frozen f gs
-    → (2 * frozen_rank f < 2 * total (frozen_ranks fs) + 1) × (2 * total (frozen_ranks gs) + 1 < 2 * total (frozen_ranks fs) + 1)
+    → (frozen_rank f ≤ total (frozen_ranks fs)) × (total (frozen_ranks gs) < total (frozen_ranks fs))
 members_fall fs f gs e =
     let sum : total (frozen_ranks fs) ≡ frozen_rank f + total (frozen_ranks gs) = ap (λ hs. total (frozen_ranks hs)) e in
     (omega (arith, sum), omega (arith, sum, frozen_positive f))
 
-pub seq_falls : (w p q : Frozen ℕ) → SeqBy w p q → (frozen_rank p < frozen_rank w) × (frozen_rank q < frozen_rank w)
-seq_falls w p q R.seq_new = (omega arith, omega arith)
-seq_falls w p q R.seq_on = (omega arith, omega arith)
+pub seq_within : (w p q : Frozen ℕ) → SeqBy w p q → frozen_rank p + frozen_rank q < frozen_rank w
+seq_within w p q R.seq_new = omega arith
+seq_within w p q R.seq_on = omega arith
 
 pub first_falls : (w p : Frozen ℕ) → FirstBy w p → frozen_rank p < frozen_rank w
 first_falls w p R.first_new = omega arith
@@ -69,87 +73,62 @@ pub par_falls : (w : Frozen ℕ) (ms : Frozens ℕ) → ParBy w ms → total (fr
 par_falls w ms (R.par_new {fs = fs} {s = s}) = let e : total (frozen_ranks (all_unstarted fs s)) ≡ total (weights fs (ranks_in s)) = ap total (ranks-unstarted fs s) in omega (arith, e)
 par_falls w ms (R.par_on {as' = as'} {d = d}) = let e : total (frozen_ranks (all_paused as' d)) ≡ total (ranks as') = ap total (ranks-paused as' d) in omega (arith, e)
 
-pub loop_falls : (keys : List KeyTree) (w : Frozen ℕ) (u : Datum) (p : Frozen ℕ) → LoopBy keys w u p → frozen_rank p < frozen_rank w
-loop_falls keys w u p (R.loop_new h) = omega arith
-loop_falls keys w u p R.loop_on = omega arith
+loop_by_falls : (keys : List KeyTree) (w : Frozen ℕ) (u : Datum) (p : Frozen ℕ) → LoopBy keys w u p → frozen_rank p < frozen_rank w
+loop_by_falls keys w u p (R.loop_new h) = omega arith
+loop_by_falls keys w u p R.loop_on = omega arith
 
-switch_parts : (w p : Frozen ℕ) (t : Network ℕ) (s : Scope ℕ) → SwitchBy w p t s → (frozen_rank p < frozen_rank w) × (weight t (ranks_in s) < frozen_rank w)
-switch_parts w p t s R.switch_new = (omega arith, omega arith)
-switch_parts w p t s R.switch_on = (omega arith, omega arith)
+-- whatever a table's rows are: over none, anything may be fed back that a row promises
+pub loop_falls : (w : Frozen ℕ) (b : Back) (p : Frozen ℕ) → ((keys : List KeyTree) (u : Datum) → IsFed keys b u → LoopBy keys w u p) → frozen_rank p < frozen_rank w
+loop_falls w (B.Row c ps) p h = loop_by_falls [] w unit p (h [] unit (λ key e. absurd (cc)))
+loop_falls w (B.Value v) p h = loop_by_falls [] w (datum_of v.now) p (h [] (datum_of v.now) refl)
 
-d_switch_parts : (w p : Frozen ℕ) (t : Network ℕ) (s : Scope ℕ) → DSwitchBy w p t s → (frozen_rank p < frozen_rank w) × (weight t (ranks_in s) < frozen_rank w)
-d_switch_parts w p t s R.d_switch_new = (omega arith, omega arith)
-d_switch_parts w p t s R.d_switch_on = (omega arith, omega arith)
+pub switch_within : (w p : Frozen ℕ) (t : Network ℕ) (s : Scope ℕ) → SwitchBy w p t s → frozen_rank p + weight t (ranks_in s) < frozen_rank w
+switch_within w p t s R.switch_new = omega arith
+switch_within w p t s R.switch_on = omega arith
 
-r_switch_parts : (w p : Frozen ℕ) (t : Network ℕ) (s : Scope ℕ) → RSwitchBy w p t s → (frozen_rank p < frozen_rank w) × (weight t (ranks_in s) < frozen_rank w)
-r_switch_parts w p t s R.r_switch_new = (omega arith, omega arith)
-r_switch_parts w p t s (R.r_switch_on {a = a}) = (omega (arith, le-max_left (rank a) (weight t (ranks_in s))), omega (arith, le-max_right (rank a) (weight t (ranks_in s))))
+pub d_switch_within : (w p : Frozen ℕ) (t : Network ℕ) (s : Scope ℕ) → DSwitchBy w p t s → frozen_rank p + weight t (ranks_in s) < frozen_rank w
+d_switch_within w p t s R.d_switch_new = omega arith
+d_switch_within w p t s R.d_switch_on = omega arith
 
-pub switch_falls : (w p : Frozen ℕ) (t : Network ℕ) (s : Scope ℕ) → SwitchBy w p t s → frozen_rank p < frozen_rank w
-switch_falls w p t s b = (switch_parts w p t s b).0
+pub r_switch_within : (w p : Frozen ℕ) (t : Network ℕ) (s : Scope ℕ) → RSwitchBy w p t s → max (frozen_rank p) (weight t (ranks_in s)) < frozen_rank w
+r_switch_within w p t s (R.r_switch_new {f = f}) = omega arith
+r_switch_within w p t s (R.r_switch_on {a = a}) = omega arith
 
-pub switch_over_falls : (w p : Frozen ℕ) (t : Network ℕ) (s s' : Scope ℕ) (u : Datum) → SwitchBy w p t s → s' ≡ push_param s u → frozen_rank (unstarted t s') < frozen_rank w
-switch_over_falls w p t s s' u b e =
-    let h : frozen_rank (unstarted t s') ≡ weight t (ranks_in s) = ap (λ z. weight t z) (ap ranks_in e ∙ ranks-param s u) in
-    let k : weight t (ranks_in s) < frozen_rank w = (switch_parts w p t s b).1 in
-    omega (arith, h, k)
+pub k_switch_within : (w p q : Frozen ℕ) (t : Network ℕ) (s : Scope ℕ) → KSwitchBy w p q t s
+    → frozen_rank p + frozen_rank q + weight t (ranks_in s ++ frozen_rank p ∷ []) < frozen_rank w
+k_switch_within w p q t s R.k_switch_new = omega arith
+k_switch_within w p q t s R.k_switch_on = omega arith
 
-pub d_switch_falls : (w p : Frozen ℕ) (t : Network ℕ) (s : Scope ℕ) → DSwitchBy w p t s → frozen_rank p < frozen_rank w
-d_switch_falls w p t s b = (d_switch_parts w p t s b).0
-
-pub d_switch_over_falls : (w p : Frozen ℕ) (t : Network ℕ) (s s' : Scope ℕ) (u : Datum) → DSwitchBy w p t s → s' ≡ push_param s u → frozen_rank (unstarted t s') < frozen_rank w
-d_switch_over_falls w p t s s' u b e =
-    let h : frozen_rank (unstarted t s') ≡ weight t (ranks_in s) = ap (λ z. weight t z) (ap ranks_in e ∙ ranks-param s u) in
-    let k : weight t (ranks_in s) < frozen_rank w = (d_switch_parts w p t s b).1 in
-    omega (arith, h, k)
-
-pub r_switch_falls : (w p : Frozen ℕ) (t : Network ℕ) (s : Scope ℕ) → RSwitchBy w p t s → frozen_rank p < frozen_rank w
-r_switch_falls w p t s b = (r_switch_parts w p t s b).0
-
-pub r_switch_over_falls : (w p : Frozen ℕ) (t : Network ℕ) (s s' : Scope ℕ) (u : Datum) → RSwitchBy w p t s → s' ≡ push_param s u → frozen_rank (unstarted t s') < frozen_rank w
-r_switch_over_falls w p t s s' u b e =
-    let h : frozen_rank (unstarted t s') ≡ weight t (ranks_in s) = ap (λ z. weight t z) (ap ranks_in e ∙ ranks-param s u) in
-    let k : weight t (ranks_in s) < frozen_rank w = (r_switch_parts w p t s b).1 in
-    omega (arith, h, k)
-
-k_switch_parts : (w p q : Frozen ℕ) (t : Network ℕ) (s : Scope ℕ) → KSwitchBy w p q t s
-    → (frozen_rank p < frozen_rank w) × (frozen_rank q < frozen_rank w) × (weight t (ranks_in s ++ frozen_rank p ∷ []) < frozen_rank w)
-k_switch_parts w p q t s R.k_switch_new = (omega arith, omega arith, omega arith)
-k_switch_parts w p q t s R.k_switch_on = (omega arith, omega arith, omega arith)
-
-pub k_switch_falls : (w p q : Frozen ℕ) (t : Network ℕ) (s : Scope ℕ) → KSwitchBy w p q t s → (frozen_rank p < frozen_rank w) × (frozen_rank q < frozen_rank w)
-k_switch_falls w p q t s b = let k = k_switch_parts w p q t s b in (k.0, k.1)
-
-pub k_switch_over_falls : (w p q : Frozen ℕ) (t : Network ℕ) (s s' : Scope ℕ) (u : Datum) → KSwitchBy w p q t s → s' ≡ push_old (push_param s u) p
-    → frozen_rank (unstarted t s') < frozen_rank w
-k_switch_over_falls w p q t s s' u b e =
-    let h : frozen_rank (unstarted t s') ≡ weight t (ranks_in s ++ frozen_rank p ∷ []) = ap (λ z. weight t z) (ap ranks_in e ∙ ranks-olds s u (and_frozen p no_frozen)) in
-    let k : weight t (ranks_in s ++ frozen_rank p ∷ []) < frozen_rank w = (k_switch_parts w p q t s b).2 in
-    omega (arith, h, k)
-
-p_switch_parts : (w : Frozen ℕ) (r : ℕ) (ms : Frozens ℕ) (q : Frozen ℕ) (t : Network ℕ) (s : Scope ℕ) → PSwitchBy w r ms q t s
-    → (total (frozen_ranks ms) < frozen_rank w) × (frozen_rank q < frozen_rank w) × (weight t (ranks_in s ++ frozen_ranks ms) < frozen_rank w)
-p_switch_parts w r ms q t s (R.p_switch_new {fs = fs} {e = e}) =
+pub p_switch_within : (w : Frozen ℕ) (r : ℕ) (ms : Frozens ℕ) (q : Frozen ℕ) (t : Network ℕ) (s : Scope ℕ) → PSwitchBy w r ms q t s
+    → total (frozen_ranks ms) + frozen_rank q + weight t (ranks_in s ++ frozen_ranks ms) < frozen_rank w
+p_switch_within w r ms q t s (R.p_switch_new {fs = fs} {e = e}) =
     let k : frozen_ranks (all_unstarted fs s) ≡ weights fs (ranks_in s) = ranks-unstarted fs s in
     let i : total (frozen_ranks (all_unstarted fs s)) ≡ total (weights fs (ranks_in s)) = ap total k in
     let j : weight t (ranks_in s ++ frozen_ranks (all_unstarted fs s)) ≡ weight t (ranks_in s ++ weights fs (ranks_in s)) = ap (λ us. weight t (ranks_in s ++ us)) k in
-    (omega (arith, i), omega (arith, i), omega (arith, j))
-p_switch_parts w r ms q t s (R.p_switch_on {as' = as'} {b = b} {d = d}) =
+    omega (arith, i, j)
+p_switch_within w r ms q t s (R.p_switch_on {as' = as'} {b = b} {d = d}) =
     let k : frozen_ranks (all_paused as' d) ≡ ranks as' = ranks-paused as' d in
     let i : total (frozen_ranks (all_paused as' d)) ≡ total (ranks as') = ap total k in
     let j : weight t (ranks_in s ++ frozen_ranks (all_paused as' d)) ≡ weight t (ranks_in s ++ ranks as') = ap (λ us. weight t (ranks_in s ++ us)) k in
-    (omega (arith, i), omega (arith, i), omega (arith, j))
-
-pub p_switch_falls : (w : Frozen ℕ) (r : ℕ) (ms : Frozens ℕ) (q : Frozen ℕ) (t : Network ℕ) (s : Scope ℕ) → PSwitchBy w r ms q t s
-    → (total (frozen_ranks ms) < frozen_rank w) × (frozen_rank q < frozen_rank w)
-p_switch_falls w r ms q t s b = let k = p_switch_parts w r ms q t s b in (k.0, k.1)
-
-pub p_switch_over_falls : (w : Frozen ℕ) (r : ℕ) (ms : Frozens ℕ) (q : Frozen ℕ) (t : Network ℕ) (s s' : Scope ℕ) (u : Datum) → PSwitchBy w r ms q t s
-    → s' ≡ push_olds (push_param s u) ms → frozen_rank (unstarted t s') < frozen_rank w
-p_switch_over_falls w r ms q t s s' u b e =
-    let h : frozen_rank (unstarted t s') ≡ weight t (ranks_in s ++ frozen_ranks ms) = ap (λ z. weight t z) (ap ranks_in e ∙ ranks-olds s u ms) in
-    let k : weight t (ranks_in s ++ frozen_ranks ms) < frozen_rank w = (p_switch_parts w r ms q t s b).2 in
-    omega (arith, h, k)
+    omega (arith, i, j)
 
 pub old_falls : (w f : Frozen ℕ) → OldBy w f → frozen_rank f < frozen_rank w
 old_falls w f (R.old_new {k = k} {s = s} e) = let h : frozen_rank f ≡ weight_at (ranks_in s) k = rank-in s k f e in omega (arith, h)
+
+-- what takes over weighs as it did in its scope
+pub over_weighs : (t : Network ℕ) (s s' : Scope ℕ) (u : Datum) → s' ≡ push_param s u → frozen_rank (unstarted t s') ≡ weight t (ranks_in s)
+over_weighs t s s' u e = ap (λ z. weight t z) (ap ranks_in e ∙ ranks-param s u)
+
+-- and with what is frozen before it
+pub over_old_weighs : (t : Network ℕ) (s s' : Scope ℕ) (u : Datum) (p : Frozen ℕ) → s' ≡ push_old (push_param s u) p → frozen_rank (unstarted t s') ≡ weight t (ranks_in s ++ frozen_rank p ∷ [])
+over_old_weighs t s s' u p e = ap (λ z. weight t z) (ap ranks_in e ∙ ranks-olds s u (and_frozen p no_frozen))
+
+pub over_olds_weighs : (t : Network ℕ) (s s' : Scope ℕ) (u : Datum) (ms : Frozens ℕ) → s' ≡ push_olds (push_param s u) ms → frozen_rank (unstarted t s') ≡ weight t (ranks_in s ++ frozen_ranks ms)
+over_olds_weighs t s s' u ms e = ap (λ z. weight t z) (ap ranks_in e ∙ ranks-olds s u ms)
+
+-- the sooner started of two parts, and the other
+pub left_within : (m n : ℕ) → 5 * m < 5 * max m n + 4
+left_within m n = omega (arith, le-max_left m n)
+
+pub right_within : (m n k : ℕ) → k ≡ n → 5 * k < 5 * max m n + 4
+right_within m n k e = omega (arith, le-max_right m n, e)

@@ -17,8 +17,8 @@ use Rattle.step_core.specs.RowTyping.{RowTyped}
 use Rattle.step_core.specs.StateTyping as T
 use Rattle.step_core.specs.StateTyping.{FrozensTyped, row_value}
 use Rattle.step_core.specs.Called.{Called}
-use Rattle.step_core.specs.Outcome.{Outcome, ListOutcome, IsRan, IsAdded, IsListed}
-use Rattle.step_core.specs.Plans.{IsRouted}
+use Rattle.step_core.specs.Outcome.{Outcome, ListOutcome, IsRan, IsAdded, IsListed, nothing_yet}
+use Rattle.step_core.specs.Plans.{IsRouted, RunsMember}
 use Rattle.step_core.specs.Runs as R
 use Rattle.step_core.specs.Runs.{Ran, RunsWhere, ParBy, PSwitchBy, Gathered, RunsEach, RanEach, RunEachWhere, Router, to_all, by_row, handed, HandsOut}
 use Rattle.step_core.proofs.StateTypings.{resumes_typed, starts_typed, steps_typed, each_starts_typed, each_steps_typed, row_typed, route_typed, small_number, event_typed, pushed_param, pushed_olds, unstarted_all, paused_all, params_typed}
@@ -93,9 +93,9 @@ module _ (keys : List KeyTree) where
       → RunsWhere keys p z one.state one.answer one.visits → IsAdded before one mid → (i < 64 → j ≡ suc i) → RunEachWhere keys h j ps x mid now → RunEachWhere keys h i ms x before now
   also_run h i j ms p ps x z one before mid now e hr hp ad ej hs = subst (λ fs. RunEachWhere keys h i fs x before now) (sym e) (also_at h i j p ps x z one before mid now hr hp ad ej hs)
 
-  -- what all led to, from none on
-  abbrev nothing_yet : Gathered
-  nothing_yet = record { states = no_state; answers = []; visits = 0 }
+  -- what a member ran on, by another name of what routes it
+  pub member_ran : (h k : Router) (i : ℕ) (w : Frozen ℕ) (x y : Datum) (one : Outcome) → k ≡ h → IsRouted keys h i x y → RunsWhere keys w y one.state one.answer one.visits → RunsMember keys k i w x one
+  member_ran h k i w x y one e r hw = subst (λ z. RunsMember keys z i w x one) (sym e) (y, r, hw)
 
   -- the list and the states that a collection goes on with
   listed_is : (h : ℕ → Datum → Datum) (i : ℕ) (x : Datum) (ms : Frozens ℕ) (before now : Gathered) (all : ListOutcome) → before ≡ nothing_yet → (r : RanEach keys h x i ms before now) → IsListed now all

@@ -11,7 +11,8 @@ use Rattle.state_core.specs.RowsView.{rows_in, row_number}
 use Rattle.state_core.specs.StateView.{scope_of}
 use Rattle.step_core.specs.Called.{Called}
 use Rattle.step_core.specs.SourceView.{source_of, sources_of}
-use Rattle.step_core.specs.Runs.{StillBy, StartBy, GatherBy, CellBy, AccumBy, SeqBy, FirstBy, ParBy, LoopBy, SwitchBy, DSwitchBy, RSwitchBy, KSwitchBy, PSwitchBy, OldBy, Router, to_all, by_row}
+use Rattle.step_core.specs.Outcome.{Outcome}
+use Rattle.step_core.specs.Runs.{StillBy, StartBy, GatherBy, CellBy, AccumBy, SeqBy, FirstBy, ParBy, LoopBy, SwitchBy, DSwitchBy, RSwitchBy, KSwitchBy, PSwitchBy, OldBy, Router, RunsWhere, to_all, by_row}
 use Rattle.step_core.specs.declared.plan.Plan.{Plan}
 use Rattle.step_core.specs.declared.plan.Plan.TheVariants as P
 use Rattle.step_core.specs.declared.plan.Route.{Route}
@@ -38,6 +39,11 @@ router_of (W.ByRow r ps) = by_row (row_number r) ps.now
 abbrev pub IsRouted : List KeyTree → Router → ℕ → Datum → Datum → Type 0
 IsRouted keys to_all i x y = y ≡ x
 IsRouted keys (by_row r ps) i x y = Called keys r ps (pair x (int (pos i))) y
+
+-- member i ran on what it is handed
+abbrev pub RunsMember : List KeyTree → Router → ℕ → Frozen ℕ → Datum → Outcome → Type 0
+RunsMember keys h i w x r = (y : Datum) × IsRouted keys h i x y
+    × RunsWhere keys w y r.state r.answer r.visits
 
 -- w, whose next sample comes after the step d, runs by the plan's parts
 abbrev pub PlanBy : Frozen ℕ → ℕ → Plan → Type 0

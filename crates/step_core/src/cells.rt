@@ -2,23 +2,23 @@
 
 ghost use Rattle.std.specs.Prelude.{◌≡◌, ℕ, List, IfOk, IsTrue};
 ghost use Rattle.sample_core.specs.ValueView.{datum_of};
-ghost use Rattle.cell_core.specs.Cell.{accumulator_of};
+ghost use Rattle.cell_core.specs.Cell.{accumulator_of, is_accumulator};
 ghost use Rattle.cell_core.specs.CellView.{cell_of};
 ghost use Rattle.cell_core.specs.Start.{IsWithin};
 ghost use Rattle.leaf_core.specs.KeyTree.{KeyTree};
 ghost use Rattle.state_core.specs.RowsView.{row_number};
-ghost use Rattle.state_core.specs.State.{Frozen};
+ghost use Rattle.state_core.specs.State.{Frozen, accum_state};
 ghost use Rattle.step_core.specs.Called.{IsConstant, IsPutIn};
 ghost use Rattle.step_core.specs.Plans.{number_of};
 ghost use Rattle.step_core.specs.Runs.{RunsWhere, StartBy, GatherBy, CellBy, AccumBy};
 
-use crate::part::paired;
-use crate::ran::Ran;
+use crate::part::beside;
+use crate::ran::{Ran, around};
 use crate::rows::Rows;
 use cell_core::{Cell, Form};
 use leaf_table::LeafId;
 use sample_core::{Memory, Sample, SampleChild};
-use state_core::{Accumulator, Params, State};
+use state_core::{Accumulator, Node, Params, State};
 use std::alloc::Global;
 
 /// The first sample of a cell.
@@ -81,10 +81,45 @@ pub(crate) fn start_accum<'n, R: Rows>(
         → RunsWhere (R.keys rows.now) w (datum_of x.now) r.state r.answer r.visits) }
 {
     let value = rows.call(z, params.as_slice(), &Sample::Unit)?;
-    let input = put_in(alloc, rows, g, params, &value, x)?;
-    let kept = params.try_copy()?;
-    let (cell, answer) = Cell::start(alloc, Form::AccumBy, value, &input)?;
-    Ok(Ran::new(State::AccumBy(Accumulator::new(g, kept, cell)), answer, 1))
+    match put_in(alloc, rows, g, params, &value, x) {
+        Ok(input) => {
+            let first = Cell::start(alloc, Form::AccumBy, value, &input);
+            drop(input);
+            accumulating(alloc, g, params, first?)
+        }
+        Err(memory) => {
+            drop(value);
+            Err(memory)
+        }
+    }
+}
+
+/// The state of an `accumBy` round its cell, and the cell's answer.
+fn accumulating<'n>(
+    alloc: Global,
+    g: LeafId,
+    params: &Params,
+    of: (Cell, Sample),
+) -> Result<Ran<'n>, Memory>
+    requires { IsTrue (is_accumulator (cell_of of.0)) }
+    ensures { IfOk result (λ r. r ≡ record {
+      state = accum_state (row_number g) params.now (accumulator_of (cell_of of.0));
+      answer = datum_of of.1;
+      visits = 1;
+    }) }
+{
+    let (cell, answer) = of;
+    match params.try_copy() {
+        Ok(kept) => {
+            let accumulator = Accumulator::new(g, kept, cell);
+            around(alloc, Node::AccumBy(accumulator), answer, 1)
+        }
+        Err(memory) => {
+            drop(cell);
+            drop(answer);
+            Err(memory)
+        }
+    }
 }
 
 /// A further sample of a cell.
@@ -118,13 +153,9 @@ pub(crate) fn step_accum<'n, R: Rows>(
     match from.cell().accumulator() {
         Some(held) => {
             let input = put_in(alloc, rows, from.leaf(), from.params(), held, x)?;
-            let kept = from.params().try_copy()?;
-            let (cell, answer) = from.cell().step(alloc, dt, &input)?;
-            Ok(Ran::new(
-                State::AccumBy(Accumulator::new(from.leaf(), kept, cell)),
-                answer,
-                1,
-            ))
+            let next = from.cell().step(alloc, dt, &input);
+            drop(input);
+            accumulating(alloc, from.leaf(), from.params(), next?)
         }
         None => unreachable!(),
     }
@@ -146,11 +177,10 @@ fn put_in<R: Rows>(
 {
     match x {
         Sample::Event(value) => {
-            let held = held.try_copy(alloc)?;
-            let value = value.get().try_copy(alloc)?;
-            let input = paired(alloc, held, value)?;
-            let answer = rows.call(g, params.as_slice(), &input)?;
-            let event = SampleChild::new(alloc, answer)?;
+            let input = beside(alloc, held, value.get())?;
+            let answer = rows.call(g, params.as_slice(), &input);
+            drop(input);
+            let event = SampleChild::new(alloc, answer?)?;
             Ok(Sample::Event(event))
         }
         _ => x.try_copy(alloc),

@@ -7,17 +7,15 @@ ghost use Rattle.state_core.specs.RowsView.{rows_in, row_number};
 ghost use Rattle.state_core.specs.State.{no_state, and_state, no_frozen, and_frozen, par_state, p_switch_state};
 ghost use Rattle.state_core.specs.StateView.{state_of, scope_of, append_states};
 ghost use Rattle.step_core.specs.Outcome.{IsRan, IsListed, IsAdded};
-ghost use Rattle.step_core.specs.Plans.{router_of, IsRouted};
 ghost use Rattle.step_core.specs.SourceView.{source_of, sources_of};
 
 use crate::count;
-use crate::plan::{Route, Source, Sources};
+use crate::plan::{Source, Sources};
 use crate::ran::{Ran, around};
-use crate::rows::Rows;
 use leaf_table::LeafId;
 use net_syntax::Net;
 use sample_core::{Memory, Sample};
-use state_core::{Env, Node, State, States, gather, route};
+use state_core::{Env, Node, State, States, gather};
 use std::alloc::Global;
 use std::marker::Model;
 
@@ -76,14 +74,22 @@ impl<'n> Model for Listed<'n> {
 }
 
 impl<'n> Each<'n> {
-    /// No member so far.
-    pub(crate) fn none(alloc: Global) -> Each<'n>
-        ensures { result ≡ record { states = no_state; answers = []; visits = 0 } }
+    /// No member so far, with room for so many. `Memory` where a growth was refused.
+    pub(crate) fn none(alloc: Global, room: usize) -> Result<Each<'n>, Memory>
+        ensures { IfOk result
+            (λ e. e ≡ record { states = no_state; answers = []; visits = 0 }) }
     {
-        Each {
-            states: Vec::new(alloc),
-            answers: Vec::new(alloc),
-            visits: 0,
+        let states = Vec::with_capacity(alloc, room)?;
+        match Vec::with_capacity(alloc, room) {
+            Ok(answers) => Ok(Each {
+                states,
+                answers,
+                visits: 0,
+            }),
+            Err(memory) => {
+                drop(states);
+                Err(memory.into())
+            }
         }
     }
 
@@ -93,22 +99,55 @@ impl<'n> Each<'n> {
     {
         let visits = count::both(self.visits, one.visits());
         let (state, answer) = one.into_parts();
-        self.states.push(state)?;
-        self.answers.push(answer)?;
-        self.visits = visits;
-        Ok(self)
+        match self.add(state, answer) {
+            Ok(()) => {
+                self.visits = visits;
+                Ok(self)
+            }
+            Err(memory) => {
+                drop(self);
+                Err(memory)
+            }
+        }
+    }
+
+    // One state and one answer more.
+    fn add(&mut self, state: State<'n>, answer: Sample) -> Result<(), Memory>
+        ensures { IfOk result (λ _. self.new ≡ record {
+          states = append_states self.old.states (and_state (state_of state.entry) no_state);
+          answers = self.old.answers ++ datum_of answer ∷ [];
+          visits = self.old.visits;
+        }) }
+    {
+        match self.states.push(state) {
+            Ok(()) => Ok(self.answers.push(answer)?),
+            Err(memory) => {
+                drop(answer);
+                Err(memory.into())
+            }
+        }
     }
 
     /// All members. `Memory` where a growth was refused.
     pub(crate) fn listed(self, alloc: Global) -> Result<Listed<'n>, Memory>
         ensures { IfOk result (λ l. IsListed self.entry l) }
     {
-        let list = gather(alloc, self.answers)?;
-        Ok(Listed {
-            states: self.states,
-            list,
-            visits: self.visits,
-        })
+        let Each {
+            states,
+            answers,
+            visits,
+        } = self;
+        match gather(alloc, answers) {
+            Ok(list) => Ok(Listed {
+                states,
+                list,
+                visits,
+            }),
+            Err(memory) => {
+                drop(states);
+                Err(memory)
+            }
+        }
     }
 }
 
@@ -161,11 +200,19 @@ pub(crate) fn keep_p_switch<'n>(
         all.entry.list (suc (all.entry.visits + two.entry.visits))) }
 {
     let visits = count::node(all.visits(), two.visits());
-    let env = env.try_copy()?;
-    let (watch, _answer) = two.into_parts();
-    let (states, list) = all.into_parts();
-    let node = Node::PSwitch(r, states, watch, t, env);
-    around(alloc, node, list, visits)
+    match env.try_copy() {
+        Ok(env) => {
+            let (watch, event) = two.into_parts();
+            drop(event);
+            let (states, list) = all.into_parts();
+            around(alloc, Node::PSwitch(r, states, watch, t, env), list, visits)
+        }
+        Err(memory) => {
+            drop(all);
+            drop(two);
+            Err(memory)
+        }
+    }
 }
 
 /// The first of some members, and those behind it; nothing where there is none.
@@ -187,22 +234,10 @@ pub(crate) fn first_of<'s, 'n>(
     }
 }
 
-/// What member i is handed. `Memory` where a growth was refused.
-pub(crate) fn routed<R: Rows>(
-    alloc: Global,
-    rows: &R,
-    router: Route<'_>,
-    i: u32,
-    x: &Sample,
-) -> Result<Sample, Memory>
-    ensures { IfOk result (λ y.
-        IsRouted (R.keys rows.now) (router_of router.entry) i (datum_of x.now) (datum_of y)) }
-{
-    match router {
-        Route::ToAll => x.try_copy(alloc),
-        Route::ByRow(r, params) => {
-            let asked = route(alloc, x, i)?;
-            rows.call(r, params.as_slice(), &asked)
-        }
+/// How many members there are.
+pub(crate) fn count_of(members: Sources<'_, '_>) -> usize {
+    match members {
+        Sources::Nets(nets, _) => nets.len(),
+        Sources::States(states) => states.len(),
     }
 }

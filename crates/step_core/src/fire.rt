@@ -48,10 +48,10 @@ pub(crate) fn fire_old<'n>(
         (λ u. with_old (with_param (scope_of env.now) u) (source_of from.entry dt)) e) }
 {
     match fire(alloc, seen, env)? {
-        Some(inner) => {
-            let frozen = frozen_source(alloc, from, dt)?;
-            let inner = push_old(alloc, &inner, &frozen)?;
-            Ok(Some(inner))
+        Some(fired) => {
+            let inner = with_frozen(alloc, &fired, from, dt);
+            drop(fired);
+            Ok(Some(inner?))
         }
         None => Ok(None),
     }
@@ -69,13 +69,45 @@ pub(crate) fn fire_olds<'n>(
         (λ u. with_olds (with_param (scope_of env.now) u) (sources_of members.entry dt)) e) }
 {
     match fire(alloc, seen, env)? {
-        Some(inner) => {
-            let frozen = frozen_sources(alloc, members, dt)?;
-            let inner = push_olds(alloc, &inner, frozen.as_slice())?;
-            Ok(Some(inner))
+        Some(fired) => {
+            let inner = with_all_frozen(alloc, &fired, members, dt);
+            drop(fired);
+            Ok(Some(inner?))
         }
         None => Ok(None),
     }
+}
+
+/// The scope with what runs frozen.
+fn with_frozen<'n>(
+    alloc: Global,
+    env: &Env<'n>,
+    from: Source<'_, 'n>,
+    dt: u64,
+) -> Result<Env<'n>, Memory>
+    ensures { IfOk result (λ e.
+        scope_of e ≡ with_old (scope_of env.now) (source_of from.entry dt)) }
+{
+    let frozen = frozen_source(alloc, from, dt)?;
+    let inner = push_old(alloc, env, &frozen);
+    drop(frozen);
+    inner
+}
+
+/// The scope with all members frozen.
+fn with_all_frozen<'n>(
+    alloc: Global,
+    env: &Env<'n>,
+    members: Sources<'_, 'n>,
+    dt: u64,
+) -> Result<Env<'n>, Memory>
+    ensures { IfOk result (λ e.
+        scope_of e ≡ with_olds (scope_of env.now) (sources_of members.entry dt)) }
+{
+    let frozen = frozen_sources(alloc, members, dt)?;
+    let inner = push_olds(alloc, env, frozen.as_slice());
+    drop(frozen);
+    inner
 }
 
 /// What runs, frozen as it was before the sample, with the sample's step.

@@ -37,6 +37,27 @@ pub(crate) fn paired(alloc: Global, v: Sample, w: Sample) -> Result<Sample, Memo
     Ok(Sample::Pair(pair))
 }
 
+/// A pair of a value and a copy of another. `Memory` where a growth was refused.
+pub(crate) fn paired_with(alloc: Global, v: Sample, w: &Sample) -> Result<Sample, Memory>
+    ensures { IfOk result (λ p. datum_of p ≡ pair (datum_of v) (datum_of w.now)) }
+{
+    match w.try_copy(alloc) {
+        Ok(w) => paired(alloc, v, w),
+        Err(memory) => {
+            drop(v);
+            Err(memory)
+        }
+    }
+}
+
+/// The pair of copies of two values. `Memory` where a growth was refused.
+pub(crate) fn beside(alloc: Global, v: &Sample, w: &Sample) -> Result<Sample, Memory>
+    ensures { IfOk result (λ p. datum_of p ≡ pair (datum_of v.now) (datum_of w.now)) }
+{
+    let v = v.try_copy(alloc)?;
+    paired_with(alloc, v, w)
+}
+
 /// What an event carries; `None` for another value.
 pub(crate) fn event_of(value: &Sample) -> Option<&Sample>
     ensures { event_found result ≡ event_in (datum_of value.now) }

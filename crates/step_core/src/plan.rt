@@ -158,7 +158,6 @@ fn plan_step<'s, 'n>(state: &'s State<'n>) -> Plan<'s, 'n>
     match state {
         State::Still(still, params) => Plan::Still(*still, params),
         State::Cell(cell) => Plan::Cell(cell),
-        State::AccumBy(accumulator) => Plan::AccumBy(accumulator),
         State::Whole(whole) => plan_node(whole.get()),
     }
 }
@@ -171,6 +170,7 @@ fn plan_node<'s, 'n>(node: &'s Node<'n>) -> Plan<'s, 'n>
         Node::Seq(a, b) => Plan::Seq(Source::State(a), Source::State(b)),
         Node::First(a) => Plan::First(Source::State(a)),
         Node::Par(all) => Plan::Par(Sources::States(all.as_slice())),
+        Node::AccumBy(accumulator) => Plan::AccumBy(accumulator),
         Node::LoopPre(fed_back, a) => Plan::LoopPre(Back::Value(fed_back), Source::State(a)),
         Node::Switch(a, t, env) => Plan::Switch(Source::State(a), *t, env),
         Node::DSwitch(a, t, env) => Plan::DSwitch(Source::State(a), *t, env),

@@ -9,7 +9,7 @@ ghost use Rattle.state_core.specs.StateView.{state_of, node_of, scope_of};
 ghost use Rattle.step_core.specs.Outcome.{IsRan};
 
 use crate::count;
-use crate::part::{first, paired, second};
+use crate::part::{first, paired_with, second};
 use leaf_table::LeafId;
 use net_syntax::Net;
 use sample_core::{Memory, Sample};
@@ -74,6 +74,29 @@ impl<'n> Ran<'n> {
     {
         (self.state, self.answer)
     }
+
+    /// The same with the first part of the answer in its place. `Memory` only where a count of
+    /// references is full.
+    fn with_first(self, alloc: Global) -> Result<Ran<'n>, Memory>
+        ensures { IfOk result (λ r. r ≡ record {
+          state = self.entry.state;
+          answer = left self.entry.answer;
+          visits = self.entry.visits;
+        }) }
+    {
+        match first(&self.answer).try_copy(alloc) {
+            Ok(answer) => {
+                let visits = self.visits;
+                let (state, whole) = self.into_parts();
+                drop(whole);
+                Ok(Ran::new(state, answer, visits))
+            }
+            Err(memory) => {
+                drop(self);
+                Err(memory)
+            }
+        }
+    }
 }
 
 /// A node round its parts' states.
@@ -86,8 +109,13 @@ pub(crate) fn around<'n>(
     ensures { IfOk result (λ r. r
         ≡ record { state = node_of node.entry; answer = datum_of answer; visits = visits }) }
 {
-    let whole = Whole::new(alloc, node)?;
-    Ok(Ran::new(State::Whole(whole), answer, visits))
+    match Whole::new(alloc, node) {
+        Ok(whole) => Ok(Ran::new(State::Whole(whole), answer, visits)),
+        Err(memory) => {
+            drop(answer);
+            Err(memory)
+        }
+    }
 }
 
 /// `>>>` of what its parts led to.
@@ -97,7 +125,10 @@ pub(crate) fn join_seq<'n>(alloc: Global, one: Ran<'n>, two: Ran<'n>) -> Result<
         (suc (one.entry.visits + two.entry.visits))) }
 {
     let visits = count::node(one.visits, two.visits);
-    around(alloc, Node::Seq(one.state, two.state), two.answer, visits)
+    let (left, between) = one.into_parts();
+    drop(between);
+    let (right, answer) = two.into_parts();
+    around(alloc, Node::Seq(left, right), answer, visits)
 }
 
 /// `first` round what its part led to, with the component that passes along.
@@ -111,9 +142,14 @@ pub(crate) fn join_first<'n>(
         (suc (one.entry.visits + 0))) }
 {
     let visits = count::node(one.visits, 0);
-    let passed = passed.try_copy(alloc)?;
-    let answer = paired(alloc, one.answer, passed)?;
-    around(alloc, Node::First(one.state), answer, visits)
+    let (state, answer) = one.into_parts();
+    match paired_with(alloc, answer, passed) {
+        Ok(answer) => around(alloc, Node::First(state), answer, visits),
+        Err(memory) => {
+            drop(state);
+            Err(memory)
+        }
+    }
 }
 
 /// `loopPre` round what its part led to.
@@ -123,9 +159,38 @@ pub(crate) fn join_loop<'n>(alloc: Global, one: Ran<'n>) -> Result<Ran<'n>, Memo
         (suc (one.entry.visits + 0))) }
 {
     let visits = count::node(one.visits, 0);
-    let answer = first(&one.answer).try_copy(alloc)?;
-    let fed_back = second(&one.answer).try_copy(alloc)?;
-    around(alloc, Node::LoopPre(fed_back, one.state), answer, visits)
+    match second(&one.answer).try_copy(alloc) {
+        Ok(fed_back) => feed_back(alloc, one, fed_back, visits),
+        Err(memory) => {
+            drop(one);
+            Err(memory)
+        }
+    }
+}
+
+/// `loopPre` round its part's state, with what is fed back next.
+fn feed_back<'n>(
+    alloc: Global,
+    one: Ran<'n>,
+    fed_back: Sample,
+    visits: u32,
+) -> Result<Ran<'n>, Memory>
+    ensures { IfOk result (λ r. r ≡ record {
+      state = loop_state (datum_of fed_back) one.entry.state;
+      answer = left one.entry.answer;
+      visits = visits;
+    }) }
+{
+    match one.with_first(alloc) {
+        Ok(one) => {
+            let (state, answer) = one.into_parts();
+            around(alloc, Node::LoopPre(fed_back, state), answer, visits)
+        }
+        Err(memory) => {
+            drop(fed_back);
+            Err(memory)
+        }
+    }
 }
 
 /// `switch` round what its part led to.
@@ -140,9 +205,17 @@ pub(crate) fn keep_switch<'n>(
         (left one.entry.answer) (suc (one.entry.visits + 0))) }
 {
     let visits = count::node(one.visits, 0);
-    let answer = first(&one.answer).try_copy(alloc)?;
-    let env = env.try_copy()?;
-    around(alloc, Node::Switch(one.state, t, env), answer, visits)
+    let one = one.with_first(alloc)?;
+    match env.try_copy() {
+        Ok(env) => {
+            let (state, answer) = one.into_parts();
+            around(alloc, Node::Switch(state, t, env), answer, visits)
+        }
+        Err(memory) => {
+            drop(one);
+            Err(memory)
+        }
+    }
 }
 
 /// `dSwitch` round what its part led to.
@@ -157,9 +230,17 @@ pub(crate) fn keep_d_switch<'n>(
         (left one.entry.answer) (suc (one.entry.visits + 0))) }
 {
     let visits = count::node(one.visits, 0);
-    let answer = first(&one.answer).try_copy(alloc)?;
-    let env = env.try_copy()?;
-    around(alloc, Node::DSwitch(one.state, t, env), answer, visits)
+    let one = one.with_first(alloc)?;
+    match env.try_copy() {
+        Ok(env) => {
+            let (state, answer) = one.into_parts();
+            around(alloc, Node::DSwitch(state, t, env), answer, visits)
+        }
+        Err(memory) => {
+            drop(one);
+            Err(memory)
+        }
+    }
 }
 
 /// `rSwitch` round what runs in it.
@@ -174,8 +255,16 @@ pub(crate) fn keep_r_switch<'n>(
         one.entry.answer (suc (one.entry.visits + 0))) }
 {
     let visits = count::node(one.visits, 0);
-    let env = env.try_copy()?;
-    around(alloc, Node::RSwitch(one.state, t, env), one.answer, visits)
+    match env.try_copy() {
+        Ok(env) => {
+            let (state, answer) = one.into_parts();
+            around(alloc, Node::RSwitch(state, t, env), answer, visits)
+        }
+        Err(memory) => {
+            drop(one);
+            Err(memory)
+        }
+    }
 }
 
 /// `kSwitch` round what its parts led to.
@@ -192,9 +281,19 @@ pub(crate) fn keep_k_switch<'n>(
         one.entry.answer (suc (one.entry.visits + two.entry.visits))) }
 {
     let visits = count::node(one.visits, two.visits);
-    let env = env.try_copy()?;
-    let node = Node::KSwitch(one.state, two.state, t, env);
-    around(alloc, node, one.answer, visits)
+    match env.try_copy() {
+        Ok(env) => {
+            let (state, answer) = one.into_parts();
+            let (watch, event) = two.into_parts();
+            drop(event);
+            around(alloc, Node::KSwitch(state, watch, t, env), answer, visits)
+        }
+        Err(memory) => {
+            drop(one);
+            drop(two);
+            Err(memory)
+        }
+    }
 }
 
 /// What took over after so many visits: the node's, and those of what ran before.
@@ -202,21 +301,34 @@ pub(crate) fn take_over<'n>(before: u32, over: Ran<'n>) -> Ran<'n>
     ensures { IsRan result over.entry.state over.entry.answer (before + over.entry.visits) }
 {
     let visits = count::both(before, over.visits);
-    Ran::new(over.state, over.answer, visits)
+    let (state, answer) = over.into_parts();
+    Ran::new(state, answer, visits)
 }
 
 /// What took over from a `dSwitch`, whose part still answers.
 pub(crate) fn take_over_late<'n>(
     alloc: Global,
-    one: &Ran<'n>,
+    one: Ran<'n>,
     over: Ran<'n>,
 ) -> Result<Ran<'n>, Memory>
     ensures { IfOk result (λ r.
-        IsRan r over.entry.state (left one.now.answer) (suc (one.now.visits + over.entry.visits))) }
+        IsRan r over.entry.state (left one.entry.answer)
+        (suc (one.entry.visits + over.entry.visits))) }
 {
     let visits = count::node(one.visits, over.visits);
-    let answer = first(&one.answer).try_copy(alloc)?;
-    Ok(Ran::new(over.state, answer, visits))
+    let (state, unseen) = over.into_parts();
+    drop(unseen);
+    match one.with_first(alloc) {
+        Ok(one) => {
+            let (before, answer) = one.into_parts();
+            drop(before);
+            Ok(Ran::new(state, answer, visits))
+        }
+        Err(memory) => {
+            drop(state);
+            Err(memory)
+        }
+    }
 }
 
 /// What was resumed.
@@ -224,5 +336,6 @@ pub(crate) fn resumed<'n>(over: Ran<'n>) -> Ran<'n>
     ensures { IsRan result over.entry.state over.entry.answer (suc (over.entry.visits + 0)) }
 {
     let visits = count::node(over.visits, 0);
-    Ran::new(over.state, over.answer, visits)
+    let (state, answer) = over.into_parts();
+    Ran::new(state, answer, visits)
 }

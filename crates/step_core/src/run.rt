@@ -1,18 +1,22 @@
 // One sample through a network or a state.
 
-ghost use Rattle.std.specs.Prelude.{◌≡◌, ℕ, IfOk};
-ghost use Rattle.sample_core.specs.Datum.{pair};
+ghost use Rattle.std.specs.Prelude.{◌≡◌, ℕ, List, IfOk, pos};
+ghost use Rattle.sample_core.specs.Datum.{Datum, pair, int};
 ghost use Rattle.sample_core.specs.ValueView.{datum_of};
-ghost use Rattle.state_core.specs.RowsView.{rows_in};
+ghost use Rattle.leaf_core.specs.KeyTree.{KeyTree};
+ghost use Rattle.state_core.specs.RowsView.{rows_in, row_number};
 ghost use Rattle.state_core.specs.State.{Frozen};
-ghost use Rattle.step_core.specs.Plans.{IsFed, router_of};
-ghost use Rattle.step_core.specs.Runs.{RunsWhere, RunEachWhere, StillBy};
+ghost use Rattle.state_core.specs.StateView.{scope_of};
+ghost use Rattle.step_core.specs.Called.{Called};
+ghost use Rattle.step_core.specs.Outcome.{RunsBy, TakesOver, TakesOverLate, RunsAll};
+ghost use Rattle.step_core.specs.Plans.{IsFed, RunsMember, router_of};
+ghost use Rattle.step_core.specs.Runs.{RunsWhere, RunEachWhere, StillBy, SeqBy, FirstBy, ParBy, LoopBy, SwitchBy, DSwitchBy, RSwitchBy, KSwitchBy, PSwitchBy, OldBy};
 ghost use Rattle.step_core.specs.SourceView.{source_of, sources_of};
 
 use crate::cells::{start_accum, start_cell, step_accum, step_cell};
-use crate::each::{Each, first_of, join_par, keep_p_switch, routed};
+use crate::each::{Each, Listed, count_of, first_of, join_par, keep_p_switch};
 use crate::fire::{fire, fire_old, fire_olds};
-use crate::part::{first, paired, restart_of, second};
+use crate::part::{beside, first, restart_of, second};
 use crate::plan::{Back, Plan, Route, Source, Sources, plan_of};
 use crate::ran::{
     Ran, join_first, join_loop, join_seq, keep_d_switch, keep_k_switch, keep_r_switch, keep_switch,
@@ -20,8 +24,10 @@ use crate::ran::{
 };
 use crate::rows::Rows;
 use crate::{count, still};
+use leaf_table::LeafId;
+use net_syntax::Net;
 use sample_core::{Memory, Sample};
-use state_core::{Params, State, Still, push_param};
+use state_core::{Env, Params, State, Still, push_param, route};
 use std::alloc::Global;
 
 /// A start or a step. `dt` is the time since the sample before, where there is one. `Memory` where
@@ -46,94 +52,399 @@ pub(crate) fn run<'n, R: Rows>(
         Plan::Gather(g, z, params) => start_accum(alloc, rows, g, z, params, x),
         Plan::Cell(cell) => step_cell(alloc, cell, dt, x),
         Plan::AccumBy(accumulator) => step_accum(alloc, rows, accumulator, dt, x),
-        Plan::Seq(f, g) => {
-            let one = run(alloc, rows, f, dt, x)?;
-            let two = run(alloc, rows, g, dt, one.answer())?;
-            join_seq(alloc, one, two)
-        }
-        Plan::First(f) => {
-            let one = run(alloc, rows, f, dt, first(x))?;
-            join_first(alloc, one, second(x))
-        }
-        Plan::Par(fs) => {
-            let each = Each::none(alloc);
-            let each = run_each(alloc, rows, Route::ToAll, 0, fs, dt, x, each)?;
-            let all = each.listed(alloc)?;
-            join_par(alloc, all)
-        }
-        Plan::LoopPre(back, f) => {
-            let fed_back = fed(alloc, rows, back)?;
-            let input = beside(alloc, x, &fed_back)?;
-            let one = run(alloc, rows, f, dt, &input)?;
-            join_loop(alloc, one)
-        }
-        Plan::Switch(f, t, env) => {
-            let one = run(alloc, rows, f, dt, x)?;
-            match fire(alloc, second(one.answer()), env)? {
-                Some(inner) => {
-                    let over = run(alloc, rows, Source::Net(t, &inner), 0, x)?;
-                    Ok(take_over(count::node(one.visits(), 0), over))
-                }
-                None => keep_switch(alloc, one, t, env),
-            }
-        }
-        Plan::DSwitch(f, t, env) => {
-            let one = run(alloc, rows, f, dt, x)?;
-            match fire(alloc, second(one.answer()), env)? {
-                Some(inner) => {
-                    let over = run(alloc, rows, Source::Net(t, &inner), 0, x)?;
-                    take_over_late(alloc, &one, over)
-                }
-                None => keep_d_switch(alloc, one, t, env),
-            }
-        }
-        Plan::RSwitch(f, t, env) => match restart_of(x) {
-            Some((u, event)) => {
-                let inner = push_param(alloc, env, event)?;
-                let one = run(alloc, rows, Source::Net(t, &inner), 0, u)?;
-                keep_r_switch(alloc, one, t, env)
-            }
-            None => {
-                let one = run(alloc, rows, f, dt, first(x))?;
-                keep_r_switch(alloc, one, t, env)
-            }
-        },
-        Plan::KSwitch(f, e, t, env) => {
-            let one = run(alloc, rows, f, dt, x)?;
-            let seen = beside(alloc, x, one.answer())?;
-            let two = run(alloc, rows, e, dt, &seen)?;
-            match fire_old(alloc, two.answer(), env, f, dt)? {
-                Some(inner) => {
-                    let over = run(alloc, rows, Source::Net(t, &inner), 0, x)?;
-                    Ok(take_over(count::node(one.visits(), two.visits()), over))
-                }
-                None => keep_k_switch(alloc, one, two, t, env),
-            }
-        }
-        Plan::PSwitch(r, fs, e, t, env) => {
-            let each = Each::none(alloc);
-            let by_row = Route::ByRow(r, &env.params);
-            let each = run_each(alloc, rows, by_row, 0, fs, dt, x, each)?;
-            let all = each.listed(alloc)?;
-            let seen = beside(alloc, x, all.list())?;
-            let two = run(alloc, rows, e, dt, &seen)?;
-            match fire_olds(alloc, two.answer(), env, fs, dt)? {
-                Some(inner) => {
-                    let over = run(alloc, rows, Source::Net(t, &inner), 0, x)?;
-                    Ok(take_over(count::node(all.visits(), two.visits()), over))
-                }
-                None => keep_p_switch(alloc, r, all, two, t, env),
-            }
-        }
-        Plan::Old(frozen, step) => {
-            let over = run(alloc, rows, frozen, step, x)?;
-            Ok(resumed(over))
-        }
+        Plan::Seq(f, g) => run_seq(alloc, rows, f, g, dt, x),
+        Plan::First(f) => run_first(alloc, rows, f, dt, x),
+        Plan::Par(fs) => run_par(alloc, rows, fs, dt, x),
+        Plan::LoopPre(back, f) => run_loop(alloc, rows, back, f, dt, x),
+        Plan::Switch(f, t, env) => run_switch(alloc, rows, f, t, env, dt, x),
+        Plan::DSwitch(f, t, env) => run_d_switch(alloc, rows, f, t, env, dt, x),
+        Plan::RSwitch(f, t, env) => run_r_switch(alloc, rows, f, t, env, dt, x),
+        Plan::KSwitch(f, e, t, env) => run_k_switch(alloc, rows, f, e, t, env, dt, x),
+        Plan::PSwitch(r, fs, e, t, env) => run_p_switch(alloc, rows, r, fs, e, t, env, dt, x),
+        Plan::Old(frozen, step) => run_old(alloc, rows, frozen, step, x),
         Plan::Beyond => Err(Memory),
     }
 }
 
-/// The members from member i on, each on what it is handed. `Memory` where a growth was refused.
+/// A sample of a network that keeps nothing.
+fn run_still<'n, R: Rows>(
+    alloc: Global,
+    rows: &R,
+    still: Still<'n>,
+    params: &Params,
+    x: &Sample,
+) -> Result<Ran<'n>, Memory>
+    ensures { IfOk result (λ r.
+        RunsBy (R.keys rows.now) (λ w. StillBy w (rows_in still.entry.net.now) params.now)
+        (datum_of x.now) r) }
+{
+    let (answer, visits) = still::apply(alloc, rows, still.net(), params.as_slice(), x)?;
+    match params.try_copy() {
+        Ok(params) => Ok(Ran::new(State::Still(still, params), answer, visits)),
+        Err(memory) => {
+            drop(answer);
+            Err(memory)
+        }
+    }
+}
+
+/// `>>>` by its two parts.
+#[cycle(run)]
+fn run_seq<'n, R: Rows>(
+    alloc: Global,
+    rows: &R,
+    f: Source<'_, 'n>,
+    g: Source<'_, 'n>,
+    dt: u64,
+    x: &Sample,
+) -> Result<Ran<'n>, Memory>
+    ensures { IfOk result (λ r.
+        RunsBy (R.keys rows.now)
+        (λ w. SeqBy w (source_of f.entry dt) (source_of g.entry dt))
+        (datum_of x.now) r) }
+{
+    let one = run(alloc, rows, f, dt, x)?;
+    match run(alloc, rows, g, dt, one.answer()) {
+        Ok(two) => join_seq(alloc, one, two),
+        Err(memory) => {
+            drop(one);
+            Err(memory)
+        }
+    }
+}
+
+/// `first` by its part.
+#[cycle(run)]
+fn run_first<'n, R: Rows>(
+    alloc: Global,
+    rows: &R,
+    f: Source<'_, 'n>,
+    dt: u64,
+    x: &Sample,
+) -> Result<Ran<'n>, Memory>
+    ensures { IfOk result (λ r.
+        RunsBy (R.keys rows.now)
+        (λ w. FirstBy w (source_of f.entry dt))
+        (datum_of x.now) r) }
+{
+    let one = run(alloc, rows, f, dt, first(x))?;
+    join_first(alloc, one, second(x))
+}
+
+/// `parB` by its members.
+#[cycle(run)]
+fn run_par<'n, R: Rows>(
+    alloc: Global,
+    rows: &R,
+    fs: Sources<'_, 'n>,
+    dt: u64,
+    x: &Sample,
+) -> Result<Ran<'n>, Memory>
+    ensures { IfOk result (λ r.
+        RunsBy (R.keys rows.now)
+        (λ w. ParBy w (sources_of fs.entry dt))
+        (datum_of x.now) r) }
+{
+    let all = run_all(alloc, rows, Route::ToAll, fs, dt, x)?;
+    join_par(alloc, all)
+}
+
+/// `loopPre` by what is fed back and its part.
+#[cycle(run)]
+fn run_loop<'n, R: Rows>(
+    alloc: Global,
+    rows: &R,
+    back: Back<'_>,
+    f: Source<'_, 'n>,
+    dt: u64,
+    x: &Sample,
+) -> Result<Ran<'n>, Memory>
+    ensures { IfOk result (λ r.
+        RunsBy (R.keys rows.now)
+        (λ w. (keys : List KeyTree) (u : Datum) → IsFed keys back.entry u
+        → LoopBy keys w u (source_of f.entry dt))
+        (datum_of x.now) r) }
+{
+    let input = fed(alloc, rows, back, x)?;
+    let one = run(alloc, rows, f, dt, &input);
+    drop(input);
+    join_loop(alloc, one?)
+}
+
+/// `switch` by its part, the network that takes over and its scope.
+#[cycle(run)]
+fn run_switch<'n, R: Rows>(
+    alloc: Global,
+    rows: &R,
+    f: Source<'_, 'n>,
+    t: &'n Net<LeafId>,
+    env: &Env<'n>,
+    dt: u64,
+    x: &Sample,
+) -> Result<Ran<'n>, Memory>
+    ensures { IfOk result (λ r.
+        RunsBy (R.keys rows.now)
+        (λ w. SwitchBy w (source_of f.entry dt) (rows_in t.entry.now) (scope_of env.now))
+        (datum_of x.now) r) }
+{
+    let one = run(alloc, rows, f, dt, x)?;
+    match fire(alloc, second(one.answer()), env) {
+        Ok(Some(inner)) => {
+            let before = count::node(one.visits(), 0);
+            drop(one);
+            run_over(alloc, rows, before, t, inner, x)
+        }
+        Ok(None) => keep_switch(alloc, one, t, env),
+        Err(memory) => {
+            drop(one);
+            Err(memory)
+        }
+    }
+}
+
+/// `dSwitch` likewise.
+#[cycle(run)]
+fn run_d_switch<'n, R: Rows>(
+    alloc: Global,
+    rows: &R,
+    f: Source<'_, 'n>,
+    t: &'n Net<LeafId>,
+    env: &Env<'n>,
+    dt: u64,
+    x: &Sample,
+) -> Result<Ran<'n>, Memory>
+    ensures { IfOk result (λ r.
+        RunsBy (R.keys rows.now)
+        (λ w. DSwitchBy w (source_of f.entry dt) (rows_in t.entry.now) (scope_of env.now))
+        (datum_of x.now) r) }
+{
+    let one = run(alloc, rows, f, dt, x)?;
+    match fire(alloc, second(one.answer()), env) {
+        Ok(Some(inner)) => run_late(alloc, rows, one, t, inner, x),
+        Ok(None) => keep_d_switch(alloc, one, t, env),
+        Err(memory) => {
+            drop(one);
+            Err(memory)
+        }
+    }
+}
+
+/// `rSwitch` likewise.
+#[cycle(run)]
+fn run_r_switch<'n, R: Rows>(
+    alloc: Global,
+    rows: &R,
+    f: Source<'_, 'n>,
+    t: &'n Net<LeafId>,
+    env: &Env<'n>,
+    dt: u64,
+    x: &Sample,
+) -> Result<Ran<'n>, Memory>
+    ensures { IfOk result (λ r.
+        RunsBy (R.keys rows.now)
+        (λ w. RSwitchBy w (source_of f.entry dt) (rows_in t.entry.now) (scope_of env.now))
+        (datum_of x.now) r) }
+{
+    match restart_of(x) {
+        Some((u, event)) => {
+            let inner = push_param(alloc, env, event)?;
+            let one = run(alloc, rows, Source::Net(t, &inner), 0, u);
+            drop(inner);
+            keep_r_switch(alloc, one?, t, env)
+        }
+        None => {
+            let one = run(alloc, rows, f, dt, first(x))?;
+            keep_r_switch(alloc, one, t, env)
+        }
+    }
+}
+
+/// `kSwitch` likewise, with the part that watches.
+#[cycle(run)]
+fn run_k_switch<'n, R: Rows>(
+    alloc: Global,
+    rows: &R,
+    f: Source<'_, 'n>,
+    e: Source<'_, 'n>,
+    t: &'n Net<LeafId>,
+    env: &Env<'n>,
+    dt: u64,
+    x: &Sample,
+) -> Result<Ran<'n>, Memory>
+    ensures { IfOk result (λ r.
+        RunsBy (R.keys rows.now)
+        (λ w. KSwitchBy w (source_of f.entry dt) (source_of e.entry dt) (rows_in t.entry.now)
+        (scope_of env.now))
+        (datum_of x.now) r) }
+{
+    let one = run(alloc, rows, f, dt, x)?;
+    match run_beside(alloc, rows, e, dt, x, one.answer()) {
+        Ok(two) => match fire_old(alloc, two.answer(), env, f, dt) {
+            Ok(Some(inner)) => {
+                let before = count::node(one.visits(), two.visits());
+                drop(one);
+                drop(two);
+                run_over(alloc, rows, before, t, inner, x)
+            }
+            Ok(None) => keep_k_switch(alloc, one, two, t, env),
+            Err(memory) => {
+                drop(one);
+                drop(two);
+                Err(memory)
+            }
+        },
+        Err(memory) => {
+            drop(one);
+            Err(memory)
+        }
+    }
+}
+
+/// `pSwitch` by the row that routes, its members, the part that watches them, the network that
+/// takes over and its scope.
+#[cycle(run)]
+fn run_p_switch<'n, R: Rows>(
+    alloc: Global,
+    rows: &R,
+    r: LeafId,
+    fs: Sources<'_, 'n>,
+    e: Source<'_, 'n>,
+    t: &'n Net<LeafId>,
+    env: &Env<'n>,
+    dt: u64,
+    x: &Sample,
+) -> Result<Ran<'n>, Memory>
+    ensures { IfOk result (λ o.
+        RunsBy (R.keys rows.now)
+        (λ w. PSwitchBy w (row_number r) (sources_of fs.entry dt) (source_of e.entry dt)
+        (rows_in t.entry.now) (scope_of env.now))
+        (datum_of x.now) o) }
+{
+    let all = run_all(alloc, rows, Route::ByRow(r, &env.params), fs, dt, x)?;
+    match run_beside(alloc, rows, e, dt, x, all.list()) {
+        Ok(two) => match fire_olds(alloc, two.answer(), env, fs, dt) {
+            Ok(Some(inner)) => {
+                let before = count::node(all.visits(), two.visits());
+                drop(all);
+                drop(two);
+                run_over(alloc, rows, before, t, inner, x)
+            }
+            Ok(None) => keep_p_switch(alloc, r, all, two, t, env),
+            Err(memory) => {
+                drop(all);
+                drop(two);
+                Err(memory)
+            }
+        },
+        Err(memory) => {
+            drop(all);
+            Err(memory)
+        }
+    }
+}
+
+/// `old` by what it resumes, after that one's own step.
+#[cycle(run)]
+fn run_old<'n, R: Rows>(
+    alloc: Global,
+    rows: &R,
+    frozen: Source<'_, 'n>,
+    step: u64,
+    x: &Sample,
+) -> Result<Ran<'n>, Memory>
+    ensures { IfOk result (λ r.
+        RunsBy (R.keys rows.now)
+        (λ w. OldBy w (source_of frozen.entry step))
+        (datum_of x.now) r) }
+{
+    let over = run(alloc, rows, frozen, step, x)?;
+    Ok(resumed(over))
+}
+
+/// The network takes over after so many visits.
+#[cycle(run)]
+fn run_over<'n, R: Rows>(
+    alloc: Global,
+    rows: &R,
+    before: u32,
+    t: &'n Net<LeafId>,
+    env: Env<'n>,
+    x: &Sample,
+) -> Result<Ran<'n>, Memory>
+    ensures { IfOk result (λ r.
+        TakesOver (R.keys rows.now) before (rows_in t.entry.now) (scope_of env.entry)
+        (datum_of x.now) r) }
+{
+    let over = run(alloc, rows, Source::Net(t, &env), 0, x);
+    drop(env);
+    Ok(take_over(before, over?))
+}
+
+/// The network takes over from a `dSwitch`, whose part still answers.
+#[cycle(run)]
+fn run_late<'n, R: Rows>(
+    alloc: Global,
+    rows: &R,
+    one: Ran<'n>,
+    t: &'n Net<LeafId>,
+    env: Env<'n>,
+    x: &Sample,
+) -> Result<Ran<'n>, Memory>
+    ensures { IfOk result (λ r.
+        TakesOverLate (R.keys rows.now) one.entry (rows_in t.entry.now) (scope_of env.entry)
+        (datum_of x.now) r) }
+{
+    let over = run(alloc, rows, Source::Net(t, &env), 0, x);
+    drop(env);
+    match over {
+        Ok(over) => take_over_late(alloc, one, over),
+        Err(memory) => {
+            drop(one);
+            Err(memory)
+        }
+    }
+}
+
+/// What watches, on the sample and what was answered to it.
+#[cycle(run)]
+fn run_beside<'n, R: Rows>(
+    alloc: Global,
+    rows: &R,
+    e: Source<'_, 'n>,
+    dt: u64,
+    x: &Sample,
+    y: &Sample,
+) -> Result<Ran<'n>, Memory>
+    ensures { IfOk result (λ r.
+        RunsWhere (R.keys rows.now) (source_of e.entry dt) (pair (datum_of x.now) (datum_of y.now))
+        r.state r.answer r.visits) }
+{
+    let seen = beside(alloc, x, y)?;
+    let two = run(alloc, rows, e, dt, &seen);
+    drop(seen);
+    two
+}
+
+/// All members, each on what it is handed.
+#[cycle(run)]
+fn run_all<'n, R: Rows>(
+    alloc: Global,
+    rows: &R,
+    router: Route<'_>,
+    members: Sources<'_, 'n>,
+    dt: u64,
+    x: &Sample,
+) -> Result<Listed<'n>, Memory>
+    ensures { IfOk result (λ all.
+        RunsAll (R.keys rows.now) (router_of router.entry) (sources_of members.entry dt)
+        (datum_of x.now) all) }
+{
+    let each = Each::none(alloc, count_of(members))?;
+    let each = run_each(alloc, rows, router, 0, members, dt, x, each)?;
+    each.listed(alloc)
+}
+
+/// The members from member i on.
 #[cycle(run)]
 fn run_each<'n, R: Rows>(
     alloc: Global,
@@ -150,48 +461,77 @@ fn run_each<'n, R: Rows>(
         (datum_of x.now) before.entry now) }
 {
     match first_of(members) {
-        Some((f, rest)) => {
-            let input = routed(alloc, rows, router, i, x)?;
-            let one = run(alloc, rows, f, dt, &input)?;
-            let now = before.and(one)?;
-            run_each(alloc, rows, router, i.wrapping_add(1), rest, dt, x, now)
-        }
+        Some((f, rest)) => match run_member(alloc, rows, router, i, f, dt, x) {
+            Ok(one) => {
+                let now = before.and(one)?;
+                run_each(alloc, rows, router, i.wrapping_add(1), rest, dt, x, now)
+            }
+            Err(memory) => {
+                drop(before);
+                Err(memory)
+            }
+        },
         None => Ok(before),
     }
 }
 
-/// A sample of a network that keeps nothing.
-fn run_still<'n, R: Rows>(
+/// Member i, on what it is handed.
+#[cycle(run)]
+fn run_member<'n, R: Rows>(
     alloc: Global,
     rows: &R,
-    still: Still<'n>,
-    params: &Params,
+    router: Route<'_>,
+    i: u32,
+    f: Source<'_, 'n>,
+    dt: u64,
     x: &Sample,
 ) -> Result<Ran<'n>, Memory>
-    ensures { IfOk result (λ r.
-        (w : Frozen ℕ) → StillBy w (rows_in still.entry.net.now) params.now
-        → RunsWhere (R.keys rows.now) w (datum_of x.now) r.state r.answer r.visits) }
+    ensures { IfOk result (λ one.
+        RunsMember (R.keys rows.now) (router_of router.entry) i (source_of f.entry dt)
+        (datum_of x.now) one) }
 {
-    let (answer, visits) = still::apply(alloc, rows, still.net(), params.as_slice(), x)?;
-    let params = params.try_copy()?;
-    Ok(Ran::new(State::Still(still, params), answer, visits))
-}
-
-/// What is fed back.
-fn fed<R: Rows>(alloc: Global, rows: &R, back: Back<'_>) -> Result<Sample, Memory>
-    ensures { IfOk result (λ u. IsFed (R.keys rows.now) back.entry (datum_of u)) }
-{
-    match back {
-        Back::Row(c, params) => rows.call(c, params.as_slice(), &Sample::Unit),
-        Back::Value(value) => value.try_copy(alloc),
+    match router {
+        Route::ToAll => run(alloc, rows, f, dt, x),
+        Route::ByRow(r, params) => {
+            let input = routed(alloc, rows, r, params, i, x)?;
+            let one = run(alloc, rows, f, dt, &input);
+            drop(input);
+            one
+        }
     }
 }
 
-/// The pair of copies of two values. `Memory` where a growth was refused.
-fn beside(alloc: Global, x: &Sample, y: &Sample) -> Result<Sample, Memory>
-    ensures { IfOk result (λ p. datum_of p ≡ pair (datum_of x.now) (datum_of y.now)) }
+/// What a row makes of the sample and member i's number. `Memory` where a growth was refused.
+fn routed<R: Rows>(
+    alloc: Global,
+    rows: &R,
+    r: LeafId,
+    params: &Params,
+    i: u32,
+    x: &Sample,
+) -> Result<Sample, Memory>
+    ensures { IfOk result (λ y.
+        Called (R.keys rows.now) (row_number r) params.now
+        (pair (datum_of x.now) (int (pos i))) (datum_of y)) }
 {
-    let x = x.try_copy(alloc)?;
-    let y = y.try_copy(alloc)?;
-    paired(alloc, x, y)
+    let asked = route(alloc, x, i)?;
+    let answer = rows.call(r, params.as_slice(), &asked);
+    drop(asked);
+    answer
+}
+
+/// The pair of the sample and what is fed back. `Memory` where a growth was refused.
+fn fed<R: Rows>(alloc: Global, rows: &R, back: Back<'_>, x: &Sample) -> Result<Sample, Memory>
+    ensures { IfOk result (λ p. (u : Datum)
+        × IsFed (R.keys rows.now) back.entry u × (datum_of p ≡ pair (datum_of x.now) u)) }
+{
+    match back {
+        Back::Row(c, params) => {
+            let value = rows.call(c, params.as_slice(), &Sample::Unit)?;
+            let input = beside(alloc, x, &value);
+            drop(value);
+            input
+        }
+        Back::Value(value) => beside(alloc, x, value),
+    }
 }

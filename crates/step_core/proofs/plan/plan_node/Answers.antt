@@ -2,7 +2,7 @@ use Rattle.std.proofs.Common.{ap, ◌∙◌, sym}
 use Rattle.state_core.specs.State.{par_state, p_switch_state}
 use Rattle.state_core.specs.StateView.{node_of, state_of, scope_of}
 use Rattle.state_core.specs.RowsView.{rows_in, row_number}
-use Rattle.step_core.proofs.PlanForms.{seq_on_by, first_on_by, par_on_by, loop_on_by, switch_on_by, d_switch_on_by, r_switch_on_by, k_switch_on_by, p_switch_on_by}
+use Rattle.step_core.proofs.PlanForms.{seq_on_by, first_on_by, par_on_by, accum_on_by, loop_on_by, switch_on_by, d_switch_on_by, r_switch_on_by, k_switch_on_by, p_switch_on_by}
 use Rattle.step_core.proofs.plan.plan_node.Goals as goal
 
 pub returns-in-Seq : goal.returns-in-Seq
@@ -31,3 +31,6 @@ returns-in-KSwitch c = λ d. k_switch_on_by _ _ _ _ _ d (ap node_of c.in-KSwitch
 
 pub returns-in-PSwitch : goal.returns-in-PSwitch
 returns-in-PSwitch c = λ d. p_switch_on_by _ _ _ _ _ _ d (ap node_of c.in-PSwitch.is ∙ ap (λ as'. p_switch_state (row_number c.in-PSwitch.r) as' (state_of c.in-PSwitch.b) (rows_in c.in-PSwitch.t.now) (scope_of c.in-PSwitch.env)) (sym c.as_slice-in-PSwitch.ensures))
+
+pub returns-in-AccumBy : goal.returns-in-AccumBy
+returns-in-AccumBy c = λ d. accum_on_by _ _ _ _ d (ap node_of c.in-AccumBy.is)

@@ -2,7 +2,7 @@ use Rattle.std.proofs.Common.{ap, sym, ◌∙◌, subst, ℕ}
 use Rattle.state_core.specs.State.{State, paused}
 use Rattle.state_core.specs.StateView.{state_of}
 use Rattle.step_core.specs.Plans.{PlanBy}
-use Rattle.step_core.proofs.PlanForms.{still_on_by, cell_on_by, accum_on_by}
+use Rattle.step_core.proofs.PlanForms.{still_on_by, cell_on_by}
 use Rattle.step_core.proofs.plan.plan_step.Goals as goal
 
 pub returns-in-Still : goal.returns-in-Still
@@ -13,6 +13,3 @@ returns-in-Whole c = λ d. subst (λ (z : State ℕ). PlanBy (paused z d) d c.pl
 
 pub returns-in-Cell : goal.returns-in-Cell
 returns-in-Cell c = λ d. cell_on_by _ _ d (ap state_of c.in-Cell.is)
-
-pub returns-in-AccumBy : goal.returns-in-AccumBy
-returns-in-AccumBy c = λ d. accum_on_by _ _ _ _ d (ap state_of c.in-AccumBy.is)

@@ -1,11 +1,66 @@
-use Rattle.std.proofs.Common.{◌+◌, ◌*◌}
-use Rattle.net_syntax.specs.Weight.{total}
-use Rattle.step_core.specs.Rank.{frozen_rank, frozen_ranks}
+use Rattle.std.proofs.Common.{◌+◌, ◌*◌, ◌++◌, ◌∷◌, [], max}
+use Rattle.net_syntax.specs.Weight.{weight, total}
+use Rattle.state_core.specs.RowsView.{rows_in}
+use Rattle.state_core.specs.State.{unstarted}
+use Rattle.state_core.specs.StateView.{scope_of}
+use Rattle.step_core.specs.Rank.{frozen_rank, frozen_ranks, ranks_in}
 use Rattle.step_core.specs.SourceView.{source_of, sources_of}
 use Rattle.step_core.proofs.run.+run.Given as goal
 
 abbrev pub decreases-run : goal.decreases-run
-decreases-run g l = 2 * frozen_rank (source_of l.from l.dt)
+decreases-run g l = 5 * frozen_rank (source_of l.from l.dt)
+
+abbrev pub decreases-run_seq : goal.decreases-run_seq
+decreases-run_seq g l = 5 * (frozen_rank (source_of l.f l.dt) + frozen_rank (source_of l.g l.dt)) + 4
+
+abbrev pub decreases-run_first : goal.decreases-run_first
+decreases-run_first g l = 5 * frozen_rank (source_of l.f l.dt) + 4
+
+abbrev pub decreases-run_par : goal.decreases-run_par
+decreases-run_par g l = 5 * total (frozen_ranks (sources_of l.fs l.dt)) + 4
+
+abbrev pub decreases-run_loop : goal.decreases-run_loop
+decreases-run_loop g l = 5 * frozen_rank (source_of l.f l.dt) + 4
+
+abbrev pub decreases-run_switch : goal.decreases-run_switch
+decreases-run_switch g l =
+    5 * (frozen_rank (source_of l.f l.dt) + weight (rows_in l.t.now) (ranks_in (scope_of l.env.now))) + 4
+
+abbrev pub decreases-run_d_switch : goal.decreases-run_d_switch
+decreases-run_d_switch g l =
+    5 * (frozen_rank (source_of l.f l.dt) + weight (rows_in l.t.now) (ranks_in (scope_of l.env.now))) + 4
+
+abbrev pub decreases-run_r_switch : goal.decreases-run_r_switch
+decreases-run_r_switch g l =
+    5 * max (frozen_rank (source_of l.f l.dt)) (weight (rows_in l.t.now) (ranks_in (scope_of l.env.now))) + 4
+
+abbrev pub decreases-run_k_switch : goal.decreases-run_k_switch
+decreases-run_k_switch g l =
+    5 * (frozen_rank (source_of l.f l.dt) + frozen_rank (source_of l.e l.dt)
+    + weight (rows_in l.t.now) (ranks_in (scope_of l.env.now) ++ frozen_rank (source_of l.f l.dt) ∷ [])) + 4
+
+abbrev pub decreases-run_p_switch : goal.decreases-run_p_switch
+decreases-run_p_switch g l =
+    5 * (total (frozen_ranks (sources_of l.fs l.dt)) + frozen_rank (source_of l.e l.dt)
+    + weight (rows_in l.t.now) (ranks_in (scope_of l.env.now) ++ frozen_ranks (sources_of l.fs l.dt))) + 4
+
+abbrev pub decreases-run_old : goal.decreases-run_old
+decreases-run_old g l = 5 * frozen_rank (source_of l.frozen l.step) + 4
+
+abbrev pub decreases-run_over : goal.decreases-run_over
+decreases-run_over g l = 5 * frozen_rank (unstarted (rows_in l.t.now) (scope_of l.env)) + 1
+
+abbrev pub decreases-run_late : goal.decreases-run_late
+decreases-run_late g l = 5 * frozen_rank (unstarted (rows_in l.t.now) (scope_of l.env)) + 1
+
+abbrev pub decreases-run_beside : goal.decreases-run_beside
+decreases-run_beside g l = 5 * frozen_rank (source_of l.e l.dt) + 1
+
+abbrev pub decreases-run_all : goal.decreases-run_all
+decreases-run_all g l = 5 * total (frozen_ranks (sources_of l.members l.dt)) + 3
 
 abbrev pub decreases-run_each : goal.decreases-run_each
-decreases-run_each g l = 2 * total (frozen_ranks (sources_of l.members l.dt)) + 1
+decreases-run_each g l = 5 * total (frozen_ranks (sources_of l.members l.dt)) + 2
+
+abbrev pub decreases-run_member : goal.decreases-run_member
+decreases-run_member g l = 5 * frozen_rank (source_of l.f l.dt) + 1
