@@ -1,10 +1,9 @@
 -- What the code's cells are.
-use Rattle.std.specs.Prelude.{Some, None}
 use Rattle.sample_core.specs.Datum.{Datum}
 use Rattle.sample_core.specs.ValueView.{datum_of}
 use Rattle.sample_core.specs.declared.sample.Sample.{Sample}
-use Rattle.cell_core.specs.Cell.{Cell, previous, latest, accumulating, waiting, over, ticking, summing}
-use Rattle.cell_core.specs.Parts.{delay_of, recurring_of}
+use Rattle.cell_core.specs.Cell.{Cell, previous, latest, accumulating, ticking, summing}
+use Rattle.cell_core.specs.Parts.{delay_of, recurring_of, after_of}
 use Rattle.cell_core.specs.declared.cell.Cell as C
 use Rattle.cell_core.specs.declared.cell.Cell.TheVariants as V
 
@@ -14,8 +13,7 @@ cell_of (V.IPre v) = previous (datum_of v)
 cell_of (V.Delay d) = delay_of d.value
 cell_of (V.Hold v) = latest (datum_of v)
 cell_of (V.AccumBy acc) = accumulating (datum_of acc)
-cell_of (V.After None) = over
-cell_of (V.After (Some w)) = waiting w.0 w.1
+cell_of (V.After left c) = after_of left c
 cell_of (V.Repeatedly r) = recurring_of r
 cell_of (V.Time z) = ticking z
 cell_of (V.Integral z before) = summing z before

@@ -1,6 +1,8 @@
 -- The cells that the code's parts are.
+use Rattle.std.specs.Prelude.{ℕ, nat_le, if◌then◌else◌}
+use Rattle.sample_core.specs.Datum.{Datum}
 use Rattle.sample_core.specs.ValueView.{datum_of}
-use Rattle.cell_core.specs.Cell.{Cell, queue, recurring}
+use Rattle.cell_core.specs.Cell.{Cell, queue, recurring, waiting, over}
 use Rattle.cell_core.specs.Queue.{waiting_list}
 use Rattle.cell_core.specs.declared.delay.Delay.{Delay}
 use Rattle.cell_core.specs.declared.recurring.Recurring.{Recurring}
@@ -12,4 +14,8 @@ delay_of d = queue d.q (datum_of d.front.out)
 
 -- the cell that a `Recurring` is
 abbrev pub recurring_of : Recurring → Cell
-recurring_of r = recurring r.q r.left r.value
+recurring_of r = recurring r.cycle.value.q r.left r.cycle.value.value
+
+-- the cell that an `after` is to whose event so much time is left, 0 once it is past
+abbrev pub after_of : ℕ → Datum → Cell
+after_of left c = if nat_le left 0 then over else waiting left c

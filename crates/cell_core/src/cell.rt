@@ -26,8 +26,8 @@ pub enum Cell {
     Hold(Sample),
     /// `accumBy`: the accumulator.
     AccumBy(Sample),
-    /// `after`: the time that is left and what its event will carry; nothing once it is past.
-    After(Option<(u64, SampleChild)>),
+    /// `after`: the time that is left, 0 once it is past, and what its event carries.
+    After(u64, SampleChild),
     /// `repeatedly`: the time that is left to the next multiple.
     Repeatedly(Recurring),
     /// `time`: the time since the first sample, wrapping.
@@ -80,8 +80,7 @@ impl Cell {
             Cell::Delay(delay) => step::delay(alloc, delay, dt, sample),
             Cell::Hold(latest) => step::hold(alloc, latest, sample),
             Cell::AccumBy(accumulator) => step::accum_by(alloc, accumulator, sample),
-            Cell::After(None) => Ok((Cell::After(None), Sample::NoEvent)),
-            Cell::After(Some((left, value))) => step::after(*left, value, dt),
+            Cell::After(left, value) => step::after(*left, value, dt),
             Cell::Repeatedly(recurring) => step::repeatedly(recurring, dt),
             Cell::Time(time) => Ok(step::time(*time, dt)),
             Cell::Integral(sum, before) => Ok(step::integral(*sum, *before, dt, sample)),
@@ -109,8 +108,7 @@ impl Cell {
             Cell::Delay(delay) => Cell::Delay(delay.clone()?),
             Cell::Hold(latest) => Cell::Hold(latest.try_copy(alloc)?),
             Cell::AccumBy(accumulator) => Cell::AccumBy(accumulator.try_copy(alloc)?),
-            Cell::After(None) => Cell::After(None),
-            Cell::After(Some((left, value))) => Cell::After(Some((*left, value.try_copy()?))),
+            Cell::After(left, value) => Cell::After(*left, value.try_copy()?),
             Cell::Repeatedly(recurring) => Cell::Repeatedly(recurring.try_copy()?),
             Cell::Time(time) => Cell::Time(*time),
             Cell::Integral(sum, before) => Cell::Integral(*sum, *before),

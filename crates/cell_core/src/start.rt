@@ -49,9 +49,10 @@ pub(crate) fn after(alloc: Global, q: u64, constant: Sample) -> Result<(Cell, Sa
 {
     let value = SampleChild::new(alloc, constant)?;
     if q == 0 {
-        Ok((Cell::After(None), Sample::Event(value)))
+        let carried = value.try_copy()?;
+        Ok((Cell::After(0, value), Sample::Event(carried)))
     } else {
-        Ok((Cell::After(Some((q, value))), Sample::NoEvent))
+        Ok((Cell::After(q, value), Sample::NoEvent))
     }
 }
 
@@ -62,7 +63,8 @@ pub(crate) fn repeatedly(alloc: Global, q: u64, constant: Sample) -> Result<(Cel
         (λ r. outcome_of r ≡ cell_start (Form.Repeatedly q) (datum_of constant) unit) }
 {
     let value = SampleChild::new(alloc, constant)?;
-    Ok((Cell::Repeatedly(Recurring::new(q, value)), Sample::NoEvent))
+    let recurring = Recurring::new(alloc, q, value)?;
+    Ok((Cell::Repeatedly(recurring), Sample::NoEvent))
 }
 
 /// A `time` starts at 0.

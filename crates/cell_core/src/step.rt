@@ -5,8 +5,8 @@ ghost use Rattle.std.specs.Int.{int_wrap, w64};
 ghost use Rattle.sample_core.specs.Datum.{unit};
 ghost use Rattle.sample_core.specs.ValueView.{datum_of};
 ghost use Rattle.cell_core.specs.CellView.{cell_of, outcome_of};
-ghost use Rattle.cell_core.specs.Parts.{delay_of, recurring_of};
-ghost use Rattle.cell_core.specs.Cell.{cell_step, previous, latest, accumulating, waiting, ticking, summing};
+ghost use Rattle.cell_core.specs.Parts.{after_of, delay_of, recurring_of};
+ghost use Rattle.cell_core.specs.Cell.{cell_step, previous, latest, accumulating, ticking, summing};
 
 use crate::cell::Cell;
 use crate::delay::Delay;
@@ -82,16 +82,19 @@ pub(crate) fn accum_by(
     }
 }
 
-/// An `after` that isn't past: its event comes where no more than dt is left.
+/// An `after`: its event comes where it isn't past, and no more than dt is left.
 pub(crate) fn after(left: u64, value: &SampleChild, dt: u64) -> Result<(Cell, Sample), Memory>
     ensures { IfOk result
-        (λ r. outcome_of r ≡ cell_step (waiting left value.now) (dt, unit)) }
+        (λ r. outcome_of r ≡ cell_step (after_of left value.now) (dt, unit)) }
 {
     let value = value.try_copy()?;
-    if left <= dt {
-        Ok((Cell::After(None), Sample::Event(value)))
+    if left == 0 {
+        Ok((Cell::After(0, value), Sample::NoEvent))
+    } else if left <= dt {
+        let carried = value.try_copy()?;
+        Ok((Cell::After(0, value), Sample::Event(carried)))
     } else {
-        Ok((Cell::After(Some((left - dt, value))), Sample::NoEvent))
+        Ok((Cell::After(left - dt, value), Sample::NoEvent))
     }
 }
 

@@ -10,6 +10,8 @@ use Rattle.state_core.specs.AccumulatorView.{accumulator_state}
 use Rattle.state_core.specs.State.{State, States, Scope, Frozens, Frozen, arr_state, seq_state, first_state, par_state, loop_state, cell_state, switch_state, d_switch_state, r_switch_state, k_switch_state, p_switch_state, no_state, and_state, scope, no_frozen, and_frozen, unstarted, paused, frozen_at}
 use Rattle.state_core.specs.declared.state.State.{State as CodeState}
 use Rattle.state_core.specs.declared.state.State.TheVariants as S
+use Rattle.state_core.specs.declared.state.KSwitchParts.{KSwitchParts}
+use Rattle.state_core.specs.declared.state.PSwitchParts.{PSwitchParts}
 use Rattle.state_core.specs.declared.state.Node.{Node}
 use Rattle.state_core.specs.declared.state.Node.TheVariants as N
 use Rattle.state_core.specs.declared.env.Env.{Env}
@@ -52,6 +54,16 @@ abbrev pub states_of : List CodeState → States ℕ
 states_of [] = no_state
 states_of (a ∷ as') = and_state (state_of a) (states_of as')
 
+-- the state that the parts of a `kSwitch` are
+abbrev pub k_switch_of : KSwitchParts → State ℕ
+k_switch_of k =
+    k_switch_state (state_of k.part) (state_of k.watch) (rows_in k.net.now) (scope_of k.env)
+
+-- the state that the parts of a `pSwitch` are
+abbrev pub p_switch_of : PSwitchParts → State ℕ
+p_switch_of k = p_switch_state (row_number k.router) k.members (state_of k.watch)
+    (rows_in k.net.now) (scope_of k.env)
+
 -- the state that a `Node` is
 abbrev pub node_of : Node → State ℕ
 node_of (N.Seq a b) = seq_state (state_of a) (state_of b)
@@ -62,9 +74,8 @@ node_of (N.LoopPre v a) = loop_state (datum_of v) (state_of a)
 node_of (N.Switch a t s) = switch_state (state_of a) (rows_in t.now) (scope_of s)
 node_of (N.DSwitch a t s) = d_switch_state (state_of a) (rows_in t.now) (scope_of s)
 node_of (N.RSwitch a t s) = r_switch_state (state_of a) (rows_in t.now) (scope_of s)
-node_of (N.KSwitch a b t s) = k_switch_state (state_of a) (state_of b) (rows_in t.now) (scope_of s)
-node_of (N.PSwitch r as' b t s) = p_switch_state (row_number r) as' (state_of b) (rows_in t.now)
-    (scope_of s)
+node_of (N.KSwitch k) = k_switch_of k.value
+node_of (N.PSwitch k) = p_switch_of k.value
 
 -- the frozen network that a `Frozen` is
 abbrev pub frozen_of : CodeFrozen → Frozen ℕ

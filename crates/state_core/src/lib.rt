@@ -12,5 +12,5 @@ pub use accumulator::Accumulator;
 pub use env::{Env, Frozen, OldList, Olds, freeze, pause, push_old, push_olds, push_param};
 pub use params::Params;
 pub use part::{gather, route};
-pub use state::{Node, State, States, Whole};
+pub use state::{KSwitchParts, Node, PSwitchParts, State, States, Whole};
 pub use still::Still;

@@ -62,10 +62,40 @@ pub enum Node<'n> {
     DSwitch(State<'n>, &'n Net<LeafId>, Env<'n>),
     /// `rSwitch`.
     RSwitch(State<'n>, &'n Net<LeafId>, Env<'n>),
-    /// `kSwitch`: the part that runs and the one that watches it.
-    KSwitch(State<'n>, State<'n>, &'n Net<LeafId>, Env<'n>),
-    /// `pSwitch`: the routing, the members, and the part that watches them.
-    PSwitch(LeafId, States<'n>, State<'n>, &'n Net<LeafId>, Env<'n>),
+    /// `kSwitch`.
+    KSwitch(Box<KSwitchParts<'n>>),
+    /// `pSwitch`.
+    PSwitch(Box<PSwitchParts<'n>>),
+}
+
+/// The parts of a `kSwitch` before its first event.
+#[cycle(state)]
+#[derive(Drop)]
+pub struct KSwitchParts<'n> {
+    /// The part that runs.
+    pub part: State<'n>,
+    /// The part that watches it.
+    pub watch: State<'n>,
+    /// The network that takes over.
+    pub net: &'n Net<LeafId>,
+    /// Its scope.
+    pub env: Env<'n>,
+}
+
+/// The parts of a `pSwitch` before its first event.
+#[cycle(state)]
+#[derive(Drop)]
+pub struct PSwitchParts<'n> {
+    /// The row that routes.
+    pub router: LeafId,
+    /// The members.
+    pub members: States<'n>,
+    /// The part that watches them.
+    pub watch: State<'n>,
+    /// The network that takes over.
+    pub net: &'n Net<LeafId>,
+    /// Its scope.
+    pub env: Env<'n>,
 }
 
 impl<'n> Model for Whole<'n> {

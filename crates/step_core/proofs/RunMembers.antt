@@ -17,7 +17,7 @@ use Rattle.step_core.specs.RowTyping.{RowTyped}
 use Rattle.step_core.specs.StateTyping as T
 use Rattle.step_core.specs.StateTyping.{FrozensTyped, row_value}
 use Rattle.step_core.specs.Called.{Called}
-use Rattle.step_core.specs.Outcome.{Outcome, ListOutcome, IsRan, IsAdded, IsListed, nothing_yet}
+use Rattle.step_core.specs.Outcome.{Outcome, ListOutcome, IsRan, IsAdded, IsListed, RunsAll, nothing_yet}
 use Rattle.step_core.specs.Plans.{IsRouted, RunsMember}
 use Rattle.step_core.specs.Runs as R
 use Rattle.step_core.specs.Runs.{Ran, RunsWhere, ParBy, PSwitchBy, Gathered, RunsEach, RanEach, RunEachWhere, Router, to_all, by_row, handed, HandsOut}
@@ -92,6 +92,10 @@ module _ (keys : List KeyTree) where
   pub also_run : (h : Router) (i j : ℕ) (ms : Frozens ℕ) (p : Frozen ℕ) (ps : Frozens ℕ) (x z : Datum) (one : Outcome) (before mid now : Gathered) → ms ≡ and_frozen p ps → IsRouted keys h i x z
       → RunsWhere keys p z one.state one.answer one.visits → IsAdded before one mid → (i < 64 → j ≡ suc i) → RunEachWhere keys h j ps x mid now → RunEachWhere keys h i ms x before now
   also_run h i j ms p ps x z one before mid now e hr hp ad ej hs = subst (λ fs. RunEachWhere keys h i fs x before now) (sym e) (also_at h i j p ps x z one before mid now hr hp ad ej hs)
+
+  -- all members, from none on
+  pub all_from_none : (h : Router) (fs : Frozens ℕ) (x : Datum) (before now : Gathered) (all : ListOutcome) → before ≡ nothing_yet → RunEachWhere keys h 0 fs x before now → IsListed now all → RunsAll keys h fs x all
+  all_from_none h fs x before now all e r l = (now, subst (λ b. RunEachWhere keys h 0 fs x b now) e r, l)
 
   -- what a member ran on, by another name of what routes it
   pub member_ran : (h k : Router) (i : ℕ) (w : Frozen ℕ) (x y : Datum) (one : Outcome) → k ≡ h → IsRouted keys h i x y → RunsWhere keys w y one.state one.answer one.visits → RunsMember keys k i w x one

@@ -7,7 +7,6 @@ use Rattle.sample_core.specs.declared.sample.Sample.{Sample}
 use Rattle.state_core.specs.State.{State, States, no_state, and_state}
 use Rattle.state_core.specs.StateView.{state_of, states_of, append_states}
 use Rattle.state_core.specs.declared.state.State.{State as CodeState}
-use Rattle.step_core.specs.Runs.{Gathered}
 
 -- states one list after the other
 pub states-append : (xs ys : List CodeState) → states_of (xs ++ ys) ≡ append_states (states_of xs) (states_of ys)
@@ -26,12 +25,3 @@ added_answers now all a vs v e h k = ap (map datum_of) e ∙ map_push datum_of a
 -- and its visits
 pub added_visits : (m n a b r : ℕ) → (m + n < 2 ^ 32 → r ≡ m + n) → m ≡ a → n ≡ b → a + b < 2 ^ 32 → r ≡ a + b
 added_visits m n a b r h e k l = let i : m + n < 2 ^ 32 = omega (arith, e, k, l) in omega (arith, h i, e, k)
-
--- the record of these
-abbrev pub gathered : States ℕ → List Datum → ℕ → Gathered
-gathered as' vs m = record { states = as'; answers = vs; visits = m }
-
--- a record by its fields
-pub gathered_is : (as' bs : States ℕ) (vs ws : List Datum) (m n : ℕ) → as' ≡ bs → vs ≡ ws → m ≡ n
-    → gathered as' vs m ≡ gathered bs ws n
-gathered_is as' bs vs ws m n e f h = λ i. record { states = e i; answers = f i; visits = h i }

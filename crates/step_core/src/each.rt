@@ -5,7 +5,7 @@ ghost use Rattle.sample_core.specs.Datum.{list, list_of};
 ghost use Rattle.sample_core.specs.ValueView.{datum_of};
 ghost use Rattle.state_core.specs.RowsView.{rows_in, row_number};
 ghost use Rattle.state_core.specs.State.{no_state, and_state, no_frozen, and_frozen, par_state, p_switch_state};
-ghost use Rattle.state_core.specs.StateView.{state_of, scope_of, append_states};
+ghost use Rattle.state_core.specs.StateView.{state_of, scope_of, p_switch_of, append_states};
 ghost use Rattle.step_core.specs.Outcome.{IsRan, IsListed, IsAdded};
 ghost use Rattle.step_core.specs.SourceView.{source_of, sources_of};
 
@@ -15,7 +15,7 @@ use crate::ran::{Ran, around};
 use leaf_table::LeafId;
 use net_syntax::Net;
 use sample_core::{Memory, Sample};
-use state_core::{Env, Node, State, States, gather};
+use state_core::{Env, Node, PSwitchParts, State, States, gather};
 use std::alloc::Global;
 use std::marker::Model;
 
@@ -94,33 +94,17 @@ impl<'n> Each<'n> {
     }
 
     /// One member more. `Memory` where a growth was refused.
-    pub(crate) fn and(mut self, one: Ran<'n>) -> Result<Each<'n>, Memory>
-        ensures { IfOk result (λ e. IsAdded self.entry one.entry e) }
+    pub(crate) fn add(&mut self, one: Ran<'n>) -> Result<(), Memory>
+        ensures { IfOk result (λ _. IsAdded self.old one.entry self.new) }
     {
         let visits = count::both(self.visits, one.visits());
         let (state, answer) = one.into_parts();
-        match self.add(state, answer) {
-            Ok(()) => {
-                self.visits = visits;
-                Ok(self)
-            }
-            Err(memory) => {
-                drop(self);
-                Err(memory)
-            }
-        }
-    }
-
-    // One state and one answer more.
-    fn add(&mut self, state: State<'n>, answer: Sample) -> Result<(), Memory>
-        ensures { IfOk result (λ _. self.new ≡ record {
-          states = append_states self.old.states (and_state (state_of state.entry) no_state);
-          answers = self.old.answers ++ datum_of answer ∷ [];
-          visits = self.old.visits;
-        }) }
-    {
         match self.states.push(state) {
-            Ok(()) => Ok(self.answers.push(answer)?),
+            Ok(()) => {
+                self.answers.push(answer)?;
+                self.visits = visits;
+                Ok(())
+            }
             Err(memory) => {
                 drop(answer);
                 Err(memory.into())
@@ -205,12 +189,41 @@ pub(crate) fn keep_p_switch<'n>(
             let (watch, event) = two.into_parts();
             drop(event);
             let (states, list) = all.into_parts();
-            around(alloc, Node::PSwitch(r, states, watch, t, env), list, visits)
+            let parts = PSwitchParts {
+                router: r,
+                members: states,
+                watch,
+                net: t,
+                env,
+            };
+            around_p_switch(alloc, parts, list, visits)
         }
         Err(memory) => {
             drop(all);
             drop(two);
             Err(memory)
+        }
+    }
+}
+
+/// `pSwitch` round its parts.
+fn around_p_switch<'n>(
+    alloc: Global,
+    parts: PSwitchParts<'n>,
+    answer: Sample,
+    visits: u32,
+) -> Result<Ran<'n>, Memory>
+    ensures { IfOk result (λ o. o ≡ record {
+      state = p_switch_of parts.entry;
+      answer = datum_of answer;
+      visits = visits;
+    }) }
+{
+    match Box::new(alloc, parts) {
+        Ok(parts) => around(alloc, Node::PSwitch(parts), answer, visits),
+        Err(memory) => {
+            drop(answer);
+            Err(memory.into())
         }
     }
 }

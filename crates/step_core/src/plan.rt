@@ -3,7 +3,7 @@
 ghost use Rattle.std.specs.Prelude.{◌≡◌, ℕ};
 ghost use Rattle.state_core.specs.RowsView.{rows_in};
 ghost use Rattle.state_core.specs.State.{unstarted, paused, params_of, Frozen as FrozenState, Scope};
-ghost use Rattle.state_core.specs.StateView.{state_of, scope_of, node_of, frozen_of};
+ghost use Rattle.state_core.specs.StateView.{state_of, scope_of, node_of, k_switch_of, p_switch_of, frozen_of};
 ghost use Rattle.step_core.specs.Plans.{PlanBy};
 ghost use Rattle.step_core.specs.Runs.{OldBy};
 ghost use Rattle.step_core.specs.SourceView.{source_of};
@@ -12,7 +12,9 @@ use cell_core::{Cell, Form};
 use leaf_table::LeafId;
 use net_syntax::Net;
 use sample_core::Sample;
-use state_core::{Accumulator, Env, Frozen, Node, Params, State, Still};
+use state_core::{
+    Accumulator, Env, Frozen, KSwitchParts, Node, PSwitchParts, Params, State, Still,
+};
 
 /// What runs next: a network that has not started, in a scope, or a state.
 #[derive(Clone, Copy)]
@@ -175,14 +177,26 @@ fn plan_node<'s, 'n>(node: &'s Node<'n>) -> Plan<'s, 'n>
         Node::Switch(a, t, env) => Plan::Switch(Source::State(a), *t, env),
         Node::DSwitch(a, t, env) => Plan::DSwitch(Source::State(a), *t, env),
         Node::RSwitch(a, t, env) => Plan::RSwitch(Source::State(a), *t, env),
-        Node::KSwitch(a, b, t, env) => {
-            Plan::KSwitch(Source::State(a), Source::State(b), *t, env)
-        }
-        Node::PSwitch(r, all, b, t, env) => {
-            let members = Sources::States(all.as_slice());
-            Plan::PSwitch(*r, members, Source::State(b), *t, env)
-        }
+        Node::KSwitch(parts) => plan_k_switch(parts),
+        Node::PSwitch(parts) => plan_p_switch(parts),
     }
+}
+
+/// What a step of a `kSwitch` is to do.
+fn plan_k_switch<'s, 'n>(parts: &'s KSwitchParts<'n>) -> Plan<'s, 'n>
+    ensures { (d : ℕ) → PlanBy (paused (k_switch_of parts.entry.now) d) d result }
+{
+    let part = Source::State(&parts.part);
+    Plan::KSwitch(part, Source::State(&parts.watch), parts.net, &parts.env)
+}
+
+/// What a step of a `pSwitch` is to do.
+fn plan_p_switch<'s, 'n>(parts: &'s PSwitchParts<'n>) -> Plan<'s, 'n>
+    ensures { (d : ℕ) → PlanBy (paused (p_switch_of parts.entry.now) d) d result }
+{
+    let members = Sources::States(parts.members.as_slice());
+    let watch = Source::State(&parts.watch);
+    Plan::PSwitch(parts.router, members, watch, parts.net, &parts.env)
 }
 
 /// `old` of a frozen network.

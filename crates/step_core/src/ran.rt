@@ -5,7 +5,7 @@ ghost use Rattle.sample_core.specs.Datum.{left, right, pair};
 ghost use Rattle.sample_core.specs.ValueView.{datum_of};
 ghost use Rattle.state_core.specs.RowsView.{rows_in};
 ghost use Rattle.state_core.specs.State.{seq_state, first_state, loop_state, switch_state, d_switch_state, r_switch_state, k_switch_state};
-ghost use Rattle.state_core.specs.StateView.{state_of, node_of, scope_of};
+ghost use Rattle.state_core.specs.StateView.{state_of, node_of, k_switch_of, scope_of};
 ghost use Rattle.step_core.specs.Outcome.{IsRan};
 
 use crate::count;
@@ -13,7 +13,7 @@ use crate::part::{first, paired_with, second};
 use leaf_table::LeafId;
 use net_syntax::Net;
 use sample_core::{Memory, Sample};
-use state_core::{Env, Node, State, Whole};
+use state_core::{Env, KSwitchParts, Node, State, Whole};
 use std::alloc::Global;
 use std::marker::Model;
 
@@ -286,12 +286,40 @@ pub(crate) fn keep_k_switch<'n>(
             let (state, answer) = one.into_parts();
             let (watch, event) = two.into_parts();
             drop(event);
-            around(alloc, Node::KSwitch(state, watch, t, env), answer, visits)
+            let parts = KSwitchParts {
+                part: state,
+                watch,
+                net: t,
+                env,
+            };
+            around_k_switch(alloc, parts, answer, visits)
         }
         Err(memory) => {
             drop(one);
             drop(two);
             Err(memory)
+        }
+    }
+}
+
+/// `kSwitch` round its parts.
+fn around_k_switch<'n>(
+    alloc: Global,
+    parts: KSwitchParts<'n>,
+    answer: Sample,
+    visits: u32,
+) -> Result<Ran<'n>, Memory>
+    ensures { IfOk result (λ r. r ≡ record {
+      state = k_switch_of parts.entry;
+      answer = datum_of answer;
+      visits = visits;
+    }) }
+{
+    match Box::new(alloc, parts) {
+        Ok(parts) => around(alloc, Node::KSwitch(parts), answer, visits),
+        Err(memory) => {
+            drop(answer);
+            Err(memory.into())
         }
     }
 }

@@ -439,12 +439,17 @@ fn run_all<'n, R: Rows>(
         RunsAll (R.keys rows.now) (router_of router.entry) (sources_of members.entry dt)
         (datum_of x.now) all) }
 {
-    let each = Each::none(alloc, count_of(members))?;
-    let each = run_each(alloc, rows, router, 0, members, dt, x, each)?;
-    each.listed(alloc)
+    let mut each = Each::none(alloc, count_of(members))?;
+    match run_each(alloc, rows, router, 0, members, dt, x, &mut each) {
+        Ok(()) => each.listed(alloc),
+        Err(memory) => {
+            drop(each);
+            Err(memory)
+        }
+    }
 }
 
-/// The members from member i on.
+/// The members from member i on, added to those before.
 #[cycle(run)]
 fn run_each<'n, R: Rows>(
     alloc: Global,
@@ -454,24 +459,19 @@ fn run_each<'n, R: Rows>(
     members: Sources<'_, 'n>,
     dt: u64,
     x: &Sample,
-    before: Each<'n>,
-) -> Result<Each<'n>, Memory>
-    ensures { IfOk result (λ now.
+    each: &mut Each<'n>,
+) -> Result<(), Memory>
+    ensures { IfOk result (λ _.
         RunEachWhere (R.keys rows.now) (router_of router.entry) i (sources_of members.entry dt)
-        (datum_of x.now) before.entry now) }
+        (datum_of x.now) each.old each.new) }
 {
     match first_of(members) {
-        Some((f, rest)) => match run_member(alloc, rows, router, i, f, dt, x) {
-            Ok(one) => {
-                let now = before.and(one)?;
-                run_each(alloc, rows, router, i.wrapping_add(1), rest, dt, x, now)
-            }
-            Err(memory) => {
-                drop(before);
-                Err(memory)
-            }
-        },
-        None => Ok(before),
+        Some((f, rest)) => {
+            let one = run_member(alloc, rows, router, i, f, dt, x)?;
+            each.add(one)?;
+            run_each(alloc, rows, router, i.wrapping_add(1), rest, dt, x, each)
+        }
+        None => Ok(()),
     }
 }
 

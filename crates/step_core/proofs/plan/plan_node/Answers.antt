@@ -1,8 +1,8 @@
-use Rattle.std.proofs.Common.{ap, ◌∙◌, sym}
-use Rattle.state_core.specs.State.{par_state, p_switch_state}
-use Rattle.state_core.specs.StateView.{node_of, state_of, scope_of}
-use Rattle.state_core.specs.RowsView.{rows_in, row_number}
-use Rattle.step_core.proofs.PlanForms.{seq_on_by, first_on_by, par_on_by, accum_on_by, loop_on_by, switch_on_by, d_switch_on_by, r_switch_on_by, k_switch_on_by, p_switch_on_by}
+use Rattle.std.proofs.Common.{ap, ◌∙◌, sym, subst, ℕ}
+use Rattle.state_core.specs.State.{State, par_state, paused}
+use Rattle.state_core.specs.StateView.{node_of, k_switch_of, p_switch_of}
+use Rattle.step_core.specs.Plans.{PlanBy}
+use Rattle.step_core.proofs.PlanForms.{seq_on_by, first_on_by, par_on_by, accum_on_by, loop_on_by, switch_on_by, d_switch_on_by, r_switch_on_by}
 use Rattle.step_core.proofs.plan.plan_node.Goals as goal
 
 pub returns-in-Seq : goal.returns-in-Seq
@@ -27,10 +27,10 @@ pub returns-in-RSwitch : goal.returns-in-RSwitch
 returns-in-RSwitch c = λ d. r_switch_on_by _ _ _ _ d (ap node_of c.in-RSwitch.is)
 
 pub returns-in-KSwitch : goal.returns-in-KSwitch
-returns-in-KSwitch c = λ d. k_switch_on_by _ _ _ _ _ d (ap node_of c.in-KSwitch.is)
+returns-in-KSwitch c = λ d. subst (λ (z : State ℕ). PlanBy (paused z d) d c.plan_k_switch.result) (ap k_switch_of c.deref.ensures ∙ sym (ap node_of c.in-KSwitch.is)) (c.plan_k_switch.ensures d)
 
 pub returns-in-PSwitch : goal.returns-in-PSwitch
-returns-in-PSwitch c = λ d. p_switch_on_by _ _ _ _ _ _ d (ap node_of c.in-PSwitch.is ∙ ap (λ as'. p_switch_state (row_number c.in-PSwitch.r) as' (state_of c.in-PSwitch.b) (rows_in c.in-PSwitch.t.now) (scope_of c.in-PSwitch.env)) (sym c.as_slice-in-PSwitch.ensures))
+returns-in-PSwitch c = λ d. subst (λ (z : State ℕ). PlanBy (paused z d) d c.plan_p_switch.result) (ap p_switch_of c.deref-in-PSwitch.ensures ∙ sym (ap node_of c.in-PSwitch.is)) (c.plan_p_switch.ensures d)
 
 pub returns-in-AccumBy : goal.returns-in-AccumBy
 returns-in-AccumBy c = λ d. accum_on_by _ _ _ _ d (ap node_of c.in-AccumBy.is)

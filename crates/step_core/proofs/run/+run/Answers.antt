@@ -11,7 +11,7 @@ use Rattle.step_core.specs.Runs.{to_all, by_row, SeqBy, FirstBy, ParBy, LoopBy, 
 use Rattle.step_core.specs.SourceView.{source_of, sources_of}
 use Rattle.step_core.proofs.Falling.{members_fall, seq_within, first_falls, par_falls, loop_falls, switch_within, d_switch_within, r_switch_within, k_switch_within, p_switch_within, old_falls, over_weighs, over_old_weighs, over_olds_weighs, left_within, right_within}
 use Rattle.step_core.proofs.RunJoins.{if_ok, fires_by, seq_joined, first_joined, loop_joined, switch_kept, switch_over, d_switch_kept, d_switch_over, r_switch_kept, r_switch_over, k_switch_kept, k_switch_over, old_over}
-use Rattle.step_core.proofs.RunMembers.{none_run, also_run, member_ran, next_number, par_joined, p_switch_kept, p_switch_over}
+use Rattle.step_core.proofs.RunMembers.{none_run, also_run, all_from_none, member_ran, next_number, par_joined, p_switch_kept, p_switch_over}
 use Rattle.step_core.proofs.run.+run.Goals as goal
 
 pub run-run_seq-requires : goal.run-run_seq-requires
@@ -217,11 +217,15 @@ run_each-run_member-requires g t c κs within = (omega (arith, c.decreases, (mem
 pub run_each-run_each-requires : goal.run_each-run_each-requires
 run_each-run_each-requires g t c κs within = (omega (arith, c.decreases, (members_fall _ _ _ (c.in-Some.ensures c.args.dt)).1), search rules)
 
-pub run_each-returns-in_ok-now-in-Ok : goal.run_each-returns-in_ok-now-in-Ok
-run_each-returns-in_ok-now-in-Ok g t c =
+pub run_each-returns-in_ok-add-in-Some : goal.run_each-returns-in_ok-add-in-Some
+run_each-returns-in_ok-add-in-Some g t c =
     if_ok c.run_each.result _ _
-    (λ now hs. also_run _ (router_of c.args.router) c.args.i _ _ _ _ _ c.in-Ok.ensures.0 _ _ _ _ (c.in-Some.ensures c.args.dt) c.in-Ok.ensures.1 c.in-Ok.ensures.2 c.in_ok-now-in-Ok.ensures (next_number c.args.i) hs)
+    (λ u hs. also_run _ (router_of c.args.router) c.args.i _ _ _ _ _ c.in_ok-one-in-Some.ensures.0 _ _ _ _ (c.in-Some.ensures c.args.dt) c.in_ok-one-in-Some.ensures.1 c.in_ok-one-in-Some.ensures.2 c.in_ok-add-in-Some.ensures (next_number c.args.i) hs)
     c.run_each.ensures
 
 pub run_each-returns-in-None : goal.run_each-returns-in-None
 run_each-returns-in-None g t c = none_run _ (router_of c.args.router) c.args.i _ _ _ (c.in-None.ensures c.args.dt)
+
+pub run_all-returns-in-Ok : goal.run_all-returns-in-Ok
+run_all-returns-in-Ok g t c =
+    if_ok c.listed.result _ _ (λ all l. all_from_none _ (router_of c.args.router) _ _ _ _ all c.in_ok-each.ensures c.in-Ok.ensures l) c.listed.ensures
