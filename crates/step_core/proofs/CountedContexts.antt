@@ -17,11 +17,11 @@ use Rattle.step_core.proofs.VisitBounds.{IsCount-visits}
 use Rattle.step_core.proofs.VisitSums.{AllCounts}
 use Rattle.step_core.proofs.MemberCounts.{AllCounted, no_counted, and_counted, AllCounted-signals, heaviest_of, IsCounted-resume, together}
 
-signals-append : (cs ds : List CountedFunction) → functions_of (cs ++ ds) ≡ functions_of cs ++ functions_of ds
+pub signals-append : (cs ds : List CountedFunction) → functions_of (cs ++ ds) ≡ functions_of cs ++ functions_of ds
 signals-append [] ds = refl
 signals-append (c ∷ cs) ds = ap (λ fs. c.function ∷ fs) (signals-append cs ds)
 
-counts-append : (cs ds : List CountedFunction) → counts_of_all (cs ++ ds) ≡ counts_of_all cs ++ counts_of_all ds
+pub counts-append : (cs ds : List CountedFunction) → counts_of_all (cs ++ ds) ≡ counts_of_all cs ++ counts_of_all ds
 counts-append [] ds = refl
 counts-append (c ∷ cs) ds = ap (λ fs. c.visits ∷ fs) (counts-append cs ds)
 

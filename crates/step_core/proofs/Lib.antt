@@ -2,6 +2,7 @@ pub mod VisitSums
 pub mod VisitBounds
 pub mod VisitSteps
 pub mod EnvironmentBounds
+pub mod EnvironmentScopes
 pub mod CountedFunctions
 pub mod PlainCounts
 pub mod SwitchCounts

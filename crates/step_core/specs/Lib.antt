@@ -15,6 +15,7 @@ pub mod EventView
 pub mod Lookup
 pub mod Lowering
 pub mod BindingLaws
+pub mod ScopeLaws
 pub mod RunnerState
 pub mod StateOption
 pub mod RunnerView

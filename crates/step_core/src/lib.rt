@@ -21,5 +21,5 @@ mod still;
 pub use binding::bind;
 pub use bound::Bound;
 pub use fault::BindFault;
-pub use laws::binding_laws;
+pub use laws::{binding_laws, scope_laws};
 pub use runner::Runner;
