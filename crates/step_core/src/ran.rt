@@ -193,6 +193,19 @@ fn feed_back<'n>(
     }
 }
 
+/// What a part led to, and a copy of the scope. `Memory` only where a count of references is full.
+fn with_scope<'n>(one: Ran<'n>, env: &Env<'n>) -> Result<(Ran<'n>, Env<'n>), Memory>
+    ensures { IfOk result (λ r. (r.0 ≡ one.entry) × (scope_of r.1 ≡ scope_of env.now)) }
+{
+    match env.try_copy() {
+        Ok(env) => Ok((one, env)),
+        Err(memory) => {
+            drop(one);
+            Err(memory)
+        }
+    }
+}
+
 /// `switch` round what its part led to.
 pub(crate) fn keep_switch<'n>(
     alloc: Global,
@@ -205,17 +218,9 @@ pub(crate) fn keep_switch<'n>(
         (left one.entry.answer) (suc (one.entry.visits + 0))) }
 {
     let visits = count::node(one.visits, 0);
-    let one = one.with_first(alloc)?;
-    match env.try_copy() {
-        Ok(env) => {
-            let (state, answer) = one.into_parts();
-            around(alloc, Node::Switch(state, t, env), answer, visits)
-        }
-        Err(memory) => {
-            drop(one);
-            Err(memory)
-        }
-    }
+    let (one, env) = with_scope(one.with_first(alloc)?, env)?;
+    let (state, answer) = one.into_parts();
+    around(alloc, Node::Switch(state, t, env), answer, visits)
 }
 
 /// `dSwitch` round what its part led to.
@@ -230,17 +235,9 @@ pub(crate) fn keep_d_switch<'n>(
         (left one.entry.answer) (suc (one.entry.visits + 0))) }
 {
     let visits = count::node(one.visits, 0);
-    let one = one.with_first(alloc)?;
-    match env.try_copy() {
-        Ok(env) => {
-            let (state, answer) = one.into_parts();
-            around(alloc, Node::DSwitch(state, t, env), answer, visits)
-        }
-        Err(memory) => {
-            drop(one);
-            Err(memory)
-        }
-    }
+    let (one, env) = with_scope(one.with_first(alloc)?, env)?;
+    let (state, answer) = one.into_parts();
+    around(alloc, Node::DSwitch(state, t, env), answer, visits)
 }
 
 /// `rSwitch` round what runs in it.
@@ -255,16 +252,9 @@ pub(crate) fn keep_r_switch<'n>(
         one.entry.answer (suc (one.entry.visits + 0))) }
 {
     let visits = count::node(one.visits, 0);
-    match env.try_copy() {
-        Ok(env) => {
-            let (state, answer) = one.into_parts();
-            around(alloc, Node::RSwitch(state, t, env), answer, visits)
-        }
-        Err(memory) => {
-            drop(one);
-            Err(memory)
-        }
-    }
+    let (one, env) = with_scope(one, env)?;
+    let (state, answer) = one.into_parts();
+    around(alloc, Node::RSwitch(state, t, env), answer, visits)
 }
 
 /// `kSwitch` round what its parts led to.
