@@ -37,7 +37,13 @@ node_le (N.LoopPre v a) = omega (arith, state_le a)
 node_le (N.Switch a t s) = omega (arith, state_le a, olds_le s.olds)
 node_le (N.DSwitch a t s) = omega (arith, state_le a, olds_le s.olds)
 node_le (N.RSwitch a t s) = omega (arith, state_le a, olds_le s.olds)
-node_le (N.KSwitch k) = omega (arith, state_le k.value.part, state_le k.value.watch, olds_le k.value.env.olds)
+node_le (N.KSwitch k) = omega (
+  arith,
+  state_le k.value.part,
+  state_le k.value.watch,
+  olds_le
+      k.value.env.olds,
+)
 node_le (N.PSwitch k) = omega (arith, state_le k.value.watch, olds_le k.value.env.olds)
 
 pub frozen_le : (n : CodeFrozen) → deep-Frozen n ≤ frozen_size (frozen_of n)

@@ -21,11 +21,13 @@ module _ (val : ℕ → List Datum → Datum → Datum) where
   counted_all closed = no_counted
   counted_all (param E c) = counted_all E
   counted_all (frozen E net E' p d) = AllCounted-append (counted_context_of val E).olds _ (counted_all E)
-      (and_counted (IsCounted-resume (counted_meaning val net (counted_context_of val E')) (IsCounted-counted val net (counted_context_of val E') (counted_all E')) p d) no_counted)
+      (and_counted (IsCounted-resume (counted_meaning val net (counted_context_of val E'))
+      (IsCounted-counted val net (counted_context_of val E') (counted_all E')) p d) no_counted)
 
   counted_entry : (net : Network ℕ) (E : Environment ℕ) (p : TimedList) (d : ℕ)
       → IsCountedFunction (counted_resume (counted_meaning val net (counted_context_of val E)) p d)
-  counted_entry net E p d = IsCounted-resume (counted_meaning val net (counted_context_of val E)) (IsCounted-counted val net (counted_context_of val E) (counted_all E)) p d
+  counted_entry net E p d = IsCounted-resume (counted_meaning val net (counted_context_of val E))
+      (IsCounted-counted val net (counted_context_of val E) (counted_all E)) p d
 
   same_params : (E : Environment ℕ) → (counted_context_of val E).params ≡ (context_of val E).params
   same_params closed = refl

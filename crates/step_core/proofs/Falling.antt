@@ -70,15 +70,18 @@ first_falls w p R.first_new = omega arith
 first_falls w p R.first_on = omega arith
 
 pub par_falls : (w : Frozen ℕ) (ms : Frozens ℕ) → ParBy w ms → total (frozen_ranks ms) < frozen_rank w
-par_falls w ms (R.par_new {fs = fs} {s = s}) = let e : total (frozen_ranks (all_unstarted fs s)) ≡ total (weights fs (ranks_in s)) = ap total (ranks-unstarted fs s) in omega (arith, e)
-par_falls w ms (R.par_on {as' = as'} {d = d}) = let e : total (frozen_ranks (all_paused as' d)) ≡ total (ranks as') = ap total (ranks-paused as' d) in omega (arith, e)
+par_falls w ms (R.par_new {fs = fs} {s = s}) = let e : total (frozen_ranks (all_unstarted fs s))
+    ≡ total (weights fs (ranks_in s)) = ap total (ranks-unstarted fs s) in omega (arith, e)
+par_falls w ms (R.par_on {as' = as'} {d = d}) = let e : total (frozen_ranks (all_paused as' d))
+    ≡ total (ranks as') = ap total (ranks-paused as' d) in omega (arith, e)
 
 loop_by_falls : (keys : List KeyTree) (w : Frozen ℕ) (u : Datum) (p : Frozen ℕ) → LoopBy keys w u p → frozen_rank p < frozen_rank w
 loop_by_falls keys w u p (R.loop_new h) = omega arith
 loop_by_falls keys w u p R.loop_on = omega arith
 
 -- whatever a table's rows are: over none, anything may be fed back that a row promises
-pub loop_falls : (w : Frozen ℕ) (b : Back) (p : Frozen ℕ) → ((keys : List KeyTree) (u : Datum) → IsFed keys b u → LoopBy keys w u p) → frozen_rank p < frozen_rank w
+pub loop_falls : (w : Frozen ℕ) (b : Back) (p : Frozen ℕ) → ((keys : List KeyTree) (u : Datum) → IsFed keys b u → LoopBy keys w u p)
+    → frozen_rank p < frozen_rank w
 loop_falls w (B.Row c ps) p h = loop_by_falls [] w unit p (h [] unit (λ key e. absurd (cc)))
 loop_falls w (B.Value v) p h = loop_by_falls [] w (datum_of v.now) p (h [] (datum_of v.now) refl)
 
@@ -104,7 +107,8 @@ pub p_switch_within : (w : Frozen ℕ) (r : ℕ) (ms : Frozens ℕ) (q : Frozen 
 p_switch_within w r ms q t s (R.p_switch_new {fs = fs} {e = e}) =
     let k : frozen_ranks (all_unstarted fs s) ≡ weights fs (ranks_in s) = ranks-unstarted fs s in
     let i : total (frozen_ranks (all_unstarted fs s)) ≡ total (weights fs (ranks_in s)) = ap total k in
-    let j : weight t (ranks_in s ++ frozen_ranks (all_unstarted fs s)) ≡ weight t (ranks_in s ++ weights fs (ranks_in s)) = ap (λ us. weight t (ranks_in s ++ us)) k in
+    let j : weight t (ranks_in s ++ frozen_ranks (all_unstarted fs s)) ≡ weight t (ranks_in s ++ weights fs (ranks_in s)) = ap
+    (λ us. weight t (ranks_in s ++ us)) k in
     omega (arith, i, j)
 p_switch_within w r ms q t s (R.p_switch_on {as' = as'} {b = b} {d = d}) =
     let k : frozen_ranks (all_paused as' d) ≡ ranks as' = ranks-paused as' d in
@@ -120,10 +124,12 @@ pub over_weighs : (t : Network ℕ) (s s' : Scope ℕ) (u : Datum) → s' ≡ pu
 over_weighs t s s' u e = ap (λ z. weight t z) (ap ranks_in e ∙ ranks-param s u)
 
 -- and with what is frozen before it
-pub over_old_weighs : (t : Network ℕ) (s s' : Scope ℕ) (u : Datum) (p : Frozen ℕ) → s' ≡ push_old (push_param s u) p → frozen_rank (unstarted t s') ≡ weight t (ranks_in s ++ frozen_rank p ∷ [])
+pub over_old_weighs : (t : Network ℕ) (s s' : Scope ℕ) (u : Datum) (p : Frozen ℕ) → s' ≡ push_old (push_param s u) p → frozen_rank (unstarted t s')
+    ≡ weight t (ranks_in s ++ frozen_rank p ∷ [])
 over_old_weighs t s s' u p e = ap (λ z. weight t z) (ap ranks_in e ∙ ranks-olds s u (and_frozen p no_frozen))
 
-pub over_olds_weighs : (t : Network ℕ) (s s' : Scope ℕ) (u : Datum) (ms : Frozens ℕ) → s' ≡ push_olds (push_param s u) ms → frozen_rank (unstarted t s') ≡ weight t (ranks_in s ++ frozen_ranks ms)
+pub over_olds_weighs : (t : Network ℕ) (s s' : Scope ℕ) (u : Datum) (ms : Frozens ℕ) → s' ≡ push_olds (push_param s u) ms → frozen_rank (unstarted t s')
+    ≡ weight t (ranks_in s ++ frozen_ranks ms)
 over_olds_weighs t s s' u ms e = ap (λ z. weight t z) (ap ranks_in e ∙ ranks-olds s u ms)
 
 -- the sooner started of two parts, and the other

@@ -17,8 +17,10 @@ module _ {L M : Type 0} (h : M → L) (val : L → List Datum → Datum → Datu
     meaning-map (switch f t) E = λ i. switch_function (meaning-map f E i) (λ c. meaning-map t (with_param E c) i)
     meaning-map (d_switch f t) E = λ i. d_switch_function (meaning-map f E i) (λ c. meaning-map t (with_param E c) i)
     meaning-map (r_switch f t) E = λ i. r_switch_function (meaning-map f E i) (λ c. meaning-map t (with_param E c) i)
-    meaning-map (k_switch f e t) E = λ i. k_switch_function (meaning-map f E i) (meaning-map e E i) (λ c o. meaning-map t (with_olds (with_param E c) (o ∷ [])) i)
-    meaning-map (p_switch r fs e t) E = λ i. p_switch_function (val (h r) E.params) (meanings-map fs E i) (meaning-map e E i) (λ c os. meaning-map t (with_olds (with_param E c) os) i)
+    meaning-map (k_switch f e t) E = λ i. k_switch_function (meaning-map f E i) (meaning-map e E i)
+        (λ c o. meaning-map t (with_olds (with_param E c) (o ∷ [])) i)
+    meaning-map (p_switch r fs e t) E = λ i. p_switch_function (val (h r) E.params) (meanings-map fs E i) (meaning-map e E i)
+        (λ c os. meaning-map t (with_olds (with_param E c) os) i)
     meaning-map (arr e) E = refl
     meaning-map (i_pre c) E = refl
     meaning-map (delay q c) E = refl
@@ -39,18 +41,25 @@ module _ {L M : Type 0} (h : M → L) (val : L → List Datum → Datum → Datu
     visits-map (seq f g) E C = λ i xs. and_one (add_counts (visits-map f E C i xs) (visits-map g E C i (with_values xs (meaning-map f E i xs))))
     visits-map (first f) E C = λ i xs. and_one (visits-map f E C i (each_value left xs))
     visits-map (par fs) E C = λ i xs. and_one (sum_of_all (visits_all-map fs E C i) xs)
-    visits-map (loop_pre c f) E C = λ i xs. and_one (visits-map f E C i (pair_samples xs (feedback_values (val (h c) E.params unit) (meaning-map f E i) xs (length xs))))
-    visits-map (switch f t) E C = λ i xs. switch_counts (first_event (map right (meaning-map f E i xs))) (and_one (visits-map f E C i xs)) (λ n c. visits-map t (with_param E c) C i (drop n xs))
-    visits-map (d_switch f t) E C = λ i xs. switch_counts (first_event (map right (meaning-map f E i xs))) (and_one (visits-map f E C i xs)) (λ n c. visits-map t (with_param E c) C i (drop n xs))
-    visits-map (r_switch f t) E C = λ i xs. and_one (visits-map f E C i (pieces xs).0 ++ flat_map (λ piece. visits-map t (with_param E piece.0) C i piece.1) (pieces xs).1)
+    visits-map (loop_pre c f) E C = λ i xs. and_one (visits-map f E C i (pair_samples xs
+        (feedback_values (val (h c) E.params unit) (meaning-map f E i) xs (length xs))))
+    visits-map (switch f t) E C = λ i xs. switch_counts (first_event (map right (meaning-map f E i xs))) (and_one (visits-map f E C i xs))
+        (λ n c. visits-map t (with_param E c) C i (drop n xs))
+    visits-map (d_switch f t) E C = λ i xs. switch_counts (first_event (map right (meaning-map f E i xs))) (and_one (visits-map f E C i xs))
+        (λ n c. visits-map t (with_param E c) C i (drop n xs))
+    visits-map (r_switch f t) E C = λ i xs. and_one (visits-map f E C i (pieces xs).0 ++ flat_map (λ piece. visits-map t (with_param E piece.0) C i piece.1)
+        (pieces xs).1)
     visits-map (k_switch f e t) E C = λ i xs.
         switch_counts (first_event (meaning-map e E i (pair_samples xs (meaning-map f E i xs))))
         (and_one (add_counts (visits-map f E C i xs) (visits-map e E C i (pair_samples xs (meaning-map f E i xs)))))
-        (λ n c. visits-map t (with_olds (with_param E c) (resume (meaning-map f E i) (take n xs) (step_of (drop n xs)) ∷ [])) (C ++ resume_counts (visits-map f E C i) (take n xs) (step_of (drop n xs)) ∷ []) i (drop n xs))
+        (λ n c. visits-map t (with_olds (with_param E c) (resume (meaning-map f E i) (take n xs) (step_of (drop n xs)) ∷ []))
+        (C ++ resume_counts (visits-map f E C i) (take n xs) (step_of (drop n xs)) ∷ []) i (drop n xs))
     visits-map (p_switch r fs e t) E C = λ i xs.
         switch_counts (first_event (meaning-map e E i (pair_samples xs (collect (val (h r) E.params) (meanings-map fs E i) xs))))
-        (and_one (add_counts (sum_by_route (val (h r) E.params) 0 (visits_all-map fs E C i) xs) (visits-map e E C i (pair_samples xs (collect (val (h r) E.params) (meanings-map fs E i) xs)))))
-        (λ n c. visits-map t (with_olds (with_param E c) (freeze_all (val (h r) E.params) 0 (meanings-map fs E i) (take n xs) (step_of (drop n xs)))) (C ++ freeze_counts (val (h r) E.params) 0 (visits_all-map fs E C i) (take n xs) (step_of (drop n xs))) i (drop n xs))
+        (and_one (add_counts (sum_by_route (val (h r) E.params) 0 (visits_all-map fs E C i) xs)
+        (visits-map e E C i (pair_samples xs (collect (val (h r) E.params) (meanings-map fs E i) xs)))))
+        (λ n c. visits-map t (with_olds (with_param E c) (freeze_all (val (h r) E.params) 0 (meanings-map fs E i) (take n xs) (step_of (drop n xs))))
+        (C ++ freeze_counts (val (h r) E.params) 0 (visits_all-map fs E C i) (take n xs) (step_of (drop n xs))) i (drop n xs))
     visits-map (arr e) E C = refl
     visits-map (i_pre c) E C = refl
     visits-map (delay q c) E C = refl

@@ -61,16 +61,21 @@ par_new_by n fs s e = subst (λ z. ParBy (unstarted z s) (all_unstarted fs s)) (
 pub par_on_by : (r : State ℕ) (as' : States ℕ) (d : ℕ) → r ≡ par_state as' → ParBy (paused r d) (all_paused as' d)
 par_on_by r as' d e = subst (λ z. ParBy (paused z d) (all_paused as' d)) (sym e) R.par_on
 
-pub loop_new_by : (n : Network ℕ) (c : ℕ) (f : Network ℕ) (s : Scope ℕ) → n ≡ loop_pre c f → (keys : List KeyTree) (u : Datum) → Called keys c (params_of s) unit u → LoopBy keys (unstarted n s) u (unstarted f s)
+pub loop_new_by : (n : Network ℕ) (c : ℕ) (f : Network ℕ) (s : Scope ℕ) → n ≡ loop_pre c f → (keys : List KeyTree) (u : Datum)
+    → Called keys c (params_of s) unit u → LoopBy keys (unstarted n s) u (unstarted f s)
 loop_new_by n c f s e keys u h = subst (λ z. LoopBy keys (unstarted z s) u (unstarted f s)) (sym e) (R.loop_new h)
 
-pub loop_on_by : (r : State ℕ) (v : Datum) (a : State ℕ) (d : ℕ) → r ≡ loop_state v a → (keys : List KeyTree) (u : Datum) → u ≡ v → LoopBy keys (paused r d) u (paused a d)
-loop_on_by r v a d e keys u h = subst (λ z. LoopBy keys (paused z d) u (paused a d)) (sym e) (subst (λ z. LoopBy keys (paused (loop_state z a) d) u (paused a d)) h R.loop_on)
+pub loop_on_by : (r : State ℕ) (v : Datum) (a : State ℕ) (d : ℕ) → r ≡ loop_state v a → (keys : List KeyTree) (u : Datum) → u ≡ v
+    → LoopBy keys (paused r d) u (paused a d)
+loop_on_by r v a d e keys u h = subst (λ z. LoopBy keys (paused z d) u (paused a d)) (sym e)
+    (subst (λ z. LoopBy keys (paused (loop_state z a) d) u (paused a d)) h R.loop_on)
 
-pub p_switch_new_by : (n : Network ℕ) (r : ℕ) (fs : Networks ℕ) (e t : Network ℕ) (s : Scope ℕ) → n ≡ p_switch r fs e t → PSwitchBy (unstarted n s) r (all_unstarted fs s) (unstarted e s) t s
+pub p_switch_new_by : (n : Network ℕ) (r : ℕ) (fs : Networks ℕ) (e t : Network ℕ) (s : Scope ℕ) → n ≡ p_switch r fs e t
+    → PSwitchBy (unstarted n s) r (all_unstarted fs s) (unstarted e s) t s
 p_switch_new_by n r fs e t s h = subst (λ z. PSwitchBy (unstarted z s) r (all_unstarted fs s) (unstarted e s) t s) (sym h) R.p_switch_new
 
-pub p_switch_on_by : (w : State ℕ) (r : ℕ) (as' : States ℕ) (b : State ℕ) (t : Network ℕ) (s : Scope ℕ) (d : ℕ) → w ≡ p_switch_state r as' b t s → PSwitchBy (paused w d) r (all_paused as' d) (paused b d) t s
+pub p_switch_on_by : (w : State ℕ) (r : ℕ) (as' : States ℕ) (b : State ℕ) (t : Network ℕ) (s : Scope ℕ) (d : ℕ) → w ≡ p_switch_state r as' b t s
+    → PSwitchBy (paused w d) r (all_paused as' d) (paused b d) t s
 p_switch_on_by w r as' b t s d h = subst (λ z. PSwitchBy (paused z d) r (all_paused as' d) (paused b d) t s) (sym h) R.p_switch_on
 
 pub cell_on_by : (r : State ℕ) (k : Cell) (d : ℕ) → r ≡ cell_state k → CellBy (paused r d) d k
@@ -79,7 +84,8 @@ cell_on_by r k d e = subst (λ z. CellBy (paused z d) d k) (sym e) R.cell_on
 pub accum_on_by : (r : State ℕ) (g : ℕ) (ps : List Datum) (acc : Datum) (d : ℕ) → r ≡ accum_state g ps acc → AccumBy (paused r d) g ps acc
 accum_on_by r g ps acc d e = subst (λ z. AccumBy (paused z d) g ps acc) (sym e) R.accum_on
 
-pub start_by : (n m : Network ℕ) (s : Scope ℕ) (form : Form) (c : Option ℕ) (ps : List Datum) → n ≡ m → params_of s ≡ ps → StartBy (unstarted m s) form c (params_of s) → StartBy (unstarted n s) form c ps
+pub start_by : (n m : Network ℕ) (s : Scope ℕ) (form : Form) (c : Option ℕ) (ps : List Datum) → n ≡ m → params_of s ≡ ps
+    → StartBy (unstarted m s) form c (params_of s) → StartBy (unstarted n s) form c ps
 start_by n m s form c ps e h k = subst (λ z. StartBy (unstarted z s) form c ps) (sym e) (subst (λ z. StartBy (unstarted m s) form c z) h k)
 
 pub gather_by : (n : Network ℕ) (g z : ℕ) (s : Scope ℕ) (ps : List Datum) → n ≡ accum_by g z → params_of s ≡ ps → GatherBy (unstarted n s) g z ps

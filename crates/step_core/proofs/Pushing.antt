@@ -133,7 +133,8 @@ none_last [] h = refl
 none_last (n ∷ ns) h = absurd (omega (arith, h))
 
 -- before its first sample
-pub new_stands : (r : RunnerState) → r.samples ≡ 0 → r.visits ≡ 0 → r.state ≡ None → FitsTable r.keys (record { input = r.input; rows = r.rows }) → StandsFor r []
+pub new_stands : (r : RunnerState) → r.samples ≡ 0 → r.visits ≡ 0 → r.state ≡ None → FitsTable r.keys (record { input = r.input; rows = r.rows })
+    → StandsFor r []
 new_stands r none unvisited nothing h = record {
   counted = none;
   visited = unvisited ∙ none_last _ ((IsCount-visited value_of (network_in r) closed).counted []);

@@ -36,18 +36,22 @@ module _ (keys : List KeyTree) where
   turned : (w : Frozen ℕ) (x y : Datum) (o : Outcome) (a : State ℕ) → o.state ≡ a → RunsWhere keys w x a y o.visits → RunsWhere keys w x o.state y o.visits
   turned w x y o a e = subst (λ b. RunsWhere keys w x b y o.visits) (sym e)
 
-  pub outcome_is : (w : Frozen ℕ) (x y : Datum) (o : Outcome) (a : State ℕ) (n : ℕ) → o ≡ record { state = a; answer = y; visits = n } → RunsWhere keys w x a y n → RunsTo w x o
+  pub outcome_is : (w : Frozen ℕ) (x y : Datum) (o : Outcome) (a : State ℕ) (n : ℕ) → o ≡ record { state = a; answer = y; visits = n }
+      → RunsWhere keys w x a y n → RunsTo w x o
   outcome_is w x y o a n e h = subst (λ (z : Outcome). RunsTo w x z) (sym e) h
 
-  pub still_where : (net m : Network ℕ) (ps rs qs : List Datum) (x y : Datum) (c : ℕ) → m ≡ net → rs ≡ ps → qs ≡ ps → IsTrue (is_still m) → AppliesWhere keys m rs x y c
+  pub still_where : (net m : Network ℕ) (ps rs qs : List Datum) (x y : Datum) (c : ℕ) → m ≡ net → rs ≡ ps → qs ≡ ps → IsTrue (is_still m)
+      → AppliesWhere keys m rs x y c
       → (w : Frozen ℕ) → StillBy w net ps → RunsWhere keys w x (still_of 0 net qs) y c
   still_where net m ps rs qs x y c e er eq i h w b =
-      still_runs keys net ps qs x y c (subst (λ z. IsTrue (is_still z)) e i) eq (subst (λ z. AppliesWhere keys z ps x y c) e (subst (λ z. AppliesWhere keys m z x y c) er h)) w b
+      still_runs keys net ps qs x y c (subst (λ z. IsTrue (is_still z)) e i) eq
+      (subst (λ z. AppliesWhere keys z ps x y c) e (subst (λ z. AppliesWhere keys m z x y c) er h)) w b
 
   pub seq_joined : (w p q : Frozen ℕ) (x i : Datum) (one two r : Outcome) → SeqBy w p q → RunsTo p x one → i ≡ one.answer → RunsTo q i two
       → IsRan r (seq_state one.state two.state) two.answer (suc (one.visits + two.visits)) → RunsTo w x r
   seq_joined w p q x i one two r k hp e hq j =
-      answers w x two.answer r j.1 (seq_runs keys p q x one.answer two.answer one.state two.state r.state one.visits two.visits r.visits j.0 hp (on q one.answer i two e hq) j.2 w k)
+      answers w x two.answer r j.1 (seq_runs keys p q x one.answer two.answer one.state two.state r.state one.visits two.visits r.visits j.0 hp
+      (on q one.answer i two e hq) j.2 w k)
 
   pub first_joined : (w p : Frozen ℕ) (x l u : Datum) (one r : Outcome) → FirstBy w p → l ≡ left x → u ≡ right x → RunsTo p l one
       → IsRan r (first_state one.state) (pair one.answer u) (suc (one.visits + 0)) → RunsTo w x r
@@ -55,56 +59,69 @@ module _ (keys : List KeyTree) where
 
   pub loop_joined : (w p : Frozen ℕ) (x u z : Datum) (one r : Outcome) → LoopBy keys w u p → z ≡ pair x u → RunsTo p z one
       → IsRan r (loop_state (right one.answer) one.state) (left one.answer) (suc (one.visits + 0)) → RunsTo w x r
-  loop_joined w p x u z one r k ez hp j = loop_runs keys p x u z one.answer r.answer (right one.answer) one.state r.state one.visits r.visits j.0 ez j.1 refl hp j.2 w k
+  loop_joined w p x u z one r k ez hp j = loop_runs keys p x u z one.answer r.answer (right one.answer) one.state r.state one.visits r.visits j.0 ez j.1 refl hp
+      j.2 w k
 
   -- what was counted before something took over, and after
   counted_over : (m n b c : ℕ) → (suc (m + 0) < 2 ^ 32 → b ≡ suc (m + 0)) → (b + n < 2 ^ 32 → c ≡ b + n) → suc (m + n) < 2 ^ 32 → c ≡ suc (m + n)
   counted_over m n b c h k l = let i : b ≡ suc (m + 0) = h (omega (arith, l)) in let j : c ≡ b + n = k (omega (arith, l, i)) in omega (arith, i, j)
 
-  pub switch_kept : (w p : Frozen ℕ) (t : Network ℕ) (s : Scope ℕ) (x : Datum) (one r : Outcome) → SwitchBy w p t s → RunsTo p x one → event_in (right one.answer) ≡ None
+  pub switch_kept : (w p : Frozen ℕ) (t : Network ℕ) (s : Scope ℕ) (x : Datum) (one r : Outcome) → SwitchBy w p t s → RunsTo p x one
+      → event_in (right one.answer) ≡ None
       → IsRan r (switch_state one.state t s) (left one.answer) (suc (one.visits + 0)) → RunsTo w x r
   switch_kept w p t s x one r k hp ev j = switch_goes keys p t s x one.answer r.answer one.state r.state one.visits r.visits j.0 j.1 hp ev j.2 w k
 
-  pub switch_over : (w p : Frozen ℕ) (t : Network ℕ) (s s' : Scope ℕ) (x u : Datum) (one over r : Outcome) (b : ℕ) → SwitchBy w p t s → RunsTo p x one → event_in (right one.answer) ≡ Some u
-      → s' ≡ push_param s u → RunsTo (unstarted t s') x over → (m : ℕ) → m ≡ one.visits → (suc (m + 0) < 2 ^ 32 → b ≡ suc (m + 0)) → IsRan r over.state over.answer (b + over.visits) → RunsTo w x r
+  pub switch_over : (w p : Frozen ℕ) (t : Network ℕ) (s s' : Scope ℕ) (x u : Datum) (one over r : Outcome) (b : ℕ) → SwitchBy w p t s → RunsTo p x one
+      → event_in (right one.answer) ≡ Some u
+      → s' ≡ push_param s u → RunsTo (unstarted t s') x over → (m : ℕ) → m ≡ one.visits → (suc (m + 0) < 2 ^ 32 → b ≡ suc (m + 0))
+      → IsRan r over.state over.answer (b + over.visits) → RunsTo w x r
   switch_over w p t s s' x u one over r b k hp ev es hq m em hb j =
       answers w x over.answer r j.1 (turned w x over.answer r over.state j.0
-      (switch_fires keys p t s s' x one.answer u over.answer one.state over.state one.visits over.visits r.visits es hp ev hq (counted_over one.visits over.visits b r.visits (subst (λ n. suc (n + 0) < 2 ^ 32 → b ≡ suc (n + 0)) em hb) j.2) w k))
+      (switch_fires keys p t s s' x one.answer u over.answer one.state over.state one.visits over.visits r.visits es hp ev hq
+      (counted_over one.visits over.visits b r.visits (subst (λ n. suc (n + 0) < 2 ^ 32 → b ≡ suc (n + 0)) em hb) j.2) w k))
 
-  pub d_switch_kept : (w p : Frozen ℕ) (t : Network ℕ) (s : Scope ℕ) (x : Datum) (one r : Outcome) → DSwitchBy w p t s → RunsTo p x one → event_in (right one.answer) ≡ None
+  pub d_switch_kept : (w p : Frozen ℕ) (t : Network ℕ) (s : Scope ℕ) (x : Datum) (one r : Outcome) → DSwitchBy w p t s → RunsTo p x one
+      → event_in (right one.answer) ≡ None
       → IsRan r (d_switch_state one.state t s) (left one.answer) (suc (one.visits + 0)) → RunsTo w x r
   d_switch_kept w p t s x one r k hp ev j = d_switch_goes keys p t s x one.answer r.answer one.state r.state one.visits r.visits j.0 j.1 hp ev j.2 w k
 
-  pub d_switch_over : (w p : Frozen ℕ) (t : Network ℕ) (s s' : Scope ℕ) (x u : Datum) (one over r : Outcome) → DSwitchBy w p t s → RunsTo p x one → event_in (right one.answer) ≡ Some u
+  pub d_switch_over : (w p : Frozen ℕ) (t : Network ℕ) (s s' : Scope ℕ) (x u : Datum) (one over r : Outcome) → DSwitchBy w p t s → RunsTo p x one
+      → event_in (right one.answer) ≡ Some u
       → s' ≡ push_param s u → RunsTo (unstarted t s') x over → IsRan r over.state (left one.answer) (suc (one.visits + over.visits)) → RunsTo w x r
   d_switch_over w p t s s' x u one over r k hp ev es hq j =
       turned w x r.answer r over.state j.0
       (d_switch_fires keys p t s s' x one.answer u over.answer r.answer one.state over.state one.visits over.visits r.visits es j.1 hp ev hq j.2 w k)
 
-  pub r_switch_kept : (w p : Frozen ℕ) (t : Network ℕ) (s : Scope ℕ) (x l : Datum) (one r : Outcome) → RSwitchBy w p t s → l ≡ left x → restart_in x ≡ None → RunsTo p l one
+  pub r_switch_kept : (w p : Frozen ℕ) (t : Network ℕ) (s : Scope ℕ) (x l : Datum) (one r : Outcome) → RSwitchBy w p t s → l ≡ left x → restart_in x ≡ None
+      → RunsTo p l one
       → IsRan r (r_switch_state one.state t s) one.answer (suc (one.visits + 0)) → RunsTo w x r
   r_switch_kept w p t s x l one r k el ev hp j =
       answers w x one.answer r j.1 (r_switch_goes keys p t s x l one.answer one.state r.state one.visits r.visits j.0 el ev hp j.2 w k)
 
-  pub r_switch_over : (w p : Frozen ℕ) (t : Network ℕ) (s s' : Scope ℕ) (x v u : Datum) (one r : Outcome) → RSwitchBy w p t s → restart_in x ≡ Some (v, u) → s' ≡ push_param s u
+  pub r_switch_over : (w p : Frozen ℕ) (t : Network ℕ) (s s' : Scope ℕ) (x v u : Datum) (one r : Outcome) → RSwitchBy w p t s → restart_in x ≡ Some (v, u) → s'
+      ≡ push_param s u
       → RunsTo (unstarted t s') v one → IsRan r (r_switch_state one.state t s) one.answer (suc (one.visits + 0)) → RunsTo w x r
   r_switch_over w p t s s' x v u one r k ev es hp j =
       answers w x one.answer r j.1 (r_switch_cuts keys p t s s' x v u one.answer one.state r.state one.visits r.visits j.0 es ev hp j.2 w k)
 
-  pub k_switch_kept : (w p q : Frozen ℕ) (t : Network ℕ) (s : Scope ℕ) (x z : Datum) (one two r : Outcome) → KSwitchBy w p q t s → RunsTo p x one → z ≡ pair x one.answer → RunsTo q z two
+  pub k_switch_kept : (w p q : Frozen ℕ) (t : Network ℕ) (s : Scope ℕ) (x z : Datum) (one two r : Outcome) → KSwitchBy w p q t s → RunsTo p x one → z
+      ≡ pair x one.answer → RunsTo q z two
       → event_in two.answer ≡ None → IsRan r (k_switch_state one.state two.state t s) one.answer (suc (one.visits + two.visits)) → RunsTo w x r
   k_switch_kept w p q t s x z one two r k hp ez hq ev j =
       answers w x one.answer r j.1
       (k_switch_goes keys p q t s x one.answer z two.answer one.state two.state r.state one.visits two.visits r.visits j.0 ez hp hq ev j.2 w k)
 
-  pub k_switch_over : (w p q : Frozen ℕ) (t : Network ℕ) (s s' : Scope ℕ) (x z u : Datum) (one two over r : Outcome) (b : ℕ) → KSwitchBy w p q t s → RunsTo p x one → z ≡ pair x one.answer → RunsTo q z two
+  pub k_switch_over : (w p q : Frozen ℕ) (t : Network ℕ) (s s' : Scope ℕ) (x z u : Datum) (one two over r : Outcome) (b : ℕ) → KSwitchBy w p q t s
+      → RunsTo p x one → z ≡ pair x one.answer → RunsTo q z two
       → event_in two.answer ≡ Some u → s' ≡ push_old (push_param s u) p → RunsTo (unstarted t s') x over → (m : ℕ) → m ≡ one.visits → (n : ℕ) → n ≡ two.visits
       → (suc (m + n) < 2 ^ 32 → b ≡ suc (m + n)) → IsRan r over.state over.answer (b + over.visits) → RunsTo w x r
   k_switch_over w p q t s s' x z u one two over r b k hp ez hq ev es ho m em n en hb j =
       answers w x over.answer r j.1 (turned w x over.answer r over.state j.0
-      (k_switch_fires keys p q t s s' x one.answer z two.answer u over.answer one.state two.state over.state one.visits two.visits over.visits b r.visits es ez hp hq ev ho
+      (k_switch_fires keys p q t s s' x one.answer z two.answer u over.answer one.state two.state over.state one.visits two.visits over.visits b r.visits es ez
+      hp hq ev ho
       (subst (λ i. suc (i + two.visits) < 2 ^ 32 → b ≡ suc (i + two.visits)) em (subst (λ i. suc (m + i) < 2 ^ 32 → b ≡ suc (m + i)) en hb)) j.2 w k))
 
-  pub old_over : (w f : Frozen ℕ) (x : Datum) (over r : Outcome) → OldBy w f → RunsTo f x over → IsRan r over.state over.answer (suc (over.visits + 0)) → RunsTo w x r
+  pub old_over : (w f : Frozen ℕ) (x : Datum) (over r : Outcome) → OldBy w f → RunsTo f x over → IsRan r over.state over.answer (suc (over.visits + 0))
+      → RunsTo w x r
   old_over w f x over r k hf j =
       answers w x over.answer r j.1 (turned w x over.answer r over.state j.0 (old_runs keys f x over.answer over.state over.visits r.visits hf j.2 w k))

@@ -34,11 +34,13 @@ append_states-none no_state = refl
 append_states-none (and_state a as') = ap (and_state a) (append_states-none as')
 
 module _ (keys : List KeyTree) where
-  each_started : (fs : Networks ℕ) (s : Scope ℕ) {h : ℕ → Datum → Datum} {x : Datum} {i : ℕ} {as' : States ℕ} {ys : List Datum} {n : ℕ} → RunsEach keys h x i (all_unstarted fs s) as' ys n → StartsEach (row_value keys) h i fs s x as' ys n
+  each_started : (fs : Networks ℕ) (s : Scope ℕ) {h : ℕ → Datum → Datum} {x : Datum} {i : ℕ} {as' : States ℕ} {ys : List Datum} {n : ℕ}
+      → RunsEach keys h x i (all_unstarted fs s) as' ys n → StartsEach (row_value keys) h i fs s x as' ys n
   each_started no_members s R.runs_none = G.start_none
   each_started (and_member f fs) s (R.runs_also r rs) = G.start_also (started keys r) (each_started fs s rs)
 
-  each_stepped : (bs : States ℕ) (d : ℕ) {h : ℕ → Datum → Datum} {x : Datum} {i : ℕ} {as' : States ℕ} {ys : List Datum} {n : ℕ} → RunsEach keys h x i (all_paused bs d) as' ys n → StepsEach (row_value keys) h i bs (d, x) as' ys n
+  each_stepped : (bs : States ℕ) (d : ℕ) {h : ℕ → Datum → Datum} {x : Datum} {i : ℕ} {as' : States ℕ} {ys : List Datum} {n : ℕ}
+      → RunsEach keys h x i (all_paused bs d) as' ys n → StepsEach (row_value keys) h i bs (d, x) as' ys n
   each_stepped no_state d R.runs_none = G.step_none
   each_stepped (and_state b bs) d (R.runs_also r rs) = G.step_also (stepped keys r) (each_stepped bs d rs)
 
@@ -57,7 +59,8 @@ module _ (keys : List KeyTree) where
   none_run h i ms x g e = subst (λ z. RunEachWhere keys h i z x g g) (sym e) (none_at h i x g)
 
   -- what is routed is what the member is handed, and typed
-  routed_is : (h : Router) (i n : ℕ) (x z : Datum) (A D : TypeTree) → HandsOut keys h A D → i < n → n ≤ 64 → HasType x A → IsRouted keys h i x z → z ≡ handed keys h i x
+  routed_is : (h : Router) (i n : ℕ) (x z : Datum) (A D : TypeTree) → HandsOut keys h A D → i < n → n ≤ 64 → HasType x A → IsRouted keys h i x z → z
+      ≡ handed keys h i x
   routed_is to_all i n x z A D hd l u t r = r
   routed_is (by_row r ps) i n x z A D hd l u t k = called_value keys r ps (pair x (int (pos i))) z k hd.1 hd.2 (pair_has t (small_number n i u l))
 
@@ -65,7 +68,8 @@ module _ (keys : List KeyTree) where
   handed_typed to_all i n x hd l u t = subst (λ X. HasType x X) hd t
   handed_typed (by_row r ps) i n x hd l u t = route_typed keys hd.1 hd.2 t u i l
 
-  also_at : (h : Router) (i j : ℕ) (p : Frozen ℕ) (ps : Frozens ℕ) (x z : Datum) (one : Outcome) (before mid now : Gathered) → IsRouted keys h i x z → RunsWhere keys p z one.state one.answer one.visits
+  also_at : (h : Router) (i j : ℕ) (p : Frozen ℕ) (ps : Frozens ℕ) (x z : Datum) (one : Outcome) (before mid now : Gathered) → IsRouted keys h i x z
+      → RunsWhere keys p z one.state one.answer one.visits
       → IsAdded before one mid → (i < 64 → j ≡ suc i) → RunEachWhere keys h j ps x mid now → RunEachWhere keys h i (and_frozen p ps) x before now
   also_at h i j p ps x z one before mid now hr hp ad ej hs zero A D B hd l tf t = elim tf [ ]
   also_at h i j p ps x z one before mid now hr hp ad ej hs (suc k) A D B hd l (T.and_frozen_typed tf tfs) t =
@@ -79,8 +83,10 @@ module _ (keys : List KeyTree) where
         states = and_state one.state rest.states;
         answers = one.answer ∷ rest.answers;
         visits = r.visits + rest.visits;
-        runs = R.runs_also (subst (λ v. Resumes (row_value keys) p v one.state one.answer r.visits) same r.resumes) (subst (λ n. RunsEach keys (handed keys h) x n ps rest.states rest.answers rest.visits) next rest.runs);
-        states_added = rest.states_added ∙ ap (λ b. append_states b rest.states) ad.0 ∙ append_states-assoc before.states (and_state one.state no_state) rest.states;
+        runs = R.runs_also (subst (λ v. Resumes (row_value keys) p v one.state one.answer r.visits) same r.resumes)
+            (subst (λ n. RunsEach keys (handed keys h) x n ps rest.states rest.answers rest.visits) next rest.runs);
+        states_added = rest.states_added ∙ ap (λ b. append_states b rest.states) ad.0
+            ∙ append_states-assoc before.states (and_state one.state no_state) rest.states;
         answers_added = rest.answers_added ∙ ap (λ b. b ++ rest.answers) ad.1 ∙ append_assoc before.answers (one.answer ∷ []) rest.answers;
         visits_added = λ b.
             let c : one.visits ≡ r.visits = r.is_count (omega (arith, b)) in
@@ -89,20 +95,26 @@ module _ (keys : List KeyTree) where
             omega (arith, a, c, e);
       }
 
-  pub also_run : (h : Router) (i j : ℕ) (ms : Frozens ℕ) (p : Frozen ℕ) (ps : Frozens ℕ) (x z : Datum) (one : Outcome) (before mid now : Gathered) → ms ≡ and_frozen p ps → IsRouted keys h i x z
-      → RunsWhere keys p z one.state one.answer one.visits → IsAdded before one mid → (i < 64 → j ≡ suc i) → RunEachWhere keys h j ps x mid now → RunEachWhere keys h i ms x before now
-  also_run h i j ms p ps x z one before mid now e hr hp ad ej hs = subst (λ fs. RunEachWhere keys h i fs x before now) (sym e) (also_at h i j p ps x z one before mid now hr hp ad ej hs)
+  pub also_run : (h : Router) (i j : ℕ) (ms : Frozens ℕ) (p : Frozen ℕ) (ps : Frozens ℕ) (x z : Datum) (one : Outcome) (before mid now : Gathered) → ms
+      ≡ and_frozen p ps → IsRouted keys h i x z
+      → RunsWhere keys p z one.state one.answer one.visits → IsAdded before one mid → (i < 64 → j ≡ suc i) → RunEachWhere keys h j ps x mid now
+      → RunEachWhere keys h i ms x before now
+  also_run h i j ms p ps x z one before mid now e hr hp ad ej hs = subst (λ fs. RunEachWhere keys h i fs x before now) (sym e)
+      (also_at h i j p ps x z one before mid now hr hp ad ej hs)
 
   -- all members, from none on
-  pub all_from_none : (h : Router) (fs : Frozens ℕ) (x : Datum) (before now : Gathered) (all : ListOutcome) → before ≡ nothing_yet → RunEachWhere keys h 0 fs x before now → IsListed now all → RunsAll keys h fs x all
+  pub all_from_none : (h : Router) (fs : Frozens ℕ) (x : Datum) (before now : Gathered) (all : ListOutcome) → before ≡ nothing_yet
+      → RunEachWhere keys h 0 fs x before now → IsListed now all → RunsAll keys h fs x all
   all_from_none h fs x before now all e r l = (now, subst (λ b. RunEachWhere keys h 0 fs x b now) e r, l)
 
   -- what a member ran on, by another name of what routes it
-  pub member_ran : (h k : Router) (i : ℕ) (w : Frozen ℕ) (x y : Datum) (one : Outcome) → k ≡ h → IsRouted keys h i x y → RunsWhere keys w y one.state one.answer one.visits → RunsMember keys k i w x one
+  pub member_ran : (h k : Router) (i : ℕ) (w : Frozen ℕ) (x y : Datum) (one : Outcome) → k ≡ h → IsRouted keys h i x y
+      → RunsWhere keys w y one.state one.answer one.visits → RunsMember keys k i w x one
   member_ran h k i w x y one e r hw = subst (λ z. RunsMember keys z i w x one) (sym e) (y, r, hw)
 
   -- the list and the states that a collection goes on with
-  listed_is : (h : ℕ → Datum → Datum) (i : ℕ) (x : Datum) (ms : Frozens ℕ) (before now : Gathered) (all : ListOutcome) → before ≡ nothing_yet → (r : RanEach keys h x i ms before now) → IsListed now all
+  listed_is : (h : ℕ → Datum → Datum) (i : ℕ) (x : Datum) (ms : Frozens ℕ) (before now : Gathered) (all : ListOutcome) → before ≡ nothing_yet
+      → (r : RanEach keys h x i ms before now) → IsListed now all
       → (all.states ≡ r.states) × (all.list ≡ list (list_of r.answers)) × (r.visits < 2 ^ 32 → all.visits ≡ r.visits)
   listed_is h i x ms before now all e r l = (
     l.0 ∙ r.states_added ∙ ap (λ (g : Gathered). append_states g.states r.states) e,
@@ -114,66 +126,91 @@ module _ (keys : List KeyTree) where
   )
 
   -- `parB`
-  pub par_joined : (w : Frozen ℕ) (ms : Frozens ℕ) (x : Datum) (before now : Gathered) (all : ListOutcome) (r : Outcome) → ParBy w ms → before ≡ nothing_yet → RunEachWhere keys to_all 0 ms x before now
+  pub par_joined : (w : Frozen ℕ) (ms : Frozens ℕ) (x : Datum) (before now : Gathered) (all : ListOutcome) (r : Outcome) → ParBy w ms → before ≡ nothing_yet
+      → RunEachWhere keys to_all 0 ms x before now
       → IsListed now all → IsRan r (par_state all.states) all.list (suc (all.visits + 0)) → RunsWhere keys w x r.state r.answer r.visits
   par_joined w ms x before now all r (R.par_new {fs = fs} {s = s}) e hs hl hr A B (T.unstarted_typed (N.par_typed {B = B'} lo hi tf _) ts) t =
       let each : RanEach keys same_input x 0 (all_unstarted fs s) before now = hs (members fs) A A B' refl (omega (arith, hi)) (unstarted_all keys tf ts) t in
       let all_is = listed_is same_input 0 x (all_unstarted fs s) before now all e each hl in
-      let go : Resumes (row_value keys) (unstarted (par fs) s) x (par_state each.states) (list (list_of each.answers)) (suc each.visits) = G.resume_unstarted (G.start_par (each_started fs s each.runs)) in
+      let go : Resumes (row_value keys) (unstarted (par fs) s) x (par_state each.states) (list (list_of each.answers)) (suc each.visits) = G.resume_unstarted
+      (G.start_par (each_started fs s each.runs)) in
       record {
         visits = suc each.visits;
         resumes = subst (λ a. Resumes (row_value keys) (unstarted (par fs) s) x a r.answer (suc each.visits)) (sym (hr.0 ∙ ap par_state all_is.0))
             (subst (λ y. Resumes (row_value keys) (unstarted (par fs) s) x (par_state each.states) y (suc each.visits)) (sym (hr.1 ∙ all_is.1)) go);
-        is_count = λ l. let i : all.visits ≡ each.visits = all_is.2 (omega (arith, l)) in let j : r.visits ≡ suc (all.visits + 0) = hr.2 (omega (arith, i, l)) in omega (arith, i, j);
+        is_count = λ l. let i : all.visits ≡ each.visits = all_is.2 (omega (arith, l)) in let j : r.visits
+            ≡ suc (all.visits + 0) = hr.2 (omega (arith, i, l)) in omega (arith, i, j);
       }
   par_joined w ms x before now all r (R.par_on {as' = as'} {d = d}) e hs hl hr A B (T.paused_typed (T.par_state_typed {n = k} {B = B'} hi tas)) t =
       let each : RanEach keys same_input x 0 (all_paused as' d) before now = hs k A A B' refl (omega (arith, hi)) (paused_all keys d tas) t in
       let all_is = listed_is same_input 0 x (all_paused as' d) before now all e each hl in
-      let go : Resumes (row_value keys) (paused (par_state as') d) x (par_state each.states) (list (list_of each.answers)) (suc each.visits) = G.resume_paused (G.step_par (each_stepped as' d each.runs)) in
+      let go : Resumes (row_value keys) (paused (par_state as') d) x (par_state each.states) (list (list_of each.answers)) (suc each.visits) = G.resume_paused
+      (G.step_par (each_stepped as' d each.runs)) in
       record {
         visits = suc each.visits;
         resumes = subst (λ a. Resumes (row_value keys) (paused (par_state as') d) x a r.answer (suc each.visits)) (sym (hr.0 ∙ ap par_state all_is.0))
             (subst (λ y. Resumes (row_value keys) (paused (par_state as') d) x (par_state each.states) y (suc each.visits)) (sym (hr.1 ∙ all_is.1)) go);
-        is_count = λ l. let i : all.visits ≡ each.visits = all_is.2 (omega (arith, l)) in let j : r.visits ≡ suc (all.visits + 0) = hr.2 (omega (arith, i, l)) in omega (arith, i, j);
+        is_count = λ l. let i : all.visits ≡ each.visits = all_is.2 (omega (arith, l)) in let j : r.visits
+            ≡ suc (all.visits + 0) = hr.2 (omega (arith, i, l)) in omega (arith, i, j);
       }
 
   -- `pSwitch` that goes on
-  pub p_switch_kept : (w : Frozen ℕ) (r : ℕ) (ps : List Datum) (ms : Frozens ℕ) (q : Frozen ℕ) (t : Network ℕ) (s : Scope ℕ) (x z : Datum) (before now : Gathered) (all : ListOutcome) (two o : Outcome)
-      → PSwitchBy w r ms q t s → ps ≡ params_of s → before ≡ nothing_yet → RunEachWhere keys (by_row r ps) 0 ms x before now → IsListed now all → z ≡ pair x all.list
+  pub p_switch_kept : (w : Frozen ℕ) (r : ℕ) (ps : List Datum) (ms : Frozens ℕ) (q : Frozen ℕ) (t : Network ℕ) (s : Scope ℕ) (x z : Datum)
+      (before now : Gathered) (all : ListOutcome) (two o : Outcome)
+      → PSwitchBy w r ms q t s → ps ≡ params_of s → before ≡ nothing_yet → RunEachWhere keys (by_row r ps) 0 ms x before now → IsListed now all → z
+      ≡ pair x all.list
       → RunsWhere keys q z two.state two.answer two.visits → event_in two.answer ≡ None
       → IsRan o (p_switch_state r all.states two.state t s) all.list (suc (all.visits + two.visits)) → RunsWhere keys w x o.state o.answer o.visits
-  p_switch_kept w r ps ms q t s x z before now all two o (R.p_switch_new {fs = fs} {e = e}) ep eb hs hl ez hq ev hr A B (T.unstarted_typed (N.p_switch_typed {Ps = Ps} {B = B'} {C = C} {D = D} lo hi _ rr tf _ te tg) ts) h =
+  p_switch_kept w r ps ms q t s x z before now all two o (R.p_switch_new {fs = fs} {e = e}) ep eb hs hl ez hq ev hr A B
+      (T.unstarted_typed (N.p_switch_typed {Ps = Ps} {B = B'} {C = C} {D = D} lo hi _ rr tf _ te tg) ts) h =
       let hd : HandsOut keys (by_row r ps) A D = (Ps, rr, subst (λ vs. TypedParams Ps vs) (sym ep) (params_typed keys ts)) in
-      let each0 : RanEach keys (route_by (row_value keys r ps)) x 0 (all_unstarted fs s) before now = hs (members fs) A D B' hd (omega (arith, hi)) (unstarted_all keys tf ts) h in
-      let each : RanEach keys (route_by (row_value keys r (params_of s))) x 0 (all_unstarted fs s) before now = subst (λ vs. RanEach keys (route_by (row_value keys r vs)) x 0 (all_unstarted fs s) before now) ep each0 in
+      let each0 : RanEach keys (route_by (row_value keys r ps)) x 0 (all_unstarted fs s) before now = hs (members fs) A D B' hd (omega (arith, hi))
+      (unstarted_all keys tf ts) h in
+      let each : RanEach keys (route_by (row_value keys r (params_of s))) x 0 (all_unstarted fs s) before now = subst
+      (λ vs. RanEach keys (route_by (row_value keys r vs)) x 0 (all_unstarted fs s) before now) ep each0 in
       let all_is = listed_is (route_by (row_value keys r (params_of s))) 0 x (all_unstarted fs s) before now all eb each hl in
-      let tl : HasType (list (list_of each.answers)) (list_ty B') = (list_has (each_starts_typed keys (each_started fs s each.runs) tf ts (λ i b. route_typed keys rr (params_typed keys ts) h hi i (omega (arith, b)))).1) in
+      let tl : HasType (list (list_of each.answers)) (list_ty B') = (list_has
+      (each_starts_typed keys (each_started fs s each.runs) tf ts (λ i b. route_typed keys rr (params_typed keys ts) h hi i (omega (arith, b)))).1) in
       let z_is : z ≡ pair x (list (list_of each.answers)) = ez ∙ ap (pair x) all_is.1 in
-      let watched : Ran keys (unstarted e s) (pair x (list (list_of each.answers))) two.state two.answer two.visits = subst (λ v. RunsWhere keys (unstarted e s) v two.state two.answer two.visits) z_is hq (pair_ty A (list_ty B')) (event_ty C) (T.unstarted_typed te ts) (pair_has h tl) in
-      let go : Resumes (row_value keys) (unstarted (p_switch r fs e t) s) x (p_switch_state r each.states two.state t s) (list (list_of each.answers)) (suc (each.visits + watched.visits)) = G.resume_unstarted (G.start_p_switch (each_started fs s each.runs) (started keys watched.resumes) ev) in
+      let watched : Ran keys (unstarted e s) (pair x (list (list_of each.answers))) two.state two.answer two.visits = subst
+      (λ v. RunsWhere keys (unstarted e s) v two.state two.answer two.visits) z_is hq (pair_ty A (list_ty B')) (event_ty C) (T.unstarted_typed te ts)
+      (pair_has h tl) in
+      let go : Resumes (row_value keys) (unstarted (p_switch r fs e t) s) x (p_switch_state r each.states two.state t s) (list (list_of each.answers))
+      (suc (each.visits + watched.visits)) = G.resume_unstarted (G.start_p_switch (each_started fs s each.runs) (started keys watched.resumes) ev) in
       record {
         visits = suc (each.visits + watched.visits);
-        resumes = subst (λ a. Resumes (row_value keys) (unstarted (p_switch r fs e t) s) x a o.answer (suc (each.visits + watched.visits))) (sym (hr.0 ∙ ap (λ bs. p_switch_state r bs two.state t s) all_is.0))
-            (subst (λ y. Resumes (row_value keys) (unstarted (p_switch r fs e t) s) x (p_switch_state r each.states two.state t s) y (suc (each.visits + watched.visits))) (sym (hr.1 ∙ all_is.1)) go);
+        resumes = subst (λ a. Resumes (row_value keys) (unstarted (p_switch r fs e t) s) x a o.answer (suc (each.visits + watched.visits)))
+            (sym (hr.0 ∙ ap (λ bs. p_switch_state r bs two.state t s) all_is.0))
+            (subst (λ y. Resumes (row_value keys) (unstarted (p_switch r fs e t) s) x (p_switch_state r each.states two.state t s) y
+            (suc (each.visits + watched.visits))) (sym (hr.1 ∙ all_is.1)) go);
         is_count = λ l.
             let i : all.visits ≡ each.visits = all_is.2 (omega (arith, l)) in
             let j : two.visits ≡ watched.visits = watched.is_count (omega (arith, l)) in
             let n : o.visits ≡ suc (all.visits + two.visits) = hr.2 (omega (arith, i, j, l)) in
             omega (arith, i, j, n);
       }
-  p_switch_kept w r ps ms q t s x z before now all two o (R.p_switch_on {as' = as'} {b = b0} {d = d}) ep eb hs hl ez hq ev hr A B (T.paused_typed (T.p_switch_state_typed {n = k} {Ps = Ps} {A = A'} {B = B'} {C = C} {D = D} hi rr tas tb ts tg)) h =
+  p_switch_kept w r ps ms q t s x z before now all two o (R.p_switch_on {as' = as'} {b = b0} {d = d}) ep eb hs hl ez hq ev hr A B
+      (T.paused_typed (T.p_switch_state_typed {n = k} {Ps = Ps} {A = A'} {B = B'} {C = C} {D = D} hi rr tas tb ts tg)) h =
       let hd : HandsOut keys (by_row r ps) A D = (Ps, rr, subst (λ vs. TypedParams Ps vs) (sym ep) (params_typed keys ts)) in
-      let each0 : RanEach keys (route_by (row_value keys r ps)) x 0 (all_paused as' d) before now = hs k A D B' hd (omega (arith, hi)) (paused_all keys d tas) h in
-      let each : RanEach keys (route_by (row_value keys r (params_of s))) x 0 (all_paused as' d) before now = subst (λ vs. RanEach keys (route_by (row_value keys r vs)) x 0 (all_paused as' d) before now) ep each0 in
+      let each0 : RanEach keys (route_by (row_value keys r ps)) x 0 (all_paused as' d) before now = hs k A D B' hd (omega (arith, hi)) (paused_all keys d tas) h
+      in
+      let each : RanEach keys (route_by (row_value keys r (params_of s))) x 0 (all_paused as' d) before now = subst
+      (λ vs. RanEach keys (route_by (row_value keys r vs)) x 0 (all_paused as' d) before now) ep each0 in
       let all_is = listed_is (route_by (row_value keys r (params_of s))) 0 x (all_paused as' d) before now all eb each hl in
-      let tl : HasType (list (list_of each.answers)) (list_ty B') = (list_has (each_steps_typed keys (each_stepped as' d each.runs) tas (λ i b. route_typed keys rr (params_typed keys ts) h hi i (omega (arith, b)))).1) in
+      let tl : HasType (list (list_of each.answers)) (list_ty B') = (list_has
+      (each_steps_typed keys (each_stepped as' d each.runs) tas (λ i b. route_typed keys rr (params_typed keys ts) h hi i (omega (arith, b)))).1) in
       let z_is : z ≡ pair x (list (list_of each.answers)) = ez ∙ ap (pair x) all_is.1 in
-      let watched : Ran keys (paused b0 d) (pair x (list (list_of each.answers))) two.state two.answer two.visits = subst (λ v. RunsWhere keys (paused b0 d) v two.state two.answer two.visits) z_is hq (pair_ty A (list_ty B')) (event_ty C) (T.paused_typed tb) (pair_has h tl) in
-      let go : Resumes (row_value keys) (paused (p_switch_state r as' b0 t s) d) x (p_switch_state r each.states two.state t s) (list (list_of each.answers)) (suc (each.visits + watched.visits)) = G.resume_paused (G.step_p_switch (each_stepped as' d each.runs) (stepped keys watched.resumes) ev) in
+      let watched : Ran keys (paused b0 d) (pair x (list (list_of each.answers))) two.state two.answer two.visits = subst
+      (λ v. RunsWhere keys (paused b0 d) v two.state two.answer two.visits) z_is hq (pair_ty A (list_ty B')) (event_ty C) (T.paused_typed tb)
+      (pair_has h tl) in
+      let go : Resumes (row_value keys) (paused (p_switch_state r as' b0 t s) d) x (p_switch_state r each.states two.state t s) (list (list_of each.answers))
+      (suc (each.visits + watched.visits)) = G.resume_paused (G.step_p_switch (each_stepped as' d each.runs) (stepped keys watched.resumes) ev) in
       record {
         visits = suc (each.visits + watched.visits);
-        resumes = subst (λ a. Resumes (row_value keys) (paused (p_switch_state r as' b0 t s) d) x a o.answer (suc (each.visits + watched.visits))) (sym (hr.0 ∙ ap (λ bs. p_switch_state r bs two.state t s) all_is.0))
-            (subst (λ y. Resumes (row_value keys) (paused (p_switch_state r as' b0 t s) d) x (p_switch_state r each.states two.state t s) y (suc (each.visits + watched.visits))) (sym (hr.1 ∙ all_is.1)) go);
+        resumes = subst (λ a. Resumes (row_value keys) (paused (p_switch_state r as' b0 t s) d) x a o.answer (suc (each.visits + watched.visits)))
+            (sym (hr.0 ∙ ap (λ bs. p_switch_state r bs two.state t s) all_is.0))
+            (subst (λ y. Resumes (row_value keys) (paused (p_switch_state r as' b0 t s) d) x (p_switch_state r each.states two.state t s) y
+            (suc (each.visits + watched.visits))) (sym (hr.1 ∙ all_is.1)) go);
         is_count = λ l.
             let i : all.visits ≡ each.visits = all_is.2 (omega (arith, l)) in
             let j : two.visits ≡ watched.visits = watched.is_count (omega (arith, l)) in
@@ -182,25 +219,40 @@ module _ (keys : List KeyTree) where
       }
 
   -- and one that is taken over from
-  pub p_switch_over : (w : Frozen ℕ) (r : ℕ) (ps : List Datum) (ms : Frozens ℕ) (q : Frozen ℕ) (t : Network ℕ) (s s' : Scope ℕ) (x z u : Datum) (before now : Gathered) (all : ListOutcome) (two over o : Outcome) (b : ℕ)
-      → PSwitchBy w r ms q t s → ps ≡ params_of s → before ≡ nothing_yet → RunEachWhere keys (by_row r ps) 0 ms x before now → IsListed now all → z ≡ pair x all.list
-      → RunsWhere keys q z two.state two.answer two.visits → event_in two.answer ≡ Some u → s' ≡ push_olds (push_param s u) ms → RunsWhere keys (unstarted t s') x over.state over.answer over.visits
-      → (m : ℕ) → m ≡ all.visits → (n : ℕ) → n ≡ two.visits → (suc (m + n) < 2 ^ 32 → b ≡ suc (m + n)) → IsRan o over.state over.answer (b + over.visits) → RunsWhere keys w x o.state o.answer o.visits
-  p_switch_over w r ps ms q t s s' x z u before now all two over o b (R.p_switch_new {fs = fs} {e = e}) ep eb hs hl ez hq ev es ho m em n en hb hr A B (T.unstarted_typed (N.p_switch_typed {Ps = Ps} {B = B'} {C = C} {D = D} lo hi _ rr tf _ te tg) ts) h =
+  pub p_switch_over : (w : Frozen ℕ) (r : ℕ) (ps : List Datum) (ms : Frozens ℕ) (q : Frozen ℕ) (t : Network ℕ) (s s' : Scope ℕ) (x z u : Datum)
+      (before now : Gathered) (all : ListOutcome) (two over o : Outcome) (b : ℕ)
+      → PSwitchBy w r ms q t s → ps ≡ params_of s → before ≡ nothing_yet → RunEachWhere keys (by_row r ps) 0 ms x before now → IsListed now all → z
+      ≡ pair x all.list
+      → RunsWhere keys q z two.state two.answer two.visits → event_in two.answer ≡ Some u → s' ≡ push_olds (push_param s u) ms
+      → RunsWhere keys (unstarted t s') x over.state over.answer over.visits
+      → (m : ℕ) → m ≡ all.visits → (n : ℕ) → n ≡ two.visits → (suc (m + n) < 2 ^ 32 → b ≡ suc (m + n)) → IsRan o over.state over.answer (b + over.visits)
+      → RunsWhere keys w x o.state o.answer o.visits
+  p_switch_over w r ps ms q t s s' x z u before now all two over o b (R.p_switch_new {fs = fs} {e = e}) ep eb hs hl ez hq ev es ho m em n en hb hr A B
+      (T.unstarted_typed (N.p_switch_typed {Ps = Ps} {B = B'} {C = C} {D = D} lo hi _ rr tf _ te tg) ts) h =
       let hd : HandsOut keys (by_row r ps) A D = (Ps, rr, subst (λ vs. TypedParams Ps vs) (sym ep) (params_typed keys ts)) in
-      let each0 : RanEach keys (route_by (row_value keys r ps)) x 0 (all_unstarted fs s) before now = hs (members fs) A D B' hd (omega (arith, hi)) (unstarted_all keys tf ts) h in
-      let each : RanEach keys (route_by (row_value keys r (params_of s))) x 0 (all_unstarted fs s) before now = subst (λ vs. RanEach keys (route_by (row_value keys r vs)) x 0 (all_unstarted fs s) before now) ep each0 in
+      let each0 : RanEach keys (route_by (row_value keys r ps)) x 0 (all_unstarted fs s) before now = hs (members fs) A D B' hd (omega (arith, hi))
+      (unstarted_all keys tf ts) h in
+      let each : RanEach keys (route_by (row_value keys r (params_of s))) x 0 (all_unstarted fs s) before now = subst
+      (λ vs. RanEach keys (route_by (row_value keys r vs)) x 0 (all_unstarted fs s) before now) ep each0 in
       let all_is = listed_is (route_by (row_value keys r (params_of s))) 0 x (all_unstarted fs s) before now all eb each hl in
-      let tl : HasType (list (list_of each.answers)) (list_ty B') = (list_has (each_starts_typed keys (each_started fs s each.runs) tf ts (λ i b. route_typed keys rr (params_typed keys ts) h hi i (omega (arith, b)))).1) in
+      let tl : HasType (list (list_of each.answers)) (list_ty B') = (list_has
+      (each_starts_typed keys (each_started fs s each.runs) tf ts (λ i b. route_typed keys rr (params_typed keys ts) h hi i (omega (arith, b)))).1) in
       let z_is : z ≡ pair x (list (list_of each.answers)) = ez ∙ ap (pair x) all_is.1 in
-      let watched : Ran keys (unstarted e s) (pair x (list (list_of each.answers))) two.state two.answer two.visits = subst (λ v. RunsWhere keys (unstarted e s) v two.state two.answer two.visits) z_is hq (pair_ty A (list_ty B')) (event_ty C) (T.unstarted_typed te ts) (pair_has h tl) in
+      let watched : Ran keys (unstarted e s) (pair x (list (list_of each.answers))) two.state two.answer two.visits = subst
+      (λ v. RunsWhere keys (unstarted e s) v two.state two.answer two.visits) z_is hq (pair_ty A (list_ty B')) (event_ty C) (T.unstarted_typed te ts)
+      (pair_has h tl) in
       let tu : HasType two.answer (event_ty C) = (resumes_typed keys watched.resumes (T.unstarted_typed te ts) (pair_has h tl)).1 in
-      let third : Ran keys (unstarted t (push_olds (push_param s u) (all_unstarted fs s))) x over.state over.answer over.visits = subst (λ v. RunsWhere keys (unstarted t v) x over.state over.answer over.visits) es ho A B (T.unstarted_typed tg (pushed_olds keys (pushed_param keys ts (event_typed tu ev)) (unstarted_all keys tf ts))) h in
-      let go : Resumes (row_value keys) (unstarted (p_switch r fs e t) s) x over.state over.answer (suc (each.visits + watched.visits) + third.visits) = G.resume_unstarted (G.fire_p_switch (each_started fs s each.runs) (started keys watched.resumes) ev (started keys third.resumes)) in
+      let third : Ran keys (unstarted t (push_olds (push_param s u) (all_unstarted fs s))) x over.state over.answer over.visits = subst
+      (λ v. RunsWhere keys (unstarted t v) x over.state over.answer over.visits) es ho A B
+      (T.unstarted_typed tg (pushed_olds keys (pushed_param keys ts (event_typed tu ev)) (unstarted_all keys tf ts))) h in
+      let go : Resumes (row_value keys) (unstarted (p_switch r fs e t) s) x over.state over.answer (suc (each.visits + watched.visits) + third.visits) =
+      G.resume_unstarted (G.fire_p_switch (each_started fs s each.runs) (started keys watched.resumes) ev (started keys third.resumes)) in
       record {
         visits = suc (each.visits + watched.visits) + third.visits;
-        resumes = subst (λ a. Resumes (row_value keys) (unstarted (p_switch r fs e t) s) x a o.answer (suc (each.visits + watched.visits) + third.visits)) (sym hr.0)
-            (subst (λ y. Resumes (row_value keys) (unstarted (p_switch r fs e t) s) x over.state y (suc (each.visits + watched.visits) + third.visits)) (sym hr.1) go);
+        resumes = subst (λ a. Resumes (row_value keys) (unstarted (p_switch r fs e t) s) x a o.answer (suc (each.visits + watched.visits) + third.visits))
+            (sym hr.0)
+            (subst (λ y. Resumes (row_value keys) (unstarted (p_switch r fs e t) s) x over.state y (suc (each.visits + watched.visits) + third.visits))
+            (sym hr.1) go);
         is_count = λ l.
             let i : all.visits ≡ each.visits = all_is.2 (omega (arith, l)) in
             let j : two.visits ≡ watched.visits = watched.is_count (omega (arith, l)) in
@@ -209,21 +261,32 @@ module _ (keys : List KeyTree) where
             let e2 : o.visits ≡ b + over.visits = hr.2 (omega (arith, i, j, k, c, em, en, l)) in
             omega (arith, i, j, k, c, e2, em, en);
       }
-  p_switch_over w r ps ms q t s s' x z u before now all two over o b (R.p_switch_on {as' = as'} {b = b0} {d = d}) ep eb hs hl ez hq ev es ho m em n en hb hr A B (T.paused_typed (T.p_switch_state_typed {n = k} {Ps = Ps} {A = A'} {B = B'} {C = C} {D = D} hi rr tas tb ts tg)) h =
+  p_switch_over w r ps ms q t s s' x z u before now all two over o b (R.p_switch_on {as' = as'} {b = b0} {d = d}) ep eb hs hl ez hq ev es ho m em n en hb hr A B
+      (T.paused_typed (T.p_switch_state_typed {n = k} {Ps = Ps} {A = A'} {B = B'} {C = C} {D = D} hi rr tas tb ts tg)) h =
       let hd : HandsOut keys (by_row r ps) A D = (Ps, rr, subst (λ vs. TypedParams Ps vs) (sym ep) (params_typed keys ts)) in
-      let each0 : RanEach keys (route_by (row_value keys r ps)) x 0 (all_paused as' d) before now = hs k A D B' hd (omega (arith, hi)) (paused_all keys d tas) h in
-      let each : RanEach keys (route_by (row_value keys r (params_of s))) x 0 (all_paused as' d) before now = subst (λ vs. RanEach keys (route_by (row_value keys r vs)) x 0 (all_paused as' d) before now) ep each0 in
+      let each0 : RanEach keys (route_by (row_value keys r ps)) x 0 (all_paused as' d) before now = hs k A D B' hd (omega (arith, hi)) (paused_all keys d tas) h
+      in
+      let each : RanEach keys (route_by (row_value keys r (params_of s))) x 0 (all_paused as' d) before now = subst
+      (λ vs. RanEach keys (route_by (row_value keys r vs)) x 0 (all_paused as' d) before now) ep each0 in
       let all_is = listed_is (route_by (row_value keys r (params_of s))) 0 x (all_paused as' d) before now all eb each hl in
-      let tl : HasType (list (list_of each.answers)) (list_ty B') = (list_has (each_steps_typed keys (each_stepped as' d each.runs) tas (λ i b. route_typed keys rr (params_typed keys ts) h hi i (omega (arith, b)))).1) in
+      let tl : HasType (list (list_of each.answers)) (list_ty B') = (list_has
+      (each_steps_typed keys (each_stepped as' d each.runs) tas (λ i b. route_typed keys rr (params_typed keys ts) h hi i (omega (arith, b)))).1) in
       let z_is : z ≡ pair x (list (list_of each.answers)) = ez ∙ ap (pair x) all_is.1 in
-      let watched : Ran keys (paused b0 d) (pair x (list (list_of each.answers))) two.state two.answer two.visits = subst (λ v. RunsWhere keys (paused b0 d) v two.state two.answer two.visits) z_is hq (pair_ty A (list_ty B')) (event_ty C) (T.paused_typed tb) (pair_has h tl) in
+      let watched : Ran keys (paused b0 d) (pair x (list (list_of each.answers))) two.state two.answer two.visits = subst
+      (λ v. RunsWhere keys (paused b0 d) v two.state two.answer two.visits) z_is hq (pair_ty A (list_ty B')) (event_ty C) (T.paused_typed tb)
+      (pair_has h tl) in
       let tu : HasType two.answer (event_ty C) = (resumes_typed keys watched.resumes (T.paused_typed tb) (pair_has h tl)).1 in
-      let third : Ran keys (unstarted t (push_olds (push_param s u) (all_paused as' d))) x over.state over.answer over.visits = subst (λ v. RunsWhere keys (unstarted t v) x over.state over.answer over.visits) es ho A B (T.unstarted_typed tg (pushed_olds keys (pushed_param keys ts (event_typed tu ev)) (paused_all keys d tas))) h in
-      let go : Resumes (row_value keys) (paused (p_switch_state r as' b0 t s) d) x over.state over.answer (suc (each.visits + watched.visits) + third.visits) = G.resume_paused (G.step_p_switch_over (each_stepped as' d each.runs) (stepped keys watched.resumes) ev (started keys third.resumes)) in
+      let third : Ran keys (unstarted t (push_olds (push_param s u) (all_paused as' d))) x over.state over.answer over.visits = subst
+      (λ v. RunsWhere keys (unstarted t v) x over.state over.answer over.visits) es ho A B
+      (T.unstarted_typed tg (pushed_olds keys (pushed_param keys ts (event_typed tu ev)) (paused_all keys d tas))) h in
+      let go : Resumes (row_value keys) (paused (p_switch_state r as' b0 t s) d) x over.state over.answer (suc (each.visits + watched.visits) + third.visits) =
+      G.resume_paused (G.step_p_switch_over (each_stepped as' d each.runs) (stepped keys watched.resumes) ev (started keys third.resumes)) in
       record {
         visits = suc (each.visits + watched.visits) + third.visits;
-        resumes = subst (λ a. Resumes (row_value keys) (paused (p_switch_state r as' b0 t s) d) x a o.answer (suc (each.visits + watched.visits) + third.visits)) (sym hr.0)
-            (subst (λ y. Resumes (row_value keys) (paused (p_switch_state r as' b0 t s) d) x over.state y (suc (each.visits + watched.visits) + third.visits)) (sym hr.1) go);
+        resumes = subst (λ a. Resumes (row_value keys) (paused (p_switch_state r as' b0 t s) d) x a o.answer
+            (suc (each.visits + watched.visits) + third.visits)) (sym hr.0)
+            (subst (λ y. Resumes (row_value keys) (paused (p_switch_state r as' b0 t s) d) x over.state y (suc (each.visits + watched.visits) + third.visits))
+            (sym hr.1) go);
         is_count = λ l.
             let i : all.visits ≡ each.visits = all_is.2 (omega (arith, l)) in
             let j : two.visits ≡ watched.visits = watched.is_count (omega (arith, l)) in

@@ -19,7 +19,8 @@ pub added_states : (now all : List CodeState) (a : CodeState) (bs : States ℕ) 
 added_states now all a bs b e h k = ap states_of e ∙ states-append all (a ∷ []) ∙ ap₂ (λ x y. append_states x (and_state y no_state)) h k
 
 -- one answer more
-pub added_answers : (now all : List Sample) (a : Sample) (vs : List Datum) (v : Datum) → now ≡ all ++ a ∷ [] → map datum_of all ≡ vs → datum_of a ≡ v → map datum_of now ≡ vs ++ v ∷ []
+pub added_answers : (now all : List Sample) (a : Sample) (vs : List Datum) (v : Datum) → now ≡ all ++ a ∷ [] → map datum_of all ≡ vs → datum_of a ≡ v
+    → map datum_of now ≡ vs ++ v ∷ []
 added_answers now all a vs v e h k = ap (map datum_of) e ∙ map_push datum_of all a ∙ ap₂ (λ x y. x ++ y ∷ []) h k
 
 -- and its visits

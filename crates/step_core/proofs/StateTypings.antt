@@ -51,37 +51,47 @@ counted_down : {A : TypeTree} (d : ℕ) (is : List (ℕ × Datum)) → TypedSamp
 counted_down d is no_sample = no_sample
 counted_down d is (and_sample {xs = is'} h hs) = and_sample h (counted_down d is' hs)
 
-due_typed : {A : TypeTree} (d : ℕ) (out : Datum) (is : List (ℕ × Datum)) → HasType out A → TypedSamples A is → HasType (due d out is).0 A × TypedSamples A (due d out is).1
+due_typed : {A : TypeTree} (d : ℕ) (out : Datum) (is : List (ℕ × Datum)) → HasType out A → TypedSamples A is → HasType (due d out is).0 A
+    × TypedSamples A (due d out is).1
 due_typed d out is h no_sample = (h, no_sample)
 due_typed {A = A} d out is h (and_sample {x = i} {xs = is'} k ks) =
-    chosen (λ (r : Datum × List (ℕ × Datum)). HasType r.0 A × TypedSamples A r.1) (nat_le i.0 d) (due_typed d i.1 is' k ks) (h, counted_down d (i ∷ is') (and_sample k ks))
+    chosen (λ (r : Datum × List (ℕ × Datum)). HasType r.0 A × TypedSamples A r.1) (nat_le i.0 d) (due_typed d i.1 is' k ks)
+    (h, counted_down d (i ∷ is') (and_sample k ks))
 
-pub after_cell_typed : {A C : TypeTree} (q : ℕ) (c : Datum) → HasType c C → CellTyped (after_cell q c).0 A (event_ty C) × HasType (after_cell q c).1 (event_ty C)
-after_cell_typed {A} {C} q c h = chosen (λ (r : Cell × Datum). CellTyped r.0 A (event_ty C) × HasType r.1 (event_ty C)) (nat_le q 0) (over_typed, event_has h) (waiting_typed h, no_event_has)
+pub after_cell_typed : {A C : TypeTree} (q : ℕ) (c : Datum) → HasType c C → CellTyped (after_cell q c).0 A (event_ty C)
+    × HasType (after_cell q c).1 (event_ty C)
+after_cell_typed {A} {C} q c h = chosen (λ (r : Cell × Datum). CellTyped r.0 A (event_ty C) × HasType r.1 (event_ty C)) (nat_le q 0) (over_typed, event_has h)
+    (waiting_typed h, no_event_has)
 
-pub cell_step_typed : {k : Cell} {A B : TypeTree} (x : ℕ × Datum) → CellTyped k A B → HasType x.1 A → CellTyped (cell_step k x).0 A B × HasType (cell_step k x).1 B
+pub cell_step_typed : {k : Cell} {A B : TypeTree} (x : ℕ × Datum) → CellTyped k A B → HasType x.1 A → CellTyped (cell_step k x).0 A B
+    × HasType (cell_step k x).1 B
 cell_step_typed x (previous_typed h) j = (previous_typed j, h)
 cell_step_typed x (queue_typed {out = out} {is = is} h hs) j =
     let r = due_typed x.0 out is h hs in
     (queue_typed r.0 (samples_append _ _ r.1 (and_sample j no_sample)), r.0)
 cell_step_typed x (latest_typed {v = v} h) j = let k = typed_latest_event v (x.1 ∷ []) h (and_value j no_value) in (latest_typed k, k)
-cell_step_typed x (accumulating_typed {v = v} h) j = let k = typed_latest_event v (x.1 ∷ []) h (and_value j no_value) in (accumulating_typed k, typed_if_event x.1 _ j k)
+cell_step_typed x (accumulating_typed {v = v} h) j = let k = typed_latest_event v (x.1 ∷ []) h (and_value j no_value) in
+    (accumulating_typed k, typed_if_event x.1 _ j k)
 cell_step_typed x (waiting_typed {left = left} {A = A} {C = C} h) j =
-    chosen (λ (r : Cell × Datum). CellTyped r.0 A (event_ty C) × HasType r.1 (event_ty C)) (nat_le left x.0) (over_typed, event_has h) (waiting_typed h, no_event_has)
+    chosen (λ (r : Cell × Datum). CellTyped r.0 A (event_ty C) × HasType r.1 (event_ty C)) (nat_le left x.0) (over_typed, event_has h)
+    (waiting_typed h, no_event_has)
 cell_step_typed x over_typed j = (over_typed, no_event_has)
 cell_step_typed x (recurring_typed {left = left} {A = A} {C = C} l h) j =
-    chosen (λ (r : Cell × Datum). CellTyped r.0 A (event_ty C) × HasType r.1 (event_ty C)) (nat_le left x.0) (recurring_typed l h, event_has h) (recurring_typed l h, no_event_has)
+    chosen (λ (r : Cell × Datum). CellTyped r.0 A (event_ty C) × HasType r.1 (event_ty C)) (nat_le left x.0) (recurring_typed l h, event_has h)
+    (recurring_typed l h, no_event_has)
 cell_step_typed x ticking_typed j = (ticking_typed, typed_wrapped _)
 cell_step_typed x summing_typed j = (summing_typed, typed_wrapped _)
 
 module _ (keys : List KeyTree) where
   -- the rows of a table have typed values
-  pub row_typed : {k : ℕ} {Ps : List TypeTree} {A B : TypeTree} {ps : List Datum} {x : Datum} → RowTyped keys k Ps A B → TypedParams Ps ps → HasType x A → HasType (row_value keys k ps x) B
+  pub row_typed : {k : ℕ} {Ps : List TypeTree} {A B : TypeTree} {ps : List Datum} {x : Datum} → RowTyped keys k Ps A B → TypedParams Ps ps → HasType x A
+      → HasType (row_value keys k ps x) B
   row_typed {Ps = Ps} {A = A} {B = B} {ps = ps} {x = x} r h j =
       subst (λ o. HasType (value_of (expression_in o) ps x) B) (sym r.is_row) (typed_value r.expr Ps A B r.is_typed ps x h j)
 
   -- what is routed to a member
-  pub route_typed : {r n : ℕ} {Ps : List TypeTree} {A D : TypeTree} {ps : List Datum} {v : Datum} → RowTyped keys r Ps (pair_ty A int_ty) D → TypedParams Ps ps → HasType v A → n ≤ 64 → (j : ℕ) → j < n → HasType (route_by (row_value keys r ps) j v) D
+  pub route_typed : {r n : ℕ} {Ps : List TypeTree} {A D : TypeTree} {ps : List Datum} {v : Datum} → RowTyped keys r Ps (pair_ty A int_ty) D → TypedParams Ps ps
+      → HasType v A → n ≤ 64 → (j : ℕ) → j < n → HasType (route_by (row_value keys r ps) j v) D
   route_typed {n = n} r h k l j i = row_typed r h (pair_has k (small_number n j l i))
 
   -- Scopes.
@@ -94,17 +104,21 @@ module _ (keys : List KeyTree) where
   pub frozens_typed : {s : Scope ℕ} {Ps : List TypeTree} {Os : List Arrow} → ScopeTyped keys s Ps Os → FrozensTyped keys (frozens_of s) Os
   frozens_typed (scope_typed h hs) = hs
 
-  append_typed : {fs gs : Frozens ℕ} {Os Qs : List Arrow} → FrozensTyped keys fs Os → FrozensTyped keys gs Qs → FrozensTyped keys (append_frozens fs gs) (Os ++ Qs)
+  append_typed : {fs gs : Frozens ℕ} {Os Qs : List Arrow} → FrozensTyped keys fs Os → FrozensTyped keys gs Qs
+      → FrozensTyped keys (append_frozens fs gs) (Os ++ Qs)
   append_typed no_frozen_typed k = k
   append_typed (and_frozen_typed h hs) k = and_frozen_typed h (append_typed hs k)
 
-  pub pushed_param : {s : Scope ℕ} {c : Datum} {Ps : List TypeTree} {Os : List Arrow} {C : TypeTree} → ScopeTyped keys s Ps Os → HasType c C → ScopeTyped keys (push_param s c) (Ps ++ C ∷ []) Os
+  pub pushed_param : {s : Scope ℕ} {c : Datum} {Ps : List TypeTree} {Os : List Arrow} {C : TypeTree} → ScopeTyped keys s Ps Os → HasType c C
+      → ScopeTyped keys (push_param s c) (Ps ++ C ∷ []) Os
   pushed_param {c = c} {Ps = Ps} {C = C} (scope_typed {ps = ps} h hs) k = scope_typed (TypedParams-append Ps (C ∷ []) ps (c ∷ []) h (and_param k no_params)) hs
 
-  pub pushed_olds : {s : Scope ℕ} {gs : Frozens ℕ} {Ps : List TypeTree} {Os Qs : List Arrow} → ScopeTyped keys s Ps Os → FrozensTyped keys gs Qs → ScopeTyped keys (push_olds s gs) Ps (Os ++ Qs)
+  pub pushed_olds : {s : Scope ℕ} {gs : Frozens ℕ} {Ps : List TypeTree} {Os Qs : List Arrow} → ScopeTyped keys s Ps Os → FrozensTyped keys gs Qs
+      → ScopeTyped keys (push_olds s gs) Ps (Os ++ Qs)
   pushed_olds (scope_typed h hs) k = scope_typed h (append_typed hs k)
 
-  pub unstarted_all : {fs : Networks ℕ} {s : Scope ℕ} {Ps : List TypeTree} {Os : List Arrow} {A B : TypeTree} → AllTyped (RowTyped keys) AnyType Ps Os fs A B → ScopeTyped keys s Ps Os → FrozensTyped keys (all_unstarted fs s) (copies (members fs) (arrow A B))
+  pub unstarted_all : {fs : Networks ℕ} {s : Scope ℕ} {Ps : List TypeTree} {Os : List Arrow} {A B : TypeTree} → AllTyped (RowTyped keys) AnyType Ps Os fs A B
+      → ScopeTyped keys s Ps Os → FrozensTyped keys (all_unstarted fs s) (copies (members fs) (arrow A B))
   unstarted_all T.no_members_typed h = no_frozen_typed
   unstarted_all (T.and_member_typed k ks) h = and_frozen_typed (unstarted_typed k h) (unstarted_all ks h)
 
@@ -113,12 +127,14 @@ module _ (keys : List KeyTree) where
   paused_all d (and_state_typed h hs) = and_frozen_typed (paused_typed h) (paused_all d hs)
 
   -- the frozen network k is there, and typed as it is said to be
-  pub old_there : {fs : Frozens ℕ} {Os : List Arrow} {k : ℕ} {o : Arrow} → FrozensTyped keys fs Os → OldAt Os k o → (f : Frozen ℕ) × (frozen_at fs k ≡ Some f) × FrozenTyped keys f o.input o.output
+  pub old_there : {fs : Frozens ℕ} {Os : List Arrow} {k : ℕ} {o : Arrow} → FrozensTyped keys fs Os → OldAt Os k o → (f : Frozen ℕ) × (frozen_at fs k ≡ Some f)
+      × FrozenTyped keys f o.input o.output
   old_there no_frozen_typed i = elim i [ ]
   old_there (and_frozen_typed {f = f} h hs) old_here = (f, refl, h)
   old_there (and_frozen_typed h hs) (old_after i) = old_there hs i
 
-  pub old_typed : {s : Scope ℕ} {Ps : List TypeTree} {Os : List Arrow} {k : ℕ} {o : Arrow} {f : Frozen ℕ} → ScopeTyped keys s Ps Os → OldAt Os k o → frozen_at (frozens_of s) k ≡ Some f → FrozenTyped keys f o.input o.output
+  pub old_typed : {s : Scope ℕ} {Ps : List TypeTree} {Os : List Arrow} {k : ℕ} {o : Arrow} {f : Frozen ℕ} → ScopeTyped keys s Ps Os → OldAt Os k o
+      → frozen_at (frozens_of s) k ≡ Some f → FrozenTyped keys f o.input o.output
   old_typed {o = o} {f = f} h i e =
       let r = old_there (frozens_typed h) i in
       let same : r.0 ≡ f = cc in
@@ -127,7 +143,8 @@ module _ (keys : List KeyTree) where
   mutual
     -- what starts in a typed scope on a typed sample
     pub starts_typed : {net : Network ℕ} {s : Scope ℕ} {x : Datum} {a : State ℕ} {y : Datum} {n : ℕ} {Ps : List TypeTree} {Os : List Arrow} {A B : TypeTree} →
-        Starts (row_value keys) net s x a y n → Typed (RowTyped keys) AnyType Ps Os net A B → ScopeTyped keys s Ps Os → HasType x A → StateTyped keys a A B × HasType y B
+        Starts (row_value keys) net s x a y n → Typed (RowTyped keys) AnyType Ps Os net A B → ScopeTyped keys s Ps Os → HasType x A → StateTyped keys a A B
+        × HasType y B
     starts_typed G.start_arr (T.arr_typed r) h j = (arr_state_typed (params_typed h) r, row_typed r (params_typed h) j)
     starts_typed (G.start_seq kf kg) (T.seq_typed f g) h j =
         let one = starts_typed kf f h j in
@@ -150,12 +167,17 @@ module _ (keys : List KeyTree) where
         let v = typed_latest_event _ (x ∷ []) (row_typed r (params_typed h) unit_has) (and_value j no_value) in
         (cell_state_typed (latest_typed v), v)
     starts_typed (G.start_accum {x = x} {acc = acc} e) (T.accum_typed {Z = Z} r _ g _) h j =
-        let v : HasType acc Z = subst (λ w. HasType w Z) (sym e) (typed_fold_events _ _ (x ∷ []) (λ w k. row_typed g (params_typed h) k) (row_typed r (params_typed h) unit_has) (and_value j no_value)) in
+        let v : HasType acc Z = subst (λ w. HasType w Z) (sym e) (typed_fold_events _ _ (x ∷ []) (λ w k. row_typed g (params_typed h) k)
+        (row_typed r (params_typed h) unit_has) (and_value j no_value)) in
         (accum_state_typed (params_typed h) g v, typed_if_event x acc j v)
     starts_typed (G.start_after {q = q} e) (T.after_typed {A = A} {C = C} l r _) h j =
-        let v = subst (λ (o : Cell × Datum). CellTyped o.0 A (event_ty C) × HasType o.1 (event_ty C)) e (after_cell_typed q _ (row_typed r (params_typed h) unit_has)) in
+        let v = subst (λ (o : Cell × Datum). CellTyped o.0 A (event_ty C) × HasType o.1 (event_ty C)) e
+        (after_cell_typed q _ (row_typed r (params_typed h) unit_has)) in
         (cell_state_typed v.0, v.1)
-    starts_typed G.start_repeatedly (T.repeatedly_typed l u r _) h j = (cell_state_typed (recurring_typed l (row_typed r (params_typed h) unit_has)), no_event_has)
+    starts_typed G.start_repeatedly (T.repeatedly_typed l u r _) h j = (
+      cell_state_typed (recurring_typed l (row_typed r (params_typed h) unit_has)),
+      no_event_has,
+    )
     starts_typed G.start_time T.time_typed h j = (cell_state_typed ticking_typed, zero_typed)
     starts_typed G.start_integral T.integral_typed h j = (cell_state_typed summing_typed, zero_typed)
     starts_typed (G.start_switch kf e) (T.switch_typed f t) h j =
@@ -197,8 +219,10 @@ module _ (keys : List KeyTree) where
     starts_typed (G.start_old e kr) (T.old_typed i) h j = resumes_typed kr (old_typed h i e) j
 
     -- the members from i on that start, each on a typed sample
-    pub each_starts_typed : {g : ℕ → Datum → Datum} {i : ℕ} {fs : Networks ℕ} {s : Scope ℕ} {x : Datum} {as' : States ℕ} {ys : List Datum} {n : ℕ} {Ps : List TypeTree} {Os : List Arrow} {D B : TypeTree} →
-        StartsEach (row_value keys) g i fs s x as' ys n → AllTyped (RowTyped keys) AnyType Ps Os fs D B → ScopeTyped keys s Ps Os → ((j : ℕ) → j < i + members fs → HasType (g j x) D) → StatesTyped keys as' (members fs) D B × HaveType (list_of ys) B
+    pub each_starts_typed : {g : ℕ → Datum → Datum} {i : ℕ} {fs : Networks ℕ} {s : Scope ℕ} {x : Datum} {as' : States ℕ} {ys : List Datum} {n : ℕ}
+        {Ps : List TypeTree} {Os : List Arrow} {D B : TypeTree} →
+        StartsEach (row_value keys) g i fs s x as' ys n → AllTyped (RowTyped keys) AnyType Ps Os fs D B → ScopeTyped keys s Ps Os
+        → ((j : ℕ) → j < i + members fs → HasType (g j x) D) → StatesTyped keys as' (members fs) D B × HaveType (list_of ys) B
     each_starts_typed G.start_none T.no_members_typed h js = (no_state_typed, end_has)
     each_starts_typed (G.start_also {i = i} kf ks) (T.and_member_typed f fs) h js =
         let one = starts_typed kf f h (js i (omega arith)) in
@@ -206,12 +230,14 @@ module _ (keys : List KeyTree) where
         (and_state_typed one.0 all.0, more_has one.1 all.1)
 
     -- what a typed frozen network resumes as
-    pub resumes_typed : {f : Frozen ℕ} {x : Datum} {a : State ℕ} {y : Datum} {n : ℕ} {A B : TypeTree} → Resumes (row_value keys) f x a y n → FrozenTyped keys f A B → HasType x A → StateTyped keys a A B × HasType y B
+    pub resumes_typed : {f : Frozen ℕ} {x : Datum} {a : State ℕ} {y : Datum} {n : ℕ} {A B : TypeTree} → Resumes (row_value keys) f x a y n
+        → FrozenTyped keys f A B → HasType x A → StateTyped keys a A B × HasType y B
     resumes_typed (G.resume_unstarted k) (unstarted_typed f h) j = starts_typed k f h j
     resumes_typed (G.resume_paused k) (paused_typed h) j = steps_typed k h j
 
     -- what steps from a typed state by a typed sample
-    pub steps_typed : {a b : State ℕ} {x : ℕ × Datum} {y : Datum} {n : ℕ} {A B : TypeTree} → Steps (row_value keys) a x b y n → StateTyped keys a A B → HasType x.1 A → StateTyped keys b A B × HasType y B
+    pub steps_typed : {a b : State ℕ} {x : ℕ × Datum} {y : Datum} {n : ℕ} {A B : TypeTree} → Steps (row_value keys) a x b y n → StateTyped keys a A B
+        → HasType x.1 A → StateTyped keys b A B × HasType y B
     steps_typed G.step_arr (arr_state_typed h r) j = (arr_state_typed h r, row_typed r h j)
     steps_typed (G.step_seq ka kb) (seq_state_typed a b) j =
         let one = steps_typed ka a j in
@@ -271,7 +297,8 @@ module _ (keys : List KeyTree) where
 
     -- the members from i on that step, each by a typed sample
     pub each_steps_typed : {g : ℕ → Datum → Datum} {i : ℕ} {as' : States ℕ} {x : ℕ × Datum} {bs : States ℕ} {ys : List Datum} {n m : ℕ} {D B : TypeTree} →
-        StepsEach (row_value keys) g i as' x bs ys n → StatesTyped keys as' m D B → ((j : ℕ) → j < i + m → HasType (g j x.1) D) → StatesTyped keys bs m D B × HaveType (list_of ys) B
+        StepsEach (row_value keys) g i as' x bs ys n → StatesTyped keys as' m D B → ((j : ℕ) → j < i + m → HasType (g j x.1) D) → StatesTyped keys bs m D B
+        × HaveType (list_of ys) B
     each_steps_typed G.step_none no_state_typed js = (no_state_typed, end_has)
     each_steps_typed (G.step_also {i = i} ka ks) (and_state_typed a as') js =
         let one = steps_typed ka a (js i (omega arith)) in

@@ -18,21 +18,24 @@ use Rattle.step_core.specs.Stepping.{Resumes}
 use Rattle.step_core.specs.StateTyping.{FrozenTyped, FrozensTyped, row_value}
 
 -- from f the sample x leads to the state a, y is answered, and so many nodes are visited
-pub record Ran (keys : List KeyTree) (f : Frozen ℕ) (x : Datum) (a : State ℕ) (y : Datum) (counted : ℕ) : Type 0 where
+pub record Ran (keys : List KeyTree) (f : Frozen ℕ) (x : Datum) (a : State ℕ) (y : Datum)
+    (counted : ℕ) : Type 0 where
   pub visits : ℕ
   pub resumes : Resumes (row_value keys) f x a y visits
   pub is_count : visits < 2 ^ 32 → counted ≡ visits
 
 -- the same wherever it is typed
 abbrev pub RunsWhere : List KeyTree → Frozen ℕ → Datum → State ℕ → Datum → ℕ → Type 0
-RunsWhere keys f x a y n = (A B : TypeTree) → FrozenTyped keys f A B → HasType x A → Ran keys f x a y n
+RunsWhere keys f x a y n = (A B : TypeTree) → FrozenTyped keys f A B → HasType x A
+    → Ran keys f x a y n
 
--- Each of the following: the int_of runs by these parts, before its first sample or after.
+-- Each of the following: what runs goes by these parts, before its first sample or after.
 
--- what keeps empty_scope runs by itself
+-- what keeps nothing runs by itself
 pub data StillBy : Frozen ℕ → Network ℕ → List Datum → Type 0 where
   still_new : {net : Network ℕ} {s : Scope ℕ} → StillBy (unstarted net s) net (params_of s)
-  still_on : {net : Network ℕ} {ps : List Datum} {d : ℕ} → StillBy (paused (still_of 0 net ps) d) net ps
+  still_on : {net : Network ℕ} {ps : List Datum} {d : ℕ}
+      → StillBy (paused (still_of 0 net ps) d) net ps
 
 -- a cell's start by its form, the row of its constant, if it has one, and the parameters
 pub data StartBy : Frozen ℕ → Form → Option ℕ → List Datum → Type 0 where
@@ -63,7 +66,8 @@ pub data AccumBy : Frozen ℕ → ℕ → List Datum → Datum → Type 0 where
 
 -- `>>>` by its two parts
 pub data SeqBy : Frozen ℕ → Frozen ℕ → Frozen ℕ → Type 0 where
-  seq_new : {f g : Network ℕ} {s : Scope ℕ} → SeqBy (unstarted (seq f g) s) (unstarted f s) (unstarted g s)
+  seq_new : {f g : Network ℕ} {s : Scope ℕ} → SeqBy (unstarted (seq f g) s) (unstarted f s)
+      (unstarted g s)
   seq_on : {a b : State ℕ} {d : ℕ} → SeqBy (paused (seq_state a b) d) (paused a d) (paused b d)
 
 -- `first` by its part
@@ -78,32 +82,43 @@ pub data ParBy : Frozen ℕ → Frozens ℕ → Type 0 where
 
 -- `loopPre` by what is fed back and its part
 pub data LoopBy (keys : List KeyTree) : Frozen ℕ → Datum → Frozen ℕ → Type 0 where
-  loop_new : {c : ℕ} {f : Network ℕ} {s : Scope ℕ} {u : Datum} → Called keys c (params_of s) unit u → LoopBy keys (unstarted (loop_pre c f) s) u (unstarted f s)
-  loop_on : {u : Datum} {a : State ℕ} {d : ℕ} → LoopBy keys (paused (loop_state u a) d) u (paused a d)
+  loop_new : {c : ℕ} {f : Network ℕ} {s : Scope ℕ} {u : Datum} → Called keys c (params_of s) unit u
+      → LoopBy keys (unstarted (loop_pre c f) s) u (unstarted f s)
+  loop_on : {u : Datum} {a : State ℕ} {d : ℕ} → LoopBy keys (paused (loop_state u a) d) u
+      (paused a d)
 
 -- `switch` by its part, the network that takes over and its scope
 pub data SwitchBy : Frozen ℕ → Frozen ℕ → Network ℕ → Scope ℕ → Type 0 where
-  switch_new : {f t : Network ℕ} {s : Scope ℕ} → SwitchBy (unstarted (switch f t) s) (unstarted f s) t s
-  switch_on : {a : State ℕ} {t : Network ℕ} {s : Scope ℕ} {d : ℕ} → SwitchBy (paused (switch_state a t s) d) (paused a d) t s
+  switch_new : {f t : Network ℕ} {s : Scope ℕ}
+      → SwitchBy (unstarted (switch f t) s) (unstarted f s) t s
+  switch_on : {a : State ℕ} {t : Network ℕ} {s : Scope ℕ} {d : ℕ}
+      → SwitchBy (paused (switch_state a t s) d) (paused a d) t s
 
 -- `dSwitch` likewise
 pub data DSwitchBy : Frozen ℕ → Frozen ℕ → Network ℕ → Scope ℕ → Type 0 where
-  d_switch_new : {f t : Network ℕ} {s : Scope ℕ} → DSwitchBy (unstarted (d_switch f t) s) (unstarted f s) t s
-  d_switch_on : {a : State ℕ} {t : Network ℕ} {s : Scope ℕ} {d : ℕ} → DSwitchBy (paused (d_switch_state a t s) d) (paused a d) t s
+  d_switch_new : {f t : Network ℕ} {s : Scope ℕ}
+      → DSwitchBy (unstarted (d_switch f t) s) (unstarted f s) t s
+  d_switch_on : {a : State ℕ} {t : Network ℕ} {s : Scope ℕ} {d : ℕ}
+      → DSwitchBy (paused (d_switch_state a t s) d) (paused a d) t s
 
 -- `rSwitch` likewise
 pub data RSwitchBy : Frozen ℕ → Frozen ℕ → Network ℕ → Scope ℕ → Type 0 where
-  r_switch_new : {f t : Network ℕ} {s : Scope ℕ} → RSwitchBy (unstarted (r_switch f t) s) (unstarted f s) t s
-  r_switch_on : {a : State ℕ} {t : Network ℕ} {s : Scope ℕ} {d : ℕ} → RSwitchBy (paused (r_switch_state a t s) d) (paused a d) t s
+  r_switch_new : {f t : Network ℕ} {s : Scope ℕ}
+      → RSwitchBy (unstarted (r_switch f t) s) (unstarted f s) t s
+  r_switch_on : {a : State ℕ} {t : Network ℕ} {s : Scope ℕ} {d : ℕ}
+      → RSwitchBy (paused (r_switch_state a t s) d) (paused a d) t s
 
 -- `kSwitch` by its part, the one that watches it, the network that takes over and its scope
 pub data KSwitchBy : Frozen ℕ → Frozen ℕ → Frozen ℕ → Network ℕ → Scope ℕ → Type 0 where
-  k_switch_new : {f e t : Network ℕ} {s : Scope ℕ} → KSwitchBy (unstarted (k_switch f e t) s) (unstarted f s) (unstarted e s) t s
-  k_switch_on : {a b : State ℕ} {t : Network ℕ} {s : Scope ℕ} {d : ℕ} → KSwitchBy (paused (k_switch_state a b t s) d) (paused a d) (paused b d) t s
+  k_switch_new : {f e t : Network ℕ} {s : Scope ℕ}
+      → KSwitchBy (unstarted (k_switch f e t) s) (unstarted f s) (unstarted e s) t s
+  k_switch_on : {a b : State ℕ} {t : Network ℕ} {s : Scope ℕ} {d : ℕ}
+      → KSwitchBy (paused (k_switch_state a b t s) d) (paused a d) (paused b d) t s
 
 -- `old` by the frozen network that it resumes
 pub data OldBy : Frozen ℕ → Frozen ℕ → Type 0 where
-  old_new : {k : ℕ} {s : Scope ℕ} {f : Frozen ℕ} → frozen_at (frozens_of s) k ≡ Some f → OldBy (unstarted (old k) s) f
+  old_new : {k : ℕ} {s : Scope ℕ} {f : Frozen ℕ} → frozen_at (frozens_of s) k ≡ Some f
+      → OldBy (unstarted (old k) s) f
 
 -- `pSwitch` by the row that routes and the parameters, its members, the part that watches them, the
 -- network that takes over and its scope
@@ -114,10 +129,13 @@ pub data PSwitchBy : Frozen ℕ → ℕ → Frozens ℕ → Frozen ℕ → Netwo
       → PSwitchBy (paused (p_switch_state r as' b t s) d) r (all_paused as' d) (paused b d) t s
 
 -- members from i on, each on what it gets
-pub data RunsEach (keys : List KeyTree) (h : ℕ → Datum → Datum) (x : Datum) : ℕ → Frozens ℕ → States ℕ → List Datum → ℕ → Type 0 where
+pub data RunsEach (keys : List KeyTree) (h : ℕ → Datum → Datum) (x : Datum) : ℕ → Frozens ℕ
+    → States ℕ → List Datum → ℕ → Type 0 where
   runs_none : {i : ℕ} → RunsEach keys h x i no_frozen no_state [] 0
-  runs_also : {i : ℕ} {f : Frozen ℕ} {fs : Frozens ℕ} {a : State ℕ} {as' : States ℕ} {y : Datum} {ys : List Datum} {m n : ℕ} →
-      Resumes (row_value keys) f (h i x) a y m → RunsEach keys h x (suc i) fs as' ys n → RunsEach keys h x i (and_frozen f fs) (and_state a as') (y ∷ ys) (m + n)
+  runs_also : {i : ℕ} {f : Frozen ℕ} {fs : Frozens ℕ} {a : State ℕ} {as' : States ℕ} {y : Datum}
+      {ys : List Datum} {m n : ℕ} →
+      Resumes (row_value keys) f (h i x) a y m → RunsEach keys h x (suc i) fs as' ys n
+      → RunsEach keys h x i (and_frozen f fs) (and_state a as') (y ∷ ys) (m + n)
 
 -- what members led to: their states, their answers and how many nodes they visited
 pub record Gathered : Type 0 where
@@ -126,7 +144,8 @@ pub record Gathered : Type 0 where
   pub visits : ℕ
 
 -- what the members led to was added
-pub record RanEach (keys : List KeyTree) (h : ℕ → Datum → Datum) (x : Datum) (i : ℕ) (fs : Frozens ℕ)
+pub record RanEach (keys : List KeyTree) (h : ℕ → Datum → Datum) (x : Datum) (i : ℕ)
+    (fs : Frozens ℕ)
     (before now : Gathered) : Type 0 where
   pub states : States ℕ
   pub answers : List Datum

@@ -17,5 +17,6 @@ source_of (S.State a) d = paused (state_of a.now) d
 
 -- the same of members
 abbrev pub sources_of : Sources → ℕ → Frozens ℕ
-sources_of (M.Nets fs s) d = all_unstarted (map_networks row_number (members_of fs.now)) (scope_of s.now)
+sources_of (M.Nets fs s) d = all_unstarted (map_networks row_number (members_of fs.now))
+    (scope_of s.now)
 sources_of (M.States as') d = all_paused (states_of as'.now) d

@@ -1,4 +1,4 @@
-// Networks that keep empty_scope.
+// Networks that keep nothing.
 
 ghost use Rattle.std.specs.Prelude.{◌≡◌, ◌++◌, IfOk, map};
 ghost use Rattle.sample_core.specs.ValueView.{datum_of};
@@ -16,7 +16,7 @@ use sample_core::{Memory, Sample};
 use state_core::gather;
 use std::alloc::Global;
 
-/// What a network that keeps empty_scope answers, and how many nodes it visits.
+/// What a network that keeps nothing answers, and how many nodes it visits.
 #[cycle(apply)]
 pub(crate) fn apply<R: Rows>(
     alloc: Global,
@@ -25,7 +25,9 @@ pub(crate) fn apply<R: Rows>(
     params: &[Sample],
     x: &Sample,
 ) -> Result<(Sample, u32), Memory>
-    ensures { IfOk result (λ r. AppliesWhere (R.keys table.now) (rows_in net.now) (map datum_of params.now) (datum_of x.now) (datum_of r.0) r.1) }
+    ensures { IfOk result (λ r.
+        AppliesWhere (R.keys table.now) (rows_in net.now) (map datum_of params.now)
+        (datum_of x.now) (datum_of r.0) r.1) }
 {
     match net {
         Net::Arr(e) => Ok((table.call(*e, params, x)?, 1)),
@@ -58,7 +60,10 @@ fn apply_each<R: Rows>(
     x: &Sample,
     answers: &mut Vec<Sample>,
 ) -> Result<u32, Memory>
-    ensures { IfOk result (λ n. ApplyWhere (R.keys table.now) (map_networks row_number (members_of members.now)) (map datum_of params.now) (datum_of x.now) (map datum_of answers.old.items) (map datum_of answers.new.items) n) }
+    ensures { IfOk result (λ n.
+        ApplyWhere (R.keys table.now) (map_networks row_number (members_of members.now))
+        (map datum_of params.now) (datum_of x.now) (map datum_of answers.old.items)
+        (map datum_of answers.new.items) n) }
 {
     match members.split_first() {
         Some((f, rest)) => {

@@ -27,10 +27,12 @@ pub returns-in-RSwitch : goal.returns-in-RSwitch
 returns-in-RSwitch c = λ d. r_switch_on_by _ _ _ _ d (ap node_of c.in-RSwitch.is)
 
 pub returns-in-KSwitch : goal.returns-in-KSwitch
-returns-in-KSwitch c = λ d. subst (λ (z : State ℕ). PlanBy (paused z d) d c.plan_k_switch.result) (ap k_switch_of c.deref.ensures ∙ sym (ap node_of c.in-KSwitch.is)) (c.plan_k_switch.ensures d)
+returns-in-KSwitch c = λ d. subst (λ (z : State ℕ). PlanBy (paused z d) d c.plan_k_switch.result)
+    (ap k_switch_of c.deref.ensures ∙ sym (ap node_of c.in-KSwitch.is)) (c.plan_k_switch.ensures d)
 
 pub returns-in-PSwitch : goal.returns-in-PSwitch
-returns-in-PSwitch c = λ d. subst (λ (z : State ℕ). PlanBy (paused z d) d c.plan_p_switch.result) (ap p_switch_of c.deref-in-PSwitch.ensures ∙ sym (ap node_of c.in-PSwitch.is)) (c.plan_p_switch.ensures d)
+returns-in-PSwitch c = λ d. subst (λ (z : State ℕ). PlanBy (paused z d) d c.plan_p_switch.result)
+    (ap p_switch_of c.deref-in-PSwitch.ensures ∙ sym (ap node_of c.in-PSwitch.is)) (c.plan_p_switch.ensures d)
 
 pub returns-in-AccumBy : goal.returns-in-AccumBy
 returns-in-AccumBy c = λ d. accum_on_by _ _ _ _ d (ap node_of c.in-AccumBy.is)

@@ -40,7 +40,8 @@ run-returns-in-Par g t c = if_ok c.run_par.result _ _ (λ r h. h _ (c.in-Par.ens
 
 pub run-run_loop-requires : goal.run-run_loop-requires
 run-run_loop-requires g t c κs within =
-    let h : (keys : List KeyTree) (u : Datum) → IsFed keys c.in-LoopPre.back u → LoopBy keys (source_of c.args.from c.args.dt) u (source_of c.in-LoopPre.f c.args.dt) = c.in-LoopPre.ensures c.args.dt in
+    let h : (keys : List KeyTree) (u : Datum) → IsFed keys c.in-LoopPre.back u
+    → LoopBy keys (source_of c.args.from c.args.dt) u (source_of c.in-LoopPre.f c.args.dt) = c.in-LoopPre.ensures c.args.dt in
     (omega (arith, c.decreases, loop_falls _ c.in-LoopPre.back _ h), search rules)
 
 pub run-returns-in-LoopPre : goal.run-returns-in-LoopPre
@@ -48,7 +49,8 @@ run-returns-in-LoopPre g t c = if_ok c.run_loop.result _ _ (λ r h. h _ (c.in-Lo
 
 pub run-run_switch-requires : goal.run-run_switch-requires
 run-run_switch-requires g t c κs within =
-    let h : SwitchBy (source_of c.args.from c.args.dt) (source_of c.in-Switch.f c.args.dt) (rows_in c.in-Switch.t.now) (scope_of c.in-Switch.env.now) = c.in-Switch.ensures c.args.dt in
+    let h : SwitchBy (source_of c.args.from c.args.dt) (source_of c.in-Switch.f c.args.dt) (rows_in c.in-Switch.t.now) (scope_of c.in-Switch.env.now) =
+    c.in-Switch.ensures c.args.dt in
     (omega (arith, c.decreases, switch_within _ _ _ _ h), search rules)
 
 pub run-returns-in-Switch : goal.run-returns-in-Switch
@@ -56,7 +58,8 @@ run-returns-in-Switch g t c = if_ok c.run_switch.result _ _ (λ r h. h _ (c.in-S
 
 pub run-run_d_switch-requires : goal.run-run_d_switch-requires
 run-run_d_switch-requires g t c κs within =
-    let h : DSwitchBy (source_of c.args.from c.args.dt) (source_of c.in-DSwitch.f c.args.dt) (rows_in c.in-DSwitch.t.now) (scope_of c.in-DSwitch.env.now) = c.in-DSwitch.ensures c.args.dt in
+    let h : DSwitchBy (source_of c.args.from c.args.dt) (source_of c.in-DSwitch.f c.args.dt) (rows_in c.in-DSwitch.t.now) (scope_of c.in-DSwitch.env.now) =
+    c.in-DSwitch.ensures c.args.dt in
     (omega (arith, c.decreases, d_switch_within _ _ _ _ h), search rules)
 
 pub run-returns-in-DSwitch : goal.run-returns-in-DSwitch
@@ -64,7 +67,8 @@ run-returns-in-DSwitch g t c = if_ok c.run_d_switch.result _ _ (λ r h. h _ (c.i
 
 pub run-run_r_switch-requires : goal.run-run_r_switch-requires
 run-run_r_switch-requires g t c κs within =
-    let h : RSwitchBy (source_of c.args.from c.args.dt) (source_of c.in-RSwitch.f c.args.dt) (rows_in c.in-RSwitch.t.now) (scope_of c.in-RSwitch.env.now) = c.in-RSwitch.ensures c.args.dt in
+    let h : RSwitchBy (source_of c.args.from c.args.dt) (source_of c.in-RSwitch.f c.args.dt) (rows_in c.in-RSwitch.t.now) (scope_of c.in-RSwitch.env.now) =
+    c.in-RSwitch.ensures c.args.dt in
     (omega (arith, c.decreases, r_switch_within _ _ _ _ h), search rules)
 
 pub run-returns-in-RSwitch : goal.run-returns-in-RSwitch
@@ -72,7 +76,8 @@ run-returns-in-RSwitch g t c = if_ok c.run_r_switch.result _ _ (λ r h. h _ (c.i
 
 pub run-run_k_switch-requires : goal.run-run_k_switch-requires
 run-run_k_switch-requires g t c κs within =
-    let h : KSwitchBy (source_of c.args.from c.args.dt) (source_of c.in-KSwitch.f c.args.dt) (source_of c.in-KSwitch.e c.args.dt) (rows_in c.in-KSwitch.t.now) (scope_of c.in-KSwitch.env.now) = c.in-KSwitch.ensures c.args.dt in
+    let h : KSwitchBy (source_of c.args.from c.args.dt) (source_of c.in-KSwitch.f c.args.dt) (source_of c.in-KSwitch.e c.args.dt) (rows_in c.in-KSwitch.t.now)
+    (scope_of c.in-KSwitch.env.now) = c.in-KSwitch.ensures c.args.dt in
     (omega (arith, c.decreases, k_switch_within _ _ _ _ _ h), search rules)
 
 pub run-returns-in-KSwitch : goal.run-returns-in-KSwitch
@@ -80,7 +85,8 @@ run-returns-in-KSwitch g t c = if_ok c.run_k_switch.result _ _ (λ r h. h _ (c.i
 
 pub run-run_p_switch-requires : goal.run-run_p_switch-requires
 run-run_p_switch-requires g t c κs within =
-    let h : PSwitchBy (source_of c.args.from c.args.dt) (row_number c.in-PSwitch.r) (sources_of c.in-PSwitch.fs c.args.dt) (source_of c.in-PSwitch.e c.args.dt) (rows_in c.in-PSwitch.t.now) (scope_of c.in-PSwitch.env.now) = c.in-PSwitch.ensures c.args.dt in
+    let h : PSwitchBy (source_of c.args.from c.args.dt) (row_number c.in-PSwitch.r) (sources_of c.in-PSwitch.fs c.args.dt) (source_of c.in-PSwitch.e c.args.dt)
+    (rows_in c.in-PSwitch.t.now) (scope_of c.in-PSwitch.env.now) = c.in-PSwitch.ensures c.args.dt in
     (omega (arith, c.decreases, p_switch_within _ _ _ _ _ _ h), search rules)
 
 pub run-returns-in-PSwitch : goal.run-returns-in-PSwitch
@@ -126,77 +132,114 @@ run_old-returns g t c = λ w h. old_over _ w _ _ _ _ h c.in_ok-over.ensures c.re
 
 pub run_loop-returns : goal.run_loop-returns
 run_loop-returns g t c =
-    if_ok c.join_loop.result _ _ (λ r j w h. loop_joined _ w _ _ _ _ _ _ (h _ _ c.in_ok-input.ensures.1) c.in_ok-input.ensures.2 c.in_ok-one.ensures j) c.join_loop.ensures
+    if_ok c.join_loop.result _ _ (λ r j w h. loop_joined _ w _ _ _ _ _ _ (h _ _ c.in_ok-input.ensures.1) c.in_ok-input.ensures.2 c.in_ok-one.ensures j)
+    c.join_loop.ensures
 
 pub run_switch-run_over-requires : goal.run_switch-run_over-requires
 run_switch-run_over-requires g t c κs within =
-    let fires = fires_by _ _ (push_param (scope_of c.args.env.now)) _ _ (c.second.ensures ∙ ap right c.answer.ensures) c.in-Ok-Some.field-0-is c.in-Ok-Some.ensures in
+    let fires = fires_by _ _ (push_param (scope_of c.args.env.now)) _ _ (c.second.ensures ∙ ap right c.answer.ensures) c.in-Ok-Some.field-0-is
+    c.in-Ok-Some.ensures in
     (omega (arith, c.decreases, over_weighs (rows_in c.args.t.now) (scope_of c.args.env.now) (scope_of c.in-Ok-Some.inner) fires.0 fires.2), search rules)
 
 pub run_switch-returns-in-Ok-Some : goal.run_switch-returns-in-Ok-Some
 run_switch-returns-in-Ok-Some g t c =
-    let fires = fires_by _ _ (push_param (scope_of c.args.env.now)) _ _ (c.second.ensures ∙ ap right c.answer.ensures) c.in-Ok-Some.field-0-is c.in-Ok-Some.ensures in
-    if_ok c.run_over.result _ _ (λ r k w h. switch_over _ w _ _ _ (scope_of c.in-Ok-Some.inner) _ fires.0 _ k.0 r _ h c.in_ok-one.ensures fires.1 fires.2 k.1 _ c.visits.ensures c.node-before.ensures k.2) c.run_over.ensures
+    let fires = fires_by _ _ (push_param (scope_of c.args.env.now)) _ _ (c.second.ensures ∙ ap right c.answer.ensures) c.in-Ok-Some.field-0-is
+    c.in-Ok-Some.ensures in
+    if_ok c.run_over.result _ _ (λ r k w h. switch_over _ w _ _ _ (scope_of c.in-Ok-Some.inner) _ fires.0 _ k.0 r _ h c.in_ok-one.ensures fires.1 fires.2 k.1 _
+    c.visits.ensures c.node-before.ensures k.2) c.run_over.ensures
 
 pub run_switch-returns-in-Ok-None : goal.run_switch-returns-in-Ok-None
 run_switch-returns-in-Ok-None g t c =
-    let fires = fires_by _ _ (push_param (scope_of c.args.env.now)) _ _ (c.second.ensures ∙ ap right c.answer.ensures) c.in-Ok-None.field-0-is c.in-Ok-None.ensures in
+    let fires = fires_by _ _ (push_param (scope_of c.args.env.now)) _ _ (c.second.ensures ∙ ap right c.answer.ensures) c.in-Ok-None.field-0-is
+    c.in-Ok-None.ensures in
     if_ok c.keep_switch.result _ _ (λ r j w h. switch_kept _ w _ _ _ _ _ _ h c.in_ok-one.ensures fires j) c.keep_switch.ensures
 
 pub run_d_switch-run_late-requires : goal.run_d_switch-run_late-requires
 run_d_switch-run_late-requires g t c κs within =
-    let fires = fires_by _ _ (push_param (scope_of c.args.env.now)) _ _ (c.second.ensures ∙ ap right c.answer.ensures) c.in-Ok-Some.field-0-is c.in-Ok-Some.ensures in
+    let fires = fires_by _ _ (push_param (scope_of c.args.env.now)) _ _ (c.second.ensures ∙ ap right c.answer.ensures) c.in-Ok-Some.field-0-is
+    c.in-Ok-Some.ensures in
     (omega (arith, c.decreases, over_weighs (rows_in c.args.t.now) (scope_of c.args.env.now) (scope_of c.in-Ok-Some.inner) fires.0 fires.2), search rules)
 
 pub run_d_switch-returns-in-Ok-Some : goal.run_d_switch-returns-in-Ok-Some
 run_d_switch-returns-in-Ok-Some g t c =
-    let fires = fires_by _ _ (push_param (scope_of c.args.env.now)) _ _ (c.second.ensures ∙ ap right c.answer.ensures) c.in-Ok-Some.field-0-is c.in-Ok-Some.ensures in
-    if_ok c.run_late.result _ _ (λ r k w h. d_switch_over _ w _ _ _ (scope_of c.in-Ok-Some.inner) _ fires.0 _ k.0 r h c.in_ok-one.ensures fires.1 fires.2 k.1 k.2) c.run_late.ensures
+    let fires = fires_by _ _ (push_param (scope_of c.args.env.now)) _ _ (c.second.ensures ∙ ap right c.answer.ensures) c.in-Ok-Some.field-0-is
+    c.in-Ok-Some.ensures in
+    if_ok c.run_late.result _ _ (λ r k w h. d_switch_over _ w _ _ _ (scope_of c.in-Ok-Some.inner) _ fires.0 _ k.0 r h c.in_ok-one.ensures fires.1 fires.2 k.1
+    k.2) c.run_late.ensures
 
 pub run_d_switch-returns-in-Ok-None : goal.run_d_switch-returns-in-Ok-None
 run_d_switch-returns-in-Ok-None g t c =
-    let fires = fires_by _ _ (push_param (scope_of c.args.env.now)) _ _ (c.second.ensures ∙ ap right c.answer.ensures) c.in-Ok-None.field-0-is c.in-Ok-None.ensures in
+    let fires = fires_by _ _ (push_param (scope_of c.args.env.now)) _ _ (c.second.ensures ∙ ap right c.answer.ensures) c.in-Ok-None.field-0-is
+    c.in-Ok-None.ensures in
     if_ok c.keep_d_switch.result _ _ (λ r j w h. d_switch_kept _ w _ _ _ _ _ _ h c.in_ok-one.ensures fires j) c.keep_d_switch.ensures
 
 pub run_r_switch-returns-in_ok-one-in-Some : goal.run_r_switch-returns-in_ok-one-in-Some
 run_r_switch-returns-in_ok-one-in-Some g t c =
     let cut = sym c.restart_of.ensures ∙ ap restart_found c.in-Some.is in
-    if_ok c.keep_r_switch.result _ _ (λ r j w h. r_switch_over _ w _ _ _ (scope_of c.in_ok-inner-in-Some.inner) _ _ _ _ _ h cut c.in_ok-inner-in-Some.ensures c.in_ok-one-in-Some.ensures j) c.keep_r_switch.ensures
+    if_ok c.keep_r_switch.result _ _ (λ r j w h. r_switch_over _ w _ _ _ (scope_of c.in_ok-inner-in-Some.inner) _ _ _ _ _ h cut c.in_ok-inner-in-Some.ensures
+    c.in_ok-one-in-Some.ensures j) c.keep_r_switch.ensures
 
 pub run_r_switch-returns-in_ok-one-in-None : goal.run_r_switch-returns-in_ok-one-in-None
 run_r_switch-returns-in_ok-one-in-None g t c =
     let cut = sym c.restart_of.ensures ∙ ap restart_found c.in-None.is in
-    if_ok c.keep_r_switch-in-None.result _ _ (λ r j w h. r_switch_kept _ w _ _ _ _ _ _ _ h c.first.ensures cut c.in_ok-one-in-None.ensures j) c.keep_r_switch-in-None.ensures
+    if_ok c.keep_r_switch-in-None.result _ _ (λ r j w h. r_switch_kept _ w _ _ _ _ _ _ _ h c.first.ensures cut c.in_ok-one-in-None.ensures j)
+    c.keep_r_switch-in-None.ensures
 
 pub run_k_switch-run_over-requires : goal.run_k_switch-run_over-requires
 run_k_switch-run_over-requires g t c κs within =
-    let fires = fires_by _ _ (λ u. push_old (push_param (scope_of c.args.env.now) u) (source_of c.args.f c.args.dt)) _ _ (c.answer-in-Ok.ensures) c.in-Ok-Some.field-0-is c.in-Ok-Some.ensures in
-    (omega (arith, c.decreases, over_old_weighs (rows_in c.args.t.now) (scope_of c.args.env.now) (scope_of c.in-Ok-Some.inner) fires.0 (source_of c.args.f c.args.dt) fires.2), search rules)
+    let fires = fires_by _ _ (λ u. push_old (push_param (scope_of c.args.env.now) u) (source_of c.args.f c.args.dt)) _ _ (c.answer-in-Ok.ensures)
+    c.in-Ok-Some.field-0-is c.in-Ok-Some.ensures in (
+      omega (
+        arith,
+        c.decreases,
+        over_old_weighs (rows_in c.args.t.now) (scope_of c.args.env.now) (scope_of c.in-Ok-Some.inner) fires.0
+            (source_of c.args.f c.args.dt) fires.2,
+      ),
+      search rules,
+    )
 
 pub run_k_switch-returns-in-Ok-Some : goal.run_k_switch-returns-in-Ok-Some
 run_k_switch-returns-in-Ok-Some g t c =
-    let fires = fires_by _ _ (λ u. push_old (push_param (scope_of c.args.env.now) u) (source_of c.args.f c.args.dt)) _ _ (c.answer-in-Ok.ensures) c.in-Ok-Some.field-0-is c.in-Ok-Some.ensures in
-    if_ok c.run_over.result _ _ (λ r k w h. k_switch_over _ w _ _ _ _ (scope_of c.in-Ok-Some.inner) _ _ fires.0 _ _ k.0 r _ h c.in_ok-one.ensures (ap (pair (datum_of c.args.x.now)) c.answer.ensures) c.in-Ok.ensures fires.1 fires.2 k.1 _ c.visits.ensures _ c.visits-in-Ok-Some.ensures c.node-before.ensures k.2) c.run_over.ensures
+    let fires = fires_by _ _ (λ u. push_old (push_param (scope_of c.args.env.now) u) (source_of c.args.f c.args.dt)) _ _ (c.answer-in-Ok.ensures)
+    c.in-Ok-Some.field-0-is c.in-Ok-Some.ensures in
+    if_ok c.run_over.result _ _ (λ r k w h. k_switch_over _ w _ _ _ _ (scope_of c.in-Ok-Some.inner) _ _ fires.0 _ _ k.0 r _ h c.in_ok-one.ensures
+    (ap (pair (datum_of c.args.x.now)) c.answer.ensures) c.in-Ok.ensures fires.1 fires.2 k.1 _ c.visits.ensures _ c.visits-in-Ok-Some.ensures
+    c.node-before.ensures k.2) c.run_over.ensures
 
 pub run_k_switch-returns-in-Ok-None : goal.run_k_switch-returns-in-Ok-None
 run_k_switch-returns-in-Ok-None g t c =
-    let fires = fires_by _ _ (λ u. push_old (push_param (scope_of c.args.env.now) u) (source_of c.args.f c.args.dt)) _ _ (c.answer-in-Ok.ensures) c.in-Ok-None.field-0-is c.in-Ok-None.ensures in
-    if_ok c.keep_k_switch.result _ _ (λ r j w h. k_switch_kept _ w _ _ _ _ _ _ _ _ _ h c.in_ok-one.ensures (ap (pair (datum_of c.args.x.now)) c.answer.ensures) c.in-Ok.ensures fires j) c.keep_k_switch.ensures
+    let fires = fires_by _ _ (λ u. push_old (push_param (scope_of c.args.env.now) u) (source_of c.args.f c.args.dt)) _ _ (c.answer-in-Ok.ensures)
+    c.in-Ok-None.field-0-is c.in-Ok-None.ensures in
+    if_ok c.keep_k_switch.result _ _ (λ r j w h. k_switch_kept _ w _ _ _ _ _ _ _ _ _ h c.in_ok-one.ensures (ap (pair (datum_of c.args.x.now)) c.answer.ensures)
+    c.in-Ok.ensures fires j) c.keep_k_switch.ensures
 
 pub run_p_switch-run_over-requires : goal.run_p_switch-run_over-requires
 run_p_switch-run_over-requires g t c κs within =
-    let fires = fires_by _ _ (λ u. push_olds (push_param (scope_of c.args.env.now) u) (sources_of c.args.fs c.args.dt)) _ _ (c.answer.ensures) c.in-Ok-Some.field-0-is c.in-Ok-Some.ensures in
-    (omega (arith, c.decreases, over_olds_weighs (rows_in c.args.t.now) (scope_of c.args.env.now) (scope_of c.in-Ok-Some.inner) fires.0 (sources_of c.args.fs c.args.dt) fires.2), search rules)
+    let fires = fires_by _ _ (λ u. push_olds (push_param (scope_of c.args.env.now) u) (sources_of c.args.fs c.args.dt)) _ _ (c.answer.ensures)
+    c.in-Ok-Some.field-0-is c.in-Ok-Some.ensures in (
+      omega (
+        arith,
+        c.decreases,
+        over_olds_weighs (rows_in c.args.t.now) (scope_of c.args.env.now) (scope_of c.in-Ok-Some.inner) fires.0
+            (sources_of c.args.fs c.args.dt) fires.2,
+      ),
+      search rules,
+    )
 
 pub run_p_switch-returns-in-Ok-Some : goal.run_p_switch-returns-in-Ok-Some
 run_p_switch-returns-in-Ok-Some g t c =
-    let fires = fires_by _ _ (λ u. push_olds (push_param (scope_of c.args.env.now) u) (sources_of c.args.fs c.args.dt)) _ _ (c.answer.ensures) c.in-Ok-Some.field-0-is c.in-Ok-Some.ensures in
-    if_ok c.run_over.result _ _ (λ r k w h. p_switch_over _ w _ _ _ _ _ _ (scope_of c.in-Ok-Some.inner) _ _ fires.0 _ _ _ _ k.0 r _ h refl refl c.in_ok-all.ensures.1 c.in_ok-all.ensures.2 (ap (pair (datum_of c.args.x.now)) c.list.ensures) c.in-Ok.ensures fires.1 fires.2 k.1 _ c.visits.ensures _ c.visits-in-Ok-Some.ensures c.node-before.ensures k.2) c.run_over.ensures
+    let fires = fires_by _ _ (λ u. push_olds (push_param (scope_of c.args.env.now) u) (sources_of c.args.fs c.args.dt)) _ _ (c.answer.ensures)
+    c.in-Ok-Some.field-0-is c.in-Ok-Some.ensures in
+    if_ok c.run_over.result _ _ (λ r k w h. p_switch_over _ w _ _ _ _ _ _ (scope_of c.in-Ok-Some.inner) _ _ fires.0 _ _ _ _ k.0 r _ h refl refl
+    c.in_ok-all.ensures.1 c.in_ok-all.ensures.2 (ap (pair (datum_of c.args.x.now)) c.list.ensures) c.in-Ok.ensures fires.1 fires.2 k.1 _ c.visits.ensures _
+    c.visits-in-Ok-Some.ensures c.node-before.ensures k.2) c.run_over.ensures
 
 pub run_p_switch-returns-in-Ok-None : goal.run_p_switch-returns-in-Ok-None
 run_p_switch-returns-in-Ok-None g t c =
-    let fires = fires_by _ _ (λ u. push_olds (push_param (scope_of c.args.env.now) u) (sources_of c.args.fs c.args.dt)) _ _ (c.answer.ensures) c.in-Ok-None.field-0-is c.in-Ok-None.ensures in
-    if_ok c.keep_p_switch.result _ _ (λ r j w h. p_switch_kept _ w _ _ _ _ _ _ _ _ _ _ _ _ _ h refl refl c.in_ok-all.ensures.1 c.in_ok-all.ensures.2 (ap (pair (datum_of c.args.x.now)) c.list.ensures) c.in-Ok.ensures fires j) c.keep_p_switch.ensures
+    let fires = fires_by _ _ (λ u. push_olds (push_param (scope_of c.args.env.now) u) (sources_of c.args.fs c.args.dt)) _ _ (c.answer.ensures)
+    c.in-Ok-None.field-0-is c.in-Ok-None.ensures in
+    if_ok c.keep_p_switch.result _ _ (λ r j w h. p_switch_kept _ w _ _ _ _ _ _ _ _ _ _ _ _ _ h refl refl c.in_ok-all.ensures.1 c.in_ok-all.ensures.2
+    (ap (pair (datum_of c.args.x.now)) c.list.ensures) c.in-Ok.ensures fires j) c.keep_p_switch.ensures
 
 pub run_late-returns-in-Ok : goal.run_late-returns-in-Ok
 run_late-returns-in-Ok g t c = if_ok c.take_over_late.result _ _ (λ r j. (c.in-Ok.over, c.in-Ok.ensures, j)) c.take_over_late.ensures
@@ -208,7 +251,8 @@ run_member-returns-in-ToAll g t c =
 pub run_member-returns-in_ok-input-in-ByRow : goal.run_member-returns-in_ok-input-in-ByRow
 run_member-returns-in_ok-input-in-ByRow g t c =
     if_ok c.run-one.result _ _
-    (λ r k. member_ran _ (by_row (row_number c.in-ByRow.r) c.in-ByRow.params.now) _ c.args.i _ _ _ r (ap router_of c.in-ByRow.is) c.in_ok-input-in-ByRow.ensures k)
+    (λ r k. member_ran _ (by_row (row_number c.in-ByRow.r) c.in-ByRow.params.now) _ c.args.i _ _ _ r (ap router_of c.in-ByRow.is) c.in_ok-input-in-ByRow.ensures
+    k)
     c.run-one.ensures
 
 pub run_each-run_member-requires : goal.run_each-run_member-requires
@@ -220,7 +264,8 @@ run_each-run_each-requires g t c κs within = (omega (arith, c.decreases, (membe
 pub run_each-returns-in_ok-add-in-Some : goal.run_each-returns-in_ok-add-in-Some
 run_each-returns-in_ok-add-in-Some g t c =
     if_ok c.run_each.result _ _
-    (λ u hs. also_run _ (router_of c.args.router) c.args.i _ _ _ _ _ c.in_ok-one-in-Some.ensures.0 _ _ _ _ (c.in-Some.ensures c.args.dt) c.in_ok-one-in-Some.ensures.1 c.in_ok-one-in-Some.ensures.2 c.in_ok-add-in-Some.ensures (next_number c.args.i) hs)
+    (λ u hs. also_run _ (router_of c.args.router) c.args.i _ _ _ _ _ c.in_ok-one-in-Some.ensures.0 _ _ _ _ (c.in-Some.ensures c.args.dt)
+    c.in_ok-one-in-Some.ensures.1 c.in_ok-one-in-Some.ensures.2 c.in_ok-add-in-Some.ensures (next_number c.args.i) hs)
     c.run_each.ensures
 
 pub run_each-returns-in-None : goal.run_each-returns-in-None

@@ -11,7 +11,8 @@ use Rattle.step_core.proofs.runner.Runner.push.Goals.{After-drop-2, in-Some, in-
 use Rattle.step_core.proofs.runner.Runner.push.Goals as goal
 
 -- the next output, whether or not this is the first sample
-after_push : (g : _) (c : After-drop-2 g) → Pushes (runner_state c.args.self.now) (c.args.step, datum_of c.args.sample.now) (datum_of c.into_parts-state.result.1)
+after_push : (g : _) (c : After-drop-2 g) → Pushes (runner_state c.args.self.now) (c.args.step, datum_of c.args.sample.now)
+    (datum_of c.into_parts-state.result.1)
     (record {
       input = c.args.self.now.bound.now.input;
       keys = rows_of c.args.self.now.table.now;
