@@ -84,7 +84,7 @@ pub enum Probe {
     Scant,
     /// The same of a call on a whole network.
     ScantNetwork,
-    /// The same of a table and of a runner.
+    /// The same of a table, and what is frozen with no memory left.
     ScantRun,
     /// What the pushes of a stream's samples answer, with growths refused: `FILE | STREAM`.
     ScantStream,

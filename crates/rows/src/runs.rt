@@ -8,7 +8,6 @@ ghost use Rattle.yampa_run.specs.FaultLines.{EndsRun};
 use crate::commands::{refusal_told, status_told};
 use crate::found::{Probe, all_are_found};
 use crate::scant_pushes::scant_stream_told;
-use crate::scant_runs::pushes_told;
 use crate::tables::row_told;
 use crate::texts::{parted, say};
 use crate::visits::visits_told;
@@ -30,8 +29,6 @@ pub enum Trial<'a> {
     Visits(&'a str),
     /// What its pushes of this stream's samples answer, where growths are refused in turn.
     ScantStream(&'a str),
-    /// Whether its pushes are refused memory at first, and answer in the end.
-    ScantMemory,
     /// What the row of this need answers on the value.
     Call(&'a LeafNeed, &'a Sample),
     /// Whether each of its expressions has a row.
@@ -146,7 +143,6 @@ fn tried(alloc: Global, bound: &Bound, table: &LeafTable, trial: Trial<'_>, out:
         Trial::Run(stream) => written_told(alloc, bound, table, stream, out),
         Trial::Visits(stream) => visits_told(alloc, bound, table, stream, out),
         Trial::ScantStream(stream) => scant_stream_told(alloc, bound, table, stream, out),
-        Trial::ScantMemory => pushes_told(alloc, bound, table, out),
         Trial::Call(need, x) => row_told(table, need, x, out),
         Trial::Rows => say(out, "a row for each"),
     }

@@ -76,6 +76,7 @@ const RELEASES: usize = 1_000;
 /// Networks, streams, and what is answered.
 static PUSHES: &str = "
 § Pushes with little memory, each repeated until it is answered.
+yampa 1 input Int (>>> (arr (list (Event Int){100* (event x)})) (iPre (list (Event Int)))) | 5␤+1 5 => (list); (list{100* (event 5)}); refused at first
 yampa 1 input Int (switch ‹event above nine› ‹plus event›) | 1␤+1 20␤+1 3 => 1; 40; 23; refused at first
 yampa 1 input Int (dSwitch ‹event above nine› ‹plus event›) | 1␤+1 20␤+1 3 => 1; 20; 23; refused at first
 yampa 1 input Int ‹switched twice› | 1␤+1 20␤+1 3 => 1; 0; -17; refused at first
