@@ -21,7 +21,7 @@ use std::marker::Model;
 /// as a record of clean ones.
 #[derive(Drop)]
 pub(crate) struct Ran<'n> {
-    state: State<'n>,
+    pub(crate) state: State<'n>,
     answer: Sample,
     visits: u32,
 }
