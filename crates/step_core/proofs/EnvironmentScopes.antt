@@ -1,18 +1,17 @@
 -- What scopes stand for, as environments.
-use Rattle.std.proofs.Common.{◌≡◌, ℕ, List, [], ◌∷◌, ◌++◌, refl, sym, ap, ap₂, ◌∙◌, map}
+use Rattle.std.proofs.Common.{◌≡◌, ℕ, List, [], ◌∷◌, ◌++◌, refl, ap, ap₂, ◌∙◌}
 use Rattle.sample_core.specs.Datum.{Datum}
-use Rattle.net_syntax.specs.SignalFunction.{TimedList, SignalFunction, resume}
+use Rattle.net_syntax.specs.SignalFunction.{TimedList, resume}
 use Rattle.net_syntax.specs.Network.{Network}
-use Rattle.net_syntax.specs.Meaning.{Context, meaning, with_param, with_olds}
+use Rattle.net_syntax.specs.Meaning.{Context, meaning}
 use Rattle.net_syntax.specs.Environment.{Environment, closed, param, frozen, context_of}
-use Rattle.state_core.specs.Visits.{VisitCounts, visits, resume_counts}
-use Rattle.state_core.specs.CountedFunction.{CountedFunction, IsCountedFunction}
+use Rattle.state_core.specs.Visits.{visits, resume_counts}
+use Rattle.state_core.specs.CountedFunction.{IsCountedFunction}
 use Rattle.state_core.specs.CountedForms.{functions_of, counts_of_all, counted_resume}
 use Rattle.state_core.specs.CountedContext.{CountedContext, context_in, counted_meaning}
-use Rattle.state_core.specs.State.{State, Scope, Frozen, scope, no_frozen, and_frozen, unstarted, paused, push_param, push_old}
-use Rattle.state_core.specs.Stands.{Stands}
+use Rattle.state_core.specs.State.{no_frozen, and_frozen}
 use Rattle.step_core.specs.EnvironmentVisits.{counts_of}
-use Rattle.step_core.specs.ScopeLaws.{counted_context_of, StandsForEnvironment, StandsForEntry, ScopeLaw, ScopesLaw}
+use Rattle.step_core.specs.ScopeLaws.{counted_context_of, ScopeLaw, ScopesLaw}
 use Rattle.step_core.proofs.MemberCounts.{AllCounted, no_counted, and_counted, AllCounted-append, IsCounted-resume}
 use Rattle.step_core.proofs.CountedContexts.{IsCounted-counted, Denotes-push_param, Denotes-push_olds, signals-append, counts-append}
 

@@ -3,10 +3,10 @@ use Rattle.std.proofs.Common.{◌≡◌, ℕ, suc, ◌+◌, ◌<◌, List, [], �
 use Rattle.std.proofs.Math.Seq.{take-suc}
 use Rattle.leaf_table.specs.declared.table.LeafId.{LeafId}
 use Rattle.net_syntax.specs.Network.{map_networks}
-use Rattle.net_syntax.specs.NetworkView.{network_of, members_of}
+use Rattle.net_syntax.specs.NetworkView.{members_of}
 use Rattle.net_syntax.specs.declared.net.Net.{Net}
 use Rattle.state_core.specs.RowsView.{row_number, rows_in}
-use Rattle.state_core.specs.State.{State, Scope, Frozens, no_frozen, and_frozen, append_frozens, unstarted, paused, all_unstarted, all_paused}
+use Rattle.state_core.specs.State.{Scope, no_frozen, and_frozen, append_frozens, unstarted, paused, all_unstarted, all_paused}
 use Rattle.state_core.specs.StateView.{state_of, states_of, frozen_of, frozens_in}
 use Rattle.state_core.specs.declared.env.Frozen.{Frozen as CodeFrozen}
 use Rattle.state_core.specs.declared.state.State.{State as CodeState}

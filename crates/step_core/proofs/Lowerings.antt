@@ -1,5 +1,5 @@
 -- A network with the rows of its expressions in their place is one of rows for the same types.
-use Rattle.std.proofs.Common.{◌≡◌, ◌≢◌, ◌≤◌, ℕ, suc, List, [], ◌∷◌, ◌++◌, map, Option, Some, None, slice_get, refl, sym, ap, ap₂, ◌∙◌, subst, append_assoc, append-nil, All, Contains, inl, inr, ◌⊎◌, Result, Ok, Err, IfErr, OnOk, length}
+use Rattle.std.proofs.Common.{◌≡◌, ◌≢◌, ◌≤◌, ℕ, suc, List, [], ◌∷◌, ◌++◌, map, Option, Some, None, slice_get, refl, sym, ap, ap₂, ◌∙◌, subst, append_assoc, append-nil, Contains, inr, Result, Ok, Err, IfErr, OnOk, length}
 use Rattle.std.proofs.lemmas.Option.{slice_get_within, get_or_from_slice_get}
 use Rattle.std.proofs.lemmas.List.Elements.{All-cons, All-nil, Contains-get_or}
 use Rattle.sample_core.specs.TypeTree.{TypeTree, unit_ty, int_ty, pair_ty, event_ty, list_ty}
@@ -10,10 +10,10 @@ use Rattle.leaf_core.specs.KeyTree.{KeyTree}
 use Rattle.leaf_core.specs.declared.expr.Expr.{Expr}
 use Rattle.leaf_table.specs.declared.table.LeafId.{LeafId}
 use Rattle.net_syntax.specs.Leaves.{Need, need_at, LeavesOf, leaves_by, member_leaves_by}
-use Rattle.net_syntax.specs.Network.{Network, Networks, arr, seq, first, par, loop_pre, i_pre, delay, hold, accum_by, after, repeatedly, time, integral, switch, d_switch, r_switch, k_switch, p_switch, old, networks_of, no_members, and_member, map_network, map_networks}
+use Rattle.net_syntax.specs.Network.{Network, Networks, arr, seq, first, par, loop_pre, i_pre, delay, hold, accum_by, after, repeatedly, time, integral, switch, d_switch, r_switch, k_switch, p_switch, old, networks_of, no_members, and_member, map_networks}
 use Rattle.net_syntax.specs.NetworkView.{members_of}
 use Rattle.net_syntax.specs.Place.{◌>>=◌}
-use Rattle.net_syntax.specs.Typing.{Arrow, arrow, copies, members, LeafTyping, Typed, AllTyped, AnyType, arr_typed, seq_typed, first_typed, par_typed, loop_typed, i_pre_typed, delay_typed, hold_typed, accum_typed, after_typed, repeatedly_typed, time_typed, integral_typed, switch_typed, d_switch_typed, r_switch_typed, k_switch_typed, p_switch_typed, old_typed, no_members_typed, and_member_typed}
+use Rattle.net_syntax.specs.Typing.{Arrow, arrow, copies, members, Typed, AllTyped, AnyType, arr_typed, seq_typed, first_typed, par_typed, loop_typed, i_pre_typed, delay_typed, hold_typed, accum_typed, after_typed, repeatedly_typed, time_typed, integral_typed, switch_typed, d_switch_typed, r_switch_typed, k_switch_typed, p_switch_typed, old_typed, no_members_typed, and_member_typed}
 use Rattle.net_syntax.specs.TypedNetwork.{TypedNetwork, NetTyped}
 use Rattle.net_syntax.specs.Weight.{weight}
 use Rattle.net_syntax.specs.declared.net.Net.{Net}

@@ -1,8 +1,8 @@
 -- A network whose leaves are changed denotes, visits and weighs what it does with the leaves' values changed.
-use Rattle.std.proofs.Common.{◌≡◌, ℕ, suc, ◌+◌, List, [], ◌∷◌, ◌++◌, refl, ap, length, take, drop, map}
+use Rattle.std.proofs.Common.{◌≡◌, List, [], ◌∷◌, ◌++◌, refl, length, take, drop, map}
 use Rattle.std.specs.List.{flat_map}
 use Rattle.sample_core.specs.Datum.{Datum, unit, left, right}
-use Rattle.net_syntax.specs.SignalFunction.{SignalFunction, with_values, each_value, pair_samples, feedback_values, first_event, pieces, resume, step_of, collect, freeze_all, seq_function, first_function, par_function, loop_pre_function, switch_function, d_switch_function, r_switch_function, k_switch_function, p_switch_function}
+use Rattle.net_syntax.specs.SignalFunction.{with_values, each_value, pair_samples, feedback_values, first_event, pieces, resume, step_of, collect, freeze_all, seq_function, first_function, par_function, loop_pre_function, switch_function, d_switch_function, r_switch_function, k_switch_function, p_switch_function}
 use Rattle.net_syntax.specs.Network.{Network, Networks, arr, seq, first, par, loop_pre, i_pre, delay, hold, accum_by, after, repeatedly, time, integral, switch, d_switch, r_switch, k_switch, p_switch, old, no_members, and_member, map_network, map_networks}
 use Rattle.net_syntax.specs.Meaning.{Context, with_param, with_olds, meaning, meanings}
 use Rattle.state_core.specs.Visits.{VisitCounts, visits, visits_all, add_counts, and_one, sum_of_all, sum_by_route, switch_counts, resume_counts, freeze_counts}

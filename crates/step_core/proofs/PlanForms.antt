@@ -1,12 +1,11 @@
 -- The parts of what runs, where it is of a form by an equation.
-use Rattle.std.proofs.Common.{◌≡◌, ℕ, List, Option, Some, None, sym, subst}
+use Rattle.std.proofs.Common.{◌≡◌, ℕ, List, Option, Some, sym, subst}
 use Rattle.sample_core.specs.Datum.{Datum}
 use Rattle.leaf_core.specs.KeyTree.{KeyTree}
-use Rattle.net_syntax.specs.Network.{Network, Networks, seq, first, par, loop_pre, i_pre, delay, hold, accum_by, after, repeatedly, time, integral, switch, d_switch, r_switch, k_switch, p_switch, old}
+use Rattle.net_syntax.specs.Network.{Network, Networks, seq, first, par, loop_pre, accum_by, switch, d_switch, r_switch, k_switch, p_switch, old}
 use Rattle.cell_core.specs.Cell.{Cell}
 use Rattle.cell_core.specs.declared.form.Form.{Form}
-use Rattle.cell_core.specs.declared.form.Form.TheVariants as F
-use Rattle.state_core.specs.State.{State, States, Scope, Frozen, Frozens, seq_state, first_state, par_state, loop_state, cell_state, accum_state, switch_state, d_switch_state, r_switch_state, k_switch_state, p_switch_state, unstarted, paused, params_of, frozens_of, frozen_at, all_unstarted, all_paused}
+use Rattle.state_core.specs.State.{State, States, Scope, Frozen, seq_state, first_state, par_state, loop_state, cell_state, accum_state, switch_state, d_switch_state, r_switch_state, k_switch_state, p_switch_state, unstarted, paused, params_of, frozens_of, frozen_at, all_unstarted, all_paused}
 use Rattle.state_core.specs.StateView.{still_of}
 use Rattle.step_core.specs.Called.{Called}
 use Rattle.step_core.specs.Runs as R

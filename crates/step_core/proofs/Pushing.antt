@@ -1,11 +1,10 @@
 -- What a push answers is the next output of the network's stream, and the runner stands for one sample more.
-use Rattle.std.proofs.Common.{◌≡◌, ℕ, suc, ◌+◌, ◌<◌, ◌≤◌, ◌^◌, List, [], ◌∷◌, ◌++◌, Option, Some, None, length, refl, sym, ap, ap₂, ◌∙◌, subst, arith, length-append, add-one}
+use Rattle.std.proofs.Common.{◌≡◌, ℕ, suc, ◌≤◌, List, [], ◌∷◌, ◌++◌, Option, Some, None, length, refl, sym, ap, ◌∙◌, subst, arith, length-append, add-one}
 use Rattle.std.proofs.Math.Logic.{∥∥₁_map}
 use Rattle.sample_core.specs.Datum.{Datum}
 use Rattle.sample_core.specs.TypeTree.{TypeTree}
 use Rattle.sample_core.specs.HasType.{HasType}
 use Rattle.leaf_core.specs.ExpressionValue.{value_of}
-use Rattle.leaf_core.specs.KeyTree.{KeyTree}
 use Rattle.net_syntax.specs.Environment.{closed, context_of, outputs}
 use Rattle.net_syntax.specs.Network.{Network}
 use Rattle.net_syntax.specs.SignalFunction.{TimedList, last_or}
@@ -17,12 +16,12 @@ use Rattle.state_core.specs.CountedFunction.{TakesSample}
 use Rattle.state_core.specs.EmptyScope.{empty_context, empty_scope}
 use Rattle.state_core.specs.Stands.{Stands}
 use Rattle.state_core.specs.State.{State, Frozen, scope, no_frozen, unstarted, paused}
-use Rattle.step_core.specs.Binding.{Binding, FitsTable}
+use Rattle.step_core.specs.Binding.{FitsTable}
 use Rattle.step_core.specs.EnvironmentVisits.{visits_of}
-use Rattle.step_core.specs.RowTyping.{RowsTyped, network_by, row_expression}
-use Rattle.step_core.specs.RunnerState.{RunnerState, network_in, last_visits_of, HasState, NotStarted, StandsAfter, StandsFor, HasPast, Pushes}
+use Rattle.step_core.specs.RowTyping.{row_expression}
+use Rattle.step_core.specs.RunnerState.{RunnerState, network_in, HasState, StandsAfter, StandsFor, HasPast, Pushes}
 use Rattle.step_core.specs.Runs.{Ran, RunsWhere}
-use Rattle.step_core.specs.StateTyping.{StateTyped, FrozenTyped, unstarted_typed, paused_typed, row_value}
+use Rattle.step_core.specs.StateTyping.{FrozenTyped, unstarted_typed, paused_typed, row_value}
 use Rattle.step_core.specs.Stepping as G
 use Rattle.step_core.specs.Stepping.{Resumes, Starts, Steps}
 use Rattle.step_core.proofs.EnvironmentBounds.{IsCount-visited}

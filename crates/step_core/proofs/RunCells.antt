@@ -1,20 +1,20 @@
 -- What one sample does to cells, by what the rows answer.
-use Rattle.std.proofs.Common.{◌≡◌, ℕ, zero, suc, ◌+◌, ◌≤◌, List, [], ◌∷◌, Option, Some, None, refl, sym, ap, ap₂, ◌∙◌, subst, arith, IsTrue}
+use Rattle.std.proofs.Common.{◌≡◌, ℕ, zero, suc, List, [], ◌∷◌, Option, refl, sym, ap, ◌∙◌, subst, arith}
 use Rattle.sample_core.specs.Datum.{Datum, unit, bool, int, pair, no_event, event, list}
 use Rattle.sample_core.specs.TypeTree.{TypeTree, pair_ty, event_ty}
 use Rattle.sample_core.specs.HasType.{HasType, TypedParams, pair_has, unit_has}
 use Rattle.leaf_core.specs.KeyTree.{KeyTree}
 use Rattle.net_syntax.specs.SignalFunction.{latest_event, fold_events, if_event}
-use Rattle.net_syntax.specs.Network.{Network, i_pre, delay, hold, accum_by, after, repeatedly, time, integral}
+use Rattle.net_syntax.specs.Network.{accum_by}
 use Rattle.net_syntax.specs.Typing as N
 use Rattle.net_syntax.proofs.TypedLists.{typed_event}
-use Rattle.cell_core.specs.Cell.{Cell, cell_step, after_cell, accumulating, accumulator_of}
+use Rattle.cell_core.specs.Cell.{Cell, cell_step, accumulating, accumulator_of}
 use Rattle.cell_core.specs.Start.{cell_start}
 use Rattle.cell_core.specs.CellLaws.{put_in}
 use Rattle.cell_core.proofs.KeptCells.{put_in-latest, put_in-if_event}
 use Rattle.cell_core.specs.declared.form.Form.{Form}
 use Rattle.cell_core.specs.declared.form.Form.TheVariants as F
-use Rattle.state_core.specs.State.{State, Scope, Frozen, cell_state, accum_state, unstarted, paused, params_of}
+use Rattle.state_core.specs.State.{State, Frozen, cell_state, accum_state, unstarted, paused}
 use Rattle.step_core.specs.Stepping as G
 use Rattle.step_core.specs.Stepping.{Resumes}
 use Rattle.step_core.specs.RowTyping.{RowTyped}

@@ -1,28 +1,25 @@
 -- What one sample does, form by form, by what it does to the parts.
-use Rattle.std.proofs.Common.{◌≡◌, ℕ, zero, suc, ◌+◌, ◌<◌, ◌^◌, true, false, IsTrue, List, [], ◌∷◌, ◌++◌, Some, None, refl, sym, ap, ◌∙◌, subst, arith, append_assoc, append-nil}
-use Rattle.sample_core.specs.Datum.{Datum, unit, left, right, pair, list, list_of}
+use Rattle.std.proofs.Common.{◌≡◌, ℕ, suc, ◌+◌, ◌<◌, ◌^◌, IsTrue, List, Some, None, refl, sym, ap, ◌∙◌, subst, arith}
+use Rattle.sample_core.specs.Datum.{Datum, unit, left, right, pair}
 use Rattle.sample_core.specs.TypeTree.{TypeTree, pair_ty, event_ty}
 use Rattle.sample_core.specs.HasType.{HasType, TypedParams, pair_has, unit_has}
 use Rattle.leaf_core.specs.KeyTree.{KeyTree}
-use Rattle.net_syntax.specs.Network.{Network, Networks, no_members, and_member, par, i_pre}
+use Rattle.net_syntax.specs.Network.{Network, Networks}
 use Rattle.net_syntax.specs.Typing as N
 use Rattle.net_syntax.specs.Typing.{Arrow, AnyType, Typed, AllTyped, copies, members}
-use Rattle.cell_core.specs.Cell.{previous}
-use Rattle.state_core.specs.State.{State, States, Scope, Frozen, Frozens, seq_state, first_state, par_state, loop_state, cell_state, switch_state, d_switch_state, r_switch_state, k_switch_state, no_state, and_state, no_frozen, and_frozen, unstarted, paused, params_of, frozens_of, frozen_at, push_param, push_old, all_unstarted, all_paused}
+use Rattle.state_core.specs.State.{State, Scope, Frozen, seq_state, first_state, loop_state, switch_state, d_switch_state, r_switch_state, k_switch_state, unstarted, paused, params_of, push_param, push_old}
 use Rattle.step_core.specs.Stepping.{event_in, restart_in}
 use Rattle.state_core.specs.StillNetwork.{is_still, are_still}
-use Rattle.state_core.specs.StateView.{still_of, stills_of, append_states}
-use Rattle.state_core.specs.CountedForms.{same_input}
+use Rattle.state_core.specs.StateView.{still_of, stills_of}
 use Rattle.step_core.specs.Stepping as G
 use Rattle.step_core.specs.Stepping.{Starts, StartsEach, Resumes, Steps, StepsEach}
 use Rattle.step_core.specs.RowTyping.{RowTyped}
 use Rattle.step_core.specs.StateTyping as T
 use Rattle.step_core.specs.StateTyping.{StateTyped, StatesTyped, ScopeTyped, FrozenTyped, FrozensTyped, row_value}
-use Rattle.step_core.specs.Called.{Called}
 use Rattle.step_core.specs.Still.{Applied, AppliesWhere}
 use Rattle.step_core.specs.Runs as R
 use Rattle.step_core.specs.Runs.{Ran, RunsWhere, StillBy, SeqBy, FirstBy, LoopBy, SwitchBy, DSwitchBy, RSwitchBy, KSwitchBy, OldBy}
-use Rattle.step_core.proofs.StateTypings.{resumes_typed, row_typed, event_typed, cut_typed, pushed_param, pushed_olds, old_typed, unstarted_all, paused_all, params_typed}
+use Rattle.step_core.proofs.StateTypings.{resumes_typed, row_typed, event_typed, cut_typed, pushed_param, pushed_olds, old_typed, params_typed}
 use Rattle.step_core.proofs.StillRuns.{called_value, both_true}
 
 left_typed : {v : Datum} {A B : TypeTree} → HasType v (pair_ty A B) → HasType (left v) A

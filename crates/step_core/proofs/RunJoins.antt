@@ -1,6 +1,6 @@
 -- What the whole did, by what the parts did and how they were joined.
-use Rattle.std.proofs.Common.{◌≡◌, ℕ, suc, ◌+◌, ◌<◌, ◌^◌, List, Option, Some, None, IsTrue, refl, sym, ap, subst, ◌∙◌, arith, Result, Ok, Err, IfOk}
-use Rattle.sample_core.specs.Datum.{Datum, left, right, pair, unit}
+use Rattle.std.proofs.Common.{◌≡◌, ℕ, suc, ◌+◌, ◌<◌, ◌^◌, List, Option, Some, None, IsTrue, refl, sym, subst, arith, Result, Ok, Err, IfOk}
+use Rattle.sample_core.specs.Datum.{Datum, left, right, pair}
 use Rattle.leaf_core.specs.KeyTree.{KeyTree}
 use Rattle.net_syntax.specs.Network.{Network}
 use Rattle.state_core.specs.State.{State, Scope, Frozen, seq_state, first_state, loop_state, switch_state, d_switch_state, r_switch_state, k_switch_state, unstarted, push_param, push_old}

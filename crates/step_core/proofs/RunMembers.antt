@@ -2,26 +2,24 @@
 use Rattle.std.proofs.Common.{◌≡◌, ℕ, zero, suc, ◌+◌, ◌<◌, ◌≤◌, ◌^◌, ◌%◌, pos, List, [], ◌∷◌, ◌++◌, Some, None, refl, sym, ap, ◌∙◌, subst, arith, append_assoc, append-nil}
 use Rattle.std.proofs.Math.Nat.{mod-eq_of_lt}
 use Rattle.sample_core.specs.Datum.{Datum, pair, int, list, list_of}
-use Rattle.sample_core.specs.TypeTree.{TypeTree, int_ty, pair_ty, event_ty, list_ty}
+use Rattle.sample_core.specs.TypeTree.{TypeTree, pair_ty, event_ty, list_ty}
 use Rattle.sample_core.specs.HasType.{HasType, TypedParams, pair_has, list_has}
 use Rattle.leaf_core.specs.KeyTree.{KeyTree}
 use Rattle.net_syntax.specs.Network.{Network, Networks, no_members, and_member, par, p_switch}
 use Rattle.net_syntax.specs.Typing as N
 use Rattle.net_syntax.specs.Typing.{members}
 use Rattle.state_core.specs.CountedForms.{same_input, route_by}
-use Rattle.state_core.specs.State.{State, States, Scope, Frozen, Frozens, par_state, p_switch_state, no_state, and_state, no_frozen, and_frozen, unstarted, paused, params_of, push_param, push_olds, all_unstarted, all_paused}
+use Rattle.state_core.specs.State.{States, Scope, Frozen, Frozens, par_state, p_switch_state, no_state, and_state, no_frozen, and_frozen, unstarted, paused, params_of, push_param, push_olds, all_unstarted, all_paused}
 use Rattle.state_core.specs.StateView.{append_states}
 use Rattle.step_core.specs.Stepping as G
 use Rattle.step_core.specs.Stepping.{Starts, StartsEach, Resumes, Steps, StepsEach, event_in}
-use Rattle.step_core.specs.RowTyping.{RowTyped}
 use Rattle.step_core.specs.StateTyping as T
 use Rattle.step_core.specs.StateTyping.{FrozensTyped, row_value}
-use Rattle.step_core.specs.Called.{Called}
 use Rattle.step_core.specs.Outcome.{Outcome, ListOutcome, IsRan, IsAdded, IsListed, RunsAll, nothing_yet}
 use Rattle.step_core.specs.Plans.{IsRouted, RunsMember}
 use Rattle.step_core.specs.Runs as R
 use Rattle.step_core.specs.Runs.{Ran, RunsWhere, ParBy, PSwitchBy, Gathered, RunsEach, RanEach, RunEachWhere, Router, to_all, by_row, handed, HandsOut}
-use Rattle.step_core.proofs.StateTypings.{resumes_typed, starts_typed, steps_typed, each_starts_typed, each_steps_typed, row_typed, route_typed, small_number, event_typed, pushed_param, pushed_olds, unstarted_all, paused_all, params_typed}
+use Rattle.step_core.proofs.StateTypings.{resumes_typed, each_starts_typed, each_steps_typed, route_typed, small_number, event_typed, pushed_param, pushed_olds, unstarted_all, paused_all, params_typed}
 use Rattle.step_core.proofs.StillRuns.{called_value}
 use Rattle.step_core.proofs.RunForms.{started, stepped}
 

@@ -1,14 +1,14 @@
 -- What networks that keep nothing answer, form by form.
-use Rattle.std.proofs.Common.{◌≡◌, ℕ, suc, ◌+◌, ◌<◌, ◌^◌, Bool, true, false, ◌&&◌, IsTrue, List, [], ◌∷◌, ◌++◌, Some, slice_get, refl, sym, ap, ◌∙◌, subst, arith, append_assoc, append-nil, length}
+use Rattle.std.proofs.Common.{◌≡◌, ℕ, suc, ◌+◌, ◌<◌, ◌^◌, Bool, true, false, ◌&&◌, IsTrue, List, [], ◌∷◌, ◌++◌, refl, sym, ap, ◌∙◌, subst, arith, append_assoc, append-nil, length}
 use Rattle.sample_core.specs.Datum.{Datum, left, right, pair, list, list_of}
 use Rattle.sample_core.specs.TypeTree.{TypeTree}
 use Rattle.sample_core.specs.HasType.{HasType, TypedParams, pair_has}
 use Rattle.leaf_core.specs.KeyTree.{KeyTree}
 use Rattle.leaf_core.specs.ExpressionValue.{value_of}
 use Rattle.net_syntax.specs.Network.{Network, Networks, arr, seq, first, par, no_members, and_member}
-use Rattle.state_core.specs.State.{State, Scope, arr_state, params_of}
+use Rattle.state_core.specs.State.{arr_state}
 use Rattle.state_core.specs.StillNetwork.{is_still, are_still}
-use Rattle.state_core.specs.StateView.{still_of, stills_of}
+use Rattle.state_core.specs.StateView.{still_of}
 use Rattle.step_core.specs.Stepping as G
 use Rattle.step_core.specs.Stepping.{Starts, StartsEach, Steps, StepsEach}
 use Rattle.step_core.specs.RowTyping.{RowTyped, expression_in}

@@ -1,5 +1,5 @@
 -- What runs next, as a clean frozen network.
-use Rattle.std.specs.Prelude.{ℕ, map}
+use Rattle.std.specs.Prelude.{ℕ}
 use Rattle.net_syntax.specs.Network.{map_networks}
 use Rattle.net_syntax.specs.NetworkView.{members_of}
 use Rattle.state_core.specs.RowsView.{rows_in, row_number}

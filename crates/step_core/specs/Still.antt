@@ -1,11 +1,11 @@
 -- Networks that keep nothing: what they answer from one sample to the next.
-use Rattle.std.specs.Prelude.{◌≡◌, ℕ, ◌<◌, ◌^◌, IsTrue, List, [], ◌∷◌, ◌++◌}
+use Rattle.std.specs.Prelude.{◌≡◌, ℕ, ◌<◌, ◌^◌, IsTrue, List, ◌++◌}
 use Rattle.sample_core.specs.Datum.{Datum}
 use Rattle.sample_core.specs.TypeTree.{TypeTree}
 use Rattle.sample_core.specs.HasType.{HasType}
 use Rattle.leaf_core.specs.KeyTree.{KeyTree}
 use Rattle.net_syntax.specs.Network.{Network, Networks}
-use Rattle.state_core.specs.State.{State, States, Scope, params_of}
+use Rattle.state_core.specs.State.{Scope, params_of}
 use Rattle.state_core.specs.StillNetwork.{is_still, are_still}
 use Rattle.state_core.specs.StateView.{still_of, stills_of}
 use Rattle.state_core.specs.CountedForms.{same_input}

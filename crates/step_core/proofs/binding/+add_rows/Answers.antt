@@ -1,4 +1,4 @@
-use Rattle.std.proofs.Common.{rules, ◌≡◌, [], ◌∷◌, map, ap, sym, subst, refl, ◌∙◌, append-nil, OnOk, IfErr}
+use Rattle.std.proofs.Common.{rules, ◌≡◌, [], ◌∷◌, map, ap, sym, subst, ◌∙◌, append-nil}
 use Rattle.std.proofs.lemmas.List.{map-append}
 use Rattle.leaf_table.specs.Rows.{rows_of}
 use Rattle.net_syntax.specs.NeedView.{need_of}

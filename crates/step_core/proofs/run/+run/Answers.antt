@@ -1,4 +1,4 @@
-use Rattle.std.proofs.Common.{rules, ◌≡◌, ◌<◌, ◌+◌, ◌*◌, arith, sym, ap, ◌∙◌, subst, refl, List, ℕ, Some, None}
+use Rattle.std.proofs.Common.{rules, arith, sym, ap, ◌∙◌, refl, List}
 use Rattle.leaf_core.specs.KeyTree.{KeyTree}
 use Rattle.sample_core.specs.Datum.{Datum, pair, right}
 use Rattle.sample_core.specs.ValueView.{datum_of}
@@ -9,7 +9,7 @@ use Rattle.step_core.specs.EventView.{restart_found}
 use Rattle.step_core.specs.Plans.{IsFed, router_of}
 use Rattle.step_core.specs.Runs.{to_all, by_row, SeqBy, FirstBy, ParBy, LoopBy, SwitchBy, DSwitchBy, RSwitchBy, KSwitchBy, PSwitchBy, OldBy}
 use Rattle.step_core.specs.SourceView.{source_of, sources_of}
-use Rattle.step_core.proofs.Falling.{members_fall, seq_within, first_falls, par_falls, loop_falls, switch_within, d_switch_within, r_switch_within, k_switch_within, p_switch_within, old_falls, over_weighs, over_old_weighs, over_olds_weighs, left_within, right_within}
+use Rattle.step_core.proofs.Falling.{members_fall, seq_within, first_falls, par_falls, loop_falls, switch_within, d_switch_within, r_switch_within, k_switch_within, p_switch_within, old_falls, over_weighs, over_old_weighs, over_olds_weighs}
 use Rattle.step_core.proofs.RunJoins.{if_ok, fires_by, seq_joined, first_joined, loop_joined, switch_kept, switch_over, d_switch_kept, d_switch_over, r_switch_kept, r_switch_over, k_switch_kept, k_switch_over, old_over}
 use Rattle.step_core.proofs.RunMembers.{none_run, also_run, all_from_none, member_ran, next_number, par_joined, p_switch_kept, p_switch_over}
 use Rattle.step_core.proofs.run.+run.Goals as goal

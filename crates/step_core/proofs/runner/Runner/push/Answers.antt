@@ -1,4 +1,4 @@
-use Rattle.std.proofs.Common.{Some, ap, sym, subst, ◌∙◌, add-one, ◌+◌}
+use Rattle.std.proofs.Common.{Some, ap, subst, ◌∙◌, add-one, ◌+◌}
 use Rattle.sample_core.specs.ValueView.{datum_of}
 use Rattle.leaf_table.specs.Rows.{rows_of}
 use Rattle.step_core.specs.RunnerState.{Pushes}
