@@ -1,6 +1,6 @@
 // Reading one value off the front of a text.
 
-ghost use Rattle.std.specs.Prelude.{◌≡◌, ◌-◌, ◌≤◌, ◌∷◌, false, MatchOption, length, drop, map, IfOk, IfErr};
+ghost use Rattle.std.specs.Prelude.{◌≡◌, ◌-◌, ◌≤◌, ◌<◌, ◌∷◌, false, MatchOption, length, drop, map, IfOk, IfErr};
 ghost use Rattle.sample_core.specs.Reading.{Gives, begins_value, begins_with, wrong, behind_byte, behind_head, unit_at, truth_at, number_at, elements_at, closed_at, part_at, value_at, reading};
 ghost use Rattle.sample_core.specs.Faults.{FaultOf};
 ghost use Rattle.sample_core.specs.Datum.{pair};
@@ -9,13 +9,14 @@ ghost use Rattle.sample_core.specs.TypeView.{type_of};
 ghost use Rattle.sample_core.specs.TypeTree.{pair_ty, event_ty, list_ty};
 ghost use Rattle.sample_core.specs.SpellsValue.{SpellsValue};
 ghost use Rattle.sample_core.specs.Spelling.{spelling};
+ghost use Rattle.sample_core.specs.Words.{word_of};
 
 use crate::fault::ValueFault;
 use crate::front_number::front_number;
 use crate::number::{is_number_spelling, number};
 use crate::sample::{Sample, SampleChild, SamplePair, Samples};
 use crate::ty::{Ty, TyChild};
-use crate::words::{split_form, split_word, word_is};
+use crate::words::{behind_form, behind_word, split_form, split_word, word_is};
 use std::alloc::Global;
 
 /// Reads one value of the type at the front of the text. Answers the value and how many bytes it
@@ -73,6 +74,8 @@ fn begins_some_value(text: &[u8]) -> bool
 }
 
 /// The fault where no value of the wanted type begins.
+#[cold]
+#[inline(never)]
 #[tactic(auto, unfolding(crate::specs::Reading::wrong))]
 fn wrong_value(size: usize, text: &[u8]) -> ValueFault
     ensures { result ≡ wrong size text.now }
@@ -110,17 +113,19 @@ fn after_space(text: &[u8]) -> Option<&[u8]>
     }
 }
 
-/// What is behind a `(` and the word.
+/// What is behind a `(` and the name, which is one word.
+#[inline(always)]
 #[tactic(auto, unfolding(crate::specs::Reading::behind_head))]
 fn after_head<'t>(size: usize, text: &'t [u8], name: &str) -> Result<&'t [u8], ValueFault>
+    requires word { word_of name.now ≡ name.now }
+    requires some { 0 < length name.now }
     ensures exact { Gives (λ rest. rest.now) result (behind_head size name.now text.now) }
     ensures shorter { IfOk result (λ rest. length rest.now ≤ length text.now) }
 {
-    let (head, rest) = split_form(text);
-    if !word_is(head, name) {
-        return Err(wrong_value(size, text));
+    match behind_form(text, name) {
+        Some(rest) => Ok(rest),
+        None => Err(wrong_value(size, text)),
     }
-    Ok(rest)
 }
 
 /// The value `unit`.
@@ -129,11 +134,10 @@ fn unit(size: usize, text: &[u8]) -> Result<(Sample, &[u8]), ValueFault>
     ensures exact { Gives (λ x. (datum_of x.0, x.1.now)) result (unit_at size text.now) }
     ensures shorter { IfOk result (λ x. length x.1.now ≤ length text.now) }
 {
-    let (word, rest) = split_word(text);
-    if !word_is(word, "unit") {
-        return Err(wrong_value(size, text));
+    match behind_word(text, "unit") {
+        Some(rest) => Ok((Sample::Unit, rest)),
+        None => Err(wrong_value(size, text)),
     }
-    Ok((Sample::Unit, rest))
 }
 
 /// `true` or `false`.
@@ -142,17 +146,17 @@ fn truth(size: usize, text: &[u8]) -> Result<(Sample, &[u8]), ValueFault>
     ensures exact { Gives (λ x. (datum_of x.0, x.1.now)) result (truth_at size text.now) }
     ensures shorter { IfOk result (λ x. length x.1.now ≤ length text.now) }
 {
-    let (word, rest) = split_word(text);
-    if word_is(word, "true") {
-        Ok((Sample::Bool(true), rest))
-    } else if word_is(word, "false") {
-        Ok((Sample::Bool(false), rest))
-    } else {
-        Err(wrong_value(size, text))
+    if let Some(rest) = behind_word(text, "true") {
+        return Ok((Sample::Bool(true), rest));
+    }
+    match behind_word(text, "false") {
+        Some(rest) => Ok((Sample::Bool(false), rest)),
+        None => Err(wrong_value(size, text)),
     }
 }
 
 /// A number.
+#[inline(always)]
 fn integer(size: usize, text: &[u8]) -> Result<(Sample, &[u8]), ValueFault>
     ensures exact { Gives (λ x. (datum_of x.0, x.1.now)) result (number_at size text.now) }
     ensures shorter { IfOk result (λ x. length x.1.now ≤ length text.now) }
@@ -164,6 +168,8 @@ fn integer(size: usize, text: &[u8]) -> Result<(Sample, &[u8]), ValueFault>
 }
 
 /// A number of whatever length, by its word.
+#[cold]
+#[inline(never)]
 #[tactic(auto, unfolding(crate::specs::Reading::number_at))]
 fn long_integer(size: usize, text: &[u8]) -> Result<(Sample, &[u8]), ValueFault>
     ensures exact { Gives (λ x. (datum_of x.0, x.1.now)) result (number_at size text.now) }
@@ -273,8 +279,7 @@ fn event<'t>(
         (value_at size (event_ty ty.now) text.now) }
     ensures shorter { IfOk result (λ x. length x.1.now ≤ length text.now) }
 {
-    let (word, rest) = split_word(text);
-    if word_is(word, "none") {
+    if let Some(rest) = behind_word(text, "none") {
         return Ok((Sample::NoEvent, rest));
     }
     let rest = after_head(size, text, "event")?;
