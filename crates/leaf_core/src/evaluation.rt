@@ -1,19 +1,19 @@
 // The value of an expression.
 
-ghost use Rattle.std.specs.Prelude.{◌≡◌, IfOk, map, pos};
+ghost use Rattle.std.specs.Prelude.{◌≡◌, IfOk, map, pos, neg_ℤ, int_lt, not};
+ghost use Rattle.std.specs.Int.{int_wrap, w64};
 ghost use Rattle.sample_core.specs.Datum.{int_of, pair};
 ghost use Rattle.sample_core.specs.ValueView.{datum_of};
 ghost use Rattle.leaf_core.specs.Expression.{expressions_of, on};
 ghost use Rattle.leaf_core.specs.ExpressionView.{expression_of};
-ghost use Rattle.leaf_core.specs.ExpressionValue.{value_of, values_of, is_true, choose, element_at, count_of, of_ints, of_two, on_event, part_of, wrap};
+ghost use Rattle.leaf_core.specs.ExpressionValue.{value_of, values_of, is_true, choose, element_at, count_of, sum_by, logic_by, same_datum, on_event, part_of};
 ghost use Rattle.leaf_core.specs.LookedView.{looked_value};
 
 use crate::expr::{Expr, ExprChild, Exprs};
 use crate::literal::Literal;
 use crate::looked::{Looked, path_at};
 use crate::operations::{
-    copied_param, count, element, literal_value, negated, number, of_numbers, of_two, part, sum_of,
-    truth,
+    copied_param, count, element, equal, literal_value, negated, number, part, sum_of, truth,
 };
 use sample_core::{Memory, Sample, SampleChild, SamplePair, Samples};
 use std::alloc::Global;
@@ -39,19 +39,15 @@ pub fn eval(alloc: Global, expr: &Expr, params: &[Sample], x: &Sample) -> Result
         Expr::Pair(a, b) => eval_pair(alloc, a, b, params, x),
         Expr::Fst(e) | Expr::Snd(e) => eval_part(alloc, expr, e, params, x),
         Expr::Then(f, g) => eval_then(alloc, f, g, params, x),
-        Expr::Neg(a) => {
-            let a = eval_number(alloc, a, params, x)?;
-            Ok(negated(a))
+        Expr::Neg(a) => eval_neg(alloc, a, params, x).map(Sample::Int),
+        Expr::Add(a, b) | Expr::Sub(a, b) | Expr::Mul(a, b) => {
+            eval_sum(alloc, expr, a, b, params, x).map(Sample::Int)
         }
-        Expr::Add(a, b) | Expr::Sub(a, b) | Expr::Mul(a, b) | Expr::Less(a, b) => {
-            eval_numbers(alloc, expr, a, b, params, x)
-        }
-        Expr::Equal(a, b) | Expr::And(a, b) | Expr::Or(a, b) => {
-            eval_two(alloc, expr, a, b, params, x)
-        }
-        Expr::Not(a) => {
-            let a = eval_truth(alloc, a, params, x)?;
-            Ok(Sample::Bool(!a))
+        Expr::Less(a, b) => eval_less(alloc, a, b, params, x).map(Sample::Bool),
+        Expr::Equal(a, b) => eval_equal(alloc, a, b, params, x).map(Sample::Bool),
+        Expr::Not(a) => eval_not(alloc, a, params, x).map(Sample::Bool),
+        Expr::And(a, b) | Expr::Or(a, b) => {
+            eval_logic(alloc, expr, a, b, params, x).map(Sample::Bool)
         }
         Expr::If(c, a, b) => eval_if(alloc, c, a, b, params, x),
         Expr::NoEvent(_) => Ok(Sample::NoEvent),
@@ -65,7 +61,7 @@ pub fn eval(alloc: Global, expr: &Expr, params: &[Sample], x: &Sample) -> Result
             Ok(Sample::List(elements))
         }
         Expr::Nth(e, i, d) => eval_nth(alloc, e, i, d, params, x),
-        Expr::Len(e) => eval_len(alloc, e, params, x),
+        Expr::Len(e) => eval_len(alloc, e, params, x).map(Sample::Int),
     }
 }
 
@@ -189,47 +185,6 @@ fn eval_then(
     let found = eval(alloc, g.get(), params, between.get());
     drop(between);
     found
-}
-
-/// What the form makes of the values of two parts.
-#[cycle(eval)]
-fn eval_two(
-    alloc: Global,
-    form: &Expr,
-    a: &ExprChild,
-    b: &ExprChild,
-    params: &[Sample],
-    x: &Sample,
-) -> Result<Sample, Memory>
-    ensures { IfOk result
-        (λ s. datum_of s ≡ of_two (expression_of form.now)
-        (value_of a.now (map datum_of params.now) (datum_of x.now))
-        (value_of b.now (map datum_of params.now) (datum_of x.now))) }
-{
-    let first = look(alloc, a, params, x)?;
-    let found = eval_with(alloc, form, first.get(), b, params, x);
-    drop(first);
-    found
-}
-
-/// What the form makes of a value and the value of a part.
-#[cycle(eval)]
-fn eval_with(
-    alloc: Global,
-    form: &Expr,
-    value: &Sample,
-    part: &ExprChild,
-    params: &[Sample],
-    x: &Sample,
-) -> Result<Sample, Memory>
-    ensures { IfOk result
-        (λ s. datum_of s ≡ of_two (expression_of form.now) (datum_of value.now)
-        (value_of part.now (map datum_of params.now) (datum_of x.now))) }
-{
-    let other = look(alloc, part, params, x)?;
-    let found = of_two(form, value, other.get());
-    drop(other);
-    Ok(found)
 }
 
 /// The value of one of two expressions.
@@ -372,19 +327,6 @@ fn eval_element(
     }
 }
 
-/// The value of a length.
-#[cycle(eval)]
-fn eval_len(alloc: Global, e: &ExprChild, params: &[Sample], x: &Sample) -> Result<Sample, Memory>
-    ensures { IfOk result
-        (λ s. datum_of s
-        ≡ wrap (pos (count_of (value_of e.now (map datum_of params.now) (datum_of x.now))))) }
-{
-    let list = look(alloc, e, params, x)?;
-    let elements = count(list.get());
-    drop(list);
-    Ok(Sample::Int(elements))
-}
-
 /// The value of a part, as a part of another.
 #[cycle(eval)]
 fn eval_child(
@@ -397,26 +339,6 @@ fn eval_child(
 {
     let value = eval(alloc, part.get(), params, x)?;
     SampleChild::new(alloc, value)
-}
-
-/// A sum, a difference, a product or a comparison of numbers.
-#[cycle(eval)]
-fn eval_numbers(
-    alloc: Global,
-    form: &Expr,
-    a: &ExprChild,
-    b: &ExprChild,
-    params: &[Sample],
-    x: &Sample,
-) -> Result<Sample, Memory>
-    ensures { IfOk result
-        (λ s. datum_of s ≡ of_ints (expression_of form.now)
-        (int_of (value_of a.now (map datum_of params.now) (datum_of x.now)))
-        (int_of (value_of b.now (map datum_of params.now) (datum_of x.now)))) }
-{
-    let a = eval_number(alloc, a, params, x)?;
-    let b = eval_number(alloc, b, params, x)?;
-    Ok(of_numbers(form, a, b))
 }
 
 /// The number that a part has as its value; 0 where that is no number.
@@ -433,11 +355,58 @@ fn eval_number(
     let form = part.get();
     match form {
         Expr::Literal(Literal::Int(n)) => Ok(*n),
+        Expr::Neg(a) => eval_neg(alloc, a, params, x),
         Expr::Add(a, b) | Expr::Sub(a, b) | Expr::Mul(a, b) => {
             eval_sum(alloc, form, a, b, params, x)
         }
+        Expr::Len(e) => eval_len(alloc, e, params, x),
         _ => look_number(alloc, part, params, x),
     }
+}
+
+/// The number that a part of another form has as its value: read where it stands on a path.
+#[cycle(eval)]
+fn look_number(
+    alloc: Global,
+    part: &ExprChild,
+    params: &[Sample],
+    x: &Sample,
+) -> Result<i64, Memory>
+    ensures { IfOk result
+        (λ n. n ≡ int_of (value_of part.now (map datum_of params.now) (datum_of x.now))) }
+{
+    match path_at(part.get(), params, x) {
+        Some(value) => Ok(number(value)),
+        None => made_number(alloc, part, params, x),
+    }
+}
+
+/// The same, where the value is on no path.
+#[cycle(eval)]
+fn made_number(
+    alloc: Global,
+    part: &ExprChild,
+    params: &[Sample],
+    x: &Sample,
+) -> Result<i64, Memory>
+    ensures { IfOk result
+        (λ n. n ≡ int_of (value_of part.now (map datum_of params.now) (datum_of x.now))) }
+{
+    let value = eval(alloc, part.get(), params, x)?;
+    let number = number(&value);
+    drop(value);
+    Ok(number)
+}
+
+/// The negative of a number.
+#[cycle(eval)]
+fn eval_neg(alloc: Global, a: &ExprChild, params: &[Sample], x: &Sample) -> Result<i64, Memory>
+    ensures { IfOk result
+        (λ n. n ≡ int_wrap w64
+        (neg_ℤ (int_of (value_of a.now (map datum_of params.now) (datum_of x.now))))) }
+{
+    let a = eval_number(alloc, a, params, x)?;
+    Ok(negated(a))
 }
 
 /// The number that a sum, a difference or a product is.
@@ -451,32 +420,26 @@ fn eval_sum(
     x: &Sample,
 ) -> Result<i64, Memory>
     ensures { IfOk result
-        (λ n. n
-        ≡ int_of
-        (of_ints (expression_of form.now)
+        (λ n. n ≡ sum_by (expression_of form.now)
         (int_of (value_of a.now (map datum_of params.now) (datum_of x.now)))
-        (int_of (value_of b.now (map datum_of params.now) (datum_of x.now))))) }
+        (int_of (value_of b.now (map datum_of params.now) (datum_of x.now)))) }
 {
     let a = eval_number(alloc, a, params, x)?;
     let b = eval_number(alloc, b, params, x)?;
     Ok(sum_of(form, a, b))
 }
 
-/// The number that a part of another form has as its value.
+/// The length of a list.
 #[cycle(eval)]
-fn look_number(
-    alloc: Global,
-    part: &ExprChild,
-    params: &[Sample],
-    x: &Sample,
-) -> Result<i64, Memory>
+fn eval_len(alloc: Global, e: &ExprChild, params: &[Sample], x: &Sample) -> Result<i64, Memory>
     ensures { IfOk result
-        (λ n. n ≡ int_of (value_of part.now (map datum_of params.now) (datum_of x.now))) }
+        (λ n. n ≡ int_wrap w64
+        (pos (count_of (value_of e.now (map datum_of params.now) (datum_of x.now))))) }
 {
-    let value = look(alloc, part, params, x)?;
-    let number = number(value.get());
-    drop(value);
-    Ok(number)
+    let list = look(alloc, e, params, x)?;
+    let elements = count(list.get());
+    drop(list);
+    Ok(elements)
 }
 
 /// Whether a part has `true` as its value.
@@ -488,12 +451,142 @@ fn eval_truth(
     x: &Sample,
 ) -> Result<bool, Memory>
     ensures { IfOk result
-        (λ b. b ≡ is_true (value_of part.now (map datum_of params.now) (datum_of x.now))) }
+        (λ t. t ≡ is_true (value_of part.now (map datum_of params.now) (datum_of x.now))) }
 {
-    let value = look(alloc, part, params, x)?;
-    let truth = truth(value.get());
+    let form = part.get();
+    match form {
+        Expr::Literal(Literal::Bool(t)) => Ok(*t),
+        Expr::Less(a, b) => eval_less(alloc, a, b, params, x),
+        Expr::Equal(a, b) => eval_equal(alloc, a, b, params, x),
+        Expr::Not(a) => eval_not(alloc, a, params, x),
+        Expr::And(a, b) | Expr::Or(a, b) => eval_logic(alloc, form, a, b, params, x),
+        _ => look_truth(alloc, part, params, x),
+    }
+}
+
+/// Whether a part of another form has `true` as its value: read where it stands on a path.
+#[cycle(eval)]
+fn look_truth(
+    alloc: Global,
+    part: &ExprChild,
+    params: &[Sample],
+    x: &Sample,
+) -> Result<bool, Memory>
+    ensures { IfOk result
+        (λ t. t ≡ is_true (value_of part.now (map datum_of params.now) (datum_of x.now))) }
+{
+    match path_at(part.get(), params, x) {
+        Some(value) => Ok(truth(value)),
+        None => made_truth(alloc, part, params, x),
+    }
+}
+
+/// The same, where the value is on no path.
+#[cycle(eval)]
+fn made_truth(
+    alloc: Global,
+    part: &ExprChild,
+    params: &[Sample],
+    x: &Sample,
+) -> Result<bool, Memory>
+    ensures { IfOk result
+        (λ t. t ≡ is_true (value_of part.now (map datum_of params.now) (datum_of x.now))) }
+{
+    let value = eval(alloc, part.get(), params, x)?;
+    let truth = truth(&value);
     drop(value);
     Ok(truth)
+}
+
+/// Whether one number is less than another.
+#[cycle(eval)]
+fn eval_less(
+    alloc: Global,
+    a: &ExprChild,
+    b: &ExprChild,
+    params: &[Sample],
+    x: &Sample,
+) -> Result<bool, Memory>
+    ensures { IfOk result
+        (λ t. t ≡ int_lt (int_of (value_of a.now (map datum_of params.now) (datum_of x.now)))
+        (int_of (value_of b.now (map datum_of params.now) (datum_of x.now)))) }
+{
+    let a = eval_number(alloc, a, params, x)?;
+    let b = eval_number(alloc, b, params, x)?;
+    Ok(a < b)
+}
+
+/// Whether two values are the same.
+#[cycle(eval)]
+fn eval_equal(
+    alloc: Global,
+    a: &ExprChild,
+    b: &ExprChild,
+    params: &[Sample],
+    x: &Sample,
+) -> Result<bool, Memory>
+    ensures { IfOk result
+        (λ t. t ≡ same_datum (value_of a.now (map datum_of params.now) (datum_of x.now))
+        (value_of b.now (map datum_of params.now) (datum_of x.now))) }
+{
+    let value = look(alloc, a, params, x)?;
+    let found = eval_equal_to(alloc, value.get(), b, params, x);
+    drop(value);
+    found
+}
+
+/// Whether a part has that value.
+#[cycle(eval)]
+fn eval_equal_to(
+    alloc: Global,
+    value: &Sample,
+    part: &ExprChild,
+    params: &[Sample],
+    x: &Sample,
+) -> Result<bool, Memory>
+    ensures { IfOk result
+        (λ t. t ≡ same_datum (datum_of value.now)
+        (value_of part.now (map datum_of params.now) (datum_of x.now))) }
+{
+    let other = look(alloc, part, params, x)?;
+    let found = equal(value, other.get());
+    drop(other);
+    Ok(found)
+}
+
+/// Whether a part does not have `true` as its value.
+#[cycle(eval)]
+fn eval_not(alloc: Global, a: &ExprChild, params: &[Sample], x: &Sample) -> Result<bool, Memory>
+    ensures { IfOk result
+        (λ t. t ≡ not (is_true (value_of a.now (map datum_of params.now) (datum_of x.now)))) }
+{
+    let a = eval_truth(alloc, a, params, x)?;
+    Ok(!a)
+}
+
+/// Whether both parts hold, or one or both of them, as the form says. Where the first decides, the
+/// second is not looked at.
+#[cycle(eval)]
+fn eval_logic(
+    alloc: Global,
+    form: &Expr,
+    a: &ExprChild,
+    b: &ExprChild,
+    params: &[Sample],
+    x: &Sample,
+) -> Result<bool, Memory>
+    ensures { IfOk result
+        (λ t. t ≡ logic_by (expression_of form.now)
+        (is_true (value_of a.now (map datum_of params.now) (datum_of x.now)))
+        (is_true (value_of b.now (map datum_of params.now) (datum_of x.now)))) }
+{
+    let first = eval_truth(alloc, a, params, x)?;
+    match (form, first) {
+        (Expr::And(..), false) => Ok(false),
+        (Expr::And(..), true) => eval_truth(alloc, b, params, x),
+        (_, true) => Ok(true),
+        (_, false) => eval_truth(alloc, b, params, x),
+    }
 }
 
 /// The values of the elements of a list expression, in order.

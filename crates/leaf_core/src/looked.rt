@@ -41,10 +41,13 @@ pub fn path_at<'v>(expr: &Expr, params: &'v [Sample], x: &'v Sample) -> Option<&
     match expr {
         Expr::Input => Some(x),
         Expr::Param(k) => param(params, *k),
-        Expr::Fst(e) | Expr::Snd(e) => {
-            let value = path_at(e.get(), params, x)?;
-            Some(part(expr, value))
-        }
+        Expr::Fst(e) | Expr::Snd(e) => match e.get() {
+            Expr::Input => Some(part(expr, x)),
+            e => match path_at(e, params, x) {
+                Some(value) => Some(part(expr, value)),
+                None => None,
+            },
+        },
         _ => None,
     }
 }
