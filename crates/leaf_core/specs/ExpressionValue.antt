@@ -65,25 +65,22 @@ abbrev pub on_event : Datum → Datum → (Datum → Datum) → Datum
 on_event (event v) d b = b v
 on_event _ d b = d
 
--- the sum, the difference, the product or the comparison of two numbers, as the form says
-abbrev pub of_ints : Expression → ℤ → ℤ → Datum
-of_ints (add _ _) m n = wrap (m +ℤ n)
-of_ints (sub _ _) m n = wrap (m -ℤ n)
-of_ints (mul _ _) m n = wrap (m *ℤ n)
-of_ints _ m n = bool (int_lt m n)
+-- the sum, the difference or the product of two numbers, as the form says; 0 under another form
+abbrev pub sum_by : Expression → ℤ → ℤ → ℤ
+sum_by (add _ _) m n = int_wrap w64 (m +ℤ n)
+sum_by (sub _ _) m n = int_wrap w64 (m -ℤ n)
+sum_by (mul _ _) m n = int_wrap w64 (m *ℤ n)
+sum_by _ m n = pos 0
+
+-- whether both hold, or whether one or both do, as the form says
+abbrev pub logic_by : Expression → Bool → Bool → Bool
+logic_by (and_expr _ _) p q = p && q
+logic_by _ p q = p || q
 
 -- the first or the second part of a pair, as the form says
 abbrev pub part_of : Expression → Datum → Datum
 part_of (fst _) v = left v
 part_of _ v = right v
-
--- what the form makes of two values: whether they are the same, whether both or one of them hold,
--- or of_ints
-abbrev pub of_two : Expression → Datum → Datum → Datum
-of_two (equal _ _) v w = bool (same_datum v w)
-of_two (and_expr _ _) v w = bool (is_true v && is_true w)
-of_two (or_expr _ _) v w = bool (is_true v || is_true w)
-of_two form v w = of_ints form (int_of v) (int_of w)
 
 -- the value under parameters ps at the input x; a default where it is ill typed
 abbrev mutual

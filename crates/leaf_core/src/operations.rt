@@ -5,7 +5,7 @@ ghost use Rattle.std.specs.Int.{int_wrap, w64};
 ghost use Rattle.sample_core.specs.Datum.{Datum, int_of, unit};
 ghost use Rattle.sample_core.specs.ValueView.{datum_of};
 ghost use Rattle.leaf_core.specs.ExpressionView.{expression_of, literal_of};
-ghost use Rattle.leaf_core.specs.ExpressionValue.{value_of, wrap, is_true, of_ints, of_two, part_of, element_at, count_of, param_at, same_datum};
+ghost use Rattle.leaf_core.specs.ExpressionValue.{value_of, is_true, sum_by, part_of, element_at, count_of, param_at, same_datum};
 
 use crate::expr::Expr;
 use crate::literal::Literal;
@@ -34,27 +34,16 @@ pub fn number(value: &Sample) -> i64
 }
 
 /// The number's negative, modulo 2^64, read as signed.
-pub fn negated(n: i64) -> Sample
-    ensures { datum_of result ≡ wrap (neg_ℤ n) }
+pub fn negated(n: i64) -> i64
+    ensures { result ≡ int_wrap w64 (neg_ℤ n) }
 {
-    Sample::Int(n.wrapping_neg())
-}
-
-/// The sum, the difference, the product or the comparison of two numbers, as the form says. The
-/// first three are taken modulo 2^64 and read as signed.
-pub fn of_numbers(form: &Expr, m: i64, n: i64) -> Sample
-    ensures { datum_of result ≡ of_ints (expression_of form.now) m n }
-{
-    match form {
-        Expr::Add(..) | Expr::Sub(..) | Expr::Mul(..) => Sample::Int(sum_of(form, m, n)),
-        _ => Sample::Bool(m < n),
-    }
+    n.wrapping_neg()
 }
 
 /// The sum, the difference or the product of two numbers, as the form says, modulo 2^64 and read as
 /// signed; 0 under another form.
 pub fn sum_of(form: &Expr, m: i64, n: i64) -> i64
-    ensures { result ≡ int_of (of_ints (expression_of form.now) m n) }
+    ensures { result ≡ sum_by (expression_of form.now) m n }
 {
     match form {
         Expr::Add(..) => m.wrapping_add(n),
@@ -69,19 +58,6 @@ pub fn truth(value: &Sample) -> bool
     ensures { result ≡ is_true (datum_of value.now) }
 {
     matches!(value, Sample::Bool(true))
-}
-
-/// What the form makes of two values: whether they are the same, whether both or one of them
-/// hold, or what `of_numbers` does.
-pub fn of_two(form: &Expr, v: &Sample, w: &Sample) -> Sample
-    ensures { datum_of result ≡ of_two (expression_of form.now) (datum_of v.now) (datum_of w.now) }
-{
-    match form {
-        Expr::Equal(..) => Sample::Bool(equal(v, w)),
-        Expr::And(..) => Sample::Bool(truth(v) && truth(w)),
-        Expr::Or(..) => Sample::Bool(truth(v) || truth(w)),
-        _ => of_numbers(form, number(v), number(w)),
-    }
 }
 
 /// The first or the second part of a pair, as the form says; another value itself.
@@ -146,7 +122,7 @@ pub fn count(value: &Sample) -> i64
 }
 
 /// Whether two values are the same.
-fn equal(a: &Sample, b: &Sample) -> bool
+pub fn equal(a: &Sample, b: &Sample) -> bool
     ensures { result ≡ same_datum (datum_of a.now) (datum_of b.now) }
 {
     same(a, b)

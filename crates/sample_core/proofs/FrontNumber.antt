@@ -1,15 +1,15 @@
 -- Digits at the front of a text, one by one, and the number that they spell.
-use Rattle.std.proofs.Common.{◌≡◌, ℕ, zero, suc, ◌+◌, ◌-◌, ◌*◌, ◌^◌, ◌≤◌, ◌<◌, true, false, List, [], ◌∷◌, ◌++◌, length, get_or, take, drop, refl, sym, ap, ◌∙◌, arith, ℤ, pos, neg_ℤ, w64, FitsSigned}
+use Rattle.std.proofs.Common.{◌≡◌, ℕ, zero, suc, ◌+◌, ◌-◌, ◌*◌, ◌^◌, ◌≤◌, ◌<◌, true, false, List, [], ◌∷◌, ◌++◌, length, get_or, take, drop, refl, sym, ap, ◌∙◌, arith, pos, neg_ℤ}
 use Rattle.std.specs.Char.{is_ascii_digit}
-use Rattle.std.specs.Fmt.{decimal, signed_decimal}
+use Rattle.std.specs.Fmt.{decimal}
 use Rattle.std.specs.Str.{all_ascii_digits}
 use Rattle.std.specs.Str.Parse.{digits_value}
 use Rattle.std.proofs.lemmas.Bool.Decides.{nat_tests}
 use Rattle.std.proofs.lemmas.Fmt.{decimal-digits_value}
-use Rattle.std.proofs.lemmas.List.{take-append-drop, take_all}
+use Rattle.std.proofs.lemmas.List.{take-append-drop, take_all, length-take}
 use Rattle.std.proofs.lemmas.Int.Digits.{digits_value_more}
 use Rattle.std.proofs.lemmas.Str.{digit_value_digit}
-use Rattle.std.proofs.lemmas.Str.Parse.{numerals_by_value, tells_all_ascii_digits}
+use Rattle.std.proofs.lemmas.Str.Parse.{numerals_by_value, tells_all_ascii_digits, digits_value_short}
 use Rattle.sample_core.specs.Datum.{int}
 use Rattle.sample_core.specs.HasType.{int_has}
 use Rattle.sample_core.specs.SpellsValue.{SpellsValue}
@@ -58,3 +58,8 @@ pub front_spelled : (text : List ℕ) (i : ℕ) → all_ascii_digits (take i tex
     text ≡ decimal (digits_value 10 (take i text)) ++ drop i text
 front_spelled text i a s f l = sym (take-append-drop i text) ∙
     ap (λ x. x ++ drop i text) (sym (decimal-digits_value (numerals_by_value _ tells_all_ascii_digits) (take i text) a s f (omega arith)))
+
+-- few digits write a small number
+pub few_digits : (text : List ℕ) (i k : ℕ) → i ≤ k → all_ascii_digits (take i text) ≡ true → digits_value 10 (take i text) < 10 ^ k
+few_digits text i k l a =
+    digits_value_short (numerals_by_value _ tells_all_ascii_digits) (take i text) k a (omega (arith, length-take i text))

@@ -1,13 +1,18 @@
 -- Words and what is behind them.
-use Rattle.std.proofs.Common.{◌≡◌, ℕ, suc, Bool, true, false, ◌&&◌, nat_eq, nat_le, List, [], ◌∷◌, ◌++◌, refl, ap, sym, ◌∙◌, arith, ℤ, pos, negsuc, if◌then◌else◌, w64, FitsSigned}
+use Rattle.std.proofs.Common.{◌≡◌, ◌≢◌, true≢false, ℕ, suc, Bool, true, false, ◌&&◌, nat_eq, nat_le, List, [], ◌∷◌, ◌++◌, refl, ap, sym, ◌∙◌, arith, ℤ, pos, negsuc, if◌then◌else◌, w64, FitsSigned}
 use Rattle.std.specs.Prelude.{bytes_eq}
 use Rattle.std.specs.Fmt.{decimal, signed_decimal}
 use Rattle.std.specs.Str.{all_ascii_digits}
 use Rattle.std.proofs.lemmas.Bool.{le-leb, eqb-true}
+use Rattle.std.proofs.lemmas.List.{append_cancel_left}
 use Rattle.std.proofs.lemmas.Slice.Eq.{bytes_eq-Decides}
 use Rattle.std.proofs.lemmas.Str.Parse.{tells_all_ascii_digits}
 use Rattle.sample_core.specs.Words.{is_value_byte, goes_on, word_of, after_word, form_word, after_form}
 use Rattle.sample_core.proofs.Numbers.{parts_of, both, signed_digits}
+
+abbrev tail_of : List ℕ → List ℕ
+tail_of [] = []
+tail_of (b ∷ bs) = bs
 
 pub no_word : (bs : List ℕ) → goes_on bs ≡ false → word_of bs ≡ []
 no_word [] e = refl
@@ -82,3 +87,39 @@ digits_word (d ∷ ds) e =
 pub number_is_word : (z : ℤ) → FitsSigned w64 z → is_one_word (signed_decimal z) ≡ true
 number_is_word (pos n) f = digits_word (decimal n) (signed_digits (pos n) f)
 number_is_word (negsuc n) f = digits_word (decimal (suc n)) (signed_digits (negsuc n) f)
+
+-- a word's bytes go on it
+pub one_word : (w : List ℕ) → word_of w ≡ w → is_one_word w ≡ true
+one_word [] e = refl
+one_word (b ∷ w) e = go (is_value_byte b) refl e (one_word w)
+  where
+    go : (p : Bool) → is_value_byte b ≡ p → (if p then b ∷ word_of w else []) ≡ b ∷ w → (word_of w ≡ w → is_one_word w ≡ true)
+        → (is_value_byte b && is_one_word w) ≡ true
+    go true q h i = both (is_value_byte b) (is_one_word w) q (i (ap tail_of h))
+    go false q h i = absurd (cc)
+
+-- the name in front, and nothing that goes on it
+pub word_found : (text w rest : List ℕ) → word_of w ≡ w → text ≡ w ++ rest → goes_on rest ≡ false →
+    (bytes_eq (word_of text) w ≡ true) × (after_word text ≡ rest)
+word_found text w rest o e g = (
+  (bytes_eq-Decides (word_of text) w).1 (ap word_of e ∙ word_all w rest (one_word w o) g),
+  ap after_word e ∙ behind_all w rest (one_word w o) g,
+)
+
+-- the name in front, and a byte that goes on it
+pub word_longer : (text w rest : List ℕ) → text ≡ w ++ rest → goes_on rest ≡ true → bytes_eq (word_of text) w ≡ false
+word_longer text w rest e g = go (bytes_eq (word_of text) w) refl
+  where
+    go : (p : Bool) → bytes_eq (word_of text) w ≡ p → p ≡ false
+    go false q = refl
+    go true q =
+        let r : rest ≡ after_word text = append_cancel_left w rest (after_word text) (sym e ∙ at_word text w q) in
+        absurd (true≢false (sym g ∙ ap goes_on r ∙ (split text).1))
+
+-- another beginning
+pub word_missing : (text w : List ℕ) → ((rest : List ℕ) → text ≢ w ++ rest) → bytes_eq (word_of text) w ≡ false
+word_missing text w n = go (bytes_eq (word_of text) w) refl
+  where
+    go : (p : Bool) → bytes_eq (word_of text) w ≡ p → p ≡ false
+    go false q = refl
+    go true q = absurd (n (after_word text) (at_word text w q))

@@ -9,13 +9,14 @@ ghost use Rattle.sample_core.specs.TypeTree.{int_ty};
 ghost use Rattle.sample_core.specs.SpellsValue.{SpellsValue};
 ghost use Rattle.sample_core.specs.Words.{goes_on as is_longer};
 
-use crate::words::is_value_byte;
+use crate::words::goes_on;
 
-/// Where no further digit is taken: so a number has at most 18 of them.
-const FULL: u64 = 100_000_000_000_000_000;
+/// How many digits are taken: a number that they write has 64 bits.
+const MOST: usize = 18;
 
 /// The number at the front, and what is behind it. `None` says nothing of the text: what is no
 /// number, and one of more than 18 digits, are left to the reader of words.
+#[inline(always)]
 pub(crate) fn front_number(text: &[u8]) -> Option<(i64, &[u8])>
     ensures spelled { IfSome result (λ x. SpellsValue (int x.0) int_ty text.now x.1.now) }
     ensures shorter { IfSome result (λ x. length x.1.now ≤ length text.now) }
@@ -37,6 +38,7 @@ pub(crate) fn front_number(text: &[u8]) -> Option<(i64, &[u8])>
 }
 
 /// The same of a number with no `-`.
+#[inline(always)]
 fn front_natural(text: &[u8]) -> Option<(u64, &[u8])>
     ensures spelled { IfSome result (λ x. text.now ≡ decimal x.0 ++ x.1.now) }
     ensures apart { IfSome result (λ x. is_longer x.1.now ≡ false) }
@@ -51,6 +53,7 @@ fn front_natural(text: &[u8]) -> Option<(u64, &[u8])>
 }
 
 /// Whether digits spell their number in the one way: there are some, and no 0 in front of others.
+#[inline(always)]
 fn is_one_spelling(digits: &[u8]) -> bool
     ensures some { IsTrue result → 0 < length digits.now }
     ensures first { IsTrue result → slice_index digits.now 0 ≡ 48 → length digits.now ≡ 1 }
@@ -61,30 +64,22 @@ fn is_one_spelling(digits: &[u8]) -> bool
     }
 }
 
-/// Whether a word goes on there.
-fn goes_on(text: &[u8]) -> bool
-    ensures { result ≡ is_longer text.now }
-{
-    match text {
-        [] => false,
-        [byte, ..] => is_value_byte(*byte),
-    }
-}
-
-/// How many digits are at the front, at most 18 of them after zeros, and the number that they
-/// write.
+/// How many digits are at the front, at most 18, and the number that they write.
+#[inline(always)]
 fn front_digits(text: &[u8]) -> (usize, u64)
     ensures within { result.0 ≤ length text.now }
     ensures digits { all_ascii_digits (take result.0 text.now) ≡ true }
     ensures value { result.1 ≡ digits_value 10 (take result.0 text.now) }
     ensures small { result.1 < 10 ^ 18 }
 {
+    let most = text.len().min(MOST);
     let mut n: u64 = 0;
-    for (len, byte) in text.iter().enumerate() {
-        if n >= FULL || !byte.is_ascii_digit() {
+    for len in 0..most {
+        let byte = text[len];
+        if !byte.is_ascii_digit() {
             return (len, n);
         }
-        n = n * 10 + u64::from(*byte - b'0');
+        n = n * 10 + u64::from(byte - b'0');
     }
-    (text.len(), n)
+    (most, n)
 }

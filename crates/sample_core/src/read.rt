@@ -1,21 +1,22 @@
 // Reading one value off the front of a text.
 
-ghost use Rattle.std.specs.Prelude.{◌≡◌, ◌-◌, ◌≤◌, ◌∷◌, false, MatchOption, length, drop, map, IfOk, IfErr};
+ghost use Rattle.std.specs.Prelude.{◌≡◌, ◌-◌, ◌≤◌, ◌<◌, ◌∷◌, false, MatchOption, length, drop, map, IfOk, IfErr};
 ghost use Rattle.sample_core.specs.Reading.{Gives, begins_value, begins_with, wrong, behind_byte, behind_head, unit_at, truth_at, number_at, elements_at, closed_at, part_at, value_at, reading};
 ghost use Rattle.sample_core.specs.Faults.{FaultOf};
-ghost use Rattle.sample_core.specs.Datum.{pair};
+ghost use Rattle.sample_core.specs.Datum.{int, pair};
 ghost use Rattle.sample_core.specs.ValueView.{datum_of};
 ghost use Rattle.sample_core.specs.TypeView.{type_of};
-ghost use Rattle.sample_core.specs.TypeTree.{pair_ty, event_ty, list_ty};
+ghost use Rattle.sample_core.specs.TypeTree.{int_ty, pair_ty, event_ty, list_ty};
 ghost use Rattle.sample_core.specs.SpellsValue.{SpellsValue};
 ghost use Rattle.sample_core.specs.Spelling.{spelling};
+ghost use Rattle.sample_core.specs.Words.{word_of};
 
 use crate::fault::ValueFault;
 use crate::front_number::front_number;
 use crate::number::{is_number_spelling, number};
 use crate::sample::{Sample, SampleChild, SamplePair, Samples};
 use crate::ty::{Ty, TyChild};
-use crate::words::{split_form, split_word, word_is};
+use crate::words::{behind_form, behind_word, split_form, split_word, word_is};
 use std::alloc::Global;
 
 /// Reads one value of the type at the front of the text. Answers the value and how many bytes it
@@ -73,6 +74,8 @@ fn begins_some_value(text: &[u8]) -> bool
 }
 
 /// The fault where no value of the wanted type begins.
+#[cold]
+#[inline(never)]
 #[tactic(auto, unfolding(crate::specs::Reading::wrong))]
 fn wrong_value(size: usize, text: &[u8]) -> ValueFault
     ensures { result ≡ wrong size text.now }
@@ -110,17 +113,19 @@ fn after_space(text: &[u8]) -> Option<&[u8]>
     }
 }
 
-/// What is behind a `(` and the word.
+/// What is behind a `(` and the name, which is one word.
+#[inline(always)]
 #[tactic(auto, unfolding(crate::specs::Reading::behind_head))]
 fn after_head<'t>(size: usize, text: &'t [u8], name: &str) -> Result<&'t [u8], ValueFault>
+    requires word { word_of name.now ≡ name.now }
+    requires some { 0 < length name.now }
     ensures exact { Gives (λ rest. rest.now) result (behind_head size name.now text.now) }
     ensures shorter { IfOk result (λ rest. length rest.now ≤ length text.now) }
 {
-    let (head, rest) = split_form(text);
-    if !word_is(head, name) {
-        return Err(wrong_value(size, text));
+    match behind_form(text, name) {
+        Some(rest) => Ok(rest),
+        None => Err(wrong_value(size, text)),
     }
-    Ok(rest)
 }
 
 /// The value `unit`.
@@ -129,11 +134,10 @@ fn unit(size: usize, text: &[u8]) -> Result<(Sample, &[u8]), ValueFault>
     ensures exact { Gives (λ x. (datum_of x.0, x.1.now)) result (unit_at size text.now) }
     ensures shorter { IfOk result (λ x. length x.1.now ≤ length text.now) }
 {
-    let (word, rest) = split_word(text);
-    if !word_is(word, "unit") {
-        return Err(wrong_value(size, text));
+    match behind_word(text, "unit") {
+        Some(rest) => Ok((Sample::Unit, rest)),
+        None => Err(wrong_value(size, text)),
     }
-    Ok((Sample::Unit, rest))
 }
 
 /// `true` or `false`.
@@ -142,31 +146,37 @@ fn truth(size: usize, text: &[u8]) -> Result<(Sample, &[u8]), ValueFault>
     ensures exact { Gives (λ x. (datum_of x.0, x.1.now)) result (truth_at size text.now) }
     ensures shorter { IfOk result (λ x. length x.1.now ≤ length text.now) }
 {
-    let (word, rest) = split_word(text);
-    if word_is(word, "true") {
-        Ok((Sample::Bool(true), rest))
-    } else if word_is(word, "false") {
-        Ok((Sample::Bool(false), rest))
-    } else {
-        Err(wrong_value(size, text))
+    if let Some(rest) = behind_word(text, "true") {
+        return Ok((Sample::Bool(true), rest));
+    }
+    match behind_word(text, "false") {
+        Some(rest) => Ok((Sample::Bool(false), rest)),
+        None => Err(wrong_value(size, text)),
     }
 }
 
-/// A number.
-fn integer(size: usize, text: &[u8]) -> Result<(Sample, &[u8]), ValueFault>
-    ensures exact { Gives (λ x. (datum_of x.0, x.1.now)) result (number_at size text.now) }
+/// A number, and what is behind it.
+#[inline(always)]
+#[tactic(auto, unfolding(crate::specs::Reading::value_at))]
+fn integer(size: usize, text: &[u8]) -> Result<(i64, &[u8]), ValueFault>
+    ensures exact { Gives (λ x. (int x.0, x.1.now)) result (value_at size int_ty text.now) }
     ensures shorter { IfOk result (λ x. length x.1.now ≤ length text.now) }
 {
     match front_number(text) {
-        Some((n, rest)) => Ok((Sample::Int(n), rest)),
-        None => long_integer(size, text),
+        Some(found) => Ok(found),
+        None => {
+            let (n, rest) = long_integer(size, text)?;
+            Ok((n, rest))
+        }
     }
 }
 
 /// A number of whatever length, by its word.
+#[cold]
+#[inline(never)]
 #[tactic(auto, unfolding(crate::specs::Reading::number_at))]
-fn long_integer(size: usize, text: &[u8]) -> Result<(Sample, &[u8]), ValueFault>
-    ensures exact { Gives (λ x. (datum_of x.0, x.1.now)) result (number_at size text.now) }
+fn long_integer(size: usize, text: &[u8]) -> Result<(i64, &[u8]), ValueFault>
+    ensures exact { Gives (λ x. (int x.0, x.1.now)) result (number_at size text.now) }
     ensures shorter { IfOk result (λ x. length x.1.now ≤ length text.now) }
 {
     let (word, rest) = split_word(text);
@@ -174,14 +184,45 @@ fn long_integer(size: usize, text: &[u8]) -> Result<(Sample, &[u8]), ValueFault>
         return Err(wrong_value(size, text));
     }
     match number(word) {
-        Some(n) => Ok((Sample::Int(n), rest)),
+        Some(n) => Ok((n, rest)),
         None => Err(ValueFault::NumberRange {
             at: place(size, text),
         }),
     }
 }
 
+/// A number as a value, and what is behind it.
+#[inline(always)]
+fn number_sample(size: usize, text: &[u8]) -> Result<(Sample, &[u8]), ValueFault>
+    ensures exact { Gives (λ x. (datum_of x.0, x.1.now)) result (value_at size int_ty text.now) }
+    ensures shorter { IfOk result (λ x. length x.1.now ≤ length text.now) }
+{
+    let (n, rest) = integer(size, text)?;
+    Ok((Sample::Int(n), rest))
+}
+
+/// Numbers, each behind a space, as long as a space stands there; and what is behind them.
+fn numbers<'t>(
+    alloc: Global,
+    size: usize,
+    text: &'t [u8],
+) -> Result<(Vec<Sample>, &'t [u8]), ValueFault>
+    ensures exact { Gives (λ x. (map datum_of x.0.items, x.1.now)) result
+        (elements_at (value_at size int_ty) (length text.now) text.now) }
+    ensures shorter { IfOk result (λ x. length x.1.now ≤ length text.now) }
+{
+    let mut all = Vec::new(alloc);
+    let mut rest = text;
+    while let Some(element) = after_space(rest) {
+        let (n, after) = integer(size, element)?;
+        all.push(Sample::Int(n))?;
+        rest = after;
+    }
+    Ok((all, rest))
+}
+
 /// The value, where a `)` ends it, and what is behind that.
+#[inline(always)]
 fn closed<'t>(size: usize, text: &'t [u8], sample: Sample) -> Result<(Sample, &'t [u8]), ValueFault>
     ensures exact { Gives (λ x. (datum_of x.0, x.1.now)) result
         (closed_at size (datum_of sample) text.now) }
@@ -212,7 +253,7 @@ fn value<'t>(
     match ty {
         Ty::Unit => unit(size, text),
         Ty::Bool => truth(size, text),
-        Ty::Int => integer(size, text),
+        Ty::Int => number_sample(size, text),
         Ty::Pair(a, b) => pair(alloc, size, text, a, b),
         Ty::Event(a) => event(alloc, size, text, a),
         Ty::List(a) => list(alloc, size, text, a),
@@ -245,6 +286,7 @@ fn pair<'t>(
 }
 
 /// The pair of the values, where a `)` ends it, and what is behind that.
+#[inline(always)]
 fn paired<'t>(
     alloc: Global,
     size: usize,
@@ -273,8 +315,7 @@ fn event<'t>(
         (value_at size (event_ty ty.now) text.now) }
     ensures shorter { IfOk result (λ x. length x.1.now ≤ length text.now) }
 {
-    let (word, rest) = split_word(text);
-    if word_is(word, "none") {
+    if let Some(rest) = behind_word(text, "none") {
         return Ok((Sample::NoEvent, rest));
     }
     let rest = after_head(size, text, "event")?;
@@ -297,13 +338,17 @@ fn list<'t>(
     ensures shorter { IfOk result (λ x. length x.1.now ≤ length text.now) }
 {
     let rest = after_head(size, text, "list")?;
-    let (all, rest) = elements(alloc, size, rest, ty.get())?;
+    let (all, rest) = match ty.get() {
+        Ty::Int => numbers(alloc, size, rest)?,
+        ty => elements(alloc, size, rest, ty)?,
+    };
     let all = Samples::new(alloc, all)?;
     closed(size, rest, Sample::List(all))
 }
 
 /// A space and a value of the type.
 #[cycle(value)]
+#[inline(always)]
 fn part<'t>(
     alloc: Global,
     size: usize,
@@ -314,13 +359,14 @@ fn part<'t>(
     ensures shorter { IfOk result (λ x. length x.1.now ≤ length text.now) }
 {
     let rest = after_byte(size, text, b' ')?;
-    value(alloc, size, rest, ty.get())
+    part_value(alloc, size, rest, ty.get())
 }
 
-/// A value of the type, as an element of a list: a number is read at once.
+/// A value of the type inside another: a number is read at once.
 #[cycle(value)]
+#[inline(always)]
 #[tactic(auto, unfolding(crate::specs::Reading::value_at))]
-fn element_value<'t>(
+fn part_value<'t>(
     alloc: Global,
     size: usize,
     text: &'t [u8],
@@ -331,7 +377,7 @@ fn element_value<'t>(
     ensures shorter { IfOk result (λ x. length x.1.now ≤ length text.now) }
 {
     match ty {
-        Ty::Int => integer(size, text),
+        Ty::Int => number_sample(size, text),
         _ => value(alloc, size, text, ty),
     }
 }
@@ -352,7 +398,7 @@ fn elements<'t>(
     let mut all = Vec::new(alloc);
     let mut rest = text;
     while let Some(element) = after_space(rest) {
-        let (sample, after) = element_value(alloc, size, element, ty)?;
+        let (sample, after) = value(alloc, size, element, ty)?;
         all.push(sample)?;
         rest = after;
     }

@@ -1,4 +1,4 @@
-use Rattle.std.proofs.Common.{◌≡◌, pos, neg_ℤ, ◌-ℤ◌, ◌++◌, ◌∷◌, take, length, get_or, drop, subst, refl, sym, arith, w64, to_z, of_z}
+use Rattle.std.proofs.Common.{◌≡◌, pos, neg_ℤ, ◌-ℤ◌, ◌++◌, ◌∷◌, get_or, subst, refl, sym, arith, w64, to_z, of_z}
 use Rattle.std.specs.Fmt.{decimal}
 use Rattle.std.proofs.lemmas.Int.{ints}
 use Rattle.sample_core.specs.Datum.{int}
