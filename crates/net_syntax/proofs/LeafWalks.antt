@@ -85,8 +85,10 @@ pub par_members : (w : Walk) (fs gs : Networks Expr) (A : TypeTree) → gs ≡ f
     → (find_members_at w 0 (map_networks expression_of gs) A ≢ None) × (0 + members gs ≤ 65)
 par_members w fs gs A same h =
     let few : members (map_networks expression_of fs) ≤ 64 = few_members (map_networks expression_of fs) _ h in
-    subst (λ o. (find_members_at w 0 (map_networks expression_of o) A ≢ None) × (0 + members o ≤ 65)) (sym same)
-    (finds_first _ (λ B. only (list_ty B)) (subst (λ o. o ≢ None) (few_inner (map_networks expression_of fs) _ few) h), omega (arith, few, members_map expression_of fs))
+    subst (λ o. (find_members_at w 0 (map_networks expression_of o) A ≢ None) × (0 + members o ≤ 65)) (sym same) (
+      finds_first _ (λ B. only (list_ty B)) (subst (λ o. o ≢ None) (few_inner (map_networks expression_of fs) _ few) h),
+      omega (arith, few, members_map expression_of fs),
+    )
 
 -- behind the route of a `pSwitch` that is found, the rest is found, and its members are few
 pub route_found : (w b : Walk) (r : Expression) (fs : Networks Expr) (e t : Network Expression) (A D I : TypeTree) → I ≡ pair_ty A int_ty
@@ -148,4 +150,5 @@ pub copied : {X : Type 0} (n : ℕ) (before mid now : List X) (x y : X) → 0 < 
     → now ≡ mid ++ replicate (n - 1) x → now ≡ before ++ replicate n x
 copied zero before mid now x y h m same k = absurd (omega (arith, h))
 copied (suc n) before mid now x y h m same k =
-    k ∙ ap (λ j. mid ++ replicate j x) (omega arith) ∙ ap (λ o. o ++ replicate n x) m ∙ append_assoc before (y ∷ []) (replicate n x) ∙ ap (λ z. before ++ z ∷ replicate n x) same
+    k ∙ ap (λ j. mid ++ replicate j x) (omega arith) ∙ ap (λ o. o ++ replicate n x) m ∙ append_assoc before (y ∷ []) (replicate n x)
+    ∙ ap (λ z. before ++ z ∷ replicate n x) same

@@ -181,8 +181,8 @@ find_leaf_at w k e A = find_leaf (map type_of w.params.items) w.path.items k e A
 
 -- the code's walk is where it was, with the same types in scope
 abbrev pub SamePlace : Walk → Walk → Type 0
-SamePlace before now = (now.path.items ≡ before.path.items) × (now.params.items ≡ before.params.items)
-    × (now.olds.items ≡ before.olds.items)
+SamePlace before now = (now.path.items ≡ before.path.items)
+    × (now.params.items ≡ before.params.items) × (now.olds.items ≡ before.olds.items)
 
 -- what is found has that output type, and its expressions were added behind others
 abbrev pub Adds : Found → TypeTree → Walk → Walk → Type 0

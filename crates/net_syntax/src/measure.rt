@@ -196,7 +196,9 @@ fn weight_left_of_freeze_all<L>(
     scope: &[u32],
     most: u32,
 ) -> Result<u32, Stop>
-    ensures { Left result most (suc (total (weights_of fs.now scope.now) + weight_of e.now scope.now + weight_of t.now (scope.now ++ weights_of fs.now scope.now))) }
+    ensures { Left result most
+        (suc (total (weights_of fs.now scope.now) + weight_of e.now scope.now
+        + weight_of t.now (scope.now ++ weights_of fs.now scope.now))) }
 {
     let start = less(most, 1)?;
     let mut weights = Vec::new(alloc);
@@ -215,7 +217,8 @@ fn weight_left_of_members<L>(
     most: u32,
 ) -> Result<u32, Stop>
     ensures left { Left result most (total (weights_of (members_of fs.now) scope.now)) }
-    ensures weights { OnOk result (weights.new.items ≡ weights.old.items ++ weights_of (members_of fs.now) scope.now) }
+    ensures weights { OnOk result
+        (weights.new.items ≡ weights.old.items ++ weights_of (members_of fs.now) scope.now) }
 {
     let Some((f, rest)) = fs.split_first() else {
         return Ok(most);
@@ -300,7 +303,8 @@ fn height_of_two<L>(
     scope: &[u32],
     room: u32,
 ) -> Result<u32, Stop>
-    ensures { Within result room (suc (max (height_of f.now scope.now) (height_of g.now scope.now))) }
+    ensures { Within result room
+        (suc (max (height_of f.now scope.now) (height_of g.now scope.now))) }
 {
     let left = height_within(alloc, f.get(), scope, room)?;
     let right = height_within(alloc, g.get(), scope, room)?;
@@ -332,7 +336,9 @@ fn height_of_freeze<L>(
     scope: &[u32],
     room: u32,
 ) -> Result<u32, Stop>
-    ensures { Within result room (suc (max (max (height_of f.now scope.now) (height_of e.now scope.now)) (height_of t.now (scope.now ++ height_of f.now scope.now ∷ [])))) }
+    ensures { Within result room
+        (suc (max (max (height_of f.now scope.now) (height_of e.now scope.now))
+        (height_of t.now (scope.now ++ height_of f.now scope.now ∷ [])))) }
 {
     let frozen = height_within(alloc, f.get(), scope, room)?;
     let watch = height_within(alloc, e.get(), scope, room)?;
@@ -360,7 +366,9 @@ fn height_of_freeze_all<L>(
     scope: &[u32],
     room: u32,
 ) -> Result<u32, Stop>
-    ensures { Within result room (suc (max (max (greatest (heights_of fs.now scope.now)) (height_of e.now scope.now)) (height_of t.now (scope.now ++ heights_of fs.now scope.now)))) }
+    ensures { Within result room
+        (suc (max (max (greatest (heights_of fs.now scope.now)) (height_of e.now scope.now))
+        (height_of t.now (scope.now ++ heights_of fs.now scope.now)))) }
 {
     let mut heights = Vec::new(alloc);
     let frozen = height_of_members(alloc, fs.as_slice(), scope, &mut heights, room)?;
@@ -379,7 +387,8 @@ fn height_of_members<L>(
     room: u32,
 ) -> Result<u32, Stop>
     ensures greatest { Within result room (greatest (heights_of (members_of fs.now) scope.now)) }
-    ensures heights { OnOk result (heights.new.items ≡ heights.old.items ++ heights_of (members_of fs.now) scope.now) }
+    ensures heights { OnOk result
+        (heights.new.items ≡ heights.old.items ++ heights_of (members_of fs.now) scope.now) }
 {
     let Some((f, rest)) = fs.split_first() else {
         return Ok(0);
