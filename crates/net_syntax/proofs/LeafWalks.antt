@@ -1,5 +1,5 @@
 -- What the walk over a network finds is what its parts' walks find.
-use Rattle.std.proofs.Common.{◌≡◌, ◌≢◌, ◌+◌, ℕ, zero, suc, ◌<◌, ◌≤◌, List, [], ◌∷◌, ◌++◌, length, map, replicate, leb, true, false, Some, None, get_or, refl, ap, ap₂, sym, ◌∙◌, append_assoc, arith, subst, Result, Ok, Err, OnOk, IfOk, ◌-◌, Bool, if◌then◌else◌}
+use Rattle.std.proofs.Common.{◌≡◌, ◌≢◌, ◌+◌, ℕ, zero, suc, ◌<◌, ◌≤◌, List, [], ◌∷◌, ◌++◌, length, map, replicate, leb, true, false, Some, None, get_or, refl, ap, sym, ◌∙◌, append_assoc, arith, subst, Result, Ok, Err, OnOk, IfOk, ◌-◌, Bool, if◌then◌else◌}
 use Rattle.std.proofs.lemmas.Bool.{leb-true, le-leb}
 use Rattle.std.proofs.lemmas.List.{map-append}
 use Rattle.sample_core.specs.TypeTree.{TypeTree, int_ty, pair_ty, list_ty}
@@ -140,6 +140,30 @@ module _ (w : Walk) (fs : Networks Expression) (e t : Network Expression) (A D B
       pub routed_adds : (T : TypeTree) (d : Walk) → Adds (rest c C) T c d → Adds (find_routed_at w fs e t A D) T w d
       routed_adds T d last = adds_then _ _ B T w b d adds
           (adds_then (watch w) (rest w) C T b c d saw_here (subst (λ o. Adds o T c d) (rest_here c C all_here) last))
+
+-- the number of members that the code counts
+pub counted : (fs : Networks Expr) (count : ℕ) → count ≡ members fs → members (map_networks expression_of fs) ≡ count
+counted fs count is = members_map expression_of fs ∙ sym is
+
+-- the type of the list that the code makes of a copy of a type
+pub listed : (output copy list : Ty) → copy ≡ output → type_of list ≡ list_ty (type_of copy) → list_ty (type_of output) ≡ type_of list
+listed output copy list same is = ap (λ o. list_ty (type_of o)) (sym same) ∙ sym is
+
+-- the expressions of members are those of the slice that has them
+pub slice_adds : (w b : Walk) (fs gs : Networks Expr) (D B : TypeTree) → gs ≡ fs
+    → Adds (find_members_at w 1 (map_networks expression_of gs) D) B w b → Adds (find_members_at w 1 (map_networks expression_of fs) D) B w b
+slice_adds w b fs gs D B is = subst (λ o. Adds (find_members_at w 1 (map_networks expression_of o) D) B w b) is
+
+-- what watches, where the code has its place, itself and what it watches under other names
+pub watch_named : (b : Walk) (k n : ℕ) (e g : Network Expr) (A X Y : TypeTree) → k ≡ n → g ≡ e → X ≡ Y
+    → and_then (find_child b k (map_network expression_of e) (pair_ty A X)) event_of
+    ≡ and_then (find_child b n (map_network expression_of g) (pair_ty A Y)) event_of
+watch_named b k n e g A X Y p q r = λ i. and_then (find_child b (p i) (map_network expression_of (sym q i)) (pair_ty A (r i))) event_of
+
+-- the continuation, where the code has its place and itself under other names
+pub rest_named : (b : Walk) (C : TypeTree) (n m : ℕ) (D B : TypeTree) (k l : ℕ) (t g : Network Expr) (A : TypeTree) → n ≡ m → k ≡ l → g ≡ t
+    → find_resuming b C n (arrow D B) k (map_network expression_of t) A ≡ find_resuming b C m (arrow D B) l (map_network expression_of g) A
+rest_named b C n m D B k l t g A p q r = λ i. find_resuming b C (p i) (arrow D B) (q i) (map_network expression_of (sym r i)) A
 
 pub on_ok : {X E : Type 0} (r : Result X E) (P Q : Type 0) → (P → Q) → OnOk r P → OnOk r Q
 on_ok (Ok x) P Q f h = f h

@@ -1,5 +1,5 @@
 -- A network whose leaves are changed weighs as much, and is as high.
-use Rattle.std.proofs.Common.{◌≡◌, ℕ, suc, ◌+◌, max, List, [], ◌∷◌, ◌++◌, refl, ap, sym, ◌∙◌}
+use Rattle.std.proofs.Common.{◌≡◌, ℕ, suc, ◌+◌, max, List, [], ◌∷◌, ◌++◌, refl, ap, ◌∙◌}
 use Rattle.net_syntax.specs.Network.{Network, Networks, arr, seq, first, par, loop_pre, i_pre, delay, hold, accum_by, after, repeatedly, time, integral, switch, d_switch, r_switch, k_switch, p_switch, old, no_members, and_member, map_network, map_networks, network_size, networks_size}
 use Rattle.net_syntax.specs.Weight.{weight, weights, total}
 use Rattle.net_syntax.specs.Height.{height, heights, greatest}

@@ -1,5 +1,5 @@
 -- The walk that finds the expressions of a network, and its output type.
-use Rattle.std.specs.Prelude.{◌≡◌, ℕ, zero, suc, leb, List, [], ◌∷◌, ◌++◌, Option, Some, None, if◌then◌else◌, map, Result, Ok, Err}
+use Rattle.std.specs.Prelude.{◌≡◌, ℕ, zero, suc, leb, List, [], ◌∷◌, ◌++◌, Option, Some, None, if◌then◌else◌, map, Ok, Err}
 use Rattle.sample_core.specs.TypeTree.{TypeTree, unit_ty, int_ty, pair_ty, event_ty, list_ty}
 use Rattle.sample_core.specs.TypeView.{type_of}
 use Rattle.leaf_core.specs.Expression.{Expression}
