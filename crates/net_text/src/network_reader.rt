@@ -1,6 +1,6 @@
 // Reading networks.
 
-ghost use Rattle.std.specs.Prelude.{◌≡◌, ◌<◌, ◌≤◌, length, map};
+ghost use Rattle.std.specs.Prelude.{◌≡◌, ◌<◌, ◌≤◌, Err, MatchResult, Ok, length, map};
 ghost use Rattle.sample_core.specs.TypeView.{type_of};
 ghost use Rattle.leaf_core.specs.ExpressionView.{expression_of};
 ghost use Rattle.leaf_expr.specs.Grammar.{type_sort, expression_sort};
@@ -86,6 +86,20 @@ fn parts_at(alloc: Global, text: &[u8], at: usize, room: usize, form: Form) -> R
     }
 }
 
+/// A part with what was read behind it; where that is refused, the part goes.
+fn both<A: Drop, B>(part: A, rest: Result<B, ExprTextFault>) -> Result<(A, B), ExprTextFault>
+    ensures { MatchResult result
+        (λ x. (x.0 ≡ part) × (rest ≡ Ok x.1)) (λ fault. rest ≡ Err fault) }
+{
+    match rest {
+        Ok(rest) => Ok((part, rest)),
+        Err(fault) => {
+            drop(part);
+            Err(fault)
+        }
+    }
+}
+
 /// The expression at or after byte `at`, with room for so many more parentheses, and the byte
 /// behind it.
 fn expr_at(alloc: Global, text: &[u8], at: usize, room: usize) -> Read<Expr>
@@ -110,13 +124,7 @@ fn last_expr_at(alloc: Global, text: &[u8], at: usize, room: usize) -> Read<Expr
         (parts_read (e no_place) (λ c. c) text.now room at) }
 {
     let (expr, at) = expr_at(alloc, text, at, room)?;
-    match form_end(text, at, room) {
-        Ok(end) => Ok((expr, end)),
-        Err(fault) => {
-            drop(expr);
-            Err(fault)
-        }
-    }
+    both(expr, form_end(text, at, room))
 }
 
 /// One expression, and the end of the form.
@@ -167,16 +175,9 @@ fn accumulator_at(
         (row_parts (accumulator_row form) text.now room at) }
 {
     let (g, at) = expr_at(alloc, text, at, room)?;
-    match last_expr_at(alloc, text, at, room) {
-        Ok((z, end)) => {
-            let net = form.of(alloc, g, z)?;
-            Ok((net, end))
-        }
-        Err(fault) => {
-            drop(g);
-            Err(fault)
-        }
-    }
+    let (g, (z, end)) = both(g, last_expr_at(alloc, text, at, room))?;
+    let net = form.of(alloc, g, z)?;
+    Ok((net, end))
 }
 
 /// The number of a frozen network, and the end of the form.
@@ -196,13 +197,8 @@ fn never_at(alloc: Global, text: &[u8], at: usize, room: usize) -> Read<Net<Expr
         (row_parts (form_row Form.Never) text.now room at) }
 {
     let (carried, at) = type_at(alloc, text, at, room)?;
-    match form_end(text, at, room) {
-        Ok(end) => Ok((Net::Arr(Expr::NoEvent(carried)), end)),
-        Err(fault) => {
-            drop(carried);
-            Err(fault)
-        }
-    }
+    let (carried, end) = both(carried, form_end(text, at, room))?;
+    Ok((Net::Arr(Expr::NoEvent(carried)), end))
 }
 
 /// A network inside a network.
@@ -292,13 +288,8 @@ fn loop_at(alloc: Global, text: &[u8], at: usize, room: usize) -> Read<Net<Expr>
         (row_parts (form_row Form.LoopPre) text.now room at) }
 {
     let (c, at) = expr_at(alloc, text, at, room)?;
-    match last_child_at(alloc, text, at, room) {
-        Ok((g, end)) => Ok((Net::LoopPre(c, g), end)),
-        Err(fault) => {
-            drop(c);
-            Err(fault)
-        }
-    }
+    let (c, (g, end)) = both(c, last_child_at(alloc, text, at, room))?;
+    Ok((Net::LoopPre(c, g), end))
 }
 
 /// Members, and the end of the form.
@@ -320,13 +311,8 @@ fn p_switch_at(alloc: Global, text: &[u8], at: usize, room: usize) -> Read<Net<E
         (row_parts (form_row Form.PSwitch) text.now room at) }
 {
     let (r, at) = expr_at(alloc, text, at, room)?;
-    match last_three_at(alloc, text, at, room) {
-        Ok(((all, test, t), end)) => Ok((Net::PSwitch(r, all, test, t), end)),
-        Err(fault) => {
-            drop(r);
-            Err(fault)
-        }
-    }
+    let (r, ((all, test, t), end)) = both(r, last_three_at(alloc, text, at, room))?;
+    Ok((Net::PSwitch(r, all, test, t), end))
 }
 
 /// Members and the last two networks of a form, and the form's end.
