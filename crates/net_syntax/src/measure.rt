@@ -1,7 +1,7 @@
 // How heavy and how high a network is.
 
-ghost use Rattle.std.specs.Prelude.{◌≡◌, ◌+◌, ◌<◌, nat_lt, ◌++◌, ◌∷◌, min, max, suc, [], IfOk, OnOk, MatchOption};
-ghost use Rattle.net_syntax.specs.Height.{height as height_of, heights as heights_of, height_at, greatest};
+ghost use Rattle.std.specs.Prelude.{◌≡◌, ◌+◌, ◌<◌, nat_lt, ◌++◌, ◌∷◌, get_or, min, max, suc, [], IfOk, OnOk, MatchOption};
+ghost use Rattle.net_syntax.specs.Height.{height as height_of, heights as heights_of, greatest};
 ghost use Rattle.net_syntax.specs.Left.{Left, Within};
 ghost use Rattle.net_syntax.specs.Network.{network_size, networks_size};
 ghost use Rattle.net_syntax.specs.NetworkView.{network_of, members_of, tree_of};
@@ -241,9 +241,16 @@ pub(crate) fn weight_left_of_old(scope: &[u32], k: u32, most: u32) -> Result<u32
     ensures { Left result most (suc (weight_at scope.now k)) }
 {
     let rest = less(most, 1)?;
+    less(rest, frozen_at(scope, k))
+}
+
+/// Number k of the frozen networks, 0 where there is none.
+fn frozen_at(scope: &[u32], k: u32) -> u32
+    ensures { result ≡ get_or scope.now k 0 }
+{
     match scope.get(k as usize) {
-        Some(weight) => less(rest, *weight),
-        None => Ok(rest),
+        Some(number) => *number,
+        None => 0,
     }
 }
 
@@ -270,7 +277,7 @@ fn height_within<L>(alloc: Global, net: &Net<L>, scope: &[u32], room: u32) -> Re
         Net::Par(fs) => height_of_all(alloc, fs, scope, room),
         Net::KSwitch(f, e, t) => height_of_freeze(alloc, f, e, t, scope, room),
         Net::PSwitch(_, fs, e, t) => height_of_freeze_all(alloc, fs, e, t, scope, room),
-        Net::Old(k) => height_of_old(scope, *k, room),
+        Net::Old(k) => higher(room, frozen_at(scope, *k)),
     }
 }
 
@@ -397,16 +404,6 @@ fn height_of_members<L>(
     pushed(heights, height)?;
     let others = height_of_members(alloc, rest, scope, heights, room)?;
     Ok(height.max(others))
-}
-
-/// The same of a frozen network that is resumed.
-fn height_of_old(scope: &[u32], k: u32, room: u32) -> Result<u32, Stop>
-    ensures { Within result room (suc (height_at scope.now k)) }
-{
-    match scope.get(k as usize) {
-        Some(height) => higher(room, *height),
-        None => higher(room, 0),
-    }
 }
 
 /// Whether more than 2,000,000 networks and lists of members stand inside one another in the
