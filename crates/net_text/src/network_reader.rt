@@ -15,15 +15,12 @@ ghost use Rattle.net_text.specs.ReadNet.{sort_at, word_network as word_read, for
 
 use crate::form::{Accumulator, Binary, Form, LeafForm, Timer, Unary, form_named, network_named};
 use leaf_expr::{
-    Expr, ExprTextFault, Front, MAX_OPEN, closing_at, form_end, form_head, front_at, read_expr_at,
-    read_index, read_natural, read_type_at,
+    Expr, ExprTextFault, Front, MAX_OPEN, Read, closing_at, form_end, form_head, front_at,
+    read_expr_at, read_index, read_natural, read_type_at,
 };
 use net_syntax::{Members, Net, NetChild};
 use sample_core::{Ty, word_is};
 use std::alloc::Global;
-
-/// What was read, and the byte behind it.
-type Read<T> = Result<(T, usize), ExprTextFault>;
 
 /// The network at or after byte `at`, with room for so many more parentheses, and the byte behind
 /// it.
