@@ -84,7 +84,10 @@ fn parts_at(alloc: Global, text: &[u8], at: usize, room: usize, form: Form) -> R
 }
 
 /// A part with what was read behind it; where that is refused, the part goes.
-fn both<A: Drop, B>(part: A, rest: Result<B, ExprTextFault>) -> Result<(A, B), ExprTextFault>
+pub(crate) fn both<A: Drop, B>(
+    part: A,
+    rest: Result<B, ExprTextFault>,
+) -> Result<(A, B), ExprTextFault>
     ensures { MatchResult result
         (λ x. (x.0 ≡ part) × (rest ≡ Ok x.1)) (λ fault. rest ≡ Err fault) }
 {
