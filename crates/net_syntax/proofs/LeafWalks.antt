@@ -52,6 +52,10 @@ pub in_place : {X : Type 0} (F : List Ty → List Arrow → List ℕ → X) (a b
     → F b.params.items b.olds.items b.path.items ≡ F a.params.items a.olds.items a.path.items
 in_place F a b (p, q, r) = λ i. F (q i) (r i) (p i)
 
+-- a walk that comes back twice is where it was
+pub still : (a b c : Walk) → SamePlace a b → SamePlace b c → SamePlace a c
+still a b c p q = (q.0 ∙ p.0, q.1 ∙ p.1, q.2 ∙ p.2)
+
 -- as many members as nets
 pub members_length : {L : Type 0} (fs : List (Net L)) → members (members_of fs) ≡ length fs
 members_length [] = refl
@@ -130,16 +134,13 @@ module _ (w : Walk) (fs : Networks Expression) (e t : Network Expression) (A D B
       saw_here : Adds (watch w) C b c
       saw_here = subst (λ o. Adds o C b c) (watch_here here) saw
 
-      all_here : SamePlace w c
-      all_here = (there.0 ∙ here.0, there.1 ∙ here.1, there.2 ∙ here.2)
-
       pub rest_found : find_routed_at w fs e t A D ≢ None → rest c C ≢ None
-      rest_found h = subst (λ o. o ≢ None) (sym (rest_here c C all_here))
+      rest_found h = subst (λ o. o ≢ None) (sym (rest_here c C (still w b c here there)))
           (finds_rest (watch w) (rest w) C saw_here.0 saw_here.1 (finds_rest _ _ B adds.0 adds.1 h))
 
       pub routed_adds : (T : TypeTree) (d : Walk) → Adds (rest c C) T c d → Adds (find_routed_at w fs e t A D) T w d
       routed_adds T d last = adds_then _ _ B T w b d adds
-          (adds_then (watch w) (rest w) C T b c d saw_here (subst (λ o. Adds o T c d) (rest_here c C all_here) last))
+          (adds_then (watch w) (rest w) C T b c d saw_here (subst (λ o. Adds o T c d) (rest_here c C (still w b c here there)) last))
 
 -- the number of members that the code counts
 pub counted : (fs : Networks Expr) (count : ℕ) → count ≡ members fs → members (map_networks expression_of fs) ≡ count
