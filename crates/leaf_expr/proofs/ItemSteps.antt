@@ -34,7 +34,8 @@ module _ (L : Language) where
   with_all size reader f (suc n) make ((m, closing) ∷ ts) = refl
   with_all size reader f (suc n) make ((m, opening) ∷ ts) =
       with_bind f (reader ((m, opening) ∷ ts)) _ _ (λ x. with_all size reader f n (λ xs. make (x.0 ∷ xs)) x.2)
-  with_all size reader f (suc n) make ((m, word w) ∷ ts) = with_bind f (reader ((m, word w) ∷ ts)) _ _ (λ x. with_all size reader f n (λ xs. make (x.0 ∷ xs)) x.2)
+  with_all size reader f (suc n) make ((m, word w) ∷ ts) =
+      with_bind f (reader ((m, word w) ∷ ts)) _ _ (λ x. with_all size reader f n (λ xs. make (x.0 ∷ xs)) x.2)
 
   -- trees of one sort up to the end of the form
   module _ (s : L.Sort) (size room : ℕ) where

@@ -17,7 +17,7 @@ use crate::form::{Binary, Form, Ternary, Typed, Unary, form_named};
 use crate::number_reader::read_index;
 use crate::text_fault::ExprTextFault;
 use crate::token::token_at;
-use crate::tree_front::{Front, closing_at, form_end, form_head, front_at};
+use crate::tree_front::{Front, Read, closing_at, form_end, form_head, front_at};
 use crate::type_reader::{MAX_OPEN, read_type};
 use crate::word::{WordFault, expr_word};
 use leaf_core::{Expr, ExprChild, Exprs};
@@ -30,12 +30,7 @@ pub const MAX_LENGTH: usize = 1_048_576;
 /// The expression at or after byte `at`, with room for so many more parentheses, and the byte
 /// behind it.
 #[cycle(read_expression)]
-fn read_expression(
-    alloc: Global,
-    text: &[u8],
-    at: usize,
-    room: usize,
-) -> Result<(Expr, usize), ExprTextFault>
+fn read_expression(alloc: Global, text: &[u8], at: usize, room: usize) -> Read<Expr>
     ensures { Gives (expression_left text.now) result (tree_at expression_sort text.now room at) }
 {
     match front_at(text, at, room)? {
@@ -46,7 +41,7 @@ fn read_expression(
 
 /// The expression that the word is from the first byte up to and without the second, and the
 /// latter.
-fn word_expr(text: &[u8], start: usize, end: usize) -> Result<(Expr, usize), ExprTextFault>
+fn word_expr(text: &[u8], start: usize, end: usize) -> Read<Expr>
     requires { (start < end) × (end ≤ length text.now) }
     ensures { Gives (expression_left text.now) result
         (word_tree expression_sort text.now start end) }
@@ -60,7 +55,7 @@ fn word_expr(text: &[u8], start: usize, end: usize) -> Result<(Expr, usize), Exp
 
 /// What stands behind the parenthesis of a form.
 #[cycle(read_expression)]
-fn form(alloc: Global, text: &[u8], at: usize, room: usize) -> Result<(Expr, usize), ExprTextFault>
+fn form(alloc: Global, text: &[u8], at: usize, room: usize) -> Read<Expr>
     ensures { Gives (expression_left text.now) result (form_at expression_sort text.now room at) }
 {
     let (start, end) = form_head(text, at, room)?;
@@ -72,13 +67,7 @@ fn form(alloc: Global, text: &[u8], at: usize, room: usize) -> Result<(Expr, usi
 
 /// The parts of a form, and its end.
 #[cycle(read_expression)]
-fn parts(
-    alloc: Global,
-    text: &[u8],
-    at: usize,
-    room: usize,
-    form: Form,
-) -> Result<(Expr, usize), ExprTextFault>
+fn parts(alloc: Global, text: &[u8], at: usize, room: usize, form: Form) -> Read<Expr>
     ensures { Gives (expression_left text.now) result (row_parts (form_row form) text.now room at) }
 {
     match form {
@@ -93,7 +82,7 @@ fn parts(
 }
 
 /// The number of a parameter, and the end of the form.
-fn param(text: &[u8], at: usize, room: usize) -> Result<(Expr, usize), ExprTextFault>
+fn param(text: &[u8], at: usize, room: usize) -> Read<Expr>
     ensures { Gives (expression_left text.now) result
         (row_parts (form_row Form.Param) text.now room at) }
 {
@@ -103,12 +92,7 @@ fn param(text: &[u8], at: usize, room: usize) -> Result<(Expr, usize), ExprTextF
 }
 
 /// The type of no event, and the end of the form.
-fn no_event(
-    alloc: Global,
-    text: &[u8],
-    at: usize,
-    room: usize,
-) -> Result<(Expr, usize), ExprTextFault>
+fn no_event(alloc: Global, text: &[u8], at: usize, room: usize) -> Read<Expr>
     ensures { Gives (expression_left text.now) result
         (row_parts (form_row Form.NoEvent) text.now room at) }
 {
@@ -124,12 +108,7 @@ fn no_event(
 
 /// An expression inside an expression.
 #[cycle(read_expression)]
-fn part(
-    alloc: Global,
-    text: &[u8],
-    at: usize,
-    room: usize,
-) -> Result<(ExprChild, usize), ExprTextFault>
+fn part(alloc: Global, text: &[u8], at: usize, room: usize) -> Read<ExprChild>
     ensures { Gives (λ x. (x.0, x.1, tokens_from x.1 text.now)) result
         (tree_at expression_sort text.now room at) }
 {
@@ -139,30 +118,19 @@ fn part(
 
 /// The last two expressions inside an expression, and the end of the form.
 #[cycle(read_expression)]
-fn last_two(
-    alloc: Global,
-    text: &[u8],
-    at: usize,
-    room: usize,
-) -> Result<(ExprChild, ExprChild, usize), ExprTextFault>
-    ensures { Gives (λ x. ((x.0, x.1), x.2, tokens_from x.2 text.now)) result
+fn last_two(alloc: Global, text: &[u8], at: usize, room: usize) -> Read<(ExprChild, ExprChild)>
+    ensures { Gives (λ x. (x.0, x.1, tokens_from x.1 text.now)) result
         (last_two_at text.now room at) }
 {
     let (a, at) = part(alloc, text, at, room)?;
     let (b, at) = part(alloc, text, at, room)?;
     let end = form_end(text, at, room)?;
-    Ok((a, b, end))
+    Ok(((a, b), end))
 }
 
 /// One expression, and the end of the form.
 #[cycle(read_expression)]
-fn unary(
-    alloc: Global,
-    text: &[u8],
-    at: usize,
-    room: usize,
-    form: Unary,
-) -> Result<(Expr, usize), ExprTextFault>
+fn unary(alloc: Global, text: &[u8], at: usize, room: usize, form: Unary) -> Read<Expr>
     ensures { Gives (expression_left text.now) result
         (row_parts (unary_row form) text.now room at) }
 {
@@ -173,45 +141,28 @@ fn unary(
 
 /// Two expressions, and the end of the form.
 #[cycle(read_expression)]
-fn binary(
-    alloc: Global,
-    text: &[u8],
-    at: usize,
-    room: usize,
-    form: Binary,
-) -> Result<(Expr, usize), ExprTextFault>
+fn binary(alloc: Global, text: &[u8], at: usize, room: usize, form: Binary) -> Read<Expr>
     ensures { Gives (expression_left text.now) result
         (row_parts (binary_row form) text.now room at) }
 {
-    let (a, b, end) = last_two(alloc, text, at, room)?;
+    let ((a, b), end) = last_two(alloc, text, at, room)?;
     let expr = form.of(alloc, a, b)?;
     Ok((expr, end))
 }
 
 /// Three expressions, and the end of the form.
 #[cycle(read_expression)]
-fn ternary(
-    alloc: Global,
-    text: &[u8],
-    at: usize,
-    room: usize,
-    form: Ternary,
-) -> Result<(Expr, usize), ExprTextFault>
+fn ternary(alloc: Global, text: &[u8], at: usize, room: usize, form: Ternary) -> Read<Expr>
     ensures { Gives (expression_left text.now) result
         (row_parts (ternary_row form) text.now room at) }
 {
     let (a, at) = part(alloc, text, at, room)?;
-    let (b, c, end) = last_two(alloc, text, at, room)?;
+    let ((b, c), end) = last_two(alloc, text, at, room)?;
     Ok((form.of(a, b, c), end))
 }
 
 /// A type, as no event of it, and the byte behind it.
-fn none_part(
-    alloc: Global,
-    text: &[u8],
-    at: usize,
-    room: usize,
-) -> Result<(ExprChild, usize), ExprTextFault>
+fn none_part(alloc: Global, text: &[u8], at: usize, room: usize) -> Read<ExprChild>
     ensures { Gives (λ x. (x.0, x.1, tokens_from x.1 text.now)) result (none_at text.now room at) }
 {
     let (ty, at) = read_type(alloc, text, at, room)?;
@@ -221,25 +172,19 @@ fn none_part(
 
 /// A type and two expressions, and the end of the form.
 #[cycle(read_expression)]
-fn typed(
-    alloc: Global,
-    text: &[u8],
-    at: usize,
-    room: usize,
-    form: Typed,
-) -> Result<(Expr, usize), ExprTextFault>
+fn typed(alloc: Global, text: &[u8], at: usize, room: usize, form: Typed) -> Read<Expr>
     ensures { Gives (expression_left text.now) result
         (row_parts (typed_row form) text.now room at) }
 {
     let (none, at) = none_part(alloc, text, at, room)?;
-    let (a, b, end) = last_two(alloc, text, at, room)?;
+    let ((a, b), end) = last_two(alloc, text, at, room)?;
     let expr = form.of(alloc, none, a, b)?;
     Ok((expr, end))
 }
 
 /// The type of a list and its elements, and the end of the form.
 #[cycle(read_expression)]
-fn list(alloc: Global, text: &[u8], at: usize, room: usize) -> Result<(Expr, usize), ExprTextFault>
+fn list(alloc: Global, text: &[u8], at: usize, room: usize) -> Read<Expr>
     ensures { Gives (expression_left text.now) result
         (row_parts (form_row Form.List) text.now room at) }
 {
@@ -255,12 +200,7 @@ fn list(alloc: Global, text: &[u8], at: usize, room: usize) -> Result<(Expr, usi
 
 /// The elements of a list as its parts, and the end of the form.
 #[cycle(read_expression)]
-fn elements(
-    alloc: Global,
-    text: &[u8],
-    at: usize,
-    room: usize,
-) -> Result<(Exprs, usize), ExprTextFault>
+fn elements(alloc: Global, text: &[u8], at: usize, room: usize) -> Read<Exprs>
     ensures { Gives (λ x. (x.0, x.1, tokens_from x.1 text.now)) result (items_at text.now room at) }
 {
     let (all, end) = items(alloc, text, at, room)?;
@@ -270,12 +210,7 @@ fn elements(
 
 /// The elements of a list, and the end of the form.
 #[cycle(read_expression)]
-fn items(
-    alloc: Global,
-    text: &[u8],
-    at: usize,
-    room: usize,
-) -> Result<(Vec<Expr>, usize), ExprTextFault>
+fn items(alloc: Global, text: &[u8], at: usize, room: usize) -> Read<Vec<Expr>>
     ensures { Gives (λ x. items_left text.now (x.0.items, x.1)) result (items_at text.now room at) }
 {
     let mut all = Vec::new(alloc);
@@ -292,12 +227,7 @@ fn items(
 
 /// What `read_type_at` answers. It stands apart, since the clauses of that contract follow from its
 /// own.
-fn type_at(
-    alloc: Global,
-    text: &[u8],
-    at: usize,
-    depth: usize,
-) -> Result<(Ty, usize), ExprTextFault>
+fn type_at(alloc: Global, text: &[u8], at: usize, depth: usize) -> Read<Ty>
     ensures { Gives (type_left text.now) result (tree_at type_sort text.now (600 - depth) at) }
 {
     read_type(alloc, text, at, MAX_OPEN.saturating_sub(depth))
@@ -305,12 +235,7 @@ fn type_at(
 
 /// What `read_expr_at` answers. It stands apart, since the clauses of that contract follow from its
 /// own.
-fn expr_at(
-    alloc: Global,
-    text: &[u8],
-    at: usize,
-    depth: usize,
-) -> Result<(Expr, usize), ExprTextFault>
+fn expr_at(alloc: Global, text: &[u8], at: usize, depth: usize) -> Read<Expr>
     ensures { Gives (expression_left text.now) result
         (tree_at expression_sort text.now (600 - depth) at) }
 {
@@ -351,12 +276,7 @@ fn whole_expr(alloc: Global, text: &[u8]) -> Result<Expr, ExprTextFault>
 /// would be the 601st open at once, also where none fits. `Syntax`: any other, or the text's
 /// length where it ends too early. `Memory`: a growth was refused. `Number` and `TooLong` don't
 /// come.
-pub fn read_type_at(
-    alloc: Global,
-    text: &[u8],
-    at: usize,
-    depth: usize,
-) -> Result<(Ty, usize), ExprTextFault>
+pub fn read_type_at(alloc: Global, text: &[u8], at: usize, depth: usize) -> Read<Ty>
     // What is read is in the grammar.
     ensures found { IfOk result
         (λ x. Begins leaf (600 - depth) type_sort (type_of x.0) (tokens_from at text.now) x.1
@@ -381,12 +301,7 @@ pub fn read_type_at(
 /// number word that is badly spelt or out of range: 64 bits for a literal, 0 to 65,535 for the
 /// number of a parameter. `Syntax`: any other, or the text's length where it ends too early.
 /// `Memory`: a growth was refused. `TooLong` doesn't come.
-pub fn read_expr_at(
-    alloc: Global,
-    text: &[u8],
-    at: usize,
-    depth: usize,
-) -> Result<(Expr, usize), ExprTextFault>
+pub fn read_expr_at(alloc: Global, text: &[u8], at: usize, depth: usize) -> Read<Expr>
     // What is read is in the grammar.
     ensures found { IfOk result
         (λ x. Begins leaf (600 - depth) expression_sort (expression_of x.0)

@@ -6,7 +6,7 @@ ghost use Rattle.leaf_expr.specs.ReadText.{Gives, tree_at, natural_read};
 ghost use Rattle.leaf_expr.specs.Token.{tokens_from};
 
 use crate::text_fault::ExprTextFault;
-use crate::tree_front::form_head;
+use crate::tree_front::{Read, form_head};
 use crate::word::{WordFault, natural_word};
 
 /// The greatest number that a parameter or a frozen network is called by in a text.
@@ -18,13 +18,7 @@ const MAX_INDEX: u64 = 65_535;
 /// `TooDeep` at a `(` where there is no room; `Number` at a number word that is badly spelt or out
 /// of that range; `Syntax` at any other token, or at the text's length where none follows. Bytes
 /// are counted from 0.
-pub fn read_natural(
-    text: &[u8],
-    at: usize,
-    room: usize,
-    low: u64,
-    high: u64,
-) -> Result<(u64, usize), ExprTextFault>
+pub fn read_natural(text: &[u8], at: usize, room: usize, low: u64, high: u64) -> Read<u64>
     requires { high < 2 ^ 63 }
     ensures number { Gives (λ x. (x.0, x.1, tokens_from x.1 text.now)) result
         (natural_read low high text.now room at) }
@@ -39,7 +33,7 @@ pub fn read_natural(
 }
 
 /// The number of a parameter or of a frozen network, from 0 to 65,535: as `read_natural`.
-pub fn read_index(text: &[u8], at: usize, room: usize) -> Result<(u32, usize), ExprTextFault>
+pub fn read_index(text: &[u8], at: usize, room: usize) -> Read<u32>
     ensures { Gives (λ x. (x.0, x.1, tokens_from x.1 text.now)) result
         (tree_at index_sort text.now room at) }
 {

@@ -10,6 +10,9 @@ ghost use Rattle.leaf_expr.specs.Token.{closing, tokens_from};
 use crate::text_fault::ExprTextFault;
 use crate::token::{Lexeme, lexeme_at};
 
+/// What was read, and the byte behind it.
+pub type Read<T> = Result<(T, usize), ExprTextFault>;
+
 /// What a tree begins with.
 #[derive(Clone, Copy)]
 pub enum Front {

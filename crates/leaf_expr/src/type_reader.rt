@@ -8,7 +8,7 @@ ghost use Rattle.leaf_expr.specs.Token.{tokens_from};
 
 use crate::form::{TypeForm, type_form_named};
 use crate::text_fault::ExprTextFault;
-use crate::tree_front::{Front, form_end, form_head, front_at};
+use crate::tree_front::{Front, Read, form_end, form_head, front_at};
 use crate::word::type_word;
 use sample_core::{Ty, TyChild};
 use std::alloc::Global;
@@ -18,12 +18,7 @@ pub const MAX_OPEN: usize = 600;
 
 /// The type at or after byte `at`, with room for so many more parentheses, and the byte behind it.
 #[cycle(read_type)]
-pub(crate) fn read_type(
-    alloc: Global,
-    text: &[u8],
-    at: usize,
-    room: usize,
-) -> Result<(Ty, usize), ExprTextFault>
+pub(crate) fn read_type(alloc: Global, text: &[u8], at: usize, room: usize) -> Read<Ty>
     ensures { Gives (type_left text.now) result (tree_at type_sort text.now room at) }
 {
     match front_at(text, at, room)? {
@@ -33,7 +28,7 @@ pub(crate) fn read_type(
 }
 
 /// The type that the word is from the first byte up to and without the second, and the latter.
-fn type_named(text: &[u8], start: usize, end: usize) -> Result<(Ty, usize), ExprTextFault>
+fn type_named(text: &[u8], start: usize, end: usize) -> Read<Ty>
     requires { (start < end) × (end ≤ length text.now) }
     ensures { Gives (type_left text.now) result (word_tree type_sort text.now start end) }
 {
@@ -45,12 +40,7 @@ fn type_named(text: &[u8], start: usize, end: usize) -> Result<(Ty, usize), Expr
 
 /// What stands behind the parenthesis of a form of types.
 #[cycle(read_type)]
-fn type_form(
-    alloc: Global,
-    text: &[u8],
-    at: usize,
-    room: usize,
-) -> Result<(Ty, usize), ExprTextFault>
+fn type_form(alloc: Global, text: &[u8], at: usize, room: usize) -> Read<Ty>
     ensures { Gives (type_left text.now) result (form_at type_sort text.now room at) }
 {
     let (start, end) = form_head(text, at, room)?;
@@ -62,13 +52,7 @@ fn type_form(
 
 /// The types of a form, and its end.
 #[cycle(read_type)]
-fn type_parts(
-    alloc: Global,
-    text: &[u8],
-    at: usize,
-    room: usize,
-    form: TypeForm,
-) -> Result<(Ty, usize), ExprTextFault>
+fn type_parts(alloc: Global, text: &[u8], at: usize, room: usize, form: TypeForm) -> Read<Ty>
     ensures { Gives (type_left text.now) result (row_parts (type_row form) text.now room at) }
 {
     match form {
@@ -86,12 +70,7 @@ fn type_parts(
 
 /// Two types, and the end of the form.
 #[cycle(read_type)]
-fn pair_type(
-    alloc: Global,
-    text: &[u8],
-    at: usize,
-    room: usize,
-) -> Result<(Ty, usize), ExprTextFault>
+fn pair_type(alloc: Global, text: &[u8], at: usize, room: usize) -> Read<Ty>
     ensures { Gives (type_left text.now) result
         (row_parts (type_row TypeForm.Pair) text.now room at) }
 {
@@ -102,12 +81,7 @@ fn pair_type(
 
 /// A type inside a type.
 #[cycle(read_type)]
-fn type_part(
-    alloc: Global,
-    text: &[u8],
-    at: usize,
-    room: usize,
-) -> Result<(TyChild, usize), ExprTextFault>
+fn type_part(alloc: Global, text: &[u8], at: usize, room: usize) -> Read<TyChild>
     ensures { Gives (λ x. (x.0, x.1, tokens_from x.1 text.now)) result
         (tree_at type_sort text.now room at) }
 {
@@ -117,12 +91,7 @@ fn type_part(
 
 /// The last type inside a type, and the end of the form.
 #[cycle(read_type)]
-fn last_type(
-    alloc: Global,
-    text: &[u8],
-    at: usize,
-    room: usize,
-) -> Result<(TyChild, usize), ExprTextFault>
+fn last_type(alloc: Global, text: &[u8], at: usize, room: usize) -> Read<TyChild>
     ensures { Gives (λ x. (x.0, x.1, tokens_from x.1 text.now)) result
         (last_at type_sort text.now room at) }
 {

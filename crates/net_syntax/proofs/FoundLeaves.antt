@@ -16,7 +16,7 @@ use Rattle.net_syntax.specs.TypedNetwork.{TypedNetwork}
 use Rattle.net_syntax.specs.NetworkLimits.{NetTypedWithin}
 use Rattle.net_syntax.specs.Place.{◌>>=◌}
 use Rattle.net_syntax.specs.Leaves.{Need, need_at, leaves_by, member_leaves_by, LeavesOf}
-use Rattle.net_syntax.specs.LeafWalk.{Found, Adds, and_then, only, type_in, find_type, find_leaf, few, old_of, event_of, find, find_members, find_others, find_routed, find_at}
+use Rattle.net_syntax.specs.LeafWalk.{Found, Adds, and_then, only, type_in, find_type, find_leaf, old_of, event_of, find, find_members, find_others, find_routed, find_at}
 use Rattle.net_syntax.specs.NeedView.{need_of}
 use Rattle.net_syntax.specs.declared.needs.Walk.{Walk}
 use Rattle.net_syntax.proofs.LeafWalks.{few_inner}
@@ -80,7 +80,8 @@ mutual
       (then_is (event_of (event_ty C)) (λ Z. find (Ps ++ Z ∷ []) Os (at ++ 1 ∷ []) t D) C B [] _ refl (found (at ++ 1 ∷ []) dt))
   found at (k_switch_typed {Ps = Ps} {Os = Os} {f = f} {e = e} {t = t} {A = A} {B = B} {C = C} df m de dt) =
       then_is (find Ps Os (at ++ 0 ∷ []) f A)
-      (λ X. and_then (and_then (find Ps Os (at ++ 1 ∷ []) e (pair_ty A X)) event_of) (λ Z. find (Ps ++ Z ∷ []) (Os ++ arrow A X ∷ []) (at ++ 2 ∷ []) t A)) B B _ _
+      (λ X. and_then (and_then (find Ps Os (at ++ 1 ∷ []) e (pair_ty A X)) event_of)
+      (λ Z. find (Ps ++ Z ∷ []) (Os ++ arrow A X ∷ []) (at ++ 2 ∷ []) t A)) B B _ _
       (found (at ++ 0 ∷ []) df)
       (then_is _ (λ Z. find (Ps ++ Z ∷ []) (Os ++ arrow A B ∷ []) (at ++ 2 ∷ []) t A) C B _ _
       (only_is _ event_of (event_ty C) C _ (found (at ++ 1 ∷ []) de) refl) (found (at ++ 2 ∷ []) dt))

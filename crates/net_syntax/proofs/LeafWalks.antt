@@ -1,5 +1,5 @@
 -- What the walk over a network finds is what its parts' walks find.
-use Rattle.std.proofs.Common.{◌≡◌, ◌≢◌, ◌+◌, ℕ, zero, suc, ◌<◌, ◌≤◌, List, [], ◌∷◌, ◌++◌, length, map, replicate, leb, true, false, Some, None, get_or, refl, ap, ap₂, sym, ◌∙◌, append_assoc, arith, subst, Result, Ok, Err, OnOk, IfOk, ◌-◌, Bool, if◌then◌else◌}
+use Rattle.std.proofs.Common.{◌≡◌, ◌≢◌, ◌+◌, ℕ, zero, suc, ◌<◌, ◌≤◌, List, [], ◌∷◌, ◌++◌, length, map, replicate, leb, true, false, Some, None, get_or, refl, ap, sym, ◌∙◌, append_assoc, arith, subst, Result, Ok, Err, OnOk, IfOk, ◌-◌, Bool, if◌then◌else◌}
 use Rattle.std.proofs.lemmas.Bool.{leb-true, le-leb}
 use Rattle.std.proofs.lemmas.List.{map-append}
 use Rattle.sample_core.specs.TypeTree.{TypeTree, int_ty, pair_ty, list_ty}
@@ -52,6 +52,10 @@ pub in_place : {X : Type 0} (F : List Ty → List Arrow → List ℕ → X) (a b
     → F b.params.items b.olds.items b.path.items ≡ F a.params.items a.olds.items a.path.items
 in_place F a b (p, q, r) = λ i. F (q i) (r i) (p i)
 
+-- a walk that comes back twice is where it was
+pub still : (a b c : Walk) → SamePlace a b → SamePlace b c → SamePlace a c
+still a b c p q = (q.0 ∙ p.0, q.1 ∙ p.1, q.2 ∙ p.2)
+
 -- as many members as nets
 pub members_length : {L : Type 0} (fs : List (Net L)) → members (members_of fs) ≡ length fs
 members_length [] = refl
@@ -85,8 +89,10 @@ pub par_members : (w : Walk) (fs gs : Networks Expr) (A : TypeTree) → gs ≡ f
     → (find_members_at w 0 (map_networks expression_of gs) A ≢ None) × (0 + members gs ≤ 65)
 par_members w fs gs A same h =
     let few : members (map_networks expression_of fs) ≤ 64 = few_members (map_networks expression_of fs) _ h in
-    subst (λ o. (find_members_at w 0 (map_networks expression_of o) A ≢ None) × (0 + members o ≤ 65)) (sym same)
-    (finds_first _ (λ B. only (list_ty B)) (subst (λ o. o ≢ None) (few_inner (map_networks expression_of fs) _ few) h), omega (arith, few, members_map expression_of fs))
+    subst (λ o. (find_members_at w 0 (map_networks expression_of o) A ≢ None) × (0 + members o ≤ 65)) (sym same) (
+      finds_first _ (λ B. only (list_ty B)) (subst (λ o. o ≢ None) (few_inner (map_networks expression_of fs) _ few) h),
+      omega (arith, few, members_map expression_of fs),
+    )
 
 -- behind the route of a `pSwitch` that is found, the rest is found, and its members are few
 pub route_found : (w b : Walk) (r : Expression) (fs : Networks Expr) (e t : Network Expression) (A D I : TypeTree) → I ≡ pair_ty A int_ty
@@ -128,16 +134,37 @@ module _ (w : Walk) (fs : Networks Expression) (e t : Network Expression) (A D B
       saw_here : Adds (watch w) C b c
       saw_here = subst (λ o. Adds o C b c) (watch_here here) saw
 
-      all_here : SamePlace w c
-      all_here = (there.0 ∙ here.0, there.1 ∙ here.1, there.2 ∙ here.2)
-
       pub rest_found : find_routed_at w fs e t A D ≢ None → rest c C ≢ None
-      rest_found h = subst (λ o. o ≢ None) (sym (rest_here c C all_here))
+      rest_found h = subst (λ o. o ≢ None) (sym (rest_here c C (still w b c here there)))
           (finds_rest (watch w) (rest w) C saw_here.0 saw_here.1 (finds_rest _ _ B adds.0 adds.1 h))
 
       pub routed_adds : (T : TypeTree) (d : Walk) → Adds (rest c C) T c d → Adds (find_routed_at w fs e t A D) T w d
       routed_adds T d last = adds_then _ _ B T w b d adds
-          (adds_then (watch w) (rest w) C T b c d saw_here (subst (λ o. Adds o T c d) (rest_here c C all_here) last))
+          (adds_then (watch w) (rest w) C T b c d saw_here (subst (λ o. Adds o T c d) (rest_here c C (still w b c here there)) last))
+
+-- the number of members that the code counts
+pub counted : (fs : Networks Expr) (count : ℕ) → count ≡ members fs → members (map_networks expression_of fs) ≡ count
+counted fs count is = members_map expression_of fs ∙ sym is
+
+-- the type of the list that the code makes of a copy of a type
+pub listed : (output copy list : Ty) → copy ≡ output → type_of list ≡ list_ty (type_of copy) → list_ty (type_of output) ≡ type_of list
+listed output copy list same is = ap (λ o. list_ty (type_of o)) (sym same) ∙ sym is
+
+-- the expressions of members are those of the slice that has them
+pub slice_adds : (w b : Walk) (fs gs : Networks Expr) (D B : TypeTree) → gs ≡ fs
+    → Adds (find_members_at w 1 (map_networks expression_of gs) D) B w b → Adds (find_members_at w 1 (map_networks expression_of fs) D) B w b
+slice_adds w b fs gs D B is = subst (λ o. Adds (find_members_at w 1 (map_networks expression_of o) D) B w b) is
+
+-- what watches, where the code has its place, itself and what it watches under other names
+pub watch_named : (b : Walk) (k n : ℕ) (e g : Network Expr) (A X Y : TypeTree) → k ≡ n → g ≡ e → X ≡ Y
+    → and_then (find_child b k (map_network expression_of e) (pair_ty A X)) event_of
+    ≡ and_then (find_child b n (map_network expression_of g) (pair_ty A Y)) event_of
+watch_named b k n e g A X Y p q r = λ i. and_then (find_child b (p i) (map_network expression_of (sym q i)) (pair_ty A (r i))) event_of
+
+-- the continuation, where the code has its place and itself under other names
+pub rest_named : (b : Walk) (C : TypeTree) (n m : ℕ) (D B : TypeTree) (k l : ℕ) (t g : Network Expr) (A : TypeTree) → n ≡ m → k ≡ l → g ≡ t
+    → find_resuming b C n (arrow D B) k (map_network expression_of t) A ≡ find_resuming b C m (arrow D B) l (map_network expression_of g) A
+rest_named b C n m D B k l t g A p q r = λ i. find_resuming b C (p i) (arrow D B) (q i) (map_network expression_of (sym r i)) A
 
 pub on_ok : {X E : Type 0} (r : Result X E) (P Q : Type 0) → (P → Q) → OnOk r P → OnOk r Q
 on_ok (Ok x) P Q f h = f h
@@ -148,4 +175,5 @@ pub copied : {X : Type 0} (n : ℕ) (before mid now : List X) (x y : X) → 0 < 
     → now ≡ mid ++ replicate (n - 1) x → now ≡ before ++ replicate n x
 copied zero before mid now x y h m same k = absurd (omega (arith, h))
 copied (suc n) before mid now x y h m same k =
-    k ∙ ap (λ j. mid ++ replicate j x) (omega arith) ∙ ap (λ o. o ++ replicate n x) m ∙ append_assoc before (y ∷ []) (replicate n x) ∙ ap (λ z. before ++ z ∷ replicate n x) same
+    k ∙ ap (λ j. mid ++ replicate j x) (omega arith) ∙ ap (λ o. o ++ replicate n x) m ∙ append_assoc before (y ∷ []) (replicate n x)
+    ∙ ap (λ z. before ++ z ∷ replicate n x) same

@@ -1,5 +1,5 @@
 -- A network whose leaves are changed weighs as much, and is as high.
-use Rattle.std.proofs.Common.{◌≡◌, ℕ, suc, ◌+◌, max, List, [], ◌∷◌, ◌++◌, refl, ap, sym, ◌∙◌}
+use Rattle.std.proofs.Common.{◌≡◌, ℕ, suc, ◌+◌, max, List, [], ◌∷◌, ◌++◌, refl, ap, ◌∙◌}
 use Rattle.net_syntax.specs.Network.{Network, Networks, arr, seq, first, par, loop_pre, i_pre, delay, hold, accum_by, after, repeatedly, time, integral, switch, d_switch, r_switch, k_switch, p_switch, old, no_members, and_member, map_network, map_networks, network_size, networks_size}
 use Rattle.net_syntax.specs.Weight.{weight, weights, total}
 use Rattle.net_syntax.specs.Height.{height, heights, greatest}
@@ -13,8 +13,12 @@ mutual
   weight_map h (switch f t) ws = λ i. suc (weight_map h f ws i + weight_map h t ws i)
   weight_map h (d_switch f t) ws = λ i. suc (weight_map h f ws i + weight_map h t ws i)
   weight_map h (r_switch f t) ws = λ i. suc (weight_map h f ws i + weight_map h t ws i)
-  weight_map h (k_switch f e t) ws = λ i. suc (weight_map h f ws i + weight_map h e ws i + (ap (λ o. weight (map_network h t) (ws ++ o ∷ [])) (weight_map h f ws) ∙ weight_map h t (ws ++ weight f ws ∷ [])) i)
-  weight_map h (p_switch r fs e t) ws = λ i. suc (total (weights_map h fs ws i) + weight_map h e ws i + (ap (λ o. weight (map_network h t) (ws ++ o)) (weights_map h fs ws) ∙ weight_map h t (ws ++ weights fs ws)) i)
+  weight_map h (k_switch f e t) ws =
+      λ i. suc (weight_map h f ws i + weight_map h e ws i
+      + (ap (λ o. weight (map_network h t) (ws ++ o ∷ [])) (weight_map h f ws) ∙ weight_map h t (ws ++ weight f ws ∷ [])) i)
+  weight_map h (p_switch r fs e t) ws =
+      λ i. suc (total (weights_map h fs ws i) + weight_map h e ws i
+      + (ap (λ o. weight (map_network h t) (ws ++ o)) (weights_map h fs ws) ∙ weight_map h t (ws ++ weights fs ws)) i)
   weight_map h (old k) ws = refl
   weight_map h (arr e) ws = refl
   weight_map h (i_pre c) ws = refl
@@ -39,8 +43,12 @@ mutual
   height_map h (switch f t) hs = λ i. suc (max (height_map h f hs i) (height_map h t hs i))
   height_map h (d_switch f t) hs = λ i. suc (max (height_map h f hs i) (height_map h t hs i))
   height_map h (r_switch f t) hs = λ i. suc (max (height_map h f hs i) (height_map h t hs i))
-  height_map h (k_switch f e t) hs = λ i. suc (max (max (height_map h f hs i) (height_map h e hs i)) ((ap (λ o. height (map_network h t) (hs ++ o ∷ [])) (height_map h f hs) ∙ height_map h t (hs ++ height f hs ∷ [])) i))
-  height_map h (p_switch r fs e t) hs = λ i. suc (max (max (greatest (heights_map h fs hs i)) (height_map h e hs i)) ((ap (λ o. height (map_network h t) (hs ++ o)) (heights_map h fs hs) ∙ height_map h t (hs ++ heights fs hs)) i))
+  height_map h (k_switch f e t) hs =
+      λ i. suc (max (max (height_map h f hs i) (height_map h e hs i))
+      ((ap (λ o. height (map_network h t) (hs ++ o ∷ [])) (height_map h f hs) ∙ height_map h t (hs ++ height f hs ∷ [])) i))
+  height_map h (p_switch r fs e t) hs =
+      λ i. suc (max (max (greatest (heights_map h fs hs i)) (height_map h e hs i))
+      ((ap (λ o. height (map_network h t) (hs ++ o)) (heights_map h fs hs) ∙ height_map h t (hs ++ heights fs hs)) i))
   height_map h (old k) hs = refl
   height_map h (arr e) hs = refl
   height_map h (i_pre c) hs = refl

@@ -1,5 +1,5 @@
 -- The expressions that are listed of a network stand at their positions.
-use Rattle.std.proofs.Common.{◌≡◌, ℕ, zero, suc, ◌+◌, List, [], ◌∷◌, ◌++◌, Option, Some, None, All, option_map, refl, sym, ap, ◌∙◌, subst, append_assoc, arith}
+use Rattle.std.proofs.Common.{◌≡◌, ℕ, zero, suc, ◌+◌, List, [], ◌∷◌, ◌++◌, Some, All, option_map, refl, sym, ap, ◌∙◌, subst, append_assoc, arith}
 use Rattle.std.proofs.lemmas.List.Elements.{All-append, All-cons, All-nil}
 use Rattle.sample_core.specs.TypeTree.{TypeTree, int_ty, pair_ty}
 use Rattle.leaf_core.specs.Expression.{Expression}
@@ -90,7 +90,8 @@ module _ {T : LeafTyping Expression} {M : TypeTree → Type 0} where
     stand {net = net} at (arr_typed h) = one net at _ 0 refl refl
     stand {net = net} at (seq_typed {f = f} {g = g} df dg) = two net at 0 1 f g _ _ refl refl (stand (at ++ 0 ∷ []) df) (stand (at ++ 1 ∷ []) dg)
     stand {net = net} at (first_typed {f = f} df m) = up net f at 0 _ refl (stand (at ++ 0 ∷ []) df)
-    stand {net = net} at (par_typed {fs = fs} l u ds m) = up_members net fs at 0 _ (λ j f h. ap (child (par fs)) (omega arith) ∙ ap (option_map a_network) h) (stand_in at 0 ds)
+    stand {net = net} at (par_typed {fs = fs} l u ds m) =
+        up_members net fs at 0 _ (λ j f h. ap (child (par fs)) (omega arith) ∙ ap (option_map a_network) h) (stand_in at 0 ds)
     stand {net = net} at (loop_typed {f = f} h m df) =
         All-append (Stands net at) (_ ∷ []) _ (one net at _ 0 refl refl) (up net f at 1 _ refl (stand (at ++ 1 ∷ []) df))
     stand {net = net} at (i_pre_typed h) = one net at _ 0 refl refl
@@ -105,7 +106,8 @@ module _ {T : LeafTyping Expression} {M : TypeTree → Type 0} where
     stand {net = net} at (d_switch_typed {f = f} {t = t} df dt) = two net at 0 1 f t _ _ refl refl (stand (at ++ 0 ∷ []) df) (stand (at ++ 1 ∷ []) dt)
     stand {net = net} at (r_switch_typed {f = f} {t = t} df dt) = two net at 0 1 f t _ _ refl refl (stand (at ++ 0 ∷ []) df) (stand (at ++ 1 ∷ []) dt)
     stand {net = net} at (k_switch_typed {f = f} {e = e} {t = t} df m de dt) =
-        All-append (Stands net at) _ _ (two net at 0 1 f e _ _ refl refl (stand (at ++ 0 ∷ []) df) (stand (at ++ 1 ∷ []) de)) (up net t at 2 _ refl (stand (at ++ 2 ∷ []) dt))
+        All-append (Stands net at) _ _ (two net at 0 1 f e _ _ refl refl (stand (at ++ 0 ∷ []) df) (stand (at ++ 1 ∷ []) de))
+        (up net t at 2 _ refl (stand (at ++ 2 ∷ []) dt))
     stand {net = net} at (p_switch_typed {Ps = Ps} {r = r} {fs = fs} {e = e} {t = t} {A = A} {D = D} l u m h ds n de dt) =
         let n : Need = need_at at 0 r Ps (pair_ty A int_ty) D in
         let ms : List Need = member_leaves_by at 1 ds in

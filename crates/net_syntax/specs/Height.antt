@@ -1,12 +1,10 @@
 -- The height of a network: 1 without child networks, else 1 plus the greatest child's.
-use Rattle.std.specs.Prelude.{ℕ, zero, suc, max, List, [], ◌∷◌, ◌++◌}
+use Rattle.std.specs.Prelude.{ℕ, suc, max, List, [], ◌∷◌, ◌++◌, get_or}
 use Rattle.net_syntax.specs.Network.{Network, Networks, arr, seq, first, par, loop_pre, i_pre, delay, hold, accum_by, after, repeatedly, time, integral, switch, d_switch, r_switch, k_switch, p_switch, old, no_members, and_member}
 
--- the height of the frozen network k
+-- the height of the frozen network k, 0 where there is none
 abbrev pub height_at : List ℕ → ℕ → ℕ
-height_at [] k = 0
-height_at (h ∷ hs) zero = h
-height_at (h ∷ hs) (suc k) = height_at hs k
+height_at hs k = get_or hs k 0
 
 -- the greatest of a list, 0 of none
 abbrev pub greatest : List ℕ → ℕ

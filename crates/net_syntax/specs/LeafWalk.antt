@@ -1,7 +1,8 @@
 -- The walk that finds the expressions of a network, and its output type.
-use Rattle.std.specs.Prelude.{◌≡◌, ℕ, zero, suc, leb, List, [], ◌∷◌, ◌++◌, Option, Some, None, if◌then◌else◌, map, Result, Ok, Err}
+use Rattle.std.specs.Prelude.{◌≡◌, ℕ, zero, suc, leb, List, [], ◌∷◌, ◌++◌, Option, Some, None, if◌then◌else◌, map, Ok, Err}
 use Rattle.sample_core.specs.TypeTree.{TypeTree, unit_ty, int_ty, pair_ty, event_ty, list_ty}
 use Rattle.sample_core.specs.TypeView.{type_of}
+use Rattle.sample_core.specs.declared.ty.Ty.{Ty}
 use Rattle.leaf_core.specs.Expression.{Expression}
 use Rattle.leaf_core.specs.ExpressionCheck.{TypeAnswer, type_answer}
 use Rattle.net_syntax.specs.Network.{Network, Networks, arr, seq, first, par, loop_pre, i_pre, delay, hold, accum_by, after, repeatedly, time, integral, switch, d_switch, r_switch, k_switch, p_switch, old, no_members, and_member}
@@ -181,10 +182,15 @@ find_leaf_at w k e A = find_leaf (map type_of w.params.items) w.path.items k e A
 
 -- the code's walk is where it was, with the same types in scope
 abbrev pub SamePlace : Walk → Walk → Type 0
-SamePlace before now = (now.path.items ≡ before.path.items) × (now.params.items ≡ before.params.items)
-    × (now.olds.items ≡ before.olds.items)
+SamePlace before now = (now.path.items ≡ before.path.items)
+    × (now.params.items ≡ before.params.items) × (now.olds.items ≡ before.olds.items)
 
 -- what is found has that output type, and its expressions were added behind others
 abbrev pub Adds : Found → TypeTree → Walk → Walk → Type 0
 Adds w A before now = (ns : List Need) × (w ≡ Some (A, ns))
     × (map need_of now.needs.items ≡ map need_of before.needs.items ++ ns)
+
+-- the walk found it: the answer is of its output type, its expressions were added, and the walk is
+-- where it was
+abbrev pub Finds : Walk → Walk → Found → Ty → Type 0
+Finds before now w t = Adds w (type_of t) before now × SamePlace before now

@@ -1,12 +1,10 @@
 -- The weight of a network: each node counts 1 and adds its child networks.
-use Rattle.std.specs.Prelude.{ℕ, zero, suc, ◌+◌, List, [], ◌∷◌, ◌++◌}
+use Rattle.std.specs.Prelude.{ℕ, suc, ◌+◌, List, [], ◌∷◌, ◌++◌, get_or}
 use Rattle.net_syntax.specs.Network.{Network, Networks, arr, seq, first, par, loop_pre, i_pre, delay, hold, accum_by, after, repeatedly, time, integral, switch, d_switch, r_switch, k_switch, p_switch, old, no_members, and_member}
 
--- the weight of the frozen network k
+-- the weight of the frozen network k, 0 where there is none
 abbrev pub weight_at : List ℕ → ℕ → ℕ
-weight_at [] k = 0
-weight_at (w ∷ ws) zero = w
-weight_at (w ∷ ws) (suc k) = weight_at ws k
+weight_at ws k = get_or ws k 0
 
 -- the sum of a list
 abbrev pub total : List ℕ → ℕ

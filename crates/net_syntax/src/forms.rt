@@ -115,14 +115,8 @@ fn copied_accum(alloc: Global, g: &Expr, z: &Expr) -> Result<Net<Expr>, Memory>
 fn copied_pair(form: PairForm, f: &NetChild<Expr>, g: &NetChild<Expr>) -> Result<Net<Expr>, Memory>
     ensures { IfOk result (λ n. n ≡ pair_form_of form f.now g.now) }
 {
-    let f = f.try_copy()?;
-    match g.try_copy() {
-        Ok(g) => Ok(form.of(f, g)),
-        Err(refused) => {
-            drop(f);
-            Err(refused)
-        }
-    }
+    let (f, g) = copied_children(f, g)?;
+    Ok(form.of(f, g))
 }
 
 /// A copy of `first`.

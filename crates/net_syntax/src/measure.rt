@@ -1,7 +1,7 @@
 // How heavy and how high a network is.
 
-ghost use Rattle.std.specs.Prelude.{◌≡◌, ◌+◌, ◌<◌, nat_lt, ◌++◌, ◌∷◌, min, max, suc, [], IfOk, OnOk, MatchOption};
-ghost use Rattle.net_syntax.specs.Height.{height as height_of, heights as heights_of, height_at, greatest};
+ghost use Rattle.std.specs.Prelude.{◌≡◌, ◌+◌, ◌<◌, nat_lt, ◌++◌, ◌∷◌, get_or, min, max, suc, [], IfOk, OnOk, MatchOption};
+ghost use Rattle.net_syntax.specs.Height.{height as height_of, heights as heights_of, greatest};
 ghost use Rattle.net_syntax.specs.Left.{Left, Within};
 ghost use Rattle.net_syntax.specs.Network.{network_size, networks_size};
 ghost use Rattle.net_syntax.specs.NetworkView.{network_of, members_of, tree_of};
@@ -196,7 +196,9 @@ fn weight_left_of_freeze_all<L>(
     scope: &[u32],
     most: u32,
 ) -> Result<u32, Stop>
-    ensures { Left result most (suc (total (weights_of fs.now scope.now) + weight_of e.now scope.now + weight_of t.now (scope.now ++ weights_of fs.now scope.now))) }
+    ensures { Left result most
+        (suc (total (weights_of fs.now scope.now) + weight_of e.now scope.now
+        + weight_of t.now (scope.now ++ weights_of fs.now scope.now))) }
 {
     let start = less(most, 1)?;
     let mut weights = Vec::new(alloc);
@@ -215,7 +217,8 @@ fn weight_left_of_members<L>(
     most: u32,
 ) -> Result<u32, Stop>
     ensures left { Left result most (total (weights_of (members_of fs.now) scope.now)) }
-    ensures weights { OnOk result (weights.new.items ≡ weights.old.items ++ weights_of (members_of fs.now) scope.now) }
+    ensures weights { OnOk result
+        (weights.new.items ≡ weights.old.items ++ weights_of (members_of fs.now) scope.now) }
 {
     let Some((f, rest)) = fs.split_first() else {
         return Ok(most);
@@ -238,9 +241,16 @@ pub(crate) fn weight_left_of_old(scope: &[u32], k: u32, most: u32) -> Result<u32
     ensures { Left result most (suc (weight_at scope.now k)) }
 {
     let rest = less(most, 1)?;
+    less(rest, frozen_at(scope, k))
+}
+
+/// Number k of the frozen networks, 0 where there is none.
+fn frozen_at(scope: &[u32], k: u32) -> u32
+    ensures { result ≡ get_or scope.now k 0 }
+{
     match scope.get(k as usize) {
-        Some(weight) => less(rest, *weight),
-        None => Ok(rest),
+        Some(number) => *number,
+        None => 0,
     }
 }
 
@@ -267,7 +277,7 @@ fn height_within<L>(alloc: Global, net: &Net<L>, scope: &[u32], room: u32) -> Re
         Net::Par(fs) => height_of_all(alloc, fs, scope, room),
         Net::KSwitch(f, e, t) => height_of_freeze(alloc, f, e, t, scope, room),
         Net::PSwitch(_, fs, e, t) => height_of_freeze_all(alloc, fs, e, t, scope, room),
-        Net::Old(k) => height_of_old(scope, *k, room),
+        Net::Old(k) => higher(room, frozen_at(scope, *k)),
     }
 }
 
@@ -300,7 +310,8 @@ fn height_of_two<L>(
     scope: &[u32],
     room: u32,
 ) -> Result<u32, Stop>
-    ensures { Within result room (suc (max (height_of f.now scope.now) (height_of g.now scope.now))) }
+    ensures { Within result room
+        (suc (max (height_of f.now scope.now) (height_of g.now scope.now))) }
 {
     let left = height_within(alloc, f.get(), scope, room)?;
     let right = height_within(alloc, g.get(), scope, room)?;
@@ -332,7 +343,9 @@ fn height_of_freeze<L>(
     scope: &[u32],
     room: u32,
 ) -> Result<u32, Stop>
-    ensures { Within result room (suc (max (max (height_of f.now scope.now) (height_of e.now scope.now)) (height_of t.now (scope.now ++ height_of f.now scope.now ∷ [])))) }
+    ensures { Within result room
+        (suc (max (max (height_of f.now scope.now) (height_of e.now scope.now))
+        (height_of t.now (scope.now ++ height_of f.now scope.now ∷ [])))) }
 {
     let frozen = height_within(alloc, f.get(), scope, room)?;
     let watch = height_within(alloc, e.get(), scope, room)?;
@@ -360,7 +373,9 @@ fn height_of_freeze_all<L>(
     scope: &[u32],
     room: u32,
 ) -> Result<u32, Stop>
-    ensures { Within result room (suc (max (max (greatest (heights_of fs.now scope.now)) (height_of e.now scope.now)) (height_of t.now (scope.now ++ heights_of fs.now scope.now)))) }
+    ensures { Within result room
+        (suc (max (max (greatest (heights_of fs.now scope.now)) (height_of e.now scope.now))
+        (height_of t.now (scope.now ++ heights_of fs.now scope.now)))) }
 {
     let mut heights = Vec::new(alloc);
     let frozen = height_of_members(alloc, fs.as_slice(), scope, &mut heights, room)?;
@@ -379,7 +394,8 @@ fn height_of_members<L>(
     room: u32,
 ) -> Result<u32, Stop>
     ensures greatest { Within result room (greatest (heights_of (members_of fs.now) scope.now)) }
-    ensures heights { OnOk result (heights.new.items ≡ heights.old.items ++ heights_of (members_of fs.now) scope.now) }
+    ensures heights { OnOk result
+        (heights.new.items ≡ heights.old.items ++ heights_of (members_of fs.now) scope.now) }
 {
     let Some((f, rest)) = fs.split_first() else {
         return Ok(0);
@@ -388,16 +404,6 @@ fn height_of_members<L>(
     pushed(heights, height)?;
     let others = height_of_members(alloc, rest, scope, heights, room)?;
     Ok(height.max(others))
-}
-
-/// The same of a frozen network that is resumed.
-fn height_of_old(scope: &[u32], k: u32, room: u32) -> Result<u32, Stop>
-    ensures { Within result room (suc (height_at scope.now k)) }
-{
-    match scope.get(k as usize) {
-        Some(height) => higher(room, *height),
-        None => higher(room, 0),
-    }
 }
 
 /// Whether more than 2,000,000 networks and lists of members stand inside one another in the

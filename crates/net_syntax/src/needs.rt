@@ -1,6 +1,6 @@
 // The expressions of a network: what it needs stored closures for.
 
-ghost use Rattle.std.specs.Prelude.{◌≡◌, ◌≢◌, ◌+◌, ◌≤◌, ◌++◌, ◌∷◌, [], IfOk, OnOk, Ok, None, map};
+ghost use Rattle.std.specs.Prelude.{◌≡◌, ◌≢◌, ◌+◌, ◌≤◌, ◌++◌, ◌∷◌, [], IfOk, Ok, None, map};
 ghost use Rattle.sample_core.specs.TypeTree.{TypeTree, unit_ty, int_ty, pair_ty, event_ty, list_ty};
 ghost use Rattle.sample_core.specs.TypeView.{type_of};
 ghost use Rattle.leaf_core.specs.ExpressionView.{expression_of};
@@ -11,7 +11,7 @@ ghost use Rattle.net_syntax.specs.NeedView.{need_of};
 ghost use Rattle.net_syntax.specs.ArrowView.{arrow_of};
 ghost use Rattle.net_syntax.specs.Typing.{arrow, copies, members};
 ghost use Rattle.net_syntax.specs.Leaves.{need_at, LeavesOf};
-ghost use Rattle.net_syntax.specs.LeafWalk.{Adds, SamePlace, and_then, event_of, find_at, find_child, find_leaf_at, find_members_at, find_others_at, find_resuming, find_routed_at, find_type, find_under};
+ghost use Rattle.net_syntax.specs.LeafWalk.{Finds, and_then, event_of, find_at, find_child, find_leaf_at, find_members_at, find_others_at, find_resuming, find_routed_at, find_type, find_under};
 
 use crate::arrow::Arrow;
 use crate::need::LeafNeed;
@@ -56,9 +56,8 @@ pub fn leaves(alloc: Global, net: &TypedNet) -> Result<Vec<LeafNeed>, Memory>
 #[cycle(add_leaves)]
 fn add_leaves(alloc: Global, net: &Net<Expr>, input: &Ty, walk: &mut Walk) -> Result<Ty, Memory>
     requires { find_at walk.old (tree_of net.now) (type_of input.now) ≢ None }
-    ensures place { OnOk result (SamePlace walk.old walk.new) }
-    ensures added { IfOk result (λ t. Adds
-        (find_at walk.old (tree_of net.now) (type_of input.now)) (type_of t) walk.old walk.new) }
+    ensures { IfOk result (Finds walk.old walk.new
+        (find_at walk.old (tree_of net.now) (type_of input.now))) }
 {
     match net {
         Net::Arr(e) => add_leaf(alloc, 0, e, input, walk),
@@ -89,10 +88,8 @@ fn add_child(
     walk: &mut Walk,
 ) -> Result<Ty, Memory>
     requires { find_child walk.old k (tree_of child.now) (type_of input.now) ≢ None }
-    ensures place { OnOk result (SamePlace walk.old walk.new) }
-    ensures added { IfOk result (λ t. Adds
-        (find_child walk.old k (tree_of child.now) (type_of input.now)) (type_of t)
-        walk.old walk.new) }
+    ensures { IfOk result (Finds walk.old walk.new
+        (find_child walk.old k (tree_of child.now) (type_of input.now))) }
 {
     walk.path.push(k)?;
     let output = add_leaves(alloc, child, input, walk)?;
@@ -113,10 +110,8 @@ fn add_continuation(
 ) -> Result<Ty, Memory>
     requires { find_under walk.old (type_of event) k (tree_of child.now) (type_of input.now)
         ≢ None }
-    ensures place { OnOk result (SamePlace walk.old walk.new) }
-    ensures added { IfOk result (λ t. Adds
-        (find_under walk.old (type_of event) k (tree_of child.now) (type_of input.now)) (type_of t)
-        walk.old walk.new) }
+    ensures { IfOk result (Finds walk.old walk.new
+        (find_under walk.old (type_of event) k (tree_of child.now) (type_of input.now))) }
 {
     walk.params.push(event)?;
     let output = add_child(alloc, k, child, input, walk)?;
@@ -136,10 +131,9 @@ fn add_seq(
     requires { find_at walk.old
         (seq (map_network expression_of f.now) (map_network expression_of g.now))
         (type_of input.now) ≢ None }
-    ensures place { OnOk result (SamePlace walk.old walk.new) }
-    ensures added { IfOk result (λ t. Adds
+    ensures { IfOk result (Finds walk.old walk.new
         (find_at walk.old (seq (map_network expression_of f.now) (map_network expression_of g.now))
-        (type_of input.now)) (type_of t) walk.old walk.new) }
+        (type_of input.now))) }
 {
     let between = add_child(alloc, 0, f.get(), input, walk)?;
     let output = add_child(alloc, 1, g.get(), &between, walk);
@@ -152,10 +146,8 @@ fn add_seq(
 fn add_first(alloc: Global, f: &NetChild<Expr>, input: &Ty, walk: &mut Walk) -> Result<Ty, Memory>
     requires { find_at walk.old (first (map_network expression_of f.now)) (type_of input.now)
         ≢ None }
-    ensures place { OnOk result (SamePlace walk.old walk.new) }
-    ensures added { IfOk result (λ t. Adds
-        (find_at walk.old (first (map_network expression_of f.now)) (type_of input.now)) (type_of t)
-        walk.old walk.new) }
+    ensures { IfOk result (Finds walk.old walk.new
+        (find_at walk.old (first (map_network expression_of f.now)) (type_of input.now))) }
 {
     match input {
         Ty::Pair(left, right) => {
@@ -171,10 +163,8 @@ fn add_first(alloc: Global, f: &NetChild<Expr>, input: &Ty, walk: &mut Walk) -> 
 fn add_par(alloc: Global, fs: &Members<Expr>, input: &Ty, walk: &mut Walk) -> Result<Ty, Memory>
     requires { find_at walk.old (par (map_networks expression_of fs.now)) (type_of input.now)
         ≢ None }
-    ensures place { OnOk result (SamePlace walk.old walk.new) }
-    ensures added { IfOk result (λ t. Adds
-        (find_at walk.old (par (map_networks expression_of fs.now)) (type_of input.now)) (type_of t)
-        walk.old walk.new) }
+    ensures { IfOk result (Finds walk.old walk.new
+        (find_at walk.old (par (map_networks expression_of fs.now)) (type_of input.now))) }
 {
     let element = add_members(alloc, 0, fs.as_slice(), input, walk)?;
     list_of(alloc, element)
@@ -193,10 +183,9 @@ fn add_members(
     requires typed { find_members_at walk.old k (map_networks expression_of (members_of fs.now))
         (type_of input.now) ≢ None }
     requires few { k + members (members_of fs.now) ≤ 65 }
-    ensures place { OnOk result (SamePlace walk.old walk.new) }
-    ensures added { IfOk result (λ t. Adds
+    ensures { IfOk result (Finds walk.old walk.new
         (find_members_at walk.old k (map_networks expression_of (members_of fs.now))
-        (type_of input.now)) (type_of t) walk.old walk.new) }
+        (type_of input.now))) }
 {
     match fs.split_first() {
         Some((f, rest)) => {
@@ -220,10 +209,9 @@ fn add_others(
     requires typed { find_others_at walk.old k (map_networks expression_of (members_of fs.now))
         (type_of input.now) (type_of output) ≢ None }
     requires few { k + members (members_of fs.now) ≤ 65 }
-    ensures place { OnOk result (SamePlace walk.old walk.new) }
-    ensures added { IfOk result (λ t. Adds
+    ensures { IfOk result (Finds walk.old walk.new
         (find_others_at walk.old k (map_networks expression_of (members_of fs.now))
-        (type_of input.now) (type_of output)) (type_of t) walk.old walk.new) }
+        (type_of input.now) (type_of output))) }
 {
     match fs.split_first() {
         Some((f, rest)) => match add_child(alloc, k, f, input, walk) {
@@ -251,10 +239,9 @@ fn add_loop(
 ) -> Result<Ty, Memory>
     requires { find_at walk.old (loop_pre (expression_of c.now) (map_network expression_of f.now))
         (type_of input.now) ≢ None }
-    ensures place { OnOk result (SamePlace walk.old walk.new) }
-    ensures added { IfOk result (λ t. Adds
+    ensures { IfOk result (Finds walk.old walk.new
         (find_at walk.old (loop_pre (expression_of c.now) (map_network expression_of f.now))
-        (type_of input.now)) (type_of t) walk.old walk.new) }
+        (type_of input.now))) }
 {
     let start = add_leaf(alloc, 0, c, &Ty::Unit, walk)?;
     let both = pair_under(alloc, input, start)?;
@@ -269,10 +256,8 @@ fn add_loop(
 /// Adds the expression of `iPre` or `delay`.
 fn add_late(alloc: Global, c: &Expr, input: &Ty, walk: &mut Walk) -> Result<Ty, Memory>
     requires { find_at walk.old (i_pre (expression_of c.now)) (type_of input.now) ≢ None }
-    ensures place { OnOk result (SamePlace walk.old walk.new) }
-    ensures added { IfOk result (λ t. Adds
-        (find_at walk.old (i_pre (expression_of c.now)) (type_of input.now)) (type_of t)
-        walk.old walk.new) }
+    ensures { IfOk result (Finds walk.old walk.new
+        (find_at walk.old (i_pre (expression_of c.now)) (type_of input.now))) }
 {
     drop(add_leaf(alloc, 0, c, &Ty::Unit, walk)?);
     input.try_copy(alloc)
@@ -281,10 +266,8 @@ fn add_late(alloc: Global, c: &Expr, input: &Ty, walk: &mut Walk) -> Result<Ty, 
 /// Adds the expression of `hold`.
 fn add_hold(alloc: Global, c: &Expr, input: &Ty, walk: &mut Walk) -> Result<Ty, Memory>
     requires { find_at walk.old (hold (expression_of c.now)) (type_of input.now) ≢ None }
-    ensures place { OnOk result (SamePlace walk.old walk.new) }
-    ensures added { IfOk result (λ t. Adds
-        (find_at walk.old (hold (expression_of c.now)) (type_of input.now)) (type_of t)
-        walk.old walk.new) }
+    ensures { IfOk result (Finds walk.old walk.new
+        (find_at walk.old (hold (expression_of c.now)) (type_of input.now))) }
 {
     drop(add_leaf(alloc, 0, c, &Ty::Unit, walk)?);
     event_value(alloc, input)
@@ -294,10 +277,9 @@ fn add_hold(alloc: Global, c: &Expr, input: &Ty, walk: &mut Walk) -> Result<Ty, 
 fn add_accum(alloc: Global, g: &Expr, z: &Expr, input: &Ty, walk: &mut Walk) -> Result<Ty, Memory>
     requires { find_at walk.old (accum_by (expression_of g.now) (expression_of z.now))
         (type_of input.now) ≢ None }
-    ensures place { OnOk result (SamePlace walk.old walk.new) }
-    ensures added { IfOk result (λ t. Adds
+    ensures { IfOk result (Finds walk.old walk.new
         (find_at walk.old (accum_by (expression_of g.now) (expression_of z.now))
-        (type_of input.now)) (type_of t) walk.old walk.new) }
+        (type_of input.now))) }
 {
     let start = checked_type(alloc, z, &walk.params, &Ty::Unit)?;
     let value = event_value(alloc, input)?;
@@ -314,10 +296,8 @@ fn add_accum(alloc: Global, g: &Expr, z: &Expr, input: &Ty, walk: &mut Walk) -> 
 /// Adds the expression of `after` or `repeatedly`.
 fn add_timer(alloc: Global, c: &Expr, input: &Ty, walk: &mut Walk) -> Result<Ty, Memory>
     requires { find_at walk.old (after 0 (expression_of c.now)) (type_of input.now) ≢ None }
-    ensures place { OnOk result (SamePlace walk.old walk.new) }
-    ensures added { IfOk result (λ t. Adds
-        (find_at walk.old (after 0 (expression_of c.now)) (type_of input.now)) (type_of t)
-        walk.old walk.new) }
+    ensures { IfOk result (Finds walk.old walk.new
+        (find_at walk.old (after 0 (expression_of c.now)) (type_of input.now))) }
 {
     let value = add_leaf(alloc, 0, c, &Ty::Unit, walk)?;
     event_with(alloc, value)
@@ -335,11 +315,10 @@ fn add_switch(
     requires { find_at walk.old
         (switch (map_network expression_of f.now) (map_network expression_of t.now))
         (type_of input.now) ≢ None }
-    ensures place { OnOk result (SamePlace walk.old walk.new) }
-    ensures added { IfOk result (λ o. Adds
+    ensures { IfOk result (Finds walk.old walk.new
         (find_at walk.old
         (switch (map_network expression_of f.now) (map_network expression_of t.now))
-        (type_of input.now)) (type_of o) walk.old walk.new) }
+        (type_of input.now))) }
 {
     let output = add_child(alloc, 0, f.get(), input, walk)?;
     let event = right_event_value(alloc, &output);
@@ -359,11 +338,10 @@ fn add_restart(
     requires { find_at walk.old
         (r_switch (map_network expression_of f.now) (map_network expression_of t.now))
         (type_of input.now) ≢ None }
-    ensures place { OnOk result (SamePlace walk.old walk.new) }
-    ensures added { IfOk result (λ o. Adds
+    ensures { IfOk result (Finds walk.old walk.new
         (find_at walk.old
         (r_switch (map_network expression_of f.now) (map_network expression_of t.now))
-        (type_of input.now)) (type_of o) walk.old walk.new) }
+        (type_of input.now))) }
 {
     match input {
         Ty::Pair(sample, event) => {
@@ -388,11 +366,10 @@ fn add_freeze(
     requires { find_at walk.old
         (k_switch (map_network expression_of f.now) (map_network expression_of e.now)
         (map_network expression_of t.now)) (type_of input.now) ≢ None }
-    ensures place { OnOk result (SamePlace walk.old walk.new) }
-    ensures added { IfOk result (λ o. Adds
+    ensures { IfOk result (Finds walk.old walk.new
         (find_at walk.old
         (k_switch (map_network expression_of f.now) (map_network expression_of e.now)
-        (map_network expression_of t.now)) (type_of input.now)) (type_of o) walk.old walk.new) }
+        (map_network expression_of t.now)) (type_of input.now))) }
 {
     let output = add_child(alloc, 0, f.get(), input, walk)?;
     let frozen = arrow_from(alloc, input, output)?;
@@ -414,11 +391,10 @@ fn add_watch(
     requires { and_then
         (find_child walk.old k (tree_of e.now) (pair_ty (type_of input.now) (type_of output.now)))
         event_of ≢ None }
-    ensures place { OnOk result (SamePlace walk.old walk.new) }
-    ensures added { IfOk result (λ t. Adds
+    ensures { IfOk result (Finds walk.old walk.new
         (and_then
         (find_child walk.old k (tree_of e.now) (pair_ty (type_of input.now) (type_of output.now)))
-        event_of) (type_of t) walk.old walk.new) }
+        event_of)) }
 {
     let output = output.try_copy(alloc)?;
     let both = pair_under(alloc, input, output)?;
@@ -445,10 +421,9 @@ fn add_resuming(
 ) -> Result<Ty, Memory>
     requires { find_resuming walk.old (type_of event) count (arrow_of frozen) k (tree_of t.now)
         (type_of input.now) ≢ None }
-    ensures place { OnOk result (SamePlace walk.old walk.new) }
-    ensures added { IfOk result (λ o. Adds
+    ensures { IfOk result (Finds walk.old walk.new
         (find_resuming walk.old (type_of event) count (arrow_of frozen) k (tree_of t.now)
-        (type_of input.now)) (type_of o) walk.old walk.new) }
+        (type_of input.now))) }
 {
     let before = walk.olds.len();
     let added = add_copies(alloc, count, &frozen, &mut walk.olds);
@@ -474,12 +449,11 @@ fn add_routed(
         (p_switch (expression_of r.now) (map_networks expression_of fs.now)
         (map_network expression_of e.now) (map_network expression_of t.now))
         (type_of input.now) ≢ None }
-    ensures place { OnOk result (SamePlace walk.old walk.new) }
-    ensures added { IfOk result (λ o. Adds
+    ensures { IfOk result (Finds walk.old walk.new
         (find_at walk.old
         (p_switch (expression_of r.now) (map_networks expression_of fs.now)
         (map_network expression_of e.now) (map_network expression_of t.now))
-        (type_of input.now)) (type_of o) walk.old walk.new) }
+        (type_of input.now))) }
 {
     let indexed = pair_under(alloc, input, Ty::Int)?;
     let routed = add_leaf(alloc, 0, r, &indexed, walk);
@@ -502,11 +476,10 @@ fn add_behind_route(
         (map_network expression_of e.now) (map_network expression_of t.now)
         (type_of input.now) (type_of routed) ≢ None }
     requires few { members fs.now ≤ 64 }
-    ensures place { OnOk result (SamePlace walk.old walk.new) }
-    ensures added { IfOk result (λ o. Adds
+    ensures { IfOk result (Finds walk.old walk.new
         (find_routed_at walk.old (map_networks expression_of fs.now)
         (map_network expression_of e.now) (map_network expression_of t.now)
-        (type_of input.now) (type_of routed)) (type_of o) walk.old walk.new) }
+        (type_of input.now) (type_of routed))) }
 {
     let count = count_members(fs);
     let output = add_members(alloc, 1, fs.as_slice(), &routed, walk)?;
@@ -542,10 +515,8 @@ fn count_members(fs: &Members<Expr>) -> u32
 /// type.
 fn add_leaf(alloc: Global, k: u32, e: &Expr, input: &Ty, walk: &mut Walk) -> Result<Ty, Memory>
     requires { find_leaf_at walk.old k (expression_of e.now) (type_of input.now) ≢ None }
-    ensures place { OnOk result (SamePlace walk.old walk.new) }
-    ensures added { IfOk result (λ t. Adds
-        (find_leaf_at walk.old k (expression_of e.now) (type_of input.now)) (type_of t)
-        walk.old walk.new) }
+    ensures { IfOk result (Finds walk.old walk.new
+        (find_leaf_at walk.old k (expression_of e.now) (type_of input.now))) }
 {
     let output = checked_type(alloc, e, &walk.params, input)?;
     match leaf_need(alloc, k, e, input, &output, walk) {

@@ -44,7 +44,8 @@ impl Position {
         Ok(Position::new(path.to_vec(alloc)?))
     }
 
-    /// The position of child k, from 0, of the node at the path. `Memory` where a growth was refused.
+    /// The position of child k, from 0, of the node at the path. `Memory` where a growth was
+    /// refused.
     pub fn of_child(alloc: Global, path: &[u32], k: u32) -> Result<Position, Memory>
         ensures { IfOk result (λ p. p ≡ path.now ++ k ∷ []) }
     {

@@ -34,9 +34,21 @@ impl Model for TypedNet {
     ghost use Rattle.net_syntax.specs.NetworkView.{tree_of};
     ghost use Rattle.net_syntax.specs.NetworkLimits.{WithinLimits};
 
-    ghost view = { λ a. record { input = type_of a.input; output = type_of a.output; net = tree_of a.net; weight = a.weight; height = a.height } };
+    ghost view = { λ a. record {
+      input = type_of a.input;
+      output = type_of a.output;
+      net = tree_of a.net;
+      weight = a.weight;
+      height = a.height;
+    } };
 
-    ghost invariant = { λ a. WithinLimits (record { input = type_of a.input; output = type_of a.output; net = tree_of a.net; weight = a.weight; height = a.height }) };
+    ghost invariant = { λ a. WithinLimits (record {
+      input = type_of a.input;
+      output = type_of a.output;
+      net = tree_of a.net;
+      weight = a.weight;
+      height = a.height;
+    }) };
 }
 
 impl TypedNet {

@@ -48,7 +48,15 @@ one_fits repeatedly_timer = refl
 filler : (s : NetSort) → Completes networks s []
 unfolding net_word_at net_words net_row_at col_rows
 filler (leaf_sort s) = carry s [] (leaf_proper.filler s)
-filler network_sort = record { end = (0, word (codes "time")) ∷ []; stop = 4; part = atom (codes "time"); tree = time; spells = λ ts. atom_spells; means = refl }
+filler network_sort =
+    record {
+      end = (0, word (codes "time")) ∷ [];
+      stop = 4;
+      part = atom (codes "time");
+      tree = time;
+      spells = λ ts. atom_spells;
+      means = refl;
+    }
 filler members_sort =
     record {
       end = (0, opening) ∷ (0, word (codes "col")) ∷ (0, closing)

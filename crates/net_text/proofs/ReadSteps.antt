@@ -8,6 +8,7 @@ use Rattle.leaf_expr.specs.Token.{PlacedToken}
 use Rattle.leaf_expr.specs.WordReading.{natural_at}
 use Rattle.leaf_expr.specs.Language.{Places, Maker, place, places}
 use Rattle.leaf_expr.specs.Grammar.{leaf, Sort, Tree}
+use Rattle.leaf_expr.specs.ReadText.{Gives}
 use Rattle.leaf_expr.specs.TreeReader.{Read, word_read, read, read_head}
 use Rattle.leaf_expr.proofs.ReadSteps.{Refuses, passed, formless_read}
 use Rattle.leaf_expr.proofs.PartSteps.{parts, part, no_part}
@@ -45,6 +46,16 @@ module _ (size room : ℕ) {R : Type 0} where
   pub no_leaf : (s : Sort) (x : ExprTextFault) (ps : Places NetSort) (make : Tree s → Maker NetTree ps R) (ts : List PlacedToken) →
       Refuses x (read leaf size room s ts) → Refuses x (parts networks size room (place (leaf_sort s) ps) make ts)
   no_leaf s x ps make ts p = no_part networks size room (leaf_sort s) x ps make ts (subst (Refuses x) (sym (read_same size room s ts)) p)
+
+-- what the code reads behind a part, and keeps beside it
+pub read_behind : {X Y : Type 0} (view : X → Y) (r : Result X ExprTextFault) {x : X} {read : Result Y ExprTextFault} → r ≡ Ok x → Gives view r read
+    → read ≡ Ok (view x)
+read_behind view r {read = read} p g = subst (λ o. Gives view o read) p g
+
+-- and what is refused behind it
+pub refused_behind : {X Y : Type 0} (view : X → Y) (r : Result X ExprTextFault) {x : ExprTextFault} {read : Result Y ExprTextFault} → r ≡ Err x
+    → Gives view r read → Refuses x read
+refused_behind view r {read = read} p g = subst (λ o. Gives view o read) p g
 
 -- the time of a form is a number
 pub time_read : (size room : ℕ) (g : Timer) (ts : List PlacedToken) → read networks size room (time_sort g) ts

@@ -1,6 +1,6 @@
 // Reading networks.
 
-ghost use Rattle.std.specs.Prelude.{◌≡◌, ◌<◌, ◌≤◌, length, map};
+ghost use Rattle.std.specs.Prelude.{◌≡◌, ◌<◌, ◌≤◌, Err, MatchResult, Ok, length, map};
 ghost use Rattle.sample_core.specs.TypeView.{type_of};
 ghost use Rattle.leaf_core.specs.ExpressionView.{expression_of};
 ghost use Rattle.leaf_expr.specs.Grammar.{type_sort, expression_sort};
@@ -15,8 +15,8 @@ ghost use Rattle.net_text.specs.ReadNet.{sort_at, word_network as word_read, for
 
 use crate::form::{Accumulator, Binary, Form, LeafForm, Timer, Unary, form_named, network_named};
 use leaf_expr::{
-    Expr, ExprTextFault, Front, MAX_OPEN, closing_at, form_end, form_head, front_at, read_expr_at,
-    read_index, read_natural, read_type_at,
+    Expr, ExprTextFault, Front, MAX_OPEN, Read, closing_at, form_end, form_head, front_at,
+    read_expr_at, read_index, read_natural, read_type_at,
 };
 use net_syntax::{Members, Net, NetChild};
 use sample_core::{Ty, word_is};
@@ -25,12 +25,7 @@ use std::alloc::Global;
 /// The network at or after byte `at`, with room for so many more parentheses, and the byte behind
 /// it.
 #[cycle(network)]
-pub(crate) fn network_at(
-    alloc: Global,
-    text: &[u8],
-    at: usize,
-    room: usize,
-) -> Result<(Net<Expr>, usize), ExprTextFault>
+pub(crate) fn network_at(alloc: Global, text: &[u8], at: usize, room: usize) -> Read<Net<Expr>>
     requires { room ≤ 600 }
     ensures { Gives (network_left text.now) result (sort_at network_sort text.now room at) }
 {
@@ -41,12 +36,7 @@ pub(crate) fn network_at(
 }
 
 /// The network that the word is from the first byte up to and without the second, and the latter.
-fn word_network(
-    alloc: Global,
-    text: &[u8],
-    start: usize,
-    end: usize,
-) -> Result<(Net<Expr>, usize), ExprTextFault>
+fn word_network(alloc: Global, text: &[u8], start: usize, end: usize) -> Read<Net<Expr>>
     requires { (start < end) × (end ≤ length text.now) }
     ensures { Gives (network_left text.now) result (word_read text.now start end) }
 {
@@ -61,12 +51,7 @@ fn word_network(
 
 /// What stands behind the parenthesis of a form.
 #[cycle(network)]
-fn form_at(
-    alloc: Global,
-    text: &[u8],
-    at: usize,
-    room: usize,
-) -> Result<(Net<Expr>, usize), ExprTextFault>
+fn form_at(alloc: Global, text: &[u8], at: usize, room: usize) -> Read<Net<Expr>>
     requires { room ≤ 600 }
     ensures { Gives (network_left text.now) result (form_read network_sort text.now room at) }
 {
@@ -79,13 +64,7 @@ fn form_at(
 
 /// The parts of a form, and its end.
 #[cycle(network)]
-fn parts_at(
-    alloc: Global,
-    text: &[u8],
-    at: usize,
-    room: usize,
-    form: Form,
-) -> Result<(Net<Expr>, usize), ExprTextFault>
+fn parts_at(alloc: Global, text: &[u8], at: usize, room: usize, form: Form) -> Read<Net<Expr>>
     requires { room ≤ 600 }
     ensures { Gives (network_left text.now) result (row_parts (form_row form) text.now room at) }
 {
@@ -104,14 +83,26 @@ fn parts_at(
     }
 }
 
+/// A part with what was read behind it; where that is refused, the part goes.
+pub(crate) fn both<A: Drop, B>(
+    part: A,
+    rest: Result<B, ExprTextFault>,
+) -> Result<(A, B), ExprTextFault>
+    ensures { MatchResult result
+        (λ x. (x.0 ≡ part) × (rest ≡ Ok x.1)) (λ fault. rest ≡ Err fault) }
+{
+    match rest {
+        Ok(rest) => Ok((part, rest)),
+        Err(fault) => {
+            drop(part);
+            Err(fault)
+        }
+    }
+}
+
 /// The expression at or after byte `at`, with room for so many more parentheses, and the byte
 /// behind it.
-fn expr_at(
-    alloc: Global,
-    text: &[u8],
-    at: usize,
-    room: usize,
-) -> Result<(Expr, usize), ExprTextFault>
+fn expr_at(alloc: Global, text: &[u8], at: usize, room: usize) -> Read<Expr>
     requires { room ≤ 600 }
     ensures { Gives (expression_left text.now) result (tree_at expression_sort text.now room at) }
 {
@@ -119,12 +110,7 @@ fn expr_at(
 }
 
 /// The type at or after byte `at`, with room for so many more parentheses, and the byte behind it.
-pub(crate) fn type_at(
-    alloc: Global,
-    text: &[u8],
-    at: usize,
-    room: usize,
-) -> Result<(Ty, usize), ExprTextFault>
+pub(crate) fn type_at(alloc: Global, text: &[u8], at: usize, room: usize) -> Read<Ty>
     requires { room ≤ 600 }
     ensures { Gives (type_left text.now) result (tree_at type_sort text.now room at) }
 {
@@ -132,24 +118,13 @@ pub(crate) fn type_at(
 }
 
 /// The last expression of a form, and the form's end.
-fn last_expr_at(
-    alloc: Global,
-    text: &[u8],
-    at: usize,
-    room: usize,
-) -> Result<(Expr, usize), ExprTextFault>
+fn last_expr_at(alloc: Global, text: &[u8], at: usize, room: usize) -> Read<Expr>
     requires { room ≤ 600 }
     ensures { Gives (expression_left text.now) result
         (parts_read (e no_place) (λ c. c) text.now room at) }
 {
     let (expr, at) = expr_at(alloc, text, at, room)?;
-    match form_end(text, at, room) {
-        Ok(end) => Ok((expr, end)),
-        Err(fault) => {
-            drop(expr);
-            Err(fault)
-        }
-    }
+    both(expr, form_end(text, at, room))
 }
 
 /// One expression, and the end of the form.
@@ -159,7 +134,7 @@ fn leaf_form_at(
     at: usize,
     room: usize,
     form: LeafForm,
-) -> Result<(Net<Expr>, usize), ExprTextFault>
+) -> Read<Net<Expr>>
     requires { room ≤ 600 }
     ensures { Gives (network_left text.now) result
         (row_parts (leaf_form_row form) text.now room at) }
@@ -170,7 +145,7 @@ fn leaf_form_at(
 }
 
 /// The time of the form at or after byte `at`, and the byte behind it.
-fn time_at(text: &[u8], at: usize, room: usize, form: Timer) -> Result<(u64, usize), ExprTextFault>
+fn time_at(text: &[u8], at: usize, room: usize, form: Timer) -> Read<u64>
     ensures { Gives (λ x. (x.0, x.1, tokens_from x.1 text.now)) result
         (sort_at (time_sort (timer_of form)) text.now room at) }
 {
@@ -178,13 +153,7 @@ fn time_at(text: &[u8], at: usize, room: usize, form: Timer) -> Result<(u64, usi
 }
 
 /// A time and an expression, and the end of the form.
-fn timer_at(
-    alloc: Global,
-    text: &[u8],
-    at: usize,
-    room: usize,
-    form: Timer,
-) -> Result<(Net<Expr>, usize), ExprTextFault>
+fn timer_at(alloc: Global, text: &[u8], at: usize, room: usize, form: Timer) -> Read<Net<Expr>>
     requires { room ≤ 600 }
     ensures { Gives (network_left text.now) result (row_parts (timer_row form) text.now room at) }
 {
@@ -200,26 +169,19 @@ fn accumulator_at(
     at: usize,
     room: usize,
     form: Accumulator,
-) -> Result<(Net<Expr>, usize), ExprTextFault>
+) -> Read<Net<Expr>>
     requires { room ≤ 600 }
     ensures { Gives (network_left text.now) result
         (row_parts (accumulator_row form) text.now room at) }
 {
     let (g, at) = expr_at(alloc, text, at, room)?;
-    match last_expr_at(alloc, text, at, room) {
-        Ok((z, end)) => {
-            let net = form.of(alloc, g, z)?;
-            Ok((net, end))
-        }
-        Err(fault) => {
-            drop(g);
-            Err(fault)
-        }
-    }
+    let (g, (z, end)) = both(g, last_expr_at(alloc, text, at, room))?;
+    let net = form.of(alloc, g, z)?;
+    Ok((net, end))
 }
 
 /// The number of a frozen network, and the end of the form.
-fn old_at(text: &[u8], at: usize, room: usize) -> Result<(Net<Expr>, usize), ExprTextFault>
+fn old_at(text: &[u8], at: usize, room: usize) -> Read<Net<Expr>>
     ensures { Gives (network_left text.now) result
         (row_parts (form_row Form.Old) text.now room at) }
 {
@@ -229,34 +191,19 @@ fn old_at(text: &[u8], at: usize, room: usize) -> Result<(Net<Expr>, usize), Exp
 }
 
 /// A type, and the end of the form.
-fn never_at(
-    alloc: Global,
-    text: &[u8],
-    at: usize,
-    room: usize,
-) -> Result<(Net<Expr>, usize), ExprTextFault>
+fn never_at(alloc: Global, text: &[u8], at: usize, room: usize) -> Read<Net<Expr>>
     requires { room ≤ 600 }
     ensures { Gives (network_left text.now) result
         (row_parts (form_row Form.Never) text.now room at) }
 {
     let (carried, at) = type_at(alloc, text, at, room)?;
-    match form_end(text, at, room) {
-        Ok(end) => Ok((Net::Arr(Expr::NoEvent(carried)), end)),
-        Err(fault) => {
-            drop(carried);
-            Err(fault)
-        }
-    }
+    let (carried, end) = both(carried, form_end(text, at, room))?;
+    Ok((Net::Arr(Expr::NoEvent(carried)), end))
 }
 
 /// A network inside a network.
 #[cycle(network)]
-fn child_at(
-    alloc: Global,
-    text: &[u8],
-    at: usize,
-    room: usize,
-) -> Result<(NetChild<Expr>, usize), ExprTextFault>
+fn child_at(alloc: Global, text: &[u8], at: usize, room: usize) -> Read<NetChild<Expr>>
     requires { room ≤ 600 }
     ensures { Gives (child_left text.now) result (sort_at network_sort text.now room at) }
 {
@@ -267,12 +214,7 @@ fn child_at(
 
 /// The last network of a form, and the form's end.
 #[cycle(network)]
-fn last_child_at(
-    alloc: Global,
-    text: &[u8],
-    at: usize,
-    room: usize,
-) -> Result<(NetChild<Expr>, usize), ExprTextFault>
+fn last_child_at(alloc: Global, text: &[u8], at: usize, room: usize) -> Read<NetChild<Expr>>
     requires { room ≤ 600 }
     ensures { Gives (child_left text.now) result
         (parts_read (f no_place) (λ g. g) text.now room at) }
@@ -289,30 +231,24 @@ fn last_two_at(
     text: &[u8],
     at: usize,
     room: usize,
-) -> Result<(NetChild<Expr>, NetChild<Expr>, usize), ExprTextFault>
+) -> Read<(NetChild<Expr>, NetChild<Expr>)>
     requires { room ≤ 600 }
     ensures { Gives
         (λ x. (
-          (map_network expression_of x.0, map_network expression_of x.1),
-          x.2,
-          tokens_from x.2 text.now,
+          (map_network expression_of x.0.0, map_network expression_of x.0.1),
+          x.1,
+          tokens_from x.1 text.now,
         )) result
         (last_two_read text.now room at) }
 {
     let (g, at) = child_at(alloc, text, at, room)?;
     let (h, end) = last_child_at(alloc, text, at, room)?;
-    Ok((g, h, end))
+    Ok(((g, h), end))
 }
 
 /// One network, and the end of the form.
 #[cycle(network)]
-fn unary_at(
-    alloc: Global,
-    text: &[u8],
-    at: usize,
-    room: usize,
-    form: Unary,
-) -> Result<(Net<Expr>, usize), ExprTextFault>
+fn unary_at(alloc: Global, text: &[u8], at: usize, room: usize, form: Unary) -> Read<Net<Expr>>
     requires { room ≤ 600 }
     ensures { Gives (network_left text.now) result (row_parts (unary_row form) text.now room at) }
 {
@@ -323,68 +259,42 @@ fn unary_at(
 
 /// Two networks, and the end of the form.
 #[cycle(network)]
-fn binary_at(
-    alloc: Global,
-    text: &[u8],
-    at: usize,
-    room: usize,
-    form: Binary,
-) -> Result<(Net<Expr>, usize), ExprTextFault>
+fn binary_at(alloc: Global, text: &[u8], at: usize, room: usize, form: Binary) -> Read<Net<Expr>>
     requires { room ≤ 600 }
     ensures { Gives (network_left text.now) result (row_parts (binary_row form) text.now room at) }
 {
-    let (g, h, end) = last_two_at(alloc, text, at, room)?;
+    let ((g, h), end) = last_two_at(alloc, text, at, room)?;
     let net = form.of(alloc, g, h)?;
     Ok((net, end))
 }
 
 /// Three networks, and the end of the form.
 #[cycle(network)]
-fn k_switch_at(
-    alloc: Global,
-    text: &[u8],
-    at: usize,
-    room: usize,
-) -> Result<(Net<Expr>, usize), ExprTextFault>
+fn k_switch_at(alloc: Global, text: &[u8], at: usize, room: usize) -> Read<Net<Expr>>
     requires { room ≤ 600 }
     ensures { Gives (network_left text.now) result
         (row_parts (form_row Form.KSwitch) text.now room at) }
 {
     let (g, at) = child_at(alloc, text, at, room)?;
-    let (test, t, end) = last_two_at(alloc, text, at, room)?;
+    let ((test, t), end) = last_two_at(alloc, text, at, room)?;
     Ok((Net::KSwitch(g, test, t), end))
 }
 
 /// An expression and a network, and the end of the form.
 #[cycle(network)]
-fn loop_at(
-    alloc: Global,
-    text: &[u8],
-    at: usize,
-    room: usize,
-) -> Result<(Net<Expr>, usize), ExprTextFault>
+fn loop_at(alloc: Global, text: &[u8], at: usize, room: usize) -> Read<Net<Expr>>
     requires { room ≤ 600 }
     ensures { Gives (network_left text.now) result
         (row_parts (form_row Form.LoopPre) text.now room at) }
 {
     let (c, at) = expr_at(alloc, text, at, room)?;
-    match last_child_at(alloc, text, at, room) {
-        Ok((g, end)) => Ok((Net::LoopPre(c, g), end)),
-        Err(fault) => {
-            drop(c);
-            Err(fault)
-        }
-    }
+    let (c, (g, end)) = both(c, last_child_at(alloc, text, at, room))?;
+    Ok((Net::LoopPre(c, g), end))
 }
 
 /// Members, and the end of the form.
 #[cycle(network)]
-fn par_at(
-    alloc: Global,
-    text: &[u8],
-    at: usize,
-    room: usize,
-) -> Result<(Net<Expr>, usize), ExprTextFault>
+fn par_at(alloc: Global, text: &[u8], at: usize, room: usize) -> Read<Net<Expr>>
     requires { room ≤ 600 }
     ensures { Gives (network_left text.now) result
         (row_parts (form_row Form.Par) text.now room at) }
@@ -395,24 +305,14 @@ fn par_at(
 
 /// An expression, members and two networks, and the end of the form.
 #[cycle(network)]
-fn p_switch_at(
-    alloc: Global,
-    text: &[u8],
-    at: usize,
-    room: usize,
-) -> Result<(Net<Expr>, usize), ExprTextFault>
+fn p_switch_at(alloc: Global, text: &[u8], at: usize, room: usize) -> Read<Net<Expr>>
     requires { room ≤ 600 }
     ensures { Gives (network_left text.now) result
         (row_parts (form_row Form.PSwitch) text.now room at) }
 {
     let (r, at) = expr_at(alloc, text, at, room)?;
-    match last_three_at(alloc, text, at, room) {
-        Ok((all, test, t, end)) => Ok((Net::PSwitch(r, all, test, t), end)),
-        Err(fault) => {
-            drop(r);
-            Err(fault)
-        }
-    }
+    let (r, ((all, test, t), end)) = both(r, last_three_at(alloc, text, at, room))?;
+    Ok((Net::PSwitch(r, all, test, t), end))
 }
 
 /// Members and the last two networks of a form, and the form's end.
@@ -422,34 +322,29 @@ fn last_three_at(
     text: &[u8],
     at: usize,
     room: usize,
-) -> Result<(Members<Expr>, NetChild<Expr>, NetChild<Expr>, usize), ExprTextFault>
+) -> Read<(Members<Expr>, NetChild<Expr>, NetChild<Expr>)>
     requires { room ≤ 600 }
     ensures { Gives
         (λ x. (
           (
-            map_networks expression_of x.0,
-            map_network expression_of x.1,
-            map_network expression_of x.2,
+            map_networks expression_of x.0.0,
+            map_network expression_of x.0.1,
+            map_network expression_of x.0.2,
           ),
-          x.3,
-          tokens_from x.3 text.now,
+          x.1,
+          tokens_from x.1 text.now,
         )) result
         (last_three_read text.now room at) }
 {
     let (all, at) = col_at(alloc, text, at, room)?;
-    let (g, h, end) = last_two_at(alloc, text, at, room)?;
-    Ok((all, g, h, end))
+    let ((g, h), end) = last_two_at(alloc, text, at, room)?;
+    Ok(((all, g, h), end))
 }
 
 /// `(col f1 .. fn)` at or after byte `at`, with room for so many more parentheses, as members, and
 /// the byte behind it.
 #[cycle(network)]
-fn col_at(
-    alloc: Global,
-    text: &[u8],
-    at: usize,
-    room: usize,
-) -> Result<(Members<Expr>, usize), ExprTextFault>
+fn col_at(alloc: Global, text: &[u8], at: usize, room: usize) -> Read<Members<Expr>>
     requires { room ≤ 600 }
     ensures { Gives (members_left text.now) result (sort_at members_sort text.now room at) }
 {
@@ -461,12 +356,7 @@ fn col_at(
 
 /// What stands behind the parenthesis of `(col f1 .. fn)`.
 #[cycle(network)]
-fn col_form_at(
-    alloc: Global,
-    text: &[u8],
-    at: usize,
-    room: usize,
-) -> Result<(Members<Expr>, usize), ExprTextFault>
+fn col_form_at(alloc: Global, text: &[u8], at: usize, room: usize) -> Read<Members<Expr>>
     requires { room ≤ 600 }
     ensures { Gives (members_left text.now) result (form_read members_sort text.now room at) }
 {
@@ -480,12 +370,7 @@ fn col_form_at(
 
 /// Networks up to the end of the form as members, and the form's end.
 #[cycle(network)]
-fn members_at(
-    alloc: Global,
-    text: &[u8],
-    at: usize,
-    room: usize,
-) -> Result<(Members<Expr>, usize), ExprTextFault>
+fn members_at(alloc: Global, text: &[u8], at: usize, room: usize) -> Read<Members<Expr>>
     requires { room ≤ 600 }
     ensures { Gives (members_left text.now) result
         (parts_read (places network_sort) networks_of text.now room at) }
@@ -497,12 +382,7 @@ fn members_at(
 
 /// Networks up to the end of the form, and the form's end.
 #[cycle(network)]
-fn networks_at(
-    alloc: Global,
-    text: &[u8],
-    at: usize,
-    room: usize,
-) -> Result<(Vec<Net<Expr>>, usize), ExprTextFault>
+fn networks_at(alloc: Global, text: &[u8], at: usize, room: usize) -> Read<Vec<Net<Expr>>>
     requires { room ≤ 600 }
     ensures { Gives (λ x. (map tree_of x.0.items, x.1, tokens_from x.1 text.now)) result
         (parts_read (places network_sort) (λ fs. fs) text.now room at) }

@@ -14,7 +14,7 @@ ghost use Rattle.net_text.specs.ReadNet.{GivesFile, last_network_at};
 ghost use Rattle.net_text.specs.declared.fault.NetTextFault.TheVariants as Fault;
 
 use crate::fault::NetTextFault;
-use crate::network_reader::{network_at, type_at};
+use crate::network_reader::{both, network_at, type_at};
 use leaf_expr::{Expr, ExprTextFault, Lexeme, MAX_LENGTH, MAX_OPEN, lexeme_at, token_at};
 use net_syntax::Net;
 use sample_core::Ty;
@@ -74,13 +74,7 @@ fn body_at(alloc: Global, text: &[u8], at: usize) -> Result<(Ty, Net<Expr>), Exp
         (read_body (length text.now) (tokens_from at text.now)) }
 {
     let (input, at) = type_at(alloc, text, at, MAX_OPEN)?;
-    match last_network(alloc, text, at) {
-        Ok(net) => Ok((input, net)),
-        Err(fault) => {
-            drop(input);
-            Err(fault)
-        }
-    }
+    both(input, last_network(alloc, text, at))
 }
 
 /// A network, and nothing behind it, at or after byte `at`.

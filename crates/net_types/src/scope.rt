@@ -29,7 +29,10 @@ impl Model for Scope {
     ghost use Rattle.sample_core.specs.TypeView.{type_of};
     ghost use Rattle.net_syntax.specs.ArrowView.{arrow_of};
 
-    ghost view = { λ a. record { params = map type_of a.params.items; olds = map arrow_of a.olds.items } };
+    ghost view = { λ a. record {
+      params = map type_of a.params.items;
+      olds = map arrow_of a.olds.items;
+    } };
 }
 
 impl Scope {

@@ -74,8 +74,9 @@ items-loop-end-preserved t c =
     let p = c.in_ok-push.ensures.items in
     let m : map expression_of c.push.new.self.items ≡ map expression_of c.loop-end.all.items ++ expression_of c.in_ok-expr.expr ∷ [] =
     grind (arith, common_steps, p) in
-    more leaf expression_sort (length c.args.text.now) c.args.room c.in_ok-expr.behind (map expression_of c.loop-end.all.items) (map expression_of c.push.new.self.items)
-    (expression_of c.in_ok-expr.expr) (tokens_from c.loop-end.next c.args.text.now) (tokens_from c.in_ok-expr.behind c.args.text.now) _
+    more leaf expression_sort (length c.args.text.now) c.args.room c.in_ok-expr.behind (map expression_of c.loop-end.all.items)
+    (map expression_of c.push.new.self.items) (expression_of c.in_ok-expr.expr) (tokens_from c.loop-end.next c.args.text.now)
+    (tokens_from c.in_ok-expr.behind c.args.text.now) _
     c.loop-end.invariant c.in_default.ensures.token c.in_ok-expr.ensures m
 
 pub read_expression-returns-in_err-start : goal.read_expression-returns-in_err-start

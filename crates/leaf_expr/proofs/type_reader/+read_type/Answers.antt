@@ -70,9 +70,12 @@ pair_type-returns t c = part leaf _ _ type_sort (place type_sort no_place) pair_
 
 pub type_parts-returns-in_err-a-in-Event : goal.type_parts-returns-in_err-a-in-Event
 type_parts-returns-in_err-a-in-Event t c =
-    rw c.in-Event.is (told _ _ _ _ c.from_residual.ensures.1 (parts_refused leaf _ _ event_ty _ (place type_sort no_place) (λ a. a) _ c.in_err-a-in-Event.ensures))
+    rw c.in-Event.is
+    (told _ _ _ _ c.from_residual.ensures.1
+    (parts_refused leaf _ _ event_ty _ (place type_sort no_place) (λ a. a) _ c.in_err-a-in-Event.ensures))
 
 pub type_parts-returns-in_err-a-in-List : goal.type_parts-returns-in_err-a-in-List
 type_parts-returns-in_err-a-in-List t c =
     rw c.in-List.is
-    (told _ _ _ _ c.from_residual-in_err-a-in-List.ensures.1 (parts_refused leaf _ _ list_ty _ (place type_sort no_place) (λ a. a) _ c.in_err-a-in-List.ensures))
+    (told _ _ _ _ c.from_residual-in_err-a-in-List.ensures.1
+    (parts_refused leaf _ _ list_ty _ (place type_sort no_place) (λ a. a) _ c.in_err-a-in-List.ensures))

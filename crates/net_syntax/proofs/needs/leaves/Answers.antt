@@ -12,4 +12,4 @@ returns c = whole_leaves (record { path = c.new.result; params = c.new-2.result;
     c.net.ensures.limits.fits.typed
     (whole_found (record { path = c.new.result; params = c.new-2.result; olds = c.new-3.result; needs = c.new-4.result }) _ _ c.args.net.now
     c.new.ensures.items c.new-2.ensures.items c.new-3.ensures.items c.net.ensures.net c.input.ensures c.net.ensures.limits.fits.typed)
-    c.new-4.ensures.items c.in_ok-output.ensures.added
+    c.new-4.ensures.items c.in_ok-output.ensures.0

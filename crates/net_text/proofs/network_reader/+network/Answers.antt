@@ -17,7 +17,7 @@ use Rattle.leaf_core.specs.Expression.{Expression}
 use Rattle.net_syntax.specs.NetworkView.{tree_of}
 use Rattle.net_text.specs.Form.{form_row, unary_of, binary_of}
 use Rattle.net_text.specs.Grammar.{networks, network_sort, members_sort, row, f, col}
-use Rattle.net_text.proofs.ReadSteps.{col_named, col_unnamed, col_no_word, leaf_part, no_leaf, members_are}
+use Rattle.net_text.proofs.ReadSteps.{col_named, col_unnamed, col_no_word, leaf_part, no_leaf, members_are, read_behind, refused_behind}
 use Rattle.net_text.proofs.network_reader.+network.Goals as goal
 
 pub network_at-returns-in_err-start : goal.network_at-returns-in_err-start
@@ -148,13 +148,20 @@ k_switch_at-returns t c =
 pub loop_at-returns-in_err-c : goal.loop_at-returns-in_err-c
 loop_at-returns-in_err-c t c = told _ _ _ _ c.from_residual.ensures.1 (no_leaf _ _ expression_sort _ (f no_place) loop_pre _ c.in_err-c.ensures)
 
-pub loop_at-returns-in-Ok : goal.loop_at-returns-in-Ok
-loop_at-returns-in-Ok t c = leaf_part _ _ expression_sort (f no_place) loop_pre _ c.in_ok-c.ensures
-    ∙ parts_made networks _ _ (loop_pre (expression_of c.in_ok-c.c)) (f no_place) (λ g. g) _ c.in-Ok.ensures
+pub loop_at-returns-in_err-c-2 : goal.loop_at-returns-in_err-c-2
+loop_at-returns-in_err-c-2 t c =
+    told _ _ _ _ c.from_residual-in_err-c-2.ensures.1
+    (λ m. leaf_part _ _ expression_sort (f no_place) loop_pre _ c.in_ok-c.ensures
+    ∙ parts_refused networks _ _ (loop_pre (expression_of c.in_ok-c.c)) _ (f no_place) (λ g. g) _
+    (refused_behind _ _ c.in_err-c-2.ensures c.last_child_at.ensures) m)
 
-pub loop_at-returns-in-Err : goal.loop_at-returns-in-Err
-loop_at-returns-in-Err t c = λ m. leaf_part _ _ expression_sort (f no_place) loop_pre _ c.in_ok-c.ensures
-    ∙ parts_refused networks _ _ (loop_pre (expression_of c.in_ok-c.c)) _ (f no_place) (λ g. g) _ c.in-Err.ensures m
+pub loop_at-returns : goal.loop_at-returns
+loop_at-returns t c =
+    made _
+    (leaf_part _ _ expression_sort (f no_place) loop_pre _ c.in_ok-c.ensures
+    ∙ parts_made networks _ _ (loop_pre (expression_of c.in_ok-c.c)) (f no_place) (λ g. g) _
+    (read_behind _ _ c.in_ok-c-2.ensures.1 c.last_child_at.ensures))
+    (ap (λ e. loop_pre (expression_of e) (map_network expression_of c.in_ok-c-2.g)) c.in_ok-c-2.ensures.0)
 
 pub par_at-returns-in_err-all : goal.par_at-returns-in_err-all
 par_at-returns-in_err-all t c =
@@ -167,17 +174,24 @@ pub p_switch_at-returns-in_err-r : goal.p_switch_at-returns-in_err-r
 p_switch_at-returns-in_err-r t c =
     told _ _ _ _ c.from_residual.ensures.1 (no_leaf _ _ expression_sort _ (col (f (f no_place))) p_switch _ c.in_err-r.ensures)
 
-pub p_switch_at-returns-in-Ok : goal.p_switch_at-returns-in-Ok
-p_switch_at-returns-in-Ok t c =
+pub p_switch_at-returns-in_err-r-2 : goal.p_switch_at-returns-in_err-r-2
+p_switch_at-returns-in_err-r-2 t c =
     let r = expression_of c.in_ok-r.r in
-    leaf_part _ _ expression_sort (col (f (f no_place))) p_switch _ c.in_ok-r.ensures
-    ∙ parts_made networks _ _ {R = Three} (λ p. p_switch r p.0 p.1 p.2) (col (f (f no_place))) (λ fs g h. (fs, g, h)) _ c.in-Ok.ensures
+    told _ _ _ _ c.from_residual-in_err-r-2.ensures.1
+    (λ m. leaf_part _ _ expression_sort (col (f (f no_place))) p_switch _ c.in_ok-r.ensures
+    ∙ parts_refused networks _ _ {R = Three} (λ p. p_switch r p.0 p.1 p.2) _ (col (f (f no_place))) (λ fs g h. (fs, g, h)) _
+    (refused_behind _ _ c.in_err-r-2.ensures c.last_three_at.ensures) m)
 
-pub p_switch_at-returns-in-Err : goal.p_switch_at-returns-in-Err
-p_switch_at-returns-in-Err t c =
+pub p_switch_at-returns : goal.p_switch_at-returns
+p_switch_at-returns t c =
     let r = expression_of c.in_ok-r.r in
-    λ m. leaf_part _ _ expression_sort (col (f (f no_place))) p_switch _ c.in_ok-r.ensures
-    ∙ parts_refused networks _ _ {R = Three} (λ p. p_switch r p.0 p.1 p.2) _ (col (f (f no_place))) (λ fs g h. (fs, g, h)) _ c.in-Err.ensures m
+    let fs = map_networks expression_of c.in_ok-r-2.all in
+    let g = map_network expression_of c.in_ok-r-2.test in
+    let h = map_network expression_of c.in_ok-r-2.t in
+    made _
+    (leaf_part _ _ expression_sort (col (f (f no_place))) p_switch _ c.in_ok-r.ensures
+    ∙ parts_made networks _ _ {R = Three} (λ p. p_switch r p.0 p.1 p.2) (col (f (f no_place))) (λ fs g h. (fs, g, h)) _
+    (read_behind _ _ c.in_ok-r-2.ensures.1 c.last_three_at.ensures)) (ap (λ e. p_switch (expression_of e) fs g h) c.in_ok-r-2.ensures.0)
 
 pub col_at-returns-in_err-start : goal.col_at-returns-in_err-start
 col_at-returns-in_err-start t c =

@@ -4,4 +4,6 @@ use Rattle.net_types.proofs.ScopeLists.{copied_once}
 use Rattle.net_types.proofs.scope.add_copies.Goals as goal
 
 pub loop-preserved : goal.loop-preserved
-loop-preserved c = copied_once _ _ _ _ _ (c.loop.counter + 1) _ c.loop.invariant (ap arrow_of c.in_ok-copy.ensures) c.in_ok-push.ensures.items (add-one c.loop.counter)
+loop-preserved c =
+    copied_once _ _ _ _ _ (c.loop.counter + 1) _ c.loop.invariant (ap arrow_of c.in_ok-copy.ensures) c.in_ok-push.ensures.items
+    (add-one c.loop.counter)
