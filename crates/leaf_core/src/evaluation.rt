@@ -89,6 +89,7 @@ fn eval_pair(
 }
 
 /// The pair of the two values.
+#[inline(always)]
 fn paired(alloc: Global, first: Sample, second: Sample) -> Result<Sample, Memory>
     ensures { IfOk result (λ s. datum_of s ≡ pair (datum_of first) (datum_of second)) }
 {
@@ -343,7 +344,26 @@ fn eval_child(
 
 /// The number that a part has as its value; 0 where that is no number.
 #[cycle(eval)]
+#[inline(always)]
 fn eval_number(
+    alloc: Global,
+    part: &ExprChild,
+    params: &[Sample],
+    x: &Sample,
+) -> Result<i64, Memory>
+    ensures { IfOk result
+        (λ n. n ≡ int_of (value_of part.now (map datum_of params.now) (datum_of x.now))) }
+{
+    match part.get() {
+        Expr::Literal(Literal::Int(n)) => Ok(*n),
+        Expr::Input => Ok(number(x)),
+        _ => far_number(alloc, part, params, x),
+    }
+}
+
+/// The same, of a part that is more than a word.
+#[cycle(eval)]
+fn far_number(
     alloc: Global,
     part: &ExprChild,
     params: &[Sample],
@@ -354,7 +374,6 @@ fn eval_number(
 {
     let form = part.get();
     match form {
-        Expr::Literal(Literal::Int(n)) => Ok(*n),
         Expr::Neg(a) => eval_neg(alloc, a, params, x),
         Expr::Add(a, b) | Expr::Sub(a, b) | Expr::Mul(a, b) => {
             eval_sum(alloc, form, a, b, params, x)
@@ -400,6 +419,7 @@ fn made_number(
 
 /// The negative of a number.
 #[cycle(eval)]
+#[inline(always)]
 fn eval_neg(alloc: Global, a: &ExprChild, params: &[Sample], x: &Sample) -> Result<i64, Memory>
     ensures { IfOk result
         (λ n. n ≡ int_wrap w64
@@ -411,6 +431,7 @@ fn eval_neg(alloc: Global, a: &ExprChild, params: &[Sample], x: &Sample) -> Resu
 
 /// The number that a sum, a difference or a product is.
 #[cycle(eval)]
+#[inline(always)]
 fn eval_sum(
     alloc: Global,
     form: &Expr,
@@ -500,6 +521,7 @@ fn made_truth(
 
 /// Whether one number is less than another.
 #[cycle(eval)]
+#[inline(always)]
 fn eval_less(
     alloc: Global,
     a: &ExprChild,
@@ -556,6 +578,7 @@ fn eval_equal_to(
 
 /// Whether a part does not have `true` as its value.
 #[cycle(eval)]
+#[inline(always)]
 fn eval_not(alloc: Global, a: &ExprChild, params: &[Sample], x: &Sample) -> Result<bool, Memory>
     ensures { IfOk result
         (λ t. t ≡ not (is_true (value_of a.now (map datum_of params.now) (datum_of x.now)))) }

@@ -1,6 +1,7 @@
 // Values that an expression only looks at.
 
-ghost use Rattle.std.specs.Prelude.{◌≡◌, IfSome, map};
+ghost use Rattle.std.specs.Prelude.{◌≡◌, IfSome, List, map};
+ghost use Rattle.sample_core.specs.Datum.{Datum};
 ghost use Rattle.sample_core.specs.ValueView.{datum_of};
 ghost use Rattle.leaf_core.specs.ExpressionView.{expression_of};
 ghost use Rattle.leaf_core.specs.ExpressionValue.{value_of};
@@ -41,12 +42,29 @@ pub fn path_at<'v>(expr: &Expr, params: &'v [Sample], x: &'v Sample) -> Option<&
     match expr {
         Expr::Input => Some(x),
         Expr::Param(k) => param(params, *k),
-        Expr::Fst(e) | Expr::Snd(e) => match e.get() {
-            Expr::Input => Some(part(expr, x)),
-            e => match path_at(e, params, x) {
+        Expr::Fst(e) | Expr::Snd(e) => match short_path_at(e.get(), x) {
+            Some(value) => Some(part(expr, value)),
+            None => match path_at(e.get(), params, x) {
                 Some(value) => Some(part(expr, value)),
                 None => None,
             },
+        },
+        _ => None,
+    }
+}
+
+/// The same of a path of no step or one, off the input: most are followed with no further call.
+#[inline(always)]
+fn short_path_at<'v>(expr: &Expr, x: &'v Sample) -> Option<&'v Sample>
+    ensures { IfSome result
+        (λ v. (ps : List Datum) → datum_of v.now ≡
+        value_of (expression_of expr.now) ps (datum_of x.now)) }
+{
+    match expr {
+        Expr::Input => Some(x),
+        Expr::Fst(e) | Expr::Snd(e) => match e.get() {
+            Expr::Input => Some(part(expr, x)),
+            _ => None,
         },
         _ => None,
     }

@@ -188,6 +188,7 @@ fn long_integer(size: usize, text: &[u8]) -> Result<(Sample, &[u8]), ValueFault>
 }
 
 /// The value, where a `)` ends it, and what is behind that.
+#[inline(always)]
 fn closed<'t>(size: usize, text: &'t [u8], sample: Sample) -> Result<(Sample, &'t [u8]), ValueFault>
     ensures exact { Gives (λ x. (datum_of x.0, x.1.now)) result
         (closed_at size (datum_of sample) text.now) }
@@ -251,6 +252,7 @@ fn pair<'t>(
 }
 
 /// The pair of the values, where a `)` ends it, and what is behind that.
+#[inline(always)]
 fn paired<'t>(
     alloc: Global,
     size: usize,
@@ -309,6 +311,7 @@ fn list<'t>(
 
 /// A space and a value of the type.
 #[cycle(value)]
+#[inline(always)]
 fn part<'t>(
     alloc: Global,
     size: usize,
@@ -319,13 +322,14 @@ fn part<'t>(
     ensures shorter { IfOk result (λ x. length x.1.now ≤ length text.now) }
 {
     let rest = after_byte(size, text, b' ')?;
-    value(alloc, size, rest, ty.get())
+    part_value(alloc, size, rest, ty.get())
 }
 
-/// A value of the type, as an element of a list: a number is read at once.
+/// A value of the type inside another: a number is read at once.
 #[cycle(value)]
+#[inline(always)]
 #[tactic(auto, unfolding(crate::specs::Reading::value_at))]
-fn element_value<'t>(
+fn part_value<'t>(
     alloc: Global,
     size: usize,
     text: &'t [u8],
@@ -357,7 +361,7 @@ fn elements<'t>(
     let mut all = Vec::new(alloc);
     let mut rest = text;
     while let Some(element) = after_space(rest) {
-        let (sample, after) = element_value(alloc, size, element, ty)?;
+        let (sample, after) = part_value(alloc, size, element, ty)?;
         all.push(sample)?;
         rest = after;
     }

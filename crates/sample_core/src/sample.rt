@@ -115,6 +115,7 @@ impl Model for Samples {
 
 impl SamplePair {
     /// The values as the parts of a pair. `Memory` where a growth was refused.
+    #[inline(always)]
     pub fn new(alloc: Global, first: Sample, second: Sample) -> Result<SamplePair, Memory>
         ensures { IfOk result (λ p. p ≡ (datum_of first, datum_of second)) }
     {

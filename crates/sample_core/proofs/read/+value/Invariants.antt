@@ -19,19 +19,19 @@ abbrev pub decreases-value : goal.decreases-value
 decreases-value l = 4 * nodes_of (type_of l.ty.now)
 
 abbrev pub decreases-event : goal.decreases-event
-decreases-event l = 4 * nodes_of l.ty.now + 2
+decreases-event l = 4 * nodes_of l.ty.now + 3
 
 abbrev pub decreases-list : goal.decreases-list
 decreases-list l = 4 * nodes_of l.ty.now + 3
 
 abbrev pub decreases-part : goal.decreases-part
-decreases-part l = 4 * nodes_of l.ty.now + 1
+decreases-part l = 4 * nodes_of l.ty.now + 2
 
 abbrev pub decreases-elements : goal.decreases-elements
 decreases-elements l = 4 * nodes_of (type_of l.ty.now) + 2
 
-abbrev pub decreases-element_value : goal.decreases-element_value
-decreases-element_value l = 4 * nodes_of (type_of l.ty.now) + 1
+abbrev pub decreases-part_value : goal.decreases-part_value
+decreases-part_value l = 4 * nodes_of (type_of l.ty.now) + 1
 
 abbrev pub decreases-pair : goal.decreases-pair
-decreases-pair l = 4 * (nodes_of l.a.now + nodes_of l.b.now) + 2
+decreases-pair l = 4 * (nodes_of l.a.now + nodes_of l.b.now) + 3
