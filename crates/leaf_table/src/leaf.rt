@@ -44,6 +44,7 @@ impl Leaf {
 
     /// What the closure answers. At arguments of the key's types it is the value of the key's
     /// expression. `AllocError` where a growth was refused.
+    #[inline(always)]
     pub(crate) fn call(&self, params: &[Sample], x: &Sample) -> Result<Sample, AllocError>
         ensures { IfOk result
             (λ v. ∥ Computes self.now.key (map datum_of params.now) (datum_of x.now) (datum_of v)

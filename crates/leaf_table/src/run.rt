@@ -15,6 +15,7 @@ use std::alloc::{AllocError, Global};
 
 /// The input itself, for an expression of the shape `Identity`. `AllocError` only where a count of
 /// references is full.
+#[inline(always)]
 pub fn run_identity(alloc: Global, params: &[Sample], x: &Sample) -> Result<Sample, AllocError>
     ensures named { IfOk result
         (λ v. value_by_shape S.Identity (datum_of x.now) ≡ Some (datum_of v)) }
@@ -28,6 +29,7 @@ pub fn run_identity(alloc: Global, params: &[Sample], x: &Sample) -> Result<Samp
 
 /// The literal `c`, for an expression of the shape `Constant`. It takes no memory and refuses
 /// nothing.
+#[inline(always)]
 pub fn run_constant(
     alloc: Global,
     c: Literal,
@@ -52,6 +54,7 @@ pub fn run_constant(
 
 /// The input times `a` and `b` more, modulo 2^64 and read as signed, for an expression of the
 /// shape `Affine`. An input that is no number counts as 0. It takes no memory and refuses nothing.
+#[inline(always)]
 pub fn run_affine(
     alloc: Global,
     a: i64,
@@ -72,6 +75,7 @@ pub fn run_affine(
 
 /// The input's parts the other way round, for an expression of the shape `Swap`. Each part of an
 /// input that is no pair is the input itself. `AllocError` where a growth was refused.
+#[inline(always)]
 pub fn run_swap(alloc: Global, params: &[Sample], x: &Sample) -> Result<Sample, AllocError>
     ensures named { IfOk result (λ v. value_by_shape S.Swap (datum_of x.now) ≡ Some (datum_of v)) }
     ensures fact { IfOk result
@@ -84,6 +88,7 @@ pub fn run_swap(alloc: Global, params: &[Sample], x: &Sample) -> Result<Sample, 
 
 /// The input's first part, for an expression of the shape `Left`; another input than a pair
 /// itself. `AllocError` only where a count of references is full.
+#[inline(always)]
 pub fn run_left(alloc: Global, params: &[Sample], x: &Sample) -> Result<Sample, AllocError>
     ensures named { IfOk result (λ v. value_by_shape S.Left (datum_of x.now) ≡ Some (datum_of v)) }
     ensures fact { IfOk result
@@ -96,6 +101,7 @@ pub fn run_left(alloc: Global, params: &[Sample], x: &Sample) -> Result<Sample, 
 
 /// The input's second part, for an expression of the shape `Right`; another input than a pair
 /// itself. `AllocError` only where a count of references is full.
+#[inline(always)]
 pub fn run_right(alloc: Global, params: &[Sample], x: &Sample) -> Result<Sample, AllocError>
     ensures named { IfOk result (λ v. value_by_shape S.Right (datum_of x.now) ≡ Some (datum_of v)) }
     ensures fact { IfOk result
@@ -108,6 +114,7 @@ pub fn run_right(alloc: Global, params: &[Sample], x: &Sample) -> Result<Sample,
 
 /// Whether the input is less than `k`, for an expression of the shape `Below`. An input that is no
 /// number counts as 0. It takes no memory and refuses nothing.
+#[inline(always)]
 pub fn run_below(alloc: Global, k: i64, params: &[Sample], x: &Sample) -> Result<Sample, AllocError>
     ensures named { IfOk result
         (λ v. value_by_shape (S.Below k) (datum_of x.now) ≡ Some (datum_of v)) }
@@ -122,6 +129,7 @@ pub fn run_below(alloc: Global, k: i64, params: &[Sample], x: &Sample) -> Result
 
 /// An event that carries the input, for an expression of the shape `Wrap`. `AllocError` where a
 /// growth was refused.
+#[inline(always)]
 pub fn run_wrap(alloc: Global, params: &[Sample], x: &Sample) -> Result<Sample, AllocError>
     ensures named { IfOk result (λ v. value_by_shape S.Wrap (datum_of x.now) ≡ Some (datum_of v)) }
     ensures fact { IfOk result
@@ -134,6 +142,7 @@ pub fn run_wrap(alloc: Global, params: &[Sample], x: &Sample) -> Result<Sample, 
 
 /// The value of the key's expression at the input, whatever its shape is, where `params[k]` is the
 /// value of parameter k. `AllocError` where a growth was refused.
+#[inline(always)]
 pub fn run_general(
     alloc: Global,
     key: &LeafKey,

@@ -1,6 +1,7 @@
 // The one spelling of values and of types.
 
 ghost use Rattle.std.specs.Prelude.{◌≡◌, ◌++◌, IfOk, codes, string_bytes};
+ghost use Rattle.std.specs.Fmt.{signed_decimal};
 ghost use Rattle.sample_core.specs.Adding.{Adds};
 ghost use Rattle.sample_core.specs.Datum.{list, list_of};
 ghost use Rattle.sample_core.specs.ValueView.{datum_of};
@@ -42,10 +43,10 @@ pub fn push_value(text: &mut String, sample: &Sample) -> Result<(), Memory>
         Sample::Unit => push_word(text, "unit"),
         Sample::Bool(true) => push_word(text, "true"),
         Sample::Bool(false) => push_word(text, "false"),
-        Sample::Int(n) => push_word(text, Buffer::new().format(*n)),
+        Sample::Int(n) => push_number(text, *n),
         Sample::Pair(parts) => {
             push_word(text, "(pair ")?;
-            push_value(text, parts.first())?;
+            push_part(text, parts.first())?;
             push_last(text, " ", parts.second())
         }
         Sample::NoEvent => push_word(text, "none"),
@@ -55,6 +56,7 @@ pub fn push_value(text: &mut String, sample: &Sample) -> Result<(), Memory>
 }
 
 /// Adds a word to the end of the text.
+#[inline(always)]
 fn push_word(text: &mut String, word: &str) -> Result<(), Memory>
     ensures { Adds result (string_bytes text.old) (string_bytes text.new) word.now }
 {
@@ -62,14 +64,36 @@ fn push_word(text: &mut String, word: &str) -> Result<(), Memory>
     Ok(())
 }
 
+/// Adds a number to the end of the text. Its digits have room in this frame alone.
+#[inline(never)]
+fn push_number(text: &mut String, n: i64) -> Result<(), Memory>
+    ensures { Adds result (string_bytes text.old) (string_bytes text.new) (signed_decimal n) }
+{
+    push_word(text, Buffer::new().format(n))
+}
+
+/// A value inside another: a number is added at once.
+#[cycle(push_value)]
+#[inline(always)]
+fn push_part(text: &mut String, v: &Sample) -> Result<(), Memory>
+    ensures { Adds result (string_bytes text.old) (string_bytes text.new)
+        (spelling (datum_of v.now)) }
+{
+    match v {
+        Sample::Int(n) => push_number(text, *n),
+        _ => push_value(text, v),
+    }
+}
+
 /// The last part of a value, behind a word.
 #[cycle(push_value)]
+#[inline(always)]
 fn push_last(text: &mut String, word: &str, v: &Sample) -> Result<(), Memory>
     ensures { Adds result (string_bytes text.old) (string_bytes text.new)
         (word.now ++ (spelling (datum_of v.now) ++ codes ")")) }
 {
     push_word(text, word)?;
-    push_value(text, v)?;
+    push_part(text, v)?;
     push_word(text, ")")
 }
 
@@ -88,12 +112,13 @@ fn push_list(text: &mut String, all: &Samples) -> Result<(), Memory>
 
 /// A value behind a space.
 #[cycle(push_value)]
+#[inline(always)]
 fn push_next(text: &mut String, v: &Sample) -> Result<(), Memory>
     ensures { Adds result (string_bytes text.old) (string_bytes text.new)
         (codes " " ++ spelling (datum_of v.now)) }
 {
     push_word(text, " ")?;
-    push_value(text, v)
+    push_part(text, v)
 }
 
 /// Adds the type's one spelling to the end of the text. `Memory` where a growth was refused; the

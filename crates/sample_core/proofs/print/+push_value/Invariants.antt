@@ -16,10 +16,13 @@ abbrev pub decreases-push_value : goal.decreases-push_value
 decreases-push_value l = 3 * datum_size (datum_of l.sample.now)
 
 abbrev pub decreases-push_last : goal.decreases-push_last
-decreases-push_last l = 3 * datum_size (datum_of l.v.now) + 1
+decreases-push_last l = 3 * datum_size (datum_of l.v.now) + 2
 
 abbrev pub decreases-push_next : goal.decreases-push_next
-decreases-push_next l = 3 * datum_size (datum_of l.v.now) + 1
+decreases-push_next l = 3 * datum_size (datum_of l.v.now) + 2
 
 abbrev pub decreases-push_list : goal.decreases-push_list
 decreases-push_list l = 3 * datums_size (list_of l.all.now) + 2
+
+abbrev pub decreases-push_part : goal.decreases-push_part
+decreases-push_part l = 3 * datum_size (datum_of l.v.now) + 1
