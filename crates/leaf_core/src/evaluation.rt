@@ -11,7 +11,7 @@ ghost use Rattle.leaf_core.specs.LookedView.{looked_value};
 
 use crate::expr::{Expr, ExprChild, Exprs};
 use crate::literal::Literal;
-use crate::looked::{Looked, path_at};
+use crate::looked::{Looked, path_at, short_path_at};
 use crate::operations::{
     copied_param, count, element, equal, literal_value, negated, number, part, sum_of, truth,
 };
@@ -365,26 +365,31 @@ fn eval_number(
 #[cycle(eval)]
 fn far_number(
     alloc: Global,
-    part: &ExprChild,
+    child: &ExprChild,
     params: &[Sample],
     x: &Sample,
 ) -> Result<i64, Memory>
     ensures { IfOk result
-        (λ n. n ≡ int_of (value_of part.now (map datum_of params.now) (datum_of x.now))) }
+        (λ n. n ≡ int_of (value_of child.now (map datum_of params.now) (datum_of x.now))) }
 {
-    let form = part.get();
+    let form = child.get();
     match form {
         Expr::Neg(a) => eval_neg(alloc, a, params, x),
         Expr::Add(a, b) | Expr::Sub(a, b) | Expr::Mul(a, b) => {
             eval_sum(alloc, form, a, b, params, x)
         }
         Expr::Len(e) => eval_len(alloc, e, params, x),
-        _ => look_number(alloc, part, params, x),
+        Expr::Fst(e) | Expr::Snd(e) => match short_path_at(e.get(), x) {
+            Some(value) => Ok(number(part(form, value))),
+            None => look_number(alloc, child, params, x),
+        },
+        _ => look_number(alloc, child, params, x),
     }
 }
 
 /// The number that a part of another form has as its value: read where it stands on a path.
 #[cycle(eval)]
+#[inline(never)]
 fn look_number(
     alloc: Global,
     part: &ExprChild,
@@ -402,6 +407,7 @@ fn look_number(
 
 /// The same, where the value is on no path.
 #[cycle(eval)]
+#[inline(never)]
 fn made_number(
     alloc: Global,
     part: &ExprChild,
@@ -419,7 +425,7 @@ fn made_number(
 
 /// The negative of a number.
 #[cycle(eval)]
-#[inline(always)]
+#[inline(never)]
 fn eval_neg(alloc: Global, a: &ExprChild, params: &[Sample], x: &Sample) -> Result<i64, Memory>
     ensures { IfOk result
         (λ n. n ≡ int_wrap w64
@@ -431,7 +437,7 @@ fn eval_neg(alloc: Global, a: &ExprChild, params: &[Sample], x: &Sample) -> Resu
 
 /// The number that a sum, a difference or a product is.
 #[cycle(eval)]
-#[inline(always)]
+#[inline(never)]
 fn eval_sum(
     alloc: Global,
     form: &Expr,
@@ -504,6 +510,7 @@ fn look_truth(
 
 /// The same, where the value is on no path.
 #[cycle(eval)]
+#[inline(never)]
 fn made_truth(
     alloc: Global,
     part: &ExprChild,

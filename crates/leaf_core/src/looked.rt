@@ -33,7 +33,10 @@ impl<'v> Looked<'v> {
 }
 
 /// Where the value of a path stands: of the input, of a parameter, or of a part of what stands on a
-/// path. `None` for another expression, and where there is no such parameter.
+/// path. `None` for another expression, and where there is no such parameter. A path of at most
+/// two steps off the input is followed with no call.
+#[cycle(path)]
+#[inline(always)]
 pub fn path_at<'v>(expr: &Expr, params: &'v [Sample], x: &'v Sample) -> Option<&'v Sample>
     ensures { IfSome result
         (λ v. datum_of v.now ≡
@@ -44,7 +47,7 @@ pub fn path_at<'v>(expr: &Expr, params: &'v [Sample], x: &'v Sample) -> Option<&
         Expr::Param(k) => param(params, *k),
         Expr::Fst(e) | Expr::Snd(e) => match short_path_at(e.get(), x) {
             Some(value) => Some(part(expr, value)),
-            None => match path_at(e.get(), params, x) {
+            None => match long_path_at(e.get(), params, x) {
                 Some(value) => Some(part(expr, value)),
                 None => None,
             },
@@ -53,9 +56,20 @@ pub fn path_at<'v>(expr: &Expr, params: &'v [Sample], x: &'v Sample) -> Option<&
     }
 }
 
-/// The same of a path of no step or one, off the input: most are followed with no further call.
+/// The same, in a frame of its own.
+#[cycle(path)]
+#[inline(never)]
+fn long_path_at<'v>(expr: &Expr, params: &'v [Sample], x: &'v Sample) -> Option<&'v Sample>
+    ensures { IfSome result
+        (λ v. datum_of v.now ≡
+        value_of (expression_of expr.now) (map datum_of params.now) (datum_of x.now)) }
+{
+    path_at(expr, params, x)
+}
+
+/// The same of a path of no step or one off the input; `None` says nothing of another.
 #[inline(always)]
-fn short_path_at<'v>(expr: &Expr, x: &'v Sample) -> Option<&'v Sample>
+pub fn short_path_at<'v>(expr: &Expr, x: &'v Sample) -> Option<&'v Sample>
     ensures { IfSome result
         (λ v. (ps : List Datum) → datum_of v.now ≡
         value_of (expression_of expr.now) ps (datum_of x.now)) }

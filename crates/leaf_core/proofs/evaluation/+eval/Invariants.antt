@@ -99,4 +99,4 @@ abbrev pub decreases-eval_logic : goal.decreases-eval_logic
 decreases-eval_logic l = 7 * (nodes_in l.a.now + nodes_in l.b.now) + 4
 
 abbrev pub decreases-far_number : goal.decreases-far_number
-decreases-far_number l = 7 * nodes_in l.part.now + 3
+decreases-far_number l = 7 * nodes_in l.child.now + 3
