@@ -15,3 +15,4 @@ pub mod ExpressionCheck
 pub mod TypingLaws
 pub mod CheckAnswer
 pub mod LookedView
+pub mod ScopeView

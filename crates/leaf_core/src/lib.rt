@@ -13,6 +13,7 @@ mod limits;
 mod literal;
 mod looked;
 mod operations;
+mod scope;
 mod shape;
 mod typing;
 

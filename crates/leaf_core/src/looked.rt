@@ -1,14 +1,16 @@
 // Values that an expression only looks at.
 
-ghost use Rattle.std.specs.Prelude.{◌≡◌, IfSome, List, map};
+ghost use Rattle.std.specs.Prelude.{◌≡◌, IfSome, List};
 ghost use Rattle.sample_core.specs.Datum.{Datum};
 ghost use Rattle.sample_core.specs.ValueView.{datum_of};
 ghost use Rattle.leaf_core.specs.ExpressionView.{expression_of};
 ghost use Rattle.leaf_core.specs.ExpressionValue.{value_of};
 ghost use Rattle.leaf_core.specs.LookedView.{looked_value};
+ghost use Rattle.leaf_core.specs.ScopeView.{value_in};
 
 use crate::expr::Expr;
 use crate::operations::{param, part};
+use crate::scope::Scope;
 use sample_core::Sample;
 
 /// A value that is looked at.
@@ -37,17 +39,16 @@ impl<'v> Looked<'v> {
 /// two steps off the input is followed with no call.
 #[cycle(path)]
 #[inline(always)]
-pub fn path_at<'v>(expr: &Expr, params: &'v [Sample], x: &'v Sample) -> Option<&'v Sample>
+pub fn path_at<'v>(scope: &Scope<'v>, expr: &Expr) -> Option<&'v Sample>
     ensures { IfSome result
-        (λ v. datum_of v.now ≡
-        value_of (expression_of expr.now) (map datum_of params.now) (datum_of x.now)) }
+        (λ v. datum_of v.now ≡ value_in (expression_of expr.now) scope.now) }
 {
     match expr {
-        Expr::Input => Some(x),
-        Expr::Param(k) => param(params, *k),
-        Expr::Fst(e) | Expr::Snd(e) => match short_path_at(e.get(), x) {
+        Expr::Input => Some(scope.x),
+        Expr::Param(k) => param(scope.params, *k),
+        Expr::Fst(e) | Expr::Snd(e) => match short_path_at(scope.x, e.get()) {
             Some(value) => Some(part(expr, value)),
-            None => match long_path_at(e.get(), params, x) {
+            None => match long_path_at(scope, e.get()) {
                 Some(value) => Some(part(expr, value)),
                 None => None,
             },
@@ -59,17 +60,16 @@ pub fn path_at<'v>(expr: &Expr, params: &'v [Sample], x: &'v Sample) -> Option<&
 /// The same, in a frame of its own.
 #[cycle(path)]
 #[inline(never)]
-fn long_path_at<'v>(expr: &Expr, params: &'v [Sample], x: &'v Sample) -> Option<&'v Sample>
+fn long_path_at<'v>(scope: &Scope<'v>, expr: &Expr) -> Option<&'v Sample>
     ensures { IfSome result
-        (λ v. datum_of v.now ≡
-        value_of (expression_of expr.now) (map datum_of params.now) (datum_of x.now)) }
+        (λ v. datum_of v.now ≡ value_in (expression_of expr.now) scope.now) }
 {
-    path_at(expr, params, x)
+    path_at(scope, expr)
 }
 
 /// The same of a path of no step or one off the input; `None` says nothing of another.
 #[inline(always)]
-pub fn short_path_at<'v>(expr: &Expr, x: &'v Sample) -> Option<&'v Sample>
+pub fn short_path_at<'v>(x: &'v Sample, expr: &Expr) -> Option<&'v Sample>
     ensures { IfSome result
         (λ v. (ps : List Datum) → datum_of v.now ≡
         value_of (expression_of expr.now) ps (datum_of x.now)) }
