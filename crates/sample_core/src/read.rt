@@ -3,10 +3,10 @@
 ghost use Rattle.std.specs.Prelude.{◌≡◌, ◌-◌, ◌≤◌, ◌<◌, ◌∷◌, false, MatchOption, length, drop, map, IfOk, IfErr};
 ghost use Rattle.sample_core.specs.Reading.{Gives, begins_value, begins_with, wrong, behind_byte, behind_head, unit_at, truth_at, number_at, elements_at, closed_at, part_at, value_at, reading};
 ghost use Rattle.sample_core.specs.Faults.{FaultOf};
-ghost use Rattle.sample_core.specs.Datum.{pair};
+ghost use Rattle.sample_core.specs.Datum.{int, pair};
 ghost use Rattle.sample_core.specs.ValueView.{datum_of};
 ghost use Rattle.sample_core.specs.TypeView.{type_of};
-ghost use Rattle.sample_core.specs.TypeTree.{pair_ty, event_ty, list_ty};
+ghost use Rattle.sample_core.specs.TypeTree.{int_ty, pair_ty, event_ty, list_ty};
 ghost use Rattle.sample_core.specs.SpellsValue.{SpellsValue};
 ghost use Rattle.sample_core.specs.Spelling.{spelling};
 ghost use Rattle.sample_core.specs.Words.{word_of};
@@ -155,15 +155,19 @@ fn truth(size: usize, text: &[u8]) -> Result<(Sample, &[u8]), ValueFault>
     }
 }
 
-/// A number.
+/// A number, and what is behind it.
 #[inline(always)]
-fn integer(size: usize, text: &[u8]) -> Result<(Sample, &[u8]), ValueFault>
-    ensures exact { Gives (λ x. (datum_of x.0, x.1.now)) result (number_at size text.now) }
+#[tactic(auto, unfolding(crate::specs::Reading::value_at))]
+fn integer(size: usize, text: &[u8]) -> Result<(i64, &[u8]), ValueFault>
+    ensures exact { Gives (λ x. (int x.0, x.1.now)) result (value_at size int_ty text.now) }
     ensures shorter { IfOk result (λ x. length x.1.now ≤ length text.now) }
 {
     match front_number(text) {
-        Some((n, rest)) => Ok((Sample::Int(n), rest)),
-        None => long_integer(size, text),
+        Some(found) => Ok(found),
+        None => {
+            let (n, rest) = long_integer(size, text)?;
+            Ok((n, rest))
+        }
     }
 }
 
@@ -171,8 +175,8 @@ fn integer(size: usize, text: &[u8]) -> Result<(Sample, &[u8]), ValueFault>
 #[cold]
 #[inline(never)]
 #[tactic(auto, unfolding(crate::specs::Reading::number_at))]
-fn long_integer(size: usize, text: &[u8]) -> Result<(Sample, &[u8]), ValueFault>
-    ensures exact { Gives (λ x. (datum_of x.0, x.1.now)) result (number_at size text.now) }
+fn long_integer(size: usize, text: &[u8]) -> Result<(i64, &[u8]), ValueFault>
+    ensures exact { Gives (λ x. (int x.0, x.1.now)) result (number_at size text.now) }
     ensures shorter { IfOk result (λ x. length x.1.now ≤ length text.now) }
 {
     let (word, rest) = split_word(text);
@@ -180,11 +184,41 @@ fn long_integer(size: usize, text: &[u8]) -> Result<(Sample, &[u8]), ValueFault>
         return Err(wrong_value(size, text));
     }
     match number(word) {
-        Some(n) => Ok((Sample::Int(n), rest)),
+        Some(n) => Ok((n, rest)),
         None => Err(ValueFault::NumberRange {
             at: place(size, text),
         }),
     }
+}
+
+/// A number as a value, and what is behind it.
+#[inline(always)]
+fn number_sample(size: usize, text: &[u8]) -> Result<(Sample, &[u8]), ValueFault>
+    ensures exact { Gives (λ x. (datum_of x.0, x.1.now)) result (value_at size int_ty text.now) }
+    ensures shorter { IfOk result (λ x. length x.1.now ≤ length text.now) }
+{
+    let (n, rest) = integer(size, text)?;
+    Ok((Sample::Int(n), rest))
+}
+
+/// Numbers, each behind a space, as long as a space stands there; and what is behind them.
+fn numbers<'t>(
+    alloc: Global,
+    size: usize,
+    text: &'t [u8],
+) -> Result<(Vec<Sample>, &'t [u8]), ValueFault>
+    ensures exact { Gives (λ x. (map datum_of x.0.items, x.1.now)) result
+        (elements_at (value_at size int_ty) (length text.now) text.now) }
+    ensures shorter { IfOk result (λ x. length x.1.now ≤ length text.now) }
+{
+    let mut all = Vec::new(alloc);
+    let mut rest = text;
+    while let Some(element) = after_space(rest) {
+        let (n, after) = integer(size, element)?;
+        all.push(Sample::Int(n))?;
+        rest = after;
+    }
+    Ok((all, rest))
 }
 
 /// The value, where a `)` ends it, and what is behind that.
@@ -219,7 +253,7 @@ fn value<'t>(
     match ty {
         Ty::Unit => unit(size, text),
         Ty::Bool => truth(size, text),
-        Ty::Int => integer(size, text),
+        Ty::Int => number_sample(size, text),
         Ty::Pair(a, b) => pair(alloc, size, text, a, b),
         Ty::Event(a) => event(alloc, size, text, a),
         Ty::List(a) => list(alloc, size, text, a),
@@ -304,7 +338,10 @@ fn list<'t>(
     ensures shorter { IfOk result (λ x. length x.1.now ≤ length text.now) }
 {
     let rest = after_head(size, text, "list")?;
-    let (all, rest) = elements(alloc, size, rest, ty.get())?;
+    let (all, rest) = match ty.get() {
+        Ty::Int => numbers(alloc, size, rest)?,
+        ty => elements(alloc, size, rest, ty)?,
+    };
     let all = Samples::new(alloc, all)?;
     closed(size, rest, Sample::List(all))
 }
@@ -340,7 +377,7 @@ fn part_value<'t>(
     ensures shorter { IfOk result (λ x. length x.1.now ≤ length text.now) }
 {
     match ty {
-        Ty::Int => integer(size, text),
+        Ty::Int => number_sample(size, text),
         _ => value(alloc, size, text, ty),
     }
 }
@@ -361,7 +398,7 @@ fn elements<'t>(
     let mut all = Vec::new(alloc);
     let mut rest = text;
     while let Some(element) = after_space(rest) {
-        let (sample, after) = part_value(alloc, size, element, ty)?;
+        let (sample, after) = value(alloc, size, element, ty)?;
         all.push(sample)?;
         rest = after;
     }
