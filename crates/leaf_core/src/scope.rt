@@ -1,6 +1,6 @@
-// Where an expression is evaluated.
+// What an expression is evaluated over, and what it is typed under.
 
-use sample_core::Sample;
+use sample_core::{Sample, Ty};
 use std::alloc::Global;
 
 /// What an expression is evaluated over.
@@ -12,4 +12,15 @@ pub struct Scope<'v> {
     pub params: &'v [Sample],
     /// The input.
     pub x: &'v Sample,
+}
+
+/// What an expression is typed under.
+#[derive(Clone, Copy)]
+pub struct TypeScope<'t> {
+    /// Where memory comes from.
+    pub alloc: Global,
+    /// The parameters' types, parameter 0 first.
+    pub params: &'t [Ty],
+    /// The type of the input.
+    pub input: &'t Ty,
 }

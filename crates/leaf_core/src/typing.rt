@@ -9,11 +9,13 @@ ghost use Rattle.leaf_core.specs.ExpressionView.{expression_of, literal_of};
 ghost use Rattle.leaf_core.specs.ExpressionCheck.{carried_type, element_type, elements_walk, within_limits, expect_then, part_type, type_answer, type_of_param, type_walk, expect};
 ghost use Rattle.leaf_core.specs.ExpressionLimits.{ExpressionTypedWithin};
 ghost use Rattle.leaf_core.specs.CheckAnswer.{Gives, Passes};
+ghost use Rattle.leaf_core.specs.ScopeView.{walk_in};
 ghost use Rattle.leaf_core.specs.declared.typing.ExprFault.TheVariants as F;
 
 use crate::expr::{Expr, ExprChild, Exprs};
 use crate::limits::{expr_fits, type_fits};
 use crate::literal::Literal;
+use crate::scope::TypeScope;
 use sample_core::{Memory, Ty, TyChild, same_type};
 use std::alloc::Global;
 use thiserror::Error;
@@ -80,161 +82,115 @@ fn whole_type(alloc: Global, params: &[Ty], input: &Ty, expr: &Expr) -> Result<T
     if !expr_fits(expr) {
         return Err(ExprFault::TooDeep);
     }
-    walk(alloc, params, input, expr)
+    let scope = TypeScope {
+        alloc,
+        params,
+        input,
+    };
+    walk(&scope, expr)
 }
 
 /// The type of an expression, whose height and size are not tested.
 #[cycle(walk)]
-fn walk(alloc: Global, params: &[Ty], input: &Ty, expr: &Expr) -> Result<Ty, ExprFault>
-    ensures { Gives result
-        (type_walk (map type_of params.now) (type_of input.now) (expression_of expr.now)) }
+fn walk(scope: &TypeScope<'_>, expr: &Expr) -> Result<Ty, ExprFault>
+    ensures { Gives result (walk_in (expression_of expr.now) scope.now) }
 {
     match expr {
-        Expr::Input => limited_copy(alloc, input),
-        Expr::Param(k) => param_type(alloc, params, *k),
+        Expr::Input => limited_copy(scope.alloc, scope.input),
+        Expr::Param(k) => param_type(scope.alloc, scope.params, *k),
         Expr::Literal(literal) => limited(literal_type(*literal)),
-        Expr::Pair(a, b) => walk_pair(alloc, params, input, a, b),
-        Expr::Fst(e) | Expr::Snd(e) => walk_part(alloc, params, input, expr, e),
-        Expr::Then(f, g) => walk_then(alloc, params, input, f, g),
-        Expr::Neg(a) => walk_one(alloc, params, input, a, &Ty::Int, &Ty::Int),
-        Expr::Add(a, b) | Expr::Sub(a, b) | Expr::Mul(a, b) => walk_two(
-            alloc,
-            params,
-            input,
-            a,
-            b,
-            &Ty::Int,
-            &Ty::Int,
-        ),
-        Expr::Less(a, b) => walk_two(alloc, params, input, a, b, &Ty::Int, &Ty::Bool),
-        Expr::Equal(a, b) => walk_equal(alloc, params, input, a, b),
-        Expr::Not(a) => walk_one(alloc, params, input, a, &Ty::Bool, &Ty::Bool),
-        Expr::And(a, b) | Expr::Or(a, b) => walk_two(
-            alloc,
-            params,
-            input,
-            a,
-            b,
-            &Ty::Bool,
-            &Ty::Bool,
-        ),
-        Expr::If(c, a, b) => walk_if(alloc, params, input, c, a, b),
-        Expr::NoEvent(carried) => no_event_type(alloc, carried),
-        Expr::Event(e) => walk_event(alloc, params, input, e),
-        Expr::On(e, d, b) => walk_on(alloc, params, input, e, d, b),
-        Expr::List(element, all) => walk_list(alloc, params, input, element, all),
-        Expr::Nth(e, i, d) => walk_nth(alloc, params, input, e, i, d),
-        Expr::Len(e) => walk_len(alloc, params, input, e),
+        Expr::Pair(a, b) => walk_pair(scope, a, b),
+        Expr::Fst(e) | Expr::Snd(e) => walk_part(scope, expr, e),
+        Expr::Then(f, g) => walk_then(scope, f, g),
+        Expr::Neg(a) => walk_one(scope, a, &Ty::Int, &Ty::Int),
+        Expr::Add(a, b) | Expr::Sub(a, b) | Expr::Mul(a, b) => {
+            walk_two(scope, a, b, &Ty::Int, &Ty::Int)
+        }
+        Expr::Less(a, b) => walk_two(scope, a, b, &Ty::Int, &Ty::Bool),
+        Expr::Equal(a, b) => walk_equal(scope, a, b),
+        Expr::Not(a) => walk_one(scope, a, &Ty::Bool, &Ty::Bool),
+        Expr::And(a, b) | Expr::Or(a, b) => { walk_two(scope, a, b, &Ty::Bool, &Ty::Bool) }
+        Expr::If(c, a, b) => walk_if(scope, c, a, b),
+        Expr::NoEvent(carried) => no_event_type(scope.alloc, carried),
+        Expr::Event(e) => walk_event(scope, e),
+        Expr::On(e, d, b) => walk_on(scope, e, d, b),
+        Expr::List(element, all) => walk_list(scope, element, all),
+        Expr::Nth(e, i, d) => walk_nth(scope, e, i, d),
+        Expr::Len(e) => walk_len(scope, e),
     }
 }
 
 /// The type of a pair.
 #[cycle(walk)]
-fn walk_pair(
-    alloc: Global,
-    params: &[Ty],
-    input: &Ty,
-    a: &ExprChild,
-    b: &ExprChild,
-) -> Result<Ty, ExprFault>
-    ensures { Gives result
-        (type_walk (map type_of params.now) (type_of input.now) (pair_expr a.now b.now)) }
+fn walk_pair(scope: &TypeScope<'_>, a: &ExprChild, b: &ExprChild) -> Result<Ty, ExprFault>
+    ensures { Gives result (walk_in (pair_expr a.now b.now) scope.now) }
 {
-    let first = walk_child(alloc, params, input, a)?;
-    let second = walk_child(alloc, params, input, b)?;
+    let first = walk_child(scope, a)?;
+    let second = walk_child(scope, b)?;
     limited(Ty::Pair(first, second))
 }
 
 /// The type of the first or the second part of a pair, as the form says.
 #[cycle(walk)]
-fn walk_part(
-    alloc: Global,
-    params: &[Ty],
-    input: &Ty,
-    form: &Expr,
-    e: &ExprChild,
-) -> Result<Ty, ExprFault>
+fn walk_part(scope: &TypeScope<'_>, form: &Expr, e: &ExprChild) -> Result<Ty, ExprFault>
     ensures { Gives result
-        (on_ok (type_walk (map type_of params.now) (type_of input.now) e.now)
+        (on_ok (walk_in e.now scope.now)
         (λ P. on_ok (part_type (expression_of form.now) P) within_limits)) }
 {
-    let pair = walk(alloc, params, input, e.get())?;
-    let part = part_type(alloc, form, &pair);
+    let pair = walk(scope, e.get())?;
+    let part = part_type(scope.alloc, form, &pair);
     drop(pair);
     part
 }
 
 /// The type of one expression behind another.
 #[cycle(walk)]
-fn walk_then(
-    alloc: Global,
-    params: &[Ty],
-    input: &Ty,
-    f: &ExprChild,
-    g: &ExprChild,
-) -> Result<Ty, ExprFault>
-    ensures { Gives result
-        (type_walk (map type_of params.now) (type_of input.now) (then_expr f.now g.now)) }
+fn walk_then(scope: &TypeScope<'_>, f: &ExprChild, g: &ExprChild) -> Result<Ty, ExprFault>
+    ensures { Gives result (walk_in (then_expr f.now g.now) scope.now) }
 {
-    let between = walk(alloc, params, input, f.get())?;
-    let found = walk(alloc, params, &between, g.get());
+    let between = walk(scope, f.get())?;
+    let found = walk_at(scope, &between, g.get());
     drop(between);
     limited(found?)
 }
 
 /// The type that is answered where a part has the type that is wanted.
 #[cycle(walk)]
-fn walk_one(
-    alloc: Global,
-    params: &[Ty],
-    input: &Ty,
-    a: &ExprChild,
-    wanted: &Ty,
-    answer: &Ty,
-) -> Result<Ty, ExprFault>
+fn walk_one(scope: &TypeScope<'_>, a: &ExprChild, wanted: &Ty, answer: &Ty) -> Result<Ty, ExprFault>
     ensures { Gives result
-        (expect_then (type_walk (map type_of params.now) (type_of input.now) a.now)
+        (expect_then (walk_in a.now scope.now)
         (type_of wanted.now) (within_limits (type_of answer.now))) }
 {
-    walk_wanted(alloc, params, input, a.get(), wanted)?;
-    limited_copy(alloc, answer)
+    walk_wanted(scope, a.get(), wanted)?;
+    limited_copy(scope.alloc, answer)
 }
 
 /// The type that is answered where two parts have the type that is wanted.
 #[cycle(walk)]
 fn walk_two(
-    alloc: Global,
-    params: &[Ty],
-    input: &Ty,
+    scope: &TypeScope<'_>,
     a: &ExprChild,
     b: &ExprChild,
     wanted: &Ty,
     answer: &Ty,
 ) -> Result<Ty, ExprFault>
     ensures { Gives result
-        (expect_then (type_walk (map type_of params.now) (type_of input.now) a.now)
+        (expect_then (walk_in a.now scope.now)
         (type_of wanted.now)
-        (expect_then (type_walk (map type_of params.now) (type_of input.now) b.now)
+        (expect_then (walk_in b.now scope.now)
         (type_of wanted.now) (within_limits (type_of answer.now)))) }
 {
-    walk_wanted(alloc, params, input, a.get(), wanted)?;
-    walk_one(alloc, params, input, b, wanted, answer)
+    walk_wanted(scope, a.get(), wanted)?;
+    walk_one(scope, b, wanted, answer)
 }
 
 /// The type of a comparison.
 #[cycle(walk)]
-fn walk_equal(
-    alloc: Global,
-    params: &[Ty],
-    input: &Ty,
-    a: &ExprChild,
-    b: &ExprChild,
-) -> Result<Ty, ExprFault>
-    ensures { Gives result
-        (type_walk (map type_of params.now) (type_of input.now) (equal a.now b.now)) }
+fn walk_equal(scope: &TypeScope<'_>, a: &ExprChild, b: &ExprChild) -> Result<Ty, ExprFault>
+    ensures { Gives result (walk_in (equal a.now b.now) scope.now) }
 {
-    let first = walk(alloc, params, input, a.get())?;
-    let tested = walk_wanted(alloc, params, input, b.get(), &first);
+    let first = walk(scope, a.get())?;
+    let tested = walk_wanted(scope, b.get(), &first);
     drop(first);
     tested?;
     limited(Ty::Bool)
@@ -243,64 +199,51 @@ fn walk_equal(
 /// The type of a choice.
 #[cycle(walk)]
 fn walk_if(
-    alloc: Global,
-    params: &[Ty],
-    input: &Ty,
+    scope: &TypeScope<'_>,
     c: &ExprChild,
     a: &ExprChild,
     b: &ExprChild,
 ) -> Result<Ty, ExprFault>
-    ensures { Gives result
-        (type_walk (map type_of params.now) (type_of input.now) (if_expr c.now a.now b.now)) }
+    ensures { Gives result (walk_in (if_expr c.now a.now b.now) scope.now) }
 {
-    walk_wanted(alloc, params, input, c.get(), &Ty::Bool)?;
-    walk_branches(alloc, params, input, a, b)
+    walk_wanted(scope, c.get(), &Ty::Bool)?;
+    walk_branches(scope, a, b)
 }
 
 /// The one type of two branches.
 #[cycle(walk)]
-fn walk_branches(
-    alloc: Global,
-    params: &[Ty],
-    input: &Ty,
-    a: &ExprChild,
-    b: &ExprChild,
-) -> Result<Ty, ExprFault>
+fn walk_branches(scope: &TypeScope<'_>, a: &ExprChild, b: &ExprChild) -> Result<Ty, ExprFault>
     ensures { Gives result
-        (on_ok (type_walk (map type_of params.now) (type_of input.now) a.now)
-        (λ B. expect_then (type_walk (map type_of params.now) (type_of input.now) b.now) B
+        (on_ok (walk_in a.now scope.now)
+        (λ B. expect_then (walk_in b.now scope.now) B
         (within_limits B))) }
 {
-    let first = walk(alloc, params, input, a.get())?;
-    let tested = walk_wanted(alloc, params, input, b.get(), &first);
+    let first = walk(scope, a.get())?;
+    let tested = walk_wanted(scope, b.get(), &first);
     passed(tested, first)
 }
 
 /// The type of an event.
 #[cycle(walk)]
-fn walk_event(alloc: Global, params: &[Ty], input: &Ty, e: &ExprChild) -> Result<Ty, ExprFault>
-    ensures { Gives result
-        (type_walk (map type_of params.now) (type_of input.now) (event_expr e.now)) }
+fn walk_event(scope: &TypeScope<'_>, e: &ExprChild) -> Result<Ty, ExprFault>
+    ensures { Gives result (walk_in (event_expr e.now) scope.now) }
 {
-    let carried = walk_child(alloc, params, input, e)?;
+    let carried = walk_child(scope, e)?;
     limited(Ty::Event(carried))
 }
 
 /// The type of an expression on an event, or else another.
 #[cycle(walk)]
 fn walk_on(
-    alloc: Global,
-    params: &[Ty],
-    input: &Ty,
+    scope: &TypeScope<'_>,
     e: &ExprChild,
     d: &ExprChild,
     b: &ExprChild,
 ) -> Result<Ty, ExprFault>
-    ensures { Gives result
-        (type_walk (map type_of params.now) (type_of input.now) (on e.now d.now b.now)) }
+    ensures { Gives result (walk_in (on e.now d.now b.now) scope.now) }
 {
-    let event = walk(alloc, params, input, e.get())?;
-    let found = walk_on_event(alloc, params, input, &event, d, b);
+    let event = walk(scope, e.get())?;
+    let found = walk_on_event(scope, &event, d, b);
     drop(event);
     found
 }
@@ -308,21 +251,20 @@ fn walk_on(
 /// The same, where the event is of the type.
 #[cycle(walk)]
 fn walk_on_event(
-    alloc: Global,
-    params: &[Ty],
-    input: &Ty,
+    scope: &TypeScope<'_>,
     event: &Ty,
     d: &ExprChild,
     b: &ExprChild,
 ) -> Result<Ty, ExprFault>
     ensures { Gives result
         (on_ok (carried_type (type_of event.now))
-        (λ V. on_ok (type_walk (map type_of params.now) (type_of input.now) d.now)
-        (λ C. on_ok (within_limits (pair_ty (type_of input.now) V))
-        (λ I. expect_then (type_walk (map type_of params.now) I b.now) C (within_limits C))))) }
+        (λ V. on_ok (walk_in d.now scope.now)
+        (λ C. on_ok (within_limits (pair_ty (type_of scope.now.input.now) V))
+        (λ I. expect_then (type_walk (map type_of scope.now.params.now) I b.now) C
+        (within_limits C))))) }
 {
     match event {
-        Ty::Event(carried) => walk_default(alloc, params, input, carried.get(), d, b),
+        Ty::Event(carried) => walk_default(scope, carried.get(), d, b),
         _ => Err(ExprFault::Mismatch),
     }
 }
@@ -330,78 +272,60 @@ fn walk_on_event(
 /// The same, where the event carries the type.
 #[cycle(walk)]
 fn walk_default(
-    alloc: Global,
-    params: &[Ty],
-    input: &Ty,
+    scope: &TypeScope<'_>,
     carried: &Ty,
     d: &ExprChild,
     b: &ExprChild,
 ) -> Result<Ty, ExprFault>
     ensures { Gives result
-        (on_ok (type_walk (map type_of params.now) (type_of input.now) d.now)
-        (λ C. on_ok (within_limits (pair_ty (type_of input.now) (type_of carried.now)))
-        (λ I. expect_then (type_walk (map type_of params.now) I b.now) C (within_limits C)))) }
+        (on_ok (walk_in d.now scope.now)
+        (λ C. on_ok (within_limits (pair_ty (type_of scope.now.input.now) (type_of carried.now)))
+        (λ I. expect_then (type_walk (map type_of scope.now.params.now) I b.now) C
+        (within_limits C)))) }
 {
-    let default = walk(alloc, params, input, d.get())?;
-    let tested = walk_body(alloc, params, input, carried, b, &default);
+    let default = walk(scope, d.get())?;
+    let tested = walk_body(scope, carried, b, &default);
     passed(tested, default)
 }
 
 /// Tests that the expression on an event that carries the type is of the type that is wanted.
 #[cycle(walk)]
-fn walk_body(
-    alloc: Global,
-    params: &[Ty],
-    input: &Ty,
-    carried: &Ty,
-    b: &ExprChild,
-    ty: &Ty,
-) -> Result<(), ExprFault>
+fn walk_body(scope: &TypeScope<'_>, carried: &Ty, b: &ExprChild, ty: &Ty) -> Result<(), ExprFault>
     ensures { Passes result
-        (on_ok (within_limits (pair_ty (type_of input.now) (type_of carried.now)))
-        (λ I. expect (type_walk (map type_of params.now) I b.now) (type_of ty.now)))
+        (on_ok (within_limits (pair_ty (type_of scope.now.input.now) (type_of carried.now)))
+        (λ I. expect (type_walk (map type_of scope.now.params.now) I b.now) (type_of ty.now)))
         (type_of ty.now) }
 {
-    let inner = body_input(alloc, input, carried)?;
-    let tested = walk_wanted(alloc, params, &inner, b.get(), ty);
+    let inner = body_input(scope.alloc, scope.input, carried)?;
+    let tested = wanted_at(scope, &inner, b.get(), ty);
     drop(inner);
     tested
 }
 
 /// The type of a list.
 #[cycle(walk)]
-fn walk_list(
-    alloc: Global,
-    params: &[Ty],
-    input: &Ty,
-    element: &Ty,
-    all: &Exprs,
-) -> Result<Ty, ExprFault>
+fn walk_list(scope: &TypeScope<'_>, element: &Ty, all: &Exprs) -> Result<Ty, ExprFault>
     ensures { Gives result
-        (type_walk (map type_of params.now) (type_of input.now)
-        (list_expr (type_of element.now) (expressions_of all.now))) }
+        (walk_in (list_expr (type_of element.now) (expressions_of all.now)) scope.now) }
 {
     if !type_fits(element) {
         return Err(ExprFault::TooDeep);
     }
-    walk_elements(alloc, params, input, element, all)
+    walk_elements(scope, element, all)
 }
 
 /// The type of an element of a list.
 #[cycle(walk)]
 fn walk_nth(
-    alloc: Global,
-    params: &[Ty],
-    input: &Ty,
+    scope: &TypeScope<'_>,
     e: &ExprChild,
     i: &ExprChild,
     d: &ExprChild,
 ) -> Result<Ty, ExprFault>
-    ensures { Gives result
-        (type_walk (map type_of params.now) (type_of input.now) (nth e.now i.now d.now)) }
+    ensures { Gives result (walk_in (nth e.now i.now d.now) scope.now) }
 {
-    let list = walk(alloc, params, input, e.get())?;
-    let found = walk_nth_of(alloc, params, input, &list, i, d);
+    let list = walk(scope, e.get())?;
+    let found = walk_nth_of(scope, &list, i, d);
     drop(list);
     found
 }
@@ -409,21 +333,19 @@ fn walk_nth(
 /// The same, where the list is of the type.
 #[cycle(walk)]
 fn walk_nth_of(
-    alloc: Global,
-    params: &[Ty],
-    input: &Ty,
+    scope: &TypeScope<'_>,
     list: &Ty,
     i: &ExprChild,
     d: &ExprChild,
 ) -> Result<Ty, ExprFault>
     ensures { Gives result
         (on_ok (element_type (type_of list.now))
-        (λ T. expect_then (type_walk (map type_of params.now) (type_of input.now) i.now) int_ty
-        (expect_then (type_walk (map type_of params.now) (type_of input.now) d.now) T
+        (λ T. expect_then (walk_in i.now scope.now) int_ty
+        (expect_then (walk_in d.now scope.now) T
         (within_limits T)))) }
 {
     match list {
-        Ty::List(element) => walk_element(alloc, params, input, element.get(), i, d),
+        Ty::List(element) => walk_element(scope, element.get(), i, d),
         _ => Err(ExprFault::Mismatch),
     }
 }
@@ -431,28 +353,26 @@ fn walk_nth_of(
 /// The same, where the elements are of the type.
 #[cycle(walk)]
 fn walk_element(
-    alloc: Global,
-    params: &[Ty],
-    input: &Ty,
+    scope: &TypeScope<'_>,
     element: &Ty,
     i: &ExprChild,
     d: &ExprChild,
 ) -> Result<Ty, ExprFault>
     ensures { Gives result
-        (expect_then (type_walk (map type_of params.now) (type_of input.now) i.now) int_ty
-        (expect_then (type_walk (map type_of params.now) (type_of input.now) d.now)
+        (expect_then (walk_in i.now scope.now) int_ty
+        (expect_then (walk_in d.now scope.now)
         (type_of element.now) (within_limits (type_of element.now)))) }
 {
-    walk_wanted(alloc, params, input, i.get(), &Ty::Int)?;
-    walk_one(alloc, params, input, d, element, element)
+    walk_wanted(scope, i.get(), &Ty::Int)?;
+    walk_one(scope, d, element, element)
 }
 
 /// The type of a length.
 #[cycle(walk)]
-fn walk_len(alloc: Global, params: &[Ty], input: &Ty, e: &ExprChild) -> Result<Ty, ExprFault>
-    ensures { Gives result (type_walk (map type_of params.now) (type_of input.now) (len e.now)) }
+fn walk_len(scope: &TypeScope<'_>, e: &ExprChild) -> Result<Ty, ExprFault>
+    ensures { Gives result (walk_in (len e.now) scope.now) }
 {
-    let list = walk(alloc, params, input, e.get())?;
+    let list = walk(scope, e.get())?;
     let found = length_type(&list);
     drop(list);
     found
@@ -460,56 +380,70 @@ fn walk_len(alloc: Global, params: &[Ty], input: &Ty, e: &ExprChild) -> Result<T
 
 /// The type of a part, as a part of another.
 #[cycle(walk)]
-fn walk_child(
-    alloc: Global,
-    params: &[Ty],
-    input: &Ty,
-    part: &ExprChild,
-) -> Result<TyChild, ExprFault>
+fn walk_child(scope: &TypeScope<'_>, part: &ExprChild) -> Result<TyChild, ExprFault>
     ensures { GivesUnless F.Memory (λ t. t) result
-        (type_walk (map type_of params.now) (type_of input.now) part.now) }
+        (walk_in part.now scope.now) }
 {
-    let found = walk(alloc, params, input, part.get())?;
-    let child = TyChild::new(alloc, found)?;
+    let found = walk(scope, part.get())?;
+    let child = TyChild::new(scope.alloc, found)?;
     Ok(child)
 }
 
 /// Tests that an expression has the type that is wanted.
 #[cycle(walk)]
-fn walk_wanted(
-    alloc: Global,
-    params: &[Ty],
-    input: &Ty,
-    expr: &Expr,
-    ty: &Ty,
-) -> Result<(), ExprFault>
+fn walk_wanted(scope: &TypeScope<'_>, expr: &Expr, ty: &Ty) -> Result<(), ExprFault>
     ensures { Passes result
-        (expect (type_walk (map type_of params.now) (type_of input.now) (expression_of expr.now))
+        (expect (walk_in (expression_of expr.now) scope.now)
         (type_of ty.now)) (type_of ty.now) }
 {
-    let found = walk(alloc, params, input, expr)?;
+    let found = walk(scope, expr)?;
     let tested = matching(&found, ty);
     drop(found);
     tested
 }
 
+/// The type of an expression at another type of its input.
+#[cycle(walk)]
+fn walk_at(scope: &TypeScope<'_>, input: &Ty, expr: &Expr) -> Result<Ty, ExprFault>
+    ensures { Gives result
+        (type_walk (map type_of scope.now.params.now) (type_of input.now)
+        (expression_of expr.now)) }
+{
+    let inner = TypeScope {
+        alloc: scope.alloc,
+        params: scope.params,
+        input,
+    };
+    walk(&inner, expr)
+}
+
+/// Tests that an expression has the type that is wanted, at another type of its input.
+#[cycle(walk)]
+fn wanted_at(scope: &TypeScope<'_>, input: &Ty, expr: &Expr, ty: &Ty) -> Result<(), ExprFault>
+    ensures { Passes result
+        (expect (type_walk (map type_of scope.now.params.now) (type_of input.now)
+        (expression_of expr.now)) (type_of ty.now)) (type_of ty.now) }
+{
+    let inner = TypeScope {
+        alloc: scope.alloc,
+        params: scope.params,
+        input,
+    };
+    walk_wanted(&inner, expr, ty)
+}
+
 /// The type of a list of elements that are wanted to be of one type.
 #[cycle(walk)]
-fn walk_elements(
-    alloc: Global,
-    params: &[Ty],
-    input: &Ty,
-    element: &Ty,
-    all: &Exprs,
-) -> Result<Ty, ExprFault>
+fn walk_elements(scope: &TypeScope<'_>, element: &Ty, all: &Exprs) -> Result<Ty, ExprFault>
     ensures { Gives result
-        (elements_walk (map type_of params.now) (type_of input.now) (type_of element.now)
+        (elements_walk (map type_of scope.now.params.now) (type_of scope.now.input.now)
+        (type_of element.now)
         (expressions_of all.now)) }
 {
     for part in all.as_slice() {
-        walk_wanted(alloc, params, input, part, element)?;
+        walk_wanted(scope, part, element)?;
     }
-    list_type(alloc, element)
+    list_type(scope.alloc, element)
 }
 
 /// Tests that the type that was found is the one that is wanted.

@@ -8,8 +8,9 @@ use Rattle.leaf_core.proofs.typing.+walk.Given as goal
 -- the walk over the elements to come answers as the one over all
 abbrev pub invariant-walk_elements-loop-part : goal.invariant-walk_elements-loop-part
 invariant-walk_elements-loop-part l =
-    elements_walk (map type_of l.params) (type_of l.input) (type_of l.element) (expressions_of (map expression_of (drop l.part-index l.part-items)))
-    ≡ elements_walk (map type_of l.params) (type_of l.input) (type_of l.element) (expressions_of (map expression_of l.part-items))
+    elements_walk (map type_of l.scope.params.now) (type_of l.scope.input.now) (type_of l.element)
+    (expressions_of (map expression_of (drop l.part-index l.part-items)))
+    ≡ elements_walk (map type_of l.scope.params.now) (type_of l.scope.input.now) (type_of l.element) (expressions_of (map expression_of l.part-items))
 
 abbrev pub decreases-walk : goal.decreases-walk
 decreases-walk l = 6 * nodes_in (expression_of l.expr.now)
@@ -27,7 +28,7 @@ abbrev pub decreases-walk_len : goal.decreases-walk_len
 decreases-walk_len l = 6 * nodes_in l.e.now + 3
 
 abbrev pub decreases-walk_body : goal.decreases-walk_body
-decreases-walk_body l = 6 * nodes_in l.b.now + 2
+decreases-walk_body l = 6 * nodes_in l.b.now + 3
 
 abbrev pub decreases-walk_child : goal.decreases-walk_child
 decreases-walk_child l = 6 * nodes_in l.part.now + 2
@@ -37,6 +38,12 @@ decreases-walk_list l = 6 * nodes_in_all (expressions_of l.all.now) + 3
 
 abbrev pub decreases-walk_wanted : goal.decreases-walk_wanted
 decreases-walk_wanted l = 6 * nodes_in (expression_of l.expr.now) + 1
+
+abbrev pub decreases-walk_at : goal.decreases-walk_at
+decreases-walk_at l = 6 * nodes_in (expression_of l.expr.now) + 1
+
+abbrev pub decreases-wanted_at : goal.decreases-wanted_at
+decreases-wanted_at l = 6 * nodes_in (expression_of l.expr.now) + 2
 
 abbrev pub decreases-walk_elements : goal.decreases-walk_elements
 decreases-walk_elements l = 6 * nodes_in_all (expressions_of l.all.now) + 2
@@ -57,10 +64,10 @@ abbrev pub decreases-walk_branches : goal.decreases-walk_branches
 decreases-walk_branches l = 6 * (nodes_in l.a.now + nodes_in l.b.now) + 2
 
 abbrev pub decreases-walk_on_event : goal.decreases-walk_on_event
-decreases-walk_on_event l = 6 * (nodes_in l.d.now + nodes_in l.b.now) + 4
+decreases-walk_on_event l = 6 * (nodes_in l.d.now + nodes_in l.b.now) + 5
 
 abbrev pub decreases-walk_default : goal.decreases-walk_default
-decreases-walk_default l = 6 * (nodes_in l.d.now + nodes_in l.b.now) + 3
+decreases-walk_default l = 6 * (nodes_in l.d.now + nodes_in l.b.now) + 4
 
 abbrev pub decreases-walk_nth_of : goal.decreases-walk_nth_of
 decreases-walk_nth_of l = 6 * (nodes_in l.i.now + nodes_in l.d.now) + 4
