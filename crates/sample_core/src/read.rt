@@ -346,9 +346,10 @@ fn list<'t>(
     closed(size, rest, Sample::List(all))
 }
 
-/// A space and a value of the type.
+/// A space and a value of the type: a number is read at once.
 #[cycle(value)]
 #[inline(always)]
+#[tactic(auto, unfolding(crate::specs::Reading::value_at))]
 fn part<'t>(
     alloc: Global,
     size: usize,
@@ -359,26 +360,9 @@ fn part<'t>(
     ensures shorter { IfOk result (λ x. length x.1.now ≤ length text.now) }
 {
     let rest = after_byte(size, text, b' ')?;
-    part_value(alloc, size, rest, ty.get())
-}
-
-/// A value of the type inside another: a number is read at once.
-#[cycle(value)]
-#[inline(always)]
-#[tactic(auto, unfolding(crate::specs::Reading::value_at))]
-fn part_value<'t>(
-    alloc: Global,
-    size: usize,
-    text: &'t [u8],
-    ty: &Ty,
-) -> Result<(Sample, &'t [u8]), ValueFault>
-    ensures exact { Gives (λ x. (datum_of x.0, x.1.now)) result
-        (value_at size (type_of ty.now) text.now) }
-    ensures shorter { IfOk result (λ x. length x.1.now ≤ length text.now) }
-{
-    match ty {
-        Ty::Int => number_sample(size, text),
-        _ => value(alloc, size, text, ty),
+    match ty.get() {
+        Ty::Int => number_sample(size, rest),
+        ty => value(alloc, size, rest, ty),
     }
 }
 

@@ -30,8 +30,5 @@ decreases-part l = 4 * nodes_of l.ty.now + 2
 abbrev pub decreases-elements : goal.decreases-elements
 decreases-elements l = 4 * nodes_of (type_of l.ty.now) + 2
 
-abbrev pub decreases-part_value : goal.decreases-part_value
-decreases-part_value l = 4 * nodes_of (type_of l.ty.now) + 1
-
 abbrev pub decreases-pair : goal.decreases-pair
 decreases-pair l = 4 * (nodes_of l.a.now + nodes_of l.b.now) + 3
