@@ -1,11 +1,11 @@
 -- What is read is spelled in front, and what is spelled in front is read.
-use Rattle.std.proofs.Common.{◌≡◌, ℕ, ◌-◌, List, ◌++◌, length, drop, refl, sym, ap, ◌∙◌, subst, arith, Result, Ok, length-append, ℤ}
+use Rattle.std.proofs.Common.{◌≡◌, ℕ, ◌-◌, List, ◌++◌, length, drop, refl, sym, ap, ◌∙◌, subst, arith, Result, Ok, length-append}
 use Rattle.std.proofs.lemmas.List.{drop_at}
-use Rattle.sample_core.specs.Datum.{Datum, int}
-use Rattle.sample_core.specs.TypeTree.{TypeTree, int_ty}
+use Rattle.sample_core.specs.Datum.{Datum}
+use Rattle.sample_core.specs.TypeTree.{TypeTree}
 use Rattle.sample_core.specs.Spelling.{spelling}
 use Rattle.sample_core.specs.SpellsValue.{SpellsValue}
-use Rattle.sample_core.specs.Reading.{number_at, value_at, reading}
+use Rattle.sample_core.specs.Reading.{value_at, reading}
 use Rattle.sample_core.specs.ReadingLaws.{ReadingLaw, OneValueLaw, ReadAgainLaw}
 use Rattle.sample_core.specs.declared.fault.ValueFault.{ValueFault}
 use Rattle.sample_core.proofs.Behind.{spelled_is}
@@ -20,10 +20,6 @@ spells_found size A bs y e =
 
 pub spells_read : (size : ℕ) (A : TypeTree) (bs : List ℕ) (v : Datum) (rest : List ℕ) → SpellsValue v A bs rest → value_at size A bs ≡ Ok (v, rest)
 spells_read size A bs v rest h = ap (value_at size A) (h.spells ∙ sym (spelled_is v rest)) ∙ value_only size v A rest h.typed h.apart
-
-pub number_read : (size : ℕ) (z : ℤ) (bs rest : List ℕ) → SpellsValue (int z) int_ty bs rest → number_at size bs ≡ Ok (int z, rest)
-unfolding value_at
-number_read size z bs rest h = spells_read size int_ty bs (int z) rest h
 
 -- how many bytes a value takes
 takes : (v : Datum) (bs rest : List ℕ) → bs ≡ spelling v ++ rest → length bs - length rest ≡ length (spelling v)

@@ -346,9 +346,13 @@ fn list<'t>(
     closed(size, rest, Sample::List(all))
 }
 
-/// A space and a value of the type.
+/// A space and a value of the type: a number is read at once.
 #[cycle(value)]
 #[inline(always)]
+<<<<<<< HEAD
+=======
+#[tactic(auto, unfolding(crate::specs::Reading::value_at))]
+>>>>>>> cf6aceac2cfc663ffed6c8b38fd03bb1798c20a8
 fn part<'t>(
     alloc: Global,
     size: usize,
@@ -359,6 +363,7 @@ fn part<'t>(
     ensures shorter { IfOk result (λ x. length x.1.now ≤ length text.now) }
 {
     let rest = after_byte(size, text, b' ')?;
+<<<<<<< HEAD
     part_value(alloc, size, rest, ty.get())
 }
 
@@ -379,6 +384,11 @@ fn part_value<'t>(
     match ty {
         Ty::Int => number_sample(size, text),
         _ => value(alloc, size, text, ty),
+=======
+    match ty.get() {
+        Ty::Int => number_sample(size, rest),
+        ty => value(alloc, size, rest, ty),
+>>>>>>> cf6aceac2cfc663ffed6c8b38fd03bb1798c20a8
     }
 }
 
