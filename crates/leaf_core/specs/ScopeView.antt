@@ -20,10 +20,5 @@ abbrev pub values_in : Expressions → Scope → List Datum
 values_in es s = values_of es (map datum_of s.params.now) (datum_of s.x.now)
 
 -- the type of an expression under the scope's types, its height and size not tested
-<<<<<<< HEAD
-abbrev pub walk_in : Expression → TypeScope → Result TypeTree ExprFault
-walk_in e s = type_walk (map type_of s.params.now) (type_of s.input.now) e
-=======
 abbrev pub type_in : Expression → TypeScope → Result TypeTree ExprFault
 type_in e s = type_walk (map type_of s.params.now) (type_of s.input.now) e
->>>>>>> cf6aceac2cfc663ffed6c8b38fd03bb1798c20a8

@@ -9,11 +9,7 @@ ghost use Rattle.leaf_core.specs.ExpressionView.{expression_of, literal_of};
 ghost use Rattle.leaf_core.specs.ExpressionCheck.{carried_type, element_type, elements_walk, within_limits, expect_then, part_type, type_answer, type_of_param, type_walk, expect};
 ghost use Rattle.leaf_core.specs.ExpressionLimits.{ExpressionTypedWithin};
 ghost use Rattle.leaf_core.specs.CheckAnswer.{Gives, Passes};
-<<<<<<< HEAD
-ghost use Rattle.leaf_core.specs.ScopeView.{walk_in};
-=======
 ghost use Rattle.leaf_core.specs.ScopeView.{type_in};
->>>>>>> cf6aceac2cfc663ffed6c8b38fd03bb1798c20a8
 ghost use Rattle.leaf_core.specs.declared.typing.ExprFault.TheVariants as F;
 
 use crate::expr::{Expr, ExprChild, Exprs};
@@ -97,11 +93,7 @@ fn whole_type(alloc: Global, params: &[Ty], input: &Ty, expr: &Expr) -> Result<T
 /// The type of an expression, whose height and size are not tested.
 #[cycle(walk)]
 fn walk(scope: &TypeScope<'_>, expr: &Expr) -> Result<Ty, ExprFault>
-<<<<<<< HEAD
-    ensures { Gives result (walk_in (expression_of expr.now) scope.now) }
-=======
     ensures { Gives result (type_in (expression_of expr.now) scope.now) }
->>>>>>> cf6aceac2cfc663ffed6c8b38fd03bb1798c20a8
 {
     match expr {
         Expr::Input => limited_copy(scope.alloc, scope.input),
@@ -131,11 +123,7 @@ fn walk(scope: &TypeScope<'_>, expr: &Expr) -> Result<Ty, ExprFault>
 /// The type of a pair.
 #[cycle(walk)]
 fn walk_pair(scope: &TypeScope<'_>, a: &ExprChild, b: &ExprChild) -> Result<Ty, ExprFault>
-<<<<<<< HEAD
-    ensures { Gives result (walk_in (pair_expr a.now b.now) scope.now) }
-=======
     ensures { Gives result (type_in (pair_expr a.now b.now) scope.now) }
->>>>>>> cf6aceac2cfc663ffed6c8b38fd03bb1798c20a8
 {
     let first = walk_child(scope, a)?;
     let second = walk_child(scope, b)?;
@@ -146,11 +134,7 @@ fn walk_pair(scope: &TypeScope<'_>, a: &ExprChild, b: &ExprChild) -> Result<Ty, 
 #[cycle(walk)]
 fn walk_part(scope: &TypeScope<'_>, form: &Expr, e: &ExprChild) -> Result<Ty, ExprFault>
     ensures { Gives result
-<<<<<<< HEAD
-        (on_ok (walk_in e.now scope.now)
-=======
         (on_ok (type_in e.now scope.now)
->>>>>>> cf6aceac2cfc663ffed6c8b38fd03bb1798c20a8
         (λ P. on_ok (part_type (expression_of form.now) P) within_limits)) }
 {
     let pair = walk(scope, e.get())?;
@@ -162,11 +146,7 @@ fn walk_part(scope: &TypeScope<'_>, form: &Expr, e: &ExprChild) -> Result<Ty, Ex
 /// The type of one expression behind another.
 #[cycle(walk)]
 fn walk_then(scope: &TypeScope<'_>, f: &ExprChild, g: &ExprChild) -> Result<Ty, ExprFault>
-<<<<<<< HEAD
-    ensures { Gives result (walk_in (then_expr f.now g.now) scope.now) }
-=======
     ensures { Gives result (type_in (then_expr f.now g.now) scope.now) }
->>>>>>> cf6aceac2cfc663ffed6c8b38fd03bb1798c20a8
 {
     let between = walk(scope, f.get())?;
     let found = walk_at(scope, &between, g.get());
@@ -178,11 +158,7 @@ fn walk_then(scope: &TypeScope<'_>, f: &ExprChild, g: &ExprChild) -> Result<Ty, 
 #[cycle(walk)]
 fn walk_one(scope: &TypeScope<'_>, a: &ExprChild, wanted: &Ty, answer: &Ty) -> Result<Ty, ExprFault>
     ensures { Gives result
-<<<<<<< HEAD
-        (expect_then (walk_in a.now scope.now)
-=======
         (expect_then (type_in a.now scope.now)
->>>>>>> cf6aceac2cfc663ffed6c8b38fd03bb1798c20a8
         (type_of wanted.now) (within_limits (type_of answer.now))) }
 {
     walk_wanted(scope, a.get(), wanted)?;
@@ -199,15 +175,9 @@ fn walk_two(
     answer: &Ty,
 ) -> Result<Ty, ExprFault>
     ensures { Gives result
-<<<<<<< HEAD
-        (expect_then (walk_in a.now scope.now)
-        (type_of wanted.now)
-        (expect_then (walk_in b.now scope.now)
-=======
         (expect_then (type_in a.now scope.now)
         (type_of wanted.now)
         (expect_then (type_in b.now scope.now)
->>>>>>> cf6aceac2cfc663ffed6c8b38fd03bb1798c20a8
         (type_of wanted.now) (within_limits (type_of answer.now)))) }
 {
     walk_wanted(scope, a.get(), wanted)?;
@@ -217,11 +187,7 @@ fn walk_two(
 /// The type of a comparison.
 #[cycle(walk)]
 fn walk_equal(scope: &TypeScope<'_>, a: &ExprChild, b: &ExprChild) -> Result<Ty, ExprFault>
-<<<<<<< HEAD
-    ensures { Gives result (walk_in (equal a.now b.now) scope.now) }
-=======
     ensures { Gives result (type_in (equal a.now b.now) scope.now) }
->>>>>>> cf6aceac2cfc663ffed6c8b38fd03bb1798c20a8
 {
     let first = walk(scope, a.get())?;
     let tested = walk_wanted(scope, b.get(), &first);
@@ -238,11 +204,7 @@ fn walk_if(
     a: &ExprChild,
     b: &ExprChild,
 ) -> Result<Ty, ExprFault>
-<<<<<<< HEAD
-    ensures { Gives result (walk_in (if_expr c.now a.now b.now) scope.now) }
-=======
     ensures { Gives result (type_in (if_expr c.now a.now b.now) scope.now) }
->>>>>>> cf6aceac2cfc663ffed6c8b38fd03bb1798c20a8
 {
     walk_wanted(scope, c.get(), &Ty::Bool)?;
     walk_branches(scope, a, b)
@@ -252,13 +214,8 @@ fn walk_if(
 #[cycle(walk)]
 fn walk_branches(scope: &TypeScope<'_>, a: &ExprChild, b: &ExprChild) -> Result<Ty, ExprFault>
     ensures { Gives result
-<<<<<<< HEAD
-        (on_ok (walk_in a.now scope.now)
-        (λ B. expect_then (walk_in b.now scope.now) B
-=======
         (on_ok (type_in a.now scope.now)
         (λ B. expect_then (type_in b.now scope.now) B
->>>>>>> cf6aceac2cfc663ffed6c8b38fd03bb1798c20a8
         (within_limits B))) }
 {
     let first = walk(scope, a.get())?;
@@ -269,11 +226,7 @@ fn walk_branches(scope: &TypeScope<'_>, a: &ExprChild, b: &ExprChild) -> Result<
 /// The type of an event.
 #[cycle(walk)]
 fn walk_event(scope: &TypeScope<'_>, e: &ExprChild) -> Result<Ty, ExprFault>
-<<<<<<< HEAD
-    ensures { Gives result (walk_in (event_expr e.now) scope.now) }
-=======
     ensures { Gives result (type_in (event_expr e.now) scope.now) }
->>>>>>> cf6aceac2cfc663ffed6c8b38fd03bb1798c20a8
 {
     let carried = walk_child(scope, e)?;
     limited(Ty::Event(carried))
@@ -287,11 +240,7 @@ fn walk_on(
     d: &ExprChild,
     b: &ExprChild,
 ) -> Result<Ty, ExprFault>
-<<<<<<< HEAD
-    ensures { Gives result (walk_in (on e.now d.now b.now) scope.now) }
-=======
     ensures { Gives result (type_in (on e.now d.now b.now) scope.now) }
->>>>>>> cf6aceac2cfc663ffed6c8b38fd03bb1798c20a8
 {
     let event = walk(scope, e.get())?;
     let found = walk_on_event(scope, &event, d, b);
@@ -309,11 +258,7 @@ fn walk_on_event(
 ) -> Result<Ty, ExprFault>
     ensures { Gives result
         (on_ok (carried_type (type_of event.now))
-<<<<<<< HEAD
-        (λ V. on_ok (walk_in d.now scope.now)
-=======
         (λ V. on_ok (type_in d.now scope.now)
->>>>>>> cf6aceac2cfc663ffed6c8b38fd03bb1798c20a8
         (λ C. on_ok (within_limits (pair_ty (type_of scope.now.input.now) V))
         (λ I. expect_then (type_walk (map type_of scope.now.params.now) I b.now) C
         (within_limits C))))) }
@@ -333,11 +278,7 @@ fn walk_default(
     b: &ExprChild,
 ) -> Result<Ty, ExprFault>
     ensures { Gives result
-<<<<<<< HEAD
-        (on_ok (walk_in d.now scope.now)
-=======
         (on_ok (type_in d.now scope.now)
->>>>>>> cf6aceac2cfc663ffed6c8b38fd03bb1798c20a8
         (λ C. on_ok (within_limits (pair_ty (type_of scope.now.input.now) (type_of carried.now)))
         (λ I. expect_then (type_walk (map type_of scope.now.params.now) I b.now) C
         (within_limits C)))) }
@@ -365,11 +306,7 @@ fn walk_body(scope: &TypeScope<'_>, carried: &Ty, b: &ExprChild, ty: &Ty) -> Res
 #[cycle(walk)]
 fn walk_list(scope: &TypeScope<'_>, element: &Ty, all: &Exprs) -> Result<Ty, ExprFault>
     ensures { Gives result
-<<<<<<< HEAD
-        (walk_in (list_expr (type_of element.now) (expressions_of all.now)) scope.now) }
-=======
         (type_in (list_expr (type_of element.now) (expressions_of all.now)) scope.now) }
->>>>>>> cf6aceac2cfc663ffed6c8b38fd03bb1798c20a8
 {
     if !type_fits(element) {
         return Err(ExprFault::TooDeep);
@@ -385,11 +322,7 @@ fn walk_nth(
     i: &ExprChild,
     d: &ExprChild,
 ) -> Result<Ty, ExprFault>
-<<<<<<< HEAD
-    ensures { Gives result (walk_in (nth e.now i.now d.now) scope.now) }
-=======
     ensures { Gives result (type_in (nth e.now i.now d.now) scope.now) }
->>>>>>> cf6aceac2cfc663ffed6c8b38fd03bb1798c20a8
 {
     let list = walk(scope, e.get())?;
     let found = walk_nth_of(scope, &list, i, d);
@@ -407,13 +340,8 @@ fn walk_nth_of(
 ) -> Result<Ty, ExprFault>
     ensures { Gives result
         (on_ok (element_type (type_of list.now))
-<<<<<<< HEAD
-        (λ T. expect_then (walk_in i.now scope.now) int_ty
-        (expect_then (walk_in d.now scope.now) T
-=======
         (λ T. expect_then (type_in i.now scope.now) int_ty
         (expect_then (type_in d.now scope.now) T
->>>>>>> cf6aceac2cfc663ffed6c8b38fd03bb1798c20a8
         (within_limits T)))) }
 {
     match list {
@@ -431,13 +359,8 @@ fn walk_element(
     d: &ExprChild,
 ) -> Result<Ty, ExprFault>
     ensures { Gives result
-<<<<<<< HEAD
-        (expect_then (walk_in i.now scope.now) int_ty
-        (expect_then (walk_in d.now scope.now)
-=======
         (expect_then (type_in i.now scope.now) int_ty
         (expect_then (type_in d.now scope.now)
->>>>>>> cf6aceac2cfc663ffed6c8b38fd03bb1798c20a8
         (type_of element.now) (within_limits (type_of element.now)))) }
 {
     walk_wanted(scope, i.get(), &Ty::Int)?;
@@ -447,11 +370,7 @@ fn walk_element(
 /// The type of a length.
 #[cycle(walk)]
 fn walk_len(scope: &TypeScope<'_>, e: &ExprChild) -> Result<Ty, ExprFault>
-<<<<<<< HEAD
-    ensures { Gives result (walk_in (len e.now) scope.now) }
-=======
     ensures { Gives result (type_in (len e.now) scope.now) }
->>>>>>> cf6aceac2cfc663ffed6c8b38fd03bb1798c20a8
 {
     let list = walk(scope, e.get())?;
     let found = length_type(&list);
@@ -463,11 +382,7 @@ fn walk_len(scope: &TypeScope<'_>, e: &ExprChild) -> Result<Ty, ExprFault>
 #[cycle(walk)]
 fn walk_child(scope: &TypeScope<'_>, part: &ExprChild) -> Result<TyChild, ExprFault>
     ensures { GivesUnless F.Memory (λ t. t) result
-<<<<<<< HEAD
-        (walk_in part.now scope.now) }
-=======
         (type_in part.now scope.now) }
->>>>>>> cf6aceac2cfc663ffed6c8b38fd03bb1798c20a8
 {
     let found = walk(scope, part.get())?;
     let child = TyChild::new(scope.alloc, found)?;
@@ -478,11 +393,7 @@ fn walk_child(scope: &TypeScope<'_>, part: &ExprChild) -> Result<TyChild, ExprFa
 #[cycle(walk)]
 fn walk_wanted(scope: &TypeScope<'_>, expr: &Expr, ty: &Ty) -> Result<(), ExprFault>
     ensures { Passes result
-<<<<<<< HEAD
-        (expect (walk_in (expression_of expr.now) scope.now)
-=======
         (expect (type_in (expression_of expr.now) scope.now)
->>>>>>> cf6aceac2cfc663ffed6c8b38fd03bb1798c20a8
         (type_of ty.now)) (type_of ty.now) }
 {
     let found = walk(scope, expr)?;

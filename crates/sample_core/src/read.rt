@@ -349,10 +349,7 @@ fn list<'t>(
 /// A space and a value of the type: a number is read at once.
 #[cycle(value)]
 #[inline(always)]
-<<<<<<< HEAD
-=======
 #[tactic(auto, unfolding(crate::specs::Reading::value_at))]
->>>>>>> cf6aceac2cfc663ffed6c8b38fd03bb1798c20a8
 fn part<'t>(
     alloc: Global,
     size: usize,
@@ -363,32 +360,9 @@ fn part<'t>(
     ensures shorter { IfOk result (λ x. length x.1.now ≤ length text.now) }
 {
     let rest = after_byte(size, text, b' ')?;
-<<<<<<< HEAD
-    part_value(alloc, size, rest, ty.get())
-}
-
-/// A value of the type inside another: a number is read at once.
-#[cycle(value)]
-#[inline(always)]
-#[tactic(auto, unfolding(crate::specs::Reading::value_at))]
-fn part_value<'t>(
-    alloc: Global,
-    size: usize,
-    text: &'t [u8],
-    ty: &Ty,
-) -> Result<(Sample, &'t [u8]), ValueFault>
-    ensures exact { Gives (λ x. (datum_of x.0, x.1.now)) result
-        (value_at size (type_of ty.now) text.now) }
-    ensures shorter { IfOk result (λ x. length x.1.now ≤ length text.now) }
-{
-    match ty {
-        Ty::Int => number_sample(size, text),
-        _ => value(alloc, size, text, ty),
-=======
     match ty.get() {
         Ty::Int => number_sample(size, rest),
         ty => value(alloc, size, rest, ty),
->>>>>>> cf6aceac2cfc663ffed6c8b38fd03bb1798c20a8
     }
 }
 

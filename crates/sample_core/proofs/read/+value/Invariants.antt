@@ -30,11 +30,5 @@ decreases-part l = 4 * nodes_of l.ty.now + 2
 abbrev pub decreases-elements : goal.decreases-elements
 decreases-elements l = 4 * nodes_of (type_of l.ty.now) + 2
 
-<<<<<<< HEAD
-abbrev pub decreases-part_value : goal.decreases-part_value
-decreases-part_value l = 4 * nodes_of (type_of l.ty.now) + 1
-
-=======
->>>>>>> cf6aceac2cfc663ffed6c8b38fd03bb1798c20a8
 abbrev pub decreases-pair : goal.decreases-pair
 decreases-pair l = 4 * (nodes_of l.a.now + nodes_of l.b.now) + 3
