@@ -1,3 +1,5 @@
+pub mod Failures
+pub mod CountedView
 pub mod TextLines
 pub mod StepText
 pub mod StreamView
