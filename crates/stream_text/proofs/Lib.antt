@@ -1,3 +1,6 @@
 pub mod Lines
+pub mod KeptBytes
+pub mod Settling
 pub mod Steps
 pub mod Samples
+pub mod Answers

@@ -1,6 +1,6 @@
 -- What is read of a line: values of the type, and steps in range.
 use Rattle.std.proofs.Common.{◌≡◌, ◌≤◌, ◌<◌, ◌+◌, ◌*◌, ◌-◌, ◌^◌, ℕ, suc, Bool, true, false, nat_eq, nat_lt, List, [], ◌∷◌, length, take, drop, Option, Some, None, Result, Ok, Err, refl, sym, ap, ◌∙◌, subst, arith, if◌then◌else◌}
-use Rattle.std.specs.Prelude.{bytes_eq, codes, is_some}
+use Rattle.std.specs.Prelude.{◌||◌, ◌&&◌, bytes_eq, codes, is_some, ⊤}
 use Rattle.std.specs.Char.{is_ascii_digit}
 use Rattle.std.specs.List.{prefix_len, take_while}
 use Rattle.std.specs.Str.Parse.{digits_value}
@@ -14,7 +14,8 @@ use Rattle.sample_core.specs.TypeTree.{TypeTree}
 use Rattle.sample_core.specs.declared.fault.ValueFault.{ValueFault}
 use Rattle.sample_core.specs.declared.fault.ValueFault.TheVariants as V
 use Rattle.stream_text.specs.StepText.{behind, is_step, step_then, step_if, step_in}
-use Rattle.stream_text.specs.StreamText.{IsBefore, if_whole, whole_value, with_step, first_line, later_line, line_after, line_read}
+use Rattle.stream_text.specs.StreamText.{IsBefore, IsOfText, if_whole, whole_value, with_step, first_line, later_line, line_after, line_read}
+use Rattle.stream_text.specs.TextLines.{shows_fault}
 use Rattle.stream_text.specs.declared.fault.StreamFault.{StreamFault}
 use Rattle.stream_text.specs.declared.fault.StreamFault.TheVariants as S
 use Rattle.stream_text.proofs.Steps.{digit_in_range, next_value}
@@ -134,3 +135,47 @@ read_step law A n taken (Some v) line x t h l =
     let s : HasType x.1 A
     × ((rest : List ℕ) × (step_in line ≡ Some (x.0, rest))) = later_typed law A n v (step_in line) x t (after_limits A n (Some v) line x h) in
     stepped_range line (x.0, s.1.0) s.1.1
+
+-- whether a result, if it is a fault, is one that a line's text can have
+abbrev OfText : {X : Type 0} → Result X StreamFault → Type 0
+OfText (Ok x) = ⊤
+OfText (Err fault) = IsOfText fault
+
+either : {X : Type 0} (b : Bool) (r s : Result X StreamFault) → OfText r → OfText s → OfText (if b then r else s)
+either true r s h k = h
+either false r s h k = k
+
+whole_of_text : (A : TypeTree) (n d size : ℕ) (r : Result (Datum × ℕ) ValueFault) → OfText (with_step d (if_whole n size r))
+whole_of_text A n d size (Err fault) = tt
+whole_of_text A n d size (Ok (v, taken)) = go (nat_eq taken size)
+  where
+    go : (b : Bool) → OfText (with_step d (if b then Ok v else Err (S.Value n (V.NotAValue taken))))
+    go true = tt
+    go false = tt
+
+later_of_text : (A : TypeTree) (n : ℕ) (before : Datum) (o : Option (ℕ × List ℕ)) → OfText (later_line A n before o)
+later_of_text A n before None = tt
+later_of_text A n before (Some (d, bs)) = either (bytes_eq bs (codes "=")) _ _ tt (whole_of_text A n d (length bs) (reading A bs))
+
+after_of_text : (A : TypeTree) (n : ℕ) (before : Option Datum) (line : List ℕ) → OfText (line_after A n before line)
+after_of_text A n None line = either (is_some (behind 43 line)) _ _ tt
+    (either (bytes_eq line (codes "=")) _ _ tt (whole_of_text A n 0 (length line) (reading A line)))
+after_of_text A n (Some before) line = later_of_text A n before (step_in line)
+
+read_of_text : (A : TypeTree) (n : ℕ) (before : Option Datum) (line : List ℕ) → OfText (line_read A n before line)
+read_of_text A n before line = either (nat_lt 1000000 n) _ _ tt (either (nat_lt 65536 (length line)) _ _ tt (after_of_text A n before line))
+
+-- a line's fault is one that its text can have
+pub refused_of_text : (A : TypeTree) (n : ℕ) (before : Option Datum) (line : List ℕ) (fault : StreamFault) → line_read A n before line ≡ Err fault → IsOfText fault
+refused_of_text A n before line fault e = subst OfText e (read_of_text A n before line)
+
+-- a line that shows a fault holds no sample
+pub shown_no_sample : (A : TypeTree) (n : ℕ) (before : Option Datum) (line : List ℕ) (x : ℕ × Datum) → shows_fault n (length line) ≡ true
+    → line_read A n before line ≡ Ok x → ⊥
+shown_no_sample A n before line x s e = go (nat_lt 1000000 n) (nat_lt 65536 (length line)) (nat_lt 0 (length line)) s e
+  where
+    go : (many long some : Bool) → (long || (many && some)) ≡ true
+        → (if many then Err (S.TooManySamples n) else (if long then Err (S.LineTooLong n) else line_after A n before line)) ≡ Ok x → ⊥
+    go true long some q r = absurd (cc)
+    go false true some q r = absurd (cc)
+    go false false some q r = absurd (cc)

@@ -1,5 +1,5 @@
 -- The samples that the text of a stream holds, and its first fault.
-use Rattle.std.specs.Prelude.{◌≡◌, ℕ, suc, nat_eq, nat_lt, List, [], ◌∷◌, length, Option, Some, None, Result, Ok, Err, if◌then◌else◌, bytes_eq, codes, is_some}
+use Rattle.std.specs.Prelude.{◌≡◌, ℕ, suc, nat_eq, nat_lt, List, [], ◌∷◌, length, Option, Some, None, Result, Ok, Err, if◌then◌else◌, bytes_eq, codes, is_some, ⊤}
 use Rattle.sample_core.specs.Answer.{◌>>=◌, GivesUnless}
 use Rattle.sample_core.specs.Datum.{Datum}
 use Rattle.sample_core.specs.HasType.{HasType}
@@ -55,6 +55,14 @@ line_after A n (Some before) line = later_line A n before (step_in line)
 abbrev pub line_read : TypeTree → ℕ → Option Datum → List ℕ → Result (ℕ × Datum) StreamFault
 line_read A n before line = if nat_lt 1000000 n then Err (S.TooManySamples n)
     else (if nat_lt 65536 (length line) then Err (S.LineTooLong n) else line_after A n before line)
+
+-- a fault that a line's text can have
+abbrev pub IsOfText : StreamFault → Type 0
+IsOfText S.ReadTurns = ⊥
+IsOfText S.Read = ⊥
+IsOfText S.Memory = ⊥
+IsOfText S.Ended = ⊥
+IsOfText _ = ⊤
 
 -- What a stream holds: the samples of the lines before the first faulty one, and that line's fault.
 pub record Samples : Type 0 where
