@@ -11,19 +11,19 @@ use Rattle.sample_core.specs.ReadingLaws.{ReadingLaw}
 use Rattle.sample_core.specs.TypeTree.{TypeTree}
 use Rattle.sample_core.specs.ValueView.{datum_of}
 use Rattle.sample_core.specs.declared.sample.Sample.{Sample}
-use Rattle.stream_text.specs.Answers.{ReaderState, SameLast, TakesLine, TakesSample, MeetsEnd, KnownLines, FaultyLine, Unfinished, HasFault, MeetsFault, IsAnswer, GivesAnswer}
+use Rattle.stream_text.specs.Answers.{ReaderState, SameLast, TakesLine, TakesSample, MeetsEnd, KnownLine, ended, shown, last, FaultyLine, Unfinished, HasFault, MeetsFault, IsAnswer, GivesAnswer}
 use Rattle.stream_text.specs.LineTaken.{KeepsSample, EndsFaulty, TakesKept, TakesLast}
 use Rattle.stream_text.specs.Settling.{AsksAsNeeded, IsSettled, SettlesLine, Settles}
 use Rattle.stream_text.specs.StreamText.{IsBefore, IsOfText, line_read}
 use Rattle.stream_text.specs.StreamView.{before_view, sample_view}
-use Rattle.stream_text.specs.TextLines.{IsFeedFree, IsFirstFeed, HasLine, front_lines, lines_of, shows_fault}
+use Rattle.stream_text.specs.TextLines.{IsFeedFree, IsFirstFeed, HasLine, front_lines, shows_fault}
 use Rattle.stream_text.specs.declared.fault.StreamFault.{StreamFault}
 use Rattle.stream_text.specs.declared.fault.StreamFault.TheVariants as S
 use Rattle.stream_text.specs.declared.reader.Met.{Met}
 use Rattle.stream_text.specs.declared.reader.Met.TheVariants as M
 use Rattle.stream_text.specs.declared.settle.Settled.{Settled}
 use Rattle.stream_text.specs.declared.settle.Settled.TheVariants as T
-use Rattle.stream_text.proofs.Lines.{front-free, front-has, has_line, one_line}
+use Rattle.stream_text.proofs.Lines.{has_line, one_line}
 use Rattle.stream_text.proofs.Samples.{refused_of_text, shown_no_sample, read_typed, read_step}
 
 -- the state with the bytes that are kept after reading on, and the number of reads
@@ -52,10 +52,10 @@ as_kept A n m o kept line line' r i e f h =
     seen None = refl
     seen (Some v) = refl
 
-asks_of : (s : ReaderState) (n : ℕ) (got : List ℕ) → n ≡ suc s.lines → s.met ≡ M.Nothing → (got ≡ []) ⊎ AsksAsNeeded n s.kept got
-    → (got ≡ []) ⊎ ((s.met ≡ M.Nothing) × AsksAsNeeded (suc s.lines) s.kept got)
-asks_of s n got e m (inl h) = inl h
-asks_of s n got e m (inr h) = inr (m, subst (λ k. AsksAsNeeded k s.kept got) e h)
+asks_of : (s : ReaderState) (has has' : Option (List ℕ)) (n : ℕ) (got : List ℕ) → n ≡ suc s.lines → s.met ≡ M.Nothing
+    → ((got ≡ []) × (has' ≡ has)) ⊎ AsksAsNeeded n s.kept got → ((got ≡ []) × (has' ≡ has)) ⊎ ((s.met ≡ M.Nothing) × AsksAsNeeded (suc s.lines) s.kept got)
+asks_of s has has' n got e m (inl h) = inl h
+asks_of s has has' n got e m (inr h) = inr (m, subst (λ k. AsksAsNeeded k s.kept got) e h)
 
 given : (A : TypeTree) (s s' : ReaderState) (has has' : Option (List ℕ)) (n : ℕ) (kept' : List ℕ) (reads : ℕ) (settled : Result Settled StreamFault)
     (answer : Result (Option (ℕ × Sample)) StreamFault) → n ≡ suc s.lines → s.met ≡ M.Nothing → (h : Settles has has' n s.kept kept' reads settled)
@@ -63,16 +63,14 @@ given : (A : TypeTree) (s s' : ReaderState) (has has' : Option (List ℕ)) (n : 
 given A s s' has has' n kept' reads settled answer e m h a = record {
   got = h.got;
   consumes = h.consumes;
-  asks = asks_of s n h.got e m h.asks;
+  asks = asks_of s has has' n h.got e m h.asks;
   gives = subst (λ bytes. IsAnswer A (IsAtEnd has') s bytes answer s') h.keeps a;
 }
 
--- the line that is settled is the first that is known
-known_line : (n : ℕ) (kept : List ℕ) (size : ℕ) → SettlesLine n kept size → (more : List (List ℕ)) × (take size kept ∷ more ≡ front_lines n kept)
-known_line n kept size (inl h) = (front_lines (suc n) (drop (size + 1) kept), sym (front-has n kept (take size kept) (drop (size + 1) kept) (has_line kept size h)))
-known_line n kept size (inr h) =
-    let shown : shows_fault n (length kept) ≡ true = ap (shows_fault n) (sym h.0) ∙ h.2 in
-    ([], ap (λ l. l ∷ []) (take_all kept size h.0) ∙ sym (front-free n kept h.1 ∙ ap (λ b. if b then kept ∷ [] else []) shown))
+-- the line that is settled is known
+known_line : (end : Type 0) (n : ℕ) (kept : List ℕ) (size : ℕ) → SettlesLine n kept size → KnownLine end n kept (take size kept)
+known_line end n kept size (inl h) = ended (drop (size + 1) kept) (has_line kept size h)
+known_line end n kept size (inr h) = shown (take_all kept size h.0) h.1 (ap (shows_fault n) (sym h.0) ∙ h.2)
 
 -- a line that holds a sample is settled by its line feed
 ended_line : (A : TypeTree) (n : ℕ) (before : Option Datum) (kept : List ℕ) (size : ℕ) (x : ℕ × Datum) → SettlesLine n kept size
@@ -87,17 +85,17 @@ taken : (end : Type 0) (kept line rest rest' : List ℕ) (met met' : Met) → re
 taken end kept line rest rest' met met' e f h = subst (λ r. TakesLine end kept line r met') (sym e) (subst (λ m. TakesLine end kept line rest m) (sym f) h)
 
 -- the fault of a line that is known
-line_fault : (A : TypeTree) (end : Type 0) (s s' : ReaderState) (kept line : List ℕ) (more : List (List ℕ)) (fault : StreamFault) → s.met ≡ M.Nothing
-    → KnownLines end (suc s.lines) kept (line ∷ more) → (fault ≢ S.Memory → line_read A (suc s.lines) s.before line ≡ Err fault) → HasFault A end s kept fault s'
-line_fault A end s s' kept line more (S.Step k) m h r = (m, record { line = line; more = more; known = h; refuses = r (λ q. cc) })
-line_fault A end s s' kept line more (S.Value k v) m h r = (m, record { line = line; more = more; known = h; refuses = r (λ q. cc) })
-line_fault A end s s' kept line more (S.NothingBefore k) m h r = (m, record { line = line; more = more; known = h; refuses = r (λ q. cc) })
-line_fault A end s s' kept line more (S.LineTooLong k) m h r = (m, record { line = line; more = more; known = h; refuses = r (λ q. cc) })
-line_fault A end s s' kept line more (S.TooManySamples k) m h r = (m, record { line = line; more = more; known = h; refuses = r (λ q. cc) })
-line_fault A end s s' kept line more S.ReadTurns m h r = absurd (refused_of_text A (suc s.lines) s.before line S.ReadTurns (r (λ q. cc)))
-line_fault A end s s' kept line more S.Read m h r = absurd (refused_of_text A (suc s.lines) s.before line S.Read (r (λ q. cc)))
-line_fault A end s s' kept line more S.Memory m h r = m
-line_fault A end s s' kept line more S.Ended m h r = absurd (refused_of_text A (suc s.lines) s.before line S.Ended (r (λ q. cc)))
+line_fault : (A : TypeTree) (end : Type 0) (s s' : ReaderState) (kept line : List ℕ) (fault : StreamFault) → s.met ≡ M.Nothing
+    → KnownLine end (suc s.lines) kept line → (fault ≢ S.Memory → line_read A (suc s.lines) s.before line ≡ Err fault) → HasFault A end s kept fault s'
+line_fault A end s s' kept line (S.Step k) m h r = (m, record { line = line; known = h; refuses = r (λ q. cc) })
+line_fault A end s s' kept line (S.Value k v) m h r = (m, record { line = line; known = h; refuses = r (λ q. cc) })
+line_fault A end s s' kept line (S.NothingBefore k) m h r = (m, record { line = line; known = h; refuses = r (λ q. cc) })
+line_fault A end s s' kept line (S.LineTooLong k) m h r = (m, record { line = line; known = h; refuses = r (λ q. cc) })
+line_fault A end s s' kept line (S.TooManySamples k) m h r = (m, record { line = line; known = h; refuses = r (λ q. cc) })
+line_fault A end s s' kept line S.ReadTurns m h r = absurd (refused_of_text A (suc s.lines) s.before line S.ReadTurns (r (λ q. cc)))
+line_fault A end s s' kept line S.Read m h r = absurd (refused_of_text A (suc s.lines) s.before line S.Read (r (λ q. cc)))
+line_fault A end s s' kept line S.Memory m h r = m
+line_fault A end s s' kept line S.Ended m h r = absurd (refused_of_text A (suc s.lines) s.before line S.Ended (r (λ q. cc)))
 
 -- a line that is settled gives the answer
 pub line_given : (A : TypeTree) (s s' : ReaderState) (has has' : Option (List ℕ)) (n : ℕ) (kept' : List ℕ) (reads size : ℕ)
@@ -116,11 +114,11 @@ line_given A s s' has has' n kept' reads size (Ok (Some x)) e m h t =
     })
 line_given A s s' has has' n kept' reads size (Ok None) e m h t = absurd t
 line_given A s s' has has' n kept' reads size (Err fault) e m h t =
-    let known = known_line (suc s.lines) kept' size (subst (λ k. SettlesLine k kept' size) e h.tells) in
+    let known = known_line (IsAtEnd has') (suc s.lines) kept' size (subst (λ k. SettlesLine k kept' size) e h.tells) in
     given A s s' has has' n kept' reads (Ok (T.Line size)) (Err fault) e m h (record {
       ends = t.1.ends;
       same = record { lines = t.1.same.lines; before = t.1.same.before };
-      why = line_fault A (IsAtEnd has') s s' kept' (take size kept') known.0 fault m (inl known.1) t.0;
+      why = line_fault A (IsAtEnd has') s s' kept' (take size kept') fault m known t.0;
     })
 
 -- what is kept at the end gives the answer
@@ -149,8 +147,8 @@ last_given A s s' has has' n kept' reads (Err fault) e m h t =
     given A s s' has has' n kept' reads (Ok T.Last) (Err fault) e m h (record {
       ends = t.1.1.ends;
       same = record { lines = t.1.1.same.lines; before = t.1.1.same.before };
-      why = line_fault A (IsAtEnd has') s s' kept' (take (length kept') kept') [] fault m
-          (inr (h.tells.0, ap (λ l. l ∷ []) all ∙ sym (one_line kept' t.0 h.tells.1))) t.1.0;
+      why = line_fault A (IsAtEnd has') s s' kept' (take (length kept') kept') fault m
+          (last h.tells.0 (one_line kept' t.0 h.tells.1 ∙ ap (λ l. l ∷ []) (sym all))) t.1.0;
     })
 
 -- a reader that could not be read on gives the fault

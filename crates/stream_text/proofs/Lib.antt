@@ -4,3 +4,4 @@ pub mod Settling
 pub mod Steps
 pub mod Samples
 pub mod Answers
+pub mod Hearing

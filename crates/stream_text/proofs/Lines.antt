@@ -109,3 +109,55 @@ pub free_take : (xs : List ℕ) (n : ℕ) → IsFeedFree xs → IsFeedFree (take
 free_take xs zero f = free_nil
 free_take [] (suc n) f = free_nil
 free_take (x ∷ xs) (suc n) f = free_cons x (take n xs) (f 0 (omega arith)) (free_take xs n (free_tail x xs f))
+
+-- a byte in front of lines that isn't a line feed goes to the first
+lines-led : (b : ℕ) (bs line : List ℕ) (lines : List (List ℕ)) → nat_eq b 10 ≡ false → lines_of bs ≡ line ∷ lines → lines_of (b ∷ bs) ≡ (b ∷ line) ∷ lines
+lines-led b bs line lines n e = ap (λ p. all (if p then record { lines = [] ∷ (split bs).lines; behind = (split bs).behind }
+    else led_by b (split bs).lines (split bs).behind)) n ∙ go (split bs).lines (split bs).behind e
+  where
+    all : Split → List (List ℕ)
+    all s = s.lines ++ last_line s.behind
+
+    go : (ls : List (List ℕ)) (behind : List ℕ) → ls ++ last_line behind ≡ line ∷ lines → all (led_by b ls behind) ≡ (b ∷ line) ∷ lines
+    go [] [] h = absurd (cc)
+    go [] (c ∷ cs) h = cc
+    go (l ∷ ls) behind h = cc
+
+-- only a text with no byte has no line
+pub no-lines : (bs : List ℕ) → lines_of bs ≡ [] → bs ≡ []
+no-lines [] e = refl
+no-lines (b ∷ bs) e = absurd (go (nat_eq b 10) (split bs).lines (split bs).behind e)
+  where
+    go : (p : Bool) (ls : List (List ℕ)) (behind : List ℕ)
+        → (if p then record { lines = [] ∷ ls; behind = behind } else led_by b ls behind).lines
+        ++ last_line (if p then record { lines = [] ∷ ls; behind = behind } else led_by b ls behind).behind ≡ [] → ⊥
+    go true ls behind h = absurd (cc)
+    go false [] behind h = absurd (cc)
+    go false (l ∷ ls) behind h = absurd (cc)
+
+-- where bytes without line feed go on, their first line goes on
+abbrev pub GoesOn : List ℕ → List ℕ → Type 0
+GoesOn bs more = (tail : List ℕ) × (lines : List (List ℕ)) × (lines_of (bs ++ more) ≡ (bs ++ tail) ∷ lines)
+
+one_on : (b : ℕ) (more : List ℕ) → nat_eq b 10 ≡ false → (ls : List (List ℕ)) → lines_of more ≡ ls → GoesOn (b ∷ []) more
+one_on b more q [] e = ([], [], ap (λ m. lines_of (b ∷ m)) (no-lines more e) ∙ lines-one b q)
+  where
+    lines-one : (c : ℕ) → nat_eq c 10 ≡ false → lines_of (c ∷ []) ≡ (c ∷ []) ∷ []
+    lines-one c r = ap (λ p. (if p then record { lines = [] ∷ []; behind = [] } else led_by c [] []).lines
+        ++ last_line (if p then record { lines = [] ∷ []; behind = [] } else led_by c [] []).behind) r
+one_on b more q (line ∷ lines) e = (line, lines, lines-led b more line lines q e)
+
+more_on : (b : ℕ) (bs more : List ℕ) → nat_eq b 10 ≡ false → GoesOn bs more → GoesOn (b ∷ bs) more
+more_on b bs more q i = (i.0, i.1, lines-led b (bs ++ more) (bs ++ i.0) i.1 q i.2)
+
+not_feed : (b : ℕ) (bs : List ℕ) → IsFeedFree (b ∷ bs) → nat_eq b 10 ≡ false
+not_feed b bs free = go (nat_eq b 10) refl
+  where
+    go : (p : Bool) → nat_eq b 10 ≡ p → nat_eq b 10 ≡ false
+    go true q = absurd (free 0 (omega arith) (eqb-true b 10 q))
+    go false q = q
+
+pub lines-on : (bs more : List ℕ) → 0 < length bs → IsFeedFree bs → GoesOn bs more
+lines-on [] more l free = absurd (omega arith)
+lines-on (b ∷ []) more l free = one_on b more (not_feed b [] free) (lines_of more) refl
+lines-on (b ∷ c ∷ bs) more l free = more_on b (c ∷ bs) more (not_feed b (c ∷ bs) free) (lines-on (c ∷ bs) more (omega arith) (free_tail b (c ∷ bs) free))

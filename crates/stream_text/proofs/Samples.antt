@@ -1,5 +1,5 @@
 -- What is read of a line: values of the type, and steps in range.
-use Rattle.std.proofs.Common.{◌≡◌, ◌≤◌, ◌<◌, ◌+◌, ◌*◌, ◌-◌, ◌^◌, ℕ, suc, Bool, true, false, nat_eq, nat_lt, List, [], ◌∷◌, length, take, drop, Option, Some, None, Result, Ok, Err, refl, sym, ap, ◌∙◌, subst, arith, if◌then◌else◌}
+use Rattle.std.proofs.Common.{◌≡◌, ◌≤◌, ◌<◌, ◌+◌, ◌*◌, ◌-◌, ◌^◌, ℕ, suc, Bool, true, false, nat_eq, nat_lt, List, [], ◌∷◌, length, length-append, ◌++◌, take, drop, Option, Some, None, Result, Ok, Err, refl, sym, ap, ◌∙◌, subst, arith, if◌then◌else◌}
 use Rattle.std.specs.Prelude.{◌||◌, ◌&&◌, bytes_eq, codes, is_some, ⊤}
 use Rattle.std.specs.Char.{is_ascii_digit}
 use Rattle.std.specs.List.{prefix_len, take_while}
@@ -179,3 +179,32 @@ shown_no_sample A n before line x s e = go (nat_lt 1000000 n) (nat_lt 65536 (len
     go true long some q r = absurd (cc)
     go false true some q r = absurd (cc)
     go false false some q r = absurd (cc)
+
+-- where a line that shows a fault goes on, it shows the same
+pub shown_on : (A : TypeTree) (n : ℕ) (before : Option Datum) (line tail : List ℕ) (fault : StreamFault) → shows_fault n (length line) ≡ true
+    → line_read A n before line ≡ Err fault → line_read A n before (line ++ tail) ≡ Err fault
+shown_on A n before line tail fault s e = go (nat_lt 1000000 n) refl (nat_lt 65536 (length line)) refl (nat_lt 0 (length line)) s e
+  where
+    reads : Bool → Bool → List ℕ → Result (ℕ × Datum) StreamFault
+    reads many long l = if many then Err (S.TooManySamples n) else (if long then Err (S.LineTooLong n) else line_after A n before l)
+
+    go : (many : Bool) → nat_lt 1000000 n ≡ many → (long : Bool) → nat_lt 65536 (length line) ≡ long → (some : Bool) → (long || (many && some)) ≡ true
+        → (if many then Err (S.TooManySamples n) else (if long then Err (S.LineTooLong n) else line_after A n before line)) ≡ Err fault
+        → line_read A n before (line ++ tail) ≡ Err fault
+    go true m long l some q r =
+        ap (λ b. if b then Err (S.TooManySamples n) else (if nat_lt 65536 (length (line ++ tail)) then Err (S.LineTooLong n) else line_after A n before (line ++ tail))) m ∙ r
+    go false m true l some q r =
+        let more : nat_lt 65536 (length (line ++ tail)) ≡ true = (let k : length (line ++ tail) ≡ length line + length tail = length-append line tail in grind (arith, nat_tests, k, l)) in
+        ap (λ b. if b then Err (S.TooManySamples n) else (if nat_lt 65536 (length (line ++ tail)) then Err (S.LineTooLong n) else line_after A n before (line ++ tail))) m
+        ∙ ap (λ b. if b then Err (S.LineTooLong n) else line_after A n before (line ++ tail)) more ∙ r
+    go false m false l some q r = absurd (cc)
+
+-- bytes that show a fault are some
+pub shown_some : (n size : ℕ) → shows_fault n size ≡ true → 0 < size
+shown_some n size h = go (nat_lt 65536 size) refl (nat_lt 1000000 n) (nat_lt 0 size) refl h
+  where
+    go : (long : Bool) → nat_lt 65536 size ≡ long → (many some : Bool) → nat_lt 0 size ≡ some → (long || (many && some)) ≡ true → 0 < size
+    go true l many some s q = grind (arith, nat_tests, l)
+    go false l true true s q = grind (arith, nat_tests, s)
+    go false l true false s q = absurd (cc)
+    go false l false some s q = absurd (cc)

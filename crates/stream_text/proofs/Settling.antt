@@ -30,10 +30,10 @@ pub record Asked (has has' : Option (List ℕ)) (n : ℕ) (kept kept' : List ℕ
   pub got : List ℕ
   pub consumes : Consumes has has' got
   pub keeps : kept' ≡ kept ++ got
-  pub asks : (got ≡ []) ⊎ AsksAsNeeded n kept got
+  pub asks : ((got ≡ []) × (has' ≡ has)) ⊎ AsksAsNeeded n kept got
 
 pub asked_none : (has : Option (List ℕ)) (n : ℕ) (kept : List ℕ) → Asked has has n kept kept
-asked_none has n kept = record { got = []; consumes = consumes_none has; keeps = sym (append-nil kept); asks = inl refl }
+asked_none has n kept = record { got = []; consumes = consumes_none has; keeps = sym (append-nil kept); asks = inl (refl, refl) }
 
 -- a piece more, where what is kept settles no line
 pub asked_more : (has has' has'' : Option (List ℕ)) (n : ℕ) (kept kept' kept'' piece : List ℕ) → Asked has has' n kept kept' → front_lines n kept' ≡ []
@@ -45,9 +45,14 @@ asked_more has has' has'' n kept kept' kept'' piece h u e l c = record {
   asks = inr (record { early = h.got; piece = piece; parts = refl; small = l; unsettled = ap (front_lines n) (sym h.keeps) ∙ u });
 }
 
-pub asked_same : (has has' has'' : Option (List ℕ)) (n : ℕ) (kept kept' kept'' : List ℕ) → Asked has has' n kept kept' → kept'' ≡ kept' → Keeps has' has''
-    → Asked has has'' n kept kept''
-asked_same has has' has'' n kept kept' kept'' h e k = record { got = h.got; consumes = consumes_kept has has' has'' h.got h.consumes k; keeps = e ∙ h.keeps; asks = h.asks }
+pub asked_same : (has has' has'' : Option (List ℕ)) (n : ℕ) (kept kept' kept'' : List ℕ) → Asked has has' n kept kept' → front_lines n kept' ≡ [] → kept'' ≡ kept'
+    → Keeps has' has'' → Asked has has'' n kept kept''
+asked_same has has' has'' n kept kept' kept'' h u e k = record {
+  got = h.got;
+  consumes = consumes_kept has has' has'' h.got h.consumes k;
+  keeps = e ∙ h.keeps;
+  asks = inr (record { early = h.got; piece = []; parts = sym (append-nil h.got); small = omega arith; unsettled = ap (front_lines n) (sym h.keeps) ∙ u });
+}
 
 pub settles : (has has' : Option (List ℕ)) (n : ℕ) (kept kept' : List ℕ) (reads : ℕ) (answer : Result Settled StreamFault) → Asked has has' n kept kept'
     → IsSettled (IsAtEnd has') n kept' reads answer → Settles has has' n kept kept' reads answer

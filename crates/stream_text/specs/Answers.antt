@@ -1,5 +1,5 @@
 -- What the calls of a reader of lines answer.
-use Rattle.std.specs.Prelude.{◌≡◌, ◌≢◌, ◌⊎◌, ◌^◌, ℕ, suc, List, [], ◌∷◌, ◌++◌, Option, Some, None, Result, Ok, Err}
+use Rattle.std.specs.Prelude.{◌≡◌, ◌≢◌, ◌⊎◌, ◌^◌, ℕ, suc, true, List, [], ◌∷◌, ◌++◌, length, Option, Some, None, Result, Ok, Err}
 use Rattle.std.specs.Io.KnownBytes.{Consumes, IsAtEnd}
 use Rattle.sample_core.specs.Datum.{Datum}
 use Rattle.sample_core.specs.TypeTree.{TypeTree}
@@ -7,7 +7,7 @@ use Rattle.sample_core.specs.declared.sample.Sample.{Sample}
 use Rattle.stream_text.specs.Settling.{AsksAsNeeded}
 use Rattle.stream_text.specs.StreamText.{line_read}
 use Rattle.stream_text.specs.StreamView.{sample_view}
-use Rattle.stream_text.specs.TextLines.{HasLine, front_lines, lines_of}
+use Rattle.stream_text.specs.TextLines.{HasLine, IsFeedFree, front_lines, lines_of, shows_fault}
 use Rattle.stream_text.specs.declared.fault.StreamFault.{StreamFault}
 use Rattle.stream_text.specs.declared.fault.StreamFault.TheVariants as S
 use Rattle.stream_text.specs.declared.reader.Met.{Met}
@@ -59,17 +59,19 @@ pub record MeetsEnd (end : Type 0) (s : ReaderState) (bytes : List ℕ) (s' : Re
     pub same : SameLast s s'
     pub empty : (s.met ≡ M.End) ⊎ ((s.met ≡ M.Nothing) × end × (bytes ≡ []))
 
--- these are the lines of bytes from line n on, as far as they are known: all of them where there
--- are no more bytes
-abbrev pub KnownLines : Type 0 → ℕ → List ℕ → List (List ℕ) → Type 0
-KnownLines end n bytes lines = (lines ≡ front_lines n bytes) ⊎ (end × (lines ≡ lines_of bytes))
+-- The first line of the bytes, line n of the stream, is known: it has its line feed; or it is all of
+-- them, without line feed, and shows a fault already; or there are no more bytes.
+pub data KnownLine (end : Type 0) (n : ℕ) (bytes line : List ℕ) : Type 0 where
+  ended : (rest : List ℕ) → HasLine bytes line rest → KnownLine end n bytes line
+  shown : line ≡ bytes → IsFeedFree bytes → shows_fault n (length bytes) ≡ true
+      → KnownLine end n bytes line
+  last : end → lines_of bytes ≡ line ∷ [] → KnownLine end n bytes line
 
--- the next line of the bytes, the first that is known, has this fault
+-- the next line of the bytes is known and has this fault
 pub record FaultyLine (A : TypeTree) (end : Type 0) (s : ReaderState) (bytes : List ℕ)
     (fault : StreamFault) : Type 0 where
   pub line : List ℕ
-  pub more : List (List ℕ)
-  pub known : KnownLines end (suc s.lines) bytes (line ∷ more)
+  pub known : KnownLine end (suc s.lines) bytes line
   pub refuses : line_read A (suc s.lines) s.before line ≡ Err fault
 
 -- no line of the bytes is known, and all are kept
@@ -108,7 +110,8 @@ pub record GivesAnswer (A : TypeTree) (s : ReaderState) (has : Option (List ℕ)
     (has' : Option (List ℕ)) : Type 0 where
   pub got : List ℕ
   pub consumes : Consumes has has' got
-  pub asks : (got ≡ []) ⊎ ((s.met ≡ M.Nothing) × AsksAsNeeded (suc s.lines) s.kept got)
+  pub asks : ((got ≡ []) × (has' ≡ has))
+      ⊎ ((s.met ≡ M.Nothing) × AsksAsNeeded (suc s.lines) s.kept got)
   pub gives : IsAnswer A (IsAtEnd has') s (s.kept ++ got) answer s'
 
 -- no bytes are needed: the stream has ended, or those that are kept settle the next line

@@ -10,3 +10,4 @@ pub mod Answers
 pub mod LineTaken
 pub mod ReaderState
 pub mod LineReaderView
+pub mod Hearing

@@ -37,5 +37,5 @@ pub record Settles (has has' : Option (List ℕ)) (n : ℕ) (kept kept' : List �
   pub got : List ℕ
   pub consumes : Consumes has has' got
   pub keeps : kept' ≡ kept ++ got
-  pub asks : (got ≡ []) ⊎ AsksAsNeeded n kept got
+  pub asks : ((got ≡ []) × (has' ≡ has)) ⊎ AsksAsNeeded n kept got
   pub tells : IsSettled (IsAtEnd has') n kept' reads answer

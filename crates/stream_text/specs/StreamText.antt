@@ -8,7 +8,7 @@ use Rattle.sample_core.specs.Reading.{reading}
 use Rattle.sample_core.specs.declared.fault.ValueFault.{ValueFault}
 use Rattle.sample_core.specs.declared.fault.ValueFault.TheVariants as V
 use Rattle.stream_text.specs.StepText.{behind, step_in}
-use Rattle.stream_text.specs.TextLines.{lines_of}
+use Rattle.stream_text.specs.TextLines.{front_lines, lines_of}
 use Rattle.stream_text.specs.declared.fault.StreamFault.{StreamFault}
 use Rattle.stream_text.specs.declared.fault.StreamFault.TheVariants as S
 
@@ -83,6 +83,11 @@ samples_from A n before (line ∷ lines) =
 -- What a text holds, as a stream of values of type A.
 abbrev pub samples : TypeTree → List ℕ → Samples
 samples A text = samples_from A 1 None (lines_of text)
+
+-- What bytes hold that aren't known to be all: their last line counts only where it has its line
+-- feed or shows a fault already.
+abbrev pub front : TypeTree → List ℕ → Samples
+front A bs = samples_from A 1 None (front_lines 1 bs)
 
 -- What a call returned, seen by view, is what reading gives, unless memory ran out.
 abbrev pub Gives : {X Y : Type 0} → (X → Y) → Result X StreamFault → Result Y StreamFault → Type 0
