@@ -67,12 +67,16 @@ impl LineState {
     /// The next sample of the stream with its step, which is 0 for the first; `None` at the end,
     /// again and again. The value that was answered last, if there is one, must have that type.
     ///
+    /// `failures` is how often the source had failed before: a read failed where it has failed more
+    /// often.
+    ///
     /// The first fault ends the stream: in the words of [`StreamFault`], lines before reads, so
     /// that lines whose line feed came before a failed read are answered first. `Memory` where there
     /// is none for the value or its copy. From then on the answer is `Ended`.
     pub fn next<R: Read + Device>(
         &mut self,
         source: &mut R,
+        failures: u64,
         ty: &Ty,
     ) -> Result<Option<(u64, Sample)>, StreamFault>
         requires { IsBefore (type_of ty.now) (reader_state self.old).lines
@@ -80,7 +84,7 @@ impl LineState {
         ensures answers { GivesAnswer (type_of ty.now) (reader_state self.old)
             (R.remaining source.old) result (reader_state self.new) (R.remaining source.new) }
         ensures failed { IfErr result (λ fault. fault ≡ Fault.Read
-            → Rose (R.count source.old) (R.count source.new)) }
+            → Rose failures (R.count source.new)) }
         ensures unasked { SettlesNext (reader_state self.old) → source.new ≡ source.old }
         ensures typed { IfOk result (λ o. IfSome o (λ x. HasType (datum_of x.1) (type_of ty.now))) }
         ensures stepped { IfOk result (λ o. IfSome o (λ x. 0 < (reader_state self.old).lines
@@ -92,7 +96,7 @@ impl LineState {
         // By these laws the sample is of the type.
         reading_laws();
         match self.met {
-            Met::Nothing => self.go_on(source, ty),
+            Met::Nothing => self.go_on(source, failures, ty),
             Met::End => Ok(None),
             Met::Fault => Err(StreamFault::Ended),
         }
@@ -102,16 +106,18 @@ impl LineState {
     fn go_on<R: Read + Device>(
         &mut self,
         source: &mut R,
+        failures: u64,
         ty: &Ty,
     ) -> Result<Option<(u64, Sample)>, StreamFault>
         requires { self.old.met ≡ M.Nothing }
         ensures answers { GivesAnswer (type_of ty.now) (reader_state self.old)
             (R.remaining source.old) result (reader_state self.new) (R.remaining source.new) }
         ensures failed { IfErr result (λ fault. fault ≡ Fault.Read
-            → Rose (R.count source.old) (R.count source.new)) }
+            → Rose failures (R.count source.new)) }
         ensures unasked { SettlesNext (reader_state self.old) → source.new ≡ source.old }
     {
-        match settle(&mut self.kept, &mut self.reads, self.lines + 1, source) {
+        let number = self.lines + 1;
+        match settle(&mut self.kept, &mut self.reads, number, failures, source) {
             Ok(Settled::Line(size)) => self.take_line(ty, size),
             Ok(Settled::Last) => self.take_last(ty),
             Err(fault) => {
@@ -226,6 +232,7 @@ impl<R: Read + Device + Drop> LineReader<R> {
         ensures before { IsBefore (type_of ty.now) (state_of self.new).lines
             (state_of self.new).before }
     {
-        self.state.next(&mut self.source, ty)
+        let failures = self.source.failures();
+        self.state.next(&mut self.source, failures, ty)
     }
 }

@@ -31,12 +31,13 @@ pub enum Settled {
 
 /// Reads on until line `number`, the next, is known, and no further. Counts the reads.
 ///
-/// `Read`: a read failed. `ReadTurns`: 2^40 reads were made. What is kept then settles no line. A
+/// `Read`: a read failed, so that the reader has failed more often than `failures`. `ReadTurns`: 2^40 reads were made. What is kept then settles no line. A
 /// failed read that the reader doesn't count is none: it gave no bytes.
 pub fn settle<R: Read + Device>(
     kept: &mut Kept,
     reads: &mut u64,
     number: u64,
+    failures: u64,
     source: &mut R,
 ) -> Result<Settled, StreamFault>
     requires { reads.old ≤ 2 ^ 40 }
@@ -45,9 +46,8 @@ pub fn settle<R: Read + Device>(
     ensures unasked { front_lines number kept.old ≢ [] → source.new ≡ source.old }
     ensures few { reads.new ≤ 2 ^ 40 }
     ensures failed { IfErr result (λ fault. fault ≡ Fault.Read
-        → Rose (R.count source.old) (R.count source.new)) }
+        → Rose failures (R.count source.new)) }
 {
-    let failures = source.failures();
     loop {
         if let Some(size) = settled_size(kept, number) {
             return Ok(Settled::Line(size));
