@@ -10,6 +10,8 @@ mod commands;
 #[cfg(test)]
 mod files;
 #[cfg(test)]
+mod devices;
+#[cfg(test)]
 mod forms;
 #[cfg(test)]
 mod found;
@@ -25,6 +27,8 @@ mod needs;
 mod network_types;
 #[cfg(test)]
 mod networks;
+#[cfg(test)]
+mod piecewise;
 #[cfg(test)]
 mod reading;
 #[cfg(test)]

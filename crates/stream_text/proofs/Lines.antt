@@ -1,7 +1,6 @@
 -- Where bytes are split at their line feeds.
-use Rattle.std.proofs.Common.{◌≡◌, ◌<◌, ◌≤◌, ◌+◌, ◌-◌, ◌≢◌, ℕ, zero, suc, Bool, true, false, List, [], ◌∷◌, ◌++◌, length, take, drop, get_or, get_or-take, refl, sym, ap, ◌∙◌, arith, add-one, zero-add, subst, nat_eq, if◌then◌else◌}
+use Rattle.std.proofs.Common.{◌≡◌, ◌<◌, ◌≤◌, ◌+◌, ◌-◌, ◌≢◌, ℕ, zero, suc, Bool, true, false, List, [], ◌∷◌, ◌++◌, length, take, drop, get_or, refl, sym, ap, ◌∙◌, arith, add-one, zero-add, subst, nat_eq, if◌then◌else◌}
 use Rattle.std.proofs.lemmas.Bool.{eqb-true}
-use Rattle.std.proofs.lemmas.Grind.{common_steps}
 use Rattle.stream_text.specs.TextLines.{IsFeedFree, IsFirstFeed, HasLine, Split, split, led_by, last_line, lines_of, shows_fault, front_lines}
 
 -- a line and what the rest is split into
@@ -98,12 +97,6 @@ has_line bytes at h = record {
   one_line = h.none_before;
   ended = joined bytes at h.within h.feed ∙ ap (λ k. take at bytes ++ (10 ∷ drop k bytes)) (sym (add-one at));
 }
-
--- up to the first line feed is the first line
-pub first_line : (bs : List ℕ) (n : ℕ) → n < length bs → get_or bs n 0 ≡ 10 → ((k : ℕ) → k < n → get_or bs k 0 ≡ 10 → ⊥)
-    → lines_of bs ≡ take n bs ∷ lines_of (drop (n + 1) bs)
-first_line bs n l e none = lines-has bs (take n bs) (drop (n + 1) bs)
-    (has_line bs n (record { within = l; feed = e; none_before = (λ k m. let low : k < n = grind (arith, common_steps) in rw get_or-take (none k low)) }))
 
 pub free_take : (xs : List ℕ) (n : ℕ) → IsFeedFree xs → IsFeedFree (take n xs)
 free_take xs zero f = free_nil

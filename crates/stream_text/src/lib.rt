@@ -1,4 +1,5 @@
-//! The texts of streams: their lines, and the step and the value that a line holds.
+//! Streams: their samples from any reader, piece by piece, and readers and writers that count their
+//! failures.
 #![tactic(auto)]
 
 mod device;
@@ -8,10 +9,7 @@ mod line;
 mod reader;
 mod settle;
 mod step_text;
-mod text_lines;
 
 pub use device::{Counted, Device};
 pub use fault::StreamFault;
-pub use line::read_line;
 pub use reader::{LineReader, LineState};
-pub use text_lines::split_line;

@@ -154,9 +154,9 @@ impl LineState {
             self.kept.front(size),
         ) {
             Ok((step, sample)) => self.keep(step, sample, size),
-            Err(fault) => {
+            Err(refused) => {
                 self.met = Met::Fault;
-                Err(fault)
+                Err(refused)
             }
         }
     }
@@ -209,9 +209,9 @@ impl<R: Read + Device + Drop> LineReader<R> {
     {
         match LineState::new(alloc) {
             Ok(state) => Ok(LineReader { source, state }),
-            Err(refused) => {
+            Err(memory) => {
                 drop(source);
-                Err(refused)
+                Err(memory)
             }
         }
     }

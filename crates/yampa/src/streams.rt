@@ -2,6 +2,8 @@
 // much, and given to the host before more input is asked for: so who feeds a line sees its answer,
 // and a piped file goes through in large pieces.
 
+ghost use Rattle.std.specs.Io.{WritesAtMost};
+
 use sample_core::Memory;
 use std::alloc::Global;
 use std::cell::RefCell;
@@ -49,7 +51,9 @@ impl Output {
 
     /// Holds bytes back, as many as there is room for. Gives the host what is held before, where
     /// there is no room for all.
-    fn hold(&mut self, bytes: &[u8]) -> io::Result<usize> {
+    fn hold(&mut self, bytes: &[u8]) -> io::Result<usize>
+        ensures { WritesAtMost result bytes.now }
+    {
         if bytes.len() > ROOM.saturating_sub(self.held.len()) {
             self.give()?;
         }
