@@ -6,7 +6,7 @@ use Rattle.sample_core.specs.Datum.{Datum}
 use Rattle.sample_core.specs.TypeTree.{TypeTree}
 use Rattle.sample_core.specs.declared.sample.Sample.{Sample}
 use Rattle.stream_text.specs.Answers.{ReaderState, IsFresh, SameLast, TakesLine, TakesSample, MeetsEnd, KnownLine, ended, shown, last, FaultyLine, Unfinished, HasFault, MeetsFault, IsAnswer, GivesAnswer}
-use Rattle.stream_text.specs.Hearing.{HoldsOfText, then_held, HoldSamples, IsWithin, Tells, Heard}
+use Rattle.stream_text.specs.Hearing.{HoldsOfText, then_held, HoldSamples, IsWithin, Tells, Heard, HeardAll, HeardSo, HeardFront, BeginsWith, BeginLaw, MoreLaw, EndLaw, FaultyLaw, UnreadLaw}
 use Rattle.stream_text.specs.Settling.{AsksAsNeeded}
 use Rattle.stream_text.specs.StreamText.{IsOfText, Samples, samples, front, samples_from, then_samples, line_read}
 use Rattle.stream_text.specs.StreamView.{sample_view}
@@ -103,13 +103,6 @@ heard_more A has has' has'' s s' p x h g = record {
     )
     go M.Fault t = absurd t
 
--- the bytes that were read and what they are
-pub record HeardAll (A : TypeTree) (has has' : Option (List ℕ)) (p : List (ℕ × Datum)) : Type 0 where
-  pub read : List ℕ
-  pub consumes : Consumes has has' read
-  pub at_end : IsAtEnd has'
-  pub all : samples A read ≡ record { taken = p; fault = None }
-
 -- once the stream has ended, nothing is read
 nothing_read : (s : ReaderState) (has has' : Option (List ℕ)) (got : List ℕ) → s.met ≢ M.Nothing
     → ((got ≡ []) × (has' ≡ has)) ⊎ ((s.met ≡ M.Nothing) × AsksAsNeeded (suc s.lines) s.kept got) → (got ≡ []) × (has' ≡ has)
@@ -174,12 +167,6 @@ map_text end read consumed bytes P Q e f (inl h) = inl (h.0, subst Q (sym e) (f 
 map_text end read consumed bytes P Q e f (inr h) =
     inr (λ more. subst Q (sym (append_assoc consumed bytes more) ∙ ap (λ r. r ++ more) (sym e)) (f (bytes ++ more) (h more)))
 
--- the bytes that were read, of which P is known as far as they tell the text
-pub record HeardSo (has has' : Option (List ℕ)) (P : List ℕ → Type 0) : Type 0 where
-  pub read : List ℕ
-  pub consumes : Consumes has has' read
-  pub so : HoldsOfText (IsAtEnd has') read P
-
 -- a call that answers the fault of a line
 pub heard_fault : (A : TypeTree) (has has' has'' : Option (List ℕ)) (s : ReaderState) (p : List (ℕ × Datum)) (got : List ℕ) (fault : StreamFault)
     → Heard A has has' s p → Consumes has' has'' got → s.met ≡ M.Nothing → FaultyLine A (IsAtEnd has'') s (s.kept ++ got) fault
@@ -196,10 +183,6 @@ heard_fault A has has' has'' s p got fault h c m f =
           (λ text e. w.hold.whole text ∙ ap (then_held p) e ∙ ap (λ ys. record { taken = ys; fault = Some fault }) (append-nil p))
           (faulty_text A (IsAtEnd has'') s (s.kept ++ got) fault f);
     }
-
--- the samples so far are the first of the text
-abbrev pub BeginsWith : TypeTree → List (ℕ × Datum) → List ℕ → Type 0
-BeginsWith A p text = (later : List (ℕ × Datum)) × ((samples A text).taken ≡ p ++ later)
 
 pub heard_so_far : (A : TypeTree) (has has' : Option (List ℕ)) (s : ReaderState) (p : List (ℕ × Datum)) → Heard A has has' s p → HeardSo has has' (BeginsWith A p)
 heard_so_far A has has' s p h = record { read = h.read; consumes = h.consumes; so = go s.met h.tells }
@@ -227,12 +210,6 @@ heard_short A has has' has'' s p got h c m =
           (inr (λ more. tt));
     }
 
--- the bytes that were read hold the samples so far, and show no fault
-pub record HeardFront (A : TypeTree) (has has' : Option (List ℕ)) (p : List (ℕ × Datum)) : Type 0 where
-  pub read : List ℕ
-  pub consumes : Consumes has has' read
-  pub all : front A read ≡ record { taken = p; fault = None }
-
 -- a call that could not read on
 pub heard_unread : (A : TypeTree) (has has' has'' : Option (List ℕ)) (s s' : ReaderState) (p : List (ℕ × Datum)) (got : List ℕ) → Heard A has has' s p
     → Consumes has' has'' got → Unfinished s (s.kept ++ got) s' → HeardFront A has has'' p
@@ -244,3 +221,34 @@ heard_unread A has has' has'' s s' p got h c u =
       all = ap (λ r. front A (r ++ got)) w.parts ∙ ap (front A) (append_assoc w.consumed s.kept got) ∙ w.hold.so_far (s.kept ++ got)
           ∙ ap (λ ls. then_held p (samples_from A (suc s.lines) s.before ls)) u.no_line ∙ ap (λ ys. record { taken = ys; fault = None }) (append-nil p);
     }
+
+pub begin_law : BeginLaw
+begin_law A has s f = heard_none A has s f
+
+pub more_law : MoreLaw
+more_law A has has' has'' s s' p x h g = heard_more A has has' has'' s s' p x h g
+
+pub end_law : EndLaw
+end_law A has has' has'' s s' p h g = heard_end A has has' has'' s s' p h g
+
+pub faulty_law : FaultyLaw
+faulty_law A has has' has'' s s' p fault h g o = go fault o g.gives.why
+  where
+    go : (f : StreamFault) → IsOfText f → HasFault A (IsAtEnd has'') s (s.kept ++ g.got) f s'
+        → HeardSo has has'' (λ text. samples A text ≡ record { taken = p; fault = Some f })
+    go (S.Step k) t w = heard_fault A has has' has'' s p g.got (S.Step k) h g.consumes w.0 w.1
+    go (S.Value k v) t w = heard_fault A has has' has'' s p g.got (S.Value k v) h g.consumes w.0 w.1
+    go (S.NothingBefore k) t w = heard_fault A has has' has'' s p g.got (S.NothingBefore k) h g.consumes w.0 w.1
+    go (S.LineTooLong k) t w = heard_fault A has has' has'' s p g.got (S.LineTooLong k) h g.consumes w.0 w.1
+    go (S.TooManySamples k) t w = heard_fault A has has' has'' s p g.got (S.TooManySamples k) h g.consumes w.0 w.1
+    go S.ReadTurns t w = absurd t
+    go S.Read t w = absurd t
+    go S.Memory t w = absurd t
+    go S.Ended t w = absurd t
+
+pub unread_law : UnreadLaw
+unread_law A has has' has'' s s' p fault h g o = go fault o g.gives.why
+  where
+    go : (f : StreamFault) → (f ≡ S.Read) ⊎ (f ≡ S.ReadTurns) → HasFault A (IsAtEnd has'') s (s.kept ++ g.got) f s' → HeardFront A has has'' p
+    go f (inl e) w = heard_unread A has has' has'' s s' p g.got h g.consumes (subst (λ k. HasFault A (IsAtEnd has'') s (s.kept ++ g.got) k s') e w)
+    go f (inr e) w = let t = subst (λ k. HasFault A (IsAtEnd has'') s (s.kept ++ g.got) k s') e w in heard_unread A has has' has'' s s' p g.got h g.consumes t.0

@@ -5,3 +5,4 @@ pub mod Steps
 pub mod Samples
 pub mod Answers
 pub mod Hearing
+pub mod WholeValues

@@ -11,3 +11,4 @@ pub mod LineTaken
 pub mod ReaderState
 pub mod LineReaderView
 pub mod Hearing
+pub mod ValueLines

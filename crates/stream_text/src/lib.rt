@@ -5,6 +5,7 @@
 mod device;
 mod fault;
 mod kept;
+mod laws;
 mod line;
 mod reader;
 mod settle;
@@ -12,4 +13,5 @@ mod step_text;
 
 pub use device::{Counted, Device};
 pub use fault::StreamFault;
+pub use laws::stream_laws;
 pub use reader::{LineReader, LineState};

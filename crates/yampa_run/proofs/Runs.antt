@@ -18,13 +18,13 @@ use Rattle.net_syntax.proofs.Meanings.{outputs-take, length-outputs}
 use Rattle.net_syntax.proofs.PlainSteps.{prefixes_push}
 use Rattle.step_core.specs.RunnerState.{RunnerState, StandsFor, Pushes, network_in, last_visits_of}
 use Rattle.stream_text.specs.Answers.{ReaderState, IsFresh, HasFault, GivesAnswer}
-use Rattle.stream_text.specs.Hearing.{HoldsOfText, Heard, Tells}
+use Rattle.stream_text.specs.Hearing.{HoldsOfText, Heard, HeardAll, HeardSo, HeardFront, BeginsWith, Tells}
 use Rattle.stream_text.specs.StreamText.{IsBefore, IsOfText, Samples, front, samples}
 use Rattle.stream_text.specs.StreamView.{sample_view}
 use Rattle.stream_text.specs.declared.fault.StreamFault.{StreamFault}
 use Rattle.stream_text.specs.declared.fault.StreamFault.TheVariants as S
 use Rattle.stream_text.specs.declared.reader.Met.TheVariants as M
-use Rattle.stream_text.proofs.Hearing.{HeardAll, HeardSo, HeardFront, BeginsWith, heard_none, heard_more, heard_end, heard_fault, heard_so_far, heard_short, heard_unread}
+use Rattle.stream_text.proofs.Hearing.{heard_none, heard_more, heard_end, heard_fault, heard_so_far, heard_short, heard_unread}
 use Rattle.stream_text.proofs.Settling.{consumes_none}
 use Rattle.yampa_run.specs.FaultLines.{EndsRun}
 use Rattle.yampa_run.specs.Output.{spelled_lines, line_feeds, line_of_value, greatest, most_visits_of, output_on, output_of}
