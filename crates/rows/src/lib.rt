@@ -8,9 +8,9 @@ mod built;
 #[cfg(test)]
 mod commands;
 #[cfg(test)]
-mod files;
-#[cfg(test)]
 mod devices;
+#[cfg(test)]
+mod files;
 #[cfg(test)]
 mod forms;
 #[cfg(test)]

@@ -1,8 +1,8 @@
 -- What is known of the next line gives the answer.
-use Rattle.std.proofs.Common.{◌≡◌, ◌≤◌, ◌<◌, ◌+◌, ◌^◌, ℕ, suc, true, List, [], ◌∷◌, ◌++◌, length, take, drop, Option, Some, None, Result, Ok, Err, refl, sym, ap, ◌∙◌, subst, arith, inl, inr, if◌then◌else◌}
+use Rattle.std.proofs.Common.{◌≡◌, ◌≤◌, ◌<◌, ◌+◌, ◌^◌, ℕ, suc, List, [], ◌∷◌, length, take, drop, Option, Some, None, Result, Ok, Err, refl, sym, ap, ◌∙◌, subst, arith, inl, inr}
 use Rattle.std.specs.Prelude.{◌≢◌, ◌⊎◌, IfOk, IfSome}
 use Rattle.std.proofs.lemmas.Grind.{common_steps}
-use Rattle.std.specs.Io.KnownBytes.{Consumes, IsAtEnd}
+use Rattle.std.specs.Io.KnownBytes.{IsAtEnd}
 use Rattle.std.specs.Option.{option_map, option_copied}
 use Rattle.std.specs.Borrow.{Bor}
 use Rattle.sample_core.specs.Datum.{Datum}
@@ -11,12 +11,12 @@ use Rattle.sample_core.specs.ReadingLaws.{ReadingLaw}
 use Rattle.sample_core.specs.TypeTree.{TypeTree}
 use Rattle.sample_core.specs.ValueView.{datum_of}
 use Rattle.sample_core.specs.declared.sample.Sample.{Sample}
-use Rattle.stream_text.specs.Answers.{ReaderState, SameLast, TakesLine, TakesSample, MeetsEnd, KnownLine, ended, shown, last, FaultyLine, Unfinished, HasFault, MeetsFault, IsAnswer, GivesAnswer}
-use Rattle.stream_text.specs.LineTaken.{KeepsSample, EndsFaulty, TakesKept, TakesLast}
+use Rattle.stream_text.specs.Answers.{ReaderState, SameLast, TakesLine, KnownLine, ended, shown, last, Unfinished, HasFault, IsAnswer, GivesAnswer}
+use Rattle.stream_text.specs.LineTaken.{TakesKept, TakesLast}
 use Rattle.stream_text.specs.Settling.{AsksAsNeeded, IsSettled, SettlesLine, Settles}
-use Rattle.stream_text.specs.StreamText.{IsBefore, IsOfText, line_read}
+use Rattle.stream_text.specs.StreamText.{IsBefore, line_read}
 use Rattle.stream_text.specs.StreamView.{before_view, sample_view}
-use Rattle.stream_text.specs.TextLines.{IsFeedFree, IsFirstFeed, HasLine, front_lines, shows_fault}
+use Rattle.stream_text.specs.TextLines.{HasLine, front_lines, shows_fault}
 use Rattle.stream_text.specs.declared.fault.StreamFault.{StreamFault}
 use Rattle.stream_text.specs.declared.fault.StreamFault.TheVariants as S
 use Rattle.stream_text.specs.declared.reader.Met.{Met}

@@ -1,16 +1,16 @@
 -- Successive calls answer the samples of the stream in order, and then its end or its fault.
-use Rattle.std.proofs.Common.{◌≡◌, ◌+◌, ℕ, suc, List, [], ◌∷◌, ◌++◌, length, Option, Some, None, Result, Ok, Err, refl, sym, ap, ◌∙◌, subst, arith, append_assoc, append-nil, length-append, inl, inr}
+use Rattle.std.proofs.Common.{◌≡◌, ◌+◌, ℕ, suc, List, [], ◌∷◌, ◌++◌, length, Option, Some, None, Ok, Err, refl, sym, ap, ◌∙◌, subst, arith, append_assoc, append-nil, length-append, inl, inr}
 use Rattle.std.specs.Prelude.{◌≢◌, ◌⊎◌, ⊤}
 use Rattle.std.specs.Io.KnownBytes.{Consumes, IsAtEnd}
 use Rattle.sample_core.specs.Datum.{Datum}
 use Rattle.sample_core.specs.TypeTree.{TypeTree}
 use Rattle.sample_core.specs.declared.sample.Sample.{Sample}
-use Rattle.stream_text.specs.Answers.{ReaderState, IsFresh, SameLast, TakesLine, TakesSample, MeetsEnd, KnownLine, ended, shown, last, FaultyLine, Unfinished, HasFault, MeetsFault, IsAnswer, GivesAnswer}
+use Rattle.stream_text.specs.Answers.{ReaderState, IsFresh, TakesLine, KnownLine, ended, shown, last, FaultyLine, Unfinished, HasFault, GivesAnswer}
 use Rattle.stream_text.specs.Hearing.{HoldsOfText, then_held, HoldSamples, IsWithin, Tells, Heard, HeardAll, HeardSo, HeardFront, BeginsWith, BeginLaw, MoreLaw, EndLaw, FaultyLaw, UnreadLaw}
 use Rattle.stream_text.specs.Settling.{AsksAsNeeded}
-use Rattle.stream_text.specs.StreamText.{IsOfText, Samples, samples, front, samples_from, then_samples, line_read}
+use Rattle.stream_text.specs.StreamText.{IsOfText, samples, front, samples_from, then_samples, line_read}
 use Rattle.stream_text.specs.StreamView.{sample_view}
-use Rattle.stream_text.specs.TextLines.{HasLine, IsFeedFree, front_lines, lines_of, shows_fault}
+use Rattle.stream_text.specs.TextLines.{HasLine, front_lines, lines_of}
 use Rattle.stream_text.specs.declared.fault.StreamFault.{StreamFault}
 use Rattle.stream_text.specs.declared.fault.StreamFault.TheVariants as S
 use Rattle.stream_text.specs.declared.reader.Met.{Met}
@@ -54,15 +54,15 @@ holds_more : (A : TypeTree) (consumed : List ℕ) (p : List (ℕ × Datum)) (lin
 holds_more A consumed p lines before bytes line rest x h l e = record {
   whole = (
       λ more. ap (samples A) (behind_line consumed line more) ∙ h.whole (line ++ (10 ∷ more))
-          ∙ ap (λ ls. then_held p (samples_from A (suc lines) before ls)) (lines-has (line ++ (10 ∷ more)) line more (record { one_line = l.one_line; ended = refl }))
-          ∙ grown A p lines before line x (lines_of more) e
-  );
+      ∙ ap (λ ls. then_held p (samples_from A (suc lines) before ls)) (lines-has (line ++ (10 ∷ more)) line more (record { one_line = l.one_line; ended = refl }))
+      ∙ grown A p lines before line x (lines_of more) e
+      );
   so_far = (
       λ more. ap (front A) (behind_line consumed line more) ∙ h.so_far (line ++ (10 ∷ more))
-          ∙ ap (λ ls. then_held p (samples_from A (suc lines) before ls))
-          (front-has (suc lines) (line ++ (10 ∷ more)) line more (record { one_line = l.one_line; ended = refl }))
-          ∙ grown A p lines before line x (front_lines (suc (suc lines)) more) e
-  );
+      ∙ ap (λ ls. then_held p (samples_from A (suc lines) before ls))
+      (front-has (suc lines) (line ++ (10 ∷ more)) line more (record { one_line = l.one_line; ended = refl }))
+      ∙ grown A p lines before line x (front_lines (suc (suc lines)) more) e
+      );
 }
 
 -- what is told where nothing has ended the stream
@@ -99,7 +99,7 @@ heard_more A has has' has'' s s' p x h g = record {
       t.0,
       ap (samples A) all ∙ w.hold.whole (s.kept ++ g.got) ∙ ap (λ ls. then_held p (samples_from A (suc s.lines) s.before ls)) t.1
           ∙ grown A p s.lines s.before g.gives.line (sample_view x) [] g.gives.reads
-          ∙ ap (λ ys. record { taken = ys; fault = None }) (append-nil (p ++ sample_view x ∷ []))
+          ∙ ap (λ ys. record { taken = ys; fault = None }) (append-nil (p ++ sample_view x ∷ [])),
     )
     go M.Fault t = absurd t
 
@@ -147,17 +147,17 @@ faulty_text A end s bytes fault f = go f.known
     go : KnownLine end (suc s.lines) bytes f.line
         → HoldsOfText end bytes (λ text. samples_from A (suc s.lines) s.before (lines_of text) ≡ record { taken = []; fault = Some fault })
     go (ended rest h) = inr (
-      λ more. ap (samples_from A (suc s.lines) s.before)
-          (lines-has (bytes ++ more) f.line (rest ++ more)
-          (record { one_line = h.one_line; ended = ap (λ b. b ++ more) h.ended ∙ append_assoc f.line (10 ∷ rest) more }))
-          ∙ refused f.line (lines_of (rest ++ more)) f.refuses
-    )
+        λ more. ap (samples_from A (suc s.lines) s.before)
+        (lines-has (bytes ++ more) f.line (rest ++ more)
+        (record { one_line = h.one_line; ended = ap (λ b. b ++ more) h.ended ∙ append_assoc f.line (10 ∷ rest) more }))
+        ∙ refused f.line (lines_of (rest ++ more)) f.refuses
+        )
     go (shown e free h) = inr (
-      λ more. let on : GoesOn bytes more = lines-on bytes more (shown_some (suc s.lines) (length bytes) h) free in
-          ap (samples_from A (suc s.lines) s.before) on.2
-          ∙ refused (bytes ++ on.0) on.1
-          (shown_on A (suc s.lines) s.before bytes on.0 fault h (subst (λ l. line_read A (suc s.lines) s.before l ≡ Err fault) e f.refuses))
-    )
+        λ more. let on : GoesOn bytes more = lines-on bytes more (shown_some (suc s.lines) (length bytes) h) free in
+        ap (samples_from A (suc s.lines) s.before) on.2
+        ∙ refused (bytes ++ on.0) on.1
+        (shown_on A (suc s.lines) s.before bytes on.0 fault h (subst (λ l. line_read A (suc s.lines) s.before l ≡ Err fault) e f.refuses))
+        )
     go (last e h) = inl (e, ap (samples_from A (suc s.lines) s.before) h ∙ refused f.line [] f.refuses)
 
 -- a text's part behind what is consumed
@@ -189,10 +189,12 @@ heard_so_far A has has' s p h = record { read = h.read; consumes = h.consumes; s
   where
     go : (m : Met) → Tells A (IsAtEnd has') s h.read p m → HoldsOfText (IsAtEnd has') h.read (BeginsWith A p)
     go M.Nothing w = inr (
-      λ more. ((samples_from A (suc s.lines) s.before (lines_of (s.kept ++ more))).taken,
-      ap (λ r. (samples A (r ++ more)).taken) w.parts ∙ ap (λ t. (samples A t).taken) (append_assoc w.consumed s.kept more)
-          ∙ ap (λ h. h.taken) (w.hold.whole (s.kept ++ more)))
-    )
+        λ more. (
+          (samples_from A (suc s.lines) s.before (lines_of (s.kept ++ more))).taken,
+          ap (λ r. (samples A (r ++ more)).taken) w.parts ∙ ap (λ t. (samples A t).taken) (append_assoc w.consumed s.kept more)
+              ∙ ap (λ h. h.taken) (w.hold.whole (s.kept ++ more)),
+        )
+        )
     go M.End t = inl (t.0, ([], ap (λ h. h.taken) t.1 ∙ sym (append-nil p)))
     go M.Fault t = absurd t
 

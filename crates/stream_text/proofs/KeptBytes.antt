@@ -1,8 +1,8 @@
 -- The bytes that are kept, as parts of what holds them.
-use Rattle.std.proofs.Common.{◌≡◌, ◌<◌, ◌≤◌, ◌+◌, ◌-◌, ℕ, List, [], ◌∷◌, ◌++◌, length, take, drop, append_assoc, suc, zero-add, refl, sym, ap, ◌∙◌, subst, arith}
+use Rattle.std.proofs.Common.{◌≡◌, ◌≤◌, ◌+◌, ◌-◌, ℕ, List, [], ◌∷◌, ◌++◌, length, take, drop, append_assoc, suc, zero-add, ap, ◌∙◌, subst, arith}
 use Rattle.std.proofs.lemmas.Grind.{common_steps}
 use Rattle.stream_text.specs.TextLines.{IsFeedFree, IsFirstFeed}
-use Rattle.stream_text.proofs.Lines.{first_both, free_both, free_take}
+use Rattle.stream_text.proofs.Lines.{first_both, free_both}
 
 rest_is : (ys items : List ℕ) (start searched : ℕ) → ys ≡ items
     → take (length ys - (start + searched)) (drop (start + searched) ys) ≡ drop searched (drop start items)

@@ -6,3 +6,7 @@ pub mod Samples
 pub mod Answers
 pub mod Hearing
 pub mod WholeValues
+pub mod StepLaws
+pub mod LineLaws
+pub mod FeedFree
+pub mod WrittenStreams

@@ -21,7 +21,7 @@ use Rattle.stream_text.specs.declared.fault.StreamFault.TheVariants as S
 use Rattle.stream_text.proofs.Steps.{digit_in_range, next_value}
 
 -- what is answered where a test does not refuse
-from_else : {X : Type 0} (b : Bool) (f : StreamFault) (r : Result X StreamFault) (x : X) → (if b then Err f else r) ≡ Ok x → r ≡ Ok x
+pub from_else : {X : Type 0} (b : Bool) (f : StreamFault) (r : Result X StreamFault) (x : X) → (if b then Err f else r) ≡ Ok x → r ≡ Ok x
 from_else true f r x h = absurd (cc)
 from_else false f r x h = h
 
@@ -39,7 +39,7 @@ whole_typed law A n bs v e = go (reading A bs) refl e
     go (Err f) q h = absurd (cc)
     go (Ok (w, taken)) q h = subst (λ u. HasType u A) (chosen (nat_eq taken (length bs)) w taken h) ((law A bs w taken).0 q).1.typed
 
-with_step_from : (d : ℕ) (r : Result Datum StreamFault) (x : ℕ × Datum) → with_step d r ≡ Ok x → (r ≡ Ok x.1) × (x.0 ≡ d)
+pub with_step_from : (d : ℕ) (r : Result Datum StreamFault) (x : ℕ × Datum) → with_step d r ≡ Ok x → (r ≡ Ok x.1) × (x.0 ≡ d)
 with_step_from d (Ok v) x h =
     let e : (d, v) ≡ x = is_ok h in
     (ap (λ y. Ok y.1) e, sym (ap (λ y. y.0) e))
@@ -97,7 +97,7 @@ followed_is true d (Some rest) s h = (refl, ap (λ y. y.0) (let e : (d, rest) �
 followed_is true d None s h = absurd (cc)
 followed_is false d o s h = absurd (cc)
 
-stepped_range : (line : List ℕ) (s : ℕ × List ℕ) → step_in line ≡ Some s → (1 ≤ s.0) × (s.0 < 2 ^ 63)
+pub stepped_range : (line : List ℕ) (s : ℕ × List ℕ) → step_in line ≡ Some s → (1 ≤ s.0) × (s.0 < 2 ^ 63)
 stepped_range line s h = go (behind 43 line) h
   where
     go : (o : Option (List ℕ)) → step_if o ≡ Some s → (1 ≤ s.0) × (s.0 < 2 ^ 63)
@@ -109,7 +109,7 @@ stepped_range line s h = go (behind 43 line) h
         subst (λ n. (1 ≤ n) × (n < 2 ^ 63)) f.1 (step_range ds (first_of_while is_ascii_digit bs) f.0)
 
 -- behind the limits, the line is read by what it holds
-after_limits : (A : TypeTree) (n : ℕ) (before : Option Datum) (line : List ℕ) (x : ℕ × Datum) → line_read A n before line ≡ Ok x
+pub after_limits : (A : TypeTree) (n : ℕ) (before : Option Datum) (line : List ℕ) (x : ℕ × Datum) → line_read A n before line ≡ Ok x
     → line_after A n before line ≡ Ok x
 after_limits A n before line x h = from_else (nat_lt 65536 (length line)) _ _ x (from_else (nat_lt 1000000 n) _ _ x h)
 

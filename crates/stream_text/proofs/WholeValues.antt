@@ -1,6 +1,6 @@
 -- Bytes that are one value are its spelling.
-use Rattle.std.proofs.Common.{◌≡◌, ◌+◌, ℕ, Bool, true, false, nat_eq, List, [], ◌++◌, length, take, drop, Result, Ok, Err, refl, sym, ap, ◌∙◌, subst, arith, append-nil, length-append, if◌then◌else◌}
-use Rattle.std.specs.Prelude.{◌↔◌, ◌&&◌}
+use Rattle.std.proofs.Common.{◌≡◌, ℕ, Bool, true, false, nat_eq, List, [], ◌++◌, length, drop, Result, Ok, Err, refl, sym, ap, ◌∙◌, subst, arith, append-nil, if◌then◌else◌}
+use Rattle.std.specs.Prelude.{◌&&◌}
 use Rattle.std.proofs.lemmas.Bool.{eqb-true}
 use Rattle.std.proofs.lemmas.Bool.Decides.{nat_tests}
 use Rattle.std.proofs.lemmas.Grind.{common_steps}
@@ -15,8 +15,7 @@ use Rattle.sample_core.specs.Words.{goes_on}
 use Rattle.sample_core.specs.declared.fault.ValueFault.{ValueFault}
 use Rattle.sample_core.specs.declared.fault.ValueFault.TheVariants as V
 use Rattle.stream_text.specs.StreamText.{if_whole, whole_value}
-use Rattle.stream_text.specs.ValueLines.{WholeValueLaw}
-use Rattle.stream_text.specs.declared.fault.StreamFault.{StreamFault}
+use Rattle.stream_text.specs.LineLaws.{WholeValueLaw}
 use Rattle.stream_text.specs.declared.fault.StreamFault.TheVariants as S
 
 dropped : (bs : List ℕ) (n : ℕ) → n ≡ length bs → drop n bs ≡ []

@@ -55,10 +55,10 @@ pub record Heard (A : TypeTree) (has has' : Option (List ℕ)) (s : ReaderState)
 -- all bytes were read: they hold the samples p, and no fault
 pub record HeardAll (A : TypeTree) (has has' : Option (List ℕ)) (p : List (ℕ × Datum)) : Type 0
   where
-  pub read : List ℕ
-  pub consumes : Consumes has has' read
-  pub at_end : IsAtEnd has'
-  pub all : samples A read ≡ record { taken = p; fault = None }
+    pub read : List ℕ
+    pub consumes : Consumes has has' read
+    pub at_end : IsAtEnd has'
+    pub all : samples A read ≡ record { taken = p; fault = None }
 
 -- the bytes that were read, of which P is known as far as they tell the text
 pub record HeardSo (has has' : Option (List ℕ)) (P : List ℕ → Type 0) : Type 0 where
@@ -73,9 +73,9 @@ BeginsWith A p text = (later : List (ℕ × Datum)) × ((samples A text).taken �
 -- the bytes that were read hold the samples so far, and show no fault
 pub record HeardFront (A : TypeTree) (has has' : Option (List ℕ)) (p : List (ℕ × Datum)) : Type 0
   where
-  pub read : List ℕ
-  pub consumes : Consumes has has' read
-  pub all : front A read ≡ record { taken = p; fault = None }
+    pub read : List ℕ
+    pub consumes : Consumes has has' read
+    pub all : front A read ≡ record { taken = p; fault = None }
 
 -- a stream of which nothing was read has answered nothing
 abbrev pub BeginLaw : Type 0

@@ -11,4 +11,5 @@ pub mod LineTaken
 pub mod ReaderState
 pub mod LineReaderView
 pub mod Hearing
-pub mod ValueLines
+pub mod LineLaws
+pub mod WrittenStreams

@@ -1,10 +1,7 @@
 -- What a reader of lines keeps from call to call.
-use Rattle.std.specs.Prelude.{ℕ, List, Option}
 use Rattle.std.specs.Option.{option_map}
-use Rattle.sample_core.specs.Datum.{Datum}
 use Rattle.sample_core.specs.ValueView.{datum_of}
 use Rattle.stream_text.specs.declared.reader.LineState.{LineState}
-use Rattle.stream_text.specs.declared.reader.Met.{Met}
 use Rattle.stream_text.specs.Answers.{ReaderState}
 
 -- what is kept of a stream, as bytes, numbers and a value

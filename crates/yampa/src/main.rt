@@ -139,12 +139,7 @@ fn run_bound(rt: &HostRuntime, bound: &Bound, table: &LeafTable) -> u8
 }
 
 /// The same with the output that is held back.
-fn run_printed(
-    rt: &HostRuntime,
-    bound: &Bound,
-    table: &LeafTable,
-    output: &RefCell<Output>,
-) -> u8
+fn run_printed(rt: &HostRuntime, bound: &Bound, table: &LeafTable, output: &RefCell<Output>) -> u8
     requires { FitsTable (rows_of table.now) bound.now }
 {
     let input = Input::new(rt.stdin(), output);

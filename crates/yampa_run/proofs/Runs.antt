@@ -1,7 +1,7 @@
 -- A run, sample by sample.
-use Rattle.std.proofs.Common.{◌≡◌, ◌≤◌, ◌<◌, ◌+◌, ◌^◌, ℕ, zero, suc, List, [], ◌∷◌, ◌++◌, length, take, drop, Option, Some, None, Result, Ok, Err, refl, sym, ap, ◌∙◌, subst, arith, append_assoc, append-nil, take-append-drop, length-append, inl, inr}
-use Rattle.std.specs.Prelude.{◌≢◌, ◌⊎◌, map, max, ⊤}
-use Rattle.std.specs.Io.KnownBytes.{Appends, Consumes, IsAtEnd}
+use Rattle.std.proofs.Common.{◌≡◌, ◌≤◌, ◌<◌, ◌+◌, ◌^◌, ℕ, suc, List, [], ◌∷◌, ◌++◌, length, take, drop, Option, Some, None, Ok, Err, refl, sym, ap, ◌∙◌, subst, arith, append_assoc, append-nil, take-append-drop, inl, inr}
+use Rattle.std.specs.Prelude.{◌⊎◌, map, max}
+use Rattle.std.specs.Io.KnownBytes.{Appends, IsAtEnd}
 use Rattle.std.proofs.lemmas.List.{take_at}
 use Rattle.sample_core.specs.Datum.{Datum}
 use Rattle.sample_core.specs.HasType.{HasType}
@@ -16,24 +16,24 @@ use Rattle.net_syntax.specs.SignalFunction.{TimedList, prefixes}
 use Rattle.net_syntax.specs.TypedNetwork.{stream_of}
 use Rattle.net_syntax.proofs.Meanings.{outputs-take, length-outputs}
 use Rattle.net_syntax.proofs.PlainSteps.{prefixes_push}
-use Rattle.step_core.specs.RunnerState.{RunnerState, StandsFor, Pushes, network_in, last_visits_of}
+use Rattle.step_core.specs.RunnerState.{RunnerState, StandsFor, network_in, last_visits_of}
 use Rattle.stream_text.specs.Answers.{ReaderState, IsFresh, HasFault, GivesAnswer}
 use Rattle.stream_text.specs.Hearing.{HoldsOfText, Heard, HeardAll, HeardSo, HeardFront, BeginsWith, Tells}
-use Rattle.stream_text.specs.StreamText.{IsBefore, IsOfText, Samples, front, samples}
+use Rattle.stream_text.specs.StreamText.{IsBefore, IsOfText, samples}
 use Rattle.stream_text.specs.StreamView.{sample_view}
 use Rattle.stream_text.specs.declared.fault.StreamFault.{StreamFault}
 use Rattle.stream_text.specs.declared.fault.StreamFault.TheVariants as S
-use Rattle.stream_text.specs.declared.reader.Met.TheVariants as M
 use Rattle.stream_text.proofs.Hearing.{heard_none, heard_more, heard_end, heard_fault, heard_so_far, heard_short, heard_unread}
+use Rattle.stream_text.proofs.FeedFree.{spelling_free}
 use Rattle.stream_text.proofs.Settling.{consumes_none}
 use Rattle.yampa_run.specs.FaultLines.{EndsRun}
-use Rattle.yampa_run.specs.Output.{spelled_lines, line_feeds, line_of_value, greatest, most_visits_of, output_on, output_of}
-use Rattle.yampa_run.specs.Runs.{Moves, RunsToEnd, IsOutput, StopsAtFault, StopsUnread, BeginsOutput, StopsWithin, Stops, Answers, IsPartOfLine, Breaks, run_fault_of, stream_fault_of}
+use Rattle.yampa_run.specs.Output.{spelled_lines, line_feeds, line_of_value, greatest, most_visits_of, output_of}
+use Rattle.yampa_run.specs.Runs.{RunsToEnd, IsOutput, StopsAtFault, StopsUnread, BeginsOutput, StopsWithin, Stops, Answers, IsPartOfLine, Breaks, run_fault_of, stream_fault_of}
 use Rattle.yampa_run.specs.declared.fault.RunFault.{RunFault}
 use Rattle.yampa_run.specs.declared.fault.RunFault.TheVariants as U
 use Rattle.yampa_run.specs.declared.stream_run.Stop.{Stop}
 use Rattle.yampa_run.specs.declared.stream_run.Stop.TheVariants as T
-use Rattle.yampa_run.proofs.Written.{appends_none, appends_both, spelling_free, feeds-free, feeds-append, feeds-lines, part_free}
+use Rattle.yampa_run.proofs.Written.{appends_none, appends_both, feeds-free, feeds-append, feeds-lines, part_free}
 
 -- So far: the samples p were answered, the runner stands for them, and their lines are written.
 pub record Progress (A : TypeTree) (net : Network Expression) (has has' holds holds' : Option (List ℕ)) (s : ReaderState) (r : RunnerState) (lines most : ℕ) : Type 0 where
@@ -75,10 +75,11 @@ later_lines : (net : Network Expression) (p later : TimedList) → (vs : List Da
 later_lines net p later =
     let all : List Datum = stream_of net (p ++ later) in
     let front : stream_of net p ≡ take (length p) all =
-    ap (stream_of net) (sym (take_at p later (length p) refl)) ∙ outputs-take value_of net closed (length p) (p ++ later) in
-    (drop (length p) all,
-    ap (λ vs. spelled_lines vs ++ spelled_lines (drop (length p) all)) front
-    ∙ sym (spelled-append (take (length p) all) (drop (length p) all)) ∙ ap spelled_lines (take-append-drop (length p) all))
+    ap (stream_of net) (sym (take_at p later (length p) refl)) ∙ outputs-take value_of net closed (length p) (p ++ later) in (
+      drop (length p) all,
+      ap (λ vs. spelled_lines vs ++ spelled_lines (drop (length p) all)) front
+          ∙ sym (spelled-append (take (length p) all) (drop (length p) all)) ∙ ap spelled_lines (take-append-drop (length p) all),
+    )
 
 greatest-push : (ns : List ℕ) (n : ℕ) → greatest (ns ++ n ∷ []) ≡ max (greatest ns) n
 greatest-push [] n = grind arith
@@ -172,10 +173,11 @@ within A net has has' holds holds' lines p written rest h w e c = record {
   where
     begun : (text : List ℕ) → BeginsWith A p text → BeginsOutput A net written text
     begun text t =
-        let more = later_lines net p t.0 in
-        (rest ++ spelled_lines more.0,
-        sym (append_assoc written rest (spelled_lines more.0)) ∙ ap (λ b. b ++ spelled_lines more.0) e ∙ more.1
-        ∙ ap (λ k. spelled_lines (stream_of net k)) (sym t.1))
+        let more = later_lines net p t.0 in (
+          rest ++ spelled_lines more.0,
+          sym (append_assoc written rest (spelled_lines more.0)) ∙ ap (λ b. b ++ spelled_lines more.0) e ∙ more.1
+              ∙ ap (λ k. spelled_lines (stream_of net k)) (sym t.1),
+        )
 
 -- a fault of the stream
 pub stream_stops : (A : TypeTree) (net : Network Expression) (has has' has'' holds holds' : Option (List ℕ)) (s s' : ReaderState) (r : RunnerState) (lines most : ℕ)

@@ -7,7 +7,6 @@ ghost use Rattle.sample_core.specs.TypeView.{type_of};
 ghost use Rattle.sample_core.specs.ValueView.{datum_of};
 ghost use Rattle.leaf_table.specs.Rows.{rows_of};
 ghost use Rattle.step_core.specs.Binding.{FitsTable};
-
 ghost use Rattle.step_core.specs.RowTyping.{network_by};
 ghost use Rattle.step_core.specs.RunnerState.{StandsFor, network_in};
 ghost use Rattle.step_core.specs.RunnerView.{runner_state};

@@ -1,5 +1,4 @@
-use Rattle.std.proofs.Common.{rules, ◌≡◌, ◌≤◌, ◌+◌, ◌++◌, ℕ, List, take, length, sym, subst, arith, ap, ◌∙◌}
-use Rattle.std.proofs.lemmas.Grind.{common_steps}
+use Rattle.std.proofs.Common.{rules, ◌≡◌, ◌≤◌, ◌+◌, take, length, arith, ◌∙◌}
 use Rattle.stream_text.proofs.KeptBytes.{read_part, resized_front}
 use Rattle.stream_text.proofs.kept.read_behind.Goals as goal
 

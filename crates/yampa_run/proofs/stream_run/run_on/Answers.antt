@@ -1,4 +1,4 @@
-use Rattle.std.proofs.Common.{refl, sym}
+use Rattle.std.proofs.Common.{refl}
 use Rattle.yampa_run.proofs.Runs.{begins, ends, goes_on, line_stops, stops, stream_stops}
 use Rattle.yampa_run.proofs.stream_run.run_on.Goals as goal
 

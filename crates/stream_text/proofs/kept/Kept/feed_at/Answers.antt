@@ -1,4 +1,4 @@
-use Rattle.std.proofs.Common.{◌≡◌, ◌≤◌, ◌+◌, ◌-◌, ℕ, List, length, vec_len, drop, sym, subst, arith}
+use Rattle.std.proofs.Common.{◌+◌, drop, subst, arith}
 use Rattle.std.proofs.lemmas.Grind.{common_steps}
 use Rattle.stream_text.specs.TextLines.{IsFeedFree, IsFirstFeed}
 use Rattle.stream_text.proofs.Lines.{free_take}
