@@ -7,6 +7,7 @@ use crate::keys::key_told;
 use crate::needs::need_told;
 use crate::network_types::{frozen_told, network_told};
 use crate::networks::file_told;
+use crate::piecewise::failing_told;
 use crate::reading::{expr_at_told, expr_told, type_at_told};
 use crate::runs::{missing_told, run_told, scantly_told, visited_told};
 use crate::scant_memory::scant_told;
@@ -70,6 +71,8 @@ pub enum Probe {
     Command,
     /// What a network's run on a stream writes: `FILE | STREAM`.
     Run,
+    /// The same where a device fails: `FILE | FAILURE | STREAM`.
+    Failing,
     /// How many nodes each sample visits: `FILE | STREAM`.
     Visits,
     /// The first expression of a network without a row in an empty table.
@@ -115,6 +118,7 @@ fn tell(alloc: Global, probe: Probe, given: &str, out: &mut String) {
         Probe::Part => part_told(alloc, given, out),
         Probe::Command => command_told(alloc, given, out),
         Probe::Run => run_told(alloc, given, out),
+        Probe::Failing => failing_told(alloc, given, out),
         Probe::Visits => visited_told(alloc, given, out),
         Probe::Missing => missing_told(alloc, given, out),
         Probe::Filled => filled_told(alloc, given, out),

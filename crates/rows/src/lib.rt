@@ -8,6 +8,8 @@ mod built;
 #[cfg(test)]
 mod commands;
 #[cfg(test)]
+mod devices;
+#[cfg(test)]
 mod files;
 #[cfg(test)]
 mod forms;
@@ -25,6 +27,8 @@ mod needs;
 mod network_types;
 #[cfg(test)]
 mod networks;
+#[cfg(test)]
+mod piecewise;
 #[cfg(test)]
 mod reading;
 #[cfg(test)]

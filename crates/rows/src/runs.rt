@@ -7,6 +7,7 @@ ghost use Rattle.yampa_run.specs.FaultLines.{EndsRun};
 
 use crate::commands::{refusal_told, status_told};
 use crate::found::{Probe, all_are_found};
+use crate::piecewise::{failure_tried, written_told};
 use crate::scant_pushes::scant_stream_told;
 use crate::tables::row_told;
 use crate::texts::{parted, say};
@@ -18,13 +19,15 @@ use net_types::check_types;
 use sample_core::{Memory, Sample};
 use std::alloc::Global;
 use step_core::{BindFault, Bound, bind};
-use yampa_run::{RunFault, RunReport, fault_line, fill_table, run_whole, table_refusal};
+use yampa_run::{RunFault, RunReport, fault_line, fill_table, table_refusal};
 
 /// What is tried of a network that is bound to a table of its closures.
 #[derive(Clone, Copy)]
 pub enum Trial<'a> {
     /// What its run on this stream writes.
     Run(&'a str),
+    /// What its run on a stream writes where a device fails: the failure, and the stream.
+    Failing(&'a str, &'a str),
     /// How many of its nodes each sample of this stream visits.
     Visits(&'a str),
     /// What its pushes of this stream's samples answer, where growths are refused in turn.
@@ -141,6 +144,9 @@ fn tried(alloc: Global, bound: &Bound, table: &LeafTable, trial: Trial<'_>, out:
 {
     match trial {
         Trial::Run(stream) => written_told(alloc, bound, table, stream, out),
+        Trial::Failing(failure, stream) => {
+            failure_tried(alloc, bound, table, failure, stream, out)
+        }
         Trial::Visits(stream) => visits_told(alloc, bound, table, stream, out),
         Trial::ScantStream(stream) => scant_stream_told(alloc, bound, table, stream, out),
         Trial::Call(need, x) => row_told(table, need, x, out),
@@ -148,16 +154,8 @@ fn tried(alloc: Global, bound: &Bound, table: &LeafTable, trial: Trial<'_>, out:
     }
 }
 
-fn written_told(alloc: Global, bound: &Bound, table: &LeafTable, stream: &str, out: &mut String)
-    requires { FitsTable (rows_of table.now) bound.now }
-{
-    let mut written = Vec::new(alloc);
-    let ended = run_whole(alloc, bound, table, stream.as_bytes(), &mut written);
-    say(out, str::from_utf8(&written).unwrap_or("no text"));
-    ended_told(alloc, ended, out);
-}
-
-fn ended_told(alloc: Global, ended: Result<RunReport, RunFault>, out: &mut String)
+/// Tells why a run ended early, where it did.
+pub fn ended_told(alloc: Global, ended: Result<RunReport, RunFault>, out: &mut String)
     requires { IfErr ended EndsRun }
 {
     if let Err(fault) = ended {

@@ -1,3 +1,12 @@
 pub mod Lines
+pub mod KeptBytes
+pub mod Settling
 pub mod Steps
 pub mod Samples
+pub mod Answers
+pub mod Hearing
+pub mod WholeValues
+pub mod StepLaws
+pub mod LineLaws
+pub mod FeedFree
+pub mod WrittenStreams

@@ -1,6 +1,6 @@
 -- What is read of a line: values of the type, and steps in range.
-use Rattle.std.proofs.Common.{◌≡◌, ◌≤◌, ◌<◌, ◌+◌, ◌*◌, ◌-◌, ◌^◌, ℕ, suc, Bool, true, false, nat_eq, nat_lt, List, [], ◌∷◌, length, take, drop, Option, Some, None, Result, Ok, Err, refl, sym, ap, ◌∙◌, subst, arith, if◌then◌else◌}
-use Rattle.std.specs.Prelude.{bytes_eq, codes, is_some}
+use Rattle.std.proofs.Common.{◌≡◌, ◌≤◌, ◌<◌, ◌+◌, ◌*◌, ◌-◌, ◌^◌, ℕ, suc, Bool, true, false, nat_eq, nat_lt, List, [], ◌∷◌, length, length-append, ◌++◌, take, drop, Option, Some, None, Result, Ok, Err, refl, sym, ap, ◌∙◌, subst, arith, if◌then◌else◌}
+use Rattle.std.specs.Prelude.{◌||◌, ◌&&◌, bytes_eq, codes, is_some, ⊤}
 use Rattle.std.specs.Char.{is_ascii_digit}
 use Rattle.std.specs.List.{prefix_len, take_while}
 use Rattle.std.specs.Str.Parse.{digits_value}
@@ -14,13 +14,14 @@ use Rattle.sample_core.specs.TypeTree.{TypeTree}
 use Rattle.sample_core.specs.declared.fault.ValueFault.{ValueFault}
 use Rattle.sample_core.specs.declared.fault.ValueFault.TheVariants as V
 use Rattle.stream_text.specs.StepText.{behind, is_step, step_then, step_if, step_in}
-use Rattle.stream_text.specs.StreamText.{IsBefore, if_whole, whole_value, with_step, first_line, later_line, line_after, line_read}
+use Rattle.stream_text.specs.StreamText.{IsBefore, IsOfText, if_whole, whole_value, with_step, first_line, later_line, line_after, line_read}
+use Rattle.stream_text.specs.TextLines.{shows_fault}
 use Rattle.stream_text.specs.declared.fault.StreamFault.{StreamFault}
 use Rattle.stream_text.specs.declared.fault.StreamFault.TheVariants as S
 use Rattle.stream_text.proofs.Steps.{digit_in_range, next_value}
 
 -- what is answered where a test does not refuse
-from_else : {X : Type 0} (b : Bool) (f : StreamFault) (r : Result X StreamFault) (x : X) → (if b then Err f else r) ≡ Ok x → r ≡ Ok x
+pub from_else : {X : Type 0} (b : Bool) (f : StreamFault) (r : Result X StreamFault) (x : X) → (if b then Err f else r) ≡ Ok x → r ≡ Ok x
 from_else true f r x h = absurd (cc)
 from_else false f r x h = h
 
@@ -38,7 +39,7 @@ whole_typed law A n bs v e = go (reading A bs) refl e
     go (Err f) q h = absurd (cc)
     go (Ok (w, taken)) q h = subst (λ u. HasType u A) (chosen (nat_eq taken (length bs)) w taken h) ((law A bs w taken).0 q).1.typed
 
-with_step_from : (d : ℕ) (r : Result Datum StreamFault) (x : ℕ × Datum) → with_step d r ≡ Ok x → (r ≡ Ok x.1) × (x.0 ≡ d)
+pub with_step_from : (d : ℕ) (r : Result Datum StreamFault) (x : ℕ × Datum) → with_step d r ≡ Ok x → (r ≡ Ok x.1) × (x.0 ≡ d)
 with_step_from d (Ok v) x h =
     let e : (d, v) ≡ x = is_ok h in
     (ap (λ y. Ok y.1) e, sym (ap (λ y. y.0) e))
@@ -96,7 +97,7 @@ followed_is true d (Some rest) s h = (refl, ap (λ y. y.0) (let e : (d, rest) �
 followed_is true d None s h = absurd (cc)
 followed_is false d o s h = absurd (cc)
 
-stepped_range : (line : List ℕ) (s : ℕ × List ℕ) → step_in line ≡ Some s → (1 ≤ s.0) × (s.0 < 2 ^ 63)
+pub stepped_range : (line : List ℕ) (s : ℕ × List ℕ) → step_in line ≡ Some s → (1 ≤ s.0) × (s.0 < 2 ^ 63)
 stepped_range line s h = go (behind 43 line) h
   where
     go : (o : Option (List ℕ)) → step_if o ≡ Some s → (1 ≤ s.0) × (s.0 < 2 ^ 63)
@@ -108,7 +109,7 @@ stepped_range line s h = go (behind 43 line) h
         subst (λ n. (1 ≤ n) × (n < 2 ^ 63)) f.1 (step_range ds (first_of_while is_ascii_digit bs) f.0)
 
 -- behind the limits, the line is read by what it holds
-after_limits : (A : TypeTree) (n : ℕ) (before : Option Datum) (line : List ℕ) (x : ℕ × Datum) → line_read A n before line ≡ Ok x
+pub after_limits : (A : TypeTree) (n : ℕ) (before : Option Datum) (line : List ℕ) (x : ℕ × Datum) → line_read A n before line ≡ Ok x
     → line_after A n before line ≡ Ok x
 after_limits A n before line x h = from_else (nat_lt 65536 (length line)) _ _ x (from_else (nat_lt 1000000 n) _ _ x h)
 
@@ -134,3 +135,76 @@ read_step law A n taken (Some v) line x t h l =
     let s : HasType x.1 A
     × ((rest : List ℕ) × (step_in line ≡ Some (x.0, rest))) = later_typed law A n v (step_in line) x t (after_limits A n (Some v) line x h) in
     stepped_range line (x.0, s.1.0) s.1.1
+
+-- whether a result, if it is a fault, is one that a line's text can have
+abbrev OfText : {X : Type 0} → Result X StreamFault → Type 0
+OfText (Ok x) = ⊤
+OfText (Err fault) = IsOfText fault
+
+either : {X : Type 0} (b : Bool) (r s : Result X StreamFault) → OfText r → OfText s → OfText (if b then r else s)
+either true r s h k = h
+either false r s h k = k
+
+whole_of_text : (A : TypeTree) (n d size : ℕ) (r : Result (Datum × ℕ) ValueFault) → OfText (with_step d (if_whole n size r))
+whole_of_text A n d size (Err fault) = tt
+whole_of_text A n d size (Ok (v, taken)) = go (nat_eq taken size)
+  where
+    go : (b : Bool) → OfText (with_step d (if b then Ok v else Err (S.Value n (V.NotAValue taken))))
+    go true = tt
+    go false = tt
+
+later_of_text : (A : TypeTree) (n : ℕ) (before : Datum) (o : Option (ℕ × List ℕ)) → OfText (later_line A n before o)
+later_of_text A n before None = tt
+later_of_text A n before (Some (d, bs)) = either (bytes_eq bs (codes "=")) _ _ tt (whole_of_text A n d (length bs) (reading A bs))
+
+after_of_text : (A : TypeTree) (n : ℕ) (before : Option Datum) (line : List ℕ) → OfText (line_after A n before line)
+after_of_text A n None line = either (is_some (behind 43 line)) _ _ tt
+    (either (bytes_eq line (codes "=")) _ _ tt (whole_of_text A n 0 (length line) (reading A line)))
+after_of_text A n (Some before) line = later_of_text A n before (step_in line)
+
+read_of_text : (A : TypeTree) (n : ℕ) (before : Option Datum) (line : List ℕ) → OfText (line_read A n before line)
+read_of_text A n before line = either (nat_lt 1000000 n) _ _ tt (either (nat_lt 65536 (length line)) _ _ tt (after_of_text A n before line))
+
+-- a line's fault is one that its text can have
+pub refused_of_text : (A : TypeTree) (n : ℕ) (before : Option Datum) (line : List ℕ) (fault : StreamFault) → line_read A n before line ≡ Err fault → IsOfText fault
+refused_of_text A n before line fault e = subst OfText e (read_of_text A n before line)
+
+-- a line that shows a fault holds no sample
+pub shown_no_sample : (A : TypeTree) (n : ℕ) (before : Option Datum) (line : List ℕ) (x : ℕ × Datum) → shows_fault n (length line) ≡ true
+    → line_read A n before line ≡ Ok x → ⊥
+shown_no_sample A n before line x s e = go (nat_lt 1000000 n) (nat_lt 65536 (length line)) (nat_lt 0 (length line)) s e
+  where
+    go : (many long some : Bool) → (long || (many && some)) ≡ true
+        → (if many then Err (S.TooManySamples n) else (if long then Err (S.LineTooLong n) else line_after A n before line)) ≡ Ok x → ⊥
+    go true long some q r = absurd (cc)
+    go false true some q r = absurd (cc)
+    go false false some q r = absurd (cc)
+
+-- where a line that shows a fault goes on, it shows the same
+pub shown_on : (A : TypeTree) (n : ℕ) (before : Option Datum) (line tail : List ℕ) (fault : StreamFault) → shows_fault n (length line) ≡ true
+    → line_read A n before line ≡ Err fault → line_read A n before (line ++ tail) ≡ Err fault
+shown_on A n before line tail fault s e = go (nat_lt 1000000 n) refl (nat_lt 65536 (length line)) refl (nat_lt 0 (length line)) s e
+  where
+    reads : Bool → Bool → List ℕ → Result (ℕ × Datum) StreamFault
+    reads many long l = if many then Err (S.TooManySamples n) else (if long then Err (S.LineTooLong n) else line_after A n before l)
+
+    go : (many : Bool) → nat_lt 1000000 n ≡ many → (long : Bool) → nat_lt 65536 (length line) ≡ long → (some : Bool) → (long || (many && some)) ≡ true
+        → (if many then Err (S.TooManySamples n) else (if long then Err (S.LineTooLong n) else line_after A n before line)) ≡ Err fault
+        → line_read A n before (line ++ tail) ≡ Err fault
+    go true m long l some q r =
+        ap (λ b. if b then Err (S.TooManySamples n) else (if nat_lt 65536 (length (line ++ tail)) then Err (S.LineTooLong n) else line_after A n before (line ++ tail))) m ∙ r
+    go false m true l some q r =
+        let more : nat_lt 65536 (length (line ++ tail)) ≡ true = (let k : length (line ++ tail) ≡ length line + length tail = length-append line tail in grind (arith, nat_tests, k, l)) in
+        ap (λ b. if b then Err (S.TooManySamples n) else (if nat_lt 65536 (length (line ++ tail)) then Err (S.LineTooLong n) else line_after A n before (line ++ tail))) m
+        ∙ ap (λ b. if b then Err (S.LineTooLong n) else line_after A n before (line ++ tail)) more ∙ r
+    go false m false l some q r = absurd (cc)
+
+-- bytes that show a fault are some
+pub shown_some : (n size : ℕ) → shows_fault n size ≡ true → 0 < size
+shown_some n size h = go (nat_lt 65536 size) refl (nat_lt 1000000 n) (nat_lt 0 size) refl h
+  where
+    go : (long : Bool) → nat_lt 65536 size ≡ long → (many some : Bool) → nat_lt 0 size ≡ some → (long || (many && some)) ≡ true → 0 < size
+    go true l many some s q = grind (arith, nat_tests, l)
+    go false l true true s q = grind (arith, nat_tests, s)
+    go false l true false s q = absurd (cc)
+    go false l false some s q = absurd (cc)

@@ -1,4 +1,15 @@
+pub mod Failures
+pub mod CountedView
 pub mod TextLines
+pub mod Pieces
+pub mod Settling
 pub mod StepText
 pub mod StreamView
 pub mod StreamText
+pub mod Answers
+pub mod LineTaken
+pub mod ReaderState
+pub mod LineReaderView
+pub mod Hearing
+pub mod LineLaws
+pub mod WrittenStreams

@@ -1,5 +1,5 @@
 -- The samples that the text of a stream holds, and its first fault.
-use Rattle.std.specs.Prelude.{◌≡◌, ℕ, suc, nat_eq, nat_lt, List, [], ◌∷◌, length, Option, Some, None, Result, Ok, Err, if◌then◌else◌, bytes_eq, codes, is_some}
+use Rattle.std.specs.Prelude.{◌≡◌, ℕ, suc, nat_eq, nat_lt, List, [], ◌∷◌, length, Option, Some, None, Result, Ok, Err, if◌then◌else◌, bytes_eq, codes, is_some, ⊤}
 use Rattle.sample_core.specs.Answer.{◌>>=◌, GivesUnless}
 use Rattle.sample_core.specs.Datum.{Datum}
 use Rattle.sample_core.specs.HasType.{HasType}
@@ -8,7 +8,7 @@ use Rattle.sample_core.specs.Reading.{reading}
 use Rattle.sample_core.specs.declared.fault.ValueFault.{ValueFault}
 use Rattle.sample_core.specs.declared.fault.ValueFault.TheVariants as V
 use Rattle.stream_text.specs.StepText.{behind, step_in}
-use Rattle.stream_text.specs.TextLines.{lines_of}
+use Rattle.stream_text.specs.TextLines.{front_lines, lines_of}
 use Rattle.stream_text.specs.declared.fault.StreamFault.{StreamFault}
 use Rattle.stream_text.specs.declared.fault.StreamFault.TheVariants as S
 
@@ -56,6 +56,14 @@ abbrev pub line_read : TypeTree → ℕ → Option Datum → List ℕ → Result
 line_read A n before line = if nat_lt 1000000 n then Err (S.TooManySamples n)
     else (if nat_lt 65536 (length line) then Err (S.LineTooLong n) else line_after A n before line)
 
+-- a fault that a line's text can have
+abbrev pub IsOfText : StreamFault → Type 0
+IsOfText S.ReadTurns = ⊥
+IsOfText S.Read = ⊥
+IsOfText S.Memory = ⊥
+IsOfText S.Ended = ⊥
+IsOfText _ = ⊤
+
 -- What a stream holds: the samples of the lines before the first faulty one, and that line's fault.
 pub record Samples : Type 0 where
   pub taken : List (ℕ × Datum)
@@ -75,6 +83,11 @@ samples_from A n before (line ∷ lines) =
 -- What a text holds, as a stream of values of type A.
 abbrev pub samples : TypeTree → List ℕ → Samples
 samples A text = samples_from A 1 None (lines_of text)
+
+-- What bytes hold that aren't known to be all: their last line counts only where it has its line
+-- feed or shows a fault already.
+abbrev pub front : TypeTree → List ℕ → Samples
+front A bs = samples_from A 1 None (front_lines 1 bs)
 
 -- What a call returned, seen by view, is what reading gives, unless memory ran out.
 abbrev pub Gives : {X Y : Type 0} → (X → Y) → Result X StreamFault → Result Y StreamFault → Type 0

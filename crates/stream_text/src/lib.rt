@@ -1,11 +1,17 @@
-//! The texts of streams: their lines, and the step and the value that a line holds.
+//! Streams: their samples from any reader, piece by piece, and readers and writers that count their
+//! failures.
 #![tactic(auto)]
 
+mod device;
 mod fault;
+mod kept;
+mod laws;
 mod line;
+mod reader;
+mod settle;
 mod step_text;
-mod text_lines;
 
+pub use device::{Counted, Device};
 pub use fault::StreamFault;
-pub use line::read_line;
-pub use text_lines::split_line;
+pub use laws::stream_laws;
+pub use reader::{LineReader, LineState};

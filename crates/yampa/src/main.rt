@@ -8,18 +8,22 @@ ghost use Rattle.step_core.specs.Binding.{FitsTable};
 ghost use Rattle.yampa_run.specs.FaultLines.{EndsRun};
 
 mod host;
+mod streams;
 
 use host::HostFiles;
 use leaf_table::{LeafTable, TableFault};
 use net_syntax::{LeafNeed, TypedNet, leaves};
 use sample_core::Memory;
 use std::alloc::Global;
+use std::cell::RefCell;
 use std::env;
-use std::io::{self, ErrorKind, Read, Write};
+use std::io::{self, BufReader, ErrorKind, Write};
 use std::process::ExitCode;
 use step_core::{BindFault, Bound, bind};
+use streams::{Input, Output, Printer, ROOM, give_held, has_failed};
 use yampa_run::{
-    Job, Refusal, RunFault, StreamFault, fault_line, fill_table, prepare, run_whole, table_refusal,
+    Counted, Job, Refusal, RunFault, fault_line, fill_table, prepare, run as run_lines,
+    table_refusal,
 };
 
 /// The status of a program that could not read, write or get memory.
@@ -128,36 +132,35 @@ fn run_on(rt: &HostRuntime, net: &TypedNet, table: &LeafTable) -> u8 {
 fn run_bound(rt: &HostRuntime, bound: &Bound, table: &LeafTable) -> u8
     requires { FitsTable (rows_of table.now) bound.now }
 {
-    let stream = match read_stream(rt) {
-        Ok(stream) => stream,
-        Err(fault) => return tell(rt, &fault),
-    };
-    let mut out = Vec::new(rt.alloc());
-    let ended = run_whole(rt.alloc(), bound, table, &stream, &mut out);
-    // The lines before a fault are printed first.
-    match print(rt, &out) {
-        Ok(()) => match ended {
-            Ok(_) => 0,
-            Err(fault) => tell(rt, &fault),
-        },
-        Err(fault) => tell(rt, &fault),
+    match Output::new(rt.alloc(), rt.stdout()) {
+        Ok(output) => run_printed(rt, bound, table, &RefCell::new(output)),
+        Err(Memory) => refuse(rt, &Refusal::Memory),
     }
 }
 
-/// All of standard input.
-fn read_stream(rt: &HostRuntime) -> Result<Vec<u8>, RunFault>
-    ensures { IfErr result EndsRun }
+/// The same with the output that is held back.
+fn run_printed(rt: &HostRuntime, bound: &Bound, table: &LeafTable, output: &RefCell<Output>) -> u8
+    requires { FitsTable (rows_of table.now) bound.now }
 {
-    let mut stream = Vec::new(rt.alloc());
-    match rt.stdin().read_to_end(&mut stream) {
-        Ok(_) => Ok(stream),
-        Err(error) => Err(match error.kind() {
-            ErrorKind::OutOfMemory => RunFault::Memory { lines: 0 },
-            _ => RunFault::Stream {
-                lines: 0,
-                fault: StreamFault::Read,
-            },
-        }),
+    let input = Input::new(rt.stdin(), output);
+    let Ok(input) = BufReader::with_capacity(rt.alloc(), ROOM, input) else {
+        return refuse(rt, &Refusal::Memory);
+    };
+    let mut reader = Counted::new(input);
+    let mut writer = Counted::new(Printer::new(output));
+    let ended = run_lines(rt.alloc(), bound, table, &mut reader, &mut writer);
+    drop(reader);
+    drop(writer);
+    // Where the host has refused output, the lines before a fault of the stream weren't all
+    // printed, so that is told, and not the stream's fault.
+    let given = give_held(output).is_ok();
+    if !given || has_failed(output) {
+        drop(ended);
+        return tell(rt, &RunFault::Write { lines: 0 });
+    }
+    match ended {
+        Ok(_) => 0,
+        Err(fault) => tell(rt, &fault),
     }
 }
 

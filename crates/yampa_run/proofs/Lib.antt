@@ -1,4 +1,4 @@
-pub mod Allowed
-pub mod RunSteps
+pub mod Written
+pub mod Runs
 mod Networks
 mod Refusals

@@ -1,6 +1,6 @@
 pub mod FaultLines
 pub mod Output
-pub mod RunSteps
+pub mod Runs
 pub mod KnownFiles
 pub mod RefusalLines
 pub mod Preparation

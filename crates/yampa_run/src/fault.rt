@@ -9,8 +9,8 @@ pub enum RunFault {
     /// The stream has a fault, or a read of it failed.
     #[error("the stream has a fault")]
     Stream { lines: u64, fault: StreamFault },
-    /// A write of the output failed. Where it isn't known how many lines were written, `lines` is
-    /// 0.
+    /// A write of the output failed or took no byte. Where it isn't known how many lines were
+    /// written, as of what the program prints, `lines` is 0.
     #[error("cannot be written")]
     Write { lines: u64 },
     /// A growth was refused.
@@ -23,4 +23,6 @@ pub enum RunFault {
 pub struct RunReport {
     /// The lines of output that were written, one for each sample.
     pub lines: u64,
+    /// The most nodes of the network that a sample visited; 0 where there was none.
+    pub most_visits: u32,
 }

@@ -9,7 +9,7 @@ mod laws;
 mod preparation;
 mod printed;
 mod refused;
-mod run;
+mod stream_run;
 
 pub use command_line::command_rows;
 pub use fault::{RunFault, RunReport};
@@ -18,5 +18,5 @@ pub use fill::table_refusal;
 pub use laws::refusal_laws;
 pub use preparation::{Job, Refusal, prepare};
 pub use printed::fault_line;
-pub use run::run_whole;
-pub use stream_text::StreamFault;
+pub use stream_run::run;
+pub use stream_text::{Counted, Device, LineReader, LineState, StreamFault};

@@ -1,0 +1,265 @@
+// Runs over readers that give pieces and fail, and writers that take little and fail.
+
+ghost use Rattle.leaf_table.specs.Rows.{rows_of};
+ghost use Rattle.step_core.specs.Binding.{FitsTable};
+
+use crate::ballast::{TRIES, Tally, spare_at, take_all};
+use crate::devices::{Pieces, Repeats, Shared, Sink, Small, Witness};
+use crate::found::{Probe, all_are_found};
+use crate::runs::{Trial, ended_told, file_told};
+use crate::texts::{parted, say, say_at};
+use leaf_table::LeafTable;
+use std::alloc::Global;
+use std::cell::RefCell;
+use step_core::Bound;
+use yampa_run::{Counted, RunFault, RunReport, run};
+
+/// Tells what a run on the stream writes, read in pieces of 4,096 bytes, and why it ends early; and
+/// behind it `differs`, where smaller pieces lead to something else.
+pub fn written_told(alloc: Global, bound: &Bound, table: &LeafTable, stream: &str, out: &mut String)
+    requires { FitsTable (rows_of table.now) bound.now }
+{
+    piece_told(alloc, bound, table, stream, 4_096, out);
+    for most in 1..4usize {
+        let mut again = String::new(alloc);
+        piece_told(alloc, bound, table, stream, most, &mut again);
+        if again.as_str() != out.as_str() {
+            say(out, "differs");
+        }
+    }
+}
+
+/// Tells what a run on the stream writes, read in pieces of at most so many bytes, and why it ends
+/// early.
+fn piece_told(
+    alloc: Global,
+    bound: &Bound,
+    table: &LeafTable,
+    stream: &str,
+    most: usize,
+    out: &mut String,
+)
+    requires { FitsTable (rows_of table.now) bound.now }
+{
+    let mut reader = Counted::new(Pieces::new(stream.as_bytes(), most, 0));
+    let mut writer = Counted::new(Vec::new(alloc));
+    let ended = run(alloc, bound, table, &mut reader, &mut writer);
+    let written = writer.into_inner();
+    say(out, str::from_utf8(&written).unwrap_or("no text"));
+    ended_told(alloc, ended, out);
+}
+
+/// Tells what a run of the network on the stream writes where a device fails, `FILE | FAILURE |
+/// STREAM`: `read N` for the read of that number, one byte a read; `write M N` for the write of
+/// that number, M bytes a write; `quiet M N` where it takes 0 bytes in place of failing.
+pub fn failing_told(alloc: Global, given: &str, out: &mut String) {
+    let (file, behind) = parted(given);
+    let (failure, stream) = parted(behind);
+    file_told(alloc, file, Trial::Failing(failure, stream), out);
+}
+
+/// The same of a bound network.
+pub fn failure_tried(
+    alloc: Global,
+    bound: &Bound,
+    table: &LeafTable,
+    failure: &str,
+    stream: &str,
+    out: &mut String,
+)
+    requires { FitsTable (rows_of table.now) bound.now }
+{
+    let (kind, numbers) = failure.split_once(' ').unwrap_or((failure, ""));
+    let (first, second) = numbers.split_once(' ').unwrap_or((numbers, ""));
+    let (a, b) = (number_of(first), number_of(second));
+    match kind {
+        "read" => unread_told(alloc, bound, table, stream, a, out),
+        "write" => unwritten_told(alloc, bound, table, stream, (a, b, false), out),
+        "quiet" => unwritten_told(alloc, bound, table, stream, (a, b, true), out),
+        "scant" => scant_told(alloc, bound, table, stream, out),
+        "witness" => witness_told(alloc, bound, table, stream, out),
+        _ => repeats_told(alloc, bound, table, a, out),
+    }
+}
+
+fn number_of(word: &str) -> usize {
+    word.parse::<usize>().unwrap_or(0)
+}
+
+fn unread_told(
+    alloc: Global,
+    bound: &Bound,
+    table: &LeafTable,
+    stream: &str,
+    fails_at: usize,
+    out: &mut String,
+)
+    requires { FitsTable (rows_of table.now) bound.now }
+{
+    let mut reader = Counted::new(Pieces::new(stream.as_bytes(), 1, fails_at));
+    let mut writer = Counted::new(Vec::new(alloc));
+    let ended = run(alloc, bound, table, &mut reader, &mut writer);
+    let written = writer.into_inner();
+    say_at(out, "lines", lines_of(&ended));
+    say(out, ":");
+    say(out, str::from_utf8(&written).unwrap_or("no text"));
+    ended_told(alloc, ended, out);
+}
+
+fn unwritten_told(
+    alloc: Global,
+    bound: &Bound,
+    table: &LeafTable,
+    stream: &str,
+    takes: (usize, usize, bool),
+    out: &mut String,
+)
+    requires { FitsTable (rows_of table.now) bound.now }
+{
+    let (most, fails_at, quiet) = takes;
+    let mut reader = Counted::new(stream.as_bytes());
+    let mut writer = Counted::new(Small::new(Vec::new(alloc), most, fails_at, quiet));
+    let ended = run(alloc, bound, table, &mut reader, &mut writer);
+    let written = writer.into_inner().into_kept();
+    say_at(out, "lines", lines_of(&ended));
+    say(out, ":");
+    say(out, str::from_utf8(&written).unwrap_or("no text"));
+    ended_told(alloc, ended, out);
+}
+
+/// How many lines a run counts.
+fn lines_of(ended: &Result<RunReport, RunFault>) -> usize {
+    match ended {
+        Ok(report) => report.lines as usize,
+        Err(RunFault::Stream { lines, .. }) => *lines as usize,
+        Err(RunFault::Write { lines }) => *lines as usize,
+        Err(RunFault::Memory { lines }) => *lines as usize,
+    }
+}
+
+/// Tells whether runs on the stream are refused memory at first, with no line written, and go to
+/// their end once there is enough.
+fn scant_told(alloc: Global, bound: &Bound, table: &LeafTable, stream: &str, out: &mut String)
+    requires { FitsTable (rows_of table.now) bound.now }
+{
+    let mut ample = String::new(alloc);
+    unread_told(alloc, bound, table, stream, 0, &mut ample);
+    let mut tally = Tally::new();
+    for attempt in 0..TRIES {
+        let mut told = String::new(alloc);
+        scant_tried(
+            alloc,
+            bound,
+            table,
+            stream,
+            spare_at(attempt, 30_000),
+            &mut told,
+        );
+        tally = tally.with(told.as_str(), ample.as_str(), "lines 0:status 3 memory");
+    }
+    tally.tell(out);
+}
+
+/// Tells what a run on the stream writes where so many bytes are left.
+fn scant_tried(
+    alloc: Global,
+    bound: &Bound,
+    table: &LeafTable,
+    stream: &str,
+    spare: usize,
+    out: &mut String,
+)
+    requires { FitsTable (rows_of table.now) bound.now }
+{
+    let Ok(kept) = Vec::with_capacity(alloc, 1_000) else {
+        return say(out, "no room");
+    };
+    let Ok(ballast) = take_all(alloc, spare) else {
+        return say(out, "no ballast");
+    };
+    let mut reader = Counted::new(stream.as_bytes());
+    let mut writer = Counted::new(kept);
+    let ended = run(alloc, bound, table, &mut reader, &mut writer);
+    drop(ballast);
+    let written = writer.into_inner();
+    say_at(out, "lines", lines_of(&ended));
+    say(out, ":");
+    say(out, str::from_utf8(&written).unwrap_or("no text"));
+    ended_told(alloc, ended, out);
+}
+
+/// Tells what was written before each read, each read as `.`, of a reader of single bytes.
+fn witness_told(alloc: Global, bound: &Bound, table: &LeafTable, stream: &str, out: &mut String)
+    requires { FitsTable (rows_of table.now) bound.now }
+{
+    let written = RefCell::new(String::new(alloc));
+    let seen = RefCell::new(String::new(alloc));
+    let mut reader = Counted::new(Witness::new(stream.as_bytes(), &written, &seen));
+    let mut writer = Counted::new(Shared { written: &written });
+    drop(run(alloc, bound, table, &mut reader, &mut writer));
+    drop(reader);
+    drop(writer);
+    if let Ok(seen) = seen.try_borrow() {
+        say(out, seen.as_str());
+    }
+}
+
+/// Tells how many lines a run counts on a value and lines that repeat it, so many bytes in all, and
+/// why it ends early.
+fn repeats_told(alloc: Global, bound: &Bound, table: &LeafTable, bytes: usize, out: &mut String)
+    requires { FitsTable (rows_of table.now) bound.now }
+{
+    let mut reader = Counted::new(Repeats {
+        left: bytes,
+        first: true,
+    });
+    let mut writer = Counted::new(Sink);
+    let ended = run(alloc, bound, table, &mut reader, &mut writer);
+    say_at(out, "lines", lines_of(&ended));
+    say(out, ":");
+    ended_told(alloc, ended, out);
+}
+
+/// Networks, failures and streams, and what is written.
+static FAILURES: &str = "
+§ Each read fails in turn, one byte a read.
+‹increment› | read 1 | 5␤+1 6␤+1 7 => lines 0:status 3 stream: cannot be read
+‹increment› | read 2 | 5␤+1 6␤+1 7 => lines 0:status 3 stream: cannot be read
+‹increment› | read 3 | 5␤+1 6␤+1 7 => lines 1:0␤status 3 stream: cannot be read
+‹increment› | read 7 | 5␤+1 6␤+1 7 => lines 1:0␤status 3 stream: cannot be read
+‹increment› | read 8 | 5␤+1 6␤+1 7 => lines 2:0␤6␤status 3 stream: cannot be read
+‹increment› | read 12 | 5␤+1 6␤+1 7 => lines 2:0␤6␤status 3 stream: cannot be read
+‹increment› | read 13 | 5␤+1 6␤+1 7 => lines 3:0␤6␤7␤
+‹increment› | read 9 | 5␤+0 6␤+1 7 => lines 1:0␤status 1 stream: line 2: step
+yampa 1 input Int ‹resumed› | read 3 | 0␤+4 0␤+5 1␤+6 0␤+7 2␤+1 0 => lines 1:0␤status 3 stream: cannot be read
+yampa 1 input Int ‹resumed› | read 27 | 0␤+4 0␤+5 1␤+6 0␤+7 2␤+1 0 => lines 5:0␤4␤-1␤-1␤9␤status 3 stream: cannot be read
+yampa 1 input Int ‹resumed› | read 28 | 0␤+4 0␤+5 1␤+6 0␤+7 2␤+1 0 => lines 6:0␤4␤-1␤-1␤9␤10␤
+§ Each write fails in turn, one byte a write or three.
+‹increment› | write 3 2 | 5␤+1 6␤+1 7 => lines 1:0␤status 3 output: cannot be written
+‹increment› | write 1 1 | 5␤+1 6␤+1 7 => lines 0:status 3 output: cannot be written
+‹increment› | write 1 2 | 5␤+1 6␤+1 7 => lines 0:0status 3 output: cannot be written
+‹increment› | write 1 4 | 5␤+1 6␤+1 7 => lines 1:0␤6status 3 output: cannot be written
+‹increment› | write 1 0 | 5␤+1 6␤+1 7 => lines 3:0␤6␤7␤
+‹increment› | quiet 1 4 | 5␤+1 6␤+1 7 => lines 1:0␤6status 3 output: cannot be written
+‹increment› | quiet 0 0 | 5␤+1 6␤+1 7 => lines 0:status 3 output: cannot be written
+yampa 1 input Int ‹resumed› | write 1 6 | 0␤+4 0␤+5 1␤+6 0␤+7 2␤+1 0 => lines 2:0␤4␤-status 3 output: cannot be written
+yampa 1 input Int ‹resumed› | write 1 13 | 0␤+4 0␤+5 1␤+6 0␤+7 2␤+1 0 => lines 5:0␤4␤-1␤-1␤9␤status 3 output: cannot be written
+yampa 1 input Int ‹resumed› | write 1 0 | 0␤+4 0␤+5 1␤+6 0␤+7 2␤+1 0 => lines 6:0␤4␤-1␤-1␤9␤10␤
+§ Each line is written before the next byte is asked for.
+‹increment› | witness | 5␤+1 6␤+1 7 => ..0␤.....6␤......
+§ Growths are refused.
+‹increment› | scant | 5␤+1 6␤+1 7 => refused at first
+yampa 1 input Int ‹resumed› | scant | 0␤+4 0␤+5 1␤+6 0␤+7 2␤+1 0 => refused at first
+§ The last sample that a run may have, and one line more.
+‹increment› | repeats 4999997 | => lines 1000000:
+‹increment› | repeats 4999998 | => lines 1000000:status 1 stream: line 1000001: too many samples
+§ The longest line, and one that is longer.
+yampa 1 input (List Int) (arr (len x)) | read 0 | (list{32765* 1}) => lines 1:32765␤
+yampa 1 input (List Int) (arr (len x)) | read 0 | (list{32766* 1}) => lines 0:status 1 stream: line 1: too long
+yampa 1 input (Pair Int (Event Int)) (rSwitch (iPre 0) (iPre (p 0))) | read 0 | (pair 5 no => lines 0:status 1 stream: line 1: no value at 8
+";
+
+#[test]
+fn devices_fail_as_worked_out(rt: HostRuntime) {
+    all_are_found(&rt, rt.alloc(), Probe::Failing, FAILURES);
+}

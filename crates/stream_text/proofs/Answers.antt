@@ -1,0 +1,199 @@
+-- What is known of the next line gives the answer.
+use Rattle.std.proofs.Common.{◌≡◌, ◌≤◌, ◌<◌, ◌+◌, ◌^◌, ℕ, suc, List, [], ◌∷◌, length, take, drop, Option, Some, None, Result, Ok, Err, refl, sym, ap, ◌∙◌, subst, arith, inl, inr}
+use Rattle.std.specs.Prelude.{◌≢◌, ◌⊎◌, IfOk, IfSome}
+use Rattle.std.proofs.lemmas.Grind.{common_steps}
+use Rattle.std.specs.Io.KnownBytes.{IsAtEnd}
+use Rattle.std.specs.Option.{option_map, option_copied}
+use Rattle.std.specs.Borrow.{Bor}
+use Rattle.sample_core.specs.Datum.{Datum}
+use Rattle.sample_core.specs.HasType.{HasType}
+use Rattle.sample_core.specs.ReadingLaws.{ReadingLaw}
+use Rattle.sample_core.specs.TypeTree.{TypeTree}
+use Rattle.sample_core.specs.ValueView.{datum_of}
+use Rattle.sample_core.specs.declared.sample.Sample.{Sample}
+use Rattle.stream_text.specs.Answers.{ReaderState, SameLast, TakesLine, KnownLine, ended, shown, last, Unfinished, HasFault, IsAnswer, GivesAnswer}
+use Rattle.stream_text.specs.LineTaken.{TakesKept, TakesLast}
+use Rattle.stream_text.specs.Settling.{AsksAsNeeded, IsSettled, SettlesLine, Settles}
+use Rattle.stream_text.specs.StreamText.{IsBefore, line_read}
+use Rattle.stream_text.specs.StreamView.{before_view, sample_view}
+use Rattle.stream_text.specs.TextLines.{HasLine, front_lines, shows_fault}
+use Rattle.stream_text.specs.declared.fault.StreamFault.{StreamFault}
+use Rattle.stream_text.specs.declared.fault.StreamFault.TheVariants as S
+use Rattle.stream_text.specs.declared.reader.Met.{Met}
+use Rattle.stream_text.specs.declared.reader.Met.TheVariants as M
+use Rattle.stream_text.specs.declared.settle.Settled.{Settled}
+use Rattle.stream_text.specs.declared.settle.Settled.TheVariants as T
+use Rattle.stream_text.proofs.Lines.{has_line, one_line}
+use Rattle.stream_text.proofs.Samples.{refused_of_text, shown_no_sample, read_typed, read_step}
+
+-- the state with the bytes that are kept after reading on, and the number of reads
+abbrev pub read_on : ReaderState → List ℕ → ℕ → ReaderState
+read_on s kept reads = record { kept = kept; lines = s.lines; before = s.before; reads = reads; met = s.met }
+
+-- the same with what ended the stream
+abbrev pub ended_by : Met → ReaderState → List ℕ → ℕ → ReaderState
+ended_by met s kept reads = record { kept = kept; lines = s.lines; before = s.before; reads = reads; met = met }
+
+take_all : (xs : List ℕ) (n : ℕ) → n ≡ length xs → take n xs ≡ xs
+take_all xs n e = grind (arith, common_steps)
+
+drop_all : (xs : List ℕ) (n : ℕ) → n ≡ length xs → drop (n + 1) xs ≡ []
+drop_all xs n e = grind (arith, common_steps)
+
+-- what is read by the number, the value before and the line as they are borrowed is read by them as
+-- they are kept
+pub as_kept : (A : TypeTree) (n m : ℕ) (o : Option (Bor Sample)) (kept : Option Sample) (line line' : List ℕ) (r : Result (ℕ × Datum) StreamFault)
+    → n ≡ m → option_copied o ≡ kept → line ≡ line' → line_read A n (before_view o) line ≡ r → line_read A m (option_map datum_of kept) line' ≡ r
+as_kept A n m o kept line line' r i e f h =
+    subst (λ k. line_read A k (option_map datum_of kept) line' ≡ r) i
+    (subst (λ (b : Option Datum). line_read A n b line' ≡ r) (seen o ∙ ap (option_map datum_of) e) (subst (λ l. line_read A n (before_view o) l ≡ r) f h))
+  where
+    seen : (p : Option (Bor Sample)) → before_view p ≡ option_map datum_of (option_copied p)
+    seen None = refl
+    seen (Some v) = refl
+
+asks_of : (s : ReaderState) (has has' : Option (List ℕ)) (n : ℕ) (got : List ℕ) → n ≡ suc s.lines → s.met ≡ M.Nothing
+    → ((got ≡ []) × (has' ≡ has)) ⊎ AsksAsNeeded n s.kept got → ((got ≡ []) × (has' ≡ has)) ⊎ ((s.met ≡ M.Nothing) × AsksAsNeeded (suc s.lines) s.kept got)
+asks_of s has has' n got e m (inl h) = inl h
+asks_of s has has' n got e m (inr h) = inr (m, subst (λ k. AsksAsNeeded k s.kept got) e h)
+
+given : (A : TypeTree) (s s' : ReaderState) (has has' : Option (List ℕ)) (n : ℕ) (kept' : List ℕ) (reads : ℕ) (settled : Result Settled StreamFault)
+    (answer : Result (Option (ℕ × Sample)) StreamFault) → n ≡ suc s.lines → s.met ≡ M.Nothing → (h : Settles has has' n s.kept kept' reads settled)
+    → IsAnswer A (IsAtEnd has') s kept' answer s' → GivesAnswer A s has answer s' has'
+given A s s' has has' n kept' reads settled answer e m h a = record {
+  got = h.got;
+  consumes = h.consumes;
+  asks = asks_of s has has' n h.got e m h.asks;
+  gives = subst (λ bytes. IsAnswer A (IsAtEnd has') s bytes answer s') h.keeps a;
+}
+
+-- the line that is settled is known
+known_line : (end : Type 0) (n : ℕ) (kept : List ℕ) (size : ℕ) → SettlesLine n kept size → KnownLine end n kept (take size kept)
+known_line end n kept size (inl h) = ended (drop (size + 1) kept) (has_line kept size h)
+known_line end n kept size (inr h) = shown (take_all kept size h.0) h.1 (ap (shows_fault n) (sym h.0) ∙ h.2)
+
+-- a line that holds a sample is settled by its line feed
+ended_line : (A : TypeTree) (n : ℕ) (before : Option Datum) (kept : List ℕ) (size : ℕ) (x : ℕ × Datum) → SettlesLine n kept size
+    → line_read A n before (take size kept) ≡ Ok x → HasLine kept (take size kept) (drop (size + 1) kept)
+ended_line A n before kept size x (inl h) e = has_line kept size h
+ended_line A n before kept size x (inr h) e =
+    let same : length (take size kept) ≡ size = ap (λ l. length l) (take_all kept size h.0) ∙ sym h.0 in
+    absurd (shown_no_sample A n before (take size kept) x (ap (shows_fault n) same ∙ h.2) e)
+
+taken : (end : Type 0) (kept line rest rest' : List ℕ) (met met' : Met) → rest' ≡ rest → met' ≡ met → TakesLine end kept line rest met
+    → TakesLine end kept line rest' met'
+taken end kept line rest rest' met met' e f h = subst (λ r. TakesLine end kept line r met') (sym e) (subst (λ m. TakesLine end kept line rest m) (sym f) h)
+
+-- the fault of a line that is known
+line_fault : (A : TypeTree) (end : Type 0) (s s' : ReaderState) (kept line : List ℕ) (fault : StreamFault) → s.met ≡ M.Nothing
+    → KnownLine end (suc s.lines) kept line → (fault ≢ S.Memory → line_read A (suc s.lines) s.before line ≡ Err fault) → HasFault A end s kept fault s'
+line_fault A end s s' kept line (S.Step k) m h r = (m, record { line = line; known = h; refuses = r (λ q. cc) })
+line_fault A end s s' kept line (S.Value k v) m h r = (m, record { line = line; known = h; refuses = r (λ q. cc) })
+line_fault A end s s' kept line (S.NothingBefore k) m h r = (m, record { line = line; known = h; refuses = r (λ q. cc) })
+line_fault A end s s' kept line (S.LineTooLong k) m h r = (m, record { line = line; known = h; refuses = r (λ q. cc) })
+line_fault A end s s' kept line (S.TooManySamples k) m h r = (m, record { line = line; known = h; refuses = r (λ q. cc) })
+line_fault A end s s' kept line S.ReadTurns m h r = absurd (refused_of_text A (suc s.lines) s.before line S.ReadTurns (r (λ q. cc)))
+line_fault A end s s' kept line S.Read m h r = absurd (refused_of_text A (suc s.lines) s.before line S.Read (r (λ q. cc)))
+line_fault A end s s' kept line S.Memory m h r = m
+line_fault A end s s' kept line S.Ended m h r = absurd (refused_of_text A (suc s.lines) s.before line S.Ended (r (λ q. cc)))
+
+-- a line that is settled gives the answer
+pub line_given : (A : TypeTree) (s s' : ReaderState) (has has' : Option (List ℕ)) (n : ℕ) (kept' : List ℕ) (reads size : ℕ)
+    (answer : Result (Option (ℕ × Sample)) StreamFault) → n ≡ suc s.lines → s.met ≡ M.Nothing → Settles has has' n s.kept kept' reads (Ok (T.Line size))
+    → TakesKept A (read_on s kept' reads) size answer s' → GivesAnswer A s has answer s' has'
+line_given A s s' has has' n kept' reads size (Ok (Some x)) e m h t =
+    let settled : SettlesLine (suc s.lines) kept' size = subst (λ k. SettlesLine k kept' size) e h.tells in
+    let line : HasLine kept' (take size kept') (drop (size + 1) kept') = ended_line A (suc s.lines) s.before kept' size (sample_view x) settled t.0 in
+    given A s s' has has' n kept' reads (Ok (T.Line size)) (Ok (Some x)) e m h (record {
+      goes_on = m;
+      line = take size kept';
+      takes = taken (IsAtEnd has') kept' (take size kept') (drop (size + 1) kept') s'.kept M.Nothing s'.met t.1.kept (t.1.met ∙ m) line;
+      reads = t.0;
+      counts = t.1.counts;
+      keeps = t.1.keeps;
+    })
+line_given A s s' has has' n kept' reads size (Ok None) e m h t = absurd t
+line_given A s s' has has' n kept' reads size (Err fault) e m h t =
+    let known = known_line (IsAtEnd has') (suc s.lines) kept' size (subst (λ k. SettlesLine k kept' size) e h.tells) in
+    given A s s' has has' n kept' reads (Ok (T.Line size)) (Err fault) e m h (record {
+      ends = t.1.ends;
+      same = record { lines = t.1.same.lines; before = t.1.same.before };
+      why = line_fault A (IsAtEnd has') s s' kept' (take size kept') fault m known t.0;
+    })
+
+-- what is kept at the end gives the answer
+pub last_given : (A : TypeTree) (s s' : ReaderState) (has has' : Option (List ℕ)) (n : ℕ) (kept' : List ℕ) (reads : ℕ)
+    (answer : Result (Option (ℕ × Sample)) StreamFault) → n ≡ suc s.lines → s.met ≡ M.Nothing → Settles has has' n s.kept kept' reads (Ok T.Last)
+    → TakesLast A (read_on s kept' reads) answer s' → GivesAnswer A s has answer s' has'
+last_given A s s' has has' n kept' reads (Ok None) e m h t =
+    given A s s' has has' n kept' reads (Ok T.Last) (Ok None) e m h (record {
+      ends = t.2;
+      same = record { lines = t.3.lines; before = t.3.before };
+      empty = inr (m, h.tells.0, t.0);
+    })
+last_given A s s' has has' n kept' reads (Ok (Some x)) e m h t =
+    let all : take (length kept') kept' ≡ kept' = take_all kept' (length kept') refl in
+    given A s s' has has' n kept' reads (Ok T.Last) (Ok (Some x)) e m h (record {
+      goes_on = m;
+      line = kept';
+      takes = taken (IsAtEnd has') kept' kept' [] s'.kept M.End s'.met (t.1.1.kept ∙ drop_all kept' (length kept') refl) t.1.1.met
+          (h.tells.0, one_line kept' t.0 h.tells.1, refl);
+      reads = subst (λ l. line_read A (suc s.lines) s.before l ≡ Ok (sample_view x)) all t.1.0;
+      counts = t.1.1.counts;
+      keeps = t.1.1.keeps;
+    })
+last_given A s s' has has' n kept' reads (Err fault) e m h t =
+    let all : take (length kept') kept' ≡ kept' = take_all kept' (length kept') refl in
+    given A s s' has has' n kept' reads (Ok T.Last) (Err fault) e m h (record {
+      ends = t.1.1.ends;
+      same = record { lines = t.1.1.same.lines; before = t.1.1.same.before };
+      why = line_fault A (IsAtEnd has') s s' kept' (take (length kept') kept') fault m
+          (last h.tells.0 (one_line kept' t.0 h.tells.1 ∙ ap (λ l. l ∷ []) (sym all))) t.1.0;
+    })
+
+-- a reader that could not be read on gives the fault
+pub fault_given : (A : TypeTree) (s : ReaderState) (has has' : Option (List ℕ)) (n : ℕ) (kept' : List ℕ) (reads : ℕ) (fault : StreamFault)
+    → n ≡ suc s.lines → s.met ≡ M.Nothing → Settles has has' n s.kept kept' reads (Err fault)
+    → GivesAnswer A s has (Err fault) (ended_by M.Fault s kept' reads) has'
+fault_given A s has has' n kept' reads fault e m h =
+    given A s (ended_by M.Fault s kept' reads) has has' n kept' reads (Err fault) (Err fault) e m h
+    (record { ends = refl; same = record { lines = refl; before = refl }; why = why fault h.tells })
+  where
+    unread : front_lines n kept' ≡ [] → Unfinished s kept' (ended_by M.Fault s kept' reads)
+    unread u = record { goes_on = m; no_line = ap (λ k. front_lines k kept') (sym e) ∙ u; keeps = refl }
+
+    why : (f : StreamFault) → IsSettled (IsAtEnd has') n kept' reads (Err f) → HasFault A (IsAtEnd has') s kept' f (ended_by M.Fault s kept' reads)
+    why (S.Step k) t = absurd t
+    why (S.Value k v) t = absurd t
+    why (S.NothingBefore k) t = absurd t
+    why (S.LineTooLong k) t = absurd t
+    why (S.TooManySamples k) t = absurd t
+    why S.ReadTurns t = (unread t.0, t.1)
+    why S.Read t = unread t
+    why S.Memory t = absurd t
+    why S.Ended t = absurd t
+
+same_before : (A : TypeTree) (s s' : ReaderState) → SameLast s s' → IsBefore A s.lines s.before → IsBefore A s'.lines s'.before
+same_before A s s' same b = subst (λ n. IsBefore A n s'.before) (sym same.lines) (subst (λ v. IsBefore A s.lines v) (sym same.before) b)
+
+-- what is answered is a value of the type
+pub typed_answer : ReadingLaw → (A : TypeTree) (s s' : ReaderState) (has has' : Option (List ℕ)) (answer : Result (Option (ℕ × Sample)) StreamFault)
+    → IsBefore A s.lines s.before → GivesAnswer A s has answer s' has' → IfOk answer (λ o. IfSome o (λ x. HasType (datum_of x.1) A))
+typed_answer law A s s' has has' (Ok (Some x)) b h = read_typed law A (suc s.lines) s.lines s.before h.gives.line (sample_view x) b h.gives.reads
+typed_answer law A s s' has has' (Ok None) b h = tt
+typed_answer law A s s' has has' (Err fault) b h = tt
+
+-- its step is in range
+pub stepped_answer : ReadingLaw → (A : TypeTree) (s s' : ReaderState) (has has' : Option (List ℕ)) (answer : Result (Option (ℕ × Sample)) StreamFault)
+    → IsBefore A s.lines s.before → GivesAnswer A s has answer s' has' → IfOk answer (λ o. IfSome o (λ x. 0 < s.lines → (1 ≤ x.0) × (x.0 < 2 ^ 63)))
+stepped_answer law A s s' has has' (Ok (Some x)) b h = read_step law A (suc s.lines) s.lines s.before h.gives.line (sample_view x) b h.gives.reads
+stepped_answer law A s s' has has' (Ok None) b h = tt
+stepped_answer law A s s' has has' (Err fault) b h = tt
+
+-- the value that is kept is one of the type
+pub before_kept : ReadingLaw → (A : TypeTree) (s s' : ReaderState) (has has' : Option (List ℕ)) (answer : Result (Option (ℕ × Sample)) StreamFault)
+    → IsBefore A s.lines s.before → GivesAnswer A s has answer s' has' → IsBefore A s'.lines s'.before
+before_kept law A s s' has has' (Ok (Some x)) b h = subst (IsBefore A s'.lines) (sym h.gives.keeps)
+    (read_typed law A (suc s.lines) s.lines s.before h.gives.line (sample_view x) b h.gives.reads)
+before_kept law A s s' has has' (Ok None) b h = same_before A s s' h.gives.same b
+before_kept law A s s' has has' (Err fault) b h = same_before A s s' h.gives.same b

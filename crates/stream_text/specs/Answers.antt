@@ -1,0 +1,119 @@
+-- What the calls of a reader of lines answer.
+use Rattle.std.specs.Prelude.{◌≡◌, ◌≢◌, ◌⊎◌, ◌^◌, ℕ, suc, true, List, [], ◌∷◌, ◌++◌, length, Option, Some, None, Result, Ok, Err}
+use Rattle.std.specs.Io.KnownBytes.{Consumes, IsAtEnd}
+use Rattle.sample_core.specs.Datum.{Datum}
+use Rattle.sample_core.specs.TypeTree.{TypeTree}
+use Rattle.sample_core.specs.declared.sample.Sample.{Sample}
+use Rattle.stream_text.specs.Settling.{AsksAsNeeded}
+use Rattle.stream_text.specs.StreamText.{line_read}
+use Rattle.stream_text.specs.StreamView.{sample_view}
+use Rattle.stream_text.specs.TextLines.{HasLine, IsFeedFree, front_lines, lines_of, shows_fault}
+use Rattle.stream_text.specs.declared.fault.StreamFault.{StreamFault}
+use Rattle.stream_text.specs.declared.fault.StreamFault.TheVariants as S
+use Rattle.stream_text.specs.declared.reader.Met.{Met}
+use Rattle.stream_text.specs.declared.reader.Met.TheVariants as M
+
+-- the bytes that were read and not yet answered, how many lines were answered, the value that was
+-- answered last, how many reads were made, and what has ended the stream
+pub record ReaderState : Type 0 where
+  pub kept : List ℕ
+  pub lines : ℕ
+  pub before : Option Datum
+  pub reads : ℕ
+  pub met : Met
+
+-- nothing was read yet
+pub record IsFresh (s : ReaderState) : Type 0 where
+  pub kept : s.kept ≡ []
+  pub lines : s.lines ≡ 0
+  pub before : s.before ≡ None
+  pub reads : s.reads ≡ 0
+  pub met : s.met ≡ M.Nothing
+
+-- as many lines are answered, and the same value last
+pub record SameLast (s s' : ReaderState) : Type 0 where
+  pub lines : s'.lines ≡ s.lines
+  pub before : s'.before ≡ s.before
+
+-- a line is taken off the bytes: it ends at its line feed, or it is the last, where there are no
+-- more bytes
+abbrev pub TakesLine : Type 0 → List ℕ → List ℕ → List ℕ → Met → Type 0
+TakesLine end bytes line rest M.Nothing = HasLine bytes line rest
+TakesLine end bytes line rest M.End = end × (lines_of bytes ≡ line ∷ []) × (rest ≡ [])
+TakesLine end bytes line rest M.Fault = ⊥
+
+-- The next line of the bytes holds the sample x, which is answered; its value is kept.
+pub record TakesSample (A : TypeTree) (end : Type 0) (s : ReaderState) (bytes : List ℕ)
+    (x : ℕ × Datum) (s' : ReaderState) : Type 0 where
+  pub goes_on : s.met ≡ M.Nothing
+  pub line : List ℕ
+  pub takes : TakesLine end bytes line s'.kept s'.met
+  pub reads : line_read A (suc s.lines) s.before line ≡ Ok x
+  pub counts : s'.lines ≡ suc s.lines
+  pub keeps : s'.before ≡ Some x.1
+
+-- There is no line more: the end was met before, or it is met here with no byte left.
+pub record MeetsEnd (end : Type 0) (s : ReaderState) (bytes : List ℕ) (s' : ReaderState) : Type 0
+  where
+    pub ends : s'.met ≡ M.End
+    pub same : SameLast s s'
+    pub empty : (s.met ≡ M.End) ⊎ ((s.met ≡ M.Nothing) × end × (bytes ≡ []))
+
+-- The first line of the bytes, line n of the stream, is known: it has its line feed; or it is all of
+-- them, without line feed, and shows a fault already; or there are no more bytes.
+pub data KnownLine (end : Type 0) (n : ℕ) (bytes line : List ℕ) : Type 0 where
+  ended : (rest : List ℕ) → HasLine bytes line rest → KnownLine end n bytes line
+  shown : line ≡ bytes → IsFeedFree bytes → shows_fault n (length bytes) ≡ true
+      → KnownLine end n bytes line
+  last : end → lines_of bytes ≡ line ∷ [] → KnownLine end n bytes line
+
+-- the next line of the bytes is known and has this fault
+pub record FaultyLine (A : TypeTree) (end : Type 0) (s : ReaderState) (bytes : List ℕ)
+    (fault : StreamFault) : Type 0 where
+  pub line : List ℕ
+  pub known : KnownLine end (suc s.lines) bytes line
+  pub refuses : line_read A (suc s.lines) s.before line ≡ Err fault
+
+-- no line of the bytes is known, and all are kept
+pub record Unfinished (s : ReaderState) (bytes : List ℕ) (s' : ReaderState) : Type 0 where
+  pub goes_on : s.met ≡ M.Nothing
+  pub no_line : front_lines (suc s.lines) bytes ≡ []
+  pub keeps : s'.kept ≡ bytes
+
+-- why a fault is answered
+abbrev pub HasFault : TypeTree → Type 0 → ReaderState → List ℕ → StreamFault → ReaderState → Type 0
+HasFault A end s bytes S.Ended s' = s.met ≡ M.Fault
+HasFault A end s bytes S.Memory s' = s.met ≡ M.Nothing
+HasFault A end s bytes S.Read s' = Unfinished s bytes s'
+HasFault A end s bytes S.ReadTurns s' = Unfinished s bytes s' × (s'.reads ≡ 2 ^ 40)
+HasFault A end s bytes fault s' = (s.met ≡ M.Nothing) × FaultyLine A end s bytes fault
+
+-- a fault ends the stream
+pub record MeetsFault (A : TypeTree) (end : Type 0) (s : ReaderState) (bytes : List ℕ)
+    (fault : StreamFault) (s' : ReaderState) : Type 0 where
+  pub ends : s'.met ≡ M.Fault
+  pub same : SameLast s s'
+  pub why : HasFault A end s bytes fault s'
+
+-- What a call answers, where these are the bytes that were kept before and those that it read, and
+-- `end` says that there are no more.
+abbrev pub IsAnswer : TypeTree → Type 0 → ReaderState → List ℕ
+    → Result (Option (ℕ × Sample)) StreamFault → ReaderState → Type 0
+IsAnswer A end s bytes (Ok (Some x)) s' = TakesSample A end s bytes (sample_view x) s'
+IsAnswer A end s bytes (Ok None) s' = MeetsEnd end s bytes s'
+IsAnswer A end s bytes (Err fault) s' = MeetsFault A end s bytes fault s'
+
+-- A call reads the bytes `got` of what the reader has, none where the stream has ended or the bytes
+-- kept before settle the next line, and answers by these and those kept before.
+pub record GivesAnswer (A : TypeTree) (s : ReaderState) (has : Option (List ℕ))
+    (answer : Result (Option (ℕ × Sample)) StreamFault) (s' : ReaderState)
+    (has' : Option (List ℕ)) : Type 0 where
+  pub got : List ℕ
+  pub consumes : Consumes has has' got
+  pub asks : ((got ≡ []) × (has' ≡ has))
+      ⊎ ((s.met ≡ M.Nothing) × AsksAsNeeded (suc s.lines) s.kept got)
+  pub gives : IsAnswer A (IsAtEnd has') s (s.kept ++ got) answer s'
+
+-- no bytes are needed: the stream has ended, or those that are kept settle the next line
+abbrev pub SettlesNext : ReaderState → Type 0
+SettlesNext s = (s.met ≢ M.Nothing) ⊎ (front_lines (suc s.lines) s.kept ≢ [])

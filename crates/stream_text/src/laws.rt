@@ -1,0 +1,26 @@
+// What the answers of a reader of lines tell of its stream, as laws of the definitions.
+
+ghost use Rattle.stream_text.specs.Hearing.{BeginLaw, MoreLaw, EndLaw, FaultyLaw, UnreadLaw};
+ghost use Rattle.stream_text.specs.LineLaws.{LineLaw, StepLaw, WholeValueLaw};
+ghost use Rattle.stream_text.specs.WrittenStreams.{WrittenLaw};
+
+use sample_core::reading_laws;
+
+/// Successive calls answer the samples of the text in order; where one answers that there is none
+/// more, these are all, and where one answers a line's fault, these are those before it. Where a
+/// call could not read on, they are those of the bytes that were read. A line is read as a sample
+/// exactly where it holds it: line 1 the value's spelling, a later line a step and the value's
+/// spelling or `=`. A timed list that is written is read back.
+pub fn stream_laws()
+    ensures begins { BeginLaw }
+    ensures more { MoreLaw }
+    ensures ends { EndLaw }
+    ensures faulty { FaultyLaw }
+    ensures unread { UnreadLaw }
+    ensures value { WholeValueLaw }
+    ensures step { StepLaw }
+    ensures line { LineLaw }
+    ensures written { WrittenLaw }
+{
+    reading_laws();
+}

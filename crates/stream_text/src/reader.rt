@@ -1,0 +1,238 @@
+// The samples of a stream, read from any reader.
+
+ghost use Rattle.std.specs.Prelude.{◌≡◌, ◌≤◌, ◌<◌, ◌^◌, IfErr, IfOk, IfSome};
+ghost use Rattle.sample_core.specs.HasType.{HasType};
+ghost use Rattle.sample_core.specs.TypeView.{type_of};
+ghost use Rattle.sample_core.specs.ValueView.{datum_of};
+ghost use Rattle.stream_text.specs.Failures.{Rose};
+ghost use Rattle.stream_text.specs.declared.fault.StreamFault.TheVariants as Fault;
+
+use crate::device::Device;
+use crate::fault::StreamFault;
+use crate::kept::Kept;
+use crate::line::read_line;
+use crate::settle::{Settled, settle};
+use sample_core::{Memory, Sample, Ty, reading_laws};
+use std::alloc::Global;
+use std::io::Read;
+
+/// What has ended a stream, if anything.
+#[derive(Clone, Copy)]
+pub enum Met {
+    Nothing,
+    /// The reader's end.
+    End,
+    /// A fault.
+    Fault,
+}
+
+/// What is kept of a stream between its samples, whichever reader gives its bytes: those that were
+/// read and not yet answered, how many lines were answered, the value that was answered last, how
+/// many reads were made, and what has ended it.
+#[derive(Drop)]
+pub struct LineState {
+    alloc: Global,
+    kept: Kept,
+    lines: u64,
+    before: Option<Sample>,
+    reads: u64,
+    met: Met,
+    ghost few_lines: { lines ≤ 1000000 },
+    ghost few_reads: { reads ≤ 2 ^ 40 },
+}
+
+impl LineState {
+    ghost use Rattle.std.specs.Prelude.{◌≡◌, ◌≤◌, ◌<◌, ◌^◌, suc, length, Some};
+    ghost use Rattle.stream_text.specs.Answers.{GivesAnswer, IsFresh, SettlesNext};
+    ghost use Rattle.stream_text.specs.LineTaken.{TakesKept, TakesLast, KeepsCopy};
+    ghost use Rattle.stream_text.specs.ReaderState.{reader_state};
+    ghost use Rattle.stream_text.specs.StreamText.{IsBefore, line_read};
+    ghost use Rattle.stream_text.specs.declared.reader.Met.TheVariants as M;
+
+    /// A stream of which nothing was read. `Memory`: there is no room for a line and a piece.
+    pub fn new(alloc: Global) -> Result<LineState, Memory>
+        ensures { IfOk result (λ state. IsFresh (reader_state state)) }
+    {
+        let kept = Kept::new(alloc)?;
+        Ok(LineState {
+            alloc,
+            kept,
+            lines: 0,
+            before: None,
+            reads: 0,
+            met: Met::Nothing,
+        })
+    }
+
+    /// The next sample of the stream with its step, which is 0 for the first; `None` at the end,
+    /// again and again. The value that was answered last, if there is one, must have that type.
+    ///
+    /// `failures` is how often the source had failed before: a read failed where it has failed more
+    /// often.
+    ///
+    /// The first fault ends the stream: in the words of [`StreamFault`], lines before reads, so
+    /// that lines whose line feed came before a failed read are answered first. `Memory` where there
+    /// is none for the value or its copy. From then on the answer is `Ended`.
+    pub fn next<R: Read + Device>(
+        &mut self,
+        source: &mut R,
+        failures: u64,
+        ty: &Ty,
+    ) -> Result<Option<(u64, Sample)>, StreamFault>
+        requires { IsBefore (type_of ty.now) (reader_state self.old).lines
+            (reader_state self.old).before }
+        ensures answers { GivesAnswer (type_of ty.now) (reader_state self.old)
+            (R.remaining source.old) result (reader_state self.new) (R.remaining source.new) }
+        ensures failed { IfErr result (λ fault. fault ≡ Fault.Read
+            → Rose failures (R.count source.new)) }
+        ensures unasked { SettlesNext (reader_state self.old) → source.new ≡ source.old }
+        ensures typed { IfOk result (λ o. IfSome o (λ x. HasType (datum_of x.1) (type_of ty.now))) }
+        ensures stepped { IfOk result (λ o. IfSome o (λ x. 0 < (reader_state self.old).lines
+            → (1 ≤ x.0) × (x.0 < 2 ^ 63))) }
+        ensures before { IsBefore (type_of ty.now) (reader_state self.new).lines
+            (reader_state self.new).before }
+        ensures few { (reader_state self.new).lines ≤ 1000000 }
+    {
+        // By these laws the sample is of the type.
+        reading_laws();
+        match self.met {
+            Met::Nothing => self.go_on(source, failures, ty),
+            Met::End => Ok(None),
+            Met::Fault => Err(StreamFault::Ended),
+        }
+    }
+
+    /// The next answer, where nothing has ended the stream.
+    fn go_on<R: Read + Device>(
+        &mut self,
+        source: &mut R,
+        failures: u64,
+        ty: &Ty,
+    ) -> Result<Option<(u64, Sample)>, StreamFault>
+        requires { self.old.met ≡ M.Nothing }
+        ensures answers { GivesAnswer (type_of ty.now) (reader_state self.old)
+            (R.remaining source.old) result (reader_state self.new) (R.remaining source.new) }
+        ensures failed { IfErr result (λ fault. fault ≡ Fault.Read
+            → Rose failures (R.count source.new)) }
+        ensures unasked { SettlesNext (reader_state self.old) → source.new ≡ source.old }
+    {
+        let number = self.lines + 1;
+        match settle(&mut self.kept, &mut self.reads, number, failures, source) {
+            Ok(Settled::Line(size)) => self.take_line(ty, size),
+            Ok(Settled::Last) => self.take_last(ty),
+            Err(fault) => {
+                self.met = Met::Fault;
+                Err(fault)
+            }
+        }
+    }
+
+    /// The answer at the end, where what is kept is the last line, or nothing.
+    fn take_last(&mut self, ty: &Ty) -> Result<Option<(u64, Sample)>, StreamFault>
+        ensures { TakesLast (type_of ty.now) (reader_state self.old) result
+            (reader_state self.new) }
+    {
+        self.met = Met::End;
+        let size = self.kept.len();
+        if size == 0 {
+            return Ok(None);
+        }
+        self.take_line(ty, size)
+    }
+
+    /// The answer to the line of so many bytes, which is taken off those that are kept.
+    fn take_line(&mut self, ty: &Ty, size: usize) -> Result<Option<(u64, Sample)>, StreamFault>
+        requires { size ≤ length self.old.kept }
+        ensures { TakesKept (type_of ty.now) (reader_state self.old) size result
+            (reader_state self.new) }
+    {
+        match read_line(
+            self.alloc,
+            ty,
+            self.lines + 1,
+            self.before.as_ref(),
+            self.kept.front(size),
+        ) {
+            Ok((step, sample)) => self.keep(step, sample, size),
+            Err(refused) => {
+                self.met = Met::Fault;
+                Err(refused)
+            }
+        }
+    }
+
+    /// Answers the sample of the line of so many bytes, and keeps its value.
+    fn keep(
+        &mut self,
+        step: u64,
+        sample: Sample,
+        size: usize,
+    ) -> Result<Option<(u64, Sample)>, StreamFault>
+        requires within { size ≤ length self.old.kept }
+        requires few { (reader_state self.old).lines < 1000000 }
+        ensures { KeepsCopy (reader_state self.old) (step, datum_of sample) size result
+            (reader_state self.new) }
+    {
+        match sample.try_copy(self.alloc) {
+            Ok(copy) => {
+                self.kept.skip_line(size);
+                self.lines += 1;
+                drop(self.before.replace(copy));
+                Ok(Some((step, sample)))
+            }
+            Err(Memory) => {
+                drop(sample);
+                self.met = Met::Fault;
+                Err(StreamFault::Memory)
+            }
+        }
+    }
+}
+
+/// The samples of a stream, from a reader: what [`LineState`] keeps, with the reader itself.
+#[derive(Drop)]
+pub struct LineReader<R: Drop> {
+    source: R,
+    state: LineState,
+}
+
+impl<R: Read + Device + Drop> LineReader<R> {
+    ghost use Rattle.std.specs.Prelude.{◌≡◌, ◌≤◌, ◌<◌, ◌^◌};
+    ghost use Rattle.stream_text.specs.Answers.{GivesAnswer, IsFresh, SettlesNext};
+    ghost use Rattle.stream_text.specs.LineReaderView.{source_of, state_of};
+    ghost use Rattle.stream_text.specs.StreamText.{IsBefore};
+
+    /// The stream that the reader gives. `Memory`: there is no room for a line and a piece.
+    pub fn new(alloc: Global, source: R) -> Result<LineReader<R>, Memory>
+        ensures source { IfOk result (λ reader. source_of reader ≡ source) }
+        ensures fresh { IfOk result (λ reader. IsFresh (state_of reader)) }
+    {
+        match LineState::new(alloc) {
+            Ok(state) => Ok(LineReader { source, state }),
+            Err(memory) => {
+                drop(source);
+                Err(memory)
+            }
+        }
+    }
+
+    /// The next sample, as [`LineState::next`] answers it.
+    pub fn next(&mut self, ty: &Ty) -> Result<Option<(u64, Sample)>, StreamFault>
+        requires { IsBefore (type_of ty.now) (state_of self.old).lines (state_of self.old).before }
+        ensures answers { GivesAnswer (type_of ty.now) (state_of self.old)
+            (R.remaining (source_of self.old)) result (state_of self.new)
+            (R.remaining (source_of self.new)) }
+        ensures failed { IfErr result (λ fault. fault ≡ Fault.Read
+            → Rose (R.count (source_of self.old)) (R.count (source_of self.new))) }
+        ensures unasked { SettlesNext (state_of self.old)
+            → source_of self.new ≡ source_of self.old }
+        ensures typed { IfOk result (λ o. IfSome o (λ x. HasType (datum_of x.1) (type_of ty.now))) }
+        ensures stepped { IfOk result (λ o. IfSome o (λ x. 0 < (state_of self.old).lines
+            → (1 ≤ x.0) × (x.0 < 2 ^ 63))) }
+        ensures before { IsBefore (type_of ty.now) (state_of self.new).lines
+            (state_of self.new).before }
+    {
+        let failures = self.source.failures();
+        self.state.next(&mut self.source, failures, ty)
+    }
+}

@@ -1,0 +1,111 @@
+// Reading on until the next line is known.
+
+ghost use Rattle.std.specs.Prelude.{◌≡◌, ◌≢◌, ◌≤◌, ◌^◌, [], length, IfErr, IfNone, IfSome};
+ghost use Rattle.stream_text.specs.Failures.{Rose};
+ghost use Rattle.stream_text.specs.Pieces.{KeepsPiece};
+ghost use Rattle.stream_text.specs.Settling.{SettlesLine, Settles};
+ghost use Rattle.stream_text.specs.TextLines.{IsFeedFree, front_lines, shows_fault};
+ghost use Rattle.stream_text.specs.declared.fault.StreamFault.TheVariants as Fault;
+ghost use Rattle.stream_text.specs.declared.kept.Piece.TheVariants as P;
+
+use crate::device::Device;
+use crate::fault::StreamFault;
+use crate::kept::{Kept, MOST_BYTES, Piece};
+use std::io::Read;
+
+/// The most samples of a run.
+pub const MOST_SAMPLES: u64 = 1_000_000;
+
+/// The most reads of a run, 2^40.
+const MOST_READS: u64 = 0x100_0000_0000;
+
+/// What is known of the next line.
+#[derive(Clone, Copy)]
+pub enum Settled {
+    /// It is the first so many bytes that are kept: behind them stands a line feed, or they are all
+    /// and show a fault already.
+    Line(usize),
+    /// There are no more bytes than those that are kept, and no line feed in these.
+    Last,
+}
+
+/// Reads on until line `number`, the next, is known, and no further. Counts the reads.
+///
+/// `Read`: a read failed, so that the reader has failed more often than `failures`. `ReadTurns`: 2^40 reads were made. What is kept then settles no line. A
+/// failed read that the reader doesn't count is none: it gave no bytes.
+pub fn settle<R: Read + Device>(
+    kept: &mut Kept,
+    reads: &mut u64,
+    number: u64,
+    failures: u64,
+    source: &mut R,
+) -> Result<Settled, StreamFault>
+    requires { reads.old ≤ 2 ^ 40 }
+    ensures settles { Settles (R.remaining source.old) (R.remaining source.new) number kept.old
+        kept.new reads.new result }
+    ensures unasked { front_lines number kept.old ≢ [] → source.new ≡ source.old }
+    ensures few { reads.new ≤ 2 ^ 40 }
+    ensures failed { IfErr result (λ fault. fault ≡ Fault.Read
+        → Rose failures (R.count source.new)) }
+{
+    loop {
+        if let Some(size) = settled_size(kept, number) {
+            return Ok(Settled::Line(size));
+        }
+        if *reads >= MOST_READS {
+            return Err(StreamFault::ReadTurns);
+        }
+        *reads += 1;
+        match ask(kept, failures, source) {
+            Piece::Bytes => {}
+            Piece::End => return Ok(Settled::Last),
+            Piece::Failed => return Err(StreamFault::Read),
+        }
+    }
+}
+
+/// How many bytes line `number` has, where what is kept settles it.
+fn settled_size(kept: &mut Kept, number: u64) -> Option<usize>
+    ensures same { kept.new ≡ kept.old }
+    ensures settled { IfSome result (SettlesLine number kept.old) }
+    ensures unsettled { IfNone result (front_lines number kept.old ≡ []) }
+    ensures short { IfNone result (length kept.old ≤ 65536) }
+    ensures free { IfNone result (IsFeedFree kept.old) }
+{
+    if let Some(at) = kept.feed_at() {
+        return Some(at);
+    }
+    let size = kept.len();
+    if is_faulty(number, size) {
+        Some(size)
+    } else {
+        None
+    }
+}
+
+/// Whether so many bytes without line feed show that line `number` holds no sample.
+fn is_faulty(number: u64, size: usize) -> bool
+    ensures { result ≡ shows_fault number size }
+{
+    size > MOST_BYTES || (number > MOST_SAMPLES && size > 0)
+}
+
+/// Asks the reader for a piece. It failed where it has failed more often than that.
+fn ask<R: Read + Device>(kept: &mut Kept, failures: u64, source: &mut R) -> Piece
+    requires { length kept.old ≤ 65536 }
+    ensures piece { KeepsPiece (R.remaining source.old) (R.remaining source.new) kept.old kept.new
+        result }
+    ensures failed { result ≡ P.Failed → Rose failures (R.count source.new) }
+{
+    match kept.fill(source) {
+        Piece::Failed => {
+            let after = source.failures();
+            if failures < after || after == u64::MAX {
+                Piece::Failed
+            } else {
+                Piece::Bytes
+            }
+        }
+        piece => piece,
+    }
+}

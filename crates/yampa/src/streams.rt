@@ -1,0 +1,127 @@
+// The host's standard streams, as a run reads and writes them. Output is held back until it is
+// much, and given to the host before more input is asked for: so who feeds a line sees its answer,
+// and a piped file goes through in large pieces.
+
+ghost use Rattle.std.specs.Io.{WritesAtMost};
+
+use sample_core::Memory;
+use std::alloc::Global;
+use std::cell::RefCell;
+use std::io::{self, Error, ErrorKind, Read, Stdin, Stdout, Write};
+
+/// The most bytes that are held back, and the most that are asked for at once.
+pub const ROOM: usize = 65_536;
+
+/// Output, some of which the host is yet to get.
+#[derive(Drop)]
+pub struct Output {
+    stdout: Stdout,
+    held: Vec<u8>,
+    failed: bool,
+}
+
+impl Output {
+    /// No output. `Memory` where there is no room to hold any.
+    pub fn new(alloc: Global, stdout: Stdout) -> Result<Output, Memory> {
+        let held = Vec::with_capacity(alloc, ROOM)?;
+        Ok(Output {
+            stdout,
+            held,
+            failed: false,
+        })
+    }
+
+    /// Whether the host has refused output.
+    pub fn has_failed(&self) -> bool {
+        self.failed
+    }
+
+    /// Gives the host all that is held.
+    pub fn give(&mut self) -> io::Result<()> {
+        if self.held.is_empty() {
+            return Ok(());
+        }
+        let given = self.stdout.write_all(self.held.as_slice());
+        self.held.clear();
+        if given.is_err() {
+            self.failed = true;
+        }
+        given
+    }
+
+    /// Holds bytes back, as many as there is room for. Gives the host what is held before, where
+    /// there is no room for all.
+    fn hold(&mut self, bytes: &[u8]) -> io::Result<usize>
+        ensures { WritesAtMost result bytes.now }
+    {
+        if bytes.len() > ROOM.saturating_sub(self.held.len()) {
+            self.give()?;
+        }
+        let size = bytes.len().min(ROOM);
+        self.held.extend_from_slice(&bytes[..size])?;
+        Ok(size)
+    }
+}
+
+/// Standard input. Before it asks the host for bytes it gives it the output that is held back.
+#[derive(Drop)]
+pub struct Input<'a> {
+    stdin: Stdin,
+    output: &'a RefCell<Output>,
+}
+
+impl<'a> Input<'a> {
+    /// Standard input, beside that output.
+    pub fn new(stdin: Stdin, output: &'a RefCell<Output>) -> Input<'a> {
+        Input { stdin, output }
+    }
+}
+
+impl Read for Input<'_> {
+    fn read(&mut self, buf: &mut [u8]) -> io::Result<usize> {
+        give_held(self.output)?;
+        self.stdin.read(buf)
+    }
+}
+
+/// A writer that holds output back.
+#[derive(Drop)]
+pub struct Printer<'a> {
+    output: &'a RefCell<Output>,
+}
+
+impl<'a> Printer<'a> {
+    /// A writer to that output.
+    pub fn new(output: &'a RefCell<Output>) -> Printer<'a> {
+        Printer { output }
+    }
+}
+
+impl Write for Printer<'_> {
+    fn write(&mut self, buf: &[u8]) -> io::Result<usize> {
+        match self.output.try_borrow_mut() {
+            Ok(mut output) => output.hold(buf),
+            Err(_) => Err(Error::from(ErrorKind::Other)),
+        }
+    }
+
+    fn flush(&mut self) -> io::Result<()> {
+        give_held(self.output)
+    }
+}
+
+/// Gives the host all that is held.
+pub fn give_held(output: &RefCell<Output>) -> io::Result<()> {
+    match output.try_borrow_mut() {
+        Ok(mut output) => output.give(),
+        Err(_) => Err(Error::from(ErrorKind::Other)),
+    }
+}
+
+/// Whether the host has refused output.
+pub fn has_failed(output: &RefCell<Output>) -> bool {
+    match output.try_borrow() {
+        Ok(output) => output.has_failed(),
+        Err(_) => true,
+    }
+}
