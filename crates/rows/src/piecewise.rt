@@ -246,7 +246,7 @@ yampa 1 input Int ‹resumed› | write 1 6 | 0␤+4 0␤+5 1␤+6 0␤+7 2␤+1
 yampa 1 input Int ‹resumed› | write 1 13 | 0␤+4 0␤+5 1␤+6 0␤+7 2␤+1 0 => lines 5:0␤4␤-1␤-1␤9␤status 3 output: cannot be written
 yampa 1 input Int ‹resumed› | write 1 0 | 0␤+4 0␤+5 1␤+6 0␤+7 2␤+1 0 => lines 6:0␤4␤-1␤-1␤9␤10␤
 § Each line is written before the next byte is asked for.
-‹increment› | witness | 5␤+1 6␤+1 7 => ..0␤.....6␤......
+‹increment› | witness | 5␤+1 6␤+1 7 => ..0␤.....6␤.....
 § Growths are refused.
 ‹increment› | scant | 5␤+1 6␤+1 7 => refused at first
 yampa 1 input Int ‹resumed› | scant | 0␤+4 0␤+5 1␤+6 0␤+7 2␤+1 0 => refused at first

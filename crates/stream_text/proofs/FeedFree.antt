@@ -71,7 +71,8 @@ mutual
   spelling_free (int n) = number_free n
   spelling_free (pair v w) = free_append (codes "(pair ") (spelling v ++ (codes " " ++ (spelling w ++ codes ")"))) (tested (codes "(pair ") refl)
       (free_append (spelling v) (codes " " ++ (spelling w ++ codes ")")) (spelling_free v)
-      (free_append (codes " ") (spelling w ++ codes ")") (tested (codes " ") refl) (free_append (spelling w) (codes ")") (spelling_free w) (tested (codes ")") refl))))
+      (free_append (codes " ") (spelling w ++ codes ")") (tested (codes " ") refl) (free_append (spelling w) (codes ")") (spelling_free w) (tested
+      (codes ")") refl))))
   spelling_free no_event = tested (codes "none") refl
   spelling_free (event v) = free_append (codes "(event ") (spelling v ++ codes ")") (tested (codes "(event ") refl)
       (free_append (spelling v) (codes ")") (spelling_free v) (tested (codes ")") refl))

@@ -31,7 +31,8 @@ pub heard_none : (A : TypeTree) (has : Option (List ℕ)) (s : ReaderState) → 
 heard_none A has s f = record {
   read = [];
   consumes = consumes_none has;
-  tells = subst (Tells A (IsAtEnd has) s [] []) (sym f.met) (record { consumed = []; parts = sym f.kept; hold = holds_none A s.lines s.before f.lines f.before });
+  tells = subst (Tells A (IsAtEnd has) s [] []) (sym f.met)
+      (record { consumed = []; parts = sym f.kept; hold = holds_none A s.lines s.before f.lines f.before });
   count = sym f.lines;
 }
 
@@ -54,7 +55,8 @@ holds_more : (A : TypeTree) (consumed : List ℕ) (p : List (ℕ × Datum)) (lin
 holds_more A consumed p lines before bytes line rest x h l e = record {
   whole = (
       λ more. ap (samples A) (behind_line consumed line more) ∙ h.whole (line ++ (10 ∷ more))
-      ∙ ap (λ ls. then_held p (samples_from A (suc lines) before ls)) (lines-has (line ++ (10 ∷ more)) line more (record { one_line = l.one_line; ended = refl }))
+      ∙ ap (λ ls. then_held p (samples_from A (suc lines) before ls)) (lines-has (line ++ (10 ∷ more)) line more
+      (record { one_line = l.one_line; ended = refl }))
       ∙ grown A p lines before line x (lines_of more) e
       );
   so_far = (
@@ -87,7 +89,8 @@ heard_more A has has' has'' s s' p x h g = record {
     all : h.read ++ g.got ≡ w.consumed ++ (s.kept ++ g.got)
     all = ap (λ r. r ++ g.got) w.parts ∙ append_assoc w.consumed s.kept g.got
 
-    go : (m : Met) → TakesLine (IsAtEnd has'') (s.kept ++ g.got) g.gives.line s'.kept m → Tells A (IsAtEnd has'') s' (h.read ++ g.got) (p ++ sample_view x ∷ []) m
+    go : (m : Met) → TakesLine (IsAtEnd has'') (s.kept ++ g.got) g.gives.line s'.kept m
+        → Tells A (IsAtEnd has'') s' (h.read ++ g.got) (p ++ sample_view x ∷ []) m
     go M.Nothing t = record {
       consumed = w.consumed ++ (g.gives.line ++ 10 ∷ []);
       parts = all ∙ ap (λ b. w.consumed ++ b) t.ended ∙ sym (behind_line w.consumed g.gives.line s'.kept);
@@ -161,7 +164,8 @@ faulty_text A end s bytes fault f = go f.known
     go (last e h) = inl (e, ap (samples_from A (suc s.lines) s.before) h ∙ refused f.line [] f.refuses)
 
 -- a text's part behind what is consumed
-map_text : (end : Type 0) (read consumed bytes : List ℕ) (P Q : List ℕ → Type 0) → read ≡ consumed ++ bytes → ((text : List ℕ) → P text → Q (consumed ++ text))
+map_text : (end : Type 0) (read consumed bytes : List ℕ) (P Q : List ℕ → Type 0) → read ≡ consumed ++ bytes → ((text : List ℕ) → P text
+    → Q (consumed ++ text))
     → HoldsOfText end bytes P → HoldsOfText end read Q
 map_text end read consumed bytes P Q e f (inl h) = inl (h.0, subst Q (sym e) (f bytes h.1))
 map_text end read consumed bytes P Q e f (inr h) =
@@ -184,7 +188,8 @@ heard_fault A has has' has'' s p got fault h c m f =
           (faulty_text A (IsAtEnd has'') s (s.kept ++ got) fault f);
     }
 
-pub heard_so_far : (A : TypeTree) (has has' : Option (List ℕ)) (s : ReaderState) (p : List (ℕ × Datum)) → Heard A has has' s p → HeardSo has has' (BeginsWith A p)
+pub heard_so_far : (A : TypeTree) (has has' : Option (List ℕ)) (s : ReaderState) (p : List (ℕ × Datum)) → Heard A has has' s p
+    → HeardSo has has' (BeginsWith A p)
 heard_so_far A has has' s p h = record { read = h.read; consumes = h.consumes; so = go s.met h.tells }
   where
     go : (m : Met) → Tells A (IsAtEnd has') s h.read p m → HoldsOfText (IsAtEnd has') h.read (BeginsWith A p)
@@ -253,4 +258,5 @@ unread_law A has has' has'' s s' p fault h g o = go fault o g.gives.why
   where
     go : (f : StreamFault) → (f ≡ S.Read) ⊎ (f ≡ S.ReadTurns) → HasFault A (IsAtEnd has'') s (s.kept ++ g.got) f s' → HeardFront A has has'' p
     go f (inl e) w = heard_unread A has has' has'' s s' p g.got h g.consumes (subst (λ k. HasFault A (IsAtEnd has'') s (s.kept ++ g.got) k s') e w)
-    go f (inr e) w = let t = subst (λ k. HasFault A (IsAtEnd has'') s (s.kept ++ g.got) k s') e w in heard_unread A has has' has'' s s' p g.got h g.consumes t.0
+    go f (inr e) w = let t = subst (λ k. HasFault A (IsAtEnd has'') s
+        (s.kept ++ g.got) k s') e w in heard_unread A has has' has'' s s' p g.got h g.consumes t.0

@@ -31,7 +31,14 @@ digits_begin [] l a = absurd (omega arith)
 digits_begin (d ∷ ds) l a = go (is_ascii_digit d) refl a
   where
     go : (p : Bool) → is_ascii_digit d ≡ p → (p && all_ascii_digits ds) ≡ true → Begins (d ∷ ds)
-    go true q h = let r : (48 ≤ d) × (d ≤ 57) = digit_in_range d q in (d, ds, refl, λ e. absurd (omega (arith, r.0, r.1, e)), λ e. absurd (omega (arith, r.0, r.1, e)))
+    go true q h = let r : (48 ≤ d) × (d ≤ 57) = digit_in_range d q in (
+      d,
+      ds,
+      refl,
+      λ e. absurd (omega (arith, r.0, r.1, e)),
+      λ e. absurd (omega
+          (arith, r.0, r.1, e)),
+    )
     go false q h = absurd (cc)
 
 decimal_begins : (n : ℕ) → n < 2 ^ 64 → Begins (decimal n)
@@ -104,7 +111,8 @@ read : WholeValueLaw → StepLaw → (A : TypeTree) (n : ℕ) (before : Option D
     → line_after A n before line ≡ Ok x
 read value step A n None line x h =
     let b : Begins line = subst Begins (sym h.2) (spelling_begins x.1 A h.1) in
-    ap (λ p. if p then Err (S.Step n) else (if bytes_eq line (codes "=") then Err (S.NothingBefore n) else with_step 0 (whole_value A n line))) (no_plus line b)
+    ap (λ p. if p then Err (S.Step n) else (if bytes_eq line (codes "=") then Err (S.NothingBefore n) else with_step 0 (whole_value A n line)))
+    (no_plus line b)
     ∙ ap (λ p. if p then Err (S.NothingBefore n) else with_step 0 (whole_value A n line)) (no_equals line b)
     ∙ ap (with_step 0) ((value A n line x.1).1 (h.1, h.2)) ∙ ap (λ d. Ok (d, x.1)) (sym h.0)
 read value step A n (Some before) line x h = go h.2
@@ -124,7 +132,8 @@ read value step A n (Some before) line x h = go h.2
         (no_equals rest (subst Begins (sym e.1) (spelling_begins x.1 A e.0)))
         ∙ ap (with_step x.0) ((value A n rest x.1).1 (e.0, e.1))
 
-behind_limits : (A : TypeTree) (n : ℕ) (before : Option Datum) (line : List ℕ) → n ≤ 1000000 → length line ≤ 65536 → line_read A n before line ≡ line_after A n before line
+behind_limits : (A : TypeTree) (n : ℕ) (before : Option Datum) (line : List ℕ) → n ≤ 1000000 → length line ≤ 65536
+    → line_read A n before line ≡ line_after A n before line
 behind_limits A n before line l m =
     let a : nat_lt 1000000 n ≡ false = grind (arith, nat_tests, l) in
     let b : nat_lt 65536 (length line) ≡ false = grind (arith, nat_tests, m) in

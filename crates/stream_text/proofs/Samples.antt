@@ -53,7 +53,8 @@ first_typed law A n line x h =
     whole_typed law A n line x.1 (with_step_from 0 (whole_value A n line) x two).0
 
 -- behind its step, a later line has a value of the type; the step is the one in front
-later_typed : ReadingLaw → (A : TypeTree) (n : ℕ) (before : Datum) (o : Option (ℕ × List ℕ)) (x : ℕ × Datum) → HasType before A → later_line A n before o ≡ Ok x
+later_typed : ReadingLaw → (A : TypeTree) (n : ℕ) (before : Datum) (o : Option (ℕ × List ℕ)) (x : ℕ × Datum) → HasType before A
+    → later_line A n before o ≡ Ok x
     → HasType x.1 A × ((rest : List ℕ) × (o ≡ Some (x.0, rest)))
 later_typed law A n before None x t h = absurd (cc)
 later_typed law A n before (Some (d, rest)) x t h = go (bytes_eq rest (codes "=")) h
@@ -166,7 +167,8 @@ read_of_text : (A : TypeTree) (n : ℕ) (before : Option Datum) (line : List ℕ
 read_of_text A n before line = either (nat_lt 1000000 n) _ _ tt (either (nat_lt 65536 (length line)) _ _ tt (after_of_text A n before line))
 
 -- a line's fault is one that its text can have
-pub refused_of_text : (A : TypeTree) (n : ℕ) (before : Option Datum) (line : List ℕ) (fault : StreamFault) → line_read A n before line ≡ Err fault → IsOfText fault
+pub refused_of_text : (A : TypeTree) (n : ℕ) (before : Option Datum) (line : List ℕ) (fault : StreamFault) → line_read A n before line ≡ Err fault
+    → IsOfText fault
 refused_of_text A n before line fault e = subst OfText e (read_of_text A n before line)
 
 -- a line that shows a fault holds no sample
@@ -192,10 +194,13 @@ shown_on A n before line tail fault s e = go (nat_lt 1000000 n) refl (nat_lt 655
         → (if many then Err (S.TooManySamples n) else (if long then Err (S.LineTooLong n) else line_after A n before line)) ≡ Err fault
         → line_read A n before (line ++ tail) ≡ Err fault
     go true m long l some q r =
-        ap (λ b. if b then Err (S.TooManySamples n) else (if nat_lt 65536 (length (line ++ tail)) then Err (S.LineTooLong n) else line_after A n before (line ++ tail))) m ∙ r
+        ap (λ b. if b then Err (S.TooManySamples n) else (if nat_lt 65536 (length (line ++ tail)) then Err
+        (S.LineTooLong n) else line_after A n before (line ++ tail))) m ∙ r
     go false m true l some q r =
-        let more : nat_lt 65536 (length (line ++ tail)) ≡ true = (let k : length (line ++ tail) ≡ length line + length tail = length-append line tail in grind (arith, nat_tests, k, l)) in
-        ap (λ b. if b then Err (S.TooManySamples n) else (if nat_lt 65536 (length (line ++ tail)) then Err (S.LineTooLong n) else line_after A n before (line ++ tail))) m
+        let more : nat_lt 65536 (length (line ++ tail)) ≡ true = (let k : length
+        (line ++ tail) ≡ length line + length tail = length-append line tail in grind (arith, nat_tests, k, l)) in
+        ap (λ b. if b then Err (S.TooManySamples n) else (if nat_lt 65536 (length (line ++ tail)) then Err
+        (S.LineTooLong n) else line_after A n before (line ++ tail))) m
         ∙ ap (λ b. if b then Err (S.LineTooLong n) else line_after A n before (line ++ tail)) more ∙ r
     go false m false l some q r = absurd (cc)
 

@@ -18,7 +18,8 @@ consumes_kept (Some xs) None c got h k = absurd h
 consumes_kept (Some xs) (Some ys) None got h k = absurd k
 consumes_kept (Some xs) (Some ys) (Some zs) got h k = h ∙ ap (λ r. got ++ r) (sym k)
 
-pub consumes_more : (has has' has'' : Option (List ℕ)) (got piece : List ℕ) → Consumes has has' got → Consumes has' has'' piece → Consumes has has'' (got ++ piece)
+pub consumes_more : (has has' has'' : Option (List ℕ)) (got piece : List ℕ) → Consumes has has' got → Consumes has' has'' piece
+    → Consumes has has'' (got ++ piece)
 consumes_more None b c got piece h k = tt
 consumes_more (Some xs) None c got piece h k = absurd h
 consumes_more (Some xs) (Some ys) None got piece h k = absurd k
@@ -44,7 +45,8 @@ asked_more has has' has'' n kept kept' kept'' piece h u e l c = record {
   asks = inr (record { early = h.got; piece = piece; parts = refl; small = l; unsettled = ap (front_lines n) (sym h.keeps) ∙ u });
 }
 
-pub asked_same : (has has' has'' : Option (List ℕ)) (n : ℕ) (kept kept' kept'' : List ℕ) → Asked has has' n kept kept' → front_lines n kept' ≡ [] → kept'' ≡ kept'
+pub asked_same : (has has' has'' : Option (List ℕ)) (n : ℕ) (kept kept' kept'' : List ℕ) → Asked has has' n kept kept' → front_lines n kept' ≡ []
+    → kept'' ≡ kept'
     → Keeps has' has'' → Asked has has'' n kept kept''
 asked_same has has' has'' n kept kept' kept'' h u e k = record {
   got = h.got;

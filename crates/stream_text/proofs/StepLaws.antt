@@ -79,7 +79,8 @@ stepped_is line rest d h = go (behind 43 line) refl h
         let r = stepped_range line (d, rest) h in
         let s = some_digit ds f.0 in
         let small : digits_value 10 ds < 2 ^ 64 = let k : digits_value 10 ds ≡ d = f.1 in omega (arith, k, r.1) in
-        let same : decimal d ≡ ds = ap decimal (sym f.1) ∙ decimal-digits_value (numerals_by_value _ tells_all_ascii_digits) ds (digits_in_front bs) s.0 s.1 small in (
+        let same : decimal d ≡ ds = ap decimal (sym f.1)
+        ∙ decimal-digits_value (numerals_by_value _ tells_all_ascii_digits) ds (digits_in_front bs) s.0 s.1 small in (
           r.0,
           r.1,
           behind_is 43 line bs q ∙ ap (λ k. 43 ∷ k)

@@ -59,8 +59,8 @@ pub record MeetsEnd (end : Type 0) (s : ReaderState) (bytes : List ℕ) (s' : Re
     pub same : SameLast s s'
     pub empty : (s.met ≡ M.End) ⊎ ((s.met ≡ M.Nothing) × end × (bytes ≡ []))
 
--- The first line of the bytes, line n of the stream, is known: it has its line feed; or it is all of
--- them, without line feed, and shows a fault already; or there are no more bytes.
+-- The first line of the bytes, line n of the stream, is known: it has its line feed; or it is all
+-- of them, without line feed, and shows a fault already; or there are no more bytes.
 pub data KnownLine (end : Type 0) (n : ℕ) (bytes line : List ℕ) : Type 0 where
   ended : (rest : List ℕ) → HasLine bytes line rest → KnownLine end n bytes line
   shown : line ≡ bytes → IsFeedFree bytes → shows_fault n (length bytes) ≡ true

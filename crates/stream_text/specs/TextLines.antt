@@ -30,7 +30,8 @@ led_by b (line ∷ lines) behind = record { lines = (b ∷ line) ∷ lines; behi
 -- the bytes at their line feeds
 abbrev pub split : List ℕ → Split
 split [] = record { lines = []; behind = [] }
-split (b ∷ bs) = if nat_eq b 10 then record { lines = [] ∷ (split bs).lines; behind = (split bs).behind }
+split (b ∷ bs) = if nat_eq b 10
+    then record { lines = [] ∷ (split bs).lines; behind = (split bs).behind }
     else led_by b (split bs).lines (split bs).behind
 
 -- a line without line feed at the end of a text: none where it has no byte

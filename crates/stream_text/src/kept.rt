@@ -50,7 +50,8 @@ impl Model for Kept {
 
     ghost view = { λ k. drop k.start k.bytes.items };
 
-    ghost invariant = { λ k. (k.start + k.searched ≤ vec_len k.bytes) × (69632 ≤ vec_capacity k.bytes)
+    ghost invariant = { λ k. (k.start + k.searched ≤ vec_len k.bytes)
+        × (69632 ≤ vec_capacity k.bytes)
         × IsFeedFree (take k.searched (drop k.start k.bytes.items)) };
 }
 

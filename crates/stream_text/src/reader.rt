@@ -71,7 +71,7 @@ impl LineState {
     /// often.
     ///
     /// The first fault ends the stream: in the words of [`StreamFault`], lines before reads, so
-    /// that lines whose line feed came before a failed read are answered first. `Memory` where there
+    /// that lines whose line feed came before a failed read are answered first. `Memory`: there
     /// is none for the value or its copy. From then on the answer is `Ended`.
     pub fn next<R: Read + Device>(
         &mut self,

@@ -31,8 +31,9 @@ pub enum Settled {
 
 /// Reads on until line `number`, the next, is known, and no further. Counts the reads.
 ///
-/// `Read`: a read failed, so that the reader has failed more often than `failures`. `ReadTurns`: 2^40 reads were made. What is kept then settles no line. A
-/// failed read that the reader doesn't count is none: it gave no bytes.
+/// `Read`: a read failed, so that the reader has failed more often than `failures`. `ReadTurns`:
+/// 2^40 reads were made. What is kept then settles no line. A failed read that the reader doesn't
+/// count is none: it gave no bytes.
 pub fn settle<R: Read + Device>(
     kept: &mut Kept,
     reads: &mut u64,

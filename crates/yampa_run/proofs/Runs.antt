@@ -36,7 +36,8 @@ use Rattle.yampa_run.specs.declared.stream_run.Stop.TheVariants as T
 use Rattle.yampa_run.proofs.Written.{appends_none, appends_both, feeds-free, feeds-append, feeds-lines, part_free}
 
 -- So far: the samples p were answered, the runner stands for them, and their lines are written.
-pub record Progress (A : TypeTree) (net : Network Expression) (has has' holds holds' : Option (List ℕ)) (s : ReaderState) (r : RunnerState) (lines most : ℕ) : Type 0 where
+pub record Progress (A : TypeTree) (net : Network Expression) (has has' holds holds' : Option (List ℕ)) (s : ReaderState) (r : RunnerState)
+    (lines most : ℕ) : Type 0 where
   pub p : TimedList
   pub heard : Heard A has has' s p
   pub stands : StandsFor r p
@@ -68,10 +69,12 @@ begins A net has holds s r f st i n = record {
 
 spelled-append : (vs ws : List Datum) → spelled_lines (vs ++ ws) ≡ spelled_lines vs ++ spelled_lines ws
 spelled-append [] ws = refl
-spelled-append (v ∷ vs) ws = ap (λ ls. spelling v ++ (10 ∷ ls)) (spelled-append vs ws) ∙ sym (append_assoc (spelling v) (10 ∷ spelled_lines vs) (spelled_lines ws))
+spelled-append (v ∷ vs) ws = ap (λ ls. spelling v ++ (10 ∷ ls)) (spelled-append vs ws)
+    ∙ sym (append_assoc (spelling v) (10 ∷ spelled_lines vs) (spelled_lines ws))
 
 -- what comes later leaves the lines so far
-later_lines : (net : Network Expression) (p later : TimedList) → (vs : List Datum) × (spelled_lines (stream_of net p) ++ spelled_lines vs ≡ spelled_lines (stream_of net (p ++ later)))
+later_lines : (net : Network Expression) (p later : TimedList)
+    → (vs : List Datum) × (spelled_lines (stream_of net p) ++ spelled_lines vs ≡ spelled_lines (stream_of net (p ++ later)))
 later_lines net p later =
     let all : List Datum = stream_of net (p ++ later) in
     let front : stream_of net p ≡ take (length p) all =
@@ -100,7 +103,8 @@ most_visits-push net p x =
     ∙ greatest-push (map (last_visits_of net) (prefixes p)) (last_visits_of net (p ++ x ∷ []))
 
 -- the runner may be pushed what was answered
-pub has_input : (A : TypeTree) (net : Network Expression) (has has' holds holds' : Option (List ℕ)) (s : ReaderState) (r : RunnerState) (lines most : ℕ) (v : Datum)
+pub has_input : (A : TypeTree) (net : Network Expression) (has has' holds holds' : Option (List ℕ)) (s : ReaderState) (r : RunnerState)
+    (lines most : ℕ) (v : Datum)
     → Progress A net has has' holds holds' s r lines most → HasType v A → HasType v r.input
 has_input A net has has' holds holds' s r lines most v g h = subst (HasType v) (sym g.of_type) h
 
@@ -180,7 +184,8 @@ within A net has has' holds holds' lines p written rest h w e c = record {
         )
 
 -- a fault of the stream
-pub stream_stops : (A : TypeTree) (net : Network Expression) (has has' has'' holds holds' : Option (List ℕ)) (s s' : ReaderState) (r : RunnerState) (lines most : ℕ)
+pub stream_stops : (A : TypeTree) (net : Network Expression) (has has' has'' holds holds' : Option (List ℕ)) (s s' : ReaderState) (r : RunnerState)
+    (lines most : ℕ)
     (fault : StreamFault) → Progress A net has has' holds holds' s r lines most → GivesAnswer A s has' (Err fault) s' has''
     → Stops A net has has'' holds holds' (stream_fault_of lines fault)
 stream_stops A net has has' has'' holds holds' s s' r lines most fault g a = go fault a.gives.why
@@ -263,13 +268,15 @@ line_stops A net has has' has'' holds holds' holds'' s s' r r' lines most x g a 
         (count (feeds-free b.part (part_free b.part l.rest (spelling l.y) l.parts l.more (spelling_free l.y))))
 
 -- the same as what ends the run
-pub stops : (A : TypeTree) (net : Network Expression) (has has' holds holds' : Option (List ℕ)) (lines : ℕ) (stop : Stop) → StopsWithin A net has has' holds holds' lines
+pub stops : (A : TypeTree) (net : Network Expression) (has has' holds holds' : Option (List ℕ)) (lines : ℕ) (stop : Stop)
+    → StopsWithin A net has has' holds holds' lines
     → Stops A net has has' holds holds' (run_fault_of lines stop)
 stops A net has has' holds holds' lines T.Write h = h
 stops A net has has' holds holds' lines T.Memory h = h
 
 -- what a run ends with is told by the program
-pub answered : (A : TypeTree) (net : Network Expression) (has has' holds holds' : Option (List ℕ)) (fault : RunFault) → Stops A net has has' holds holds' fault → EndsRun fault
+pub answered : (A : TypeTree) (net : Network Expression) (has has' holds holds' : Option (List ℕ)) (fault : RunFault)
+    → Stops A net has has' holds holds' fault → EndsRun fault
 answered A net has has' holds holds' (U.Stream lines (S.Step n)) h = tt
 answered A net has has' holds holds' (U.Stream lines (S.Value n v)) h = tt
 answered A net has has' holds holds' (U.Stream lines (S.NothingBefore n)) h = tt

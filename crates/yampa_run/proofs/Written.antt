@@ -22,7 +22,8 @@ appends_both (Some x) (Some y) None p q h k = absurd k
 appends_both (Some x) (Some y) (Some z) p q h k = k ∙ ap (λ l. l ++ q) h ∙ append_assoc x p q
 
 -- the bytes up to a place, and then those up to a later one
-take_both : (bytes : List ℕ) (done n : ℕ) → done ≤ length bytes → take done bytes ++ take n (take (length bytes - done) (drop done bytes)) ≡ take (done + n) bytes
+take_both : (bytes : List ℕ) (done n : ℕ) → done ≤ length bytes
+    → take done bytes ++ take n (take (length bytes - done) (drop done bytes)) ≡ take (done + n) bytes
 take_both bytes done n l = let rest : take (length bytes - done) (drop done bytes) ≡ drop done bytes = grind (arith, common_steps) in
     ap (λ r. take done bytes ++ take n r) rest ∙ sym (take-add done n bytes)
 

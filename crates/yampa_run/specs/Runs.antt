@@ -25,8 +25,8 @@ pub record Moves (has has' holds holds' : Option (List ℕ)) (read written : Lis
 
 -- A run to the end of a text without a fault: it is read whole, and its output is written, a line
 -- for each sample.
-pub record RunsToEnd (A : TypeTree) (net : Network Expression) (has has' holds holds' : Option (List ℕ))
-    (lines most : ℕ) : Type 0 where
+pub record RunsToEnd (A : TypeTree) (net : Network Expression)
+    (has has' holds holds' : Option (List ℕ)) (lines most : ℕ) : Type 0 where
   pub read : List ℕ
   pub written : List ℕ
   pub moves : Moves has has' holds holds' read written
@@ -80,8 +80,8 @@ pub record StopsWithin (A : TypeTree) (net : Network Expression)
   pub counted : lines ≡ line_feeds written
 
 -- what each fault of a run tells
-abbrev pub Stops : TypeTree → Network Expression → Option (List ℕ) → Option (List ℕ) → Option (List ℕ)
-    → Option (List ℕ) → RunFault → Type 0
+abbrev pub Stops : TypeTree → Network Expression → Option (List ℕ) → Option (List ℕ)
+    → Option (List ℕ) → Option (List ℕ) → RunFault → Type 0
 Stops A net has has' holds holds' (U.Stream lines S.Read) =
     StopsUnread A net has has' holds holds' lines
 Stops A net has has' holds holds' (U.Stream lines S.ReadTurns) =

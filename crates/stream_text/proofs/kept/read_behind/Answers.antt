@@ -8,6 +8,12 @@ returns-in-Ok-read-clause-piece g c =
     let before : take c.len-old.result c.deref_mut.result.now ≡ c.args.bytes.now.items =
     rw (c.deref_mut.ensures.value, c.in-Ok.ensures.items) (resized_front c.args.bytes.now.items _ _ _ n) in
     let size : c.in-Ok-read.size ≤ length c.read.new.buf = grind (arith, c.in-Ok-read.ensures.bound) in
-    let within : c.len-old.result + c.in-Ok-read.size ≤ c.resize.new.self.len = grind (arith, c.in-Ok-read.ensures.bound, c.read.auto.buf, c.deref_mut.ensures.len) in
-    let small : length (take c.in-Ok-read.size c.read.new.buf) ≤ 4096 = grind (arith, within, c.in-Ok-read.ensures.bound, c.in-Ok.ensures.len) in
-    (take c.in-Ok-read.size c.read.new.buf, c.truncate-in-Ok-read.ensures.items ∙ read_part _ _ _ _ _ _ _ _ n before size within, small, c.in-Ok-read.ensures.bytes.0)
+    let within : c.len-old.result + c.in-Ok-read.size ≤ c.resize.new.self.len = grind
+    (arith, c.in-Ok-read.ensures.bound, c.read.auto.buf, c.deref_mut.ensures.len) in
+    let small : length (take c.in-Ok-read.size c.read.new.buf) ≤ 4096 = grind (arith, within, c.in-Ok-read.ensures.bound, c.in-Ok.ensures.len) in (
+      take c.in-Ok-read.size c.read.new.buf,
+      c.truncate-in-Ok-read.ensures.items
+          ∙ read_part _ _ _ _ _ _ _ _ n before size within,
+      small,
+      c.in-Ok-read.ensures.bytes.0,
+    )
