@@ -14,6 +14,7 @@ use crate::scant_memory::scant_told;
 use crate::scant_networks::scant_network_told;
 use crate::scant_runs::scant_run_told;
 use crate::shapes::shape_told;
+use crate::stream_calls::{calls_told, scant_calls_told};
 use crate::tables::{added_told, called_told, filled_told};
 use crate::texts::{write_short, written};
 use crate::tokens::{number_told, token_told};
@@ -91,6 +92,10 @@ pub enum Probe {
     ScantRun,
     /// What the pushes of a stream's samples answer, with growths refused: `FILE | STREAM`.
     ScantStream,
+    /// What successive calls of a reader of lines answer: `TYPE | STREAM`.
+    Calls,
+    /// The same with no memory left.
+    ScantCalls,
 }
 
 /// Adds to the text what the probe finds.
@@ -128,6 +133,8 @@ fn tell(alloc: Global, probe: Probe, given: &str, out: &mut String) {
         Probe::ScantNetwork => scant_network_told(alloc, given, out),
         Probe::ScantRun => scant_run_told(alloc, given, out),
         Probe::ScantStream => scantly_told(alloc, given, out),
+        Probe::Calls => calls_told(alloc, given, out),
+        Probe::ScantCalls => scant_calls_told(alloc, given, out),
     }
 }
 

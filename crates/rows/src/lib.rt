@@ -46,6 +46,8 @@ mod scant_runs;
 #[cfg(test)]
 mod shapes;
 #[cfg(test)]
+mod stream_calls;
+#[cfg(test)]
 mod tables;
 #[cfg(test)]
 mod texts;

@@ -51,7 +51,8 @@ fn piece_told(
 
 /// Tells what a run of the network on the stream writes where a device fails, `FILE | FAILURE |
 /// STREAM`: `read N` for the read of that number, one byte a read; `write M N` for the write of
-/// that number, M bytes a write; `quiet M N` where it takes 0 bytes in place of failing.
+/// that number, M bytes a write; `quiet M N` where it takes 0 bytes in place of failing. For `most`,
+/// where none fails, how many nodes a sample visits at most.
 pub fn failing_told(alloc: Global, given: &str, out: &mut String) {
     let (file, behind) = parted(given);
     let (failure, stream) = parted(behind);
@@ -76,6 +77,7 @@ pub fn failure_tried(
         "read" => unread_told(alloc, bound, table, stream, a, out),
         "write" => unwritten_told(alloc, bound, table, stream, (a, b, false), out),
         "quiet" => unwritten_told(alloc, bound, table, stream, (a, b, true), out),
+        "most" => most_told(alloc, bound, table, stream, out),
         "scant" => scant_told(alloc, bound, table, stream, out),
         "witness" => witness_told(alloc, bound, table, stream, out),
         _ => repeats_told(alloc, bound, table, a, out),
@@ -125,6 +127,20 @@ fn unwritten_told(
     say(out, ":");
     say(out, str::from_utf8(&written).unwrap_or("no text"));
     ended_told(alloc, ended, out);
+}
+
+/// Tells how many nodes a run visits at most at a sample.
+fn most_told(alloc: Global, bound: &Bound, table: &LeafTable, stream: &str, out: &mut String)
+    requires { FitsTable (rows_of table.now) bound.now }
+{
+    let mut reader = Counted::new(stream.as_bytes());
+    let mut writer = Counted::new(Vec::new(alloc));
+    let ended = run(alloc, bound, table, &mut reader, &mut writer);
+    drop(writer);
+    match ended {
+        Ok(report) => say_at(out, "most", report.most_visits as usize),
+        Err(fault) => drop(fault),
+    }
 }
 
 /// How many lines a run counts.
@@ -231,7 +247,32 @@ static FAILURES: &str = "
 ‹increment› | read 12 | 5␤+1 6␤+1 7 => lines 2:0␤6␤status 3 stream: cannot be read
 ‹increment› | read 13 | 5␤+1 6␤+1 7 => lines 3:0␤6␤7␤
 ‹increment› | read 9 | 5␤+0 6␤+1 7 => lines 1:0␤status 1 stream: line 2: step
+yampa 1 input Int ‹resumed› | read 1 | 0␤+4 0␤+5 1␤+6 0␤+7 2␤+1 0 => lines 0:status 3 stream: cannot be read
+yampa 1 input Int ‹resumed› | read 2 | 0␤+4 0␤+5 1␤+6 0␤+7 2␤+1 0 => lines 0:status 3 stream: cannot be read
 yampa 1 input Int ‹resumed› | read 3 | 0␤+4 0␤+5 1␤+6 0␤+7 2␤+1 0 => lines 1:0␤status 3 stream: cannot be read
+yampa 1 input Int ‹resumed› | read 4 | 0␤+4 0␤+5 1␤+6 0␤+7 2␤+1 0 => lines 1:0␤status 3 stream: cannot be read
+yampa 1 input Int ‹resumed› | read 5 | 0␤+4 0␤+5 1␤+6 0␤+7 2␤+1 0 => lines 1:0␤status 3 stream: cannot be read
+yampa 1 input Int ‹resumed› | read 6 | 0␤+4 0␤+5 1␤+6 0␤+7 2␤+1 0 => lines 1:0␤status 3 stream: cannot be read
+yampa 1 input Int ‹resumed› | read 7 | 0␤+4 0␤+5 1␤+6 0␤+7 2␤+1 0 => lines 1:0␤status 3 stream: cannot be read
+yampa 1 input Int ‹resumed› | read 8 | 0␤+4 0␤+5 1␤+6 0␤+7 2␤+1 0 => lines 2:0␤4␤status 3 stream: cannot be read
+yampa 1 input Int ‹resumed› | read 9 | 0␤+4 0␤+5 1␤+6 0␤+7 2␤+1 0 => lines 2:0␤4␤status 3 stream: cannot be read
+yampa 1 input Int ‹resumed› | read 10 | 0␤+4 0␤+5 1␤+6 0␤+7 2␤+1 0 => lines 2:0␤4␤status 3 stream: cannot be read
+yampa 1 input Int ‹resumed› | read 11 | 0␤+4 0␤+5 1␤+6 0␤+7 2␤+1 0 => lines 2:0␤4␤status 3 stream: cannot be read
+yampa 1 input Int ‹resumed› | read 12 | 0␤+4 0␤+5 1␤+6 0␤+7 2␤+1 0 => lines 2:0␤4␤status 3 stream: cannot be read
+yampa 1 input Int ‹resumed› | read 13 | 0␤+4 0␤+5 1␤+6 0␤+7 2␤+1 0 => lines 3:0␤4␤-1␤status 3 stream: cannot be read
+yampa 1 input Int ‹resumed› | read 14 | 0␤+4 0␤+5 1␤+6 0␤+7 2␤+1 0 => lines 3:0␤4␤-1␤status 3 stream: cannot be read
+yampa 1 input Int ‹resumed› | read 15 | 0␤+4 0␤+5 1␤+6 0␤+7 2␤+1 0 => lines 3:0␤4␤-1␤status 3 stream: cannot be read
+yampa 1 input Int ‹resumed› | read 16 | 0␤+4 0␤+5 1␤+6 0␤+7 2␤+1 0 => lines 3:0␤4␤-1␤status 3 stream: cannot be read
+yampa 1 input Int ‹resumed› | read 17 | 0␤+4 0␤+5 1␤+6 0␤+7 2␤+1 0 => lines 3:0␤4␤-1␤status 3 stream: cannot be read
+yampa 1 input Int ‹resumed› | read 18 | 0␤+4 0␤+5 1␤+6 0␤+7 2␤+1 0 => lines 4:0␤4␤-1␤-1␤status 3 stream: cannot be read
+yampa 1 input Int ‹resumed› | read 19 | 0␤+4 0␤+5 1␤+6 0␤+7 2␤+1 0 => lines 4:0␤4␤-1␤-1␤status 3 stream: cannot be read
+yampa 1 input Int ‹resumed› | read 20 | 0␤+4 0␤+5 1␤+6 0␤+7 2␤+1 0 => lines 4:0␤4␤-1␤-1␤status 3 stream: cannot be read
+yampa 1 input Int ‹resumed› | read 21 | 0␤+4 0␤+5 1␤+6 0␤+7 2␤+1 0 => lines 4:0␤4␤-1␤-1␤status 3 stream: cannot be read
+yampa 1 input Int ‹resumed› | read 22 | 0␤+4 0␤+5 1␤+6 0␤+7 2␤+1 0 => lines 4:0␤4␤-1␤-1␤status 3 stream: cannot be read
+yampa 1 input Int ‹resumed› | read 23 | 0␤+4 0␤+5 1␤+6 0␤+7 2␤+1 0 => lines 5:0␤4␤-1␤-1␤9␤status 3 stream: cannot be read
+yampa 1 input Int ‹resumed› | read 24 | 0␤+4 0␤+5 1␤+6 0␤+7 2␤+1 0 => lines 5:0␤4␤-1␤-1␤9␤status 3 stream: cannot be read
+yampa 1 input Int ‹resumed› | read 25 | 0␤+4 0␤+5 1␤+6 0␤+7 2␤+1 0 => lines 5:0␤4␤-1␤-1␤9␤status 3 stream: cannot be read
+yampa 1 input Int ‹resumed› | read 26 | 0␤+4 0␤+5 1␤+6 0␤+7 2␤+1 0 => lines 5:0␤4␤-1␤-1␤9␤status 3 stream: cannot be read
 yampa 1 input Int ‹resumed› | read 27 | 0␤+4 0␤+5 1␤+6 0␤+7 2␤+1 0 => lines 5:0␤4␤-1␤-1␤9␤status 3 stream: cannot be read
 yampa 1 input Int ‹resumed› | read 28 | 0␤+4 0␤+5 1␤+6 0␤+7 2␤+1 0 => lines 6:0␤4␤-1␤-1␤9␤10␤
 § Each write fails in turn, one byte a write or three.
@@ -242,11 +283,30 @@ yampa 1 input Int ‹resumed› | read 28 | 0␤+4 0␤+5 1␤+6 0␤+7 2␤+1 0
 ‹increment› | write 1 0 | 5␤+1 6␤+1 7 => lines 3:0␤6␤7␤
 ‹increment› | quiet 1 4 | 5␤+1 6␤+1 7 => lines 1:0␤6status 3 output: cannot be written
 ‹increment› | quiet 0 0 | 5␤+1 6␤+1 7 => lines 0:status 3 output: cannot be written
+yampa 1 input Int ‹resumed› | write 1 1 | 0␤+4 0␤+5 1␤+6 0␤+7 2␤+1 0 => lines 0:status 3 output: cannot be written
+yampa 1 input Int ‹resumed› | write 1 2 | 0␤+4 0␤+5 1␤+6 0␤+7 2␤+1 0 => lines 0:0status 3 output: cannot be written
+yampa 1 input Int ‹resumed› | write 1 3 | 0␤+4 0␤+5 1␤+6 0␤+7 2␤+1 0 => lines 1:0␤status 3 output: cannot be written
+yampa 1 input Int ‹resumed› | write 1 4 | 0␤+4 0␤+5 1␤+6 0␤+7 2␤+1 0 => lines 1:0␤4status 3 output: cannot be written
+yampa 1 input Int ‹resumed› | write 1 5 | 0␤+4 0␤+5 1␤+6 0␤+7 2␤+1 0 => lines 2:0␤4␤status 3 output: cannot be written
 yampa 1 input Int ‹resumed› | write 1 6 | 0␤+4 0␤+5 1␤+6 0␤+7 2␤+1 0 => lines 2:0␤4␤-status 3 output: cannot be written
+yampa 1 input Int ‹resumed› | write 1 7 | 0␤+4 0␤+5 1␤+6 0␤+7 2␤+1 0 => lines 2:0␤4␤-1status 3 output: cannot be written
+yampa 1 input Int ‹resumed› | write 1 8 | 0␤+4 0␤+5 1␤+6 0␤+7 2␤+1 0 => lines 3:0␤4␤-1␤status 3 output: cannot be written
+yampa 1 input Int ‹resumed› | write 1 9 | 0␤+4 0␤+5 1␤+6 0␤+7 2␤+1 0 => lines 3:0␤4␤-1␤-status 3 output: cannot be written
+yampa 1 input Int ‹resumed› | write 1 10 | 0␤+4 0␤+5 1␤+6 0␤+7 2␤+1 0 => lines 3:0␤4␤-1␤-1status 3 output: cannot be written
+yampa 1 input Int ‹resumed› | write 1 11 | 0␤+4 0␤+5 1␤+6 0␤+7 2␤+1 0 => lines 4:0␤4␤-1␤-1␤status 3 output: cannot be written
+yampa 1 input Int ‹resumed› | write 1 12 | 0␤+4 0␤+5 1␤+6 0␤+7 2␤+1 0 => lines 4:0␤4␤-1␤-1␤9status 3 output: cannot be written
 yampa 1 input Int ‹resumed› | write 1 13 | 0␤+4 0␤+5 1␤+6 0␤+7 2␤+1 0 => lines 5:0␤4␤-1␤-1␤9␤status 3 output: cannot be written
-yampa 1 input Int ‹resumed› | write 1 0 | 0␤+4 0␤+5 1␤+6 0␤+7 2␤+1 0 => lines 6:0␤4␤-1␤-1␤9␤10␤
+yampa 1 input Int ‹resumed› | write 1 14 | 0␤+4 0␤+5 1␤+6 0␤+7 2␤+1 0 => lines 5:0␤4␤-1␤-1␤9␤1status 3 output: cannot be written
+yampa 1 input Int ‹resumed› | write 1 15 | 0␤+4 0␤+5 1␤+6 0␤+7 2␤+1 0 => lines 5:0␤4␤-1␤-1␤9␤10status 3 output: cannot be written
+yampa 1 input Int ‹resumed› | write 1 16 | 0␤+4 0␤+5 1␤+6 0␤+7 2␤+1 0 => lines 6:0␤4␤-1␤-1␤9␤10␤
 § Each line is written before the next byte is asked for.
 ‹increment› | witness | 5␤+1 6␤+1 7 => ..0␤.....6␤.....
+§ The most nodes that a sample visits.
+‹increment› | most | 5␤+1 6␤+1 7 => most 3
+‹increment› | most | => most 0
+yampa 1 input Int ‹switched twice› | most | 1␤+1 20␤+1 3 => most 5
+yampa 1 input Int ‹resumed› | most | 0␤+4 0␤+5 1␤+6 0␤+7 2␤+1 0 => most 5
+yampa 1 input Int ‹routed› | most | 2␤+3 2␤+4 7␤+1 0 => most 9
 § Growths are refused.
 ‹increment› | scant | 5␤+1 6␤+1 7 => refused at first
 yampa 1 input Int ‹resumed› | scant | 0␤+4 0␤+5 1␤+6 0␤+7 2␤+1 0 => refused at first
