@@ -8,5 +8,6 @@ pub mod Hearing
 pub mod WholeValues
 pub mod StepLaws
 pub mod LineLaws
+pub mod LineFaults
 pub mod FeedFree
 pub mod WrittenStreams

@@ -132,7 +132,7 @@ read value step A n (Some before) line x h = go h.2
         (no_equals rest (subst Begins (sym e.1) (spelling_begins x.1 A e.0)))
         ∙ ap (with_step x.0) ((value A n rest x.1).1 (e.0, e.1))
 
-behind_limits : (A : TypeTree) (n : ℕ) (before : Option Datum) (line : List ℕ) → n ≤ 1000000 → length line ≤ 65536
+pub behind_limits : (A : TypeTree) (n : ℕ) (before : Option Datum) (line : List ℕ) → n ≤ 1000000 → length line ≤ 65536
     → line_read A n before line ≡ line_after A n before line
 behind_limits A n before line l m =
     let a : nat_lt 1000000 n ≡ false = grind (arith, nat_tests, l) in

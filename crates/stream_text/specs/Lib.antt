@@ -12,4 +12,5 @@ pub mod ReaderState
 pub mod LineReaderView
 pub mod Hearing
 pub mod LineLaws
+pub mod LineFaults
 pub mod WrittenStreams

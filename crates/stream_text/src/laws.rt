@@ -1,6 +1,7 @@
 // What the answers of a reader of lines tell of its stream, as laws of the definitions.
 
 ghost use Rattle.stream_text.specs.Hearing.{BeginLaw, MoreLaw, EndLaw, FaultyLaw, UnreadLaw};
+ghost use Rattle.stream_text.specs.LineFaults.{LineFaultLaw};
 ghost use Rattle.stream_text.specs.LineLaws.{LineLaw, StepLaw, WholeValueLaw};
 ghost use Rattle.stream_text.specs.WrittenStreams.{WrittenLaw};
 
@@ -10,7 +11,8 @@ use sample_core::reading_laws;
 /// more, these are all, and where one answers a line's fault, these are those before it. Where a
 /// call could not read on, they are those of the bytes that were read. A line is read as a sample
 /// exactly where it holds it: line 1 the value's spelling, a later line a step and the value's
-/// spelling or `=`. A timed list that is written is read back.
+/// spelling or `=`; and it has a fault exactly where that fault's row of the table of faults holds.
+/// A timed list that is written is read back.
 pub fn stream_laws()
     ensures begins { BeginLaw }
     ensures more { MoreLaw }
@@ -20,6 +22,7 @@ pub fn stream_laws()
     ensures value { WholeValueLaw }
     ensures step { StepLaw }
     ensures line { LineLaw }
+    ensures fault { LineFaultLaw }
     ensures written { WrittenLaw }
 {
     reading_laws();

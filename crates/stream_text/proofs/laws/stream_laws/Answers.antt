@@ -1,4 +1,5 @@
 use Rattle.stream_text.proofs.Hearing.{begin_law, more_law, end_law, faulty_law, unread_law}
+use Rattle.stream_text.proofs.LineFaults.{line_fault_law}
 use Rattle.stream_text.proofs.LineLaws.{line_law}
 use Rattle.stream_text.proofs.StepLaws.{step_law}
 use Rattle.stream_text.proofs.WholeValues.{whole_values}
@@ -15,5 +16,6 @@ returns c = record {
   value = whole_values c.reading_laws.ensures.found;
   step = step_law;
   line = line_law (whole_values c.reading_laws.ensures.found) step_law;
+  fault = line_fault_law step_law;
   written = written_law (line_law (whole_values c.reading_laws.ensures.found) step_law);
 }
