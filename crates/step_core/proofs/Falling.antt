@@ -1,6 +1,5 @@
 -- Each part of what runs weighs less than it.
 use Rattle.std.proofs.Common.{◌≡◌, ℕ, ◌+◌, ◌*◌, ◌<◌, ◌≤◌, max, List, [], ◌∷◌, ◌++◌, refl, ap, ◌∙◌, arith}
-use Rattle.std.proofs.Math.Nat.{le-max_left, le-max_right}
 use Rattle.sample_core.specs.Datum.{Datum, unit}
 use Rattle.sample_core.specs.ValueView.{datum_of}
 use Rattle.leaf_core.specs.KeyTree.{KeyTree}
@@ -131,10 +130,3 @@ over_old_weighs t s s' u p e = ap (λ z. weight t z) (ap ranks_in e ∙ ranks-ol
 pub over_olds_weighs : (t : Network ℕ) (s s' : Scope ℕ) (u : Datum) (ms : Frozens ℕ) → s' ≡ push_olds (push_param s u) ms → frozen_rank (unstarted t s')
     ≡ weight t (ranks_in s ++ frozen_ranks ms)
 over_olds_weighs t s s' u ms e = ap (λ z. weight t z) (ap ranks_in e ∙ ranks-olds s u ms)
-
--- the sooner started of two parts, and the other
-pub left_within : (m n : ℕ) → 5 * m < 5 * max m n + 4
-left_within m n = omega (arith, le-max_left m n)
-
-pub right_within : (m n k : ℕ) → k ≡ n → 5 * k < 5 * max m n + 4
-right_within m n k e = omega (arith, le-max_right m n, e)

@@ -199,9 +199,8 @@ fn spell(text: &mut String, value: &Sample) -> Result<(), Memory>
 }
 
 /// Writes all of the bytes, or a part from the front. `Write`: a write failed or took no byte, so
-/// that the writer has failed more often than `failures`. A
-/// failure that the writer doesn't count is none, and the write is made again; `Memory` after 2^64
-/// of these.
+/// that the writer has failed more often than `failures`. A failure that the writer doesn't count
+/// is none, and the write is made again; `Memory` after 2^64 of these.
 fn put<W: Write + Device>(writer: &mut W, failures: u64, bytes: &[u8]) -> Result<(), Stop>
     ensures all { OnOk result (Appends (W.contents writer.old) (W.contents writer.new)
         bytes.now) }
