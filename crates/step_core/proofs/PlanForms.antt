@@ -92,6 +92,3 @@ gather_by n g z s ps e h = subst (λ m. GatherBy (unstarted m s) g z ps) (sym e)
 
 pub old_by : (n : Network ℕ) (k : ℕ) (s : Scope ℕ) (f : Frozen ℕ) → n ≡ old k → frozen_at (frozens_of s) k ≡ Some f → OldBy (unstarted n s) f
 old_by n k s f e h = subst (λ z. OldBy (unstarted z s) f) (sym e) (R.old_new h)
-
-pub by_frozen : (w f g : Frozen ℕ) → f ≡ g → OldBy w f → OldBy w g
-by_frozen w f g e h = subst (λ z. OldBy w z) e h

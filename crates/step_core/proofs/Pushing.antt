@@ -15,7 +15,7 @@ use Rattle.state_core.specs.CountedContext.{counted_meaning}
 use Rattle.state_core.specs.CountedFunction.{TakesSample}
 use Rattle.state_core.specs.EmptyScope.{empty_context, empty_scope}
 use Rattle.state_core.specs.Stands.{Stands}
-use Rattle.state_core.specs.State.{State, Frozen, scope, no_frozen, unstarted, paused}
+use Rattle.state_core.specs.State.{State, Scope, Frozen, scope, no_frozen, unstarted, paused}
 use Rattle.step_core.specs.Binding.{FitsTable}
 use Rattle.step_core.specs.EnvironmentVisits.{visits_of}
 use Rattle.step_core.specs.RowTyping.{row_expression}
@@ -142,11 +142,11 @@ new_stands r none unvisited nothing h = record {
 }
 
 -- the first sample, where the network and its scope are these by equations
-pub first_pushed_from : (r : RunnerState) (x : ℕ × Datum) (y : Datum) (a : State ℕ) (m : ℕ) (rows : Network ℕ) (ps : List Datum) → r.state ≡ None
-    → HasType x.1 r.input → rows ≡ r.rows → ps ≡ [] → RunsWhere r.keys (unstarted rows (scope ps no_frozen)) x.1 a y m → Pushes r x y (later r a m)
-first_pushed_from r x y a m rows ps none t same empty runs = first_pushed r x y a m none t
-    (subst (λ o. RunsWhere r.keys (unstarted r.rows (scope o no_frozen)) x.1 a y m) empty
-    (subst (λ o. RunsWhere r.keys (unstarted o (scope ps no_frozen)) x.1 a y m) same runs))
+pub first_pushed_from : (r : RunnerState) (x : ℕ × Datum) (y : Datum) (a : State ℕ) (m : ℕ) (rows : Network ℕ) (s : Scope ℕ) → r.state ≡ None
+    → HasType x.1 r.input → rows ≡ r.rows → s ≡ scope [] no_frozen → RunsWhere r.keys (unstarted rows s) x.1 a y m → Pushes r x y (later r a m)
+first_pushed_from r x y a m rows s none t same empty runs = first_pushed r x y a m none t
+    (subst (λ o. RunsWhere r.keys (unstarted r.rows o) x.1 a y m) empty
+    (subst (λ o. RunsWhere r.keys (unstarted o s) x.1 a y m) same runs))
 
 -- the same for a runner whose values are these by equations
 pub pushed_as : (r : RunnerState) (x : ℕ × Datum) (y y' : Datum) (a : State ℕ) (m m' n : ℕ) (s : Option (State ℕ)) → s ≡ Some a → n ≡ suc r.samples

@@ -13,7 +13,7 @@ use crate::plan::Source;
 use crate::run::run;
 use leaf_table::LeafTable;
 use sample_core::{Memory, Sample};
-use state_core::{Env, Olds, Params, State};
+use state_core::{Env, State};
 use std::alloc::Global;
 
 /// A network that runs. It borrows the network and the table, and holds the network's state, once
@@ -75,10 +75,7 @@ impl<'a> Runner<'a> {
             (runner_state self.new)) }
         ensures unchanged { OnErr result (runner_state self.new ≡ runner_state self.old) }
     {
-        let env = Env {
-            params: Params::none(),
-            olds: Olds::Nothing,
-        };
+        let env = Env::nothing();
         let from = match &self.state {
             Some(state) => Source::State(state),
             None => Source::Net(self.bound.net(), &env),

@@ -28,7 +28,7 @@ after_push g c =
       | in-Some w ↦ next_pushed (runner_state c.args.self.now) _ _ _ _ _ (ap state_in w.in-Some.is) c.requires.typed
           (subst (λ o. RunsWhere (rows_of c.args.self.now.table.now) (source_of o c.args.step) (datum_of c.args.sample.now) c.in_ok-ran.ran.state
           c.in_ok-ran.ran.answer c.in_ok-ran.ran.visits) w.from-is c.in_ok-ran.ensures)
-      | in-None w ↦ first_pushed_from (runner_state c.args.self.now) _ _ _ _ _ _ (ap state_in w.in-None.is) c.requires.typed w.net.ensures c.none.ensures
+      | in-None w ↦ first_pushed_from (runner_state c.args.self.now) _ _ _ _ _ _ (ap state_in w.in-None.is) c.requires.typed w.net.ensures c.nothing-env.ensures
           (subst (λ o. RunsWhere (rows_of c.args.self.now.table.now) (source_of o c.args.step) (datum_of c.args.sample.now) c.in_ok-ran.ran.state
           c.in_ok-ran.ran.answer c.in_ok-ran.ran.visits) w.from-is c.in_ok-ran.ensures)
     ])
