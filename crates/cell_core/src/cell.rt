@@ -4,7 +4,7 @@ ghost use Rattle.std.specs.Prelude.{◌≡◌, ◌≢◌, IfOk, MatchOption};
 ghost use Rattle.sample_core.specs.Datum.{Datum};
 ghost use Rattle.sample_core.specs.ValueView.{datum_of};
 ghost use Rattle.cell_core.specs.CellView.{cell_of, outcome_of};
-ghost use Rattle.cell_core.specs.Cell.{cell_step, accumulating};
+ghost use Rattle.cell_core.specs.Cell.{cell_step, accumulating, previous as keeping};
 ghost use Rattle.cell_core.specs.Start.{IsWithin, cell_start};
 
 use crate::delay::Delay;
@@ -94,6 +94,17 @@ impl Cell {
     {
         match self {
             Cell::AccumBy(accumulator) => Some(accumulator),
+            _ => None,
+        }
+    }
+
+    /// The sample before, of an `iPre`; nothing for another cell.
+    pub fn previous(&self) -> Option<&Sample>
+        ensures { MatchOption result ((v : Datum) → cell_of self.now ≢ keeping v)
+            (λ v. cell_of self.now ≡ keeping (datum_of v.now)) }
+    {
+        match self {
+            Cell::IPre(before) => Some(before),
             _ => None,
         }
     }
