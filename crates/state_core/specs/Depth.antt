@@ -16,8 +16,7 @@ use Rattle.state_core.specs.StateView.{state_of, node_of, states_of, frozen_of, 
 
 -- a state's depth in the code is at most its size
 pub state_le : (n : CodeState) → deep-State n ≤ state_size (state_of n) + 1
-state_le (S.Still net ps) = omega arith
-state_le (S.Cell k) = omega arith
+state_le (S.Static net ps ks) = omega arith
 state_le (S.Whole w) = omega arith
 
 pub olds_le : (o : Olds) → deep-Olds o ≤ frozens_size (olds_of o) + 1
@@ -32,7 +31,6 @@ pub node_le : (n : Node) → max (deep-Node n) 0 ≤ state_size (node_of n)
 node_le (N.Seq a b) = omega (arith, state_le a, state_le b)
 node_le (N.First a) = omega (arith, state_le a)
 node_le (N.Par as') = omega arith
-node_le (N.AccumBy a) = omega arith
 node_le (N.LoopPre v a) = omega (arith, state_le a)
 node_le (N.Switch a t s) = omega (arith, state_le a, olds_le s.olds)
 node_le (N.DSwitch a t s) = omega (arith, state_le a, olds_le s.olds)

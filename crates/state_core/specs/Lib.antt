@@ -8,9 +8,10 @@ pub mod StandsByForm
 pub mod Stands
 pub mod RowsView
 pub mod ParamsView
-pub mod AccumulatorView
+pub mod CellCode
+pub mod CellsView
 pub mod StateCode
 pub mod Sizes
+pub mod StaticNetwork
 pub mod StateView
 pub mod Depth
-pub mod StillNetwork

@@ -3,11 +3,10 @@ use Rattle.std.specs.Prelude.{◌≡◌, ℕ, List, [], ◌∷◌, Option, Some,
 use Rattle.std.proofs.Common.{Bor}
 use Rattle.sample_core.specs.Datum.{Datum}
 use Rattle.sample_core.specs.ValueView.{datum_of}
-use Rattle.net_syntax.specs.Network.{Network, Networks, arr, seq, first, par, no_members, and_member}
+use Rattle.net_syntax.specs.Network.{Network}
 use Rattle.state_core.specs.RowsView.{row_number, rows_in}
-use Rattle.cell_core.specs.CellView.{cell_of}
-use Rattle.state_core.specs.AccumulatorView.{accumulator_state}
-use Rattle.state_core.specs.State.{State, States, Scope, Frozens, Frozen, arr_state, seq_state, first_state, par_state, loop_state, cell_state, switch_state, d_switch_state, r_switch_state, k_switch_state, p_switch_state, no_state, and_state, scope, no_frozen, and_frozen, unstarted, paused, frozen_at}
+use Rattle.state_core.specs.StaticNetwork.{static_state}
+use Rattle.state_core.specs.State.{State, States, Scope, Frozens, Frozen, seq_state, first_state, par_state, loop_state, switch_state, d_switch_state, r_switch_state, k_switch_state, p_switch_state, no_state, and_state, scope, no_frozen, and_frozen, unstarted, paused, frozen_at}
 use Rattle.state_core.specs.declared.state.State.{State as CodeState}
 use Rattle.state_core.specs.declared.state.State.TheVariants as S
 use Rattle.state_core.specs.declared.state.KSwitchParts.{KSwitchParts}
@@ -20,20 +19,6 @@ use Rattle.state_core.specs.declared.env.Olds.TheVariants as O
 use Rattle.state_core.specs.declared.env.Frozen.{Frozen as CodeFrozen}
 use Rattle.state_core.specs.declared.env.Frozen.TheVariants as F
 
-abbrev mutual
-  -- the state of a network that keeps nothing; one that keeps something has none, and gets k
-  pub still_of : {L : Type 0} → L → Network L → List Datum → State L
-  still_of k (arr e) ps = arr_state e ps
-  still_of k (seq f g) ps = seq_state (still_of k f ps) (still_of k g ps)
-  still_of k (first f) ps = first_state (still_of k f ps)
-  still_of k (par fs) ps = par_state (stills_of k fs ps)
-  still_of k _ ps = arr_state k ps
-
-  -- the same of members
-  pub stills_of : {L : Type 0} → L → Networks L → List Datum → States L
-  stills_of k no_members ps = no_state
-  stills_of k (and_member f fs) ps = and_state (still_of k f ps) (stills_of k fs ps)
-
 -- the frozen networks in scope
 abbrev pub olds_of : Olds → Frozens ℕ
 olds_of O.Nothing = no_frozen
@@ -45,8 +30,7 @@ scope_of e = scope e.params (olds_of e.olds)
 
 -- the state that a `State` is
 abbrev pub state_of : CodeState → State ℕ
-state_of (S.Still f ps) = still_of 0 (rows_in f.net.now) ps
-state_of (S.Cell k) = cell_state (cell_of k)
+state_of (S.Static f ps ks) = static_state (rows_in f.net.now) ps ks
 state_of (S.Whole w) = w
 
 -- the states of members
@@ -69,7 +53,6 @@ abbrev pub node_of : Node → State ℕ
 node_of (N.Seq a b) = seq_state (state_of a) (state_of b)
 node_of (N.First a) = first_state (state_of a)
 node_of (N.Par as') = par_state as'
-node_of (N.AccumBy a) = accumulator_state a
 node_of (N.LoopPre v a) = loop_state (datum_of v) (state_of a)
 node_of (N.Switch a t s) = switch_state (state_of a) (rows_in t.now) (scope_of s)
 node_of (N.DSwitch a t s) = d_switch_state (state_of a) (rows_in t.now) (scope_of s)

@@ -1,13 +1,14 @@
 // States of networks that run.
 
 ghost use Rattle.std.specs.Prelude.{◌≡◌, IfOk};
+ghost use Rattle.state_core.specs.RowsView.{rows_in};
 ghost use Rattle.state_core.specs.StateView.{state_of, node_of, states_of};
+ghost use Rattle.state_core.specs.StaticNetwork.{static_state};
 
-use crate::accumulator::Accumulator;
+use crate::cells::Cells;
 use crate::env::Env;
 use crate::params::Params;
-use crate::still::Still;
-use cell_core::Cell;
+use crate::static_net::StaticNet;
 use leaf_table::LeafId;
 use net_syntax::Net;
 use sample_core::{Memory, Sample};
@@ -19,11 +20,9 @@ use std::rc::Rc;
 #[cycle(state)]
 #[derive(Drop)]
 pub enum State<'n> {
-    /// A part that keeps nothing, with the parameters in its scope.
-    Still(Still<'n>, Params),
-    /// A cell.
-    Cell(Cell),
-    /// A node.
+    /// A network without switches, with the parameters in its scope and its cells.
+    Static(StaticNet<'n>, Params, Cells),
+    /// A node round the states of its parts.
     Whole(Whole<'n>),
 }
 
@@ -41,7 +40,7 @@ pub struct States<'n> {
     all: Vec<State<'n>>,
 }
 
-/// A node of a state: one with parts, or an `accumBy`.
+/// A node of a state, round the states of its parts.
 #[cycle(state)]
 #[derive(Drop)]
 pub enum Node<'n> {
@@ -51,8 +50,6 @@ pub enum Node<'n> {
     First(State<'n>),
     /// `parB`.
     Par(States<'n>),
-    /// `accumBy`.
-    AccumBy(Accumulator),
     /// `loopPre`: what is fed back next, and the part.
     LoopPre(Sample, State<'n>),
     /// `switch` before its first event: the part that runs, the network that takes over, and its
@@ -191,9 +188,28 @@ impl<'n> State<'n> {
         ensures { IfOk result (λ s. state_of s ≡ state_of self.now) }
     {
         match self {
-            State::Still(still, params) => Ok(State::Still(*still, params.try_copy()?)),
-            State::Cell(cell) => Ok(State::Cell(cell.try_copy(alloc)?)),
+            State::Static(net, params, cells) => static_copy(alloc, *net, params, cells),
             State::Whole(whole) => Ok(State::Whole(whole.try_copy()?)),
+        }
+    }
+}
+
+/// The state of a network without switches, with copies of its parameters and its cells.
+fn static_copy<'n>(
+    alloc: Global,
+    net: StaticNet<'n>,
+    params: &Params,
+    cells: &Cells,
+) -> Result<State<'n>, Memory>
+    ensures { IfOk result
+        (λ s. state_of s ≡ static_state (rows_in net.entry.net.now) params.now cells.now) }
+{
+    let cells = cells.try_copy(alloc)?;
+    match params.try_copy() {
+        Ok(params) => Ok(State::Static(net, params, cells)),
+        Err(memory) => {
+            drop(cells);
+            Err(memory)
         }
     }
 }

@@ -1,5 +1,5 @@
 -- Each part of what runs weighs less than it.
-use Rattle.std.proofs.Common.{◌≡◌, ℕ, ◌+◌, ◌*◌, ◌<◌, ◌≤◌, max, List, [], ◌∷◌, ◌++◌, refl, ap, ◌∙◌, arith}
+use Rattle.std.proofs.Common.{◌≡◌, ℕ, ◌+◌, ◌<◌, ◌≤◌, max, List, [], ◌∷◌, ◌++◌, refl, ap, ◌∙◌, arith}
 use Rattle.sample_core.specs.Datum.{Datum, unit}
 use Rattle.sample_core.specs.ValueView.{datum_of}
 use Rattle.leaf_core.specs.KeyTree.{KeyTree}

@@ -16,7 +16,9 @@ pub mod EngineMeets
 pub mod Runners
 pub mod Ranks
 pub mod StateTypings
-pub mod StillRuns
+pub mod CalledRows
+pub mod StaticStates
+pub mod Flows
 pub mod RunForms
 pub mod PlanForms
 pub mod RunCells

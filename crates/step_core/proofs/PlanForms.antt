@@ -1,22 +1,24 @@
 -- The parts of what runs, where it is of a form by an equation.
-use Rattle.std.proofs.Common.{◌≡◌, ℕ, List, Option, Some, sym, subst}
+use Rattle.std.proofs.Common.{◌≡◌, ℕ, List, Some, None, sym, subst}
 use Rattle.sample_core.specs.Datum.{Datum}
 use Rattle.leaf_core.specs.KeyTree.{KeyTree}
-use Rattle.net_syntax.specs.Network.{Network, Networks, seq, first, par, loop_pre, accum_by, switch, d_switch, r_switch, k_switch, p_switch, old}
+use Rattle.net_syntax.specs.Network.{Network, Networks, seq, first, par, loop_pre, switch, d_switch, r_switch, k_switch, p_switch, old}
+use Rattle.state_core.specs.State.{State, States, Scope, Frozen, seq_state, first_state, par_state, loop_state, switch_state, d_switch_state, r_switch_state, k_switch_state, p_switch_state, unstarted, paused, params_of, frozens_of, frozen_at, all_unstarted, all_paused}
 use Rattle.cell_core.specs.Cell.{Cell}
-use Rattle.cell_core.specs.declared.form.Form.{Form}
-use Rattle.state_core.specs.State.{State, States, Scope, Frozen, seq_state, first_state, par_state, loop_state, cell_state, accum_state, switch_state, d_switch_state, r_switch_state, k_switch_state, p_switch_state, unstarted, paused, params_of, frozens_of, frozen_at, all_unstarted, all_paused}
-use Rattle.state_core.specs.StateView.{still_of}
+use Rattle.state_core.specs.StaticNetwork.{static_state}
 use Rattle.step_core.specs.Called.{Called}
+use Rattle.step_core.specs.Flow as F
+use Rattle.step_core.specs.Flow.{IsFlow}
 use Rattle.step_core.specs.Runs as R
-use Rattle.step_core.specs.Runs.{StillBy, StartBy, GatherBy, CellBy, AccumBy, SeqBy, FirstBy, ParBy, LoopBy, SwitchBy, DSwitchBy, RSwitchBy, KSwitchBy, PSwitchBy, OldBy}
+use Rattle.step_core.specs.Runs.{SeqBy, FirstBy, ParBy, LoopBy, SwitchBy, DSwitchBy, RSwitchBy, KSwitchBy, PSwitchBy, OldBy}
 use Rattle.sample_core.specs.Datum.{unit}
 
-pub still_new_by : (n m : Network ℕ) (s : Scope ℕ) → n ≡ m → StillBy (unstarted n s) m (params_of s)
-still_new_by n m s e = subst (λ z. StillBy (unstarted n s) z (params_of s)) e R.still_new
+pub flow_new_by : (n m : Network ℕ) (s : Scope ℕ) → n ≡ m → IsFlow (unstarted n s) m (params_of s) None
+flow_new_by n m s e = subst (λ z. IsFlow (unstarted n s) z (params_of s) None) e F.flow_new
 
-pub still_on_by : (a : State ℕ) (n : Network ℕ) (ps : List Datum) (d : ℕ) → a ≡ still_of 0 n ps → StillBy (paused a d) n ps
-still_on_by a n ps d e = subst (λ z. StillBy (paused z d) n ps) (sym e) R.still_on
+pub flow_on_by : (a : State ℕ) (n : Network ℕ) (ps : List Datum) (ks : List Cell) (d : ℕ) → a ≡ static_state n ps ks
+    → IsFlow (paused a d) n ps (Some (ks, d))
+flow_on_by a n ps ks d e = subst (λ z. IsFlow (paused z d) n ps (Some (ks, d))) (sym e) F.flow_on
 
 pub seq_new_by : (n f g : Network ℕ) (s : Scope ℕ) → n ≡ seq f g → SeqBy (unstarted n s) (unstarted f s) (unstarted g s)
 seq_new_by n f g s e = subst (λ z. SeqBy (unstarted z s) (unstarted f s) (unstarted g s)) (sym e) R.seq_new
@@ -76,19 +78,6 @@ p_switch_new_by n r fs e t s h = subst (λ z. PSwitchBy (unstarted z s) r (all_u
 pub p_switch_on_by : (w : State ℕ) (r : ℕ) (as' : States ℕ) (b : State ℕ) (t : Network ℕ) (s : Scope ℕ) (d : ℕ) → w ≡ p_switch_state r as' b t s
     → PSwitchBy (paused w d) r (all_paused as' d) (paused b d) t s
 p_switch_on_by w r as' b t s d h = subst (λ z. PSwitchBy (paused z d) r (all_paused as' d) (paused b d) t s) (sym h) R.p_switch_on
-
-pub cell_on_by : (r : State ℕ) (k : Cell) (d : ℕ) → r ≡ cell_state k → CellBy (paused r d) d k
-cell_on_by r k d e = subst (λ z. CellBy (paused z d) d k) (sym e) R.cell_on
-
-pub accum_on_by : (r : State ℕ) (g : ℕ) (ps : List Datum) (acc : Datum) (d : ℕ) → r ≡ accum_state g ps acc → AccumBy (paused r d) g ps acc
-accum_on_by r g ps acc d e = subst (λ z. AccumBy (paused z d) g ps acc) (sym e) R.accum_on
-
-pub start_by : (n m : Network ℕ) (s : Scope ℕ) (form : Form) (c : Option ℕ) (ps : List Datum) → n ≡ m → params_of s ≡ ps
-    → StartBy (unstarted m s) form c (params_of s) → StartBy (unstarted n s) form c ps
-start_by n m s form c ps e h k = subst (λ z. StartBy (unstarted z s) form c ps) (sym e) (subst (λ z. StartBy (unstarted m s) form c z) h k)
-
-pub gather_by : (n : Network ℕ) (g z : ℕ) (s : Scope ℕ) (ps : List Datum) → n ≡ accum_by g z → params_of s ≡ ps → GatherBy (unstarted n s) g z ps
-gather_by n g z s ps e h = subst (λ m. GatherBy (unstarted m s) g z ps) (sym e) (subst (λ qs. GatherBy (unstarted (accum_by g z) s) g z qs) h R.gather_new)
 
 pub old_by : (n : Network ℕ) (k : ℕ) (s : Scope ℕ) (f : Frozen ℕ) → n ≡ old k → frozen_at (frozens_of s) k ≡ Some f → OldBy (unstarted n s) f
 old_by n k s f e h = subst (λ z. OldBy (unstarted z s) f) (sym e) (R.old_new h)

@@ -1,26 +1,22 @@
 -- What one sample does, form by form, by what it does to the parts.
-use Rattle.std.proofs.Common.{◌≡◌, ℕ, suc, ◌+◌, ◌<◌, ◌^◌, IsTrue, List, Some, None, refl, sym, ap, ◌∙◌, subst, arith}
+use Rattle.std.proofs.Common.{◌≡◌, ℕ, suc, ◌+◌, ◌<◌, ◌^◌, List, Some, None, sym, ap, ◌∙◌, subst, arith}
 use Rattle.sample_core.specs.Datum.{Datum, unit, left, right, pair}
 use Rattle.sample_core.specs.TypeTree.{TypeTree, pair_ty, event_ty}
-use Rattle.sample_core.specs.HasType.{HasType, TypedParams, pair_has, unit_has}
+use Rattle.sample_core.specs.HasType.{HasType, pair_has, unit_has}
 use Rattle.leaf_core.specs.KeyTree.{KeyTree}
-use Rattle.net_syntax.specs.Network.{Network, Networks}
+use Rattle.net_syntax.specs.Network.{Network}
 use Rattle.net_syntax.specs.Typing as N
 use Rattle.net_syntax.specs.Typing.{Arrow, AnyType, Typed, AllTyped, copies, members}
 use Rattle.state_core.specs.State.{State, Scope, Frozen, seq_state, first_state, loop_state, switch_state, d_switch_state, r_switch_state, k_switch_state, unstarted, paused, params_of, push_param, push_old}
 use Rattle.step_core.specs.Stepping.{event_in, restart_in}
-use Rattle.state_core.specs.StillNetwork.{is_still, are_still}
-use Rattle.state_core.specs.StateView.{still_of, stills_of}
 use Rattle.step_core.specs.Stepping as G
 use Rattle.step_core.specs.Stepping.{Starts, StartsEach, Resumes, Steps, StepsEach}
-use Rattle.step_core.specs.RowTyping.{RowTyped}
 use Rattle.step_core.specs.StateTyping as T
 use Rattle.step_core.specs.StateTyping.{StateTyped, StatesTyped, ScopeTyped, FrozenTyped, FrozensTyped, row_value}
-use Rattle.step_core.specs.Still.{Applied, AppliesWhere}
 use Rattle.step_core.specs.Runs as R
-use Rattle.step_core.specs.Runs.{Ran, RunsWhere, StillBy, SeqBy, FirstBy, LoopBy, SwitchBy, DSwitchBy, RSwitchBy, KSwitchBy, OldBy}
+use Rattle.step_core.specs.Runs.{Ran, RunsWhere, SeqBy, FirstBy, LoopBy, SwitchBy, DSwitchBy, RSwitchBy, KSwitchBy, OldBy}
 use Rattle.step_core.proofs.StateTypings.{resumes_typed, row_typed, event_typed, cut_typed, pushed_param, pushed_olds, old_typed, params_typed}
-use Rattle.step_core.proofs.StillRuns.{called_value, both_true}
+use Rattle.step_core.proofs.CalledRows.{called_value}
 
 left_typed : {v : Datum} {A B : TypeTree} → HasType v (pair_ty A B) → HasType (left v) A
 left_typed (pair_has a b) = a
@@ -36,35 +32,6 @@ module _ (keys : List KeyTree) where
   pub stepped : {a : State ℕ} {d : ℕ} {x : Datum} {b : State ℕ} {y : Datum} {n : ℕ} → Resumes (row_value keys) (paused a d) x b y n
       → Steps (row_value keys) a (d, x) b y n
   stepped (G.resume_paused k) = k
-
-  mutual
-    still_typed : {Ps : List TypeTree} {Os : List Arrow} {net : Network ℕ} {A B : TypeTree} {ps : List Datum} → Typed (RowTyped keys) AnyType Ps Os net A B
-        → IsTrue (is_still net) → TypedParams Ps ps → StateTyped keys (still_of 0 net ps) A B
-    still_typed (N.arr_typed r) i tp = T.arr_state_typed tp r
-    still_typed (N.seq_typed {f = f} {g = g} tf tg) i tp = let ii : IsTrue (is_still f)
-        × IsTrue (is_still g) = both_true (is_still f) (is_still g) i in T.seq_state_typed (still_typed tf ii.0 tp) (still_typed tg ii.1 tp)
-    still_typed (N.first_typed tf _) i tp = T.first_state_typed (still_typed tf i tp)
-    still_typed (N.par_typed lo hi ts _) i tp = T.par_state_typed hi (stills_typed ts i tp)
-    still_typed _ i tp = absurd (cc)
-
-    stills_typed : {Ps : List TypeTree} {Os : List Arrow} {fs : Networks ℕ} {A B : TypeTree} {ps : List Datum} → AllTyped (RowTyped keys) AnyType Ps Os fs A B
-        → IsTrue (are_still fs) → TypedParams Ps ps → StatesTyped keys (stills_of 0 fs ps) (members fs) A B
-    stills_typed N.no_members_typed i tp = T.no_state_typed
-    stills_typed (N.and_member_typed {f = f} {fs = fs} t ts) i tp = let ii : IsTrue (is_still f)
-        × IsTrue (are_still fs) = both_true (is_still f) (are_still fs) i in T.and_state_typed (still_typed t ii.0 tp) (stills_typed ts ii.1 tp)
-
-  still_at : (net : Network ℕ) (ps : List Datum) (x y : Datum) (c : ℕ) → IsTrue (is_still net) → AppliesWhere keys net ps x y c → (w : Frozen ℕ)
-      → StillBy w net ps → RunsWhere keys w x (still_of 0 net ps) y c
-  still_at net ps x y c i h w (R.still_new {s = s}) A B (T.unstarted_typed tn ts) t =
-      let one : Applied keys net ps x y c = h i A B (still_typed tn i (params_typed keys ts)) t in
-      record { visits = one.visits; resumes = G.resume_unstarted (one.starts s refl); is_count = one.is_count }
-  still_at net ps x y c i h w (R.still_on {d = d}) A B (T.paused_typed ta) t =
-      let one : Applied keys net ps x y c = h i A B ta t in
-      record { visits = one.visits; resumes = G.resume_paused (one.steps d); is_count = one.is_count }
-
-  pub still_runs : (net : Network ℕ) (ps qs : List Datum) (x y : Datum) (c : ℕ) → IsTrue (is_still net) → qs ≡ ps → AppliesWhere keys net ps x y c
-      → (w : Frozen ℕ) → StillBy w net ps → RunsWhere keys w x (still_of 0 net qs) y c
-  still_runs net ps qs x y c i e h w b = subst (λ rs. RunsWhere keys w x (still_of 0 net rs) y c) (sym e) (still_at net ps x y c i h w b)
 
   seq_at : (p q : Frozen ℕ) (x v y : Datum) (a b : State ℕ) (m n c : ℕ) → RunsWhere keys p x a v m → RunsWhere keys q v b y n
       → (suc (m + n) < 2 ^ 32 → c ≡ suc (m + n)) → (w : Frozen ℕ) → SeqBy w p q → RunsWhere keys w x (seq_state a b) y c

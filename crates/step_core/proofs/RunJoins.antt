@@ -1,18 +1,15 @@
 -- What the whole did, by what the parts did and how they were joined.
-use Rattle.std.proofs.Common.{◌≡◌, ℕ, suc, ◌+◌, ◌<◌, ◌^◌, List, Option, Some, None, IsTrue, refl, sym, subst, arith, Result, Ok, Err, IfOk}
+use Rattle.std.proofs.Common.{◌≡◌, ℕ, suc, ◌+◌, ◌<◌, ◌^◌, List, Option, Some, None, refl, sym, subst, arith, Result, Ok, Err, IfOk}
 use Rattle.sample_core.specs.Datum.{Datum, left, right, pair}
 use Rattle.leaf_core.specs.KeyTree.{KeyTree}
 use Rattle.net_syntax.specs.Network.{Network}
 use Rattle.state_core.specs.State.{State, Scope, Frozen, seq_state, first_state, loop_state, switch_state, d_switch_state, r_switch_state, k_switch_state, unstarted, push_param, push_old}
-use Rattle.state_core.specs.StateView.{still_of}
-use Rattle.state_core.specs.StillNetwork.{is_still}
 use Rattle.state_core.specs.declared.env.Env.{Env}
 use Rattle.step_core.specs.Stepping.{event_in, restart_in}
-use Rattle.step_core.specs.Still.{AppliesWhere}
 use Rattle.step_core.specs.Outcome.{Outcome, IsRan}
 use Rattle.step_core.specs.Joined.{Fires}
-use Rattle.step_core.specs.Runs.{RunsWhere, StillBy, SeqBy, FirstBy, LoopBy, SwitchBy, DSwitchBy, RSwitchBy, KSwitchBy, OldBy}
-use Rattle.step_core.proofs.RunForms.{seq_runs, first_runs, loop_runs, switch_goes, switch_fires, d_switch_goes, d_switch_fires, r_switch_goes, r_switch_cuts, k_switch_goes, k_switch_fires, old_runs, still_runs}
+use Rattle.step_core.specs.Runs.{RunsWhere, SeqBy, FirstBy, LoopBy, SwitchBy, DSwitchBy, RSwitchBy, KSwitchBy, OldBy}
+use Rattle.step_core.proofs.RunForms.{seq_runs, first_runs, loop_runs, switch_goes, switch_fires, d_switch_goes, d_switch_fires, r_switch_goes, r_switch_cuts, k_switch_goes, k_switch_fires, old_runs}
 
 pub if_ok : {A E : Type 0} (r : Result A E) (P Q : A → Type 0) → ((x : A) → P x → Q x) → IfOk r P → IfOk r Q
 if_ok (Ok x) P Q f h = f x h
@@ -35,17 +32,6 @@ module _ (keys : List KeyTree) where
 
   turned : (w : Frozen ℕ) (x y : Datum) (o : Outcome) (a : State ℕ) → o.state ≡ a → RunsWhere keys w x a y o.visits → RunsWhere keys w x o.state y o.visits
   turned w x y o a e = subst (λ b. RunsWhere keys w x b y o.visits) (sym e)
-
-  pub outcome_is : (w : Frozen ℕ) (x y : Datum) (o : Outcome) (a : State ℕ) (n : ℕ) → o ≡ record { state = a; answer = y; visits = n }
-      → RunsWhere keys w x a y n → RunsTo w x o
-  outcome_is w x y o a n e h = subst (λ (z : Outcome). RunsTo w x z) (sym e) h
-
-  pub still_where : (net m : Network ℕ) (ps rs qs : List Datum) (x y : Datum) (c : ℕ) → m ≡ net → rs ≡ ps → qs ≡ ps → IsTrue (is_still m)
-      → AppliesWhere keys m rs x y c
-      → (w : Frozen ℕ) → StillBy w net ps → RunsWhere keys w x (still_of 0 net qs) y c
-  still_where net m ps rs qs x y c e er eq i h w b =
-      still_runs keys net ps qs x y c (subst (λ z. IsTrue (is_still z)) e i) eq
-      (subst (λ z. AppliesWhere keys z ps x y c) e (subst (λ z. AppliesWhere keys m z x y c) er h)) w b
 
   pub seq_joined : (w p q : Frozen ℕ) (x i : Datum) (one two r : Outcome) → SeqBy w p q → RunsTo p x one → i ≡ one.answer → RunsTo q i two
       → IsRan r (seq_state one.state two.state) two.answer (suc (one.visits + two.visits)) → RunsTo w x r

@@ -20,7 +20,7 @@ use Rattle.step_core.specs.Plans.{IsRouted, RunsMember}
 use Rattle.step_core.specs.Runs as R
 use Rattle.step_core.specs.Runs.{Ran, RunsWhere, ParBy, PSwitchBy, Gathered, RunsEach, RanEach, RunEachWhere, Router, to_all, by_row, handed, HandsOut}
 use Rattle.step_core.proofs.StateTypings.{resumes_typed, each_starts_typed, each_steps_typed, route_typed, small_number, event_typed, pushed_param, pushed_olds, unstarted_all, paused_all, params_typed}
-use Rattle.step_core.proofs.StillRuns.{called_value}
+use Rattle.step_core.proofs.CalledRows.{called_value}
 use Rattle.step_core.proofs.RunForms.{started, stepped}
 
 append_states-assoc : (as' bs cs : States ℕ) → append_states (append_states as' bs) cs ≡ append_states as' (append_states bs cs)

@@ -6,8 +6,8 @@ pub mod Binding
 pub mod StateTyping
 pub mod Called
 pub mod Runs
-pub mod Still
 pub mod Outcome
+pub mod Flow
 pub mod Joined
 pub mod SourceView
 pub mod Plans

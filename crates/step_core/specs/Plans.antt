@@ -1,29 +1,22 @@
 -- What a plan says of what runs.
-use Rattle.std.specs.Prelude.{◌≡◌, ℕ, pos, List, Option, Some, None}
+use Rattle.std.specs.Prelude.{◌≡◌, ℕ, pos, List}
 use Rattle.sample_core.specs.Datum.{Datum, unit, pair, int}
 use Rattle.sample_core.specs.ValueView.{datum_of}
-use Rattle.cell_core.specs.Cell.{accumulator_of}
-use Rattle.cell_core.specs.CellView.{cell_of}
 use Rattle.leaf_core.specs.KeyTree.{KeyTree}
-use Rattle.leaf_table.specs.declared.table.LeafId.{LeafId}
 use Rattle.state_core.specs.State.{Frozen}
 use Rattle.state_core.specs.RowsView.{rows_in, row_number}
 use Rattle.state_core.specs.StateView.{scope_of}
 use Rattle.step_core.specs.Called.{Called}
+use Rattle.step_core.specs.Flow.{IsFlow, past_in}
 use Rattle.step_core.specs.SourceView.{source_of, sources_of}
 use Rattle.step_core.specs.Outcome.{Outcome}
-use Rattle.step_core.specs.Runs.{StillBy, StartBy, GatherBy, CellBy, AccumBy, SeqBy, FirstBy, ParBy, LoopBy, SwitchBy, DSwitchBy, RSwitchBy, KSwitchBy, PSwitchBy, OldBy, Router, RunsWhere, to_all, by_row}
+use Rattle.step_core.specs.Runs.{SeqBy, FirstBy, ParBy, LoopBy, SwitchBy, DSwitchBy, RSwitchBy, KSwitchBy, PSwitchBy, OldBy, Router, RunsWhere, to_all, by_row}
 use Rattle.step_core.specs.declared.plan.Plan.{Plan}
 use Rattle.step_core.specs.declared.plan.Plan.TheVariants as P
 use Rattle.step_core.specs.declared.plan.Route.{Route}
 use Rattle.step_core.specs.declared.plan.Route.TheVariants as W
 use Rattle.step_core.specs.declared.plan.Back.{Back}
 use Rattle.step_core.specs.declared.plan.Back.TheVariants as B
-
--- the number of a constant's row
-abbrev pub number_of : Option LeafId → Option ℕ
-number_of (Some c) = Some (row_number c)
-number_of None = None
 
 -- u is what is fed back
 abbrev pub IsFed : List KeyTree → Back → Datum → Type 0
@@ -47,12 +40,7 @@ RunsMember keys h i w x r = (y : Datum) × IsRouted keys h i x y
 
 -- w, whose next sample comes after the step d, runs by the plan's parts
 abbrev pub PlanBy : Frozen ℕ → ℕ → Plan → Type 0
-PlanBy w d (P.Still f ps) = StillBy w (rows_in f.net.now) ps.now
-PlanBy w d (P.Start form c ps) = StartBy w form (number_of c) ps.now
-PlanBy w d (P.Gather g z ps) = GatherBy w (row_number g) (row_number z) ps.now
-PlanBy w d (P.Cell k) = CellBy w d (cell_of k.now)
-PlanBy w d (P.AccumBy a) =
-    AccumBy w (row_number a.now.leaf) a.now.params (accumulator_of (cell_of a.now.cell))
+PlanBy w d (P.Static f ps ks) = IsFlow w (rows_in f.net.now) ps.now (past_in ks d)
 PlanBy w d (P.Seq f g) = SeqBy w (source_of f d) (source_of g d)
 PlanBy w d (P.First f) = FirstBy w (source_of f d)
 PlanBy w d (P.Par fs) = ParBy w (sources_of fs d)

@@ -1,16 +1,13 @@
 -- What one sample does to a network that has not started, or to a state, over the rows of a table.
-use Rattle.std.specs.Prelude.{◌≡◌, ℕ, suc, ◌+◌, ◌<◌, ◌≤◌, ◌^◌, List, [], ◌∷◌, ◌++◌, Option, Some, None}
+use Rattle.std.specs.Prelude.{◌≡◌, ℕ, suc, ◌+◌, ◌<◌, ◌≤◌, ◌^◌, List, [], ◌∷◌, ◌++◌, Some}
 use Rattle.sample_core.specs.Datum.{Datum, unit}
 use Rattle.sample_core.specs.TypeTree.{TypeTree, int_ty, pair_ty}
 use Rattle.sample_core.specs.HasType.{HasType, TypedParams}
 use Rattle.leaf_core.specs.KeyTree.{KeyTree}
-use Rattle.net_syntax.specs.Network.{Network, Networks, seq, first, par, loop_pre, i_pre, delay, hold, accum_by, after, repeatedly, time, integral, switch, d_switch, r_switch, k_switch, p_switch, old}
+use Rattle.net_syntax.specs.Network.{Network, Networks, seq, first, par, loop_pre, switch, d_switch, r_switch, k_switch, p_switch, old}
 use Rattle.net_syntax.specs.Typing.{copies, arrow}
-use Rattle.cell_core.specs.Cell.{Cell}
-use Rattle.cell_core.specs.declared.form.Form.{Form}
-use Rattle.cell_core.specs.declared.form.Form.TheVariants as F
-use Rattle.state_core.specs.State.{State, States, Scope, Frozen, Frozens, seq_state, first_state, par_state, loop_state, cell_state, accum_state, switch_state, d_switch_state, r_switch_state, k_switch_state, p_switch_state, no_state, and_state, no_frozen, and_frozen, unstarted, paused, params_of, frozens_of, frozen_at, all_unstarted, all_paused}
-use Rattle.state_core.specs.StateView.{still_of, append_states}
+use Rattle.state_core.specs.State.{State, States, Scope, Frozen, Frozens, seq_state, first_state, par_state, loop_state, switch_state, d_switch_state, r_switch_state, k_switch_state, p_switch_state, no_state, and_state, no_frozen, and_frozen, unstarted, paused, params_of, frozens_of, frozen_at, all_unstarted, all_paused}
+use Rattle.state_core.specs.StateView.{append_states}
 use Rattle.step_core.specs.RowTyping.{RowTyped}
 use Rattle.state_core.specs.CountedForms.{same_input, route_by}
 use Rattle.step_core.specs.Called.{Called}
@@ -30,39 +27,6 @@ RunsWhere keys f x a y n = (A B : TypeTree) → FrozenTyped keys f A B → HasTy
     → Ran keys f x a y n
 
 -- Each of the following: what runs goes by these parts, before its first sample or after.
-
--- what keeps nothing runs by itself
-pub data StillBy : Frozen ℕ → Network ℕ → List Datum → Type 0 where
-  still_new : {net : Network ℕ} {s : Scope ℕ} → StillBy (unstarted net s) net (params_of s)
-  still_on : {net : Network ℕ} {ps : List Datum} {d : ℕ}
-      → StillBy (paused (still_of 0 net ps) d) net ps
-
--- a cell's start by its form, the row of its constant, if it has one, and the parameters
-pub data StartBy : Frozen ℕ → Form → Option ℕ → List Datum → Type 0 where
-  i_pre_new : {c : ℕ} {s : Scope ℕ} → StartBy (unstarted (i_pre c) s) F.IPre (Some c) (params_of s)
-  delay_new : {q c : ℕ} {s : Scope ℕ}
-      → StartBy (unstarted (delay q c) s) (F.Delay q) (Some c) (params_of s)
-  hold_new : {c : ℕ} {s : Scope ℕ} → StartBy (unstarted (hold c) s) F.Hold (Some c) (params_of s)
-  after_new : {q c : ℕ} {s : Scope ℕ}
-      → StartBy (unstarted (after q c) s) (F.After q) (Some c) (params_of s)
-  repeatedly_new : {q c : ℕ} {s : Scope ℕ}
-      → StartBy (unstarted (repeatedly q c) s) (F.Repeatedly q) (Some c) (params_of s)
-  time_new : {s : Scope ℕ} → StartBy (unstarted time s) F.Time None (params_of s)
-  integral_new : {s : Scope ℕ} → StartBy (unstarted integral s) F.Integral None (params_of s)
-
--- `accumBy` by the rows of its leaf and of its constant, and the parameters
-pub data GatherBy : Frozen ℕ → ℕ → ℕ → List Datum → Type 0 where
-  gather_new : {g z : ℕ} {s : Scope ℕ}
-      → GatherBy (unstarted (accum_by g z) s) g z (params_of s)
-
--- a cell's step by the time and the cell
-pub data CellBy : Frozen ℕ → ℕ → Cell → Type 0 where
-  cell_on : {k : Cell} {d : ℕ} → CellBy (paused (cell_state k) d) d k
-
--- a step of an `accumBy` by its leaf's row, the parameters and the accumulator
-pub data AccumBy : Frozen ℕ → ℕ → List Datum → Datum → Type 0 where
-  accum_on : {g : ℕ} {ps : List Datum} {acc : Datum} {d : ℕ}
-      → AccumBy (paused (accum_state g ps acc) d) g ps acc
 
 -- `>>>` by its two parts
 pub data SeqBy : Frozen ℕ → Frozen ℕ → Frozen ℕ → Type 0 where

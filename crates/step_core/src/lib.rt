@@ -8,6 +8,7 @@ mod count;
 mod each;
 mod fault;
 mod fire;
+mod flow;
 mod laws;
 mod lowering;
 mod part;
@@ -16,7 +17,6 @@ mod ran;
 mod rows;
 mod run;
 mod runner;
-mod still;
 
 pub use binding::bind;
 pub use bound::Bound;

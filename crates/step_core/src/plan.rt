@@ -1,19 +1,19 @@
 // What a sample is to do, by the form of what runs.
 
-ghost use Rattle.std.specs.Prelude.{◌≡◌, ℕ};
+ghost use Rattle.std.specs.Prelude.{◌≡◌, false, ℕ};
 ghost use Rattle.state_core.specs.RowsView.{rows_in};
-ghost use Rattle.state_core.specs.State.{unstarted, paused, params_of, Frozen as FrozenState, Scope};
+ghost use Rattle.state_core.specs.State.{unstarted, paused, Frozen as FrozenState};
 ghost use Rattle.state_core.specs.StateView.{state_of, scope_of, node_of, k_switch_of, p_switch_of, frozen_of};
+ghost use Rattle.state_core.specs.StaticNetwork.{is_static};
 ghost use Rattle.step_core.specs.Plans.{PlanBy};
 ghost use Rattle.step_core.specs.Runs.{OldBy};
 ghost use Rattle.step_core.specs.SourceView.{source_of};
 
-use cell_core::{Cell, Form};
 use leaf_table::LeafId;
 use net_syntax::Net;
 use sample_core::Sample;
 use state_core::{
-    Accumulator, Env, Frozen, KSwitchParts, Node, PSwitchParts, Params, State, Still,
+    Cells, Env, Frozen, KSwitchParts, Node, PSwitchParts, Params, State, StaticNet,
 };
 
 /// What runs next: a network that has not started, in a scope, or a state.
@@ -48,16 +48,8 @@ pub(crate) enum Route<'s> {
 /// What is to do, by parts.
 #[derive(Clone, Copy)]
 pub(crate) enum Plan<'s, 'n> {
-    /// A network that keeps nothing, with its parameters.
-    Still(Still<'n>, &'s Params),
-    /// A cell starts: its form, the row of its constant, if it has one, and the parameters.
-    Start(Form, Option<LeafId>, &'s Params),
-    /// An `accumBy` starts: its leaf's row, the row of its constant, and the parameters.
-    Gather(LeafId, LeafId, &'s Params),
-    /// A cell steps.
-    Cell(&'s Cell),
-    /// An `accumBy` steps.
-    AccumBy(&'s Accumulator),
+    /// A network without switches, with its parameters and its cells, once it has started.
+    Static(StaticNet<'n>, &'s Params, Option<&'s Cells>),
     /// `>>>`.
     Seq(Source<'s, 'n>, Source<'s, 'n>),
     /// `first`.
@@ -97,19 +89,19 @@ fn plan_start<'s, 'n>(net: &'n Net<LeafId>, env: &'s Env<'n>) -> Plan<'s, 'n>
     ensures { (d : ℕ)
         → PlanBy (unstarted (rows_in net.entry.now) (scope_of env.entry.now)) d result }
 {
-    match Still::of(net) {
-        Some(still) => Plan::Still(still, &env.params),
+    match StaticNet::of(net) {
+        Some(fixed) => Plan::Static(fixed, &env.params, None),
         None => plan_form(net, env),
     }
 }
 
-/// What a start of a network that keeps something is to do, by its form.
+/// What a start of a network with switches is to do, by its form.
 fn plan_form<'s, 'n>(net: &'n Net<LeafId>, env: &'s Env<'n>) -> Plan<'s, 'n>
+    requires { is_static (rows_in net.now) ≡ false }
     ensures { (d : ℕ)
         → PlanBy (unstarted (rows_in net.entry.now) (scope_of env.entry.now)) d result }
 {
     match net {
-        Net::Arr(_) => Plan::Beyond,
         Net::Seq(f, g) => Plan::Seq(Source::Net(f.get(), env), Source::Net(g.get(), env)),
         Net::First(f) => Plan::First(Source::Net(f.get(), env)),
         Net::Par(fs) => Plan::Par(Sources::Nets(fs.as_slice(), env)),
@@ -131,25 +123,7 @@ fn plan_form<'s, 'n>(net: &'n Net<LeafId>, env: &'s Env<'n>) -> Plan<'s, 'n>
             Some(frozen) => plan_resume(frozen),
             None => Plan::Beyond,
         },
-        _ => plan_cell(net, &env.params),
-    }
-}
-
-/// What a start of a cell is to do.
-fn plan_cell<'s, 'n>(net: &'n Net<LeafId>, params: &'s Params) -> Plan<'s, 'n>
-    ensures { (d : ℕ) (s : Scope ℕ) → params_of s ≡ params.entry.now
-        → PlanBy (unstarted (rows_in net.entry.now) s) d result }
-{
-    match net {
-        Net::IPre(c) => Plan::Start(Form::IPre, Some(*c), params),
-        Net::Delay(q, c) => Plan::Start(Form::Delay(*q), Some(*c), params),
-        Net::Hold(c) => Plan::Start(Form::Hold, Some(*c), params),
-        Net::AccumBy(g, z) => Plan::Gather(*g, *z, params),
-        Net::After(q, c) => Plan::Start(Form::After(*q), Some(*c), params),
-        Net::Repeatedly(q, c) => Plan::Start(Form::Repeatedly(*q), Some(*c), params),
-        Net::Time => Plan::Start(Form::Time, None, params),
-        Net::Integral => Plan::Start(Form::Integral, None, params),
-        _ => Plan::Beyond,
+        _ => unreachable!(),
     }
 }
 
@@ -158,8 +132,7 @@ fn plan_step<'s, 'n>(state: &'s State<'n>) -> Plan<'s, 'n>
     ensures { (d : ℕ) → PlanBy (paused (state_of state.entry.now) d) d result }
 {
     match state {
-        State::Still(still, params) => Plan::Still(*still, params),
-        State::Cell(cell) => Plan::Cell(cell),
+        State::Static(net, params, cells) => Plan::Static(*net, params, Some(cells)),
         State::Whole(whole) => plan_node(whole.get()),
     }
 }
@@ -172,7 +145,6 @@ fn plan_node<'s, 'n>(node: &'s Node<'n>) -> Plan<'s, 'n>
         Node::Seq(a, b) => Plan::Seq(Source::State(a), Source::State(b)),
         Node::First(a) => Plan::First(Source::State(a)),
         Node::Par(all) => Plan::Par(Sources::States(all.as_slice())),
-        Node::AccumBy(accumulator) => Plan::AccumBy(accumulator),
         Node::LoopPre(fed_back, a) => Plan::LoopPre(Back::Value(fed_back), Source::State(a)),
         Node::Switch(a, t, env) => Plan::Switch(Source::State(a), *t, env),
         Node::DSwitch(a, t, env) => Plan::DSwitch(Source::State(a), *t, env),

@@ -6,6 +6,7 @@ ghost use Rattle.sample_core.specs.ValueView.{datum_of};
 ghost use Rattle.state_core.specs.RowsView.{rows_in};
 ghost use Rattle.state_core.specs.State.{seq_state, first_state, loop_state, switch_state, d_switch_state, r_switch_state, k_switch_state};
 ghost use Rattle.state_core.specs.StateView.{state_of, node_of, k_switch_of, scope_of};
+ghost use Rattle.state_core.specs.StaticNetwork.{static_state, Counts};
 ghost use Rattle.step_core.specs.Outcome.{IsRan};
 
 use crate::count;
@@ -13,7 +14,7 @@ use crate::part::{first, paired_with, second};
 use leaf_table::LeafId;
 use net_syntax::Net;
 use sample_core::{Memory, Sample};
-use state_core::{Env, KSwitchParts, Node, State, Whole};
+use state_core::{Cells, Env, KSwitchParts, NewCells, Node, Params, State, StaticNet, Whole};
 use std::alloc::Global;
 use std::marker::Model;
 
@@ -113,6 +114,44 @@ pub(crate) fn around<'n>(
         Ok(whole) => Ok(Ran::new(State::Whole(whole), answer, visits)),
         Err(memory) => {
             drop(answer);
+            Err(memory)
+        }
+    }
+}
+
+/// A network without switches round its new cells. `Memory` where a growth was refused.
+pub(crate) fn keep_static<'n>(
+    alloc: Global,
+    net: StaticNet<'n>,
+    params: &Params,
+    cells: NewCells,
+    answer: Sample,
+) -> Result<Ran<'n>, Memory>
+    ensures { IfOk result (λ r. (r.state
+        ≡ static_state (rows_in net.entry.net.now) params.now cells)
+        × (r.answer ≡ datum_of answer) × Counts (rows_in net.entry.net.now) r.visits) }
+{
+    match kept(alloc, params, cells) {
+        Ok((params, cells)) => {
+            let visits = net.nodes();
+            Ok(Ran::new(State::Static(net, params, cells), answer, visits))
+        }
+        Err(memory) => {
+            drop(answer);
+            Err(memory)
+        }
+    }
+}
+
+/// A copy of the parameters, and the cells. `Memory` where a growth was refused.
+fn kept(alloc: Global, params: &Params, cells: NewCells) -> Result<(Params, Cells), Memory>
+    ensures { IfOk result (λ r. (r.0 ≡ params.now) × (r.1 ≡ cells)) }
+{
+    let cells = cells.into_cells(alloc)?;
+    match params.try_copy() {
+        Ok(params) => Ok((params, cells)),
+        Err(memory) => {
+            drop(cells);
             Err(memory)
         }
     }

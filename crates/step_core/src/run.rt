@@ -8,26 +8,27 @@ ghost use Rattle.state_core.specs.RowsView.{rows_in, row_number};
 ghost use Rattle.state_core.specs.State.{Frozen};
 ghost use Rattle.state_core.specs.StateView.{scope_of};
 ghost use Rattle.step_core.specs.Called.{Called};
+ghost use Rattle.step_core.specs.Flow.{IsFlow, past_in};
 ghost use Rattle.step_core.specs.Outcome.{RunsBy, TakesOver, TakesOverLate, RunsAll};
 ghost use Rattle.step_core.specs.Plans.{IsFed, RunsMember, router_of};
-ghost use Rattle.step_core.specs.Runs.{RunsWhere, RunEachWhere, StillBy, SeqBy, FirstBy, ParBy, LoopBy, SwitchBy, DSwitchBy, RSwitchBy, KSwitchBy, PSwitchBy, OldBy};
+ghost use Rattle.step_core.specs.Runs.{RunsWhere, RunEachWhere, SeqBy, FirstBy, ParBy, LoopBy, SwitchBy, DSwitchBy, RSwitchBy, KSwitchBy, PSwitchBy, OldBy};
 ghost use Rattle.step_core.specs.SourceView.{source_of, sources_of};
 
-use crate::cells::{start_accum, start_cell, step_accum, step_cell};
 use crate::each::{Each, Listed, count_of, first_of, join_par, keep_p_switch};
 use crate::fire::{fire, fire_old, fire_olds};
+use crate::flow::{Context, flow};
 use crate::part::{beside, first, restart_of, second};
 use crate::plan::{Back, Plan, Route, Source, Sources, plan_of};
 use crate::ran::{
-    Ran, join_first, join_loop, join_seq, keep_d_switch, keep_k_switch, keep_r_switch, keep_switch,
-    resumed, take_over, take_over_late,
+    Ran, join_first, join_loop, join_seq, keep_d_switch, keep_k_switch, keep_r_switch,
+    keep_static, keep_switch, resumed, take_over, take_over_late,
 };
 use crate::rows::Rows;
-use crate::{count, still};
+use crate::count;
 use leaf_table::LeafId;
 use net_syntax::Net;
 use sample_core::{Memory, Sample};
-use state_core::{Env, Params, State, Still, push_param, route};
+use state_core::{Cells, Env, NewCells, Params, StaticNet, push_param, route};
 use std::alloc::Global;
 
 /// A start or a step. `dt` is the time since the sample before, where there is one. `Memory` where
@@ -45,13 +46,7 @@ pub(crate) fn run<'n, R: Rows>(
         r.state r.answer r.visits) }
 {
     match plan_of(from) {
-        Plan::Still(still, params) => run_still(alloc, rows, still, params, x),
-        Plan::Start(form, constant, params) => {
-            start_cell(alloc, rows, form, constant, params, x)
-        }
-        Plan::Gather(g, z, params) => start_accum(alloc, rows, g, z, params, x),
-        Plan::Cell(cell) => step_cell(alloc, cell, dt, x),
-        Plan::AccumBy(accumulator) => step_accum(alloc, rows, accumulator, dt, x),
+        Plan::Static(net, params, cells) => run_static(alloc, rows, net, params, cells, dt, x),
         Plan::Seq(f, g) => run_seq(alloc, rows, f, g, dt, x),
         Plan::First(f) => run_first(alloc, rows, f, dt, x),
         Plan::Par(fs) => run_par(alloc, rows, fs, dt, x),
@@ -66,23 +61,37 @@ pub(crate) fn run<'n, R: Rows>(
     }
 }
 
-/// A sample of a network that keeps nothing.
-fn run_still<'n, R: Rows>(
+/// A sample of a network without switches.
+fn run_static<'n, R: Rows>(
     alloc: Global,
     rows: &R,
-    still: Still<'n>,
+    net: StaticNet<'n>,
     params: &Params,
+    before: Option<&Cells>,
+    dt: u64,
     x: &Sample,
 ) -> Result<Ran<'n>, Memory>
     ensures { IfOk result (λ r.
-        RunsBy (R.keys rows.now) (λ w. StillBy w (rows_in still.entry.net.now) params.now)
+        RunsBy (R.keys rows.now)
+        (λ w. IsFlow w (rows_in net.entry.net.now) params.now (past_in before.entry dt))
         (datum_of x.now) r) }
 {
-    let (answer, visits) = still::apply(alloc, rows, still.net(), params.as_slice(), x)?;
-    match params.try_copy() {
-        Ok(params) => Ok(Ran::new(State::Still(still, params), answer, visits)),
+    let room = match before {
+        Some(before) => before.len(),
+        None => 0,
+    };
+    let mut cells = NewCells::with_room(alloc, room)?;
+    let on = Context {
+        alloc,
+        rows,
+        params: params.as_slice(),
+        before,
+        dt,
+    };
+    match flow(&on, net.net(), x, &mut cells) {
+        Ok(answer) => keep_static(alloc, net, params, cells, answer),
         Err(memory) => {
-            drop(answer);
+            drop(cells);
             Err(memory)
         }
     }

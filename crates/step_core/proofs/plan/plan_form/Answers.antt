@@ -1,4 +1,4 @@
-use Rattle.std.proofs.Common.{ap, sym, refl, ◌∙◌}
+use Rattle.std.proofs.Common.{ap, sym, ◌∙◌}
 use Rattle.net_syntax.specs.Network.{seq, first, par, loop_pre, switch, d_switch, r_switch, k_switch, p_switch, map_network, map_networks}
 use Rattle.state_core.specs.RowsView.{rows_in, row_number}
 use Rattle.step_core.proofs.PlanForms.{seq_new_by, first_new_by, par_new_by, loop_new_by, switch_new_by, d_switch_new_by, r_switch_new_by, k_switch_new_by, p_switch_new_by, old_by}
@@ -42,6 +42,3 @@ returns-in-PSwitch c = λ d. p_switch_new_by _ _ _ _ _ _ (ap rows_in c.in-PSwitc
 
 pub returns-in-Some : goal.returns-in-Some
 returns-in-Some c = λ d. c.plan_resume.ensures _ (old_by _ _ _ _ (ap rows_in c.in-Old.is) c.in-Some.ensures) d
-
-pub returns-in_default : goal.returns-in_default
-returns-in_default c = λ d. c.plan_cell.ensures d _ refl

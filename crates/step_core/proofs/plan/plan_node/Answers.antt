@@ -2,7 +2,7 @@ use Rattle.std.proofs.Common.{ap, ◌∙◌, sym, subst, ℕ}
 use Rattle.state_core.specs.State.{State, par_state, paused}
 use Rattle.state_core.specs.StateView.{node_of, k_switch_of, p_switch_of}
 use Rattle.step_core.specs.Plans.{PlanBy}
-use Rattle.step_core.proofs.PlanForms.{seq_on_by, first_on_by, par_on_by, accum_on_by, loop_on_by, switch_on_by, d_switch_on_by, r_switch_on_by}
+use Rattle.step_core.proofs.PlanForms.{seq_on_by, first_on_by, par_on_by, loop_on_by, switch_on_by, d_switch_on_by, r_switch_on_by}
 use Rattle.step_core.proofs.plan.plan_node.Goals as goal
 
 pub returns-in-Seq : goal.returns-in-Seq
@@ -33,6 +33,3 @@ returns-in-KSwitch c = λ d. subst (λ (z : State ℕ). PlanBy (paused z d) d c.
 pub returns-in-PSwitch : goal.returns-in-PSwitch
 returns-in-PSwitch c = λ d. subst (λ (z : State ℕ). PlanBy (paused z d) d c.plan_p_switch.result)
     (ap p_switch_of c.deref-in-PSwitch.ensures ∙ sym (ap node_of c.in-PSwitch.is)) (c.plan_p_switch.ensures d)
-
-pub returns-in-AccumBy : goal.returns-in-AccumBy
-returns-in-AccumBy c = λ d. accum_on_by _ _ _ _ d (ap node_of c.in-AccumBy.is)

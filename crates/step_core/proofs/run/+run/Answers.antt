@@ -100,20 +100,8 @@ run-run_old-requires g t c κs within =
 pub run-returns-in-Old : goal.run-returns-in-Old
 run-returns-in-Old g t c = if_ok c.run_old.result _ _ (λ r h. h _ (c.in-Old.ensures c.args.dt)) c.run_old.ensures
 
-pub run-returns-in-Still : goal.run-returns-in-Still
-run-returns-in-Still g t c = if_ok c.run_still.result _ _ (λ r h. h _ (c.in-Still.ensures c.args.dt)) c.run_still.ensures
-
-pub run-returns-in-Start : goal.run-returns-in-Start
-run-returns-in-Start g t c = if_ok c.start_cell.result _ _ (λ r h. h _ (c.in-Start.ensures c.args.dt)) c.start_cell.ensures
-
-pub run-returns-in-Gather : goal.run-returns-in-Gather
-run-returns-in-Gather g t c = if_ok c.start_accum.result _ _ (λ r h. h _ (c.in-Gather.ensures c.args.dt)) c.start_accum.ensures
-
-pub run-returns-in-Cell : goal.run-returns-in-Cell
-run-returns-in-Cell g t c = if_ok c.step_cell.result _ _ (λ r h. h _ _ (c.in-Cell.ensures c.args.dt)) c.step_cell.ensures
-
-pub run-returns-in-AccumBy : goal.run-returns-in-AccumBy
-run-returns-in-AccumBy g t c = if_ok c.step_accum.result _ _ (λ r h. h _ (c.in-AccumBy.ensures c.args.dt)) c.step_accum.ensures
+pub run-returns-in-Static : goal.run-returns-in-Static
+run-returns-in-Static g t c = if_ok c.run_static.result _ _ (λ r h. h _ (c.in-Static.ensures c.args.dt)) c.run_static.ensures
 
 pub run_seq-returns-in-Ok : goal.run_seq-returns-in-Ok
 run_seq-returns-in-Ok g t c =

@@ -1,0 +1,75 @@
+use Rattle.std.proofs.Common.{◌≡◌, ◌++◌, ◌∷◌, [], map, ap, ◌∙◌, arith}
+use Rattle.std.proofs.lemmas.Grind.{common_steps}
+use Rattle.std.proofs.lemmas.List.{map_push}
+use Rattle.std.specs.Prelude.{slice_set}
+use Rattle.sample_core.specs.Datum.{right}
+use Rattle.sample_core.specs.ValueView.{datum_of}
+use Rattle.net_syntax.specs.Network.{map_networks}
+use Rattle.net_syntax.specs.NetworkView.{members_of}
+use Rattle.cell_core.specs.Cell.{previous}
+use Rattle.state_core.specs.RowsView.{rows_in, row_number}
+use Rattle.step_core.specs.Flow as F
+use Rattle.step_core.proofs.Flows.{arr_where, cell_by, seq_flows, first_flows, loop_flows, par_flows, also_flow, none_flow, no_items}
+use Rattle.step_core.proofs.RunJoins.{if_ok}
+use Rattle.step_core.proofs.flow.+flow.Goals as goal
+
+pub flow-returns-in-Arr : goal.flow-returns-in-Arr
+flow-returns-in-Arr g t c = if_ok c.call.result _ _ (λ y h. arr_where _ _ c.in-Arr.e.0 _ _ _ _ _ (ap rows_in c.in-Arr.is) h) c.call.ensures
+
+pub flow-returns-in-IPre : goal.flow-returns-in-IPre
+flow-returns-in-IPre g t c = if_ok c.flow_cell.result _ _ (λ y h. h _ (cell_by _ _ _ _ (ap rows_in c.in-IPre.is) F.is_i_pre)) c.flow_cell.ensures
+
+pub flow-returns-in-Delay : goal.flow-returns-in-Delay
+flow-returns-in-Delay g t c =
+    if_ok c.flow_cell-in-Delay.result _ _ (λ y h. h _ (cell_by _ _ _ _ (ap rows_in c.in-Delay.is) F.is_delay)) c.flow_cell-in-Delay.ensures
+
+pub flow-returns-in-Hold : goal.flow-returns-in-Hold
+flow-returns-in-Hold g t c =
+    if_ok c.flow_cell-in-Hold.result _ _ (λ y h. h _ (cell_by _ _ _ _ (ap rows_in c.in-Hold.is) F.is_hold)) c.flow_cell-in-Hold.ensures
+
+pub flow-returns-in-After : goal.flow-returns-in-After
+flow-returns-in-After g t c =
+    if_ok c.flow_cell-in-After.result _ _ (λ y h. h _ (cell_by _ _ _ _ (ap rows_in c.in-After.is) F.is_after)) c.flow_cell-in-After.ensures
+
+pub flow-returns-in-Repeatedly : goal.flow-returns-in-Repeatedly
+flow-returns-in-Repeatedly g t c =
+    if_ok c.flow_cell-in-Repeatedly.result _ _ (λ y h. h _ (cell_by _ _ _ _ (ap rows_in c.in-Repeatedly.is) F.is_repeatedly))
+    c.flow_cell-in-Repeatedly.ensures
+
+pub flow-returns-in-Time : goal.flow-returns-in-Time
+flow-returns-in-Time g t c =
+    if_ok c.flow_cell-in-Time.result _ _ (λ y h. h _ (cell_by _ _ _ _ (ap rows_in c.in-Time.is) F.is_time)) c.flow_cell-in-Time.ensures
+
+pub flow-returns-in-Integral : goal.flow-returns-in-Integral
+flow-returns-in-Integral g t c =
+    if_ok c.flow_cell-in-Integral.result _ _ (λ y h. h _ (cell_by _ _ _ _ (ap rows_in c.in-Integral.is) F.is_integral)) c.flow_cell-in-Integral.ensures
+
+pub flow_seq-returns : goal.flow_seq-returns
+flow_seq-returns g t c =
+    if_ok c.flow-answer.result _ _ (λ y two. seq_flows _ _ _ _ _ _ _ _ _ _ _ c.in_ok-between.ensures two) c.flow-answer.ensures
+
+pub flow_first-returns : goal.flow_first-returns
+flow_first-returns g t c =
+    if_ok c.paired_with.result _ _ (λ y e. first_flows _ _ _ _ _ _ _ _ _ _ _ c.first.ensures c.second.ensures e c.in_ok-answer.ensures) c.paired_with.ensures
+
+pub flow_loop-returns : goal.flow_loop-returns
+flow_loop-returns g t c =
+    if_ok c.keep_fed.result _ _
+    (λ y h. loop_flows _ _ _ _ _ _ _ _ _ _ _ _ _ c.in_ok-input.ensures c.in_ok-answer.ensures h.0
+    (h.1 ∙ ap (λ n. slice_set c.flow-answer.new.cells n (previous (right (datum_of c.in_ok-answer.field-0)))) c.len-at.ensures))
+    c.keep_fed.ensures
+
+pub flow_par-returns-in-Ok : goal.flow_par-returns-in-Ok
+flow_par-returns-in-Ok g t c =
+    if_ok c.gather.result _ _ (λ y e. par_flows _ _ _ _ _ _ _ _ _ _ c.in-Ok.ensures (ap (map datum_of) c.in_ok-answers.ensures.items) e) c.gather.ensures
+
+pub flow_each-returns-in_ok-push-in-Some : goal.flow_each-returns-in_ok-push-in-Some
+flow_each-returns-in_ok-push-in-Some g t c =
+    let form = ap (λ fs. map_networks row_number (members_of fs)) c.in-Some.ensures.cases.0 in
+    let pushed : map datum_of c.push.new.self.items ≡ map datum_of c.args.answers.now.items ++ datum_of c.in_ok-answer-in-Some.answer ∷ [] = grind
+    (arith, common_steps, map_push datum_of) in
+    if_ok c.flow_each.result _ _ (λ u rest. also_flow _ _ _ _ _ _ _ _ _ _ _ _ _ _ form c.in_ok-answer-in-Some.ensures pushed rest) c.flow_each.ensures
+
+pub flow_each-returns-in-None : goal.flow_each-returns-in-None
+flow_each-returns-in-None g t c =
+    none_flow _ _ _ _ _ _ _ (ap (λ fs. map_networks row_number (members_of fs)) (no_items _ c.in-None.ensures.cases))

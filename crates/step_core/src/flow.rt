@@ -1,0 +1,331 @@
+// One sample through a network without switches.
+
+ghost use Rattle.std.specs.Prelude.{◌≡◌, ◌<◌, ◌++◌, ◌∷◌, [], IfOk, IsTrue, length, map, slice_set};
+ghost use Rattle.sample_core.specs.Datum.{left, right};
+ghost use Rattle.sample_core.specs.ValueView.{datum_of};
+ghost use Rattle.net_syntax.specs.Network.{map_networks, seq, first, par, loop_pre, accum_by};
+ghost use Rattle.net_syntax.specs.NetworkView.{members_of};
+ghost use Rattle.cell_core.specs.Cell.{previous};
+ghost use Rattle.cell_core.specs.CellView.{cell_of};
+ghost use Rattle.state_core.specs.RowsView.{rows_in, row_number};
+ghost use Rattle.state_core.specs.StaticNetwork.{is_static, are_static};
+ghost use Rattle.step_core.specs.Flow.{Flows, AllFlow, IsCell, IsFedBack, IsKept, number_of, past_in};
+
+use crate::cells::{start_accum, start_cell, step_accum};
+use crate::part::{beside, first, paired_with, second};
+use crate::rows::Rows;
+use cell_core::{Cell, Form};
+use leaf_table::LeafId;
+use net_syntax::Net;
+use sample_core::{Memory, Sample};
+use state_core::{Cells, NewCells, gather};
+use std::alloc::Global;
+
+/// What a sample flows through beside the network: the rows of its expressions, the parameters in
+/// its scope, its cells, once it has started, and the time since the sample before.
+#[derive(Drop)]
+pub(crate) struct Context<'s, R> {
+    pub(crate) alloc: Global,
+    pub(crate) rows: &'s R,
+    pub(crate) params: &'s [Sample],
+    pub(crate) before: Option<&'s Cells>,
+    pub(crate) dt: u64,
+}
+
+/// What the network answers. Adds its new cells to those before. `Memory` where a growth was
+/// refused.
+#[cycle(flow)]
+pub(crate) fn flow<R: Rows>(
+    on: &Context<'_, R>,
+    net: &Net<LeafId>,
+    x: &Sample,
+    cells: &mut NewCells,
+) -> Result<Sample, Memory>
+    requires { IsTrue (is_static (rows_in net.now)) }
+    ensures { IfOk result (λ y. Flows (R.keys on.now.rows.now) (rows_in net.now)
+        (map datum_of on.now.params.now) (past_in on.now.before on.now.dt) (datum_of x.now)
+        cells.old cells.new (datum_of y)) }
+{
+    match net {
+        Net::Arr(e) => on.rows.call(*e, on.params, x),
+        Net::Seq(f, g) => flow_seq(on, f.get(), g.get(), x, cells),
+        Net::First(f) => flow_first(on, f.get(), x, cells),
+        Net::Par(fs) => flow_par(on, fs.as_slice(), x, cells),
+        Net::LoopPre(c, f) => flow_loop(on, *c, f.get(), x, cells),
+        Net::IPre(c) => flow_cell(on, Form::IPre, Some(*c), x, cells),
+        Net::Delay(q, c) => flow_cell(on, Form::Delay(*q), Some(*c), x, cells),
+        Net::Hold(c) => flow_cell(on, Form::Hold, Some(*c), x, cells),
+        Net::AccumBy(g, z) => flow_accum(on, *g, *z, x, cells),
+        Net::After(q, c) => flow_cell(on, Form::After(*q), Some(*c), x, cells),
+        Net::Repeatedly(q, c) => flow_cell(on, Form::Repeatedly(*q), Some(*c), x, cells),
+        Net::Time => flow_cell(on, Form::Time, None, x, cells),
+        Net::Integral => flow_cell(on, Form::Integral, None, x, cells),
+        _ => unreachable!(),
+    }
+}
+
+/// `>>>`: what the first part answers goes to the second.
+#[cycle(flow)]
+fn flow_seq<R: Rows>(
+    on: &Context<'_, R>,
+    f: &Net<LeafId>,
+    g: &Net<LeafId>,
+    x: &Sample,
+    cells: &mut NewCells,
+) -> Result<Sample, Memory>
+    requires { IsTrue (is_static (seq (rows_in f.now) (rows_in g.now))) }
+    ensures { IfOk result (λ y. Flows (R.keys on.now.rows.now) (seq (rows_in f.now) (rows_in g.now))
+        (map datum_of on.now.params.now) (past_in on.now.before on.now.dt) (datum_of x.now)
+        cells.old cells.new (datum_of y)) }
+{
+    let between = flow(on, f, x, cells)?;
+    let answer = flow(on, g, &between, cells);
+    drop(between);
+    answer
+}
+
+/// `first`: the second component passes along.
+#[cycle(flow)]
+fn flow_first<R: Rows>(
+    on: &Context<'_, R>,
+    f: &Net<LeafId>,
+    x: &Sample,
+    cells: &mut NewCells,
+) -> Result<Sample, Memory>
+    requires { IsTrue (is_static (rows_in f.now)) }
+    ensures { IfOk result (λ y. Flows (R.keys on.now.rows.now) (first (rows_in f.now))
+        (map datum_of on.now.params.now) (past_in on.now.before on.now.dt) (datum_of x.now)
+        cells.old cells.new (datum_of y)) }
+{
+    let answer = flow(on, f, first(x), cells)?;
+    paired_with(on.alloc, answer, second(x))
+}
+
+/// `parB`: each member gets the sample, and their answers become one list.
+#[cycle(flow)]
+fn flow_par<R: Rows>(
+    on: &Context<'_, R>,
+    members: &[Net<LeafId>],
+    x: &Sample,
+    cells: &mut NewCells,
+) -> Result<Sample, Memory>
+    requires { IsTrue (are_static (map_networks row_number (members_of members.now))) }
+    ensures { IfOk result (λ y. Flows (R.keys on.now.rows.now)
+        (par (map_networks row_number (members_of members.now)))
+        (map datum_of on.now.params.now) (past_in on.now.before on.now.dt) (datum_of x.now)
+        cells.old cells.new (datum_of y)) }
+{
+    let mut answers = Vec::with_capacity(on.alloc, members.len())?;
+    match flow_each(on, members, x, cells, &mut answers) {
+        Ok(()) => gather(on.alloc, answers),
+        Err(memory) => {
+            drop(answers);
+            Err(memory)
+        }
+    }
+}
+
+/// Adds to `answers` what the members answer, in order.
+#[cycle(flow)]
+fn flow_each<R: Rows>(
+    on: &Context<'_, R>,
+    members: &[Net<LeafId>],
+    x: &Sample,
+    cells: &mut NewCells,
+    answers: &mut Vec<Sample>,
+) -> Result<(), Memory>
+    requires { IsTrue (are_static (map_networks row_number (members_of members.now))) }
+    ensures { IfOk result (λ _. AllFlow (R.keys on.now.rows.now)
+        (map_networks row_number (members_of members.now))
+        (map datum_of on.now.params.now) (past_in on.now.before on.now.dt) (datum_of x.now)
+        cells.old cells.new (map datum_of answers.old.items) (map datum_of answers.new.items)) }
+{
+    match members.split_first() {
+        Some((f, rest)) => {
+            let answer = flow(on, f, x, cells)?;
+            answers.push(answer)?;
+            flow_each(on, rest, x, cells, answers)
+        }
+        None => Ok(()),
+    }
+}
+
+/// `loopPre`: its part gets the sample and what is fed back. What is fed back next stands in the
+/// cell before those of the part.
+#[cycle(flow)]
+fn flow_loop<R: Rows>(
+    on: &Context<'_, R>,
+    c: LeafId,
+    f: &Net<LeafId>,
+    x: &Sample,
+    cells: &mut NewCells,
+) -> Result<Sample, Memory>
+    requires { IsTrue (is_static (rows_in f.now)) }
+    ensures { IfOk result (λ y. Flows (R.keys on.now.rows.now)
+        (loop_pre (row_number c) (rows_in f.now))
+        (map datum_of on.now.params.now) (past_in on.now.before on.now.dt) (datum_of x.now)
+        cells.old cells.new (datum_of y)) }
+{
+    let at = cells.len();
+    let input = feed(on, c, x, cells)?;
+    let answer = flow(on, f, &input, cells);
+    drop(input);
+    keep_fed(on.alloc, answer?, at, cells)
+}
+
+/// The pair of the sample and what is fed back, which goes into the next cell until the sample has
+/// passed.
+fn feed<R: Rows>(
+    on: &Context<'_, R>,
+    c: LeafId,
+    x: &Sample,
+    cells: &mut NewCells,
+) -> Result<Sample, Memory>
+    ensures { IfOk result (λ y. IsFedBack (R.keys on.now.rows.now) (row_number c)
+        (map datum_of on.now.params.now) (past_in on.now.before on.now.dt) (datum_of x.now)
+        cells.old cells.new (datum_of y)) }
+{
+    let value = value_before(on, c, cells.len())?;
+    match beside(on.alloc, x, &value) {
+        Ok(input) => hold_place(on.alloc, value, input, cells),
+        Err(memory) => {
+            drop(value);
+            Err(memory)
+        }
+    }
+}
+
+/// What is fed back: what is kept, or at the first sample the constant.
+fn value_before<R: Rows>(on: &Context<'_, R>, c: LeafId, at: usize) -> Result<Sample, Memory>
+    ensures { IfOk result (λ v. IsKept (R.keys on.now.rows.now) (row_number c)
+        (map datum_of on.now.params.now) (past_in on.now.before on.now.dt) at (datum_of v)) }
+{
+    match on.before {
+        Some(before) => match before.get(at) {
+            Some(cell) => match cell.previous() {
+                Some(value) => value.try_copy(on.alloc),
+                None => Err(Memory),
+            },
+            None => Err(Memory),
+        },
+        None => on.rows.call(c, on.params, &Sample::Unit),
+    }
+}
+
+/// A value as the next cell, beside the input that was made of it.
+fn hold_place(
+    alloc: Global,
+    value: Sample,
+    input: Sample,
+    cells: &mut NewCells,
+) -> Result<Sample, Memory>
+    ensures { IfOk result (λ y. (y ≡ input)
+        × (cells.new ≡ cells.old ++ previous (datum_of value) ∷ [])) }
+{
+    match cells.push(alloc, Cell::IPre(value)) {
+        Ok(()) => Ok(input),
+        Err(memory) => {
+            drop(input);
+            Err(memory)
+        }
+    }
+}
+
+/// The first part of what a `loopPre`'s part answers; the second goes into its cell.
+fn keep_fed(
+    alloc: Global,
+    answer: Sample,
+    at: usize,
+    cells: &mut NewCells,
+) -> Result<Sample, Memory>
+    requires { at < length cells.old }
+    ensures { IfOk result (λ y. (datum_of y ≡ left (datum_of answer))
+        × (cells.new ≡ slice_set cells.old at (previous (right (datum_of answer))))) }
+{
+    match second(&answer).try_copy(alloc) {
+        Ok(next) => {
+            cells.put(at, Cell::IPre(next));
+            let passed = first(&answer).try_copy(alloc);
+            drop(answer);
+            Ok(passed?)
+        }
+        Err(memory) => {
+            drop(answer);
+            Err(memory.into())
+        }
+    }
+}
+
+/// A cell: it starts, or steps.
+fn flow_cell<R: Rows>(
+    on: &Context<'_, R>,
+    form: Form,
+    constant: Option<LeafId>,
+    x: &Sample,
+    cells: &mut NewCells,
+) -> Result<Sample, Memory>
+    ensures { IfOk result (λ y. (net : _) → IsCell net form (number_of constant)
+        → Flows (R.keys on.now.rows.now) net
+        (map datum_of on.now.params.now) (past_in on.now.before on.now.dt) (datum_of x.now)
+        cells.old cells.new (datum_of y)) }
+{
+    match on.before {
+        Some(before) => match before.get(cells.len()) {
+            Some(cell) => {
+                let (next, answer) = cell.step(on.alloc, on.dt, x)?;
+                keep(on.alloc, next, answer, cells)
+            }
+            None => Err(Memory),
+        },
+        None => {
+            let (first, answer) = start_cell(on.alloc, on.rows, form, constant, on.params, x)?;
+            keep(on.alloc, first, answer, cells)
+        }
+    }
+}
+
+/// `accumBy`: it starts, or steps.
+fn flow_accum<R: Rows>(
+    on: &Context<'_, R>,
+    g: LeafId,
+    z: LeafId,
+    x: &Sample,
+    cells: &mut NewCells,
+) -> Result<Sample, Memory>
+    ensures { IfOk result (λ y. Flows (R.keys on.now.rows.now)
+        (accum_by (row_number g) (row_number z))
+        (map datum_of on.now.params.now) (past_in on.now.before on.now.dt) (datum_of x.now)
+        cells.old cells.new (datum_of y)) }
+{
+    match on.before {
+        Some(before) => match before.get(cells.len()) {
+            Some(cell) => {
+                let (next, answer) = step_accum(on.alloc, on.rows, g, on.params, cell, x)?;
+                keep(on.alloc, next, answer, cells)
+            }
+            None => Err(Memory),
+        },
+        None => {
+            let (first, answer) = start_accum(on.alloc, on.rows, g, z, on.params, x)?;
+            keep(on.alloc, first, answer, cells)
+        }
+    }
+}
+
+/// The cell behind the others, and the answer.
+fn keep(
+    alloc: Global,
+    cell: Cell,
+    answer: Sample,
+    cells: &mut NewCells,
+) -> Result<Sample, Memory>
+    ensures { IfOk result (λ y. (y ≡ answer) × (cells.new ≡ cells.old ++ cell_of cell ∷ [])) }
+{
+    match cells.push(alloc, cell) {
+        Ok(()) => Ok(answer),
+        Err(memory) => {
+            drop(answer);
+            Err(memory)
+        }
+    }
+}
