@@ -6,15 +6,16 @@ use cell_core::{Cell, Form};
 use leaf_table::LeafId;
 use net_syntax::Net;
 use sample_core::{Memory, Sample};
-use state_core::{Env, Frozen, Node, State, States, Whole, freeze};
+use state_core::{
+    Env, Frozen, NewCells, Node, Params, State, States, StaticNet, Whole, freeze,
+};
 use std::alloc::Global;
 
 /// Tells what `freeze` answers on the state of `(delay 4096 0)` after 4,096 samples with step 1.
 pub fn delay_told(alloc: Global, out: &mut String) {
     let net = Net::Time;
-    match full_delay(alloc) {
-        Ok(cell) => {
-            let state = State::Cell(cell);
+    match full_delay(alloc, &net) {
+        Ok(state) => {
             freeze_told(alloc, &net, &state, out);
             drop(state);
         }
@@ -23,20 +24,31 @@ pub fn delay_told(alloc: Global, out: &mut String) {
     drop(net);
 }
 
-fn full_delay(alloc: Global) -> Result<Cell, Memory> {
+fn full_delay<'n>(alloc: Global, net: &'n Net<LeafId>) -> Result<State<'n>, Memory> {
     let x = Sample::Int(1);
     let (mut cell, _) = Cell::start(alloc, Form::Delay(4_096), Sample::Int(0), &x)?;
     for _ in 1..4_096u32 {
         let (next, _) = cell.step(alloc, 1, &x)?;
         cell = next;
     }
-    Ok(cell)
+    alone(alloc, net, cell)
+}
+
+/// The state of a network that keeps one cell.
+fn alone<'n>(alloc: Global, net: &'n Net<LeafId>, cell: Cell) -> Result<State<'n>, Memory> {
+    let Some(fixed) = StaticNet::of(net) else {
+        return Err(Memory);
+    };
+    let mut cells = NewCells::with_room(alloc, 1)?;
+    cells.push(alloc, cell)?;
+    let cells = cells.into_cells(alloc)?;
+    Ok(State::Static(fixed, Params::none(), cells))
 }
 
 /// Tells what `freeze` answers on the state of 64 members.
 pub fn members_told(alloc: Global, out: &mut String) {
     let net = Net::Time;
-    match members(alloc) {
+    match members(alloc, &net) {
         Ok(whole) => {
             let state = State::Whole(whole);
             freeze_told(alloc, &net, &state, out);
@@ -47,10 +59,10 @@ pub fn members_told(alloc: Global, out: &mut String) {
     drop(net);
 }
 
-fn members<'n>(alloc: Global) -> Result<Whole<'n>, Memory> {
+fn members<'n>(alloc: Global, net: &'n Net<LeafId>) -> Result<Whole<'n>, Memory> {
     let mut all = Vec::with_capacity(alloc, 64)?;
     for _ in 0..64u32 {
-        all.push(State::Cell(Cell::Time(0)))?;
+        all.push(alone(alloc, net, Cell::Time(0))?)?;
     }
     Whole::new(alloc, Node::Par(States::new(all)))
 }
