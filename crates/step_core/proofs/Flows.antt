@@ -19,7 +19,7 @@ use Rattle.step_core.specs.StateTyping as T
 use Rattle.step_core.specs.StateTyping.{row_value}
 use Rattle.step_core.specs.Outcome.{Outcome, nothing_yet}
 use Rattle.step_core.specs.Flow as F
-use Rattle.step_core.specs.Flow.{Past, behind, IsFlow, AreFlows, Flows, AllFlow, IsCell, IsKept, IsFedBack}
+use Rattle.step_core.specs.Flow.{Past, behind, IsFlow, AreFlows, Flows, FlowsThrough, AllFlow, IsCell, IsKept, IsFedBack}
 use Rattle.step_core.specs.Runs as R
 use Rattle.step_core.specs.Runs.{Ran, RunsWhere, RunEachWhere, RanEach, RunsEach, Gathered, SeqBy, FirstBy, ParBy, LoopBy, to_all, handed}
 use Rattle.net_syntax.specs.Typing as N
@@ -352,10 +352,21 @@ module _ (keys : List KeyTree) where
         is_count = λ l. let i : weight net [] ≡ r.visits = r.is_count l in hn st (omega (arith, i, l)) ∙ i;
       }
 
-  pub static_runs : (net m : Network ℕ) (ps qs : List Datum) (p : Past) (x y : Datum) (before now : List Cell) (o : Outcome) → m ≡ net → qs ≡ ps
-      → Flows keys m qs p x before now y → before ≡ [] → IsTrue (is_static m) → o.state ≡ static_state net ps now → o.answer ≡ y → Counts net o.visits
-      → (w : Frozen ℕ) → IsFlow w net ps p → RunsWhere keys w x o.state o.answer o.visits
-  static_runs net m ps qs p x y before now o em eq f eb st ea ez hn w h =
+  pub flows_whole : (net m : Network ℕ) (ps qs : List Datum) (p : Past) (x y z : Datum) (before now ks : List Cell) → m ≡ net → qs ≡ ps
+      → Flows keys m qs p x before now y → before ≡ [] → IsTrue (is_static m) → ks ≡ now → z ≡ y → FlowsThrough keys net ps p x ks z
+  flows_whole net m ps qs p x y z before now ks em eq f eb st ek ez w n h hn =
       let there : Flows keys net ps p x before now y = subst (λ z. Flows keys z ps p x before now y) em (subst (λ rs. Flows keys m rs p x before now y) eq f) in
-      subst (λ (a : State ℕ). RunsWhere keys w x a o.answer o.visits) (sym ea) (subst (λ v. RunsWhere keys w x (static_state net ps now) v o.visits) (sym ez)
-      (whole_runs net ps p x y before now o.visits there eb (subst (λ z. IsTrue (is_static z)) em st) hn w h))
+      subst (λ js. RunsWhere keys w x (static_state net ps js) z n) (sym ek) (subst (λ v. RunsWhere keys w x (static_state net ps now) v n) (sym ez)
+      (whole_runs net ps p x y before now n there eb (subst (λ z. IsTrue (is_static z)) em st) hn w h))
+
+  pub static_runs : (net : Network ℕ) (ps : List Datum) (p : Past) (x y : Datum) (ks : List Cell) (o : Outcome) → FlowsThrough keys net ps p x ks y
+      → o.state ≡ static_state net ps ks → o.answer ≡ y → Counts net o.visits
+      → (w : Frozen ℕ) → IsFlow w net ps p → RunsWhere keys w x o.state o.answer o.visits
+  static_runs net ps p x y ks o f ea ez hn w h =
+      subst (λ (a : State ℕ). RunsWhere keys w x a o.answer o.visits) (sym ea) (subst (λ v. RunsWhere keys w x (static_state net ps ks) v o.visits) (sym ez)
+      (f w o.visits h hn))
+
+  pub flows_on : (net : Network ℕ) (ps : List Datum) (js : List Cell) (d : ℕ) (x y : Datum) (ks : List Cell) (n : ℕ)
+      → FlowsThrough keys net ps (Some (js, d)) x ks y → Counts net n
+      → RunsWhere keys (paused (static_state net ps js) d) x (static_state net ps ks) y n
+  flows_on net ps js d x y ks n f hn = f (paused (static_state net ps js) d) n F.flow_on hn

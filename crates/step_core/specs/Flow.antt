@@ -11,7 +11,7 @@ use Rattle.cell_core.specs.declared.form.Form.{Form}
 use Rattle.cell_core.specs.declared.form.Form.TheVariants as F
 use Rattle.state_core.specs.RowsView.{row_number}
 use Rattle.state_core.specs.State.{Scope, Frozen, Frozens, unstarted, paused, no_frozen, and_frozen, params_of}
-use Rattle.state_core.specs.StaticNetwork.{cell_count, cells_count, static_state, static_states}
+use Rattle.state_core.specs.StaticNetwork.{Counts, cell_count, cells_count, static_state, static_states}
 use Rattle.step_core.specs.Called.{Called}
 use Rattle.step_core.specs.Outcome.{nothing_yet}
 use Rattle.step_core.specs.Runs.{RunsWhere, RunEachWhere, to_all}
@@ -47,6 +47,12 @@ pub record Flows (keys : List KeyTree) (net : Network ℕ) (ps : List Datum) (p 
   pub is_count : length cells ≡ cell_count net
   pub runs : (w : Frozen ℕ) → IsFlow w net ps (behind (length before) p)
       → RunsWhere keys w x (static_state net ps cells) y (weight net [])
+
+-- the sample x flowed through the whole network, which now keeps these cells, and y came out
+abbrev pub FlowsThrough : List KeyTree → Network ℕ → List Datum → Past → Datum → List Cell → Datum
+    → Type 0
+FlowsThrough keys net ps p x ks y = (w : Frozen ℕ) (n : ℕ) → IsFlow w net ps p → Counts net n
+    → RunsWhere keys w x (static_state net ps ks) y n
 
 -- the sample x flowed through all members, their answers and their new cells were added
 pub record AllFlow (keys : List KeyTree) (fs : Networks ℕ) (ps : List Datum) (p : Past) (x : Datum)

@@ -14,7 +14,7 @@ use crate::part::{first, paired_with, second};
 use leaf_table::LeafId;
 use net_syntax::Net;
 use sample_core::{Memory, Sample};
-use state_core::{Cells, Env, KSwitchParts, NewCells, Node, Params, State, StaticNet, Whole};
+use state_core::{Cells, Env, KSwitchParts, Node, Params, State, StaticNet, Whole};
 use std::alloc::Global;
 use std::marker::Model;
 
@@ -119,39 +119,26 @@ pub(crate) fn around<'n>(
     }
 }
 
-/// A network without switches round its new cells. `Memory` where a growth was refused.
+/// A network without switches round its new cells. `Memory` only where a count of references is
+/// full.
 pub(crate) fn keep_static<'n>(
-    alloc: Global,
     net: StaticNet<'n>,
     params: &Params,
-    cells: NewCells,
+    cells: Cells,
     answer: Sample,
 ) -> Result<Ran<'n>, Memory>
     ensures { IfOk result (λ r. (r.state
         ≡ static_state (rows_in net.entry.net.now) params.now cells)
         × (r.answer ≡ datum_of answer) × Counts (rows_in net.entry.net.now) r.visits) }
 {
-    match kept(alloc, params, cells) {
-        Ok((params, cells)) => {
+    match params.try_copy() {
+        Ok(params) => {
             let visits = net.nodes();
             Ok(Ran::new(State::Static(net, params, cells), answer, visits))
         }
         Err(memory) => {
-            drop(answer);
-            Err(memory)
-        }
-    }
-}
-
-/// A copy of the parameters, and the cells. `Memory` where a growth was refused.
-fn kept(alloc: Global, params: &Params, cells: NewCells) -> Result<(Params, Cells), Memory>
-    ensures { IfOk result (λ r. (r.0 ≡ params.now) × (r.1 ≡ cells)) }
-{
-    let cells = cells.into_cells(alloc)?;
-    match params.try_copy() {
-        Ok(params) => Ok((params, cells)),
-        Err(memory) => {
             drop(cells);
+            drop(answer);
             Err(memory)
         }
     }

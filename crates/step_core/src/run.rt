@@ -8,7 +8,7 @@ ghost use Rattle.state_core.specs.RowsView.{rows_in, row_number};
 ghost use Rattle.state_core.specs.State.{Frozen};
 ghost use Rattle.state_core.specs.StateView.{scope_of};
 ghost use Rattle.step_core.specs.Called.{Called};
-ghost use Rattle.step_core.specs.Flow.{IsFlow, past_in};
+ghost use Rattle.step_core.specs.Flow.{FlowsThrough, IsFlow, past_in};
 ghost use Rattle.step_core.specs.Outcome.{RunsBy, TakesOver, TakesOverLate, RunsAll};
 ghost use Rattle.step_core.specs.Plans.{IsFed, RunsMember, router_of};
 ghost use Rattle.step_core.specs.Runs.{RunsWhere, RunEachWhere, SeqBy, FirstBy, ParBy, LoopBy, SwitchBy, DSwitchBy, RSwitchBy, KSwitchBy, PSwitchBy, OldBy};
@@ -76,6 +76,24 @@ fn run_static<'n, R: Rows>(
         (λ w. IsFlow w (rows_in net.entry.net.now) params.now (past_in before.entry dt))
         (datum_of x.now) r) }
 {
+    let (cells, answer) = flow_whole(alloc, rows, net, params, before, dt, x)?;
+    keep_static(net, params, cells, answer)
+}
+
+/// The new cells of a network without switches, and what it answers.
+#[inline(always)]
+pub(crate) fn flow_whole<R: Rows>(
+    alloc: Global,
+    rows: &R,
+    net: StaticNet<'_>,
+    params: &Params,
+    before: Option<&Cells>,
+    dt: u64,
+    x: &Sample,
+) -> Result<(Cells, Sample), Memory>
+    ensures { IfOk result (λ r. FlowsThrough (R.keys rows.now) (rows_in net.entry.net.now)
+        params.now (past_in before.entry dt) (datum_of x.now) r.0 (datum_of r.1)) }
+{
     let room = match before {
         Some(before) => before.len(),
         None => 0,
@@ -89,9 +107,22 @@ fn run_static<'n, R: Rows>(
         dt,
     };
     match flow(&on, net.net(), x, &mut cells) {
-        Ok(answer) => keep_static(alloc, net, params, cells, answer),
+        Ok(answer) => with_cells(alloc, cells, answer),
         Err(memory) => {
             drop(cells);
+            Err(memory)
+        }
+    }
+}
+
+/// The cells, to be shared, and an answer. `Memory` where a growth was refused.
+fn with_cells(alloc: Global, cells: NewCells, answer: Sample) -> Result<(Cells, Sample), Memory>
+    ensures { IfOk result (λ r. (r.0 ≡ cells) × (r.1 ≡ answer)) }
+{
+    match cells.into_cells(alloc) {
+        Ok(cells) => Ok((cells, answer)),
+        Err(memory) => {
+            drop(answer);
             Err(memory)
         }
     }

@@ -1,19 +1,22 @@
 // Running a bound network, sample by sample.
 
-ghost use Rattle.std.specs.Prelude.{◌≡◌, ◌<◌, ◌≤◌, ◌+◌, ◌^◌, [], IfOk, OnErr};
+ghost use Rattle.std.specs.Prelude.{◌≡◌, ◌<◌, ◌≤◌, ◌+◌, ◌^◌, [], IfOk, OnErr, Some};
 ghost use Rattle.sample_core.specs.HasType.{HasType};
 ghost use Rattle.sample_core.specs.ValueView.{datum_of};
 ghost use Rattle.leaf_table.specs.Rows.{rows_of};
 ghost use Rattle.step_core.specs.Binding.{FitsTable};
 ghost use Rattle.step_core.specs.RunnerState.{HasPast};
+ghost use Rattle.state_core.specs.RowsView.{rows_in};
+ghost use Rattle.state_core.specs.StaticNetwork.{static_state};
+ghost use Rattle.state_core.specs.declared.state.State.TheVariants as S;
 ghost use Rattle.step_core.specs.StateOption.{state_in};
 
 use crate::bound::Bound;
 use crate::plan::Source;
-use crate::run::run;
+use crate::run::{flow_whole, run};
 use leaf_table::LeafTable;
 use sample_core::{Memory, Sample};
-use state_core::{Env, State};
+use state_core::{Cells, Env, State};
 use std::alloc::Global;
 
 /// A network that runs. It borrows the network and the table, and holds the network's state, once
@@ -75,6 +78,33 @@ impl<'a> Runner<'a> {
             (runner_state self.new)) }
         ensures unchanged { OnErr result (runner_state self.new ≡ runner_state self.old) }
     {
+        match &self.state {
+            Some(state) => match state {
+                State::Static(net, params, cells) => {
+                    let before = Some(cells);
+                    let (next, answer) =
+                        flow_whole(self.alloc, self.table, *net, params, before, step, sample)?;
+                    self.visits = net.nodes();
+                    self.samples += 1;
+                    put_cells(&mut self.state, next);
+                    Ok(answer)
+                }
+                State::Whole(_) => self.push_whole(step, sample),
+            },
+            None => self.push_whole(step, sample),
+        }
+    }
+
+    /// The same, whatever runs: a new state takes the place of the old one.
+    fn push_whole(&mut self, step: u64, sample: &Sample) -> Result<Sample, Memory>
+        requires typed { HasType (datum_of sample.now) (runner_state self.old).input }
+        requires later { 0 < (runner_state self.old).samples → (1 ≤ step) × (step < 2 ^ 63) }
+        requires room { (runner_state self.old).samples < 2 ^ 63 }
+        ensures pushed { IfOk result
+            (λ y. Pushes (runner_state self.old) (step, datum_of sample.now) (datum_of y)
+            (runner_state self.new)) }
+        ensures unchanged { OnErr result (runner_state self.new ≡ runner_state self.old) }
+    {
         let env = Env::nothing();
         let from = match &self.state {
             Some(state) => Source::State(state),
@@ -103,5 +133,16 @@ impl<'a> Runner<'a> {
         ensures { result ≡ (runner_state self.now).visits }
     {
         self.visits
+    }
+}
+
+/// Puts the new cells of a network without switches in the place of the old ones.
+fn put_cells(state: &mut Option<State<'_>>, next: Cells)
+    ensures { (net : _) (ps : _) (ks : _) → state.old ≡ Some (S.Static net ps ks)
+        → state_in state.new ≡ Some (static_state (rows_in net.net.now) ps next) }
+{
+    match state {
+        Some(State::Static(_, _, cells)) => drop(std::mem::replace(cells, next)),
+        _ => drop(next),
     }
 }
