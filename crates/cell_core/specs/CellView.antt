@@ -3,7 +3,8 @@ use Rattle.sample_core.specs.Datum.{Datum}
 use Rattle.sample_core.specs.ValueView.{datum_of}
 use Rattle.sample_core.specs.declared.sample.Sample.{Sample}
 use Rattle.cell_core.specs.Cell.{Cell, previous, latest, accumulating, ticking, summing}
-use Rattle.cell_core.specs.Parts.{delay_of, recurring_of, after_of}
+use Rattle.cell_core.specs.Delays.{delay_of}
+use Rattle.cell_core.specs.Parts.{recurring_of, after_of}
 use Rattle.cell_core.specs.declared.cell.Cell as C
 use Rattle.cell_core.specs.declared.cell.Cell.TheVariants as V
 

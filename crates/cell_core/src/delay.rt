@@ -1,256 +1,244 @@
 // The queue of a `delay`.
 
-ghost use Rattle.std.specs.Prelude.{◌≡◌, ◌+◌, ◌-◌, ◌<◌, ◌≤◌, ◌^◌, ◌∷◌, [], IfOk, reverse};
+ghost use Rattle.std.specs.Prelude.{◌≡◌, ◌+◌, ◌<◌, ◌^◌, [], IfOk, OnOk, MatchOption, length};
 ghost use Rattle.sample_core.specs.ValueView.{datum_of};
-ghost use Rattle.cell_core.specs.Queue.{steps, times_left};
-ghost use Rattle.cell_core.specs.Fronts.{IsLine, IsFront};
-ghost use Rattle.cell_core.specs.Walk.{IsWalk, IsJoined, whole_line};
+ghost use Rattle.cell_core.specs.Cell.{cell_step};
+ghost use Rattle.cell_core.specs.Start.{cell_start};
+ghost use Rattle.cell_core.specs.Queue.{IsRenewed};
+ghost use Rattle.cell_core.specs.Entries.{entries_of};
+ghost use Rattle.cell_core.specs.Delays.{back_of, delay_of, IsKept, IsTurned, IsGathered};
 
-use crate::chain::Chain;
 use crate::form::Form;
+use crate::front::{Ahead, Entry, Front, push};
 use sample_core::{Memory, Sample};
 use std::alloc::Global;
+use std::marker::Model;
+use std::rc::Rc;
 
-/// What a `delay` keeps: its q, the value that is out, and the values that wait. Only the oldest
-/// counts down; each newer one keeps its step since the one before it. Copies share what waits.
+/// What a `delay` keeps: its newest sample, with its step since the one before it, those before it
+/// that wait behind, and those in front. Copies share all.
+#[cycle(delay)]
 #[derive(Drop)]
 pub struct Delay {
-    q: u64,
-    front: Front,
-    back: Chain,
-    ghost newest: { front.left + (steps front.rest + steps back) ≡ q },
+    since: u64,
+    newest: Sample,
+    earlier: Earlier,
+    ahead: Ahead,
 }
 
-// What is out, the oldest value that waits with the time left to it, and those in front after it,
-// the oldest first.
-#[derive(Drop)]
-struct Front {
-    out: Sample,
-    left: u64,
-    oldest: Sample,
-    rest: Chain,
+/// The samples behind, each with its step since the one before it, the newest first. Each is kept
+/// by the `Delay` after its step. Contracts see the list of the pairs of a step and a value's tree.
+#[cycle(delay)]
+pub(crate) struct Earlier {
+    last: Option<Rc<Delay>>,
 }
 
-// The same, where it stands in another.
-#[derive(Drop)]
-struct Line<'a> {
-    out: &'a Sample,
-    left: u64,
-    oldest: &'a Sample,
-    front: &'a Chain,
+impl Model for Earlier {
+    ghost use Rattle.std.specs.Prelude.{List, ℕ, length};
+    ghost use Rattle.std.specs.Coded.{coded_list, coded×, coded_ℕ};
+    ghost use Rattle.sample_core.specs.Datum.{Datum};
+    ghost use Rattle.sample_core.specs.DatumCode.{datum_code};
+
+    ghost Value = { List (ℕ × Datum) };
+
+    ghost coded = { coded_list (coded× coded_ℕ datum_code) };
+
+    ghost use Rattle.cell_core.specs.Earlier.{samples};
+
+    ghost view = { λ e. samples e.last };
+
+    ghost size = { length };
+
+    ghost use Rattle.std.proofs.Common.{arith};
+
+    ghost size_decreases = { λ e h. Prim.grind arith };
 }
 
-// How far a walk along a line comes.
-#[derive(Drop)]
-enum Walk<'a> {
-    // To the first value that isn't due.
-    Waiting(Line<'a>),
-    // To the end: the last value, and the time left to it from before the step.
-    Through(&'a Sample, u64),
-}
-
-// Passes the values that are due in dt.
-fn pass<'a>(dt: u64, line: Line<'a>) -> Walk<'a>
-    requires { line.left + steps line.front.now < 2 ^ 64 }
-    ensures { IsWalk dt line.entry result }
-{
-    let Line {
-        mut out,
-        mut left,
-        mut oldest,
-        mut front,
-    } = line;
-    while left <= dt {
-        let Some((since, next, further)) = front.split() else {
-            return Walk::Through(oldest, left);
-        };
-        out = oldest;
-        left += since;
-        oldest = next;
-        front = further;
+// A loop, so that many samples don't run out of stack.
+impl Drop for Earlier {
+    fn drop(mut self) {
+        loop {
+            let Earlier { last } = self;
+            match last {
+                None => return,
+                Some(shared) => match Rc::into_inner(shared) {
+                    None => return,
+                    Some(delay) => {
+                        let Delay {
+                            since: _,
+                            newest: _,
+                            earlier,
+                            ahead: _,
+                        } = delay;
+                        self = earlier;
+                    }
+                },
+            }
+        }
     }
-    Walk::Waiting(Line {
-        out,
-        left,
-        oldest,
-        front,
-    })
+}
+
+impl Earlier {
+    /// No samples.
+    fn new() -> Earlier
+        ensures { result ≡ [] }
+    {
+        Earlier { last: None }
+    }
+
+    /// The newest sample of the queue, and those before it that aren't in front. `Memory` only
+    /// where a count of references is full.
+    fn of(delay: &Rc<Delay>) -> Result<Earlier, Memory>
+        ensures { IfOk result (λ e. e ≡ back_of delay.now.value) }
+    {
+        let last = Some(delay.clone()?);
+        Ok(Earlier { last })
+    }
+
+    /// What was kept after the newest of them; nothing where there is none.
+    fn last(&self) -> Option<&Delay>
+        ensures { MatchOption result (self.now ≡ []) (λ d. self.now ≡ back_of d.now) }
+    {
+        match &self.last {
+            None => None,
+            Some(delay) => Some(delay),
+        }
+    }
 }
 
 impl Delay {
-    ghost use Rattle.cell_core.specs.Parts.{delay_of};
-    ghost use Rattle.cell_core.specs.Cell.{enqueue, due, cell_step};
-    ghost use Rattle.cell_core.specs.Start.{cell_start};
-
     /// The queue in which only the sample waits, all of q, and its answer, `out`.
-    pub(crate) fn alone(
+    pub(crate) fn start(
         alloc: Global,
         q: u64,
-        out: &Sample,
+        out: Sample,
         sample: &Sample,
-    ) -> Result<(Delay, Sample), Memory>
+    ) -> Result<(Rc<Delay>, Sample), Memory>
         ensures { IfOk result (λ r.
-            cell_start (Form.Delay q) (datum_of out.now) (datum_of sample.now)
-            ≡ (delay_of r.0, datum_of r.1)) }
+            cell_start (Form.Delay q) (datum_of out) (datum_of sample.now)
+            ≡ (delay_of r.0.value, datum_of r.1)) }
     {
-        let line = Line {
-            out,
-            left: q,
-            oldest: sample,
-            front: &Chain::new(),
-        };
-        let front = Front::of(alloc, line, q)?;
-        let answer = out.try_copy(alloc)?;
-        Ok((
-            Delay {
-                q,
-                front,
-                back: Chain::new(),
-            },
-            answer,
-        ))
-    }
-
-    /// The queue after dt more: what is out and in front is the line, behind it waits `back`, and
-    /// the sample joins. Its answer is what is out.
-    fn joined(
-        alloc: Global,
-        q: u64,
-        dt: u64,
-        line: Line,
-        back: &Chain,
-        sample: &Sample,
-    ) -> Result<(Delay, Sample), Memory>
-        requires newest { line.left + (steps line.front.now + steps back.now) ≡ q }
-        requires waiting { dt < line.left }
-        ensures { IfOk result (λ r.
-            IsJoined q dt line.entry back.now (datum_of sample.now) (delay_of r.0, datum_of r.1)) }
-    {
-        let answer = line.out.try_copy(alloc)?;
-        let back = back.after(alloc, dt, sample)?;
-        let left = line.left - dt;
-        let front = Front::of(alloc, line, left)?;
-        Ok((Delay { q, front, back }, answer))
-    }
-
-    /// The queue after dt more, where no one waits but those of `front`, the oldest first; `left`
-    /// is left to the value before them, which is out.
-    fn fronted(
-        alloc: Global,
-        q: u64,
-        dt: u64,
-        out: &Sample,
-        left: u64,
-        front: &Chain,
-        sample: &Sample,
-    ) -> Result<(Delay, Sample), Memory>
-        requires { left + steps front.now ≡ q }
-        ensures { IfOk result (λ r.
-            enqueue q (datum_of sample.now)
-            (due dt (datum_of out.now) (times_left left front.now))
-            ≡ (delay_of r.0, datum_of r.1)) }
-    {
-        let Some((since, oldest, further)) = front.split() else {
-            return Delay::alone(alloc, q, out, sample);
-        };
-        let line = Line {
-            out,
-            left: left + since,
-            oldest,
-            front: further,
-        };
-        match pass(dt, line) {
-            Walk::Waiting(line) => Delay::joined(alloc, q, dt, line, &Chain::new(), sample),
-            Walk::Through(out, _) => Delay::alone(alloc, q, out, sample),
-        }
-    }
-
-    /// The queue after dt more, where those in front have passed: the last of them, to which `left`
-    /// was left, is out, and those of `back` come to the front.
-    fn turned(
-        alloc: Global,
-        q: u64,
-        dt: u64,
-        out: &Sample,
-        left: u64,
-        back: &Chain,
-        sample: &Sample,
-    ) -> Result<(Delay, Sample), Memory>
-        requires { left + steps back.now ≡ q }
-        ensures { IfOk result (λ r.
-            enqueue q (datum_of sample.now)
-            (due dt (datum_of out.now) (times_left left (reverse back.now)))
-            ≡ (delay_of r.0, datum_of r.1)) }
-    {
-        let front = back.reversed(alloc)?;
-        Delay::fronted(alloc, q, dt, out, left, &front, sample)
-    }
-
-    /// The queue after dt more: what was out and waited in front is the line, behind it waited
-    /// `back`, and the sample joins.
-    fn moved(
-        alloc: Global,
-        q: u64,
-        dt: u64,
-        line: Line,
-        back: &Chain,
-        sample: &Sample,
-    ) -> Result<(Delay, Sample), Memory>
-        requires { line.left + (steps line.front.now + steps back.now) ≡ q }
-        ensures { IfOk result (λ r.
-            enqueue q (datum_of sample.now)
-            (due dt (datum_of line.entry.out.now) (whole_line line.entry back.now))
-            ≡ (delay_of r.0, datum_of r.1)) }
-    {
-        match pass(dt, line) {
-            Walk::Waiting(line) => Delay::joined(alloc, q, dt, line, back, sample),
-            Walk::Through(out, left) => Delay::turned(alloc, q, dt, out, left, back, sample),
-        }
+        let mut entries = Vec::new(alloc);
+        entries.push(Entry { due: 0, value: out })?;
+        Delay::renewed(alloc, q, 0, entries, sample)
     }
 
     /// The queue after dt more, with the sample in it, and its answer: the latest value that is
-    /// due, or what was out. It takes memory for the sample's place, and for each place in `back`
-    /// when all in front has passed.
+    /// due, or what was out. It takes memory for the sample's place, and for a front of those that
+    /// wait behind when all in front has passed.
     pub(crate) fn step(
-        &self,
+        this: &Rc<Delay>,
         alloc: Global,
         dt: u64,
         sample: &Sample,
-    ) -> Result<(Delay, Sample), Memory>
+    ) -> Result<(Rc<Delay>, Sample), Memory>
         ensures { IfOk result (λ r.
-            cell_step (delay_of self.now) (dt, datum_of sample.now)
-            ≡ (delay_of r.0, datum_of r.1)) }
+            cell_step (delay_of this.now.value) (dt, datum_of sample.now)
+            ≡ (delay_of r.0.value, datum_of r.1)) }
     {
-        Delay::moved(alloc, self.q, dt, self.front.line(), &self.back, sample)
-    }
-}
-
-impl Front {
-    /// The line.
-    fn line(&self) -> Line<'_>
-        ensures { IsLine self.now result }
-    {
-        Line {
-            out: &self.out,
-            left: self.left,
-            oldest: &self.oldest,
-            front: &self.rest,
+        let at = this.ahead.passed(dt);
+        if at == 0 {
+            Delay::turned(this, alloc, dt, sample)
+        } else {
+            Delay::kept(this, alloc, at, dt, sample)
         }
     }
 
-    /// The line with another time left to its oldest value, and its other values shared. It takes
-    /// no memory; `Memory` only where a count of references is full.
-    fn of(alloc: Global, line: Line, left: u64) -> Result<Front, Memory>
-        ensures { IfOk result (λ f. IsFront line.entry left f) }
+    /// The queue after dt more, where what is out then stands at `at` in front and others wait
+    /// before it, with the sample in it, and its answer.
+    fn kept(
+        this: &Rc<Delay>,
+        alloc: Global,
+        at: usize,
+        dt: u64,
+        sample: &Sample,
+    ) -> Result<(Rc<Delay>, Sample), Memory>
+        requires within { at < length this.now.value.ahead.front.value.entries.items }
+        requires fits { this.now.value.ahead.age + dt < 2 ^ 64 }
+        ensures { IfOk result (λ r.
+            IsKept this.now.value at dt (datum_of sample.now) (delay_of r.0.value, datum_of r.1)) }
     {
-        let out = line.out.try_copy(alloc)?;
-        let oldest = line.oldest.try_copy(alloc)?;
-        let rest = line.front.try_copy()?;
-        Ok(Front {
-            out,
-            left,
-            oldest,
-            rest,
-        })
+        let answer = this.ahead.front.entries[at].value.try_copy(alloc)?;
+        let newest = sample.try_copy(alloc)?;
+        let earlier = Earlier::of(this)?;
+        let ahead = this.ahead.after(dt, at)?;
+        let delay = Delay {
+            since: dt,
+            newest,
+            earlier,
+            ahead,
+        };
+        let delay = Rc::new(alloc, delay)?;
+        Ok((delay, answer))
+    }
+
+    /// The queue after dt more, where all in front has passed: those behind that aren't due come to
+    /// the front, and the sample is behind. Its answer is what is out.
+    fn turned(
+        this: &Rc<Delay>,
+        alloc: Global,
+        dt: u64,
+        sample: &Sample,
+    ) -> Result<(Rc<Delay>, Sample), Memory>
+        ensures { IfOk result (λ r.
+            IsTurned this.now.value dt (datum_of sample.now) (delay_of r.0.value, datum_of r.1)) }
+    {
+        let mut entries = Vec::with_capacity(alloc, this.ahead.front.entries.len())?;
+        match this.gather(alloc, dt, &mut entries) {
+            Ok(()) => Delay::renewed(alloc, this.ahead.front.q, dt, entries, sample),
+            Err(memory) => {
+                drop(entries);
+                Err(memory)
+            }
+        }
+    }
+
+    /// Adds those behind that aren't due in dt, the newest first, each with the time that is left
+    /// to it then, and what is out then: the newest that is due, or what was out when all in front
+    /// had passed.
+    fn gather(&self, alloc: Global, dt: u64, entries: &mut Vec<Entry>) -> Result<(), Memory>
+        requires { entries.old.items ≡ [] }
+        ensures { OnOk result
+            (IsGathered self.now dt (entries_of entries.new.items)) }
+    {
+        let mut at = self;
+        let mut left = self.ahead.front.q;
+        while dt < left {
+            push(alloc, left - dt, &at.newest, entries)?;
+            left = left.saturating_sub(at.since);
+            match at.earlier.last() {
+                None => return push(alloc, 0, &self.ahead.front.entries[0].value, entries),
+                Some(before) => at = before,
+            }
+        }
+        push(alloc, 0, &at.newest, entries)
+    }
+
+    /// The queue with this front, of which the last is out, and the sample behind. Its answer is
+    /// what is out.
+    fn renewed(
+        alloc: Global,
+        q: u64,
+        dt: u64,
+        entries: Vec<Entry>,
+        sample: &Sample,
+    ) -> Result<(Rc<Delay>, Sample), Memory>
+        requires { 0 < length entries.items }
+        ensures { IfOk result (λ r.
+            IsRenewed q (entries_of entries.items) (datum_of sample.now)
+            (delay_of r.0.value, datum_of r.1)) }
+    {
+        let at = entries.len() - 1;
+        let answer = entries[at].value.try_copy(alloc)?;
+        let newest = sample.try_copy(alloc)?;
+        let front = Rc::new(alloc, Front { q, entries })?;
+        let delay = Delay {
+            since: dt,
+            newest,
+            earlier: Earlier::new(),
+            ahead: Ahead { front, age: 0, at },
+        };
+        let delay = Rc::new(alloc, delay)?;
+        Ok((delay, answer))
     }
 }

@@ -2,9 +2,9 @@
 #![tactic(auto)]
 
 mod cell;
-mod chain;
 mod delay;
 mod form;
+mod front;
 mod laws;
 mod recurring;
 mod start;

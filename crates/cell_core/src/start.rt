@@ -12,7 +12,6 @@ use crate::form::Form;
 use crate::recurring::Recurring;
 use sample_core::{Memory, Sample, SampleChild};
 use std::alloc::Global;
-use std::rc::Rc;
 
 /// An `iPre` answers its constant and keeps the sample.
 pub(crate) fn i_pre(
@@ -37,8 +36,7 @@ pub(crate) fn delay(
     ensures { IfOk result
         (λ r. outcome_of r ≡ cell_start (Form.Delay q) (datum_of constant) (datum_of sample.now)) }
 {
-    let (delay, answer) = Delay::alone(alloc, q, &constant, sample)?;
-    let delay = Rc::new(alloc, delay)?;
+    let (delay, answer) = Delay::start(alloc, q, constant, sample)?;
     Ok((Cell::Delay(delay), answer))
 }
 

@@ -5,7 +5,8 @@ ghost use Rattle.std.specs.Int.{int_wrap, w64};
 ghost use Rattle.sample_core.specs.Datum.{unit};
 ghost use Rattle.sample_core.specs.ValueView.{datum_of};
 ghost use Rattle.cell_core.specs.CellView.{cell_of, outcome_of};
-ghost use Rattle.cell_core.specs.Parts.{after_of, delay_of, recurring_of};
+ghost use Rattle.cell_core.specs.Delays.{delay_of};
+ghost use Rattle.cell_core.specs.Parts.{after_of, recurring_of};
 ghost use Rattle.cell_core.specs.Cell.{cell_step, previous, latest, accumulating, ticking, summing};
 
 use crate::cell::Cell;
@@ -33,15 +34,14 @@ pub(crate) fn i_pre(
 /// A `delay` lets out what is due, and the sample waits.
 pub(crate) fn delay(
     alloc: Global,
-    delay: &Delay,
+    delay: &Rc<Delay>,
     dt: u64,
     sample: &Sample,
 ) -> Result<(Cell, Sample), Memory>
     ensures { IfOk result
-        (λ r. outcome_of r ≡ cell_step (delay_of delay.now) (dt, datum_of sample.now)) }
+        (λ r. outcome_of r ≡ cell_step (delay_of delay.now.value) (dt, datum_of sample.now)) }
 {
-    let (delay, answer) = delay.step(alloc, dt, sample)?;
-    let delay = Rc::new(alloc, delay)?;
+    let (delay, answer) = Delay::step(delay, alloc, dt, sample)?;
     Ok((Cell::Delay(delay), answer))
 }
 
