@@ -25,6 +25,12 @@ abbrev pub delay_of : Delay → Cell
 delay_of d = queue (q_of d) (place (front_of d.ahead) d.ahead.at).1
     (fronted (front_of d.ahead) d.ahead.age d.ahead.at ++ behind (q_of d) (back_of d))
 
+-- the queue and the answer with these ahead and these behind
+abbrev pub IsJoined : Ahead → List (ℕ × Datum) → Cell × Datum → Type 0
+IsJoined a back r = (r.0 ≡ queue a.front.value.q (place (front_of a) a.at).1
+    (fronted (front_of a) a.age a.at ++ behind a.front.value.q back))
+    × (r.1 ≡ (place (front_of a) a.at).1)
+
 -- the queue and the answer after dt more, where what is out then stands at that place and others
 -- wait before it, with v in it
 abbrev pub IsKept : Delay → ℕ → ℕ → Datum → Cell × Datum → Type 0

@@ -1,7 +1,7 @@
 -- What waits in a delay, in front and behind, newest first in both.
 use Rattle.std.specs.Prelude.{◌≡◌, ℕ, zero, suc, ◌+◌, ◌-◌, ◌≤◌, ◌<◌, ◌^◌, List, [], ◌∷◌, ◌++◌, length, get_or}
 use Rattle.sample_core.specs.Datum.{Datum, unit}
-use Rattle.cell_core.specs.Cell.{Cell, queue, due, count_down}
+use Rattle.cell_core.specs.Cell.{Cell, queue, due}
 
 -- the time that is left to each of those behind, the oldest first, where t is left to the newest;
 -- in the list each has its step since the one before it

@@ -55,7 +55,7 @@ impl Cell {
     {
         match form {
             Form::IPre => start::i_pre(alloc, constant, sample),
-            Form::Delay(q) => start::delay(alloc, q, constant, sample),
+            Form::Delay(q) => Delay::start(alloc, q, constant, sample),
             Form::Hold => step::hold(alloc, &constant, sample),
             Form::AccumBy => step::accum_by(alloc, &constant, sample),
             Form::After(q) => start::after(alloc, q, constant),
@@ -71,13 +71,14 @@ impl Cell {
     ///
     /// Only a `delay` takes memory: `Memory` where a growth was refused, or a count of references
     /// is full. This cell stays as it is.
+    #[inline(always)]
     pub fn step(&self, alloc: Global, dt: u64, sample: &Sample) -> Result<(Cell, Sample), Memory>
         ensures { IfOk result
             (λ r. outcome_of r ≡ cell_step (cell_of self.now) (dt, datum_of sample.now)) }
     {
         match self {
             Cell::IPre(before) => step::i_pre(alloc, before, sample),
-            Cell::Delay(delay) => step::delay(alloc, delay, dt, sample),
+            Cell::Delay(delay) => Delay::step(delay, alloc, dt, sample),
             Cell::Hold(latest) => step::hold(alloc, latest, sample),
             Cell::AccumBy(accumulator) => step::accum_by(alloc, accumulator, sample),
             Cell::After(left, value) => step::after(*left, value, dt),
@@ -88,6 +89,7 @@ impl Cell {
     }
 
     /// The accumulator of an `accumBy`; nothing for another cell.
+    #[inline(always)]
     pub fn accumulator(&self) -> Option<&Sample>
         ensures { MatchOption result ((acc : Datum) → cell_of self.now ≢ accumulating acc)
             (λ acc. cell_of self.now ≡ accumulating (datum_of acc.now)) }
@@ -99,6 +101,7 @@ impl Cell {
     }
 
     /// The sample before, of an `iPre`; nothing for another cell.
+    #[inline(always)]
     pub fn previous(&self) -> Option<&Sample>
         ensures { MatchOption result ((v : Datum) → cell_of self.now ≢ keeping v)
             (λ v. cell_of self.now ≡ keeping (datum_of v.now)) }

@@ -1,13 +1,15 @@
 // The queue of a `delay`.
 
-ghost use Rattle.std.specs.Prelude.{◌≡◌, ◌+◌, ◌<◌, ◌^◌, [], IfOk, OnOk, MatchOption, length};
+ghost use Rattle.std.specs.Prelude.{◌≡◌, ◌+◌, ◌<◌, ◌^◌, ◌∷◌, [], IfOk, OnOk, MatchOption, length};
 ghost use Rattle.sample_core.specs.ValueView.{datum_of};
+ghost use Rattle.cell_core.specs.CellView.{outcome_of};
 ghost use Rattle.cell_core.specs.Cell.{cell_step};
 ghost use Rattle.cell_core.specs.Start.{cell_start};
 ghost use Rattle.cell_core.specs.Queue.{IsRenewed};
 ghost use Rattle.cell_core.specs.Entries.{entries_of};
-ghost use Rattle.cell_core.specs.Delays.{back_of, delay_of, IsKept, IsTurned, IsGathered};
+ghost use Rattle.cell_core.specs.Delays.{back_of, delay_of, IsJoined, IsKept, IsTurned, IsGathered};
 
+use crate::cell::Cell;
 use crate::form::Form;
 use crate::front::{Ahead, Entry, Front, push};
 use sample_core::{Memory, Sample};
@@ -88,6 +90,7 @@ impl Earlier {
 
     /// The newest sample of the queue, and those before it that aren't in front. `Memory` only
     /// where a count of references is full.
+    #[inline(always)]
     fn of(delay: &Rc<Delay>) -> Result<Earlier, Memory>
         ensures { IfOk result (λ e. e ≡ back_of delay.now.value) }
     {
@@ -113,10 +116,9 @@ impl Delay {
         q: u64,
         out: Sample,
         sample: &Sample,
-    ) -> Result<(Rc<Delay>, Sample), Memory>
+    ) -> Result<(Cell, Sample), Memory>
         ensures { IfOk result (λ r.
-            cell_start (Form.Delay q) (datum_of out) (datum_of sample.now)
-            ≡ (delay_of r.0.value, datum_of r.1)) }
+            outcome_of r ≡ cell_start (Form.Delay q) (datum_of out) (datum_of sample.now)) }
     {
         let mut entries = Vec::new(alloc);
         entries.push(Entry { due: 0, value: out })?;
@@ -126,15 +128,15 @@ impl Delay {
     /// The queue after dt more, with the sample in it, and its answer: the latest value that is
     /// due, or what was out. It takes memory for the sample's place, and for a front of those that
     /// wait behind when all in front has passed.
+    #[inline(never)]
     pub(crate) fn step(
         this: &Rc<Delay>,
         alloc: Global,
         dt: u64,
         sample: &Sample,
-    ) -> Result<(Rc<Delay>, Sample), Memory>
+    ) -> Result<(Cell, Sample), Memory>
         ensures { IfOk result (λ r.
-            cell_step (delay_of this.now.value) (dt, datum_of sample.now)
-            ≡ (delay_of r.0.value, datum_of r.1)) }
+            outcome_of r ≡ cell_step (delay_of this.now.value) (dt, datum_of sample.now)) }
     {
         let at = this.ahead.passed(dt);
         if at == 0 {
@@ -146,42 +148,35 @@ impl Delay {
 
     /// The queue after dt more, where what is out then stands at `at` in front and others wait
     /// before it, with the sample in it, and its answer.
+    #[inline(always)]
     fn kept(
         this: &Rc<Delay>,
         alloc: Global,
         at: usize,
         dt: u64,
         sample: &Sample,
-    ) -> Result<(Rc<Delay>, Sample), Memory>
+    ) -> Result<(Cell, Sample), Memory>
         requires within { at < length this.now.value.ahead.front.value.entries.items }
         requires fits { this.now.value.ahead.age + dt < 2 ^ 64 }
         ensures { IfOk result (λ r.
-            IsKept this.now.value at dt (datum_of sample.now) (delay_of r.0.value, datum_of r.1)) }
+            IsKept this.now.value at dt (datum_of sample.now) (outcome_of r)) }
     {
-        let answer = this.ahead.front.entries[at].value.try_copy(alloc)?;
-        let newest = sample.try_copy(alloc)?;
         let earlier = Earlier::of(this)?;
         let ahead = this.ahead.after(dt, at)?;
-        let delay = Delay {
-            since: dt,
-            newest,
-            earlier,
-            ahead,
-        };
-        let delay = Rc::new(alloc, delay)?;
-        Ok((delay, answer))
+        Delay::joined(alloc, dt, sample, earlier, ahead)
     }
 
     /// The queue after dt more, where all in front has passed: those behind that aren't due come to
     /// the front, and the sample is behind. Its answer is what is out.
+    #[inline(never)]
     fn turned(
         this: &Rc<Delay>,
         alloc: Global,
         dt: u64,
         sample: &Sample,
-    ) -> Result<(Rc<Delay>, Sample), Memory>
+    ) -> Result<(Cell, Sample), Memory>
         ensures { IfOk result (λ r.
-            IsTurned this.now.value dt (datum_of sample.now) (delay_of r.0.value, datum_of r.1)) }
+            IsTurned this.now.value dt (datum_of sample.now) (outcome_of r)) }
     {
         let mut entries = Vec::with_capacity(alloc, this.ahead.front.entries.len())?;
         match this.gather(alloc, dt, &mut entries) {
@@ -198,8 +193,7 @@ impl Delay {
     /// had passed.
     fn gather(&self, alloc: Global, dt: u64, entries: &mut Vec<Entry>) -> Result<(), Memory>
         requires { entries.old.items ≡ [] }
-        ensures { OnOk result
-            (IsGathered self.now dt (entries_of entries.new.items)) }
+        ensures { OnOk result (IsGathered self.now dt (entries_of entries.new.items)) }
     {
         let mut at = self;
         let mut left = self.ahead.front.q;
@@ -216,29 +210,45 @@ impl Delay {
 
     /// The queue with this front, of which the last is out, and the sample behind. Its answer is
     /// what is out.
+    #[inline(never)]
     fn renewed(
         alloc: Global,
         q: u64,
         dt: u64,
         entries: Vec<Entry>,
         sample: &Sample,
-    ) -> Result<(Rc<Delay>, Sample), Memory>
+    ) -> Result<(Cell, Sample), Memory>
         requires { 0 < length entries.items }
         ensures { IfOk result (λ r.
-            IsRenewed q (entries_of entries.items) (datum_of sample.now)
-            (delay_of r.0.value, datum_of r.1)) }
+            IsRenewed q (entries_of entries.items) (datum_of sample.now) (outcome_of r)) }
     {
         let at = entries.len() - 1;
-        let answer = entries[at].value.try_copy(alloc)?;
-        let newest = sample.try_copy(alloc)?;
         let front = Rc::new(alloc, Front { q, entries })?;
+        let ahead = Ahead { front, age: 0, at };
+        Delay::joined(alloc, dt, sample, Earlier::new(), ahead)
+    }
+
+    /// The queue with the sample behind, dt after the earlier ones, and its answer, what is out.
+    #[inline(never)]
+    fn joined(
+        alloc: Global,
+        dt: u64,
+        sample: &Sample,
+        earlier: Earlier,
+        ahead: Ahead,
+    ) -> Result<(Cell, Sample), Memory>
+        ensures { IfOk result (λ r.
+            IsJoined ahead ((dt, datum_of sample.now) ∷ earlier) (outcome_of r)) }
+    {
+        let answer = ahead.front.entries[ahead.at].value.try_copy(alloc)?;
+        let newest = sample.try_copy(alloc)?;
         let delay = Delay {
             since: dt,
             newest,
-            earlier: Earlier::new(),
-            ahead: Ahead { front, age: 0, at },
+            earlier,
+            ahead,
         };
         let delay = Rc::new(alloc, delay)?;
-        Ok((delay, answer))
+        Ok((Cell::Delay(delay), answer))
     }
 }

@@ -36,6 +36,7 @@ pub(crate) struct Entry {
 
 impl Ahead {
     /// Where what is out stands dt later; 0 also where all in front has passed then.
+    #[inline(always)]
     pub(crate) fn passed(&self, dt: u64) -> usize
         ensures { IsPassed (entries_of self.now.front.value.entries.items) self.now.age dt self.now.at result }
     {
@@ -52,6 +53,7 @@ impl Ahead {
 
     /// The same front dt later, where what is out then stands at that place, shared. `Memory` only
     /// where a count of references is full.
+    #[inline(always)]
     pub(crate) fn after(&self, dt: u64, at: usize) -> Result<Ahead, Memory>
         requires within { at < length self.now.front.value.entries.items }
         requires fits { self.now.age + dt < 2 ^ 64 }

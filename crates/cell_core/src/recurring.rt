@@ -39,6 +39,7 @@ impl Recurring {
 
     /// After dt more: an event where a multiple has come, and then what is left to the next. It
     /// takes no memory; `Memory` only where a count of references is full.
+    #[inline(always)]
     pub(crate) fn step(&self, dt: u64) -> Result<(Recurring, Sample), Memory>
         ensures { IfOk result (λ r.
             cell_step (recurring_of self.now) (dt, unit) ≡ (recurring_of r.0, datum_of r.1)) }
@@ -55,6 +56,7 @@ impl Recurring {
 
     /// The same with another time left. It takes no memory; `Memory` only where a count of
     /// references is full.
+    #[inline(always)]
     fn with(&self, left: u64) -> Result<Recurring, Memory>
         ensures { IfOk result (λ r.
             recurring_of r ≡ recurring self.now.cycle.value.q left self.now.cycle.value.value) }

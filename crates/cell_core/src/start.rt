@@ -7,7 +7,6 @@ ghost use Rattle.cell_core.specs.CellView.{cell_of, outcome_of};
 ghost use Rattle.cell_core.specs.Start.{cell_start};
 
 use crate::cell::Cell;
-use crate::delay::Delay;
 use crate::form::Form;
 use crate::recurring::Recurring;
 use sample_core::{Memory, Sample, SampleChild};
@@ -24,20 +23,6 @@ pub(crate) fn i_pre(
 {
     let kept = sample.try_copy(alloc)?;
     Ok((Cell::IPre(kept), constant))
-}
-
-/// A `delay` answers its constant, and the sample waits.
-pub(crate) fn delay(
-    alloc: Global,
-    q: u64,
-    constant: Sample,
-    sample: &Sample,
-) -> Result<(Cell, Sample), Memory>
-    ensures { IfOk result
-        (λ r. outcome_of r ≡ cell_start (Form.Delay q) (datum_of constant) (datum_of sample.now)) }
-{
-    let (delay, answer) = Delay::start(alloc, q, constant, sample)?;
-    Ok((Cell::Delay(delay), answer))
 }
 
 /// An `after` is past at once where q is 0, else all of q is left.
@@ -80,6 +65,7 @@ pub(crate) fn integral(sample: &Sample) -> (Cell, Sample)
 }
 
 /// The number of an `Int`; 0 of another value.
+#[inline(always)]
 pub(crate) fn whole_of(sample: &Sample) -> i64
     ensures { result ≡ int_of (datum_of sample.now) }
 {

@@ -3,7 +3,6 @@ use Rattle.std.proofs.lemmas.List.{get_or-map}
 use Rattle.std.proofs.lemmas.Result.{on_ok_weaker}
 use Rattle.sample_core.specs.Datum.{Datum, unit}
 use Rattle.sample_core.specs.ValueView.{datum_of}
-use Rattle.cell_core.specs.Cell.{due}
 use Rattle.cell_core.specs.Queue.{place}
 use Rattle.cell_core.specs.Entries.{entries_of}
 use Rattle.cell_core.specs.Delays.{back_of, front_of, through}
