@@ -15,7 +15,7 @@ cell_of (V.Delay d) = delay_of d.value
 cell_of (V.Hold v) = latest (datum_of v)
 cell_of (V.AccumBy acc) = accumulating (datum_of acc)
 cell_of (V.After left c) = after_of left c
-cell_of (V.Repeatedly r) = recurring_of r
+cell_of (V.Repeatedly left r) = recurring_of left r.value
 cell_of (V.Time z) = ticking z
 cell_of (V.Integral z before) = summing z before
 

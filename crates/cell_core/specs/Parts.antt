@@ -4,9 +4,9 @@ use Rattle.sample_core.specs.Datum.{Datum}
 use Rattle.cell_core.specs.Cell.{Cell, recurring, waiting, over}
 use Rattle.cell_core.specs.declared.recurring.Recurring.{Recurring}
 
--- the cell that a `Recurring` is
-abbrev pub recurring_of : Recurring → Cell
-recurring_of r = recurring r.cycle.value.q r.left r.cycle.value.value
+-- the cell that a `Recurring` is to whose next multiple so much time is left
+abbrev pub recurring_of : ℕ → Recurring → Cell
+recurring_of left r = recurring r.q left r.value
 
 -- the cell that an `after` is to whose event so much time is left, 0 once it is past
 abbrev pub after_of : ℕ → Datum → Cell

@@ -28,8 +28,9 @@ pub enum Cell {
     AccumBy(Sample),
     /// `after`: the time that is left, 0 once it is past, and what its event carries.
     After(u64, SampleChild),
-    /// `repeatedly`: the time that is left to the next multiple.
-    Repeatedly(Recurring),
+    /// `repeatedly`: the time that is left to the next multiple of its q, and its q with what its
+    /// events carry.
+    Repeatedly(u64, Rc<Recurring>),
     /// `time`: the time since the first sample, wrapping.
     Time(i64),
     /// `integral`: the sum so far, wrapping, and the sample before.
@@ -82,7 +83,7 @@ impl Cell {
             Cell::Hold(latest) => step::hold(alloc, latest, sample),
             Cell::AccumBy(accumulator) => step::accum_by(alloc, accumulator, sample),
             Cell::After(left, value) => step::after(*left, value, dt),
-            Cell::Repeatedly(recurring) => step::repeatedly(recurring, dt),
+            Cell::Repeatedly(left, recurring) => step::repeatedly(*left, recurring, dt),
             Cell::Time(time) => Ok(step::time(*time, dt)),
             Cell::Integral(sum, before) => Ok(step::integral(*sum, *before, dt, sample)),
         }
@@ -123,7 +124,7 @@ impl Cell {
             Cell::Hold(latest) => Cell::Hold(latest.try_copy(alloc)?),
             Cell::AccumBy(accumulator) => Cell::AccumBy(accumulator.try_copy(alloc)?),
             Cell::After(left, value) => Cell::After(*left, value.try_copy()?),
-            Cell::Repeatedly(recurring) => Cell::Repeatedly(recurring.try_copy()?),
+            Cell::Repeatedly(left, recurring) => Cell::Repeatedly(*left, recurring.clone()?),
             Cell::Time(time) => Cell::Time(*time),
             Cell::Integral(sum, before) => Cell::Integral(*sum, *before),
         })

@@ -47,7 +47,7 @@ pub(crate) fn repeatedly(alloc: Global, q: u64, constant: Sample) -> Result<(Cel
 {
     let value = SampleChild::new(alloc, constant)?;
     let recurring = Recurring::new(alloc, q, value)?;
-    Ok((Cell::Repeatedly(recurring), Sample::NoEvent))
+    Ok((Cell::Repeatedly(q, recurring), Sample::NoEvent))
 }
 
 /// A `time` starts at 0.

@@ -13,6 +13,7 @@ use crate::recurring::Recurring;
 use crate::start::whole_of;
 use sample_core::{Memory, Sample, SampleChild};
 use std::alloc::Global;
+use std::rc::Rc;
 
 /// An `iPre` answers the sample before and keeps this one.
 #[inline(always)]
@@ -87,12 +88,23 @@ pub(crate) fn after(left: u64, value: &SampleChild, dt: u64) -> Result<(Cell, Sa
 
 /// A `repeatedly`: its event comes where no more than dt is left to a multiple.
 #[inline(always)]
-pub(crate) fn repeatedly(recurring: &Recurring, dt: u64) -> Result<(Cell, Sample), Memory>
+pub(crate) fn repeatedly(
+    left: u64,
+    recurring: &Rc<Recurring>,
+    dt: u64,
+) -> Result<(Cell, Sample), Memory>
     ensures { IfOk result
-        (λ r. outcome_of r ≡ cell_step (recurring_of recurring.now) (dt, unit)) }
+        (λ r. outcome_of r ≡ cell_step (recurring_of left recurring.now.value) (dt, unit)) }
 {
-    let (recurring, answer) = recurring.step(dt)?;
-    Ok((Cell::Repeatedly(recurring), answer))
+    let kept = recurring.clone()?;
+    if left <= dt {
+        let q = recurring.q;
+        let value = recurring.value.try_copy()?;
+        let next = q - (dt - left) % q;
+        Ok((Cell::Repeatedly(next, kept), Sample::Event(value)))
+    } else {
+        Ok((Cell::Repeatedly(left - dt, kept), Sample::NoEvent))
+    }
 }
 
 /// A `time` is dt more.
