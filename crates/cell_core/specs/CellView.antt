@@ -11,7 +11,7 @@ use Rattle.cell_core.specs.declared.cell.Cell.TheVariants as V
 -- the cell that a `Cell` is
 abbrev pub cell_of : C.Cell → Cell
 cell_of (V.IPre v) = previous (datum_of v)
-cell_of (V.Delay d) = delay_of d.value
+cell_of (V.Delay f n) = delay_of f.value n.value
 cell_of (V.Hold v) = latest (datum_of v)
 cell_of (V.AccumBy acc) = accumulating (datum_of acc)
 cell_of (V.After left c) = after_of left c

@@ -1,54 +1,48 @@
--- What a `Delay` is, and how it steps.
+-- What a delay's front and back are, and how they step.
 use Rattle.std.specs.Prelude.{◌≡◌, ℕ, ◌+◌, ◌-◌, ◌<◌, List, ◌∷◌, ◌++◌, length}
 use Rattle.sample_core.specs.Datum.{Datum}
-use Rattle.sample_core.specs.ValueView.{datum_of}
 use Rattle.cell_core.specs.Cell.{Cell, queue, due, enqueue}
-use Rattle.cell_core.specs.Queue.{behind, place, fronted}
-use Rattle.cell_core.specs.declared.delay.Delay.{Delay}
+use Rattle.cell_core.specs.Queue.{behind, place, within, fronted}
 use Rattle.cell_core.specs.Entries.{entries_of}
-use Rattle.cell_core.specs.declared.front.Ahead.{Ahead}
+use Rattle.cell_core.specs.Earlier.{back_of}
+use Rattle.cell_core.specs.declared.behind.Newest.{Newest}
+use Rattle.cell_core.specs.declared.front.Front.{Front}
 
 -- those in front, the newest first
-abbrev pub front_of : Ahead → List (ℕ × Datum)
-front_of a = entries_of a.front.value.entries.items
+abbrev pub front_of : Front → List (ℕ × Datum)
+front_of f = entries_of f.entries.items
 
--- the q
-abbrev pub q_of : Delay → ℕ
-q_of d = d.ahead.front.value.q
+-- the queue at that age of the front, from the place of what is out and those behind
+abbrev pub queue_of : Front → ℕ → ℕ → List (ℕ × Datum) → Cell
+queue_of f age at back =
+    queue f.q (place (front_of f) at).1 (fronted (front_of f) age at ++ behind f.q back)
 
--- those behind, the newest first, each with its step since the one before it
-abbrev pub back_of : Delay → List (ℕ × Datum)
-back_of d = (d.since, datum_of d.newest) ∷ d.earlier
+-- where in front what is out stands
+abbrev pub out_in : Front → Newest → ℕ
+out_in f n = within (length f.entries.items) n.at
 
--- the cell that a `Delay` is
-abbrev pub delay_of : Delay → Cell
-delay_of d = queue (q_of d) (place (front_of d.ahead) d.ahead.at).1
-    (fronted (front_of d.ahead) d.ahead.age d.ahead.at ++ behind (q_of d) (back_of d))
+-- the cell that these are
+abbrev pub delay_of : Front → Newest → Cell
+delay_of f n = queue_of f n.age (out_in f n) (back_of n)
 
--- the queue and the answer with these ahead and these behind
-abbrev pub IsJoined : Ahead → List (ℕ × Datum) → Cell × Datum → Type 0
-IsJoined a back r = (r.0 ≡ queue a.front.value.q (place (front_of a) a.at).1
-    (fronted (front_of a) a.age a.at ++ behind a.front.value.q back))
-    × (r.1 ≡ (place (front_of a) a.at).1)
+-- the queue and the answer with this front, its age, the place of what is out, and these behind
+abbrev pub IsJoined : Front → ℕ → ℕ → List (ℕ × Datum) → Cell × Datum → Type 0
+IsJoined f age at back r = (queue_of f age at back, (place (front_of f) at).1) ≡ r
 
 -- the queue and the answer after dt more, where what is out then stands at that place and others
 -- wait before it, with v in it
-abbrev pub IsKept : Delay → ℕ → ℕ → Datum → Cell × Datum → Type 0
-IsKept d at dt v r = (
-  queue (q_of d) (place (front_of d.ahead) at).1
-      (fronted (front_of d.ahead) (d.ahead.age + dt) at ++ behind (q_of d) ((dt, v) ∷ back_of d)),
-  (place (front_of d.ahead) at).1,
-) ≡ r
+abbrev pub IsKept : Front → Newest → ℕ → ℕ → Datum → Cell × Datum → Type 0
+IsKept f n at dt v r = IsJoined f (n.age + dt) at ((dt, v) ∷ back_of n) r
 
 -- what is out and what waits dt later, where all in front has passed
-abbrev pub through : Delay → ℕ → Datum × List (ℕ × Datum)
-through d dt = due dt (place (front_of d.ahead) 0).1 (behind (q_of d) (back_of d))
+abbrev pub through : Front → Newest → ℕ → Datum × List (ℕ × Datum)
+through f n dt = due dt (place (front_of f) 0).1 (behind f.q (back_of n))
 
 -- the queue and the answer after dt more, where all in front has passed, with v in it
-abbrev pub IsTurned : Delay → ℕ → Datum → Cell × Datum → Type 0
-IsTurned d dt v r = enqueue (q_of d) v (through d dt) ≡ r
+abbrev pub IsTurned : Front → Newest → ℕ → Datum → Cell × Datum → Type 0
+IsTurned f n dt v r = enqueue f.q v (through f n dt) ≡ r
 
 -- those that wait dt later, where all in front has passed, and last what is out
-abbrev pub IsGathered : Delay → ℕ → List (ℕ × Datum) → Type 0
-IsGathered d dt es = (0 < length es)
-    × (through d dt ≡ ((place es (length es - 1)).1, fronted es 0 (length es - 1)))
+abbrev pub IsGathered : Front → Newest → ℕ → List (ℕ × Datum) → Type 0
+IsGathered f n dt es = (0 < length es)
+    × (through f n dt ≡ ((place es (length es - 1)).1, fronted es 0 (length es - 1)))

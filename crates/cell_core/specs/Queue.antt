@@ -1,5 +1,5 @@
 -- What waits in a delay, in front and behind, newest first in both.
-use Rattle.std.specs.Prelude.{◌≡◌, ℕ, zero, suc, ◌+◌, ◌-◌, ◌≤◌, ◌<◌, ◌^◌, List, [], ◌∷◌, ◌++◌, length, get_or}
+use Rattle.std.specs.Prelude.{◌≡◌, ℕ, zero, suc, nat_lt, if◌then◌else◌, ◌+◌, ◌-◌, ◌≤◌, ◌<◌, ◌^◌, List, [], ◌∷◌, ◌++◌, length, get_or}
 use Rattle.sample_core.specs.Datum.{Datum, unit}
 use Rattle.cell_core.specs.Cell.{Cell, queue, due}
 
@@ -12,6 +12,10 @@ behind t (e ∷ es) = behind (t - e.0) es ++ (t, e.1) ∷ []
 -- the time at which the one at a place in front is due, and its value
 abbrev pub place : List (ℕ × Datum) → ℕ → ℕ × Datum
 place es n = get_or es n (0, unit)
+
+-- a place in front, or the last where there are only n
+abbrev pub within : ℕ → ℕ → ℕ
+within n at = if nat_lt at n then at else n - 1
 
 -- the time that is left at now to each of the first n in front, the oldest first
 abbrev pub fronted : List (ℕ × Datum) → ℕ → ℕ → List (ℕ × Datum)

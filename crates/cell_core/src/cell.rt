@@ -7,10 +7,11 @@ ghost use Rattle.cell_core.specs.CellView.{cell_of, outcome_of};
 ghost use Rattle.cell_core.specs.Cell.{cell_step, accumulating, previous as keeping};
 ghost use Rattle.cell_core.specs.Start.{IsWithin, cell_start};
 
-use crate::delay::Delay;
+use crate::behind::Newest;
 use crate::form::Form;
+use crate::front::Front;
 use crate::recurring::Recurring;
-use crate::{start, step};
+use crate::{queue, start, step};
 use sample_core::{Memory, Sample, SampleChild};
 use std::alloc::Global;
 use std::rc::Rc;
@@ -20,8 +21,8 @@ use std::rc::Rc;
 pub enum Cell {
     /// `iPre`: the sample before.
     IPre(Sample),
-    /// `delay`: what is out, and what waits.
-    Delay(Rc<Delay>),
+    /// `delay`: those in front, of which one is out, and those behind.
+    Delay(Rc<Front>, Rc<Newest>),
     /// `hold`: the value of the latest event, or the constant.
     Hold(Sample),
     /// `accumBy`: the accumulator.
@@ -56,7 +57,7 @@ impl Cell {
     {
         match form {
             Form::IPre => start::i_pre(alloc, constant, sample),
-            Form::Delay(q) => Delay::start(alloc, q, constant, sample),
+            Form::Delay(q) => queue::start(alloc, q, constant, sample),
             Form::Hold => step::hold(alloc, &constant, sample),
             Form::AccumBy => step::accum_by(alloc, &constant, sample),
             Form::After(q) => start::after(alloc, q, constant),
@@ -79,7 +80,7 @@ impl Cell {
     {
         match self {
             Cell::IPre(before) => step::i_pre(alloc, before, sample),
-            Cell::Delay(delay) => Delay::step(delay, alloc, dt, sample),
+            Cell::Delay(front, newest) => queue::step(front, newest, alloc, dt, sample),
             Cell::Hold(latest) => step::hold(alloc, latest, sample),
             Cell::AccumBy(accumulator) => step::accum_by(alloc, accumulator, sample),
             Cell::After(left, value) => step::after(*left, value, dt),
@@ -120,7 +121,10 @@ impl Cell {
     {
         Ok(match self {
             Cell::IPre(before) => Cell::IPre(before.try_copy(alloc)?),
-            Cell::Delay(delay) => Cell::Delay(delay.clone()?),
+            Cell::Delay(front, newest) => {
+                let front = front.clone()?;
+                Cell::Delay(front, newest.clone()?)
+            }
             Cell::Hold(latest) => Cell::Hold(latest.try_copy(alloc)?),
             Cell::AccumBy(accumulator) => Cell::AccumBy(accumulator.try_copy(alloc)?),
             Cell::After(left, value) => Cell::After(*left, value.try_copy()?),

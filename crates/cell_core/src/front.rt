@@ -2,29 +2,19 @@
 
 ghost use Rattle.std.specs.Prelude.{◌≡◌, ◌+◌, ◌<◌, ◌^◌, ◌∷◌, [], ◌++◌, IfOk, OnOk, length};
 ghost use Rattle.sample_core.specs.ValueView.{datum_of};
-ghost use Rattle.cell_core.specs.Queue.{IsPassed};
+ghost use Rattle.cell_core.specs.Queue.{IsPassed, within as placed};
 ghost use Rattle.cell_core.specs.Entries.{entries_of};
 
 use sample_core::{Memory, Sample};
 use std::alloc::Global;
-use std::rc::Rc;
 
-/// How the front stands: the time since it was made, and where the value is that is out. Those before
-/// that wait. Copies share the front.
+/// What a `delay` keeps in front, shared by its states until it is used up: its q, and the values,
+/// the newest first, which came before those behind. The last was out when the front was made.
 #[derive(Drop)]
-pub(crate) struct Ahead {
-    pub(crate) front: Rc<Front>,
-    pub(crate) age: u64,
-    pub(crate) at: usize,
-    ghost within: { at < length front.value.entries.items },
-}
-
-/// The q of a `delay`, and its values in front, the newest first: they came before those behind. The
-/// last of them was out when the front was made.
-#[derive(Drop)]
-pub(crate) struct Front {
+pub struct Front {
     pub(crate) q: u64,
     pub(crate) entries: Vec<Entry>,
+    ghost filled: { 0 < length entries.items },
 }
 
 /// A value in front, and how long after the front was made it is due.
@@ -34,35 +24,33 @@ pub(crate) struct Entry {
     pub(crate) value: Sample,
 }
 
-impl Ahead {
-    /// Where what is out stands dt later; 0 also where all in front has passed then.
+impl Front {
+    /// That place, or the last where there are fewer.
     #[inline(always)]
-    pub(crate) fn passed(&self, dt: u64) -> usize
-        ensures { IsPassed (entries_of self.now.front.value.entries.items) self.now.age dt self.now.at result }
+    pub(crate) fn within(&self, at: usize) -> usize
+        ensures is { result ≡ placed (length self.now.entries.items) at }
+        ensures bound { result < length self.now.entries.items }
     {
-        let entries = self.front.entries.as_slice();
-        let mut at = self.at;
+        let count = self.entries.len();
+        if at < count { at } else { count - 1 }
+    }
+
+    /// Where what is out stands dt later, which stood at that place at that age of the front; 0 also
+    /// where all in front has passed then.
+    #[inline(always)]
+    pub(crate) fn passed(&self, from: usize, age: u64, dt: u64) -> usize
+        requires { from < length self.now.entries.items }
+        ensures { IsPassed (entries_of self.now.entries.items) age dt from result }
+    {
+        let entries = self.entries.as_slice();
+        let mut at = from;
         while at > 0 {
-            if dt < entries[at - 1].due.saturating_sub(self.age) {
+            if dt < entries[at - 1].due.saturating_sub(age) {
                 return at;
             }
             at -= 1;
         }
         0
-    }
-
-    /// The same front dt later, where what is out then stands at that place, shared. `Memory` only
-    /// where a count of references is full.
-    #[inline(always)]
-    pub(crate) fn after(&self, dt: u64, at: usize) -> Result<Ahead, Memory>
-        requires within { at < length self.now.front.value.entries.items }
-        requires fits { self.now.age + dt < 2 ^ 64 }
-        ensures { IfOk result (λ a.
-            (a.front.value ≡ self.now.front.value) × (a.age ≡ self.now.age + dt) × (a.at ≡ at)) }
-    {
-        let front = self.front.clone()?;
-        let age = self.age + dt;
-        Ok(Ahead { front, age, at })
     }
 }
 

@@ -1,12 +1,12 @@
 use Rattle.std.proofs.Common.{◌≤◌}
 use Rattle.cell_core.specs.Queue.{Moves}
 use Rattle.cell_core.specs.Entries.{entries_of}
-use Rattle.cell_core.proofs.front.Ahead.passed.Given as goal
+use Rattle.cell_core.proofs.front.Front.passed.Given as goal
 
 abbrev pub invariant-loop-at : goal.invariant-loop-at
 invariant-loop-at l = record {
-  down : l.at ≤ l.self.at;
-  moved : Moves (entries_of l.self.front.value.entries.items) l.self.age l.dt l.self.at l.at;
+  down : l.at ≤ l.from;
+  moved : Moves (entries_of l.self.entries.items) l.age l.dt l.from l.at;
 }
 
 abbrev pub decreases-loop-at : goal.decreases-loop-at
