@@ -1,5 +1,4 @@
 pub mod Queues
-pub mod Lines
 pub mod DelayCells
 pub mod KeptCells
 pub mod CellStarts

@@ -1,10 +1,14 @@
--- What waits in a delay, by its steps and by its times.
-use Rattle.std.proofs.Common.{◌≡◌, ℕ, ◌+◌, ◌-◌, ◌≤◌, ◌<◌, if◌then◌else◌, List, [], ◌∷◌, ◌++◌, reverse, refl, sym, ap, ◌∙◌, arith, append_assoc}
-use Rattle.std.proofs.lemmas.Bool.{le-leb, lt-leb}
-use Rattle.std.proofs.lemmas.List.{reverse-append, append-nil}
+-- What waits in a delay, in front and behind.
+use Rattle.std.proofs.Common.{◌≡◌, Bool, true, false, nat_le, ℕ, zero, suc, ◌+◌, ◌-◌, ◌≤◌, ◌<◌, if◌then◌else◌, List, [], ◌∷◌, ◌++◌, length, reverse, refl, sym, ap, ap₂, ◌∙◌, arith, append_assoc, subst, length-append}
+use Rattle.std.proofs.lemmas.Bool.{le-leb, lt-leb, lt-ltb}
+use Rattle.std.proofs.lemmas.List.{reverse-append}
 use Rattle.sample_core.specs.Datum.{Datum}
-use Rattle.cell_core.specs.Cell.{queue, due, count_down, enqueue}
-use Rattle.cell_core.specs.Queue.{steps, times_left, waiting_list}
+use Rattle.cell_core.specs.Cell.{Cell, queue, due, enqueue, count_down}
+use Rattle.cell_core.specs.Queue.{behind, place, within, fronted, IsPassed}
+
+-- a place that is there
+pub within_is : (n at : ℕ) → at < n → within n at ≡ at
+within_is n at h = ap (λ b. if b then at else n - 1) (lt-ltb at n h)
 
 -- one that is due is out
 pub due-passes : (d : ℕ) (out : Datum) (left : ℕ) (v : Datum) (es : List (ℕ × Datum)) → left ≤ d → due d out ((left, v) ∷ es) ≡ due d v es
@@ -15,67 +19,114 @@ pub due-stops : (d : ℕ) (out : Datum) (left : ℕ) (v : Datum) (es : List (ℕ
     → due d out ((left, v) ∷ es) ≡ (out, count_down d ((left, v) ∷ es))
 due-stops d out left v es h = ap (λ b. if b then due d v es else (out, count_down d ((left, v) ∷ es))) (lt-leb left d h)
 
-steps-append : (es fs : List (ℕ × Datum)) → steps (es ++ fs) ≡ steps es + steps fs
-steps-append [] fs = omega arith
-steps-append (e ∷ es) fs = omega (arith, steps-append es fs)
+count_down-append : (d : ℕ) (es fs : List (ℕ × Datum)) → count_down d (es ++ fs) ≡ count_down d es ++ count_down d fs
+count_down-append d [] fs = refl
+count_down-append d (e ∷ es) fs = ap (λ xs. (e.0 - d, e.1) ∷ xs) (count_down-append d es fs)
 
-pub steps-reverse : (es : List (ℕ × Datum)) → steps (reverse es) ≡ steps es
-steps-reverse [] = refl
-steps-reverse (e ∷ es) =
-    ap steps (reverse-append (e ∷ []) es) ∙ steps-append (reverse es) (e ∷ []) ∙ (omega (arith, steps-reverse es))
+-- time goes on for those in front
+count_down-fronted : (d : ℕ) (es : List (ℕ × Datum)) (now n : ℕ) → count_down d (fronted es now n) ≡ fronted es (now + d) n
+count_down-fronted d es now zero = refl
+count_down-fronted d es now (suc n) =
+    let e : (place es n).0 - now - d ≡ (place es n).0 - (now + d) = omega arith in
+    ap (λ t. (t, (place es n).1) ∷ count_down d (fronted es now n)) e
+    ∙ ap (λ xs. ((place es n).0 - (now + d), (place es n).1) ∷ xs) (count_down-fronted d es now n)
 
-times_left-append : (t : ℕ) (es fs : List (ℕ × Datum)) → times_left t (es ++ fs) ≡ times_left t es ++ times_left (t + steps es) fs
-times_left-append t [] fs = ap (λ u. times_left u fs) (omega arith)
-times_left-append t (e ∷ es) fs =
-    ap (λ xs. (t + e.0, e.1) ∷ xs) (times_left-append (t + e.0) es fs ∙ ap (λ u. times_left (t + e.0) es ++ times_left u fs) (omega arith))
+-- time goes on for those behind
+count_down-behind : (d t : ℕ) (es : List (ℕ × Datum)) → count_down d (behind t es) ≡ behind (t - d) es
+count_down-behind d t [] = refl
+count_down-behind d t (e ∷ es) =
+    let swapped : t - e.0 - d ≡ t - d - e.0 = omega arith in
+    count_down-append d (behind (t - e.0) es) ((t, e.1) ∷ [])
+    ∙ ap (λ xs. xs ++ (t - d, e.1) ∷ []) (count_down-behind d (t - e.0) es ∙ ap (λ u. behind u es) swapped)
 
-count_down-times_left : (d t : ℕ) (es : List (ℕ × Datum)) → d ≤ t → count_down d (times_left t es) ≡ times_left (t - d) es
-count_down-times_left d t [] h = refl
-count_down-times_left d t (e ∷ es) h =
-    let now : t + e.0 - d ≡ t - d + e.0 = omega arith in
-    ap (λ xs. (t + e.0 - d, e.1) ∷ xs) (count_down-times_left d (t + e.0) es (omega arith))
-    ∙ ap (λ u. (u, e.1) ∷ times_left u es) now
+-- where one that is due comes last, all pass
+all_pass : (d t : ℕ) (es : List (ℕ × Datum)) (out : Datum) (u : ℕ) (v : Datum) (more : List (ℕ × Datum)) → t ≤ d → u ≤ d
+    → due d out (behind t es ++ (u, v) ∷ more) ≡ due d v more
+all_pass d t [] out u v more h k = due-passes d out u v more k
+all_pass d t (e ∷ es) out u v more h k =
+    ap (due d out) (append_assoc (behind (t - e.0) es) ((t, e.1) ∷ []) ((u, v) ∷ more))
+    ∙ all_pass d (t - e.0) es out t e.1 ((u, v) ∷ more) (omega arith) h
+    ∙ due-passes d e.1 u v more k
 
--- what waits, in two parts
-pub in_parts : (left : ℕ) (v : Datum) (front back : List (ℕ × Datum))
-    → waiting_list left v front back ≡ ((left, v) ∷ times_left left front) ++ times_left (left + steps front) (reverse back)
-in_parts left v front back = ap (λ xs. (left, v) ∷ xs) (times_left-append left front (reverse back))
+-- the newest of those behind is due
+pub behind-passes : (d t : ℕ) (out : Datum) (e : ℕ × Datum) (es : List (ℕ × Datum)) → t ≤ d → due d out (behind t (e ∷ es)) ≡ (e.1, [])
+behind-passes d t out e es h = all_pass d (t - e.0) es out t e.1 [] (omega arith) h
 
--- a value joins what waits, d after the newest
-pushed : (q d left : ℕ) (w v : Datum) (front back : List (ℕ × Datum)) → d < left → left + (steps front + steps back) ≡ q
-    → count_down d (waiting_list left w front back) ++ (q, v) ∷ [] ≡ waiting_list (left - d) w front ((d, v) ∷ back)
-pushed q d left w v front back h e =
-    let all : List (ℕ × Datum) = front ++ reverse back in
-    let total : steps all ≡ steps front + steps back = steps-append front (reverse back) ∙ ap (λ n. steps front + n) (steps-reverse back) in
-    let last : left - d + steps all + d ≡ q = omega arith in
-    let one : front ++ reverse ((d, v) ∷ back) ≡ all ++ (d, v) ∷ [] = ap (λ xs. front ++ xs) (reverse-append ((d, v) ∷ []) back)
-    ∙ sym (append_assoc front (reverse back) ((d, v) ∷ [])) in
-    ap (λ xs. (left - d, w) ∷ xs)
-    (ap (λ xs. xs ++ (q, v) ∷ []) (count_down-times_left d left all (omega arith))
-    ∙ ap (λ n. times_left (left - d) all ++ (n, v) ∷ []) (sym last)
-    ∙ sym (times_left-append (left - d) all ((d, v) ∷ []))
-    ∙ ap (times_left (left - d)) (sym one))
+last-by : (b : Bool) (d : ℕ) (out : Datum) (e : ℕ × Datum) (es : List (ℕ × Datum)) (t : ℕ) (v : Datum)
+    → due d e.1 (es ++ (t, v) ∷ []) ≡ ((due d e.1 es).0, (due d e.1 es).1 ++ (t - d, v) ∷ [])
+    → (if b then due d e.1 (es ++ (t, v) ∷ []) else (out, count_down d (e ∷ (es ++ (t, v) ∷ []))))
+    ≡ ((if b then due d e.1 es else (out, count_down d (e ∷ es))).0, (if b then due d e.1 es else (out, count_down d (e ∷ es))).1 ++ (t - d, v) ∷ [])
+last-by true d out e es t v h = h
+last-by false d out e es t v h = ap (λ xs. (out, (e.0 - d, e.1) ∷ xs)) (count_down-append d es ((t, v) ∷ []))
 
--- what waits where none waits behind
-pub front_only : (left : ℕ) (v : Datum) (front : List (ℕ × Datum)) → (left, v) ∷ times_left left front ≡ waiting_list left v front []
-front_only left v front = ap (λ xs. (left, v) ∷ times_left left xs) (sym (append-nil front))
+-- one that isn't due comes last
+due-last : (d : ℕ) (out : Datum) (es : List (ℕ × Datum)) (t : ℕ) (v : Datum) → d < t
+    → due d out (es ++ (t, v) ∷ []) ≡ ((due d out es).0, (due d out es).1 ++ (t - d, v) ∷ [])
+due-last d out [] t v h = due-stops d out t v [] h
+due-last d out (e ∷ es) t v h = last-by (nat_le e.0 d) d out e es t v (due-last d e.1 es t v h)
 
--- a step that ends before a value
-pub joined : (q d left left' : ℕ) (out o v w x : Datum) (es fs back : List (ℕ × Datum)) → left + (steps es + steps back) ≡ q → d < left'
-    → left' + steps fs ≡ left + steps es
-    → ((more : List (ℕ × Datum)) → due d out (((left, v) ∷ times_left left es) ++ more) ≡ (o, count_down d (((left', w) ∷ times_left left' fs) ++ more)))
-    → enqueue q x (due d out (waiting_list left v es back)) ≡ (queue q o (waiting_list (left' - d) w fs ((d, x) ∷ back)), o)
-joined q d left left' out o v w x es fs back e h t walked =
-    let more : List (ℕ × Datum) = times_left (left + steps es) (reverse back) in
-    let found : due d out (waiting_list left v es back) ≡ (o, count_down d (waiting_list left' w fs back)) =
-    ap (due d out) (in_parts left v es back) ∙ walked more
-    ∙ ap (λ xs. (o, count_down d xs)) (ap (λ u. ((left', w) ∷ times_left left' fs) ++ times_left u (reverse back)) (sym t)
-    ∙ sym (in_parts left' w fs back)) in
-    ap (enqueue q x) found ∙ ap (λ xs. (queue q o xs, o)) (pushed q d left' w x fs back h (omega arith))
+-- what waits in front and isn't due stays
+waits_on : (d : ℕ) (es : List (ℕ × Datum)) (now n : ℕ) (out : Datum) (more : List (ℕ × Datum)) → 0 < n → d < (place es (n - 1)).0 - now
+    → due d out (fronted es now n ++ more) ≡ (out, count_down d (fronted es now n ++ more))
+waits_on d es now zero out more h k = absurd (omega (arith, h))
+waits_on d es now (suc n) out more h k =
+    let e : suc n - 1 ≡ n = omega arith in
+    due-stops d out ((place es n).0 - now) (place es n).1 (fronted es now n ++ more) (subst (λ i. d < (place es i).0 - now) e k)
 
--- a step past all in front
-pub passed : (d left left' : ℕ) (out o v : Datum) (es back : List (ℕ × Datum)) → left' ≡ left + steps es
-    → ((more : List (ℕ × Datum)) → due d out (((left, v) ∷ times_left left es) ++ more) ≡ due d o more)
-    → due d out (waiting_list left v es back) ≡ due d o (times_left left' (reverse back))
-passed d left left' out o v es back t walked =
-    ap (due d out) (in_parts left v es back) ∙ walked (times_left (left + steps es) (reverse back)) ∙ ap (λ u. due d o (times_left u (reverse back))) (sym t)
+-- a step where some in front still wait
+pub moved_on : (q d now from to : ℕ) (es back : List (ℕ × Datum)) (x : Datum) (r : Cell × Datum) → IsPassed es now d from to → 0 < to
+    → (queue q (place es to).1 (fronted es (now + d) to ++ behind q ((d, x) ∷ back)), (place es to).1) ≡ r
+    → enqueue q x (due d (place es from).1 (fronted es now from ++ behind q back)) ≡ r
+moved_on q d now from to es back x r p h is =
+    ap (enqueue q x) (p.1 (behind q back) ∙ waits_on d es now to (place es to).1 (behind q back) h (p.2 h)
+    ∙ ap (λ xs. ((place es to).1, xs)) (count_down-append d (fronted es now to) (behind q back)
+    ∙ ap₂ (λ f b. f ++ b) (count_down-fronted d es now to) (count_down-behind d q back)))
+    ∙ ap (λ xs. (queue q (place es to).1 xs, (place es to).1)) (append_assoc (fronted es (now + d) to) (behind (q - d) back) ((q, x) ∷ []))
+    ∙ is
+
+-- what is out and what waits in all, where these were found to wait
+abbrev pub then_found : Datum × List (ℕ × Datum) → List (ℕ × Datum) → Datum × List (ℕ × Datum)
+then_found r found = (r.0, r.1 ++ reverse found)
+
+-- the newest of those behind waits
+pub one_found : (d t left s : ℕ) (out v : Datum) (back next es found : List (ℕ × Datum)) (all : Datum × List (ℕ × Datum)) → d < t
+    → then_found (due d out (behind t ((s, v) ∷ back))) es ≡ all → found ≡ es ++ (t - d, v) ∷ [] → left ≡ t - s → back ≡ next
+    → then_found (due d out (behind left next)) found ≡ all
+one_found d t left s out v back next es found all h is more later same =
+    let r : Datum × List (ℕ × Datum) = due d out (behind (t - s) back) in
+    ap (λ u. then_found (due d out (behind u next)) found) later
+    ∙ ap (λ b. then_found (due d out (behind (t - s) b)) found) (sym same)
+    ∙ ap (λ xs. (r.0, r.1 ++ xs)) (ap reverse more ∙ reverse-append es ((t - d, v) ∷ []))
+    ∙ ap (λ xs. (r.0, xs)) (sym (append_assoc r.1 ((t - d, v) ∷ []) (reverse es)))
+    ∙ ap (λ u. then_found u es) (sym (due-last d out (behind (t - s) back) t v h))
+    ∙ is
+
+-- those in front but the first, by one more before them
+fronted-cons : (e : ℕ × Datum) (es : List (ℕ × Datum)) (now n : ℕ) → fronted (e ∷ es) now (suc n) ≡ fronted es now n ++ (e.0 - now, e.1) ∷ []
+fronted-cons e es now zero = refl
+fronted-cons e es now (suc n) = ap (λ xs. ((place es n).0 - now, (place es n).1) ∷ xs) (fronted-cons e es now n)
+
+-- a new front
+new_front : (es : List (ℕ × Datum)) (out : ℕ × Datum) → fronted (es ++ out ∷ []) 0 (length es) ≡ reverse es
+new_front [] out = refl
+new_front (e ∷ es) out =
+    let now : e.0 - 0 ≡ e.0 = omega arith in
+    fronted-cons e (es ++ out ∷ []) 0 (length es)
+    ∙ ap (λ t. fronted (es ++ out ∷ []) 0 (length es) ++ (t, e.1) ∷ []) now
+    ∙ ap (λ xs. xs ++ (e.0, e.1) ∷ []) (new_front es out)
+    ∙ sym (reverse-append (e ∷ []) es)
+
+-- its last is out
+new_out : (es : List (ℕ × Datum)) (out : ℕ × Datum) → place (es ++ out ∷ []) (length es) ≡ out
+new_out [] out = refl
+new_out (e ∷ es) out = new_out es out
+
+-- all that wait are found
+pub all_found : (es front : List (ℕ × Datum)) (v : Datum) (all : Datum × List (ℕ × Datum)) → then_found (v, []) es ≡ all → front ≡ es ++ (0, v) ∷ []
+    → (0 < length front) × (all ≡ ((place front (length front - 1)).1, fronted front 0 (length front - 1)))
+all_found es front v all is e =
+    let n : length front ≡ length es + 1 = ap length e ∙ length-append es ((0, v) ∷ []) in
+    let m : length front - 1 ≡ length es = omega (arith, n) in
+    let at : (place front (length front - 1)).1 ≡ v = ap₂ (λ f i. (place f i).1) e m ∙ ap (λ p. p.1) (new_out es (0, v)) in
+    let waits : fronted front 0 (length front - 1) ≡ reverse es = ap₂ (λ f i. fronted f 0 i) e m ∙ new_front es (0, v) in
+    (omega (arith, n), sym is ∙ ap₂ (λ o xs. (o, xs)) (sym at) (sym waits))

@@ -1,8 +1,8 @@
 pub mod Cell
 pub mod Queue
 pub mod Entries
-pub mod Fronts
-pub mod Walk
+pub mod Earlier
+pub mod Delays
 pub mod Parts
 pub mod CellView
 pub mod Start

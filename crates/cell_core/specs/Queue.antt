@@ -1,18 +1,44 @@
--- What waits in a delay, kept by the steps between the values.
-use Rattle.std.specs.Prelude.{ℕ, ◌+◌, List, [], ◌∷◌, ◌++◌, reverse}
-use Rattle.sample_core.specs.Datum.{Datum}
+-- What waits in a delay, in front and behind, newest first in both.
+use Rattle.std.specs.Prelude.{◌≡◌, ℕ, zero, suc, nat_lt, if◌then◌else◌, ◌+◌, ◌-◌, ◌≤◌, ◌<◌, ◌^◌, List, [], ◌∷◌, ◌++◌, length, get_or}
+use Rattle.sample_core.specs.Datum.{Datum, unit}
+use Rattle.cell_core.specs.Cell.{Cell, queue, due}
 
--- the steps together
-abbrev pub steps : List (ℕ × Datum) → ℕ
-steps [] = 0
-steps (e ∷ es) = e.0 + steps es
+-- the time that is left to each of those behind, the oldest first, where t is left to the newest;
+-- in the list each has its step since the one before it
+abbrev pub behind : ℕ → List (ℕ × Datum) → List (ℕ × Datum)
+behind t [] = []
+behind t (e ∷ es) = behind (t - e.0) es ++ (t, e.1) ∷ []
 
--- the time that is left to each, where t is left to the one before them
-abbrev pub times_left : ℕ → List (ℕ × Datum) → List (ℕ × Datum)
-times_left t [] = []
-times_left t (e ∷ es) = (t + e.0, e.1) ∷ times_left (t + e.0) es
+-- the time at which the one at a place in front is due, and its value
+abbrev pub place : List (ℕ × Datum) → ℕ → ℕ × Datum
+place es n = get_or es n (0, unit)
 
--- what waits: the oldest value, to which `left` is left, those in front after it, the oldest first,
--- and those behind, the newest first
-abbrev pub waiting_list : ℕ → Datum → List (ℕ × Datum) → List (ℕ × Datum) → List (ℕ × Datum)
-waiting_list left v front back = (left, v) ∷ times_left left (front ++ reverse back)
+-- a place in front, or the last where there are only n
+abbrev pub within : ℕ → ℕ → ℕ
+within n at = if nat_lt at n then at else n - 1
+
+-- the time that is left at now to each of the first n in front, the oldest first
+abbrev pub fronted : List (ℕ × Datum) → ℕ → ℕ → List (ℕ × Datum)
+fronted es now zero = []
+fronted es now (suc n) = ((place es n).0 - now, (place es n).1) ∷ fronted es now n
+
+-- what is out moves from one place in front to another in d from now, whatever waits behind
+abbrev pub Moves : List (ℕ × Datum) → ℕ → ℕ → ℕ → ℕ → Type 0
+Moves es now d from to =
+    (more : List (ℕ × Datum)) → due d (place es from).1 (fronted es now from ++ more)
+    ≡ due d (place es to).1 (fronted es now to ++ more)
+
+-- what is out comes to that place in d, and those before it aren't due
+abbrev pub IsPassed : List (ℕ × Datum) → ℕ → ℕ → ℕ → ℕ → Type 0
+IsPassed es now d from to =
+    (to ≤ from)
+    × Moves es now d from to
+    × (0 < to → d < (place es (to - 1)).0 - now)
+    × (0 < to → now + d < 2 ^ 64)
+
+-- the queue and the answer with this front, of which the last is out, and the sample v behind
+abbrev pub IsRenewed : ℕ → List (ℕ × Datum) → Datum → Cell × Datum → Type 0
+IsRenewed q es v r = (
+  queue q (place es (length es - 1)).1 (fronted es 0 (length es - 1) ++ (q, v) ∷ []),
+  (place es (length es - 1)).1,
+) ≡ r

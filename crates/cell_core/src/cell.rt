@@ -7,10 +7,11 @@ ghost use Rattle.cell_core.specs.CellView.{cell_of, outcome_of};
 ghost use Rattle.cell_core.specs.Cell.{cell_step, accumulating, previous as keeping};
 ghost use Rattle.cell_core.specs.Start.{IsWithin, cell_start};
 
-use crate::delay::Delay;
+use crate::behind::Newest;
 use crate::form::Form;
+use crate::front::Front;
 use crate::recurring::Recurring;
-use crate::{start, step};
+use crate::{queue, start, step};
 use sample_core::{Memory, Sample, SampleChild};
 use std::alloc::Global;
 use std::rc::Rc;
@@ -20,16 +21,17 @@ use std::rc::Rc;
 pub enum Cell {
     /// `iPre`: the sample before.
     IPre(Sample),
-    /// `delay`: what is out, and what waits.
-    Delay(Rc<Delay>),
+    /// `delay`: those in front, of which one is out, and those behind.
+    Delay(Rc<Front>, Rc<Newest>),
     /// `hold`: the value of the latest event, or the constant.
     Hold(Sample),
     /// `accumBy`: the accumulator.
     AccumBy(Sample),
     /// `after`: the time that is left, 0 once it is past, and what its event carries.
     After(u64, SampleChild),
-    /// `repeatedly`: the time that is left to the next multiple.
-    Repeatedly(Recurring),
+    /// `repeatedly`: the time that is left to the next multiple of its q, and its q with what its
+    /// events carry.
+    Repeatedly(u64, Rc<Recurring>),
     /// `time`: the time since the first sample, wrapping.
     Time(i64),
     /// `integral`: the sum so far, wrapping, and the sample before.
@@ -55,7 +57,7 @@ impl Cell {
     {
         match form {
             Form::IPre => start::i_pre(alloc, constant, sample),
-            Form::Delay(q) => start::delay(alloc, q, constant, sample),
+            Form::Delay(q) => queue::start(alloc, q, constant, sample),
             Form::Hold => step::hold(alloc, &constant, sample),
             Form::AccumBy => step::accum_by(alloc, &constant, sample),
             Form::After(q) => start::after(alloc, q, constant),
@@ -71,23 +73,25 @@ impl Cell {
     ///
     /// Only a `delay` takes memory: `Memory` where a growth was refused, or a count of references
     /// is full. This cell stays as it is.
+    #[inline(always)]
     pub fn step(&self, alloc: Global, dt: u64, sample: &Sample) -> Result<(Cell, Sample), Memory>
         ensures { IfOk result
             (λ r. outcome_of r ≡ cell_step (cell_of self.now) (dt, datum_of sample.now)) }
     {
         match self {
             Cell::IPre(before) => step::i_pre(alloc, before, sample),
-            Cell::Delay(delay) => step::delay(alloc, delay, dt, sample),
+            Cell::Delay(front, newest) => queue::step(front, newest, alloc, dt, sample),
             Cell::Hold(latest) => step::hold(alloc, latest, sample),
             Cell::AccumBy(accumulator) => step::accum_by(alloc, accumulator, sample),
             Cell::After(left, value) => step::after(*left, value, dt),
-            Cell::Repeatedly(recurring) => step::repeatedly(recurring, dt),
+            Cell::Repeatedly(left, recurring) => step::repeatedly(*left, recurring, dt),
             Cell::Time(time) => Ok(step::time(*time, dt)),
             Cell::Integral(sum, before) => Ok(step::integral(*sum, *before, dt, sample)),
         }
     }
 
     /// The accumulator of an `accumBy`; nothing for another cell.
+    #[inline(always)]
     pub fn accumulator(&self) -> Option<&Sample>
         ensures { MatchOption result ((acc : Datum) → cell_of self.now ≢ accumulating acc)
             (λ acc. cell_of self.now ≡ accumulating (datum_of acc.now)) }
@@ -99,6 +103,7 @@ impl Cell {
     }
 
     /// The sample before, of an `iPre`; nothing for another cell.
+    #[inline(always)]
     pub fn previous(&self) -> Option<&Sample>
         ensures { MatchOption result ((v : Datum) → cell_of self.now ≢ keeping v)
             (λ v. cell_of self.now ≡ keeping (datum_of v.now)) }
@@ -116,11 +121,14 @@ impl Cell {
     {
         Ok(match self {
             Cell::IPre(before) => Cell::IPre(before.try_copy(alloc)?),
-            Cell::Delay(delay) => Cell::Delay(delay.clone()?),
+            Cell::Delay(front, newest) => {
+                let front = front.clone()?;
+                Cell::Delay(front, newest.clone()?)
+            }
             Cell::Hold(latest) => Cell::Hold(latest.try_copy(alloc)?),
             Cell::AccumBy(accumulator) => Cell::AccumBy(accumulator.try_copy(alloc)?),
             Cell::After(left, value) => Cell::After(*left, value.try_copy()?),
-            Cell::Repeatedly(recurring) => Cell::Repeatedly(recurring.try_copy()?),
+            Cell::Repeatedly(left, recurring) => Cell::Repeatedly(*left, recurring.clone()?),
             Cell::Time(time) => Cell::Time(*time),
             Cell::Integral(sum, before) => Cell::Integral(*sum, *before),
         })

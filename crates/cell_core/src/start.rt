@@ -7,12 +7,10 @@ ghost use Rattle.cell_core.specs.CellView.{cell_of, outcome_of};
 ghost use Rattle.cell_core.specs.Start.{cell_start};
 
 use crate::cell::Cell;
-use crate::delay::Delay;
 use crate::form::Form;
 use crate::recurring::Recurring;
 use sample_core::{Memory, Sample, SampleChild};
 use std::alloc::Global;
-use std::rc::Rc;
 
 /// An `iPre` answers its constant and keeps the sample.
 pub(crate) fn i_pre(
@@ -25,21 +23,6 @@ pub(crate) fn i_pre(
 {
     let kept = sample.try_copy(alloc)?;
     Ok((Cell::IPre(kept), constant))
-}
-
-/// A `delay` answers its constant, and the sample waits.
-pub(crate) fn delay(
-    alloc: Global,
-    q: u64,
-    constant: Sample,
-    sample: &Sample,
-) -> Result<(Cell, Sample), Memory>
-    ensures { IfOk result
-        (λ r. outcome_of r ≡ cell_start (Form.Delay q) (datum_of constant) (datum_of sample.now)) }
-{
-    let (delay, answer) = Delay::alone(alloc, q, &constant, sample)?;
-    let delay = Rc::new(alloc, delay)?;
-    Ok((Cell::Delay(delay), answer))
 }
 
 /// An `after` is past at once where q is 0, else all of q is left.
@@ -64,7 +47,7 @@ pub(crate) fn repeatedly(alloc: Global, q: u64, constant: Sample) -> Result<(Cel
 {
     let value = SampleChild::new(alloc, constant)?;
     let recurring = Recurring::new(alloc, q, value)?;
-    Ok((Cell::Repeatedly(recurring), Sample::NoEvent))
+    Ok((Cell::Repeatedly(q, recurring), Sample::NoEvent))
 }
 
 /// A `time` starts at 0.
@@ -82,6 +65,7 @@ pub(crate) fn integral(sample: &Sample) -> (Cell, Sample)
 }
 
 /// The number of an `Int`; 0 of another value.
+#[inline(always)]
 pub(crate) fn whole_of(sample: &Sample) -> i64
     ensures { result ≡ int_of (datum_of sample.now) }
 {

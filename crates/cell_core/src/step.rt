@@ -5,11 +5,10 @@ ghost use Rattle.std.specs.Int.{int_wrap, w64};
 ghost use Rattle.sample_core.specs.Datum.{unit};
 ghost use Rattle.sample_core.specs.ValueView.{datum_of};
 ghost use Rattle.cell_core.specs.CellView.{cell_of, outcome_of};
-ghost use Rattle.cell_core.specs.Parts.{after_of, delay_of, recurring_of};
+ghost use Rattle.cell_core.specs.Parts.{after_of, recurring_of};
 ghost use Rattle.cell_core.specs.Cell.{cell_step, previous, latest, accumulating, ticking, summing};
 
 use crate::cell::Cell;
-use crate::delay::Delay;
 use crate::recurring::Recurring;
 use crate::start::whole_of;
 use sample_core::{Memory, Sample, SampleChild};
@@ -17,6 +16,7 @@ use std::alloc::Global;
 use std::rc::Rc;
 
 /// An `iPre` answers the sample before and keeps this one.
+#[inline(always)]
 pub(crate) fn i_pre(
     alloc: Global,
     before: &Sample,
@@ -30,22 +30,8 @@ pub(crate) fn i_pre(
     Ok((Cell::IPre(kept), answer))
 }
 
-/// A `delay` lets out what is due, and the sample waits.
-pub(crate) fn delay(
-    alloc: Global,
-    delay: &Delay,
-    dt: u64,
-    sample: &Sample,
-) -> Result<(Cell, Sample), Memory>
-    ensures { IfOk result
-        (λ r. outcome_of r ≡ cell_step (delay_of delay.now) (dt, datum_of sample.now)) }
-{
-    let (delay, answer) = delay.step(alloc, dt, sample)?;
-    let delay = Rc::new(alloc, delay)?;
-    Ok((Cell::Delay(delay), answer))
-}
-
 /// A `hold` keeps and answers an event's value, else what it has kept.
+#[inline(always)]
 pub(crate) fn hold(alloc: Global, kept: &Sample, sample: &Sample) -> Result<(Cell, Sample), Memory>
     ensures { IfOk result
         (λ r. outcome_of r ≡ cell_step (latest (datum_of kept.now)) (0, datum_of sample.now)) }
@@ -60,6 +46,7 @@ pub(crate) fn hold(alloc: Global, kept: &Sample, sample: &Sample) -> Result<(Cel
 }
 
 /// An `accumBy` keeps an event's value and answers the event.
+#[inline(always)]
 pub(crate) fn accum_by(
     alloc: Global,
     kept: &Sample,
@@ -83,6 +70,7 @@ pub(crate) fn accum_by(
 }
 
 /// An `after`: its event comes where it isn't past, and no more than dt is left.
+#[inline(always)]
 pub(crate) fn after(left: u64, value: &SampleChild, dt: u64) -> Result<(Cell, Sample), Memory>
     ensures { IfOk result
         (λ r. outcome_of r ≡ cell_step (after_of left value.now) (dt, unit)) }
@@ -99,15 +87,28 @@ pub(crate) fn after(left: u64, value: &SampleChild, dt: u64) -> Result<(Cell, Sa
 }
 
 /// A `repeatedly`: its event comes where no more than dt is left to a multiple.
-pub(crate) fn repeatedly(recurring: &Recurring, dt: u64) -> Result<(Cell, Sample), Memory>
+#[inline(always)]
+pub(crate) fn repeatedly(
+    left: u64,
+    recurring: &Rc<Recurring>,
+    dt: u64,
+) -> Result<(Cell, Sample), Memory>
     ensures { IfOk result
-        (λ r. outcome_of r ≡ cell_step (recurring_of recurring.now) (dt, unit)) }
+        (λ r. outcome_of r ≡ cell_step (recurring_of left recurring.now.value) (dt, unit)) }
 {
-    let (recurring, answer) = recurring.step(dt)?;
-    Ok((Cell::Repeatedly(recurring), answer))
+    let kept = recurring.clone()?;
+    if left <= dt {
+        let q = recurring.q;
+        let value = recurring.value.try_copy()?;
+        let next = q - (dt - left) % q;
+        Ok((Cell::Repeatedly(next, kept), Sample::Event(value)))
+    } else {
+        Ok((Cell::Repeatedly(left - dt, kept), Sample::NoEvent))
+    }
 }
 
 /// A `time` is dt more.
+#[inline(always)]
 pub(crate) fn time(before: i64, dt: u64) -> (Cell, Sample)
     ensures { outcome_of result ≡ cell_step (ticking before) (dt, unit) }
 {
@@ -116,6 +117,7 @@ pub(crate) fn time(before: i64, dt: u64) -> (Cell, Sample)
 }
 
 /// An `integral` is dt times the sample before more.
+#[inline(always)]
 pub(crate) fn integral(sum: i64, before: i64, dt: u64, sample: &Sample) -> (Cell, Sample)
     ensures { outcome_of result ≡ cell_step (summing sum before) (dt, datum_of sample.now) }
 {
@@ -124,6 +126,7 @@ pub(crate) fn integral(sum: i64, before: i64, dt: u64, sample: &Sample) -> (Cell
 }
 
 // A step modulo 2^64, read as signed.
+#[inline(always)]
 fn signed(dt: u64) -> i64
     ensures { result ≡ int_wrap w64 (pos dt) }
 {
@@ -131,6 +134,7 @@ fn signed(dt: u64) -> i64
 }
 
 // The time dt later modulo 2^64, read as signed.
+#[inline(always)]
 fn wrapped_time(before: i64, dt: u64) -> i64
     ensures { result ≡ int_wrap w64 (before +ℤ pos dt) }
 {
@@ -138,6 +142,7 @@ fn wrapped_time(before: i64, dt: u64) -> i64
 }
 
 // The sum and dt times the number modulo 2^64, read as signed.
+#[inline(always)]
 fn wrapped_area(sum: i64, before: i64, dt: u64) -> i64
     ensures { result ≡ int_wrap w64 (sum +ℤ (pos dt *ℤ before)) }
 {
@@ -145,6 +150,7 @@ fn wrapped_area(sum: i64, before: i64, dt: u64) -> i64
 }
 
 // The sum modulo 2^64, read as signed.
+#[inline(always)]
 fn wrapped_sum(m: i64, n: i64) -> i64
     ensures { result ≡ int_wrap w64 (m +ℤ n) }
 {
@@ -152,6 +158,7 @@ fn wrapped_sum(m: i64, n: i64) -> i64
 }
 
 // The product modulo 2^64, read as signed.
+#[inline(always)]
 fn wrapped_product(m: i64, n: i64) -> i64
     ensures { result ≡ int_wrap w64 (m *ℤ n) }
 {

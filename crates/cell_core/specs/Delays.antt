@@ -1,0 +1,48 @@
+-- What a delay's front and back are, and how they step.
+use Rattle.std.specs.Prelude.{◌≡◌, ℕ, ◌+◌, ◌-◌, ◌<◌, List, ◌∷◌, ◌++◌, length}
+use Rattle.sample_core.specs.Datum.{Datum}
+use Rattle.cell_core.specs.Cell.{Cell, queue, due, enqueue}
+use Rattle.cell_core.specs.Queue.{behind, place, within, fronted}
+use Rattle.cell_core.specs.Entries.{entries_of}
+use Rattle.cell_core.specs.Earlier.{back_of}
+use Rattle.cell_core.specs.declared.behind.Newest.{Newest}
+use Rattle.cell_core.specs.declared.front.Front.{Front}
+
+-- those in front, the newest first
+abbrev pub front_of : Front → List (ℕ × Datum)
+front_of f = entries_of f.entries.items
+
+-- the queue at that age of the front, from the place of what is out and those behind
+abbrev pub queue_of : Front → ℕ → ℕ → List (ℕ × Datum) → Cell
+queue_of f age at back =
+    queue f.q (place (front_of f) at).1 (fronted (front_of f) age at ++ behind f.q back)
+
+-- where in front what is out stands
+abbrev pub out_in : Front → Newest → ℕ
+out_in f n = within (length f.entries.items) n.at
+
+-- the cell that these are
+abbrev pub delay_of : Front → Newest → Cell
+delay_of f n = queue_of f n.age (out_in f n) (back_of n)
+
+-- the queue and the answer with this front, its age, the place of what is out, and these behind
+abbrev pub IsJoined : Front → ℕ → ℕ → List (ℕ × Datum) → Cell × Datum → Type 0
+IsJoined f age at back r = (queue_of f age at back, (place (front_of f) at).1) ≡ r
+
+-- the queue and the answer after dt more, where what is out then stands at that place and others
+-- wait before it, with v in it
+abbrev pub IsKept : Front → Newest → ℕ → ℕ → Datum → Cell × Datum → Type 0
+IsKept f n at dt v r = IsJoined f (n.age + dt) at ((dt, v) ∷ back_of n) r
+
+-- what is out and what waits dt later, where all in front has passed
+abbrev pub through : Front → Newest → ℕ → Datum × List (ℕ × Datum)
+through f n dt = due dt (place (front_of f) 0).1 (behind f.q (back_of n))
+
+-- the queue and the answer after dt more, where all in front has passed, with v in it
+abbrev pub IsTurned : Front → Newest → ℕ → Datum → Cell × Datum → Type 0
+IsTurned f n dt v r = enqueue f.q v (through f n dt) ≡ r
+
+-- those that wait dt later, where all in front has passed, and last what is out
+abbrev pub IsGathered : Front → Newest → ℕ → List (ℕ × Datum) → Type 0
+IsGathered f n dt es = (0 < length es)
+    × (through f n dt ≡ ((place es (length es - 1)).1, fronted es 0 (length es - 1)))
