@@ -32,21 +32,21 @@ pub enum Sample {
 #[cycle(sample)]
 #[derive(Drop)]
 pub struct SamplePair {
-    parts: Rc<(Sample, Sample)>,
+    pub(crate) parts: Rc<(Sample, Sample)>,
 }
 
 /// A value inside a value. Contracts see it as the value's tree; copies share it.
 #[cycle(sample)]
 #[derive(Drop)]
 pub struct SampleChild {
-    inner: Rc<Sample>,
+    pub(crate) inner: Rc<Sample>,
 }
 
 /// The elements of a list value. Contracts see them as a list of trees; copies share them.
 #[cycle(sample)]
 #[derive(Drop)]
 pub struct Samples {
-    all: Rc<Vec<Sample>>,
+    pub(crate) all: Rc<Vec<Sample>>,
 }
 
 impl Model for SamplePair {
