@@ -156,23 +156,14 @@ fn after_head<'t>(size: usize, text: &'t [u8], name: &str) -> Result<&'t [u8], V
     }
 }
 
-/// Puts a value in the place of another.
-#[inline(never)]
-fn put(place: &mut Sample, sample: Sample)
-    ensures { place.new ≡ sample }
-{
-    *place = sample;
-}
-
-/// Puts a number in the place of a value. A place that holds nothing to let go is written at once.
+/// Puts a number in the place of a value.
 #[inline(always)]
 fn put_number(place: &mut Sample, n: i64)
     ensures { datum_of place.new ≡ int n }
 {
     match place {
         Sample::Int(there) => *there = n,
-        Sample::Unit => *place = Sample::Int(n),
-        _ => put(place, Sample::Int(n)),
+        _ => place.put(Sample::Int(n)),
     }
 }
 
@@ -183,8 +174,7 @@ fn put_truth(place: &mut Sample, truth: bool)
 {
     match place {
         Sample::Bool(there) => *there = truth,
-        Sample::Unit => *place = Sample::Bool(truth),
-        _ => put(place, Sample::Bool(truth)),
+        _ => place.put(Sample::Bool(truth)),
     }
 }
 
@@ -196,7 +186,7 @@ fn unit<'t>(size: usize, text: &'t [u8], place: &mut Sample) -> Result<&'t [u8],
 {
     match behind_word(text, "unit") {
         Some(rest) => {
-            put(place, Sample::Unit);
+            place.put(Sample::Unit);
             Ok(rest)
         }
         None => Err(wrong_value(size, text)),
@@ -358,7 +348,7 @@ fn new_pair<'t>(
         Ok(rest) => {
             let (first, second) = parts;
             let parts = SamplePair::new(alloc, first, second)?;
-            put(place, Sample::Pair(parts));
+            place.put(Sample::Pair(parts));
             Ok(rest)
         }
         Err(fault) => {
@@ -403,12 +393,12 @@ fn event<'t>(
     ensures shorter { IfOk result (λ rest. length rest.now ≤ length text.now) }
 {
     if let Some(rest) = behind_word(text, "none") {
-        put(place, Sample::NoEvent);
+        place.put(Sample::NoEvent);
         return Ok(rest);
     }
     let rest = after_head(size, text, "event")?;
     if let Sample::Event(there) = place {
-        if let Some(inner) = Rc::get_mut(&mut there.inner) {
+        if let Some(inner) = there.get_mut() {
             return carried(alloc, size, rest, ty, inner);
         }
     }
@@ -433,7 +423,7 @@ fn new_event<'t>(
     match carried(alloc, size, text, ty, &mut inner) {
         Ok(rest) => {
             let inner = SampleChild::new(alloc, inner)?;
-            put(place, Sample::Event(inner));
+            place.put(Sample::Event(inner));
             Ok(rest)
         }
         Err(fault) => {
@@ -503,7 +493,7 @@ fn new_list<'t>(
     match items(alloc, size, text, ty, &mut all) {
         Ok(rest) => {
             let all = Samples::new(alloc, all)?;
-            put(place, Sample::List(all));
+            place.put(Sample::List(all));
             Ok(rest)
         }
         Err(fault) => {
