@@ -129,7 +129,7 @@ pub fn put_number(n: Result<i64, Memory>, place: &mut Sample) -> Result<(), Memo
     ensures err { OnErr n (IsErr result) }
 {
     let n = n?;
-    place.put(Sample::Int(n));
+    place.put_int(n);
     Ok(())
 }
 
@@ -140,7 +140,7 @@ pub fn put_truth(t: Result<bool, Memory>, place: &mut Sample) -> Result<(), Memo
     ensures err { OnErr t (IsErr result) }
 {
     let t = t?;
-    place.put(Sample::Bool(t));
+    place.put_bool(t);
     Ok(())
 }
 

@@ -3,7 +3,7 @@
 ghost use Rattle.std.specs.Prelude.{◌≡◌, ◌-◌, ◌≤◌, ◌<◌, ◌∷◌, [], false, MatchOption, length, drop, map, IfOk, IfErr};
 ghost use Rattle.sample_core.specs.Reading.{Gives, begins_value, begins_with, wrong, behind_byte, behind_head, unit_at, truth_at, number_at, elements_at, part_at, pair_behind, event_behind, list_behind, value_at, reading};
 ghost use Rattle.sample_core.specs.Faults.{FaultOf};
-ghost use Rattle.sample_core.specs.Datum.{bool, int, pair, event, list, list_of};
+ghost use Rattle.sample_core.specs.Datum.{int, pair, event, list, list_of};
 ghost use Rattle.sample_core.specs.ValueView.{datum_of};
 ghost use Rattle.sample_core.specs.TypeView.{type_of};
 ghost use Rattle.sample_core.specs.TypeTree.{int_ty, pair_ty, event_ty, list_ty};
@@ -156,28 +156,6 @@ fn after_head<'t>(size: usize, text: &'t [u8], name: &str) -> Result<&'t [u8], V
     }
 }
 
-/// Puts a number in the place of a value.
-#[inline(always)]
-fn put_number(place: &mut Sample, n: i64)
-    ensures { datum_of place.new ≡ int n }
-{
-    match place {
-        Sample::Int(there) => *there = n,
-        _ => place.put(Sample::Int(n)),
-    }
-}
-
-/// Puts a truth in the place of a value.
-#[inline(always)]
-fn put_truth(place: &mut Sample, truth: bool)
-    ensures { datum_of place.new ≡ bool truth }
-{
-    match place {
-        Sample::Bool(there) => *there = truth,
-        _ => place.put(Sample::Bool(truth)),
-    }
-}
-
 /// Reads `unit`. Answers what is behind it.
 #[tactic(auto, unfolding(crate::specs::Reading::unit_at))]
 fn unit<'t>(size: usize, text: &'t [u8], place: &mut Sample) -> Result<&'t [u8], ValueFault>
@@ -200,12 +178,12 @@ fn truth<'t>(size: usize, text: &'t [u8], place: &mut Sample) -> Result<&'t [u8]
     ensures shorter { IfOk result (λ rest. length rest.now ≤ length text.now) }
 {
     if let Some(rest) = behind_word(text, "true") {
-        put_truth(place, true);
+        place.put_bool(true);
         return Ok(rest);
     }
     match behind_word(text, "false") {
         Some(rest) => {
-            put_truth(place, false);
+            place.put_bool(false);
             Ok(rest)
         }
         None => Err(wrong_value(size, text)),
@@ -260,7 +238,7 @@ fn number_sample<'t>(
     ensures shorter { IfOk result (λ rest. length rest.now ≤ length text.now) }
 {
     let (n, rest) = integer(size, text)?;
-    put_number(place, n);
+    place.put_int(n);
     Ok(rest)
 }
 

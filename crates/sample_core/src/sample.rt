@@ -236,6 +236,8 @@ impl Samples {
 }
 
 impl Sample {
+    ghost use Rattle.sample_core.specs.Datum.{bool, int};
+
     /// Puts another value in the place of this one. A place that holds `unit` is written at once.
     #[inline(always)]
     pub fn put(&mut self, value: Sample)
@@ -247,7 +249,29 @@ impl Sample {
         }
     }
 
-    /// The same in a frame of its own.
+    /// Puts a number in the place of this value.
+    #[inline(always)]
+    pub fn put_int(&mut self, n: i64)
+        ensures { datum_of self.new ≡ int n }
+    {
+        match self {
+            Sample::Int(there) => *there = n,
+            _ => self.put(Sample::Int(n)),
+        }
+    }
+
+    /// Puts a truth in the place of this value.
+    #[inline(always)]
+    pub fn put_bool(&mut self, b: bool)
+        ensures { datum_of self.new ≡ bool b }
+    {
+        match self {
+            Sample::Bool(there) => *there = b,
+            _ => self.put(Sample::Bool(b)),
+        }
+    }
+
+    /// Puts another value in the place of this one, in a frame of its own.
     #[inline(never)]
     fn replace(&mut self, value: Sample)
         ensures { self.new ≡ value }
@@ -257,6 +281,7 @@ impl Sample {
 
     /// A copy, whose parts are shared with it. It takes no memory; `Memory` only where a count of
     /// references is full.
+    #[inline(always)]
     pub fn try_copy(&self, _alloc: Global) -> Result<Sample, Memory>
         ensures { IfOk result (λ s. s ≡ self.now) }
     {
