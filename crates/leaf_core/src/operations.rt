@@ -102,8 +102,13 @@ pub fn put_param(alloc: Global, params: &[Sample], k: u32, place: &mut Sample) -
 pub fn put_copy(alloc: Global, value: &Sample, place: &mut Sample) -> Result<(), Memory>
     ensures { OnOk result (datum_of place.new ≡ datum_of value.now) }
 {
-    let copy = value.try_copy(alloc)?;
-    place.put(copy);
+    match value {
+        Sample::Int(n) => place.put_int(*n),
+        _ => {
+            let copy = value.try_copy(alloc)?;
+            place.put(copy);
+        }
+    }
     Ok(())
 }
 

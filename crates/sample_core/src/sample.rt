@@ -238,14 +238,14 @@ impl Samples {
 impl Sample {
     ghost use Rattle.sample_core.specs.Datum.{bool, int};
 
-    /// Puts another value in the place of this one. A place that holds `unit` is written at once.
+    /// Puts another value in the place of this one. A place that holds no parts is written at once.
     #[inline(always)]
     pub fn put(&mut self, value: Sample)
         ensures { self.new ≡ value }
     {
         match self {
-            Sample::Unit => *self = value,
-            _ => self.replace(value),
+            Sample::Pair(_) | Sample::Event(_) | Sample::List(_) => self.replace(value),
+            _ => *self = value,
         }
     }
 
