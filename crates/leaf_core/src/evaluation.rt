@@ -1,6 +1,6 @@
 // The value of an expression.
 
-ghost use Rattle.std.specs.Prelude.{◌≡◌, IfOk, int_lt, map, neg_ℤ, not, pos};
+ghost use Rattle.std.specs.Prelude.{◌≡◌, IfOk, OnOk, int_lt, map, neg_ℤ, not, pos};
 ghost use Rattle.std.specs.Int.{int_wrap, w64};
 ghost use Rattle.sample_core.specs.Datum.{event, int_of, list, list_of, pair};
 ghost use Rattle.sample_core.specs.ValueView.{datum_of};
@@ -14,7 +14,8 @@ use crate::expr::{Expr, ExprChild, Exprs};
 use crate::literal::Literal;
 use crate::looked::{Looked, path_at, short_path_at};
 use crate::operations::{
-    copied_param, count, element, equal, literal_value, negated, number, part, sum_of, truth,
+    count, element, equal, literal_value, negated, number, part, put_copy, put_number, put_pair,
+    put_param, put_truth, sum_of, truth,
 };
 use crate::scope::Scope;
 use sample_core::{Memory, Sample, SampleChild, SamplePair, Samples};
@@ -34,97 +35,180 @@ pub fn eval(alloc: Global, expr: &Expr, params: &[Sample], x: &Sample) -> Result
         (λ s. datum_of s ≡ value_of (expression_of expr.now) (map datum_of params.now)
         (datum_of x.now)) }
 {
-    eval_in(&Scope { alloc, params, x }, expr)
-}
-
-/// The value of the expression over a scope.
-#[cycle(eval)]
-fn eval_in(scope: &Scope<'_>, expr: &Expr) -> Result<Sample, Memory>
-    ensures { IfOk result (λ s. datum_of s ≡ value_in (expression_of expr.now) scope.now) }
-{
-    match expr {
-        Expr::Input => scope.x.try_copy(scope.alloc),
-        Expr::Param(k) => copied_param(scope.alloc, scope.params, *k),
-        Expr::Literal(literal) => Ok(literal_value(*literal)),
-        Expr::Pair(a, b) => eval_pair(scope, a, b),
-        Expr::Fst(e) | Expr::Snd(e) => eval_part(scope, expr, e),
-        Expr::Then(f, g) => eval_then(scope, f, g),
-        Expr::Neg(a) => eval_neg(scope, a).map(Sample::Int),
-        Expr::Add(a, b) | Expr::Sub(a, b) | Expr::Mul(a, b) => {
-            eval_sum(scope, expr, a, b).map(Sample::Int)
-        }
-        Expr::Less(a, b) => eval_less(scope, a, b).map(Sample::Bool),
-        Expr::Equal(a, b) => eval_equal(scope, a, b).map(Sample::Bool),
-        Expr::Not(a) => eval_not(scope, a).map(Sample::Bool),
-        Expr::And(a, b) | Expr::Or(a, b) => eval_logic(scope, expr, a, b).map(Sample::Bool),
-        Expr::If(c, a, b) => eval_if(scope, c, a, b),
-        Expr::NoEvent(_) => Ok(Sample::NoEvent),
-        Expr::Event(e) => eval_event(scope, e),
-        Expr::On(e, d, b) => eval_on(scope, e, d, b),
-        Expr::List(_, elements) => eval_elements(scope, elements),
-        Expr::Nth(e, i, d) => eval_nth(scope, e, i, d),
-        Expr::Len(e) => eval_len(scope, e).map(Sample::Int),
-    }
-}
-
-/// The value of a pair.
-#[cycle(eval)]
-fn eval_pair(scope: &Scope<'_>, a: &ExprChild, b: &ExprChild) -> Result<Sample, Memory>
-    ensures { IfOk result
-        (λ s. datum_of s ≡ pair (value_in a.now scope.now) (value_in b.now scope.now)) }
-{
-    let first = eval_in(scope, a.get())?;
-    match eval_in(scope, b.get()) {
-        Ok(second) => paired(scope.alloc, first, second),
+    let mut value = Sample::Unit;
+    match eval_over(alloc, expr, params, x, &mut value) {
+        Ok(()) => Ok(value),
         Err(Memory) => {
-            drop(first);
+            drop(value);
             Err(Memory)
         }
     }
 }
 
-/// The pair of the two values.
+/// The same, where the value takes the place of another. Its parts stand where parts of that other
+/// stood, as far as no one else holds them, and take no memory there. After a refusal some value
+/// stands there.
 #[inline(always)]
-fn paired(alloc: Global, first: Sample, second: Sample) -> Result<Sample, Memory>
-    ensures { IfOk result (λ s. datum_of s ≡ pair (datum_of first) (datum_of second)) }
+pub fn eval_over(
+    alloc: Global,
+    expr: &Expr,
+    params: &[Sample],
+    x: &Sample,
+    place: &mut Sample,
+) -> Result<(), Memory>
+    ensures { OnOk result
+        (datum_of place.new ≡ value_of (expression_of expr.now) (map datum_of params.now)
+        (datum_of x.now)) }
 {
-    let parts = SamplePair::new(alloc, first, second)?;
-    Ok(Sample::Pair(parts))
+    eval_into(&Scope { alloc, params, x }, expr, place)
+}
+
+/// Puts the value of the expression over a scope in the place of another value.
+#[cycle(eval)]
+fn eval_into(scope: &Scope<'_>, expr: &Expr, place: &mut Sample) -> Result<(), Memory>
+    ensures { OnOk result
+        (datum_of place.new ≡ value_in (expression_of expr.now) scope.now) }
+{
+    match expr {
+        Expr::Input => put_copy(scope.alloc, scope.x, place),
+        Expr::Param(k) => put_param(scope.alloc, scope.params, *k, place),
+        Expr::Literal(literal) => {
+            place.put(literal_value(*literal));
+            Ok(())
+        }
+        Expr::Pair(a, b) => eval_pair(scope, a, b, place),
+        Expr::Fst(e) | Expr::Snd(e) => eval_part(scope, expr, e, place),
+        Expr::Then(f, g) => eval_then(scope, f, g, place),
+        Expr::Neg(a) => put_number(eval_neg(scope, a), place),
+        Expr::Add(a, b) | Expr::Sub(a, b) | Expr::Mul(a, b) => {
+            put_number(eval_sum(scope, expr, a, b), place)
+        }
+        Expr::Less(a, b) => put_truth(eval_less(scope, a, b), place),
+        Expr::Equal(a, b) => put_truth(eval_equal(scope, a, b), place),
+        Expr::Not(a) => put_truth(eval_not(scope, a), place),
+        Expr::And(a, b) | Expr::Or(a, b) => put_truth(eval_logic(scope, expr, a, b), place),
+        Expr::If(c, a, b) => eval_if(scope, c, a, b, place),
+        Expr::NoEvent(_) => {
+            place.put(Sample::NoEvent);
+            Ok(())
+        }
+        Expr::Event(e) => eval_event(scope, e, place),
+        Expr::On(e, d, b) => eval_on(scope, e, d, b, place),
+        Expr::List(_, elements) => eval_elements(scope, elements, place),
+        Expr::Nth(e, i, d) => eval_nth(scope, e, i, d, place),
+        Expr::Len(e) => put_number(eval_len(scope, e), place),
+    }
+}
+
+/// The value of a pair.
+#[cycle(eval)]
+fn eval_pair(
+    scope: &Scope<'_>,
+    a: &ExprChild,
+    b: &ExprChild,
+    place: &mut Sample,
+) -> Result<(), Memory>
+    ensures { OnOk result
+        (datum_of place.new ≡ pair (value_in a.now scope.now) (value_in b.now scope.now)) }
+{
+    if let Sample::Pair(there) = place {
+        if let Some(first) = there.first_mut() {
+            eval_into(scope, a.get(), first)?;
+            if let Some(second) = there.second_mut() {
+                return eval_into(scope, b.get(), second);
+            }
+        }
+    }
+    eval_new_pair(scope, a, b, place)
+}
+
+/// The same, where the pair takes a place of its own.
+#[cycle(eval)]
+fn eval_new_pair(
+    scope: &Scope<'_>,
+    a: &ExprChild,
+    b: &ExprChild,
+    place: &mut Sample,
+) -> Result<(), Memory>
+    ensures { OnOk result
+        (datum_of place.new ≡ pair (value_in a.now scope.now) (value_in b.now scope.now)) }
+{
+    let mut first = Sample::Unit;
+    let mut second = Sample::Unit;
+    match eval_both(scope, a, b, &mut first, &mut second) {
+        Ok(()) => put_pair(scope.alloc, first, second, place),
+        Err(Memory) => {
+            drop(first);
+            drop(second);
+            Err(Memory)
+        }
+    }
+}
+
+/// Puts the values of both expressions in the places of others.
+#[cycle(eval)]
+#[inline(always)]
+fn eval_both(
+    scope: &Scope<'_>,
+    a: &ExprChild,
+    b: &ExprChild,
+    first: &mut Sample,
+    second: &mut Sample,
+) -> Result<(), Memory>
+    ensures first { OnOk result (datum_of first.new ≡ value_in a.now scope.now) }
+    ensures second { OnOk result (datum_of second.new ≡ value_in b.now scope.now) }
+{
+    eval_into(scope, a.get(), first)?;
+    eval_into(scope, b.get(), second)
 }
 
 /// The first or the second part of a value, as the form says.
 #[cycle(eval)]
-fn eval_part(scope: &Scope<'_>, form: &Expr, e: &ExprChild) -> Result<Sample, Memory>
-    ensures { IfOk result
-        (λ s. datum_of s ≡ part_of (expression_of form.now) (value_in e.now scope.now)) }
+fn eval_part(
+    scope: &Scope<'_>,
+    form: &Expr,
+    e: &ExprChild,
+    place: &mut Sample,
+) -> Result<(), Memory>
+    ensures { OnOk result
+        (datum_of place.new ≡ part_of (expression_of form.now) (value_in e.now scope.now)) }
 {
     match path_at(scope, e.get()) {
-        Some(pair) => part(form, pair).try_copy(scope.alloc),
-        None => eval_part_off(scope, form, e),
+        Some(pair) => put_copy(scope.alloc, part(form, pair), place),
+        None => eval_part_off(scope, form, e, place),
     }
 }
 
 /// The same, where the value is on no path. No part of a part of it is looked for on a path again.
 #[cycle(eval)]
-fn eval_part_off(scope: &Scope<'_>, form: &Expr, e: &ExprChild) -> Result<Sample, Memory>
-    ensures { IfOk result
-        (λ s. datum_of s ≡ part_of (expression_of form.now) (value_in e.now scope.now)) }
+#[inline(never)]
+fn eval_part_off(
+    scope: &Scope<'_>,
+    form: &Expr,
+    e: &ExprChild,
+    place: &mut Sample,
+) -> Result<(), Memory>
+    ensures { OnOk result
+        (datum_of place.new ≡ part_of (expression_of form.now) (value_in e.now scope.now)) }
 {
-    let pair = eval_off(scope, e)?;
-    let found = part(form, &pair).try_copy(scope.alloc);
+    let mut pair = Sample::Unit;
+    let found = match eval_off(scope, e, &mut pair) {
+        Ok(()) => put_copy(scope.alloc, part(form, &pair), place),
+        Err(Memory) => Err(Memory),
+    };
     drop(pair);
     found
 }
 
 /// The value of an expression that is on no path.
 #[cycle(eval)]
-fn eval_off(scope: &Scope<'_>, e: &ExprChild) -> Result<Sample, Memory>
-    ensures { IfOk result (λ s. datum_of s ≡ value_in e.now scope.now) }
+fn eval_off(scope: &Scope<'_>, e: &ExprChild, place: &mut Sample) -> Result<(), Memory>
+    ensures { OnOk result (datum_of place.new ≡ value_in e.now scope.now) }
 {
     let form = e.get();
     match form {
-        Expr::Fst(e) | Expr::Snd(e) => eval_part_off(scope, form, e),
-        _ => eval_in(scope, form),
+        Expr::Fst(e) | Expr::Snd(e) => eval_part_off(scope, form, e, place),
+        _ => eval_into(scope, form, place),
     }
 }
 
@@ -136,71 +220,124 @@ fn look<'v>(scope: &Scope<'v>, expr: &ExprChild) -> Result<Looked<'v>, Memory>
 {
     match path_at(scope, expr.get()) {
         Some(value) => Ok(Looked::There(value)),
-        None => {
-            let value = eval_in(scope, expr.get())?;
-            Ok(Looked::Made(value))
+        None => eval_made(scope, expr),
+    }
+}
+
+/// The same, where a new value is made.
+#[cycle(eval)]
+#[inline(never)]
+fn eval_made<'v>(scope: &Scope<'v>, expr: &ExprChild) -> Result<Looked<'v>, Memory>
+    ensures { IfOk result (λ l. looked_value l ≡ value_in expr.now scope.now) }
+{
+    let mut value = Sample::Unit;
+    match eval_into(scope, expr.get(), &mut value) {
+        Ok(()) => Ok(Looked::Made(value)),
+        Err(Memory) => {
+            drop(value);
+            Err(Memory)
         }
     }
 }
 
 /// The value of an expression at another input.
 #[cycle(eval)]
-fn eval_at(scope: &Scope<'_>, e: &ExprChild, x: &Sample) -> Result<Sample, Memory>
-    ensures { IfOk result
-        (λ s. datum_of s ≡ value_of e.now (map datum_of scope.now.params.now) (datum_of x.now)) }
+fn eval_at(scope: &Scope<'_>, e: &ExprChild, x: &Sample, place: &mut Sample) -> Result<(), Memory>
+    ensures { OnOk result
+        (datum_of place.new ≡
+        value_of e.now (map datum_of scope.now.params.now) (datum_of x.now)) }
 {
     let inner = Scope {
         alloc: scope.alloc,
         params: scope.params,
         x,
     };
-    eval_in(&inner, e.get())
+    eval_into(&inner, e.get(), place)
 }
 
 /// The value of one expression at that of another.
 #[cycle(eval)]
-fn eval_then(scope: &Scope<'_>, f: &ExprChild, g: &ExprChild) -> Result<Sample, Memory>
-    ensures { IfOk result
-        (λ s. datum_of s ≡ value_of g.now (map datum_of scope.now.params.now)
+fn eval_then(
+    scope: &Scope<'_>,
+    f: &ExprChild,
+    g: &ExprChild,
+    place: &mut Sample,
+) -> Result<(), Memory>
+    ensures { OnOk result
+        (datum_of place.new ≡ value_of g.now (map datum_of scope.now.params.now)
         (value_in f.now scope.now)) }
 {
     let between = look(scope, f)?;
-    let found = eval_at(scope, g, between.get());
+    let found = eval_at(scope, g, between.get(), place);
     drop(between);
     found
 }
 
 /// The value of one of two expressions.
 #[cycle(eval)]
-fn eval_if(scope: &Scope<'_>, c: &ExprChild, a: &ExprChild, b: &ExprChild) -> Result<Sample, Memory>
-    ensures { IfOk result
-        (λ s. datum_of s ≡ choose (is_true (value_in c.now scope.now)) (value_in a.now scope.now)
-        (value_in b.now scope.now)) }
+fn eval_if(
+    scope: &Scope<'_>,
+    c: &ExprChild,
+    a: &ExprChild,
+    b: &ExprChild,
+    place: &mut Sample,
+) -> Result<(), Memory>
+    ensures { OnOk result
+        (datum_of place.new ≡ choose (is_true (value_in c.now scope.now))
+        (value_in a.now scope.now) (value_in b.now scope.now)) }
 {
     if eval_truth(scope, c)? {
-        eval_in(scope, a.get())
+        eval_into(scope, a.get(), place)
     } else {
-        eval_in(scope, b.get())
+        eval_into(scope, b.get(), place)
     }
 }
 
 /// The value of an event that carries a part.
 #[cycle(eval)]
-fn eval_event(scope: &Scope<'_>, e: &ExprChild) -> Result<Sample, Memory>
-    ensures { IfOk result (λ s. datum_of s ≡ event (value_in e.now scope.now)) }
+fn eval_event(scope: &Scope<'_>, e: &ExprChild, place: &mut Sample) -> Result<(), Memory>
+    ensures { OnOk result (datum_of place.new ≡ event (value_in e.now scope.now)) }
 {
-    let value = eval_in(scope, e.get())?;
-    let carried = SampleChild::new(scope.alloc, value)?;
-    Ok(Sample::Event(carried))
+    if let Sample::Event(there) = place {
+        if let Some(carried) = there.get_mut() {
+            return eval_into(scope, e.get(), carried);
+        }
+    }
+    eval_new_event(scope, e, place)
+}
+
+/// The same, where what the event carries takes a place of its own.
+#[cycle(eval)]
+fn eval_new_event(scope: &Scope<'_>, e: &ExprChild, place: &mut Sample) -> Result<(), Memory>
+    ensures { OnOk result (datum_of place.new ≡ event (value_in e.now scope.now)) }
+{
+    let mut value = Sample::Unit;
+    match eval_into(scope, e.get(), &mut value) {
+        Ok(()) => {
+            let carried = SampleChild::new(scope.alloc, value)?;
+            place.put(Sample::Event(carried));
+            Ok(())
+        }
+        Err(Memory) => {
+            drop(value);
+            Err(Memory)
+        }
+    }
 }
 
 /// The value on an event, or else another.
 #[cycle(eval)]
-fn eval_on(scope: &Scope<'_>, e: &ExprChild, d: &ExprChild, b: &ExprChild) -> Result<Sample, Memory>
-    ensures { IfOk result (λ s. datum_of s ≡ value_in (on e.now d.now b.now) scope.now) }
+fn eval_on(
+    scope: &Scope<'_>,
+    e: &ExprChild,
+    d: &ExprChild,
+    b: &ExprChild,
+    place: &mut Sample,
+) -> Result<(), Memory>
+    ensures { OnOk result (datum_of place.new ≡ value_in (on e.now d.now b.now) scope.now) }
 {
     let event = look(scope, e)?;
-    let found = eval_on_event(scope, event.get(), d, b);
+    let found = eval_on_event(scope, event.get(), d, b, place);
     drop(event);
     found
 }
@@ -212,27 +349,33 @@ fn eval_on_event(
     event: &Sample,
     d: &ExprChild,
     b: &ExprChild,
-) -> Result<Sample, Memory>
-    ensures { IfOk result
-        (λ s. datum_of s ≡ on_event (datum_of event.now) (value_in d.now scope.now)
+    place: &mut Sample,
+) -> Result<(), Memory>
+    ensures { OnOk result
+        (datum_of place.new ≡ on_event (datum_of event.now) (value_in d.now scope.now)
         (λ v. value_of b.now (map datum_of scope.now.params.now)
         (pair (datum_of scope.now.x.now) v))) }
 {
     match event {
-        Sample::Event(carried) => eval_body(scope, b, carried),
-        _ => eval_in(scope, d.get()),
+        Sample::Event(carried) => eval_body(scope, b, carried, place),
+        _ => eval_into(scope, d.get(), place),
     }
 }
 
 /// The value on an event that carries the value.
 #[cycle(eval)]
-fn eval_body(scope: &Scope<'_>, b: &ExprChild, carried: &SampleChild) -> Result<Sample, Memory>
-    ensures { IfOk result
-        (λ s. datum_of s ≡ value_of b.now (map datum_of scope.now.params.now)
+fn eval_body(
+    scope: &Scope<'_>,
+    b: &ExprChild,
+    carried: &SampleChild,
+    place: &mut Sample,
+) -> Result<(), Memory>
+    ensures { OnOk result
+        (datum_of place.new ≡ value_of b.now (map datum_of scope.now.params.now)
         (pair (datum_of scope.now.x.now) carried.now)) }
 {
     let input = with_carried(scope, carried)?;
-    let found = eval_at(scope, b, &input);
+    let found = eval_at(scope, b, &input, place);
     drop(input);
     found
 }
@@ -243,7 +386,10 @@ fn with_carried(scope: &Scope<'_>, carried: &SampleChild) -> Result<Sample, Memo
 {
     let input = scope.x.try_copy(scope.alloc)?;
     match carried.get().try_copy(scope.alloc) {
-        Ok(carried) => paired(scope.alloc, input, carried),
+        Ok(carried) => {
+            let parts = SamplePair::new(scope.alloc, input, carried)?;
+            Ok(Sample::Pair(parts))
+        }
         Err(Memory) => {
             drop(input);
             Err(Memory)
@@ -258,14 +404,15 @@ fn eval_nth(
     e: &ExprChild,
     i: &ExprChild,
     d: &ExprChild,
-) -> Result<Sample, Memory>
-    ensures { IfOk result
-        (λ s. datum_of s ≡ element_at (value_in e.now scope.now)
+    place: &mut Sample,
+) -> Result<(), Memory>
+    ensures { OnOk result
+        (datum_of place.new ≡ element_at (value_in e.now scope.now)
         (int_of (value_in i.now scope.now))
         (value_in d.now scope.now)) }
 {
     let list = look(scope, e)?;
-    let found = eval_element(scope, list.get(), i, d);
+    let found = eval_element(scope, list.get(), i, d, place);
     drop(list);
     found
 }
@@ -277,31 +424,40 @@ fn eval_element(
     list: &Sample,
     i: &ExprChild,
     d: &ExprChild,
-) -> Result<Sample, Memory>
-    ensures { IfOk result
-        (λ s. datum_of s ≡ element_at (datum_of list.now) (int_of (value_in i.now scope.now))
+    place: &mut Sample,
+) -> Result<(), Memory>
+    ensures { OnOk result
+        (datum_of place.new ≡ element_at (datum_of list.now) (int_of (value_in i.now scope.now))
         (value_in d.now scope.now)) }
 {
     let at = eval_number(scope, i)?;
     match element(list, at) {
-        Some(found) => found.try_copy(scope.alloc),
-        None => eval_in(scope, d.get()),
+        Some(found) => put_copy(scope.alloc, found, place),
+        None => eval_into(scope, d.get(), place),
     }
 }
 
 /// The value of a list of these elements.
 #[cycle(eval)]
-fn eval_elements(scope: &Scope<'_>, elements: &Exprs) -> Result<Sample, Memory>
-    ensures { IfOk result
-        (λ s. datum_of s ≡ list (list_of (values_in (expressions_of elements.now) scope.now))) }
+fn eval_elements(scope: &Scope<'_>, elements: &Exprs, place: &mut Sample) -> Result<(), Memory>
+    ensures { OnOk result
+        (datum_of place.new ≡ list (list_of (values_in (expressions_of elements.now) scope.now))) }
 {
     let mut values = Vec::new(scope.alloc);
     for element in elements.as_slice() {
-        let value = eval_in(scope, element)?;
-        values.push(value)?;
+        let mut value = Sample::Unit;
+        match eval_into(scope, element, &mut value) {
+            Ok(()) => values.push(value)?,
+            Err(Memory) => {
+                drop(value);
+                drop(values);
+                return Err(Memory);
+            }
+        }
     }
     let all = Samples::new(scope.alloc, values)?;
-    Ok(Sample::List(all))
+    place.put(Sample::List(all));
+    Ok(())
 }
 
 /// The number that a part has as its value; 0 where that is no number.

@@ -18,7 +18,7 @@ mod shape;
 mod typing;
 
 pub use equal::same_expr;
-pub use evaluation::eval;
+pub use evaluation::{eval, eval_over};
 pub use expr::{Expr, ExprChild, Exprs};
 pub use key::LeafKey;
 pub use laws::typing_laws;

@@ -1,15 +1,15 @@
 // What the forms of expressions do with the values of their parts.
 
-ghost use Rattle.std.specs.Prelude.{◌≡◌, IfOk, MatchOption, pos, neg_ℤ, map, []};
+ghost use Rattle.std.specs.Prelude.{◌≡◌, IfOk, IsErr, MatchOption, OnErr, OnOk, pos, neg_ℤ, map, []};
 ghost use Rattle.std.specs.Int.{int_wrap, w64};
-ghost use Rattle.sample_core.specs.Datum.{Datum, int_of, unit};
+ghost use Rattle.sample_core.specs.Datum.{Datum, bool, int, int_of, pair, unit};
 ghost use Rattle.sample_core.specs.ValueView.{datum_of};
 ghost use Rattle.leaf_core.specs.ExpressionView.{expression_of, literal_of};
 ghost use Rattle.leaf_core.specs.ExpressionValue.{value_of, is_true, sum_by, part_of, element_at, count_of, param_at, same_datum};
 
 use crate::expr::Expr;
 use crate::literal::Literal;
-use sample_core::{Memory, Sample, SampleChild, same};
+use sample_core::{Memory, Sample, SampleChild, SamplePair, same};
 use std::alloc::Global;
 
 /// The value that a literal writes out.
@@ -84,14 +84,69 @@ pub fn param(params: &[Sample], k: u32) -> Option<&Sample>
     }
 }
 
-/// A copy of parameter k, from 0; `unit` where there is none.
-pub fn copied_param(alloc: Global, params: &[Sample], k: u32) -> Result<Sample, Memory>
-    ensures { IfOk result (λ s. datum_of s ≡ param_at (map datum_of params.now) k) }
+/// Puts a copy of parameter k, from 0, in the place of another value; `unit` where there is none.
+pub fn put_param(alloc: Global, params: &[Sample], k: u32, place: &mut Sample) -> Result<(), Memory>
+    ensures { OnOk result (datum_of place.new ≡ param_at (map datum_of params.now) k) }
 {
     match param(params, k) {
-        Some(value) => value.try_copy(alloc),
-        None => Ok(Sample::Unit),
+        Some(value) => put_copy(alloc, value, place),
+        None => {
+            place.put(Sample::Unit);
+            Ok(())
+        }
     }
+}
+
+/// Puts a copy of a value in the place of another.
+#[inline(always)]
+pub fn put_copy(alloc: Global, value: &Sample, place: &mut Sample) -> Result<(), Memory>
+    ensures { OnOk result (datum_of place.new ≡ datum_of value.now) }
+{
+    match value {
+        Sample::Int(n) => place.put_int(*n),
+        _ => {
+            let copy = value.try_copy(alloc)?;
+            place.put(copy);
+        }
+    }
+    Ok(())
+}
+
+/// Puts the pair of two values in the place of another value.
+#[inline(always)]
+pub fn put_pair(
+    alloc: Global,
+    first: Sample,
+    second: Sample,
+    place: &mut Sample,
+) -> Result<(), Memory>
+    ensures { OnOk result (datum_of place.new ≡ pair (datum_of first) (datum_of second)) }
+{
+    let parts = SamplePair::new(alloc, first, second)?;
+    place.put(Sample::Pair(parts));
+    Ok(())
+}
+
+/// Puts a number, where there is one, in the place of a value.
+#[inline(always)]
+pub fn put_number(n: Result<i64, Memory>, place: &mut Sample) -> Result<(), Memory>
+    ensures ok { IfOk n (λ n. datum_of place.new ≡ int n) }
+    ensures err { OnErr n (IsErr result) }
+{
+    let n = n?;
+    place.put_int(n);
+    Ok(())
+}
+
+/// Puts a truth, where there is one, in the place of a value.
+#[inline(always)]
+pub fn put_truth(t: Result<bool, Memory>, place: &mut Sample) -> Result<(), Memory>
+    ensures ok { IfOk t (λ t. datum_of place.new ≡ bool t) }
+    ensures err { OnErr t (IsErr result) }
+{
+    let t = t?;
+    place.put_bool(t);
+    Ok(())
 }
 
 /// The element of a list value at a place, from 0; `None` outside.

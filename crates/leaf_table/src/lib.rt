@@ -11,7 +11,7 @@ mod table;
 pub use fault::TableFault;
 pub use leaf::{Leaf, Run};
 pub use run::{
-    run_affine, run_below, run_constant, run_general, run_identity, run_left, run_right, run_swap,
-    run_wrap,
+    run_affine, run_again, run_below, run_constant, run_general, run_identity, run_left, run_right,
+    run_swap, run_wrap,
 };
 pub use table::{LeafId, LeafTable};

@@ -9,9 +9,10 @@ ghost use Rattle.leaf_core.specs.KeyTree.{KeyTree};
 ghost use Rattle.leaf_table.specs.Computes.{Computes};
 
 use crate::part::{child, copied, first, number, paired, product, second, sum};
-use leaf_core::{LeafKey, Literal, eval};
+use leaf_core::{LeafKey, Literal, eval, eval_over};
 use sample_core::{Memory, Sample};
 use std::alloc::{AllocError, Global};
+use std::cell::Cell;
 
 /// The input itself, for an expression of the shape `Identity`. `AllocError` only where a count of
 /// references is full.
@@ -155,5 +156,32 @@ pub fn run_general(
     match eval(alloc, &key.expr, params, x) {
         Ok(value) => Ok(value),
         Err(Memory) => Err(AllocError),
+    }
+}
+
+/// The same, where `last` keeps the last answer from call to call: the next one takes no memory for
+/// parts that stand where parts of the last stood, as far as no one else holds these any more.
+#[inline(always)]
+pub fn run_again(
+    alloc: Global,
+    key: &LeafKey,
+    last: &Cell<Sample>,
+    params: &[Sample],
+    x: &Sample,
+) -> Result<Sample, AllocError>
+    ensures { IfOk result
+        (λ v. Computes key.now (map datum_of params.now) (datum_of x.now) (datum_of v)) }
+{
+    let mut place = last.replace(Sample::Unit);
+    match eval_over(alloc, &key.expr, params, x, &mut place) {
+        Ok(()) => {
+            let answer = copied(alloc, &place);
+            drop(last.replace(place));
+            answer
+        }
+        Err(Memory) => {
+            drop(place);
+            Err(AllocError)
+        }
     }
 }

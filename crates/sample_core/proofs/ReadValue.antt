@@ -12,12 +12,12 @@ use Rattle.sample_core.specs.declared.fault.ValueFault.{ValueFault}
 use Rattle.sample_core.proofs.ReadingIs.{reading_law}
 use Rattle.sample_core.proofs.FaultIs.{fault_law}
 
-pub found_of : (A : TypeTree) (bs : List ℕ) (r : Result (Sample × ℕ) ValueFault) → Gives (λ x. (datum_of x.0, x.1)) r (reading A bs)
-    → IfOk r (λ x. (x.1 ≡ length (spelling (datum_of x.0))) × SpellsValue (datum_of x.0) A bs (drop x.1 bs))
-found_of A bs (Ok x) e = (reading_law A bs (datum_of x.0) x.1).0 e
-found_of A bs (Err f) e = tt
+pub found_of : (A : TypeTree) (bs : List ℕ) (s : Sample) (r : Result ℕ ValueFault) → Gives (λ n. (datum_of s, n)) r (reading A bs)
+    → IfOk r (λ n. (n ≡ length (spelling (datum_of s))) × SpellsValue (datum_of s) A bs (drop n bs))
+found_of A bs s (Ok n) e = (reading_law A bs (datum_of s) n).0 e
+found_of A bs s (Err f) e = tt
 
-pub refused_of : (A : TypeTree) (bs : List ℕ) (r : Result (Sample × ℕ) ValueFault) → Gives (λ x. (datum_of x.0, x.1)) r (reading A bs)
+pub refused_of : (A : TypeTree) (bs : List ℕ) (s : Sample) (r : Result ℕ ValueFault) → Gives (λ n. (datum_of s, n)) r (reading A bs)
     → IfErr r (λ f. FaultOf f A bs)
-refused_of A bs (Ok x) e = tt
-refused_of A bs (Err f) e = λ h. (fault_law A bs f).0 (e h)
+refused_of A bs s (Ok n) e = tt
+refused_of A bs s (Err f) e = λ h. (fault_law A bs f).0 (e h)

@@ -5,6 +5,7 @@ pub mod DatumCode
 pub mod TypeTree
 pub mod TypeCode
 pub mod HasType
+pub mod Lending
 pub mod ValueView
 pub mod TypeView
 pub mod Depth

@@ -67,10 +67,6 @@ elements_at reader (suc n) (b ∷ bs) =
     (reader bs >>= (λ x. elements_at reader n x.1 >>= (λ y. Ok (x.0 ∷ y.0, y.1))))
     else Ok ([], b ∷ bs)
 
--- the value, where a ')' ends it, and what is behind that
-abbrev pub closed_at : ℕ → Datum → List ℕ → Result (Datum × List ℕ) ValueFault
-closed_at size v bs = behind_byte size 41 bs >>= (λ rest. Ok (v, rest))
-
 -- the value of the type at the front of bs, which are left of so many bytes, and what is behind it
 unfoldable pub value_at : ℕ → TypeTree → List ℕ → Result (Datum × List ℕ) ValueFault
 value_at size unit_ty bs = unit_at size bs
@@ -98,6 +94,22 @@ value_at size (list_ty A) bs =
 -- a space, and behind it the value of the type, and what is behind that
 abbrev pub part_at : ℕ → TypeTree → List ℕ → Result (Datum × List ℕ) ValueFault
 part_at size A bs = behind_byte size 32 bs >>= value_at size A
+
+-- the pair that bs go on with behind its word, and what is behind that
+abbrev pub pair_behind : ℕ → TypeTree → TypeTree → List ℕ → Result (Datum × List ℕ) ValueFault
+pair_behind size A B bs = part_at size A bs >>=
+    (λ v. part_at size B v.1 >>=
+    (λ w. behind_byte size 41 w.1 >>= (λ rest. Ok (pair v.0 w.0, rest))))
+
+-- the event that bs go on with behind its word, and what is behind that
+abbrev pub event_behind : ℕ → TypeTree → List ℕ → Result (Datum × List ℕ) ValueFault
+event_behind size A bs = part_at size A bs >>=
+    (λ v. behind_byte size 41 v.1 >>= (λ rest. Ok (event v.0, rest)))
+
+-- the list that bs go on with behind its word, and what is behind that
+abbrev pub list_behind : ℕ → TypeTree → List ℕ → Result (Datum × List ℕ) ValueFault
+list_behind size A bs = elements_at (value_at size A) (length bs) bs >>=
+    (λ vs. behind_byte size 41 vs.1 >>= (λ rest. Ok (list (list_of vs.0), rest)))
 
 -- the value of the type at the front of the bytes, and how many bytes it takes
 unfoldable pub reading : TypeTree → List ℕ → Result (Datum × ℕ) ValueFault

@@ -1,9 +1,9 @@
 // Reading one value off the front of a text.
 
-ghost use Rattle.std.specs.Prelude.{◌≡◌, ◌-◌, ◌≤◌, ◌<◌, ◌∷◌, false, MatchOption, length, drop, map, IfOk, IfErr};
-ghost use Rattle.sample_core.specs.Reading.{Gives, begins_value, begins_with, wrong, behind_byte, behind_head, unit_at, truth_at, number_at, elements_at, closed_at, part_at, value_at, reading};
+ghost use Rattle.std.specs.Prelude.{◌≡◌, ◌-◌, ◌≤◌, ◌<◌, ◌∷◌, [], false, MatchOption, length, drop, map, IfOk, IfErr};
+ghost use Rattle.sample_core.specs.Reading.{Gives, begins_value, begins_with, wrong, behind_byte, behind_head, unit_at, truth_at, number_at, elements_at, part_at, pair_behind, event_behind, list_behind, value_at, reading};
 ghost use Rattle.sample_core.specs.Faults.{FaultOf};
-ghost use Rattle.sample_core.specs.Datum.{int, pair};
+ghost use Rattle.sample_core.specs.Datum.{int, pair, event, list, list_of};
 ghost use Rattle.sample_core.specs.ValueView.{datum_of};
 ghost use Rattle.sample_core.specs.TypeView.{type_of};
 ghost use Rattle.sample_core.specs.TypeTree.{int_ty, pair_ty, event_ty, list_ty};
@@ -18,6 +18,7 @@ use crate::sample::{Sample, SampleChild, SamplePair, Samples};
 use crate::ty::{Ty, TyChild};
 use crate::words::{behind_form, behind_word, split_form, split_word, word_is};
 use std::alloc::Global;
+use std::rc::Rc;
 
 /// Reads one value of the type at the front of the text. Answers the value and how many bytes it
 /// takes. Bytes may follow it, but none that goes on its last word: no letter, digit or `-`.
@@ -36,18 +37,45 @@ pub fn read_value(alloc: Global, text: &[u8], ty: &Ty) -> Result<(Sample, usize)
     ensures exact { Gives (λ x. (datum_of x.0, x.1)) result (reading (type_of ty.now) text.now) }
     ensures within { IfOk result (λ x. x.1 ≤ length text.now) }
 {
-    front(alloc, text, ty)
+    let mut sample = Sample::Unit;
+    match read_value_over(alloc, text, ty, &mut sample) {
+        Ok(taken) => Ok((sample, taken)),
+        Err(fault) => {
+            drop(sample);
+            Err(fault)
+        }
+    }
 }
 
-/// What `read_value` answers. It stands apart, since the other clauses of that contract follow
+/// The same, where the value takes the place of another. What is read stands where parts of that
+/// other stood, as far as no one else holds them: so a value of the same form takes no memory.
+/// After a refusal some value stands there.
+pub fn read_value_over(
+    alloc: Global,
+    text: &[u8],
+    ty: &Ty,
+    place: &mut Sample,
+) -> Result<usize, ValueFault>
+    ensures found { IfOk result (λ n. (n ≡ length (spelling (datum_of place.new)))
+        × SpellsValue (datum_of place.new) (type_of ty.now) text.now (drop n text.now)) }
+    ensures refused { IfErr result (λ f. FaultOf f (type_of ty.now) text.now) }
+    ensures exact { Gives (λ n. (datum_of place.new, n)) result
+        (reading (type_of ty.now) text.now) }
+    ensures within { IfOk result (λ n. n ≤ length text.now) }
+{
+    front(alloc, text, ty, place)
+}
+
+/// What `read_value_over` answers. It stands apart, since the other clauses of that contract follow
 /// from its exact one.
 #[tactic(auto, unfolding(crate::specs::Reading::reading))]
-fn front(alloc: Global, text: &[u8], ty: &Ty) -> Result<(Sample, usize), ValueFault>
-    ensures exact { Gives (λ x. (datum_of x.0, x.1)) result (reading (type_of ty.now) text.now) }
-    ensures within { IfOk result (λ x. x.1 ≤ length text.now) }
+fn front(alloc: Global, text: &[u8], ty: &Ty, place: &mut Sample) -> Result<usize, ValueFault>
+    ensures exact { Gives (λ n. (datum_of place.new, n)) result
+        (reading (type_of ty.now) text.now) }
+    ensures within { IfOk result (λ n. n ≤ length text.now) }
 {
-    let (sample, rest) = value(alloc, text.len(), text, ty)?;
-    Ok((sample, text.len() - rest.len()))
+    let rest = value(alloc, text.len(), text, ty, place)?;
+    Ok(text.len() - rest.len())
 }
 
 /// The place of the rest of a text of that size.
@@ -128,29 +156,36 @@ fn after_head<'t>(size: usize, text: &'t [u8], name: &str) -> Result<&'t [u8], V
     }
 }
 
-/// The value `unit`.
+/// Reads `unit`. Answers what is behind it.
 #[tactic(auto, unfolding(crate::specs::Reading::unit_at))]
-fn unit(size: usize, text: &[u8]) -> Result<(Sample, &[u8]), ValueFault>
-    ensures exact { Gives (λ x. (datum_of x.0, x.1.now)) result (unit_at size text.now) }
-    ensures shorter { IfOk result (λ x. length x.1.now ≤ length text.now) }
+fn unit<'t>(size: usize, text: &'t [u8], place: &mut Sample) -> Result<&'t [u8], ValueFault>
+    ensures exact { Gives (λ rest. (datum_of place.new, rest.now)) result (unit_at size text.now) }
+    ensures shorter { IfOk result (λ rest. length rest.now ≤ length text.now) }
 {
     match behind_word(text, "unit") {
-        Some(rest) => Ok((Sample::Unit, rest)),
+        Some(rest) => {
+            place.put(Sample::Unit);
+            Ok(rest)
+        }
         None => Err(wrong_value(size, text)),
     }
 }
 
-/// `true` or `false`.
+/// Reads `true` or `false`.
 #[tactic(auto, unfolding(crate::specs::Reading::truth_at))]
-fn truth(size: usize, text: &[u8]) -> Result<(Sample, &[u8]), ValueFault>
-    ensures exact { Gives (λ x. (datum_of x.0, x.1.now)) result (truth_at size text.now) }
-    ensures shorter { IfOk result (λ x. length x.1.now ≤ length text.now) }
+fn truth<'t>(size: usize, text: &'t [u8], place: &mut Sample) -> Result<&'t [u8], ValueFault>
+    ensures exact { Gives (λ rest. (datum_of place.new, rest.now)) result (truth_at size text.now) }
+    ensures shorter { IfOk result (λ rest. length rest.now ≤ length text.now) }
 {
     if let Some(rest) = behind_word(text, "true") {
-        return Ok((Sample::Bool(true), rest));
+        place.put_bool(true);
+        return Ok(rest);
     }
     match behind_word(text, "false") {
-        Some(rest) => Ok((Sample::Bool(false), rest)),
+        Some(rest) => {
+            place.put_bool(false);
+            Ok(rest)
+        }
         None => Err(wrong_value(size, text)),
     }
 }
@@ -191,53 +226,39 @@ fn long_integer(size: usize, text: &[u8]) -> Result<(i64, &[u8]), ValueFault>
     }
 }
 
-/// A number as a value, and what is behind it.
+/// Reads a number as a value.
 #[inline(always)]
-fn number_sample(size: usize, text: &[u8]) -> Result<(Sample, &[u8]), ValueFault>
-    ensures exact { Gives (λ x. (datum_of x.0, x.1.now)) result (value_at size int_ty text.now) }
-    ensures shorter { IfOk result (λ x. length x.1.now ≤ length text.now) }
-{
-    let (n, rest) = integer(size, text)?;
-    Ok((Sample::Int(n), rest))
-}
-
-/// Numbers, each behind a space, as long as a space stands there; and what is behind them.
-fn numbers<'t>(
-    alloc: Global,
+fn number_sample<'t>(
     size: usize,
     text: &'t [u8],
-) -> Result<(Vec<Sample>, &'t [u8]), ValueFault>
-    ensures exact { Gives (λ x. (map datum_of x.0.items, x.1.now)) result
-        (elements_at (value_at size int_ty) (length text.now) text.now) }
-    ensures shorter { IfOk result (λ x. length x.1.now ≤ length text.now) }
+    place: &mut Sample,
+) -> Result<&'t [u8], ValueFault>
+    ensures exact { Gives (λ rest. (datum_of place.new, rest.now)) result
+        (value_at size int_ty text.now) }
+    ensures shorter { IfOk result (λ rest. length rest.now ≤ length text.now) }
 {
-    let mut all = Vec::new(alloc);
+    let (n, rest) = integer(size, text)?;
+    place.put_int(n);
+    Ok(rest)
+}
+
+/// Adds numbers, each behind a space, as long as a space stands there. Answers what is behind them.
+fn numbers<'t>(size: usize, text: &'t [u8], all: &mut Vec<Sample>) -> Result<&'t [u8], ValueFault>
+    requires { all.old.items ≡ [] }
+    ensures exact { Gives (λ rest. (map datum_of all.new.items, rest.now)) result
+        (elements_at (value_at size int_ty) (length text.now) text.now) }
+    ensures shorter { IfOk result (λ rest. length rest.now ≤ length text.now) }
+{
     let mut rest = text;
     while let Some(element) = after_space(rest) {
         let (n, after) = integer(size, element)?;
         all.push(Sample::Int(n))?;
         rest = after;
     }
-    Ok((all, rest))
+    Ok(rest)
 }
 
-/// The value, where a `)` ends it, and what is behind that.
-#[inline(always)]
-fn closed<'t>(size: usize, text: &'t [u8], sample: Sample) -> Result<(Sample, &'t [u8]), ValueFault>
-    ensures exact { Gives (λ x. (datum_of x.0, x.1.now)) result
-        (closed_at size (datum_of sample) text.now) }
-    ensures shorter { IfOk result (λ x. length x.1.now ≤ length text.now) }
-{
-    match after_byte(size, text, b')') {
-        Ok(rest) => Ok((sample, rest)),
-        Err(fault) => {
-            drop(sample);
-            Err(fault)
-        }
-    }
-}
-
-/// A value of the type, and what is behind it.
+/// Reads a value of the type into the place of another. Answers what is behind it.
 #[cycle(value)]
 #[tactic(auto, unfolding(crate::specs::Reading::value_at))]
 fn value<'t>(
@@ -245,22 +266,23 @@ fn value<'t>(
     size: usize,
     text: &'t [u8],
     ty: &Ty,
-) -> Result<(Sample, &'t [u8]), ValueFault>
-    ensures exact { Gives (λ x. (datum_of x.0, x.1.now)) result
+    place: &mut Sample,
+) -> Result<&'t [u8], ValueFault>
+    ensures exact { Gives (λ rest. (datum_of place.new, rest.now)) result
         (value_at size (type_of ty.now) text.now) }
-    ensures shorter { IfOk result (λ x. length x.1.now ≤ length text.now) }
+    ensures shorter { IfOk result (λ rest. length rest.now ≤ length text.now) }
 {
     match ty {
-        Ty::Unit => unit(size, text),
-        Ty::Bool => truth(size, text),
-        Ty::Int => number_sample(size, text),
-        Ty::Pair(a, b) => pair(alloc, size, text, a, b),
-        Ty::Event(a) => event(alloc, size, text, a),
-        Ty::List(a) => list(alloc, size, text, a),
+        Ty::Unit => unit(size, text, place),
+        Ty::Bool => truth(size, text, place),
+        Ty::Int => number_sample(size, text, place),
+        Ty::Pair(a, b) => pair(alloc, size, text, a, b, place),
+        Ty::Event(a) => event(alloc, size, text, a, place),
+        Ty::List(a) => list(alloc, size, text, a, place),
     }
 }
 
-/// A pair of values of the types.
+/// Reads a pair of values of the types.
 #[cycle(value)]
 #[tactic(auto, unfolding(crate::specs::Reading::value_at))]
 fn pair<'t>(
@@ -269,40 +291,72 @@ fn pair<'t>(
     text: &'t [u8],
     a: &TyChild,
     b: &TyChild,
-) -> Result<(Sample, &'t [u8]), ValueFault>
-    ensures exact { Gives (λ x. (datum_of x.0, x.1.now)) result
+    place: &mut Sample,
+) -> Result<&'t [u8], ValueFault>
+    ensures exact { Gives (λ rest. (datum_of place.new, rest.now)) result
         (value_at size (pair_ty a.now b.now) text.now) }
-    ensures shorter { IfOk result (λ x. length x.1.now ≤ length text.now) }
+    ensures shorter { IfOk result (λ rest. length rest.now ≤ length text.now) }
 {
     let rest = after_head(size, text, "pair")?;
-    let (first, rest) = part(alloc, size, rest, a)?;
-    match part(alloc, size, rest, b) {
-        Ok((second, rest)) => paired(alloc, size, rest, first, second),
+    if let Sample::Pair(there) = place {
+        if let Some(parts) = Rc::get_mut(&mut there.parts) {
+            return both(alloc, size, rest, a, b, parts);
+        }
+    }
+    new_pair(alloc, size, rest, a, b, place)
+}
+
+/// The same behind the word, where the pair takes a place of its own.
+#[cycle(value)]
+#[inline(never)]
+fn new_pair<'t>(
+    alloc: Global,
+    size: usize,
+    text: &'t [u8],
+    a: &TyChild,
+    b: &TyChild,
+    place: &mut Sample,
+) -> Result<&'t [u8], ValueFault>
+    ensures exact { Gives (λ rest. (datum_of place.new, rest.now)) result
+        (pair_behind size a.now b.now text.now) }
+    ensures shorter { IfOk result (λ rest. length rest.now ≤ length text.now) }
+{
+    let mut parts = (Sample::Unit, Sample::Unit);
+    match both(alloc, size, text, a, b, &mut parts) {
+        Ok(rest) => {
+            let (first, second) = parts;
+            let parts = SamplePair::new(alloc, first, second)?;
+            place.put(Sample::Pair(parts));
+            Ok(rest)
+        }
         Err(fault) => {
-            drop(first);
+            drop(parts);
             Err(fault)
         }
     }
 }
 
-/// The pair of the values, where a `)` ends it, and what is behind that.
+/// Reads both parts of a pair, and the `)` that ends it.
+#[cycle(value)]
 #[inline(always)]
-fn paired<'t>(
+fn both<'t>(
     alloc: Global,
     size: usize,
     text: &'t [u8],
-    first: Sample,
-    second: Sample,
-) -> Result<(Sample, &'t [u8]), ValueFault>
-    ensures exact { Gives (λ x. (datum_of x.0, x.1.now)) result
-        (closed_at size (pair (datum_of first) (datum_of second)) text.now) }
-    ensures shorter { IfOk result (λ x. length x.1.now ≤ length text.now) }
+    a: &TyChild,
+    b: &TyChild,
+    parts: &mut (Sample, Sample),
+) -> Result<&'t [u8], ValueFault>
+    ensures exact { Gives (λ rest. (pair (datum_of parts.new.0) (datum_of parts.new.1), rest.now))
+        result (pair_behind size a.now b.now text.now) }
+    ensures shorter { IfOk result (λ rest. length rest.now ≤ length text.now) }
 {
-    let parts = SamplePair::new(alloc, first, second)?;
-    closed(size, text, Sample::Pair(parts))
+    let rest = part(alloc, size, text, a, &mut parts.0)?;
+    let rest = part(alloc, size, rest, b, &mut parts.1)?;
+    after_byte(size, rest, b')')
 }
 
-/// An event of the type, or none.
+/// Reads an event of the type, or none.
 #[cycle(value)]
 #[tactic(auto, unfolding(crate::specs::Reading::value_at))]
 fn event<'t>(
@@ -310,21 +364,72 @@ fn event<'t>(
     size: usize,
     text: &'t [u8],
     ty: &TyChild,
-) -> Result<(Sample, &'t [u8]), ValueFault>
-    ensures exact { Gives (λ x. (datum_of x.0, x.1.now)) result
+    place: &mut Sample,
+) -> Result<&'t [u8], ValueFault>
+    ensures exact { Gives (λ rest. (datum_of place.new, rest.now)) result
         (value_at size (event_ty ty.now) text.now) }
-    ensures shorter { IfOk result (λ x. length x.1.now ≤ length text.now) }
+    ensures shorter { IfOk result (λ rest. length rest.now ≤ length text.now) }
 {
     if let Some(rest) = behind_word(text, "none") {
-        return Ok((Sample::NoEvent, rest));
+        place.put(Sample::NoEvent);
+        return Ok(rest);
     }
     let rest = after_head(size, text, "event")?;
-    let (inner, rest) = part(alloc, size, rest, ty)?;
-    let inner = SampleChild::new(alloc, inner)?;
-    closed(size, rest, Sample::Event(inner))
+    if let Sample::Event(there) = place {
+        if let Some(inner) = there.get_mut() {
+            return carried(alloc, size, rest, ty, inner);
+        }
+    }
+    new_event(alloc, size, rest, ty, place)
 }
 
-/// A list of values of the type.
+/// The same behind the word, where what the event carries takes a place of its own.
+#[cycle(value)]
+#[inline(never)]
+fn new_event<'t>(
+    alloc: Global,
+    size: usize,
+    text: &'t [u8],
+    ty: &TyChild,
+    place: &mut Sample,
+) -> Result<&'t [u8], ValueFault>
+    ensures exact { Gives (λ rest. (datum_of place.new, rest.now)) result
+        (event_behind size ty.now text.now) }
+    ensures shorter { IfOk result (λ rest. length rest.now ≤ length text.now) }
+{
+    let mut inner = Sample::Unit;
+    match carried(alloc, size, text, ty, &mut inner) {
+        Ok(rest) => {
+            let inner = SampleChild::new(alloc, inner)?;
+            place.put(Sample::Event(inner));
+            Ok(rest)
+        }
+        Err(fault) => {
+            drop(inner);
+            Err(fault)
+        }
+    }
+}
+
+/// Reads what an event carries, and the `)` that ends it.
+#[cycle(value)]
+#[inline(always)]
+fn carried<'t>(
+    alloc: Global,
+    size: usize,
+    text: &'t [u8],
+    ty: &TyChild,
+    inner: &mut Sample,
+) -> Result<&'t [u8], ValueFault>
+    ensures exact { Gives (λ rest. (event (datum_of inner.new), rest.now)) result
+        (event_behind size ty.now text.now) }
+    ensures shorter { IfOk result (λ rest. length rest.now ≤ length text.now) }
+{
+    let rest = part(alloc, size, text, ty, inner)?;
+    after_byte(size, rest, b')')
+}
+
+/// Reads a list of values of the type.
 #[cycle(value)]
 #[tactic(auto, unfolding(crate::specs::Reading::value_at))]
 fn list<'t>(
@@ -332,21 +437,72 @@ fn list<'t>(
     size: usize,
     text: &'t [u8],
     ty: &TyChild,
-) -> Result<(Sample, &'t [u8]), ValueFault>
-    ensures exact { Gives (λ x. (datum_of x.0, x.1.now)) result
+    place: &mut Sample,
+) -> Result<&'t [u8], ValueFault>
+    ensures exact { Gives (λ rest. (datum_of place.new, rest.now)) result
         (value_at size (list_ty ty.now) text.now) }
-    ensures shorter { IfOk result (λ x. length x.1.now ≤ length text.now) }
+    ensures shorter { IfOk result (λ rest. length rest.now ≤ length text.now) }
 {
     let rest = after_head(size, text, "list")?;
-    let (all, rest) = match ty.get() {
-        Ty::Int => numbers(alloc, size, rest)?,
-        ty => elements(alloc, size, rest, ty)?,
-    };
-    let all = Samples::new(alloc, all)?;
-    closed(size, rest, Sample::List(all))
+    if let Sample::List(there) = place {
+        if let Some(all) = Rc::get_mut(&mut there.all) {
+            all.clear();
+            return items(alloc, size, rest, ty, all);
+        }
+    }
+    new_list(alloc, size, rest, ty, place)
 }
 
-/// A space and a value of the type: a number is read at once.
+/// The same behind the word, where the elements take a place of their own.
+#[cycle(value)]
+#[inline(never)]
+fn new_list<'t>(
+    alloc: Global,
+    size: usize,
+    text: &'t [u8],
+    ty: &TyChild,
+    place: &mut Sample,
+) -> Result<&'t [u8], ValueFault>
+    ensures exact { Gives (λ rest. (datum_of place.new, rest.now)) result
+        (list_behind size ty.now text.now) }
+    ensures shorter { IfOk result (λ rest. length rest.now ≤ length text.now) }
+{
+    let mut all = Vec::new(alloc);
+    match items(alloc, size, text, ty, &mut all) {
+        Ok(rest) => {
+            let all = Samples::new(alloc, all)?;
+            place.put(Sample::List(all));
+            Ok(rest)
+        }
+        Err(fault) => {
+            drop(all);
+            Err(fault)
+        }
+    }
+}
+
+/// Adds the elements of a list to none, and reads the `)` that ends it.
+#[cycle(value)]
+fn items<'t>(
+    alloc: Global,
+    size: usize,
+    text: &'t [u8],
+    ty: &TyChild,
+    all: &mut Vec<Sample>,
+) -> Result<&'t [u8], ValueFault>
+    requires { all.old.items ≡ [] }
+    ensures exact { Gives (λ rest. (list (list_of (map datum_of all.new.items)), rest.now)) result
+        (list_behind size ty.now text.now) }
+    ensures shorter { IfOk result (λ rest. length rest.now ≤ length text.now) }
+{
+    let rest = match ty.get() {
+        Ty::Int => numbers(size, text, all)?,
+        ty => elements(alloc, size, text, ty, all)?,
+    };
+    after_byte(size, rest, b')')
+}
+
+/// Reads a space and a value of the type: a number is read at once.
 #[cycle(value)]
 #[inline(always)]
 #[tactic(auto, unfolding(crate::specs::Reading::value_at))]
@@ -355,36 +511,47 @@ fn part<'t>(
     size: usize,
     text: &'t [u8],
     ty: &TyChild,
-) -> Result<(Sample, &'t [u8]), ValueFault>
-    ensures exact { Gives (λ x. (datum_of x.0, x.1.now)) result (part_at size ty.now text.now) }
-    ensures shorter { IfOk result (λ x. length x.1.now ≤ length text.now) }
+    place: &mut Sample,
+) -> Result<&'t [u8], ValueFault>
+    ensures exact { Gives (λ rest. (datum_of place.new, rest.now)) result
+        (part_at size ty.now text.now) }
+    ensures shorter { IfOk result (λ rest. length rest.now ≤ length text.now) }
 {
     let rest = after_byte(size, text, b' ')?;
     match ty.get() {
-        Ty::Int => number_sample(size, rest),
-        ty => value(alloc, size, rest, ty),
+        Ty::Int => number_sample(size, rest, place),
+        ty => value(alloc, size, rest, ty, place),
     }
 }
 
-/// Elements of the type, each behind a space, as long as a space stands there; and what is behind
-/// them.
+/// Adds elements of the type, each behind a space, as long as a space stands there. Answers what is
+/// behind them.
 #[cycle(value)]
 fn elements<'t>(
     alloc: Global,
     size: usize,
     text: &'t [u8],
     ty: &Ty,
-) -> Result<(Vec<Sample>, &'t [u8]), ValueFault>
-    ensures exact { Gives (λ x. (map datum_of x.0.items, x.1.now)) result
+    all: &mut Vec<Sample>,
+) -> Result<&'t [u8], ValueFault>
+    requires { all.old.items ≡ [] }
+    ensures exact { Gives (λ rest. (map datum_of all.new.items, rest.now)) result
         (elements_at (value_at size (type_of ty.now)) (length text.now) text.now) }
-    ensures shorter { IfOk result (λ x. length x.1.now ≤ length text.now) }
+    ensures shorter { IfOk result (λ rest. length rest.now ≤ length text.now) }
 {
-    let mut all = Vec::new(alloc);
     let mut rest = text;
     while let Some(element) = after_space(rest) {
-        let (sample, after) = value(alloc, size, element, ty)?;
-        all.push(sample)?;
-        rest = after;
+        let mut sample = Sample::Unit;
+        match value(alloc, size, element, ty, &mut sample) {
+            Ok(after) => {
+                all.push(sample)?;
+                rest = after;
+            }
+            Err(fault) => {
+                drop(sample);
+                return Err(fault);
+            }
+        }
     }
-    Ok((all, rest))
+    Ok(rest)
 }

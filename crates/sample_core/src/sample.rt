@@ -32,7 +32,7 @@ pub enum Sample {
 #[cycle(sample)]
 #[derive(Drop)]
 pub struct SamplePair {
-    parts: Rc<(Sample, Sample)>,
+    pub(crate) parts: Rc<(Sample, Sample)>,
 }
 
 /// A value inside a value. Contracts see it as the value's tree; copies share it.
@@ -46,7 +46,7 @@ pub struct SampleChild {
 #[cycle(sample)]
 #[derive(Drop)]
 pub struct Samples {
-    all: Rc<Vec<Sample>>,
+    pub(crate) all: Rc<Vec<Sample>>,
 }
 
 impl Model for SamplePair {
@@ -114,6 +114,9 @@ impl Model for Samples {
 }
 
 impl SamplePair {
+    ghost use Rattle.std.specs.Borrow.{sem};
+    ghost use Rattle.sample_core.specs.Lending.{LendsFirst, LendsSecond};
+
     /// The values as the parts of a pair. `Memory` where a growth was refused.
     #[inline(always)]
     pub fn new(alloc: Global, first: Sample, second: Sample) -> Result<SamplePair, Memory>
@@ -137,6 +140,28 @@ impl SamplePair {
         &self.parts.1
     }
 
+    /// The first part, to write to, where no one else holds the parts.
+    #[inline(always)]
+    pub fn first_mut(&mut self) -> Option<&mut Sample>
+        ensures* { sem 𝓛 (LendsFirst self.entry result) }
+    {
+        match Rc::get_mut(&mut self.parts) {
+            Some(parts) => Some(&mut parts.0),
+            None => None,
+        }
+    }
+
+    /// The second part, to write to, where no one else holds the parts.
+    #[inline(always)]
+    pub fn second_mut(&mut self) -> Option<&mut Sample>
+        ensures* { sem 𝓛 (LendsSecond self.entry result) }
+    {
+        match Rc::get_mut(&mut self.parts) {
+            Some(parts) => Some(&mut parts.1),
+            None => None,
+        }
+    }
+
     /// The same parts, shared. It takes no memory; `Memory` only where a count of references is
     /// full.
     pub fn try_copy(&self) -> Result<SamplePair, Memory>
@@ -148,6 +173,9 @@ impl SamplePair {
 }
 
 impl SampleChild {
+    ghost use Rattle.std.specs.Borrow.{sem};
+    ghost use Rattle.sample_core.specs.Lending.{LendsChild};
+
     /// The value as a part of another. `Memory` where a growth was refused.
     pub fn new(alloc: Global, sample: Sample) -> Result<SampleChild, Memory>
         ensures { IfOk result (λ c. c ≡ datum_of sample) }
@@ -161,6 +189,14 @@ impl SampleChild {
         ensures { datum_of result.now ≡ self.now }
     {
         &self.inner
+    }
+
+    /// The value itself, to write to, where no one else holds it.
+    #[inline(always)]
+    pub fn get_mut(&mut self) -> Option<&mut Sample>
+        ensures* { sem 𝓛 (LendsChild self.entry result) }
+    {
+        Rc::get_mut(&mut self.inner)
     }
 
     /// The same value, shared. It takes no memory; `Memory` only where a count of references is
@@ -200,8 +236,52 @@ impl Samples {
 }
 
 impl Sample {
+    ghost use Rattle.sample_core.specs.Datum.{bool, int};
+
+    /// Puts another value in the place of this one. A place that holds no parts is written at once.
+    #[inline(always)]
+    pub fn put(&mut self, value: Sample)
+        ensures { self.new ≡ value }
+    {
+        match self {
+            Sample::Pair(_) | Sample::Event(_) | Sample::List(_) => self.replace(value),
+            _ => *self = value,
+        }
+    }
+
+    /// Puts a number in the place of this value.
+    #[inline(always)]
+    pub fn put_int(&mut self, n: i64)
+        ensures { datum_of self.new ≡ int n }
+    {
+        match self {
+            Sample::Int(there) => *there = n,
+            _ => self.put(Sample::Int(n)),
+        }
+    }
+
+    /// Puts a truth in the place of this value.
+    #[inline(always)]
+    pub fn put_bool(&mut self, b: bool)
+        ensures { datum_of self.new ≡ bool b }
+    {
+        match self {
+            Sample::Bool(there) => *there = b,
+            _ => self.put(Sample::Bool(b)),
+        }
+    }
+
+    /// Puts another value in the place of this one, in a frame of its own.
+    #[inline(never)]
+    fn replace(&mut self, value: Sample)
+        ensures { self.new ≡ value }
+    {
+        *self = value;
+    }
+
     /// A copy, whose parts are shared with it. It takes no memory; `Memory` only where a count of
     /// references is full.
+    #[inline(always)]
     pub fn try_copy(&self, _alloc: Global) -> Result<Sample, Memory>
         ensures { IfOk result (λ s. s ≡ self.now) }
     {

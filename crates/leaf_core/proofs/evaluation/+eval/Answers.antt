@@ -3,8 +3,8 @@ use Rattle.std.proofs.lemmas.Grind.{common_steps}
 use Rattle.leaf_core.proofs.Places.{element_smaller}
 use Rattle.leaf_core.proofs.evaluation.+eval.Goals as goal
 
-pub eval_elements-eval_in-requires : goal.eval_elements-eval_in-requires
-eval_elements-eval_in-requires t c = (
+pub eval_elements-eval_into-requires : goal.eval_elements-eval_into-requires
+eval_elements-eval_into-requires t c = (
   omega (
     arith,
     c.decreases,
