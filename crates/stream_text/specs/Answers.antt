@@ -117,3 +117,9 @@ pub record GivesAnswer (A : TypeTree) (s : ReaderState) (has : Option (List ℕ)
 -- no bytes are needed: the stream has ended, or those that are kept settle the next line
 abbrev pub SettlesNext : ReaderState → Type 0
 SettlesNext s = (s.met ≢ M.Nothing) ⊎ (front_lines (suc s.lines) s.kept ≢ [])
+
+-- The next line stands whole in the bytes that are kept, and holds a sample with the step d, which
+-- is answered: its value is then the last. Nothing is read.
+pub record TakesNext (A : TypeTree) (s : ReaderState) (d : ℕ) (s' : ReaderState) : Type 0 where
+  pub value : Datum
+  pub takes : TakesSample A ⊥ s s.kept (d, value) s'

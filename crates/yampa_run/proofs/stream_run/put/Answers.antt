@@ -8,6 +8,3 @@ loop-turn-preserved g c =
     let within : c.loop-turn.done + c.write_some-taken.result ≤ length c.args.bytes.now = grind
     (arith, common_steps, c.write_some-taken.ensures.within, c.loop-turn.invariant) in
     (within, written_more _ _ _ c.args.bytes.now c.loop-turn.done c.write_some-taken.result c.loop-turn.invariant.0 c.loop-turn.invariant.1 c.write_some-taken.ensures.taken)
-
-pub returns-clause-part : goal.returns-clause-part
-returns-clause-part g c = breaks_off _ _ _ c.loop-turn.done c.if-done-bytes-2.false c.loop-turn.invariant.1
