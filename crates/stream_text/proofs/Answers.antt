@@ -1,5 +1,5 @@
 -- What is known of the next line gives the answer.
-use Rattle.std.proofs.Common.{◌≡◌, ◌≤◌, ◌<◌, ◌+◌, ◌^◌, ℕ, suc, List, [], ◌∷◌, append-nil, length, take, drop, Option, Some, None, Result, Ok, Err, refl, sym, ap, ◌∙◌, subst, arith, inl, inr}
+use Rattle.std.proofs.Common.{◌≡◌, ◌≤◌, ◌<◌, ◌+◌, ◌^◌, ℕ, suc, List, [], ◌∷◌, ◌++◌, append-nil, length, take, drop, Option, Some, None, Result, Ok, Err, refl, sym, ap, ◌∙◌, subst, arith, inl, inr}
 use Rattle.std.specs.Prelude.{◌≢◌, ◌⊎◌, IfNone, IfOk, IfSome}
 use Rattle.std.proofs.lemmas.Grind.{common_steps}
 use Rattle.std.specs.Io.KnownBytes.{IsAtEnd}
@@ -222,7 +222,7 @@ next_taken A s s' d n size value e m some feed reads kept lines keeps met = go s
     }
 
 -- what is taken so is what a call answers that reads nothing
-pub next_given : (A : TypeTree) (s s' : ReaderState) (has : Option (List ℕ)) (d : ℕ) (y : Sample) → Some (datum_of y) ≡ s'.before → TakesNext A s d s'
+next_given : (A : TypeTree) (s s' : ReaderState) (has : Option (List ℕ)) (d : ℕ) (y : Sample) → Some (datum_of y) ≡ s'.before → TakesNext A s d s'
     → GivesAnswer A s has (Ok (Some (d, y))) s' has
 next_given A s s' has d y e h = record {
   got = [];
@@ -243,6 +243,24 @@ next_given A s s' has d y e h = record {
     wider M.Nothing t = t
     wider M.End t = absurd t.0
     wider M.Fault t = absurd t
+
+-- it answers the step of a sample
+pub next_step_given : (A : TypeTree) (s s' : ReaderState) (has : Option (List ℕ)) (d : ℕ) (o : Option Sample) → s'.before ≡ option_map datum_of o
+    → TakesNext A s d s' → (y : Sample) × GivesAnswer A s has (Ok (Some (d, y))) s' has
+next_step_given A s s' has d None e h = absurd (let q : ◌≡◌ {A = Option Datum} None (Some h.value) = sym e ∙ h.takes.keeps in cc)
+next_step_given A s s' has d (Some y) e h = (y, next_given A s s' has d y (sym e) h)
+
+-- a sample that was answered by its step is the last with that step
+pub last_answered : (A : TypeTree) (s s' : ReaderState) (has has' : Option (List ℕ)) (d : ℕ) (y z : Sample)
+    → GivesAnswer A s has (Ok (Some (d, y))) s' has' → Some (datum_of z) ≡ s'.before → GivesAnswer A s has (Ok (Some (d, z))) s' has'
+last_answered A s s' has has' d y z h e =
+    let same : datum_of y ≡ datum_of z = (let q : ◌≡◌ {A = Option Datum} (Some (datum_of y)) (Some (datum_of z)) = sym h.gives.keeps ∙ sym e in cc) in
+    record {
+      got = h.got;
+      consumes = h.consumes;
+      asks = h.asks;
+      gives = subst (λ v. TakesSample A (IsAtEnd has') s (s.kept ++ h.got) (d, v) s') same h.gives;
+    }
 
 -- its step is in range
 pub next_stepped : ReadingLaw → (A : TypeTree) (s s' : ReaderState) (answer : Option ℕ) → IsBefore A s.lines s.before → s.before ≢ None

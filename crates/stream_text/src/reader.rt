@@ -46,7 +46,7 @@ pub struct LineState {
 
 impl LineState {
     ghost use Rattle.std.specs.Prelude.{◌≡◌, ◌≢◌, ◌≤◌, ◌<◌, ◌^◌, suc, length, IfNone, None, Some};
-    ghost use Rattle.stream_text.specs.Answers.{GivesAnswer, IsFresh, SettlesNext, TakesNext};
+    ghost use Rattle.stream_text.specs.Answers.{GivesAnswer, GivesStep, IsFresh, SettlesNext, TakesNext};
     ghost use Rattle.stream_text.specs.LineTaken.{TakesKept, TakesLast, KeepsCopy};
     ghost use Rattle.stream_text.specs.ReaderState.{reader_state};
     ghost use Rattle.stream_text.specs.StreamText.{IsBefore, line_read};
@@ -106,11 +106,72 @@ impl LineState {
         }
     }
 
-    /// The step of the next sample, where its line is kept with its line feed and is not the first:
-    /// then the sample's value is the [`LineState::last`]. Reads nothing. `None` tells nothing of the
-    /// stream, and leaves it as it is: [`LineState::next`] answers what comes next.
+    /// The step of the next sample, whose value is then the [`LineState::last`]: else as
+    /// [`LineState::next`], but that it takes no copy of the value where what is kept tells the
+    /// sample.
     #[inline(always)]
-    pub fn next_kept(&mut self, ty: &Ty) -> Option<u64>
+    pub fn next_step<R: Read + Device>(
+        &mut self,
+        source: &mut R,
+        failures: u64,
+        ty: &Ty,
+    ) -> Result<Option<u64>, StreamFault>
+        requires { IsBefore (type_of ty.now) (reader_state self.old).lines
+            (reader_state self.old).before }
+        ensures answers { GivesStep (type_of ty.now) (reader_state self.old)
+            (R.remaining source.old) result (reader_state self.new) (R.remaining source.new) }
+        ensures failed { IfErr result (λ fault. fault ≡ Fault.Read
+            → Rose failures (R.count source.new)) }
+        ensures unasked { SettlesNext (reader_state self.old) → source.new ≡ source.old }
+        ensures stepped { IfOk result (λ o. IfSome o (λ step. 0 < (reader_state self.old).lines
+            → (1 ≤ step) × (step < 2 ^ 63))) }
+        ensures before { IsBefore (type_of ty.now) (reader_state self.new).lines
+            (reader_state self.new).before }
+        ensures few { (reader_state self.new).lines ≤ 1000000 }
+    {
+        match self.next_kept(ty) {
+            Some(step) => Ok(Some(step)),
+            None => self.read_step(source, failures, ty),
+        }
+    }
+
+    /// The same in any case.
+    #[inline(never)]
+    fn read_step<R: Read + Device>(
+        &mut self,
+        source: &mut R,
+        failures: u64,
+        ty: &Ty,
+    ) -> Result<Option<u64>, StreamFault>
+        requires { IsBefore (type_of ty.now) (reader_state self.old).lines
+            (reader_state self.old).before }
+        ensures answers { GivesStep (type_of ty.now) (reader_state self.old)
+            (R.remaining source.old) result (reader_state self.new) (R.remaining source.new) }
+        ensures failed { IfErr result (λ fault. fault ≡ Fault.Read
+            → Rose failures (R.count source.new)) }
+        ensures unasked { SettlesNext (reader_state self.old) → source.new ≡ source.old }
+        ensures stepped { IfOk result (λ o. IfSome o (λ step. 0 < (reader_state self.old).lines
+            → (1 ≤ step) × (step < 2 ^ 63))) }
+        ensures before { IsBefore (type_of ty.now) (reader_state self.new).lines
+            (reader_state self.new).before }
+        ensures few { (reader_state self.new).lines ≤ 1000000 }
+    {
+        match self.next(source, failures, ty) {
+            Ok(Some((step, sample))) => {
+                // A copy of it is kept.
+                drop(sample);
+                Ok(Some(step))
+            }
+            Ok(None) => Ok(None),
+            Err(fault) => Err(fault),
+        }
+    }
+
+    /// The step of the next sample, where its line is kept with its line feed and is not the first:
+    /// then the sample's value is the last. Reads nothing. `None` tells nothing of the stream, and
+    /// leaves it as it is.
+    #[inline(always)]
+    fn next_kept(&mut self, ty: &Ty) -> Option<u64>
         requires { IsBefore (type_of ty.now) (reader_state self.old).lines
             (reader_state self.old).before }
         ensures taken { IfSome result (λ step. TakesNext (type_of ty.now)
@@ -151,7 +212,7 @@ impl LineState {
     pub fn last(&self) -> Option<&Sample>
         ensures { before_view result ≡ (reader_state self.now).before }
     {
-        self.before.as_ref()
+        Option::as_ref(&self.before)
     }
 
     /// The next answer, where nothing has ended the stream.

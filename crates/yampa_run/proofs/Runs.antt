@@ -1,9 +1,8 @@
 -- A run, sample by sample.
-use Rattle.std.proofs.Common.{◌≡◌, ◌≤◌, ◌<◌, ◌+◌, ◌-◌, ◌^◌, ℕ, suc, List, [], ◌∷◌, ◌++◌, length, take, drop, Option, Some, None, Ok, Err, refl, sym, ap, ◌∙◌, subst, arith, append_assoc, append-nil, take-append-drop, inl, inr}
+use Rattle.std.proofs.Common.{◌≡◌, ◌≤◌, ◌<◌, ◌+◌, ◌^◌, ℕ, suc, List, [], ◌∷◌, ◌++◌, length, take, drop, Option, Some, None, Ok, Err, refl, sym, ap, ◌∙◌, subst, arith, append_assoc, append-nil, take-append-drop, inl, inr}
 use Rattle.std.specs.Prelude.{◌⊎◌, map, max}
 use Rattle.std.specs.Io.KnownBytes.{Appends, IsAtEnd}
 use Rattle.std.proofs.lemmas.List.{take_at}
-use Rattle.sample_core.specs.Adding.{Extends}
 use Rattle.sample_core.specs.Datum.{Datum}
 use Rattle.sample_core.specs.HasType.{HasType}
 use Rattle.sample_core.specs.Spelling.{spelling}
@@ -29,24 +28,22 @@ use Rattle.stream_text.proofs.FeedFree.{spelling_free}
 use Rattle.stream_text.proofs.Settling.{consumes_none}
 use Rattle.yampa_run.specs.FaultLines.{EndsRun}
 use Rattle.yampa_run.specs.Output.{spelled_lines, line_feeds, line_of_value, greatest, most_visits_of, output_of}
-use Rattle.yampa_run.specs.Runs.{RunsToEnd, IsOutput, StopsAtFault, StopsUnread, BeginsOutput, StopsWithin, Stops, Answers, BreaksOff, Gives, run_fault_of, stream_fault_of}
+use Rattle.yampa_run.specs.Runs.{RunsToEnd, IsOutput, StopsAtFault, StopsUnread, BeginsOutput, StopsWithin, Stops, Answers, IsPartOfLine, Breaks, run_fault_of, stream_fault_of}
 use Rattle.yampa_run.specs.declared.fault.RunFault.{RunFault}
 use Rattle.yampa_run.specs.declared.fault.RunFault.TheVariants as U
 use Rattle.yampa_run.specs.declared.stream_run.Stop.{Stop}
 use Rattle.yampa_run.specs.declared.stream_run.Stop.TheVariants as T
-use Rattle.yampa_run.proofs.Written.{appends_none, appends_both, breaks_none, feeds-append, feeds-lines}
+use Rattle.yampa_run.proofs.Written.{appends_none, appends_both, feeds-free, feeds-append, feeds-lines, part_free}
 
--- So far: the samples p were answered, the runner stands for them, and their lines are written but for those that are held.
-pub record Progress (A : TypeTree) (net : Network Expression) (has has' holds holds' : Option (List ℕ)) (s : ReaderState) (r : RunnerState) (held : List ℕ)
+-- So far: the samples p were answered, the runner stands for them, and their lines are written.
+pub record Progress (A : TypeTree) (net : Network Expression) (has has' holds holds' : Option (List ℕ)) (s : ReaderState) (r : RunnerState)
     (lines most : ℕ) : Type 0 where
   pub p : TimedList
   pub heard : Heard A has has' s p
   pub stands : StandsFor r p
   pub of_type : r.input ≡ A
   pub of_network : network_in r ≡ net
-  pub given : List ℕ
-  pub wrote : Appends holds holds' given
-  pub output : given ++ held ≡ spelled_lines (stream_of net p)
+  pub wrote : Appends holds holds' (spelled_lines (stream_of net p))
   pub counted : lines ≡ s.lines
   pub visited : most ≡ most_visits_of net p
   pub before : IsBefore A s.lines s.before
@@ -55,17 +52,15 @@ pub record Progress (A : TypeTree) (net : Network Expression) (has has' holds ho
 no_output : (net : Network Expression) → stream_of net [] ≡ []
 no_output net = outputs-take value_of net closed 0 []
 
-pub begins : (A : TypeTree) (net : Network Expression) (has holds : Option (List ℕ)) (s : ReaderState) (r : RunnerState) (held : List ℕ) → IsFresh s
-    → StandsFor r [] → r.input ≡ A → network_in r ≡ net → held ≡ [] → Progress A net has has holds holds s r held 0 0
-begins A net has holds s r held f st i n e = record {
+pub begins : (A : TypeTree) (net : Network Expression) (has holds : Option (List ℕ)) (s : ReaderState) (r : RunnerState) → IsFresh s → StandsFor r []
+    → r.input ≡ A → network_in r ≡ net → Progress A net has has holds holds s r 0 0
+begins A net has holds s r f st i n = record {
   p = [];
   heard = heard_none A has s f;
   stands = st;
   of_type = i;
   of_network = n;
-  given = [];
-  wrote = appends_none holds;
-  output = e ∙ sym (ap spelled_lines (no_output net));
+  wrote = subst (λ vs. Appends holds holds (spelled_lines vs)) (sym (no_output net)) (appends_none holds);
   counted = sym f.lines;
   visited = refl;
   before = subst (IsBefore A s.lines) (sym f.before) f.lines;
@@ -108,23 +103,23 @@ most_visits-push net p x =
     ∙ greatest-push (map (last_visits_of net) (prefixes p)) (last_visits_of net (p ++ x ∷ []))
 
 -- the runner may be pushed what was answered
-pub has_input : (A : TypeTree) (net : Network Expression) (has has' holds holds' : Option (List ℕ)) (s : ReaderState) (r : RunnerState) (held : List ℕ)
+pub has_input : (A : TypeTree) (net : Network Expression) (has has' holds holds' : Option (List ℕ)) (s : ReaderState) (r : RunnerState)
     (lines most : ℕ) (v : Datum)
-    → Progress A net has has' holds holds' s r held lines most → HasType v A → HasType v r.input
-has_input A net has has' holds holds' s r held lines most v g h = subst (HasType v) (sym g.of_type) h
+    → Progress A net has has' holds holds' s r lines most → HasType v A → HasType v r.input
+has_input A net has has' holds holds' s r lines most v g h = subst (HasType v) (sym g.of_type) h
 
-pub samples_are : (A : TypeTree) (net : Network Expression) (has has' holds holds' : Option (List ℕ)) (s : ReaderState) (r : RunnerState) (held : List ℕ)
-    (lines most : ℕ) → Progress A net has has' holds holds' s r held lines most → (r.samples ≡ s.lines) × (r.samples < 2 ^ 63)
-samples_are A net has has' holds holds' s r held lines most g =
+pub samples_are : (A : TypeTree) (net : Network Expression) (has has' holds holds' : Option (List ℕ)) (s : ReaderState) (r : RunnerState) (lines most : ℕ)
+    → Progress A net has has' holds holds' s r lines most → (r.samples ≡ s.lines) × (r.samples < 2 ^ 63)
+samples_are A net has has' holds holds' s r lines most g =
     let e : r.samples ≡ s.lines = g.stands.counted ∙ g.heard.count in
     (e, omega (arith, e, g.few))
 
 -- one sample more
-pub goes_on : (A : TypeTree) (net : Network Expression) (has has' has'' holds holds' : Option (List ℕ)) (s s' : ReaderState) (r r' : RunnerState)
-    (held held' : List ℕ) (lines lines' most most' : ℕ) (x : ℕ × Sample) → Progress A net has has' holds holds' s r held lines most
-    → GivesAnswer A s has' (Ok (Some x)) s' has'' → IsBefore A s'.lines s'.before → s'.lines ≤ 1000000 → Answers r (sample_view x) held r' held'
-    → lines' ≡ lines + 1 → most' ≡ max most r'.visits → Progress A net has has'' holds holds' s' r' held' lines' most'
-goes_on A net has has' has'' holds holds' s s' r r' held held' lines lines' most most' x g a b f w c v =
+pub goes_on : (A : TypeTree) (net : Network Expression) (has has' has'' holds holds' holds'' : Option (List ℕ)) (s s' : ReaderState) (r r' : RunnerState)
+    (lines most : ℕ) (x : ℕ × Sample) → Progress A net has has' holds holds' s r lines most → GivesAnswer A s has' (Ok (Some x)) s' has''
+    → IsBefore A s'.lines s'.before → s'.lines ≤ 1000000 → Answers r (sample_view x) holds' r' holds''
+    → Progress A net has has'' holds holds'' s' r' (lines + 1) (max most r'.visits)
+goes_on A net has has' has'' holds holds' holds'' s s' r r' lines most x g a b f w =
     let next : stream_of (network_in r) (g.p ++ sample_view x ∷ []) ≡ stream_of (network_in r) g.p ++ w.y ∷ [] = w.pushes.answers g.p g.stands in
     let grown : stream_of net (g.p ++ sample_view x ∷ []) ≡ stream_of net g.p ++ w.y ∷ [] =
     subst (λ m. stream_of m (g.p ++ sample_view x ∷ []) ≡ stream_of m g.p ++ w.y ∷ []) g.of_network next in
@@ -136,50 +131,24 @@ goes_on A net has has' has'' holds holds' s s' r r' held held' lines lines' most
       stands = w.pushes.stands g.p g.stands;
       of_type = w.pushes.same_input ∙ g.of_type;
       of_network = w.pushes.same_network ∙ g.of_network;
-      given = g.given;
-      wrote = g.wrote;
-      output = ap (λ h. g.given ++ h) w.holds ∙ sym (append_assoc g.given held (line_of_value w.y)) ∙ ap (λ h. h ++ line_of_value w.y) g.output
-          ∙ sym (ap spelled_lines grown ∙ spelled-append (stream_of net g.p) (w.y ∷ []));
-      counted = let l : s'.lines ≡ suc s.lines = a.gives.counts in omega (arith, l, g.counted, c);
-      visited = v ∙ ap (λ m. max m r'.visits) g.visited ∙ ap (max (most_visits_of net g.p)) seen ∙ sym (most_visits-push net g.p (sample_view x));
+      wrote = subst (Appends holds holds'')
+          (sym (ap spelled_lines grown ∙ spelled-append (stream_of net g.p) (w.y ∷ [])))
+          (appends_both holds holds' holds'' (spelled_lines (stream_of net g.p)) (line_of_value w.y) g.wrote w.writes);
+      counted = let l : s'.lines ≡ suc s.lines = a.gives.counts in omega (arith, l, g.counted);
+      visited = ap (λ m. max m r'.visits) g.visited ∙ ap (max (most_visits_of net g.p)) seen ∙ sym (most_visits-push net g.p (sample_view x));
       before = b;
       few = f;
     }
 
--- what is held, or a part of it from the front, is written
-pub gave : (A : TypeTree) (net : Network Expression) (has has' holds holds' holds'' : Option (List ℕ)) (s s' : ReaderState) (r : RunnerState)
-    (held held' : List ℕ) (lines most : ℕ) → Progress A net has has' holds holds' s r held lines most → s' ≡ s → Gives holds' holds'' held held'
-    → Progress A net has has' holds holds'' s' r held' lines most
-gave A net has has' holds holds' holds'' s s' r held held' lines most g e w =
-    subst (λ t. Progress A net has has' holds holds'' t r held' lines most) (sym e) (record {
-      p = g.p;
-      heard = g.heard;
-      stands = g.stands;
-      of_type = g.of_type;
-      of_network = g.of_network;
-      given = g.given ++ w.given;
-      wrote = appends_both holds holds' holds'' g.given w.given g.wrote w.writes;
-      output = append_assoc g.given w.given held' ∙ ap (λ h. g.given ++ h) w.parts ∙ g.output;
-      counted = g.counted;
-      visited = g.visited;
-      before = g.before;
-      few = g.few;
-    })
-
--- where nothing is held, all lines are written
-all_wrote : (A : TypeTree) (net : Network Expression) (has has' holds holds' : Option (List ℕ)) (s : ReaderState) (r : RunnerState) (lines most : ℕ)
-    → (g : Progress A net has has' holds holds' s r [] lines most) → Appends holds holds' (spelled_lines (stream_of net g.p))
-all_wrote A net has has' holds holds' s r lines most g = subst (Appends holds holds') (sym (append-nil g.given) ∙ g.output) g.wrote
-
 -- the end
 pub ends : (A : TypeTree) (net : Network Expression) (has has' has'' holds holds' : Option (List ℕ)) (s s' : ReaderState) (r : RunnerState) (lines most : ℕ)
-    → Progress A net has has' holds holds' s r [] lines most → GivesAnswer A s has' (Ok None) s' has'' → RunsToEnd A net has has'' holds holds' lines most
+    → Progress A net has has' holds holds' s r lines most → GivesAnswer A s has' (Ok None) s' has'' → RunsToEnd A net has has'' holds holds' lines most
 ends A net has has' has'' holds holds' s s' r lines most g a =
     let h : HeardAll A has has'' g.p = heard_end A has has' has'' s s' g.p g.heard a in
     record {
       read = h.read;
       written = spelled_lines (stream_of net g.p);
-      moves = record { reads = h.consumes; writes = all_wrote A net has has' holds holds' s r lines most g };
+      moves = record { reads = h.consumes; writes = g.wrote };
       whole = h.at_end;
       bytes = ap (λ k. spelled_lines (stream_of net k.taken)) (sym h.all);
       faultless = ap (λ k. k.fault) h.all;
@@ -193,12 +162,6 @@ map_holds end read P Q f (inr h) = inr (λ more. f (read ++ more) (h more))
 
 line_count : (net : Network Expression) (p : TimedList) → line_feeds (spelled_lines (stream_of net p)) ≡ length p
 line_count net p = feeds-lines (stream_of net p) ∙ length-outputs value_of net closed p
-
--- lines that were counted are written or held
-all_lines : (A : TypeTree) (net : Network Expression) (has has' holds holds' : Option (List ℕ)) (s : ReaderState) (r : RunnerState) (held : List ℕ)
-    (lines most : ℕ) → (g : Progress A net has has' holds holds' s r held lines most) → lines ≡ line_feeds g.given + line_feeds held
-all_lines A net has has' holds holds' s r held lines most g =
-    g.counted ∙ sym g.heard.count ∙ sym (line_count net g.p) ∙ sym (ap line_feeds g.output) ∙ feeds-append g.given held
 
 -- what is written of the samples p and a part of later lines begins the output of a text that begins with samples of p
 within : (A : TypeTree) (net : Network Expression) (has has' holds holds' : Option (List ℕ)) (lines : ℕ) (p : TimedList) (written rest : List ℕ)
@@ -223,19 +186,16 @@ within A net has has' holds holds' lines p written rest h w e c = record {
 -- a fault of the stream
 pub stream_stops : (A : TypeTree) (net : Network Expression) (has has' has'' holds holds' : Option (List ℕ)) (s s' : ReaderState) (r : RunnerState)
     (lines most : ℕ)
-    (fault : StreamFault) → Progress A net has has' holds holds' s r [] lines most → GivesAnswer A s has' (Err fault) s' has''
+    (fault : StreamFault) → Progress A net has has' holds holds' s r lines most → GivesAnswer A s has' (Err fault) s' has''
     → Stops A net has has'' holds holds' (stream_fault_of lines fault)
 stream_stops A net has has' has'' holds holds' s s' r lines most fault g a = go fault a.gives.why
   where
-    wrote : Appends holds holds' (spelled_lines (stream_of net g.p))
-    wrote = all_wrote A net has has' holds holds' s r lines most g
-
     at_fault : (f : StreamFault) → IsOfText f → HeardSo has has'' (λ text. samples A text ≡ record { taken = g.p; fault = Some f })
         → StopsAtFault A net has has'' holds holds' lines f
     at_fault f o h = record {
       read = h.read;
       written = spelled_lines (stream_of net g.p);
-      moves = record { reads = h.consumes; writes = wrote };
+      moves = record { reads = h.consumes; writes = g.wrote };
       of_text = o;
       output = map_holds (IsAtEnd has'') h.read (λ text. samples A text ≡ record { taken = g.p; fault = Some f })
           (IsOutput A net (spelled_lines (stream_of net g.p)) lines f)
@@ -250,7 +210,7 @@ stream_stops A net has has' has'' holds holds' s s' r lines most fault g a = go 
     unread h = record {
       read = h.read;
       written = spelled_lines (stream_of net g.p);
-      moves = record { reads = h.consumes; writes = wrote };
+      moves = record { reads = h.consumes; writes = g.wrote };
       bytes = ap (λ k. spelled_lines (stream_of net k.taken)) (sym h.all);
       faultless = ap (λ k. k.fault) h.all;
       counted = g.counted ∙ sym g.heard.count ∙ ap (λ k. length k.taken) (sym h.all);
@@ -265,60 +225,47 @@ stream_stops A net has has' has'' holds holds' s s' r lines most fault g a = go 
     go S.ReadTurns w = unread (heard_unread A has has' has'' s s' g.p a.got g.heard a.consumes w.0)
     go S.Read w = unread (heard_unread A has has' has'' s s' g.p a.got g.heard a.consumes w)
     go S.Memory w = within A net has has'' holds holds' lines g.p (spelled_lines (stream_of net g.p)) []
-        (heard_short A has has' has'' s g.p a.got g.heard a.consumes w) wrote (append-nil (spelled_lines (stream_of net g.p)))
+        (heard_short A has has' has'' s g.p a.got g.heard a.consumes w) g.wrote (append-nil (spelled_lines (stream_of net g.p)))
         (g.counted ∙ sym g.heard.count ∙ sym (line_count net g.p))
     go S.Ended w = absurd (subst (Tells A (IsAtEnd has') s g.heard.read g.p) w g.heard.tells)
 
--- a text that begins with the samples so far and one more begins with those so far
-begins_less : (A : TypeTree) (p : TimedList) (x : ℕ × Datum) (text : List ℕ) → BeginsWith A (p ++ x ∷ []) text → BeginsWith A p text
-begins_less A p x text t = (x ∷ t.0, t.1 ∙ append_assoc p (x ∷ []) t.0)
+-- a line that isn't written whole
+pub line_stops : (A : TypeTree) (net : Network Expression) (has has' has'' holds holds' holds'' : Option (List ℕ)) (s s' : ReaderState) (r r' : RunnerState)
+    (lines most : ℕ) (x : ℕ × Sample) → Progress A net has has' holds holds' s r lines most → GivesAnswer A s has' (Ok (Some x)) s' has''
+    → Breaks r (sample_view x) holds' r' holds'' → StopsWithin A net has has'' holds holds'' lines
+line_stops A net has has' has'' holds holds' holds'' s s' r r' lines most x g a b = go b.of_line
+  where
+    p' : TimedList
+    p' = g.p ++ sample_view x ∷ []
 
--- so many lines of those that are held are not written
-pub left_few : (A : TypeTree) (net : Network Expression) (has has' holds holds' : Option (List ℕ)) (s : ReaderState) (r : RunnerState) (held : List ℕ)
-    (lines most : ℕ) (a b : Option (List ℕ)) (left : ℕ) → Progress A net has has' holds holds' s r held lines most → BreaksOff a b held left → left ≤ lines
-left_few A net has has' holds holds' s r held lines most a b left g w =
-    let whole = all_lines A net has has' holds holds' s r held lines most g in
-    let parts : line_feeds held ≡ line_feeds w.part + line_feeds w.rest = ap line_feeds (sym w.parts) ∙ feeds-append w.part w.rest in
-    omega (arith, whole, parts, w.lost)
+    so_far : List ℕ
+    so_far = spelled_lines (stream_of net g.p)
 
--- the lines that are held are not all written, where the reader was read on or not
-breaks_on : (A : TypeTree) (net : Network Expression) (has has' has'' holds holds' holds'' : Option (List ℕ)) (s : ReaderState) (r : RunnerState)
-    (held : List ℕ) (lines most left : ℕ) → (g : Progress A net has has' holds holds' s r held lines most) → HeardSo has has'' (BeginsWith A g.p)
-    → BreaksOff holds' holds'' held left → StopsWithin A net has has'' holds holds'' (lines - left)
-breaks_on A net has has' has'' holds holds' holds'' s r held lines most left g h w =
-    within A net has has'' holds holds'' (lines - left) g.p (g.given ++ w.part) w.rest h
-    (appends_both holds holds' holds'' g.given w.part g.wrote w.writes)
-    (append_assoc g.given w.part w.rest ∙ ap (λ b. g.given ++ b) w.parts ∙ g.output)
-    (
-    let whole = all_lines A net has has' holds holds' s r held lines most g in
-    let parts : line_feeds held ≡ line_feeds w.part + line_feeds w.rest = ap line_feeds (sym w.parts) ∙ feeds-append w.part w.rest in
-    let written : line_feeds (g.given ++ w.part) ≡ line_feeds g.given + line_feeds w.part = feeds-append g.given w.part in
-    omega (arith, whole, parts, written, w.lost)
-    )
+    wrote : Appends holds holds'' (so_far ++ b.part)
+    wrote = appends_both holds holds' holds'' so_far b.part g.wrote b.writes
 
--- the lines that are held are not all written
-pub breaks : (A : TypeTree) (net : Network Expression) (has has' holds holds' holds'' : Option (List ℕ)) (s : ReaderState) (r : RunnerState)
-    (held : List ℕ) (lines most left : ℕ) → Progress A net has has' holds holds' s r held lines most
-    → BreaksOff holds' holds'' held left → StopsWithin A net has has' holds holds'' (lines - left)
-breaks A net has has' holds holds' holds'' s r held lines most left g w =
-    breaks_on A net has has' has' holds holds' holds'' s r held lines most left g (heard_so_far A has has' s g.p g.heard) w
+    heard : HeardSo has has'' (BeginsWith A p')
+    heard = heard_so_far A has has'' s' p' (heard_more A has has' has'' s s' g.p x g.heard a)
 
--- a sample has no answer, and no lines are held
-pub line_stops : (A : TypeTree) (net : Network Expression) (has has' has'' holds holds' : Option (List ℕ)) (s s' : ReaderState) (r : RunnerState)
-    (lines most : ℕ) (x : ℕ × Sample) → Progress A net has has' holds holds' s r [] lines most → GivesAnswer A s has' (Ok (Some x)) s' has''
-    → StopsWithin A net has has'' holds holds' lines
-line_stops A net has has' has'' holds holds' s s' r lines most x g a =
-    let h : HeardSo has has'' (BeginsWith A (g.p ++ sample_view x ∷ [])) =
-    heard_so_far A has has'' s' (g.p ++ sample_view x ∷ []) (heard_more A has has' has'' s s' g.p x g.heard a) in
-    let all : lines - 0 ≡ lines = omega arith in
-    subst (StopsWithin A net has has'' holds holds') all
-    (breaks_on A net has has' has'' holds holds' holds' s r [] lines most 0 g
-    (record {
-      read = h.read;
-      consumes = h.consumes;
-      so = map_holds (IsAtEnd has'') h.read (BeginsWith A (g.p ++ sample_view x ∷ [])) (BeginsWith A g.p) (begins_less A g.p (sample_view x)) h.so;
-    })
-    (breaks_none holds' holds' [] (appends_none holds')))
+    whole : lines ≡ line_feeds so_far
+    whole = g.counted ∙ sym g.heard.count ∙ sym (line_count net g.p)
+
+    count : line_feeds b.part ≡ 0 → lines ≡ line_feeds (so_far ++ b.part)
+    count e = let f : line_feeds (so_far ++ b.part) ≡ line_feeds so_far + line_feeds b.part = feeds-append so_far b.part in
+        let w : lines ≡ line_feeds so_far = whole in omega (arith, e, f, w)
+
+    go : (b.part ≡ []) ⊎ IsPartOfLine r (sample_view x) r' b.part → StopsWithin A net has has'' holds holds'' lines
+    go (inl e) =
+        let later = later_lines net g.p (sample_view x ∷ []) in
+        within A net has has'' holds holds'' lines p' (so_far ++ b.part) (spelled_lines later.0) heard wrote
+        (ap (λ q. (so_far ++ q) ++ spelled_lines later.0) e ∙ ap (λ q. q ++ spelled_lines later.0) (append-nil so_far) ∙ later.1) (count (ap line_feeds e))
+    go (inr l) =
+        let next : stream_of (network_in r) (g.p ++ sample_view x ∷ []) ≡ stream_of (network_in r) g.p ++ l.y ∷ [] = l.pushes.answers g.p g.stands in
+        let grown : stream_of net (g.p ++ sample_view x ∷ []) ≡ stream_of net g.p ++ l.y ∷ [] =
+        subst (λ m. stream_of m (g.p ++ sample_view x ∷ []) ≡ stream_of m g.p ++ l.y ∷ []) g.of_network next in
+        within A net has has'' holds holds'' lines p' (so_far ++ b.part) l.rest heard wrote
+        (append_assoc so_far b.part l.rest ∙ ap (λ q. so_far ++ q) l.parts ∙ sym (ap spelled_lines grown ∙ spelled-append (stream_of net g.p) (l.y ∷ [])))
+        (count (feeds-free b.part (part_free b.part l.rest (spelling l.y) l.parts l.more (spelling_free l.y))))
 
 -- the same as what ends the run
 pub stops : (A : TypeTree) (net : Network Expression) (has has' holds holds' : Option (List ℕ)) (lines : ℕ) (stop : Stop)
@@ -341,10 +288,6 @@ answered A net has has' holds holds' (U.Stream lines S.Memory) h = tt
 answered A net has has' holds holds' (U.Stream lines S.Ended) h = h.of_text
 answered A net has has' holds holds' (U.Write lines) h = tt
 answered A net has has' holds holds' (U.Memory lines) h = tt
-
--- what was held before a line was refused is still the beginning of the text
-pub held_before : (old new bytes : List ℕ) (n : ℕ) → Extends old new → bytes ≡ new → n ≡ length old → take n bytes ≡ old
-held_before old new bytes n e b l = ap (take n) (b ∙ e.joined) ∙ ap (λ k. take k (old ++ e.behind)) l ∙ take_at old e.behind (length old) refl
 
 -- a run that ends before its first read
 pub nothing_moved : (A : TypeTree) (net : Network Expression) (has holds : Option (List ℕ)) → StopsWithin A net has has holds holds 0

@@ -1,5 +1,5 @@
 -- What is written of bytes, part by part.
-use Rattle.std.proofs.Common.{◌≡◌, ◌≤◌, ◌<◌, ◌+◌, ◌-◌, ℕ, suc, Bool, true, false, if◌then◌else◌, List, [], ◌∷◌, ◌++◌, length, get_or, take, drop, Option, Some, None, refl, sym, ap, ◌∙◌, subst, arith, append_assoc, append-nil, zero-add, take-add, take-append-drop}
+use Rattle.std.proofs.Common.{◌≡◌, ◌≤◌, ◌<◌, ◌+◌, ◌-◌, ℕ, suc, Bool, true, false, if◌then◌else◌, List, [], ◌∷◌, ◌++◌, length, take, drop, Option, Some, None, refl, sym, ap, ◌∙◌, subst, arith, append_assoc, append-nil, zero-add, take-add, take-append-drop}
 use Rattle.std.proofs.lemmas.Grind.{common_steps}
 use Rattle.std.specs.Io.KnownBytes.{Appends}
 use Rattle.std.specs.Prelude.{nat_eq}
@@ -8,8 +8,8 @@ use Rattle.yampa_run.specs.Output.{line_feeds, spelled_lines}
 use Rattle.sample_core.specs.Datum.{Datum}
 use Rattle.sample_core.specs.Spelling.{spelling}
 use Rattle.stream_text.specs.TextLines.{IsFeedFree}
-use Rattle.stream_text.proofs.FeedFree.{spelling_free}
-use Rattle.yampa_run.specs.Runs.{BreaksOff, Gives}
+use Rattle.stream_text.proofs.FeedFree.{none_free, cons_free, spelling_free}
+use Rattle.yampa_run.specs.Runs.{BreaksOff}
 
 pub appends_none : (a : Option (List ℕ)) → Appends a a []
 appends_none None = tt
@@ -32,26 +32,14 @@ pub written_more : (a b c : Option (List ℕ)) (bytes : List ℕ) (done n : ℕ)
 written_more a b c bytes done n l h k =
     subst (Appends a c) (take_both bytes done n l) (appends_both a b c (take done bytes) (take n (take (length bytes - done) (drop done bytes))) h k)
 
-pub breaks_off : (a b : Option (List ℕ)) (bytes : List ℕ) (done left : ℕ) → Appends a b (take done bytes)
-    → left ≡ line_feeds (take (length bytes - done) (drop done bytes)) → BreaksOff a b bytes left
-breaks_off a b bytes done left h e = record {
+pub breaks_off : (a b : Option (List ℕ)) (bytes : List ℕ) (done : ℕ) → done < length bytes → Appends a b (take done bytes) → BreaksOff a b bytes
+breaks_off a b bytes done l h = record {
   part = take done bytes;
   rest = drop done bytes;
   parts = take-append-drop done bytes;
+  more = grind (arith, common_steps);
   writes = h;
-  lost = let rest : take (length bytes - done) (drop done bytes) ≡ drop done bytes = grind (arith, common_steps) in e ∙ ap line_feeds rest;
 }
-
--- all is given
-pub breaks_none : (a b : Option (List ℕ)) (bytes : List ℕ) → Appends a b bytes → BreaksOff a b bytes 0
-breaks_none a b bytes h = record { part = bytes; rest = []; parts = append-nil bytes; writes = h; lost = refl }
-
--- all or nothing of what is held
-pub gives_all : (a b : Option (List ℕ)) (bytes : List ℕ) → Appends a b bytes → Gives a b bytes []
-gives_all a b bytes h = record { given = bytes; parts = append-nil bytes; writes = h }
-
-pub gives_none : (a : Option (List ℕ)) (bytes : List ℕ) → Gives a a bytes bytes
-gives_none a bytes = record { given = []; parts = refl; writes = appends_none a }
 
 -- bytes without line feed have none
 pub feeds-free : (bs : List ℕ) → IsFeedFree bs → line_feeds bs ≡ 0
@@ -81,18 +69,15 @@ feeds-lines (v ∷ vs) =
     let c : line_feeds (spelled_lines vs) ≡ length vs = feeds-lines vs in
     omega (arith, a, b, c)
 
--- bytes have at most as many line feeds as they are
-pub feeds_few : (bs : List ℕ) → line_feeds bs ≤ length bs
-feeds_few [] = omega arith
-feeds_few (b ∷ bs) = go (nat_eq b 10) (feeds_few bs)
-  where
-    go : (p : Bool) → line_feeds bs ≤ length bs → (if p then suc (line_feeds bs) else line_feeds bs) ≤ suc (length bs)
-    go true e = omega (arith, e)
-    go false e = omega (arith, e)
+no_bytes : (xs ys : List ℕ) → xs ++ ys ≡ [] → length ys ≡ 0
+no_bytes [] ys e = ap (λ l. length l) e
+no_bytes (x ∷ xs) ys e = absurd (cc)
 
--- a byte more
-pub feeds_next : (bs : List ℕ) (i : ℕ) → i < length bs → line_feeds (take (i + 1) bs) ≡ line_feeds (take i bs) + line_feeds (get_or bs i 0 ∷ [])
-feeds_next bs i l = ap line_feeds (take_next bs i l) ∙ feeds-append (take i bs) (get_or bs i 0 ∷ [])
-  where
-    take_next : (xs : List ℕ) (n : ℕ) → n < length xs → take (n + 1) xs ≡ take n xs ++ get_or xs n 0 ∷ []
-    take_next xs n m = grind (arith, common_steps)
+-- a part of a line, but not all of it, has no line feed
+pub part_free : (part rest bytes : List ℕ) → part ++ rest ≡ bytes ++ 10 ∷ [] → 0 < length rest → IsFeedFree bytes → IsFeedFree part
+part_free [] rest bytes e l f = none_free
+part_free (p ∷ ps) rest [] e l f = absurd (let none : length rest ≡ 0 = no_bytes ps rest (let t : ps ++ rest ≡ [] = cc in t) in omega (arith, l, none))
+part_free (p ∷ ps) rest (b ∷ bs) e l f =
+    let same : p ≡ b = cc in
+    let more : ps ++ rest ≡ bs ++ 10 ∷ [] = cc in
+    cons_free p ps (λ h. f 0 (omega arith) (sym same ∙ h)) (part_free ps rest bs more l (λ k m. f (suc k) (omega arith)))

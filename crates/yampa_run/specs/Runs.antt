@@ -1,5 +1,5 @@
 -- What a run does, from a reader to a writer.
-use Rattle.std.specs.Prelude.{◌≡◌, ℕ, List, [], ◌++◌, length, Option, None, Some, ⊤}
+use Rattle.std.specs.Prelude.{◌≡◌, ◌⊎◌, ◌<◌, ℕ, List, [], ◌++◌, length, Option, None, Some, ⊤}
 use Rattle.std.specs.Io.KnownBytes.{Appends, Consumes, IsAtEnd}
 use Rattle.sample_core.specs.Datum.{Datum}
 use Rattle.sample_core.specs.TypeTree.{TypeTree}
@@ -99,26 +99,36 @@ FailsByDevice reads reads' writes writes' (U.Stream lines S.Read) = Rose reads r
 FailsByDevice reads reads' writes writes' (U.Write lines) = Rose writes writes'
 FailsByDevice reads reads' writes writes' _ = ⊤
 
--- The network takes the sample x in and answers y, and y's line is held behind the others.
-pub record Answers (r : RunnerState) (x : ℕ × Datum) (held : List ℕ) (r' : RunnerState)
-    (held' : List ℕ) : Type 0 where
+-- The network takes the sample x in and answers y, and y's line is written.
+pub record Answers (r : RunnerState) (x : ℕ × Datum) (holds : Option (List ℕ)) (r' : RunnerState)
+    (holds' : Option (List ℕ)) : Type 0 where
   pub y : Datum
   pub pushes : Pushes r x y r'
-  pub holds : held' ≡ held ++ line_of_value y
+  pub writes : Appends holds holds' (line_of_value y)
 
--- of the bytes that are held those from the front are given to the writer, and the others still held
-pub record Gives (holds holds' : Option (List ℕ)) (held held' : List ℕ) : Type 0 where
-  pub given : List ℕ
-  pub parts : given ++ held' ≡ held
-  pub writes : Appends holds holds' given
+-- a part of the line of what the network answers to the sample, but not all
+pub record IsPartOfLine (r : RunnerState) (x : ℕ × Datum) (r' : RunnerState) (part : List ℕ) : Type
+    0 where
+  pub y : Datum
+  pub pushes : Pushes r x y r'
+  pub rest : List ℕ
+  pub parts : part ++ rest ≡ line_of_value y
+  pub more : 0 < length rest
 
--- of the bytes a part from the front is given to the writer, and so many line feeds are not
-pub record BreaksOff (holds holds' : Option (List ℕ)) (bytes : List ℕ) (left : ℕ) : Type 0 where
+-- of the bytes a part from the front is given to the writer, but not all
+pub record BreaksOff (holds holds' : Option (List ℕ)) (bytes : List ℕ) : Type 0 where
   pub part : List ℕ
   pub rest : List ℕ
   pub parts : part ++ rest ≡ bytes
+  pub more : 0 < length rest
   pub writes : Appends holds holds' part
-  pub lost : left ≡ line_feeds rest
+
+-- The line of what the network answers to the sample is not written whole.
+pub record Breaks (r : RunnerState) (x : ℕ × Datum) (holds : Option (List ℕ)) (r' : RunnerState)
+    (holds' : Option (List ℕ)) : Type 0 where
+  pub part : List ℕ
+  pub writes : Appends holds holds' part
+  pub of_line : (part ≡ []) ⊎ IsPartOfLine r x r' part
 
 -- what stops a run at a line
 abbrev pub run_fault_of : ℕ → Stop → RunFault

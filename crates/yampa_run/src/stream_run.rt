@@ -1,8 +1,7 @@
 // Runs of a network from a reader to a writer.
 
-ghost use Rattle.std.specs.Prelude.{◌≡◌, ◌<◌, ◌≤◌, ◌+◌, ◌^◌, ◌∷◌, [], IfErr, IfOk, OnErr, OnOk, length, max, string_bytes, take};
+ghost use Rattle.std.specs.Prelude.{◌≡◌, ◌<◌, ◌≤◌, ◌^◌, ℕ, List, Option, [], IfErr, IfOk, OnErr, OnOk, length, string_bytes, take, true};
 ghost use Rattle.std.specs.Io.KnownBytes.{Appends};
-ghost use Rattle.sample_core.specs.Adding.{Adds, Extends};
 ghost use Rattle.sample_core.specs.HasType.{HasType};
 ghost use Rattle.sample_core.specs.TypeView.{type_of};
 ghost use Rattle.sample_core.specs.ValueView.{datum_of};
@@ -15,8 +14,8 @@ ghost use Rattle.stream_text.specs.Failures.{Rose};
 ghost use Rattle.stream_text.specs.Answers.{IsFresh};
 ghost use Rattle.stream_text.specs.ReaderState.{reader_state};
 ghost use Rattle.yampa_run.specs.FaultLines.{EndsRun};
-ghost use Rattle.yampa_run.specs.Output.{line_feeds, line_of_value};
-ghost use Rattle.yampa_run.specs.Runs.{Answers, BreaksOff, FailsByDevice, Gives, RunsToEnd, Stops, run_fault_of, stream_fault_of};
+ghost use Rattle.yampa_run.specs.Output.{line_of_value};
+ghost use Rattle.yampa_run.specs.Runs.{Answers, Breaks, BreaksOff, FailsByDevice, RunsToEnd, Stops, run_fault_of, stream_fault_of};
 ghost use Rattle.yampa_run.specs.declared.stream_run.Stop.TheVariants as T;
 
 use crate::fault::{RunFault, RunReport};
@@ -26,9 +25,6 @@ use std::alloc::Global;
 use std::io::{Read, Write};
 use step_core::{Bound, Runner};
 use stream_text::{Device, LineState, StreamFault};
-
-/// So many bytes of lines are written, although no more input is asked for.
-const MANY: usize = 4_096;
 
 /// Why a line of output isn't written whole.
 #[derive(Clone, Copy)]
@@ -40,8 +36,8 @@ pub enum Stop {
 }
 
 /// Runs the network on the stream that the reader gives, over the table that it was bound to or
-/// that table with more rows. Writes a line for each sample, before it asks the reader for more
-/// bytes: the spelling of what the network outputs, and a line feed. Never flushes the writer.
+/// that table with more rows. Writes a line for each sample, before it asks for the next: the
+/// spelling of what the network outputs, and a line feed. Never flushes the writer.
 ///
 /// A refusal counts the lines that were wholly written; nothing but what begins the output is.
 /// `Stream`: the stream's first fault, as `LineState::next` answers it; the lines of the samples
@@ -97,7 +93,7 @@ struct Failures {
 }
 
 /// Runs a network that has not started, with inputs of the type, on a stream of which nothing was
-/// read. `text` holds lines until they are many or more input is asked for; it is empty.
+/// read. `text` is room for a line.
 fn run_on<R: Read + Device, W: Write + Device>(
     ty: &Ty,
     stream: &mut LineState,
@@ -110,7 +106,6 @@ fn run_on<R: Read + Device, W: Write + Device>(
     requires fresh { IsFresh (reader_state stream.old) }
     requires ready { StandsFor (runner_state runner.old) [] }
     requires of_type { (runner_state runner.old).input ≡ type_of ty.now }
-    requires empty { string_bytes text.old ≡ [] }
     ensures done { IfOk result (λ report. RunsToEnd (type_of ty.now)
         (network_in (runner_state runner.old)) (R.remaining reader.old) (R.remaining reader.new)
         (W.contents writer.old) (W.contents writer.new) report.lines report.most_visits) }
@@ -121,48 +116,23 @@ fn run_on<R: Read + Device, W: Write + Device>(
         failures.writes (W.count writer.new)) }
     ensures answered { IfErr result EndsRun }
 {
-    let mut report = RunReport {
-        lines: 0,
-        most_visits: 0,
-    };
+    let mut lines: u64 = 0;
+    let mut most_visits: u32 = 0;
     loop {
-        match stream.next_kept(ty) {
-            Some(step) => {
+        match stream.next_step(reader, failures.reads, ty) {
+            Ok(Some(step)) => {
                 let Some(sample) = stream.last() else {
                     unreachable!()
                 };
-                let held = text.len();
-                match answer(step, sample, runner, text, &mut report) {
+                match answer(step, sample, runner, text, failures.writes, writer) {
                     Ok(()) => {}
-                    Err(Memory) => {
-                        let before = &text.as_bytes()[..held];
-                        let (stop, left) = give_up(writer, failures.writes, before);
-                        return Err(stopped(report.lines - left, stop));
-                    }
+                    Err(stop) => return Err(stopped(lines, stop)),
                 }
-                match give_many(writer, failures.writes, text) {
-                    Ok(()) => {}
-                    Err((stop, left)) => return Err(stopped(report.lines - left, stop)),
-                }
+                lines += 1;
+                most_visits = most_visits.max(runner.last_visits());
             }
-            None => {
-                match give(writer, failures.writes, text) {
-                    Ok(()) => {}
-                    Err((stop, left)) => return Err(stopped(report.lines - left, stop)),
-                }
-                match stream.next(reader, failures.reads, ty) {
-                    Ok(Some((step, sample))) => {
-                        let held = answer(step, &sample, runner, text, &mut report);
-                        drop(sample);
-                        match held {
-                            Ok(()) => {}
-                            Err(Memory) => return Err(stopped(report.lines, Stop::Memory)),
-                        }
-                    }
-                    Ok(None) => return Ok(report),
-                    Err(fault) => return Err(ended(report.lines, fault)),
-                }
-            }
+            Ok(None) => return Ok(RunReport { lines, most_visits }),
+            Err(fault) => return Err(ended(lines, fault)),
         }
     }
 }
@@ -187,163 +157,117 @@ fn ended(lines: u64, fault: StreamFault) -> RunFault
     }
 }
 
-/// Runs the network on one sample, holds the line of its answer back behind the others, and counts
-/// it. `Memory`: a growth was refused; the text may then end with a part of the line.
+/// Runs the network on one sample, and writes the line of its answer.
 #[inline(always)]
-fn answer(
+fn answer<W: Write + Device>(
     step: u64,
     sample: &Sample,
     runner: &mut Runner<'_>,
     text: &mut String,
-    report: &mut RunReport,
-) -> Result<(), Memory>
+    failures: u64,
+    writer: &mut W,
+) -> Result<(), Stop>
     requires typed { HasType (datum_of sample.now) (runner_state runner.old).input }
     requires later { 0 < (runner_state runner.old).samples → (1 ≤ step) × (step < 2 ^ 63) }
     requires room { (runner_state runner.old).samples < 2 ^ 63 }
-    requires few { report.old.lines < 2 ^ 63 }
     ensures answers { OnOk result
-        (Answers (runner_state runner.old) (step, datum_of sample.now) (string_bytes text.old)
-        (runner_state runner.new) (string_bytes text.new)) }
-    ensures counted { OnOk result (report.new.lines ≡ report.old.lines + 1) }
-    ensures visited { OnOk result (report.new.most_visits
-        ≡ max report.old.most_visits (runner_state runner.new).visits) }
-    ensures refused { OnErr result (Extends (string_bytes text.old) (string_bytes text.new)
-        × (report.new ≡ report.old)) }
+        (Answers (runner_state runner.old) (step, datum_of sample.now) (W.contents writer.old)
+        (runner_state runner.new) (W.contents writer.new)) }
+    ensures breaks { OnErr result
+        (Breaks (runner_state runner.old) (step, datum_of sample.now) (W.contents writer.old)
+        (runner_state runner.new) (W.contents writer.new)) }
+    ensures failed { IfErr result (λ stop. stop ≡ T.Write
+        → Rose failures (W.count writer.new)) }
 {
-    match runner.push(step, sample) {
-        Ok(answer) => {
-            let spelled = spell(text, &answer);
-            drop(answer);
-            match spelled {
-                Ok(()) => {
-                    report.lines += 1;
-                    report.most_visits = report.most_visits.max(runner.last_visits());
-                    Ok(())
-                }
-                Err(Memory) => Err(Memory),
-            }
-        }
-        Err(Memory) => Err(Memory),
+    let Ok(answer) = runner.push(step, sample) else {
+        return Err(Stop::Memory);
+    };
+    let spelled = spell(text, &answer);
+    drop(answer);
+    match spelled {
+        Ok(()) => put(writer, failures, text.as_bytes()),
+        Err(Memory) => Err(Stop::Memory),
     }
 }
 
-/// Adds the line of a value to the text.
+/// Puts the line of a value into the text, in place of what stands there.
 #[inline(always)]
 fn spell(text: &mut String, value: &Sample) -> Result<(), Memory>
-    ensures { Adds result (string_bytes text.old) (string_bytes text.new)
-        (line_of_value (datum_of value.now)) }
+    ensures { OnOk result (string_bytes text.new ≡ line_of_value (datum_of value.now)) }
 {
+    text.clear();
     push_value(text, value)?;
     text.push_str("\n")?;
     Ok(())
 }
 
-/// Writes the lines that are held, if they are many. Refused as [`give`].
+/// Writes all of the bytes, or a part from the front. `Write`: a write failed or took no byte, so
+/// that the writer has failed more often than `failures`. A failure that the writer doesn't count
+/// is none, and the write is made again; `Memory` after 2^64 of these.
 #[inline(always)]
-fn give_many<W: Write + Device>(
-    writer: &mut W,
-    failures: u64,
-    text: &mut String,
-) -> Result<(), (Stop, u64)>
-    ensures gives { OnOk result (Gives (W.contents writer.old) (W.contents writer.new)
-        (string_bytes text.old) (string_bytes text.new)) }
-    ensures part { IfErr result (λ e. BreaksOff (W.contents writer.old) (W.contents writer.new)
-        (string_bytes text.old) e.1) }
-    ensures failed { IfErr result (λ e. e.0 ≡ T.Write → Rose failures (W.count writer.new)) }
-{
-    if text.len() < MANY {
-        Ok(())
-    } else {
-        give(writer, failures, text)
-    }
-}
-
-/// Writes the lines that are held, and holds none. Refused as [`put`].
-fn give<W: Write + Device>(
-    writer: &mut W,
-    failures: u64,
-    text: &mut String,
-) -> Result<(), (Stop, u64)>
-    ensures gives { OnOk result (Gives (W.contents writer.old) (W.contents writer.new)
-        (string_bytes text.old) []) }
-    ensures empty { OnOk result (string_bytes text.new ≡ []) }
-    ensures part { IfErr result (λ e. BreaksOff (W.contents writer.old) (W.contents writer.new)
-        (string_bytes text.old) e.1) }
-    ensures failed { IfErr result (λ e. e.0 ≡ T.Write → Rose failures (W.count writer.new)) }
-{
-    match put(writer, failures, text.as_bytes()) {
-        Ok(()) => {
-            text.clear();
-            Ok(())
-        }
-        Err(refused) => Err(refused),
-    }
-}
-
-/// Writes the bytes before a run ends for want of memory. Answers why it ends, and how many line
-/// feeds of the bytes were not written.
-#[inline(never)]
-fn give_up<W: Write + Device>(writer: &mut W, failures: u64, bytes: &[u8]) -> (Stop, u64)
-    ensures part { BreaksOff (W.contents writer.old) (W.contents writer.new) bytes.now result.1 }
-    ensures failed { result.0 ≡ T.Write → Rose failures (W.count writer.new) }
-{
-    match put(writer, failures, bytes) {
-        Ok(()) => (Stop::Memory, 0),
-        Err(refused) => refused,
-    }
-}
-
-/// Writes all of the bytes, or a part from the front; then it answers also how many line feeds are
-/// not written. `Write`: a write failed or took no byte, so that the writer has failed more often
-/// than `failures`. A failure that the writer doesn't count is none, and the write is made again;
-/// `Memory` after 2^64 of these.
-#[inline(never)]
-fn put<W: Write + Device>(writer: &mut W, failures: u64, bytes: &[u8]) -> Result<(), (Stop, u64)>
+fn put<W: Write + Device>(writer: &mut W, failures: u64, bytes: &[u8]) -> Result<(), Stop>
     ensures all { OnOk result (Appends (W.contents writer.old) (W.contents writer.new)
         bytes.now) }
-    ensures part { IfErr result (λ e. BreaksOff (W.contents writer.old) (W.contents writer.new)
-        bytes.now e.1) }
-    ensures failed { IfErr result (λ e. e.0 ≡ T.Write → Rose failures (W.count writer.new)) }
+    ensures part { OnErr result (BreaksOff (W.contents writer.old) (W.contents writer.new)
+        bytes.now) }
+    ensures failed { IfErr result (λ stop. stop ≡ T.Write
+        → Rose failures (W.count writer.new)) }
 {
-    let mut done = 0usize;
+    // Mostly the first write takes all.
+    let taken = write_some(writer, bytes);
+    if taken == bytes.len() {
+        Ok(())
+    } else {
+        put_on(writer, failures, bytes, taken)
+    }
+}
+
+/// The same where a first write took so many bytes, but not all.
+#[inline(never)]
+fn put_on<W: Write + Device>(
+    writer: &mut W,
+    failures: u64,
+    bytes: &[u8],
+    first: usize,
+) -> Result<(), Stop>
+    requires less { first < length bytes.now }
+    ensures all { (from : Option (List ℕ)) → Appends from (W.contents writer.old)
+        (take first bytes.now) → OnOk result (Appends from (W.contents writer.new) bytes.now) }
+    ensures part { (from : Option (List ℕ)) → Appends from (W.contents writer.old)
+        (take first bytes.now) → OnErr result (BreaksOff from (W.contents writer.new) bytes.now) }
+    ensures failed { IfErr result (λ stop. stop ≡ T.Write
+        → Rose failures (W.count writer.new)) }
+{
+    if first == 0 && has_failed(writer, failures) {
+        return Err(Stop::Write);
+    }
+    let mut done = first;
     for _turn in 0..u64::MAX {
         if done >= bytes.len() {
             return Ok(());
         }
         let taken = write_some(writer, &bytes[done..]);
-        if taken == 0 {
-            let after = writer.failures();
-            if failures < after || after == u64::MAX {
-                return Err((Stop::Write, feeds(&bytes[done..])));
-            }
+        if taken == 0 && has_failed(writer, failures) {
+            return Err(Stop::Write);
         }
         done += taken;
     }
     if done >= bytes.len() {
         return Ok(());
     }
-    Err((Stop::Memory, feeds(&bytes[done..])))
+    Err(Stop::Memory)
 }
 
-/// How many line feeds there are.
-fn feeds(bytes: &[u8]) -> u64
-    ensures { result ≡ line_feeds bytes.now }
+/// Whether the writer has failed more often than that, as far as it counts.
+fn has_failed<W: Device>(writer: &W, failures: u64) -> bool
+    ensures { result ≡ true → Rose failures (W.count writer.now) }
 {
-    let mut count: u64 = 0;
-    for byte in bytes {
-        count += feed(*byte);
-    }
-    count
-}
-
-/// How many line feeds the byte is.
-fn feed(byte: u8) -> u64
-    ensures { result ≡ line_feeds (byte ∷ []) }
-{
-    if byte == b'\n' { 1 } else { 0 }
+    let after = writer.failures();
+    failures < after || after == u64::MAX
 }
 
 /// Writes once. Answers how many bytes were taken, none where the write failed.
+#[inline(always)]
 fn write_some<W: Write>(writer: &mut W, bytes: &[u8]) -> usize
     ensures within { result ≤ length bytes.now }
     ensures taken { Appends (W.contents writer.old) (W.contents writer.new)

@@ -1,5 +1,4 @@
 use Rattle.std.proofs.Common.{◌-◌}
-use Rattle.std.specs.Prelude.{string_bytes}
 use Rattle.sample_core.specs.TypeView.{type_of}
 use Rattle.step_core.specs.RunnerState.{network_in}
 use Rattle.step_core.specs.RunnerView.{runner_state}
@@ -9,8 +8,7 @@ use Rattle.yampa_run.proofs.stream_run.run_on.Given as goal
 
 abbrev pub invariant-loop-step : goal.invariant-loop-step
 invariant-loop-step g l = Progress (type_of l.ty) (network_in (runner_state l.fn.runner)) (g.R.Read.remaining l.fn.reader) (g.R.Read.remaining l.reader)
-    (g.W.Write.contents l.fn.writer) (g.W.Write.contents l.writer) (reader_state l.stream) (runner_state l.runner) (string_bytes l.text)
-    l.report.lines l.report.most_visits
+    (g.W.Write.contents l.fn.writer) (g.W.Write.contents l.writer) (reader_state l.stream) (runner_state l.runner) l.lines l.most_visits
 
 abbrev pub decreases-loop-step : goal.decreases-loop-step
-decreases-loop-step g l = 1000000 - l.report.lines
+decreases-loop-step g l = 1000000 - l.lines
