@@ -1,6 +1,6 @@
 -- What is known of the next line gives the answer.
-use Rattle.std.proofs.Common.{◌≡◌, ◌≤◌, ◌<◌, ◌+◌, ◌^◌, ℕ, suc, List, [], ◌∷◌, length, take, drop, Option, Some, None, Result, Ok, Err, refl, sym, ap, ◌∙◌, subst, arith, inl, inr}
-use Rattle.std.specs.Prelude.{◌≢◌, ◌⊎◌, IfOk, IfSome}
+use Rattle.std.proofs.Common.{◌≡◌, ◌≤◌, ◌<◌, ◌+◌, ◌^◌, ℕ, suc, List, [], ◌∷◌, ◌++◌, append-nil, length, take, drop, Option, Some, None, Result, Ok, Err, refl, sym, ap, ◌∙◌, subst, arith, inl, inr}
+use Rattle.std.specs.Prelude.{◌≢◌, ◌⊎◌, IfNone, IfOk, IfSome}
 use Rattle.std.proofs.lemmas.Grind.{common_steps}
 use Rattle.std.specs.Io.KnownBytes.{IsAtEnd}
 use Rattle.std.specs.Option.{option_map, option_copied}
@@ -11,12 +11,12 @@ use Rattle.sample_core.specs.ReadingLaws.{ReadingLaw}
 use Rattle.sample_core.specs.TypeTree.{TypeTree}
 use Rattle.sample_core.specs.ValueView.{datum_of}
 use Rattle.sample_core.specs.declared.sample.Sample.{Sample}
-use Rattle.stream_text.specs.Answers.{ReaderState, SameLast, TakesLine, KnownLine, ended, shown, last, Unfinished, HasFault, IsAnswer, GivesAnswer}
+use Rattle.stream_text.specs.Answers.{ReaderState, SameLast, TakesLine, TakesSample, TakesNext, KnownLine, ended, shown, last, Unfinished, HasFault, IsAnswer, GivesAnswer}
 use Rattle.stream_text.specs.LineTaken.{TakesKept, TakesLast}
 use Rattle.stream_text.specs.Settling.{AsksAsNeeded, IsSettled, SettlesLine, Settles}
 use Rattle.stream_text.specs.StreamText.{IsBefore, line_read}
-use Rattle.stream_text.specs.StreamView.{before_view, sample_view}
-use Rattle.stream_text.specs.TextLines.{HasLine, front_lines, shows_fault}
+use Rattle.stream_text.specs.StreamView.{before_view, sample_view, value_behind}
+use Rattle.stream_text.specs.TextLines.{HasLine, IsFirstFeed, front_lines, shows_fault}
 use Rattle.stream_text.specs.declared.fault.StreamFault.{StreamFault}
 use Rattle.stream_text.specs.declared.fault.StreamFault.TheVariants as S
 use Rattle.stream_text.specs.declared.reader.Met.{Met}
@@ -24,6 +24,7 @@ use Rattle.stream_text.specs.declared.reader.Met.TheVariants as M
 use Rattle.stream_text.specs.declared.settle.Settled.{Settled}
 use Rattle.stream_text.specs.declared.settle.Settled.TheVariants as T
 use Rattle.stream_text.proofs.Lines.{has_line, one_line}
+use Rattle.stream_text.proofs.Settling.{consumes_none}
 use Rattle.stream_text.proofs.Samples.{refused_of_text, shown_no_sample, read_typed, read_step}
 
 -- the state with the bytes that are kept after reading on, and the number of reads
@@ -197,3 +198,84 @@ before_kept law A s s' has has' (Ok (Some x)) b h = subst (IsBefore A s'.lines) 
     (read_typed law A (suc s.lines) s.lines s.before h.gives.line (sample_view x) b h.gives.reads)
 before_kept law A s s' has has' (Ok None) b h = same_before A s s' h.gives.same b
 before_kept law A s s' has has' (Err fault) b h = same_before A s s' h.gives.same b
+
+-- a line that is kept whole and holds a sample is taken
+pub next_taken : (A : TypeTree) (s s' : ReaderState) (d n size : ℕ) (value : Option Sample) → n ≡ suc s.lines → s.met ≡ M.Nothing → s.before ≢ None
+    → IsFirstFeed s.kept size → ((b : Datum) → line_read A n (Some b) (take size s.kept) ≡ Ok (d, value_behind b value))
+    → s'.kept ≡ drop (size + 1) s.kept → s'.lines ≡ suc s.lines → ((v : Datum) → s.before ≡ Some v → s'.before ≡ Some (value_behind v value))
+    → s'.met ≡ s.met → TakesNext A s d s'
+next_taken A s s' d n size value e m some feed reads kept lines keeps met = go s.before refl
+  where
+    go : (o : Option Datum) → s.before ≡ o → TakesNext A s d s'
+    go None q = absurd (some q)
+    go (Some v) q = record {
+      value = value_behind v value;
+      takes = record {
+        goes_on = m;
+        line = take size s.kept;
+        takes = taken ⊥ s.kept (take size s.kept) (drop (size + 1) s.kept) s'.kept M.Nothing s'.met kept (met ∙ m) (has_line s.kept size feed);
+        reads = subst (λ b. line_read A (suc s.lines) b (take size s.kept) ≡ Ok (d, value_behind v value)) (sym q)
+            (subst (λ k. line_read A k (Some v) (take size s.kept) ≡ Ok (d, value_behind v value)) e (reads v));
+        counts = lines;
+        keeps = keeps v q;
+      };
+    }
+
+-- what is taken so is what a call answers that reads nothing
+next_given : (A : TypeTree) (s s' : ReaderState) (has : Option (List ℕ)) (d : ℕ) (y : Sample) → Some (datum_of y) ≡ s'.before → TakesNext A s d s'
+    → GivesAnswer A s has (Ok (Some (d, y))) s' has
+next_given A s s' has d y e h = record {
+  got = [];
+  consumes = consumes_none has;
+  asks = inl (refl, refl);
+  gives = subst (λ bytes. TakesSample A (IsAtEnd has) s bytes (d, datum_of y) s') (sym (append-nil s.kept)) (record {
+    goes_on = h.takes.goes_on;
+    line = h.takes.line;
+    takes = wider s'.met h.takes.takes;
+    reads = let same : h.value ≡ datum_of y = (let q : ◌≡◌ {A = Option Datum} (Some h.value) (Some (datum_of y)) = sym h.takes.keeps ∙ sym e in cc) in
+        subst (λ v. line_read A (suc s.lines) s.before h.takes.line ≡ Ok (d, v)) same h.takes.reads;
+    counts = h.takes.counts;
+    keeps = sym e;
+  });
+}
+  where
+    wider : (met : Met) → TakesLine ⊥ s.kept h.takes.line s'.kept met → TakesLine (IsAtEnd has) s.kept h.takes.line s'.kept met
+    wider M.Nothing t = t
+    wider M.End t = absurd t.0
+    wider M.Fault t = absurd t
+
+-- it answers the step of a sample
+pub next_step_given : (A : TypeTree) (s s' : ReaderState) (has : Option (List ℕ)) (d : ℕ) (o : Option Sample) → s'.before ≡ option_map datum_of o
+    → TakesNext A s d s' → (y : Sample) × GivesAnswer A s has (Ok (Some (d, y))) s' has
+next_step_given A s s' has d None e h = absurd (let q : ◌≡◌ {A = Option Datum} None (Some h.value) = sym e ∙ h.takes.keeps in cc)
+next_step_given A s s' has d (Some y) e h = (y, next_given A s s' has d y (sym e) h)
+
+-- a sample that was answered by its step is the last with that step
+pub last_answered : (A : TypeTree) (s s' : ReaderState) (has has' : Option (List ℕ)) (d : ℕ) (y z : Sample)
+    → GivesAnswer A s has (Ok (Some (d, y))) s' has' → Some (datum_of z) ≡ s'.before → GivesAnswer A s has (Ok (Some (d, z))) s' has'
+last_answered A s s' has has' d y z h e =
+    let same : datum_of y ≡ datum_of z = (let q : ◌≡◌ {A = Option Datum} (Some (datum_of y)) (Some (datum_of z)) = sym h.gives.keeps ∙ sym e in cc) in
+    record {
+      got = h.got;
+      consumes = h.consumes;
+      asks = h.asks;
+      gives = subst (λ v. TakesSample A (IsAtEnd has') s (s.kept ++ h.got) (d, v) s') same h.gives;
+    }
+
+-- its step is in range
+pub next_stepped : ReadingLaw → (A : TypeTree) (s s' : ReaderState) (answer : Option ℕ) → IsBefore A s.lines s.before → s.before ≢ None
+    → IfSome answer (λ d. TakesNext A s d s') → IfSome answer (λ d. (1 ≤ d) × (d < 2 ^ 63))
+next_stepped law A s s' None b some h = tt
+next_stepped law A s s' (Some d) b some h = go s.before refl
+  where
+    go : (o : Option Datum) → s.before ≡ o → (1 ≤ d) × (d < 2 ^ 63)
+    go None q = absurd (some q)
+    go (Some v) q = read_step law A (suc s.lines) 1 (Some v) h.takes.line (d, h.value) (subst (IsBefore A s.lines) q b)
+        (subst (λ o. line_read A (suc s.lines) o h.takes.line ≡ Ok (d, h.value)) q h.takes.reads) (omega arith)
+
+-- the value that is kept then is one of the type
+pub next_before : ReadingLaw → (A : TypeTree) (s s' : ReaderState) (answer : Option ℕ) → IsBefore A s.lines s.before
+    → IfSome answer (λ d. TakesNext A s d s') → IfNone answer (s' ≡ s) → IsBefore A s'.lines s'.before
+next_before law A s s' None b h same = subst (λ r. IsBefore A r.lines r.before) (sym same) b
+next_before law A s s' (Some d) b h same = subst (IsBefore A s'.lines) (sym h.takes.keeps)
+    (read_typed law A (suc s.lines) s.lines s.before h.takes.line (d, h.value) b h.takes.reads)

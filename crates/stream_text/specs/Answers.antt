@@ -114,6 +114,20 @@ pub record GivesAnswer (A : TypeTree) (s : ReaderState) (has : Option (List ℕ)
       ⊎ ((s.met ≡ M.Nothing) × AsksAsNeeded (suc s.lines) s.kept got)
   pub gives : IsAnswer A (IsAtEnd has') s (s.kept ++ got) answer s'
 
+-- The same where a sample is answered by its step alone; its value is then the last.
+abbrev pub GivesStep : TypeTree → ReaderState → Option (List ℕ) → Result (Option ℕ) StreamFault
+    → ReaderState → Option (List ℕ) → Type 0
+GivesStep A s has (Ok (Some d)) s' has' =
+    (y : Sample) × GivesAnswer A s has (Ok (Some (d, y))) s' has'
+GivesStep A s has (Ok None) s' has' = GivesAnswer A s has (Ok None) s' has'
+GivesStep A s has (Err fault) s' has' = GivesAnswer A s has (Err fault) s' has'
+
 -- no bytes are needed: the stream has ended, or those that are kept settle the next line
 abbrev pub SettlesNext : ReaderState → Type 0
 SettlesNext s = (s.met ≢ M.Nothing) ⊎ (front_lines (suc s.lines) s.kept ≢ [])
+
+-- The next line stands whole in the bytes that are kept, and holds a sample with the step d, which
+-- is answered: its value is then the last. Nothing is read.
+pub record TakesNext (A : TypeTree) (s : ReaderState) (d : ℕ) (s' : ReaderState) : Type 0 where
+  pub value : Datum
+  pub takes : TakesSample A ⊥ s s.kept (d, value) s'

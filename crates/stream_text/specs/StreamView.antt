@@ -18,3 +18,8 @@ sample_view x = (x.0, datum_of x.1)
 abbrev pub before_view : Option (Bor Sample) → Option Datum
 before_view None = None
 before_view (Some v) = Some (datum_of v.now)
+
+-- the value of a line that repeats the one before, where it writes none
+abbrev pub value_behind : Datum → Option Sample → Datum
+value_behind before None = before
+value_behind before (Some v) = datum_of v

@@ -88,6 +88,7 @@ impl<T: Write> Write for Counted<T> {
 
     ghost contents = { λ c. T.contents c.inner };
 
+    #[inline(always)]
     fn write(&mut self, buf: &[u8]) -> io::Result<usize>
         ensures bound { WritesAtMost result buf.now }
         ensures bytes { WriteAppends (T.contents (counted_inner self.old))
@@ -95,12 +96,18 @@ impl<T: Write> Write for Counted<T> {
         ensures counted { counted_failures self.new
             ≡ after_write (counted_failures self.old) result }
     {
-        let answer = self.inner.write(buf);
-        match &answer {
-            Ok(0) | Err(_) => self.failures = self.failures.saturating_add(1),
-            Ok(_) => {}
+        match self.inner.write(buf) {
+            Ok(taken) => {
+                if taken == 0 {
+                    self.failures = self.failures.saturating_add(1);
+                }
+                Ok(taken)
+            }
+            Err(error) => {
+                self.failures = self.failures.saturating_add(1);
+                Err(error)
+            }
         }
-        answer
     }
 
     fn flush(&mut self) -> io::Result<()>

@@ -22,6 +22,9 @@ const ROOM: usize = MOST_BYTES + PIECE;
 
 const LINE_FEED: u8 = b'\n';
 
+/// So many bytes are looked at one by one for the end of a line.
+const SHORT: usize = 16;
+
 /// What a read of a piece gave.
 #[derive(Clone, Copy)]
 pub enum Piece {
@@ -76,6 +79,7 @@ impl Kept {
     }
 
     /// The first bytes.
+    #[inline(always)]
     pub fn front(&self, size: usize) -> &[u8]
         requires { size ≤ length self.now }
         ensures { result.now ≡ take size self.now }
@@ -84,6 +88,7 @@ impl Kept {
     }
 
     /// The place of the first line feed. It is looked for behind what was searched before alone.
+    #[inline(always)]
     pub fn feed_at(&mut self) -> Option<usize>
         ensures same { self.new ≡ self.old }
         ensures found { IfSome result (IsFirstFeed self.old) }
@@ -102,6 +107,7 @@ impl Kept {
     }
 
     /// Lets so many of the first bytes go, and the one behind them, if there is one.
+    #[inline(always)]
     pub fn skip_line(&mut self, size: usize)
         requires { size ≤ length self.old }
         ensures { self.new ≡ drop (size + 1) self.old }
@@ -126,8 +132,25 @@ impl Kept {
     }
 }
 
-/// The place of the first line feed.
+/// The place of the first line feed. A short line's end is found faster by a look at each byte.
+#[inline(always)]
 fn first_feed(bytes: &[u8]) -> Option<usize>
+    ensures found { IfSome result (IsFirstFeed bytes.now) }
+    ensures none { IfNone result (IsFeedFree bytes.now) }
+{
+    if bytes.len() >= SHORT {
+        for at in 0..SHORT {
+            if bytes[at] == LINE_FEED {
+                return Some(at);
+            }
+        }
+    }
+    far_feed(bytes)
+}
+
+/// The same, for a line of any length.
+#[inline(never)]
+fn far_feed(bytes: &[u8]) -> Option<usize>
     ensures found { IfSome result (IsFirstFeed bytes.now) }
     ensures none { IfNone result (IsFeedFree bytes.now) }
 {

@@ -1,10 +1,11 @@
 // Samples of the lines of a stream's text.
 
-ghost use Rattle.std.specs.Prelude.{None, Some};
+ghost use Rattle.std.specs.Prelude.{◌≡◌, ◌≤◌, IfSome, None, Ok, Some};
+ghost use Rattle.sample_core.specs.Datum.{Datum};
 ghost use Rattle.sample_core.specs.ValueView.{datum_of};
 ghost use Rattle.sample_core.specs.TypeView.{type_of};
 ghost use Rattle.stream_text.specs.StepText.{step_in};
-ghost use Rattle.stream_text.specs.StreamView.{before_view, sample_view};
+ghost use Rattle.stream_text.specs.StreamView.{before_view, sample_view, value_behind};
 ghost use Rattle.stream_text.specs.StreamText.{Gives, first_line, later_line, line_read, whole_value};
 
 use crate::fault::StreamFault;
@@ -106,5 +107,33 @@ fn read_whole(alloc: Global, ty: &Ty, number: u64, bytes: &[u8]) -> Result<Sampl
             line: number,
             fault,
         }),
+    }
+}
+
+/// The step of a later line that holds a sample, and its value, where it writes one; with none it
+/// repeats the value before. `None` tells nothing of the line.
+#[inline(always)]
+pub fn read_next(alloc: Global, ty: &Ty, number: u64, line: &[u8]) -> Option<(u64, Option<Sample>)>
+    ensures few { IfSome result (λ x. number ≤ 1000000) }
+    ensures reads { IfSome result (λ x. (before : Datum) → line_read (type_of ty.now) number
+        (Some before) line.now ≡ Ok (x.0, value_behind before x.1)) }
+{
+    if number > MOST_SAMPLES || line.len() > MOST_BYTES {
+        return None;
+    }
+    let (step, rest) = split_step(line)?;
+    if rest == b"=".as_slice() {
+        return Some((step, None));
+    }
+    match read_value(alloc, rest, ty) {
+        Ok((value, taken)) => {
+            if taken == rest.len() {
+                Some((step, Some(value)))
+            } else {
+                drop(value);
+                None
+            }
+        }
+        Err(_) => None,
     }
 }

@@ -1,16 +1,19 @@
 // The samples of a stream, read from any reader.
 
-ghost use Rattle.std.specs.Prelude.{◌≡◌, ◌≤◌, ◌<◌, ◌^◌, IfErr, IfOk, IfSome};
+ghost use Rattle.std.specs.Prelude.{◌≡◌, ◌≤◌, ◌<◌, ◌^◌, IfErr, IfOk, IfSome, Some};
+ghost use Rattle.std.specs.Option.{option_map};
+ghost use Rattle.sample_core.specs.Datum.{Datum};
 ghost use Rattle.sample_core.specs.HasType.{HasType};
 ghost use Rattle.sample_core.specs.TypeView.{type_of};
 ghost use Rattle.sample_core.specs.ValueView.{datum_of};
 ghost use Rattle.stream_text.specs.Failures.{Rose};
+ghost use Rattle.stream_text.specs.StreamView.{value_behind};
 ghost use Rattle.stream_text.specs.declared.fault.StreamFault.TheVariants as Fault;
 
 use crate::device::Device;
 use crate::fault::StreamFault;
 use crate::kept::Kept;
-use crate::line::read_line;
+use crate::line::{read_line, read_next};
 use crate::settle::{Settled, settle};
 use sample_core::{Memory, Sample, Ty, reading_laws};
 use std::alloc::Global;
@@ -42,11 +45,12 @@ pub struct LineState {
 }
 
 impl LineState {
-    ghost use Rattle.std.specs.Prelude.{◌≡◌, ◌≤◌, ◌<◌, ◌^◌, suc, length, Some};
-    ghost use Rattle.stream_text.specs.Answers.{GivesAnswer, IsFresh, SettlesNext};
+    ghost use Rattle.std.specs.Prelude.{◌≡◌, ◌≢◌, ◌≤◌, ◌<◌, ◌^◌, suc, length, IfNone, None, Some};
+    ghost use Rattle.stream_text.specs.Answers.{GivesAnswer, GivesStep, IsFresh, SettlesNext, TakesNext};
     ghost use Rattle.stream_text.specs.LineTaken.{TakesKept, TakesLast, KeepsCopy};
     ghost use Rattle.stream_text.specs.ReaderState.{reader_state};
     ghost use Rattle.stream_text.specs.StreamText.{IsBefore, line_read};
+    ghost use Rattle.stream_text.specs.StreamView.{before_view};
     ghost use Rattle.stream_text.specs.declared.reader.Met.TheVariants as M;
 
     /// A stream of which nothing was read. `Memory`: there is no room for a line and a piece.
@@ -100,6 +104,115 @@ impl LineState {
             Met::End => Ok(None),
             Met::Fault => Err(StreamFault::Ended),
         }
+    }
+
+    /// The step of the next sample, whose value is then the [`LineState::last`]: else as
+    /// [`LineState::next`], but that it takes no copy of the value where what is kept tells the
+    /// sample.
+    #[inline(always)]
+    pub fn next_step<R: Read + Device>(
+        &mut self,
+        source: &mut R,
+        failures: u64,
+        ty: &Ty,
+    ) -> Result<Option<u64>, StreamFault>
+        requires { IsBefore (type_of ty.now) (reader_state self.old).lines
+            (reader_state self.old).before }
+        ensures answers { GivesStep (type_of ty.now) (reader_state self.old)
+            (R.remaining source.old) result (reader_state self.new) (R.remaining source.new) }
+        ensures failed { IfErr result (λ fault. fault ≡ Fault.Read
+            → Rose failures (R.count source.new)) }
+        ensures unasked { SettlesNext (reader_state self.old) → source.new ≡ source.old }
+        ensures stepped { IfOk result (λ o. IfSome o (λ step. 0 < (reader_state self.old).lines
+            → (1 ≤ step) × (step < 2 ^ 63))) }
+        ensures before { IsBefore (type_of ty.now) (reader_state self.new).lines
+            (reader_state self.new).before }
+        ensures few { (reader_state self.new).lines ≤ 1000000 }
+    {
+        match self.next_kept(ty) {
+            Some(step) => Ok(Some(step)),
+            None => self.read_step(source, failures, ty),
+        }
+    }
+
+    /// The same in any case.
+    #[inline(never)]
+    fn read_step<R: Read + Device>(
+        &mut self,
+        source: &mut R,
+        failures: u64,
+        ty: &Ty,
+    ) -> Result<Option<u64>, StreamFault>
+        requires { IsBefore (type_of ty.now) (reader_state self.old).lines
+            (reader_state self.old).before }
+        ensures answers { GivesStep (type_of ty.now) (reader_state self.old)
+            (R.remaining source.old) result (reader_state self.new) (R.remaining source.new) }
+        ensures failed { IfErr result (λ fault. fault ≡ Fault.Read
+            → Rose failures (R.count source.new)) }
+        ensures unasked { SettlesNext (reader_state self.old) → source.new ≡ source.old }
+        ensures stepped { IfOk result (λ o. IfSome o (λ step. 0 < (reader_state self.old).lines
+            → (1 ≤ step) × (step < 2 ^ 63))) }
+        ensures before { IsBefore (type_of ty.now) (reader_state self.new).lines
+            (reader_state self.new).before }
+        ensures few { (reader_state self.new).lines ≤ 1000000 }
+    {
+        match self.next(source, failures, ty) {
+            Ok(Some((step, sample))) => {
+                // A copy of it is kept.
+                drop(sample);
+                Ok(Some(step))
+            }
+            Ok(None) => Ok(None),
+            Err(fault) => Err(fault),
+        }
+    }
+
+    /// The step of the next sample, where its line is kept with its line feed and is not the first:
+    /// then the sample's value is the last. Reads nothing. `None` tells nothing of the stream, and
+    /// leaves it as it is.
+    #[inline(always)]
+    fn next_kept(&mut self, ty: &Ty) -> Option<u64>
+        requires { IsBefore (type_of ty.now) (reader_state self.old).lines
+            (reader_state self.old).before }
+        ensures taken { IfSome result (λ step. TakesNext (type_of ty.now)
+            (reader_state self.old) step (reader_state self.new)) }
+        ensures none { IfNone result (reader_state self.new ≡ reader_state self.old) }
+        ensures stepped { IfSome result (λ step. (1 ≤ step) × (step < 2 ^ 63)) }
+        ensures before { IsBefore (type_of ty.now) (reader_state self.new).lines
+            (reader_state self.new).before }
+        ensures few { (reader_state self.new).lines ≤ 1000000 }
+    {
+        // By these laws the sample is of the type.
+        reading_laws();
+        match (self.met, &self.before) {
+            (Met::Nothing, Some(_)) => self.take_next(ty),
+            _ => None,
+        }
+    }
+
+    /// The same where nothing has ended the stream, and there is a value before.
+    #[inline(always)]
+    fn take_next(&mut self, ty: &Ty) -> Option<u64>
+        requires open { self.old.met ≡ M.Nothing }
+        requires later { (reader_state self.old).before ≢ None }
+        ensures taken { IfSome result (λ step. TakesNext (type_of ty.now)
+            (reader_state self.old) step (reader_state self.new)) }
+        ensures none { IfNone result (reader_state self.new ≡ reader_state self.old) }
+    {
+        let size = self.kept.feed_at()?;
+        let (step, value) = read_next(self.alloc, ty, self.lines + 1, self.kept.front(size))?;
+        put_behind(&mut self.before, value);
+        self.kept.skip_line(size);
+        self.lines += 1;
+        Some(step)
+    }
+
+    /// The value that was answered last, if there is one.
+    #[inline(always)]
+    pub fn last(&self) -> Option<&Sample>
+        ensures { before_view result ≡ (reader_state self.now).before }
+    {
+        Option::as_ref(&self.before)
     }
 
     /// The next answer, where nothing has ended the stream.
@@ -234,5 +347,16 @@ impl<R: Read + Device + Drop> LineReader<R> {
     {
         let failures = self.source.failures();
         self.state.next(&mut self.source, failures, ty)
+    }
+}
+
+/// Puts a new value, if there is one, in place of the value before.
+#[inline(always)]
+fn put_behind(before: &mut Option<Sample>, value: Option<Sample>)
+    ensures { (v : Datum) → option_map datum_of before.old ≡ Some v
+        → option_map datum_of before.new ≡ Some (value_behind v value) }
+{
+    if let Some(value) = value {
+        drop(before.replace(value));
     }
 }

@@ -48,7 +48,22 @@ fn step_value(digits: &[u8]) -> Option<u64>
 
 /// The step of a line that begins with `+`, a step and a space, and what stands behind these;
 /// `None` where it doesn't.
+#[inline(always)]
 pub fn split_step(line: &[u8]) -> Option<(u64, &[u8])>
+    ensures { step_view result ≡ step_in line.now }
+{
+    match line {
+        // Most steps have one digit.
+        [b'+', digit, b' ', rest @ ..] if b'1' <= *digit && *digit <= b'9' => {
+            Some((u64::from(*digit - b'0'), rest))
+        }
+        _ => split_digits(line),
+    }
+}
+
+/// The same of a step of any number of digits.
+#[inline(never)]
+fn split_digits(line: &[u8]) -> Option<(u64, &[u8])>
     ensures { step_view result ≡ step_in line.now }
 {
     let text = strip(b'+', line)?;

@@ -37,6 +37,7 @@ impl Output {
     }
 
     /// Gives the host all that is held.
+    #[inline(never)]
     pub fn give(&mut self) -> io::Result<()> {
         if self.held.is_empty() {
             return Ok(());
@@ -51,12 +52,23 @@ impl Output {
 
     /// Holds bytes back, as many as there is room for. Gives the host what is held before, where
     /// there is no room for all.
+    #[inline(always)]
     fn hold(&mut self, bytes: &[u8]) -> io::Result<usize>
         ensures { WritesAtMost result bytes.now }
     {
-        if bytes.len() > ROOM.saturating_sub(self.held.len()) {
-            self.give()?;
+        let room = self.held.capacity().saturating_sub(self.held.len());
+        if bytes.len() <= room && self.held.extend_from_slice(bytes).is_ok() {
+            return Ok(bytes.len());
         }
+        self.hold_on(bytes)
+    }
+
+    /// The same where there is no room for all.
+    #[inline(never)]
+    fn hold_on(&mut self, bytes: &[u8]) -> io::Result<usize>
+        ensures { WritesAtMost result bytes.now }
+    {
+        self.give()?;
         let size = bytes.len().min(ROOM);
         self.held.extend_from_slice(&bytes[..size])?;
         Ok(size)
@@ -98,6 +110,7 @@ impl<'a> Printer<'a> {
 }
 
 impl Write for Printer<'_> {
+    #[inline(always)]
     fn write(&mut self, buf: &[u8]) -> io::Result<usize> {
         match self.output.try_borrow_mut() {
             Ok(mut output) => output.hold(buf),

@@ -1,6 +1,6 @@
 // Runs of a network from a reader to a writer.
 
-ghost use Rattle.std.specs.Prelude.{◌≡◌, ◌<◌, ◌≤◌, ◌^◌, [], IfErr, IfOk, OnErr, OnOk, length, string_bytes, take};
+ghost use Rattle.std.specs.Prelude.{◌≡◌, ◌<◌, ◌≤◌, ◌^◌, ℕ, List, Option, [], IfErr, IfOk, OnErr, OnOk, length, string_bytes, take, true};
 ghost use Rattle.std.specs.Io.KnownBytes.{Appends};
 ghost use Rattle.sample_core.specs.HasType.{HasType};
 ghost use Rattle.sample_core.specs.TypeView.{type_of};
@@ -119,11 +119,12 @@ fn run_on<R: Read + Device, W: Write + Device>(
     let mut lines: u64 = 0;
     let mut most_visits: u32 = 0;
     loop {
-        match stream.next(reader, failures.reads, ty) {
-            Ok(Some((step, sample))) => {
-                let written = answer(step, &sample, runner, text, failures.writes, writer);
-                drop(sample);
-                match written {
+        match stream.next_step(reader, failures.reads, ty) {
+            Ok(Some(step)) => {
+                let Some(sample) = stream.last() else {
+                    unreachable!()
+                };
+                match answer(step, sample, runner, text, failures.writes, writer) {
                     Ok(()) => {}
                     Err(stop) => return Err(stopped(lines, stop)),
                 }
@@ -157,6 +158,7 @@ fn ended(lines: u64, fault: StreamFault) -> RunFault
 }
 
 /// Runs the network on one sample, and writes the line of its answer.
+#[inline(always)]
 fn answer<W: Write + Device>(
     step: u64,
     sample: &Sample,
@@ -189,6 +191,7 @@ fn answer<W: Write + Device>(
 }
 
 /// Puts the line of a value into the text, in place of what stands there.
+#[inline(always)]
 fn spell(text: &mut String, value: &Sample) -> Result<(), Memory>
     ensures { OnOk result (string_bytes text.new ≡ line_of_value (datum_of value.now)) }
 {
@@ -201,6 +204,7 @@ fn spell(text: &mut String, value: &Sample) -> Result<(), Memory>
 /// Writes all of the bytes, or a part from the front. `Write`: a write failed or took no byte, so
 /// that the writer has failed more often than `failures`. A failure that the writer doesn't count
 /// is none, and the write is made again; `Memory` after 2^64 of these.
+#[inline(always)]
 fn put<W: Write + Device>(writer: &mut W, failures: u64, bytes: &[u8]) -> Result<(), Stop>
     ensures all { OnOk result (Appends (W.contents writer.old) (W.contents writer.new)
         bytes.now) }
@@ -209,17 +213,42 @@ fn put<W: Write + Device>(writer: &mut W, failures: u64, bytes: &[u8]) -> Result
     ensures failed { IfErr result (λ stop. stop ≡ T.Write
         → Rose failures (W.count writer.new)) }
 {
-    let mut done = 0usize;
+    // Mostly the first write takes all.
+    let taken = write_some(writer, bytes);
+    if taken == bytes.len() {
+        Ok(())
+    } else {
+        put_on(writer, failures, bytes, taken)
+    }
+}
+
+/// The same where a first write took so many bytes, but not all.
+#[inline(never)]
+fn put_on<W: Write + Device>(
+    writer: &mut W,
+    failures: u64,
+    bytes: &[u8],
+    first: usize,
+) -> Result<(), Stop>
+    requires less { first < length bytes.now }
+    ensures all { (from : Option (List ℕ)) → Appends from (W.contents writer.old)
+        (take first bytes.now) → OnOk result (Appends from (W.contents writer.new) bytes.now) }
+    ensures part { (from : Option (List ℕ)) → Appends from (W.contents writer.old)
+        (take first bytes.now) → OnErr result (BreaksOff from (W.contents writer.new) bytes.now) }
+    ensures failed { IfErr result (λ stop. stop ≡ T.Write
+        → Rose failures (W.count writer.new)) }
+{
+    if first == 0 && has_failed(writer, failures) {
+        return Err(Stop::Write);
+    }
+    let mut done = first;
     for _turn in 0..u64::MAX {
         if done >= bytes.len() {
             return Ok(());
         }
         let taken = write_some(writer, &bytes[done..]);
-        if taken == 0 {
-            let after = writer.failures();
-            if failures < after || after == u64::MAX {
-                return Err(Stop::Write);
-            }
+        if taken == 0 && has_failed(writer, failures) {
+            return Err(Stop::Write);
         }
         done += taken;
     }
@@ -229,7 +258,16 @@ fn put<W: Write + Device>(writer: &mut W, failures: u64, bytes: &[u8]) -> Result
     Err(Stop::Memory)
 }
 
+/// Whether the writer has failed more often than that, as far as it counts.
+fn has_failed<W: Device>(writer: &W, failures: u64) -> bool
+    ensures { result ≡ true → Rose failures (W.count writer.now) }
+{
+    let after = writer.failures();
+    failures < after || after == u64::MAX
+}
+
 /// Writes once. Answers how many bytes were taken, none where the write failed.
+#[inline(always)]
 fn write_some<W: Write>(writer: &mut W, bytes: &[u8]) -> usize
     ensures within { result ≤ length bytes.now }
     ensures taken { Appends (W.contents writer.old) (W.contents writer.new)

@@ -2,7 +2,7 @@ use Rattle.std.proofs.Common.{arith, ◌≡◌, ◌<◌, take}
 use Rattle.std.specs.Char.{is_ascii_digit}
 use Rattle.std.proofs.lemmas.Grind.{common_steps}
 use Rattle.std.proofs.lemmas.List.Sums.{prefix_len_passes}
-use Rattle.stream_text.proofs.step_text.split_step.Goals as goal
+use Rattle.stream_text.proofs.step_text.split_digits.Goals as goal
 
 pub step_value-requires : goal.step_value-requires
 step_value-requires c k l =
