@@ -14,12 +14,13 @@ use crate::preparation::Refusal;
 pub use leaf_core::{Shape, shape_of};
 use leaf_table::{Leaf, LeafTable, Run};
 pub use leaf_table::{
-    TableFault, run_affine, run_below, run_constant, run_general, run_identity, run_left,
+    TableFault, run_affine, run_again, run_below, run_constant, run_identity, run_left,
     run_right, run_swap, run_wrap,
 };
 use net_syntax::LeafNeed;
 pub use sample_core::Sample;
 use std::alloc::Global;
+pub use std::cell::Cell;
 
 /// The refusal of a network whose expressions a table doesn't take: status 1 and the line `table full` where it has all
 /// its rows, or `Memory`.
@@ -150,7 +151,8 @@ macro_rules! fill_table {
                 }
                 $crate::fill::Shape::General => {
                     if let Ok(own) = need.key.try_copy(alloc) {
-                        $crate::stored_row!(filled, alloc, $table, need, run_general, &own)
+                        let last = $crate::fill::Cell::new($crate::fill::Sample::Unit);
+                        $crate::stored_row!(filled, alloc, $table, need, run_again, &own, &last)
                     }
                 }
             }
