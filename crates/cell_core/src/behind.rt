@@ -7,8 +7,8 @@ use sample_core::{Memory, Sample};
 use std::marker::Model;
 use std::rc::Rc;
 
-/// What a `delay` keeps behind: its newest sample with its step since the one before it, those before
-/// it, unless they are in front, and how those in front stand.
+/// What a `delay` keeps behind: its newest sample with its step since the one before it, those
+/// before it, unless they are in front, and how those in front stand.
 #[cycle(newest)]
 #[derive(Drop)]
 pub struct Newest {

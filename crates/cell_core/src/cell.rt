@@ -21,7 +21,8 @@ use std::rc::Rc;
 pub enum Cell {
     /// `iPre`: the sample before.
     IPre(Sample),
-    /// `delay`: those in front, of which one is out, and those behind.
+    /// `delay`: those in front, of which one is out, and those behind. The front is let go of
+    /// first: where a large place is given back, malloc joins the small ones that are free.
     Delay(Rc<Front>, Rc<Newest>),
     /// `hold`: the value of the latest event, or the constant.
     Hold(Sample),
@@ -121,10 +122,7 @@ impl Cell {
     {
         Ok(match self {
             Cell::IPre(before) => Cell::IPre(before.try_copy(alloc)?),
-            Cell::Delay(front, newest) => {
-                let front = front.clone()?;
-                Cell::Delay(front, newest.clone()?)
-            }
+            Cell::Delay(front, newest) => queue::try_copy(front, newest)?,
             Cell::Hold(latest) => Cell::Hold(latest.try_copy(alloc)?),
             Cell::AccumBy(accumulator) => Cell::AccumBy(accumulator.try_copy(alloc)?),
             Cell::After(left, value) => Cell::After(*left, value.try_copy()?),

@@ -35,8 +35,8 @@ impl Front {
         if at < count { at } else { count - 1 }
     }
 
-    /// Where what is out stands dt later, which stood at that place at that age of the front; 0 also
-    /// where all in front has passed then.
+    /// Where what is out stands dt later, which stood at that place at that age of the front; 0
+    /// also where all in front has passed then.
     #[inline(always)]
     pub(crate) fn passed(&self, from: usize, age: u64, dt: u64) -> usize
         requires { from < length self.now.entries.items }

@@ -2,7 +2,7 @@
 
 ghost use Rattle.std.specs.Prelude.{◌≡◌, ◌+◌, ◌<◌, ◌^◌, ◌∷◌, [], IfOk, OnOk, length};
 ghost use Rattle.sample_core.specs.ValueView.{datum_of};
-ghost use Rattle.cell_core.specs.CellView.{outcome_of};
+ghost use Rattle.cell_core.specs.CellView.{cell_of, outcome_of};
 ghost use Rattle.cell_core.specs.Cell.{cell_step};
 ghost use Rattle.cell_core.specs.Start.{cell_start};
 ghost use Rattle.cell_core.specs.Queue.{IsRenewed};
@@ -43,8 +43,8 @@ pub(crate) fn step(
     dt: u64,
     sample: &Sample,
 ) -> Result<(Cell, Sample), Memory>
-    ensures { IfOk result (λ r.
-        outcome_of r ≡ cell_step (delay_of front.now.value newest.now.value) (dt, datum_of sample.now)) }
+    ensures { IfOk result (λ r. outcome_of r
+        ≡ cell_step (delay_of front.now.value newest.now.value) (dt, datum_of sample.now)) }
 {
     let ahead: &Front = front;
     let last: &Newest = newest;
@@ -174,4 +174,19 @@ fn joined(
     };
     let newest = Rc::new(alloc, newest)?;
     Ok((Cell::Delay(front, newest), answer))
+}
+
+/// The same cell, with its parts shared. It takes no memory; `Memory` only where a count of
+/// references is full.
+pub(crate) fn try_copy(front: &Rc<Front>, newest: &Rc<Newest>) -> Result<Cell, Memory>
+    ensures { IfOk result (λ c. cell_of c ≡ delay_of front.now.value newest.now.value) }
+{
+    let front = front.clone()?;
+    match newest.clone() {
+        Ok(newest) => Ok(Cell::Delay(front, newest)),
+        Err(_) => {
+            drop(front);
+            Err(Memory)
+        }
+    }
 }

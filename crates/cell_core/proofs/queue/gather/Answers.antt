@@ -24,7 +24,8 @@ returns-in-None c =
     (first_is c.args.front.now.entries.items c.index.result.now c.args.front.now.filled c.index.ensures)
     ∙ one_found c.args.dt c.loop-left.left c.saturating_sub-left.result c.loop-left.at.now.since (place (front_of c.args.front.now) 0).1
     (datum_of c.loop-left.at.now.value) c.loop-left.at.now.earlier [] (entries_of c.loop-left.entries.items) (entries_of c.push.new.entries.items)
-    (through c.args.front.now c.args.newest.now c.args.dt) c.loop-left-test.true c.loop-left.invariant c.in_ok-push.ensures c.saturating_sub-left.ensures c.in-None.ensures)
+    (through c.args.front.now c.args.newest.now c.args.dt) c.loop-left-test.true c.loop-left.invariant c.in_ok-push.ensures
+    c.saturating_sub-left.ensures c.in-None.ensures)
     h)
     c.push-in-None.ensures
 
@@ -32,8 +33,8 @@ pub loop-left-preserved : goal.loop-left-preserved
 loop-left-preserved c =
     one_found c.args.dt c.loop-left.left c.saturating_sub-left.result c.loop-left.at.now.since (place (front_of c.args.front.now) 0).1
     (datum_of c.loop-left.at.now.value) c.loop-left.at.now.earlier (back_of c.in-Some.before.now) (entries_of c.loop-left.entries.items)
-    (entries_of c.push.new.entries.items) (through c.args.front.now c.args.newest.now c.args.dt) c.loop-left-test.true c.loop-left.invariant c.in_ok-push.ensures
-    c.saturating_sub-left.ensures c.in-Some.ensures
+    (entries_of c.push.new.entries.items) (through c.args.front.now c.args.newest.now c.args.dt) c.loop-left-test.true
+    c.loop-left.invariant c.in_ok-push.ensures c.saturating_sub-left.ensures c.in-Some.ensures
 
 pub returns : goal.returns
 returns c =
