@@ -19,7 +19,7 @@ abbrev pub before_view : Option (Bor Sample) → Option Datum
 before_view None = None
 before_view (Some v) = Some (datum_of v.now)
 
--- the value of a line that repeats the one before, where it writes none
+-- a line's own value, where it writes one, and else the value before
 abbrev pub value_behind : Datum → Option Sample → Datum
 value_behind before None = before
 value_behind before (Some v) = datum_of v

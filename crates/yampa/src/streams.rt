@@ -56,7 +56,7 @@ impl Output {
     fn hold(&mut self, bytes: &[u8]) -> io::Result<usize>
         ensures { WritesAtMost result bytes.now }
     {
-        let room = self.held.capacity().saturating_sub(self.held.len());
+        let room = ROOM.saturating_sub(self.held.len());
         if bytes.len() <= room && self.held.extend_from_slice(bytes).is_ok() {
             return Ok(bytes.len());
         }
