@@ -10,8 +10,9 @@ ghost use Rattle.stream_text.specs.StreamText.{Gives, first_line, later_line, li
 
 use crate::fault::StreamFault;
 use crate::step_text::{split_step, strip};
-use sample_core::{Sample, Ty, ValueFault, read_value};
+use sample_core::{Sample, Ty, ValueFault, read_value, read_value_over};
 use std::alloc::Global;
+use std::mem;
 
 /// The most samples of a run.
 const MOST_SAMPLES: u64 = 1_000_000;
@@ -111,9 +112,16 @@ fn read_whole(alloc: Global, ty: &Ty, number: u64, bytes: &[u8]) -> Result<Sampl
 }
 
 /// The step of a later line that holds a sample, and its value, where it writes one; with none it
-/// repeats the value before. `None` tells nothing of the line.
+/// repeats the value before. `None` tells nothing of the line. The value is read over `spare`, and
+/// taken from there.
 #[inline(always)]
-pub fn read_next(alloc: Global, ty: &Ty, number: u64, line: &[u8]) -> Option<(u64, Option<Sample>)>
+pub fn read_next(
+    alloc: Global,
+    ty: &Ty,
+    number: u64,
+    line: &[u8],
+    spare: &mut Sample,
+) -> Option<(u64, Option<Sample>)>
     ensures few { IfSome result (λ x. number ≤ 1000000) }
     ensures reads { IfSome result (λ x. (before : Datum) → line_read (type_of ty.now) number
         (Some before) line.now ≡ Ok (x.0, value_behind before x.1)) }
@@ -125,12 +133,11 @@ pub fn read_next(alloc: Global, ty: &Ty, number: u64, line: &[u8]) -> Option<(u6
     if rest == b"=".as_slice() {
         return Some((step, None));
     }
-    match read_value(alloc, rest, ty) {
-        Ok((value, taken)) => {
+    match read_value_over(alloc, rest, ty, spare) {
+        Ok(taken) => {
             if taken == rest.len() {
-                Some((step, Some(value)))
+                Some((step, Some(mem::replace(spare, Sample::Unit))))
             } else {
-                drop(value);
                 None
             }
         }

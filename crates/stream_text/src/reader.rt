@@ -31,13 +31,15 @@ pub enum Met {
 
 /// What is kept of a stream between its samples, whichever reader gives its bytes: those that were
 /// read and not yet answered, how many lines were answered, the value that was answered last, how
-/// many reads were made, and what has ended it.
+/// many reads were made, and what has ended it. The spare value is one that isn't needed any more:
+/// the next is read over it, and takes its memory.
 #[derive(Drop)]
 pub struct LineState {
     alloc: Global,
     kept: Kept,
     lines: u64,
     before: Option<Sample>,
+    spare: Sample,
     reads: u64,
     met: Met,
     ghost few_lines: { lines ≤ 1000000 },
@@ -63,6 +65,7 @@ impl LineState {
             kept,
             lines: 0,
             before: None,
+            spare: Sample::Unit,
             reads: 0,
             met: Met::Nothing,
         })
@@ -200,8 +203,14 @@ impl LineState {
         ensures none { IfNone result (reader_state self.new ≡ reader_state self.old) }
     {
         let size = self.kept.feed_at()?;
-        let (step, value) = read_next(self.alloc, ty, self.lines + 1, self.kept.front(size))?;
-        put_behind(&mut self.before, value);
+        let (step, value) = read_next(
+            self.alloc,
+            ty,
+            self.lines + 1,
+            self.kept.front(size),
+            &mut self.spare,
+        )?;
+        put_behind(&mut self.before, &mut self.spare, value);
         self.kept.skip_line(size);
         self.lines += 1;
         Some(step)
@@ -350,13 +359,15 @@ impl<R: Read + Device + Drop> LineReader<R> {
     }
 }
 
-/// Puts a new value, if there is one, in place of the value before.
+/// Puts a new value, if there is one, in place of the value before, which is a spare one then.
 #[inline(always)]
-fn put_behind(before: &mut Option<Sample>, value: Option<Sample>)
+fn put_behind(before: &mut Option<Sample>, spare: &mut Sample, value: Option<Sample>)
     ensures { (v : Datum) → option_map datum_of before.old ≡ Some v
         → option_map datum_of before.new ≡ Some (value_behind v value) }
 {
     if let Some(value) = value {
-        drop(before.replace(value));
+        if let Some(old) = before.replace(value) {
+            spare.put(old);
+        }
     }
 }
