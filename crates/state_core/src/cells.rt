@@ -2,6 +2,7 @@
 
 ghost use Rattle.std.specs.Prelude.{◌≡◌, ◌<◌, ◌++◌, ◌∷◌, [], IfOk, MatchOption, None, Some, length, slice_get, slice_set};
 ghost use Rattle.cell_core.specs.CellView.{cell_of};
+ghost use Rattle.state_core.specs.CellsView.{cells_made};
 
 use cell_core::Cell;
 use sample_core::Memory;
@@ -136,11 +137,18 @@ impl NewCells {
                 Ok(())
             }
             Made::Nothing => {
-                self.made = Made::One(cell);
+                self.set(Made::One(cell));
                 Ok(())
             }
             Made::One(_) => self.push_behind(alloc, cell),
         }
+    }
+
+    /// These cells in the place of the others.
+    fn set(&mut self, made: Made)
+        ensures { self.new ≡ cells_made made }
+    {
+        drop(std::mem::replace(&mut self.made, made));
     }
 
     /// A cell behind the others, which move to a place for several. `Memory` where a growth was
@@ -149,14 +157,26 @@ impl NewCells {
         ensures { IfOk result (λ _. self.new ≡ self.old ++ cell_of cell ∷ []) }
     {
         match std::mem::replace(&mut self.made, Made::Nothing) {
-            Made::Nothing => self.made = Made::One(cell),
-            Made::One(first) => self.made = Made::All(pair_of(alloc, first, cell)?),
-            Made::All(mut all) => {
-                all.push(cell)?;
-                self.made = Made::All(all);
+            Made::Nothing => {
+                self.set(Made::One(cell));
+                Ok(())
             }
+            Made::One(first) => {
+                let all = pair_of(alloc, first, cell)?;
+                self.set(Made::All(all));
+                Ok(())
+            }
+            Made::All(mut all) => match all.push(cell) {
+                Ok(()) => {
+                    self.set(Made::All(all));
+                    Ok(())
+                }
+                Err(memory) => {
+                    drop(all);
+                    Err(memory.into())
+                }
+            },
         }
-        Ok(())
     }
 
     /// Another cell in the place of cell i.
@@ -190,8 +210,34 @@ impl NewCells {
 fn pair_of(alloc: Global, first: Cell, second: Cell) -> Result<Vec<Cell>, Memory>
     ensures { IfOk result (λ all. all.items ≡ first ∷ second ∷ []) }
 {
-    let mut all = Vec::with_capacity(alloc, 8)?;
-    all.push(first)?;
-    all.push(second)?;
-    Ok(all)
+    match Vec::with_capacity(alloc, 8) {
+        Ok(mut all) => match push_both(&mut all, first, second) {
+            Ok(()) => Ok(all),
+            Err(memory) => {
+                drop(all);
+                Err(memory)
+            }
+        },
+        Err(memory) => {
+            drop(first);
+            drop(second);
+            Err(memory.into())
+        }
+    }
+}
+
+/// Two cells behind the others. `Memory` where a growth was refused.
+fn push_both(all: &mut Vec<Cell>, first: Cell, second: Cell) -> Result<(), Memory>
+    ensures { IfOk result (λ _. all.new.items ≡ all.old.items ++ first ∷ second ∷ []) }
+{
+    match all.push(first) {
+        Ok(()) => {
+            all.push(second)?;
+            Ok(())
+        }
+        Err(memory) => {
+            drop(second);
+            Err(memory.into())
+        }
+    }
 }
