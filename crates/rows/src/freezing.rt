@@ -6,9 +6,7 @@ use cell_core::{Cell, Form};
 use leaf_table::LeafId;
 use net_syntax::Net;
 use sample_core::{Memory, Sample};
-use state_core::{
-    Env, Frozen, NewCells, Node, Params, State, States, StaticNet, Whole, freeze,
-};
+use state_core::{Env, Frozen, NewCells, Node, Params, State, States, StaticNet, Whole, freeze};
 use std::alloc::Global;
 
 /// Tells what `freeze` answers on the state of `(delay 4096 0)` after 4,096 samples with step 1.

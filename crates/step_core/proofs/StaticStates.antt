@@ -44,7 +44,7 @@ mutual
       let rest : drop (cell_count f) (ks ++ more) ≡ drop (cell_count f) ks ++ more = drop-append-le (cell_count f) ks more here in
       let left : cell_count g ≤ length (drop (cell_count f) ks) = omega (arith, h, length-drop (cell_count f) ks) in
       λ i. seq_state (static_more f ps ks more here i)
-          ((ap (static_state g ps) rest ∙ static_more g ps (drop (cell_count f) ks) more left) i)
+      ((ap (static_state g ps) rest ∙ static_more g ps (drop (cell_count f) ks) more left) i)
   static_more (first f) ps ks more h = ap first_state (static_more f ps ks more h)
   static_more (par fs) ps ks more h = ap par_state (statics_more fs ps ks more h)
   static_more (loop_pre c f) ps [] more h = absurd (omega (arith, h))
@@ -72,7 +72,7 @@ mutual
       let rest : drop (cell_count f) (ks ++ more) ≡ drop (cell_count f) ks ++ more = drop-append-le (cell_count f) ks more here in
       let left : cells_count fs ≤ length (drop (cell_count f) ks) = omega (arith, h, length-drop (cell_count f) ks) in
       λ i. and_state (static_more f ps ks more here i)
-          ((ap (static_states fs ps) rest ∙ statics_more fs ps (drop (cell_count f) ks) more left) i)
+      ((ap (static_states fs ps) rest ∙ statics_more fs ps (drop (cell_count f) ks) more left) i)
 
 -- the first of two parts has the first cells
 pub one_of_two : (f : Network ℕ) (ps : List Datum) (ks more : List Cell) → length ks ≡ cell_count f → static_state f ps (ks ++ more) ≡ static_state f ps ks

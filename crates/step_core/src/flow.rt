@@ -313,12 +313,7 @@ fn flow_accum<R: Rows>(
 }
 
 /// The cell behind the others, and the answer.
-fn keep(
-    alloc: Global,
-    cell: Cell,
-    answer: Sample,
-    cells: &mut NewCells,
-) -> Result<Sample, Memory>
+fn keep(alloc: Global, cell: Cell, answer: Sample, cells: &mut NewCells) -> Result<Sample, Memory>
     ensures { IfOk result (λ y. (y ≡ answer) × (cells.new ≡ cells.old ++ cell_of cell ∷ [])) }
 {
     match cells.push(alloc, cell) {

@@ -12,9 +12,7 @@ ghost use Rattle.step_core.specs.SourceView.{source_of};
 use leaf_table::LeafId;
 use net_syntax::Net;
 use sample_core::Sample;
-use state_core::{
-    Cells, Env, Frozen, KSwitchParts, Node, PSwitchParts, Params, State, StaticNet,
-};
+use state_core::{Cells, Env, Frozen, KSwitchParts, Node, PSwitchParts, Params, State, StaticNet};
 
 /// What runs next: a network that has not started, in a scope, or a state.
 #[derive(Clone, Copy)]

@@ -14,17 +14,17 @@ ghost use Rattle.step_core.specs.Plans.{IsFed, RunsMember, router_of};
 ghost use Rattle.step_core.specs.Runs.{RunsWhere, RunEachWhere, SeqBy, FirstBy, ParBy, LoopBy, SwitchBy, DSwitchBy, RSwitchBy, KSwitchBy, PSwitchBy, OldBy};
 ghost use Rattle.step_core.specs.SourceView.{source_of, sources_of};
 
+use crate::count;
 use crate::each::{Each, Listed, count_of, first_of, join_par, keep_p_switch};
 use crate::fire::{fire, fire_old, fire_olds};
 use crate::flow::{Context, flow};
 use crate::part::{beside, first, restart_of, second};
 use crate::plan::{Back, Plan, Route, Source, Sources, plan_of};
 use crate::ran::{
-    Ran, join_first, join_loop, join_seq, keep_d_switch, keep_k_switch, keep_r_switch,
-    keep_static, keep_switch, resumed, take_over, take_over_late,
+    Ran, join_first, join_loop, join_seq, keep_d_switch, keep_k_switch, keep_r_switch, keep_static,
+    keep_switch, resumed, take_over, take_over_late,
 };
 use crate::rows::Rows;
-use crate::count;
 use leaf_table::LeafId;
 use net_syntax::Net;
 use sample_core::{Memory, Sample};

@@ -82,8 +82,9 @@ impl<'a> Runner<'a> {
             Some(state) => match state {
                 State::Static(net, params, cells) => {
                     let before = Some(cells);
-                    let (next, answer) =
-                        flow_whole(self.alloc, self.table, *net, params, before, step, sample)?;
+                    let (next, answer) = flow_whole(
+                        self.alloc, self.table, *net, params, before, step, sample,
+                    )?;
                     self.visits = net.nodes();
                     self.samples += 1;
                     put_cells(&mut self.state, next);

@@ -14,8 +14,8 @@ use crate::preparation::Refusal;
 pub use leaf_core::{Shape, shape_of};
 use leaf_table::{Leaf, LeafTable, Run};
 pub use leaf_table::{
-    TableFault, run_affine, run_again, run_below, run_constant, run_identity, run_left,
-    run_right, run_swap, run_wrap,
+    TableFault, run_affine, run_again, run_below, run_constant, run_identity, run_left, run_right,
+    run_swap, run_wrap,
 };
 use net_syntax::LeafNeed;
 pub use sample_core::Sample;
