@@ -1,14 +1,10 @@
 -- What waits in a delay, in front and behind.
 use Rattle.std.proofs.Common.{◌≡◌, Bool, true, false, nat_le, ℕ, zero, suc, ◌+◌, ◌-◌, ◌≤◌, ◌<◌, if◌then◌else◌, List, [], ◌∷◌, ◌++◌, length, reverse, refl, sym, ap, ap₂, ◌∙◌, arith, append_assoc, subst, length-append}
-use Rattle.std.proofs.lemmas.Bool.{le-leb, lt-leb, lt-ltb}
+use Rattle.std.proofs.lemmas.Bool.{le-leb, lt-leb}
 use Rattle.std.proofs.lemmas.List.{reverse-append}
 use Rattle.sample_core.specs.Datum.{Datum}
 use Rattle.cell_core.specs.Cell.{Cell, queue, due, enqueue, count_down}
-use Rattle.cell_core.specs.Queue.{behind, place, within, fronted, IsPassed}
-
--- a place that is there
-pub within_is : (n at : ℕ) → at < n → within n at ≡ at
-within_is n at h = ap (λ b. if b then at else n - 1) (lt-ltb at n h)
+use Rattle.cell_core.specs.Queue.{behind, place, fronted, IsPassed}
 
 -- one that is due is out
 pub due-passes : (d : ℕ) (out : Datum) (left : ℕ) (v : Datum) (es : List (ℕ × Datum)) → left ≤ d → due d out ((left, v) ∷ es) ≡ due d v es
