@@ -16,7 +16,7 @@ use Rattle.state_core.specs.StateView.{state_of, node_of, states_of, frozen_of, 
 
 -- a state's depth in the code is at most its size
 pub state_le : (n : CodeState) → deep-State n ≤ state_size (state_of n) + 1
-state_le (S.Static net ps ks) = omega arith
+state_le S.Nothing = omega arith
 state_le (S.Whole w) = omega arith
 
 pub olds_le : (o : Olds) → deep-Olds o ≤ frozens_size (olds_of o) + 1
@@ -28,20 +28,15 @@ states_le [] = omega arith
 states_le (n ∷ ns) = omega (arith, state_le n, states_le ns)
 
 pub node_le : (n : Node) → max (deep-Node n) 0 ≤ state_size (node_of n)
-node_le (N.Seq a b) = omega (arith, state_le a, state_le b)
+node_le (N.Static k) = omega arith
+node_le (N.Seq k) = omega (arith, state_le k.first, state_le k.second)
 node_le (N.First a) = omega (arith, state_le a)
 node_le (N.Par as') = omega arith
-node_le (N.LoopPre v a) = omega (arith, state_le a)
-node_le (N.Switch a t s) = omega (arith, state_le a, olds_le s.olds)
-node_le (N.DSwitch a t s) = omega (arith, state_le a, olds_le s.olds)
-node_le (N.RSwitch a t s) = omega (arith, state_le a, olds_le s.olds)
-node_le (N.KSwitch k) = omega (
-  arith,
-  state_le k.value.part,
-  state_le k.value.watch,
-  olds_le
-      k.value.env.olds,
-)
+node_le (N.LoopPre k) = omega (arith, state_le k.part)
+node_le (N.Switch k) = omega (arith, state_le k.part, olds_le k.env.olds)
+node_le (N.DSwitch k) = omega (arith, state_le k.part, olds_le k.env.olds)
+node_le (N.RSwitch k) = omega (arith, state_le k.part, olds_le k.env.olds)
+node_le (N.KSwitch k) = omega (arith, state_le k.part, state_le k.watch, olds_le k.env.olds)
 node_le (N.PSwitch k) = omega (arith, state_le k.value.watch, olds_le k.value.env.olds)
 
 pub frozen_le : (n : CodeFrozen) → deep-Frozen n ≤ frozen_size (frozen_of n)

@@ -9,6 +9,7 @@ use Rattle.state_core.specs.StaticNetwork.{static_state}
 use Rattle.state_core.specs.State.{State, States, Scope, Frozens, Frozen, seq_state, first_state, par_state, loop_state, switch_state, d_switch_state, r_switch_state, k_switch_state, p_switch_state, no_state, and_state, scope, no_frozen, and_frozen, unstarted, paused, frozen_at}
 use Rattle.state_core.specs.declared.state.State.{State as CodeState}
 use Rattle.state_core.specs.declared.state.State.TheVariants as S
+use Rattle.state_core.specs.declared.state.StaticParts.{StaticParts}
 use Rattle.state_core.specs.declared.state.KSwitchParts.{KSwitchParts}
 use Rattle.state_core.specs.declared.state.PSwitchParts.{PSwitchParts}
 use Rattle.state_core.specs.declared.state.Node.{Node}
@@ -30,13 +31,17 @@ scope_of e = scope e.params (olds_of e.olds)
 
 -- the state that a `State` is
 abbrev pub state_of : CodeState → State ℕ
-state_of (S.Static f ps ks) = static_state (rows_in f.net.now) ps ks
+state_of S.Nothing = par_state no_state
 state_of (S.Whole w) = w
 
 -- the states of members
 abbrev pub states_of : List CodeState → States ℕ
 states_of [] = no_state
 states_of (a ∷ as') = and_state (state_of a) (states_of as')
+
+-- the state that a network without switches keeps
+abbrev pub static_of : StaticParts → State ℕ
+static_of k = static_state (rows_in k.net.net.now) k.params k.cells
 
 -- the state that the parts of a `kSwitch` are
 abbrev pub k_switch_of : KSwitchParts → State ℕ
@@ -50,14 +55,15 @@ p_switch_of k = p_switch_state (row_number k.router) k.members (state_of k.watch
 
 -- the state that a `Node` is
 abbrev pub node_of : Node → State ℕ
-node_of (N.Seq a b) = seq_state (state_of a) (state_of b)
+node_of (N.Static k) = static_of k
+node_of (N.Seq k) = seq_state (state_of k.first) (state_of k.second)
 node_of (N.First a) = first_state (state_of a)
 node_of (N.Par as') = par_state as'
-node_of (N.LoopPre v a) = loop_state (datum_of v) (state_of a)
-node_of (N.Switch a t s) = switch_state (state_of a) (rows_in t.now) (scope_of s)
-node_of (N.DSwitch a t s) = d_switch_state (state_of a) (rows_in t.now) (scope_of s)
-node_of (N.RSwitch a t s) = r_switch_state (state_of a) (rows_in t.now) (scope_of s)
-node_of (N.KSwitch k) = k_switch_of k.value
+node_of (N.LoopPre k) = loop_state (datum_of k.fed_back) (state_of k.part)
+node_of (N.Switch k) = switch_state (state_of k.part) (rows_in k.net.now) (scope_of k.env)
+node_of (N.DSwitch k) = d_switch_state (state_of k.part) (rows_in k.net.now) (scope_of k.env)
+node_of (N.RSwitch k) = r_switch_state (state_of k.part) (rows_in k.net.now) (scope_of k.env)
+node_of (N.KSwitch k) = k_switch_of k
 node_of (N.PSwitch k) = p_switch_of k.value
 
 -- the frozen network that a `Frozen` is

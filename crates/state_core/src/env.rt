@@ -277,6 +277,6 @@ fn unstarted<'n>(net: &'n Net<LeafId>, env: &Env<'n>) -> Result<Frozen<'n>, Memo
 pub fn pause<'n>(alloc: Global, state: &State<'n>, step: u64) -> Result<Frozen<'n>, Memory>
     ensures { IfOk result (λ f. frozen_of f ≡ paused_state (state_of state.now) step) }
 {
-    let state = state.try_copy(alloc)?;
+    let state = state.try_copy()?;
     Ok(Frozen::Paused { state, step })
 }

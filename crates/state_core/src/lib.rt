@@ -3,14 +3,21 @@
 
 mod cells;
 mod env;
+mod new_states;
 mod params;
 mod part;
+mod spare;
 mod state;
 mod static_net;
 
-pub use cells::{Cells, NewCells};
+pub use cells::Cells;
 pub use env::{Env, Frozen, OldList, Olds, freeze, pause, push_old, push_olds, push_param};
+pub use new_states::NewStates;
 pub use params::Params;
 pub use part::{gather, route};
-pub use state::{KSwitchParts, Node, PSwitchParts, State, States, Whole};
+pub use spare::Spare;
+pub use state::{
+    KSwitchParts, LoopParts, Node, PSwitchParts, SeqParts, State, States, StaticParts, SwitchParts,
+    Whole,
+};
 pub use static_net::StaticNet;

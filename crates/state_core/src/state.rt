@@ -1,9 +1,8 @@
 // States of networks that run.
 
 ghost use Rattle.std.specs.Prelude.{◌≡◌, IfOk};
-ghost use Rattle.state_core.specs.RowsView.{rows_in};
+ghost use Rattle.state_core.specs.State.{no_state};
 ghost use Rattle.state_core.specs.StateView.{state_of, node_of, states_of};
-ghost use Rattle.state_core.specs.StaticNetwork.{static_state};
 
 use crate::cells::Cells;
 use crate::env::Env;
@@ -20,9 +19,9 @@ use std::rc::Rc;
 #[cycle(state)]
 #[derive(Drop)]
 pub enum State<'n> {
-    /// A network without switches, with the parameters in its scope and its cells.
-    Static(StaticNet<'n>, Params, Cells),
-    /// A node round the states of its parts.
+    /// Nothing, which keeps nothing and takes no memory: a `parB` without members.
+    Nothing,
+    /// A node.
     Whole(Whole<'n>),
 }
 
@@ -33,36 +32,73 @@ pub struct Whole<'n> {
     node: Rc<Node<'n>>,
 }
 
-/// The states of members. Contracts see them as clean states.
-#[cycle(state)]
-#[derive(Drop)]
-pub struct States<'n> {
-    all: Vec<State<'n>>,
-}
-
-/// A node of a state, round the states of its parts.
+/// A node of a state: a network without switches, or a form round the states of its parts.
 #[cycle(state)]
 #[derive(Drop)]
 pub enum Node<'n> {
+    /// A network without switches.
+    Static(StaticParts<'n>),
     /// `>>>`.
-    Seq(State<'n>, State<'n>),
+    Seq(SeqParts<'n>),
     /// `first`.
     First(State<'n>),
     /// `parB`.
     Par(States<'n>),
-    /// `loopPre`: what is fed back next, and the part.
-    LoopPre(Sample, State<'n>),
-    /// `switch` before its first event: the part that runs, the network that takes over, and its
-    /// scope.
-    Switch(State<'n>, &'n Net<LeafId>, Env<'n>),
+    /// `loopPre`.
+    LoopPre(LoopParts<'n>),
+    /// `switch` before its first event.
+    Switch(SwitchParts<'n>),
     /// `dSwitch` likewise.
-    DSwitch(State<'n>, &'n Net<LeafId>, Env<'n>),
+    DSwitch(SwitchParts<'n>),
     /// `rSwitch`.
-    RSwitch(State<'n>, &'n Net<LeafId>, Env<'n>),
-    /// `kSwitch`.
-    KSwitch(Box<KSwitchParts<'n>>),
-    /// `pSwitch`.
+    RSwitch(SwitchParts<'n>),
+    /// `kSwitch` before its first event.
+    KSwitch(KSwitchParts<'n>),
+    /// `pSwitch` likewise.
     PSwitch(Box<PSwitchParts<'n>>),
+}
+
+/// A network without switches that runs.
+#[derive(Drop)]
+pub struct StaticParts<'n> {
+    /// The network.
+    pub net: StaticNet<'n>,
+    /// The parameters in its scope.
+    pub params: Params,
+    /// Its cells.
+    pub cells: Cells,
+}
+
+/// The parts of a `>>>`.
+#[cycle(state)]
+#[derive(Drop)]
+pub struct SeqParts<'n> {
+    /// The part that gets the sample.
+    pub first: State<'n>,
+    /// The part that gets what the first answers.
+    pub second: State<'n>,
+}
+
+/// What a `loopPre` keeps.
+#[cycle(state)]
+#[derive(Drop)]
+pub struct LoopParts<'n> {
+    /// What is fed back next.
+    pub fed_back: Sample,
+    /// The part that runs.
+    pub part: State<'n>,
+}
+
+/// The parts of a `switch`, a `dSwitch` or an `rSwitch`.
+#[cycle(state)]
+#[derive(Drop)]
+pub struct SwitchParts<'n> {
+    /// The part that runs.
+    pub part: State<'n>,
+    /// The network that takes over.
+    pub net: &'n Net<LeafId>,
+    /// Its scope.
+    pub env: Env<'n>,
 }
 
 /// The parts of a `kSwitch` before its first event.
@@ -93,6 +129,13 @@ pub struct PSwitchParts<'n> {
     pub net: &'n Net<LeafId>,
     /// Its scope.
     pub env: Env<'n>,
+}
+
+/// The states of members. Contracts see them as clean states.
+#[cycle(state)]
+#[derive(Drop)]
+pub struct States<'n> {
+    all: Vec<State<'n>>,
 }
 
 impl<'n> Model for Whole<'n> {
@@ -156,6 +199,24 @@ impl<'n> Whole<'n> {
         &self.node
     }
 
+    /// The new node, in the place of this one where no one else holds it, so that it takes no
+    /// memory. `Memory` where a growth was refused.
+    pub(crate) fn renewed(self, alloc: Global, new: Node<'n>) -> Result<Whole<'n>, Memory>
+        ensures { IfOk result (λ w. w ≡ node_of new.entry) }
+    {
+        let Whole { mut node } = self;
+        match Rc::get_mut(&mut node) {
+            Some(place) => {
+                drop(std::mem::replace(place, new));
+                Ok(Whole { node })
+            }
+            None => {
+                drop(node);
+                Whole::new(alloc, new)
+            }
+        }
+    }
+
     /// The same node, shared. It takes no memory; `Memory` only where a count of references is
     /// full.
     pub fn try_copy(&self) -> Result<Whole<'n>, Memory>
@@ -180,36 +241,34 @@ impl<'n> States<'n> {
     {
         self.all.as_slice()
     }
-}
 
-impl<'n> State<'n> {
-    /// A copy, whose parts are shared with it. `Memory` where a growth was refused.
-    pub fn try_copy(&self, alloc: Global) -> Result<State<'n>, Memory>
-        ensures { IfOk result (λ s. state_of s ≡ state_of self.now) }
+    /// The states in order, in whose place there are none then.
+    pub(crate) fn take(&mut self, alloc: Global) -> Vec<State<'n>>
+        ensures taken { states_of result.items ≡ self.old }
+        ensures left { self.new ≡ no_state }
     {
-        match self {
-            State::Static(net, params, cells) => static_copy(alloc, *net, params, cells),
-            State::Whole(whole) => Ok(State::Whole(whole.try_copy()?)),
-        }
+        std::mem::replace(&mut self.all, Vec::new(alloc))
     }
 }
 
-/// The state of a network without switches, with copies of its parameters and its cells.
-fn static_copy<'n>(
-    alloc: Global,
-    net: StaticNet<'n>,
-    params: &Params,
-    cells: &Cells,
-) -> Result<State<'n>, Memory>
-    ensures { IfOk result
-        (λ s. state_of s ≡ static_state (rows_in net.entry.net.now) params.now cells.now) }
-{
-    let cells = cells.try_copy(alloc)?;
-    match params.try_copy() {
-        Ok(params) => Ok(State::Static(net, params, cells)),
-        Err(memory) => {
-            drop(cells);
-            Err(memory)
+impl<'n> State<'n> {
+    /// The node, to write to, where there is one and no one else holds it.
+    #[inline(always)]
+    pub(crate) fn node_mut(&mut self) -> Option<&mut Node<'n>> {
+        match self {
+            State::Whole(whole) => Rc::get_mut(&mut whole.node),
+            State::Nothing => None,
+        }
+    }
+
+    /// A copy, whose parts are shared with it. It takes no memory; `Memory` only where a count of
+    /// references is full.
+    pub fn try_copy(&self) -> Result<State<'n>, Memory>
+        ensures { IfOk result (λ s. state_of s ≡ state_of self.now) }
+    {
+        match self {
+            State::Whole(whole) => Ok(State::Whole(whole.try_copy()?)),
+            State::Nothing => Ok(State::Nothing),
         }
     }
 }

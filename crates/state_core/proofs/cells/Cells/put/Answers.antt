@@ -1,0 +1,19 @@
+use Rattle.std.proofs.Common.{◌<◌, ap, ◌∙◌, sym, map, take, length, arith, subst}
+use Rattle.std.proofs.Math.Seq.{take-set-lt}
+use Rattle.std.proofs.lemmas.List.{map-set, length-map, length-take-le}
+use Rattle.std.specs.Prelude.{slice_set}
+use Rattle.cell_core.specs.CellView.{cell_of}
+use Rattle.state_core.proofs.cells.Cells.put.Goals as goal
+
+pub returns : goal.returns
+returns c =
+    let is_within : c.args.i < c.self.inside.used = omega (
+      arith,
+      c.requires,
+      ap length c.self.view_is,
+      length-map (take c.self.inside.used c.self.inside.all.items) cell_of,
+      length-take-le c.self.inside.used c.self.inside.all.items c.self.invariant,
+    ) in
+    ap (map cell_of) (take-set-lt c.self.inside.used c.self.inside.all.items c.args.i c.replace.new.dest is_within)
+    ∙ map-set cell_of (take c.self.inside.used c.self.inside.all.items) c.args.i c.replace.new.dest
+    ∙ (λ i. slice_set (c.self.view_is i) c.args.i (cell_of (c.replace.ensures.after i)))
