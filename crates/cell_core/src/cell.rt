@@ -59,8 +59,8 @@ impl Cell {
         match form {
             Form::IPre => start::i_pre(alloc, constant, sample),
             Form::Delay(q) => queue::start(alloc, q, constant, sample),
-            Form::Hold => step::hold(alloc, &constant, sample),
-            Form::AccumBy => step::accum_by(alloc, &constant, sample),
+            Form::Hold => first_step(alloc, Cell::Hold(constant), sample),
+            Form::AccumBy => first_step(alloc, Cell::AccumBy(constant), sample),
             Form::After(q) => start::after(alloc, q, constant),
             Form::Repeatedly(q) => start::repeatedly(alloc, q, constant),
             Form::Time => Ok(start::time()),
@@ -74,21 +74,50 @@ impl Cell {
     ///
     /// Only a `delay` takes memory: `Memory` where a growth was refused, or a count of references
     /// is full. This cell stays as it is.
-    #[inline(always)]
     pub fn step(&self, alloc: Global, dt: u64, sample: &Sample) -> Result<(Cell, Sample), Memory>
         ensures { IfOk result
             (λ r. outcome_of r ≡ cell_step (cell_of self.now) (dt, datum_of sample.now)) }
     {
-        match self {
-            Cell::IPre(before) => step::i_pre(alloc, before, sample),
-            Cell::Delay(front, newest) => queue::step(front, newest, alloc, dt, sample),
-            Cell::Hold(latest) => step::hold(alloc, latest, sample),
-            Cell::AccumBy(accumulator) => step::accum_by(alloc, accumulator, sample),
-            Cell::After(left, value) => step::after(*left, value, dt),
-            Cell::Repeatedly(left, recurring) => step::repeatedly(*left, recurring, dt),
-            Cell::Time(time) => Ok(step::time(*time, dt)),
-            Cell::Integral(sum, before) => Ok(step::integral(*sum, *before, dt, sample)),
+        let mut next = Cell::Time(0);
+        match self.step_over(alloc, dt, sample, &mut next) {
+            Ok(answer) => Ok((next, answer)),
+            Err(memory) => {
+                drop(next);
+                Err(memory)
+            }
         }
+    }
+
+    /// The same, with the cell after it in the place of another one.
+    #[inline(always)]
+    pub fn step_over(
+        &self,
+        alloc: Global,
+        dt: u64,
+        sample: &Sample,
+        place: &mut Cell,
+    ) -> Result<Sample, Memory>
+        ensures { IfOk result (λ y. outcome_of (place.new, y)
+            ≡ cell_step (cell_of self.now) (dt, datum_of sample.now)) }
+    {
+        match self {
+            Cell::IPre(before) => step::i_pre(alloc, before, sample, place),
+            Cell::Delay(front, newest) => queue::step(front, newest, alloc, dt, sample, place),
+            Cell::Hold(latest) => step::hold(alloc, latest, sample, place),
+            Cell::AccumBy(accumulator) => step::accum_by(alloc, accumulator, sample, place),
+            Cell::After(left, value) => step::after(*left, value, dt, place),
+            Cell::Repeatedly(left, recurring) => step::repeatedly(*left, recurring, dt, place),
+            Cell::Time(time) => Ok(step::time(*time, dt, place)),
+            Cell::Integral(sum, before) => Ok(step::integral(*sum, *before, dt, sample, place)),
+        }
+    }
+
+    /// Another cell in the place of this one.
+    #[inline(always)]
+    pub(crate) fn put(&mut self, cell: Cell)
+        ensures { self.new ≡ cell }
+    {
+        drop(std::mem::replace(self, cell));
     }
 
     /// The accumulator of an `accumBy`; nothing for another cell.
@@ -131,4 +160,14 @@ impl Cell {
             Cell::Integral(sum, before) => Cell::Integral(*sum, *before),
         })
     }
+}
+
+/// A cell that keeps its constant, after its first sample, and its answer to it.
+fn first_step(alloc: Global, cell: Cell, sample: &Sample) -> Result<(Cell, Sample), Memory>
+    ensures { IfOk result
+        (λ r. outcome_of r ≡ cell_step (cell_of cell) (0, datum_of sample.now)) }
+{
+    let first = cell.step(alloc, 0, sample);
+    drop(cell);
+    first
 }

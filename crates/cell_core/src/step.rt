@@ -21,28 +21,40 @@ pub(crate) fn i_pre(
     alloc: Global,
     before: &Sample,
     sample: &Sample,
-) -> Result<(Cell, Sample), Memory>
-    ensures { IfOk result
-        (λ r. outcome_of r ≡ cell_step (previous (datum_of before.now)) (0, datum_of sample.now)) }
+    place: &mut Cell,
+) -> Result<Sample, Memory>
+    ensures { IfOk result (λ y. outcome_of (place.new, y)
+        ≡ cell_step (previous (datum_of before.now)) (0, datum_of sample.now)) }
 {
     let kept = sample.try_copy(alloc)?;
-    let answer = before.try_copy(alloc)?;
-    Ok((Cell::IPre(kept), answer))
+    match place {
+        Cell::IPre(there) => there.put(kept),
+        _ => place.put(Cell::IPre(kept)),
+    }
+    before.try_copy(alloc)
 }
 
 /// A `hold` keeps and answers an event's value, else what it has kept.
 #[inline(always)]
-pub(crate) fn hold(alloc: Global, kept: &Sample, sample: &Sample) -> Result<(Cell, Sample), Memory>
-    ensures { IfOk result
-        (λ r. outcome_of r ≡ cell_step (latest (datum_of kept.now)) (0, datum_of sample.now)) }
+pub(crate) fn hold(
+    alloc: Global,
+    kept: &Sample,
+    sample: &Sample,
+    place: &mut Cell,
+) -> Result<Sample, Memory>
+    ensures { IfOk result (λ y. outcome_of (place.new, y)
+        ≡ cell_step (latest (datum_of kept.now)) (0, datum_of sample.now)) }
 {
     let value = match sample {
         Sample::Event(value) => value.get(),
         _ => kept,
     };
     let kept = value.try_copy(alloc)?;
-    let answer = value.try_copy(alloc)?;
-    Ok((Cell::Hold(kept), answer))
+    match place {
+        Cell::Hold(there) => there.put(kept),
+        _ => place.put(Cell::Hold(kept)),
+    }
+    value.try_copy(alloc)
 }
 
 /// An `accumBy` keeps an event's value and answers the event.
@@ -51,38 +63,40 @@ pub(crate) fn accum_by(
     alloc: Global,
     kept: &Sample,
     sample: &Sample,
-) -> Result<(Cell, Sample), Memory>
-    ensures { IfOk result
-        (λ r. outcome_of r
+    place: &mut Cell,
+) -> Result<Sample, Memory>
+    ensures { IfOk result (λ y. outcome_of (place.new, y)
         ≡ cell_step (accumulating (datum_of kept.now)) (0, datum_of sample.now)) }
 {
-    match sample {
-        Sample::Event(value) => {
-            let accumulator = value.get().try_copy(alloc)?;
-            let answer = sample.try_copy(alloc)?;
-            Ok((Cell::AccumBy(accumulator), answer))
-        }
-        _ => {
-            let accumulator = kept.try_copy(alloc)?;
-            Ok((Cell::AccumBy(accumulator), Sample::NoEvent))
-        }
+    let (value, fires) = match sample {
+        Sample::Event(value) => (value.get(), true),
+        _ => (kept, false),
+    };
+    let accumulator = value.try_copy(alloc)?;
+    match place {
+        Cell::AccumBy(there) => there.put(accumulator),
+        _ => place.put(Cell::AccumBy(accumulator)),
     }
+    if fires { sample.try_copy(alloc) } else { Ok(Sample::NoEvent) }
 }
 
 /// An `after`: its event comes where it isn't past, and no more than dt is left.
 #[inline(always)]
-pub(crate) fn after(left: u64, value: &SampleChild, dt: u64) -> Result<(Cell, Sample), Memory>
-    ensures { IfOk result
-        (λ r. outcome_of r ≡ cell_step (after_of left value.now) (dt, unit)) }
+pub(crate) fn after(
+    left: u64,
+    value: &SampleChild,
+    dt: u64,
+    place: &mut Cell,
+) -> Result<Sample, Memory>
+    ensures { IfOk result (λ y. outcome_of (place.new, y)
+        ≡ cell_step (after_of left value.now) (dt, unit)) }
 {
-    let value = value.try_copy()?;
-    if left == 0 {
-        Ok((Cell::After(0, value), Sample::NoEvent))
-    } else if left <= dt {
-        let carried = value.try_copy()?;
-        Ok((Cell::After(0, value), Sample::Event(carried)))
+    let fires = 0 < left && left <= dt;
+    place.put(Cell::After(left.saturating_sub(dt), value.try_copy()?));
+    if fires {
+        Ok(Sample::Event(value.try_copy()?))
     } else {
-        Ok((Cell::After(left - dt, value), Sample::NoEvent))
+        Ok(Sample::NoEvent)
     }
 }
 
@@ -92,37 +106,48 @@ pub(crate) fn repeatedly(
     left: u64,
     recurring: &Rc<Recurring>,
     dt: u64,
-) -> Result<(Cell, Sample), Memory>
-    ensures { IfOk result
-        (λ r. outcome_of r ≡ cell_step (recurring_of left recurring.now.value) (dt, unit)) }
+    place: &mut Cell,
+) -> Result<Sample, Memory>
+    ensures { IfOk result (λ y. outcome_of (place.new, y)
+        ≡ cell_step (recurring_of left recurring.now.value) (dt, unit)) }
 {
     let kept = recurring.clone()?;
     if left <= dt {
         let q = recurring.q;
-        let value = recurring.value.try_copy()?;
         let next = q - (dt - left) % q;
-        Ok((Cell::Repeatedly(next, kept), Sample::Event(value)))
+        place.put(Cell::Repeatedly(next, kept));
+        Ok(Sample::Event(recurring.value.try_copy()?))
     } else {
-        Ok((Cell::Repeatedly(left - dt, kept), Sample::NoEvent))
+        place.put(Cell::Repeatedly(left - dt, kept));
+        Ok(Sample::NoEvent)
     }
 }
 
 /// A `time` is dt more.
 #[inline(always)]
-pub(crate) fn time(before: i64, dt: u64) -> (Cell, Sample)
-    ensures { outcome_of result ≡ cell_step (ticking before) (dt, unit) }
+pub(crate) fn time(before: i64, dt: u64, place: &mut Cell) -> Sample
+    ensures { outcome_of (place.new, result) ≡ cell_step (ticking before) (dt, unit) }
 {
     let time = wrapped_time(before, dt);
-    (Cell::Time(time), Sample::Int(time))
+    place.put(Cell::Time(time));
+    Sample::Int(time)
 }
 
 /// An `integral` is dt times the sample before more.
 #[inline(always)]
-pub(crate) fn integral(sum: i64, before: i64, dt: u64, sample: &Sample) -> (Cell, Sample)
-    ensures { outcome_of result ≡ cell_step (summing sum before) (dt, datum_of sample.now) }
+pub(crate) fn integral(
+    sum: i64,
+    before: i64,
+    dt: u64,
+    sample: &Sample,
+    place: &mut Cell,
+) -> Sample
+    ensures { outcome_of (place.new, result)
+        ≡ cell_step (summing sum before) (dt, datum_of sample.now) }
 {
     let sum = wrapped_area(sum, before, dt);
-    (Cell::Integral(sum, whole_of(sample)), Sample::Int(sum))
+    place.put(Cell::Integral(sum, whole_of(sample)));
+    Sample::Int(sum)
 }
 
 // A step modulo 2^64, read as signed.

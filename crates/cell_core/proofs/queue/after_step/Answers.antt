@@ -7,7 +7,7 @@ use Rattle.cell_core.specs.Delays.{front_of, out_in}
 use Rattle.cell_core.specs.declared.behind.Newest.{Newest}
 use Rattle.cell_core.specs.declared.front.Front.{Front}
 use Rattle.cell_core.proofs.Queues.{moved_on}
-use Rattle.cell_core.proofs.queue.step.Goals as goal
+use Rattle.cell_core.proofs.queue.after_step.Goals as goal
 
 -- what is read through a reference is what it leads to
 read_through : (f g : Front) (n m : Newest) (from dt r : ℕ) → f ≡ g → n ≡ m → from ≡ out_in f n → IsPassed (front_of f) n.age dt from r
