@@ -9,6 +9,7 @@ pub mod Stands
 pub mod RowsView
 pub mod ParamsView
 pub mod CellCode
+pub mod CellsView
 pub mod StateCode
 pub mod Sizes
 pub mod StaticNetwork

@@ -2,9 +2,11 @@
 
 ghost use Rattle.std.specs.Prelude.{◌≡◌, ◌≤◌, ◌<◌, ◌++◌, ◌∷◌, [], IfOk, MatchOption, None, Some, length, slice_get, slice_set};
 ghost use Rattle.cell_core.specs.CellView.{cell_of};
+ghost use Rattle.sample_core.specs.ValueView.{datum_of};
+ghost use Rattle.state_core.specs.CellsView.{IsStepAdded};
 
 use cell_core::Cell;
-use sample_core::Memory;
+use sample_core::{Memory, Sample};
 use std::alloc::Global;
 use std::marker::Model;
 
@@ -85,6 +87,34 @@ impl Cells {
         }
         self.used += 1;
         Ok(())
+    }
+
+    /// The answer of a cell to one sample more, `dt` after the one before; the cell after it is one
+    /// cell more. `Memory` where a growth was refused.
+    #[inline(always)]
+    pub fn push_step(
+        &mut self,
+        alloc: Global,
+        before: &Cell,
+        dt: u64,
+        sample: &Sample,
+    ) -> Result<Sample, Memory>
+        ensures { IfOk result (λ y.
+            IsStepAdded self.old (cell_of before.now) (dt, datum_of sample.now) self.new (datum_of y)) }
+    {
+        if self.used < self.all.len() {
+            let answer = before.step_over(alloc, dt, sample, &mut self.all[self.used])?;
+            self.used += 1;
+            return Ok(answer);
+        }
+        let (next, answer) = before.step(alloc, dt, sample)?;
+        match self.push(next) {
+            Ok(()) => Ok(answer),
+            Err(memory) => {
+                drop(answer);
+                Err(memory)
+            }
+        }
     }
 
     /// Another cell in the place of cell i.
