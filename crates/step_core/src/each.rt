@@ -15,7 +15,7 @@ use crate::ran::{Ran, around};
 use leaf_table::LeafId;
 use net_syntax::Net;
 use sample_core::{Memory, Sample};
-use state_core::{Env, Node, PSwitchParts, State, States, gather};
+use state_core::{Env, NewStates, Node, PSwitchParts, Spare, States, gather};
 use std::alloc::Global;
 use std::marker::Model;
 
@@ -23,7 +23,7 @@ use std::marker::Model;
 /// they visited. Contracts see it as a record of clean ones.
 #[derive(Drop)]
 pub(crate) struct Each<'n> {
-    states: Vec<State<'n>>,
+    states: NewStates<'n>,
     answers: Vec<Sample>,
     visits: u32,
 }
@@ -38,10 +38,9 @@ impl<'n> Model for Each<'n> {
     ghost coded = { gathered_code };
 
     ghost use Rattle.sample_core.specs.ValueView.{datum_of};
-    ghost use Rattle.state_core.specs.StateView.{states_of};
 
     ghost view = { λ a. record {
-      states = states_of a.states.items;
+      states = a.states;
       answers = map datum_of a.answers.items;
       visits = a.visits;
     } };
@@ -51,7 +50,7 @@ impl<'n> Model for Each<'n> {
 /// nodes they visited. Contracts see it as a record of clean ones.
 #[derive(Drop)]
 pub(crate) struct Listed<'n> {
-    states: Vec<State<'n>>,
+    states: States<'n>,
     list: Sample,
     visits: u32,
 }
@@ -64,33 +63,46 @@ impl<'n> Model for Listed<'n> {
     ghost coded = { list_outcome_code };
 
     ghost use Rattle.sample_core.specs.ValueView.{datum_of};
-    ghost use Rattle.state_core.specs.StateView.{states_of};
 
     ghost view = { λ a. record {
-      states = states_of a.states.items;
+      states = a.states;
       list = datum_of a.list;
       visits = a.visits;
     } };
 }
 
 impl<'n> Each<'n> {
-    /// No member so far, with room for so many. `Memory` where a growth was refused.
-    pub(crate) fn none(alloc: Global, room: usize) -> Result<Each<'n>, Memory>
+    /// No member so far, with room for so many, in memory that is out of use. `Memory` where a
+    /// growth was refused.
+    pub(crate) fn none(
+        alloc: Global,
+        room: usize,
+        spare: &mut Spare<'n>,
+    ) -> Result<Each<'n>, Memory>
         ensures { IfOk result
             (λ e. e ≡ record { states = no_state; answers = []; visits = 0 }) }
     {
-        let states = Vec::with_capacity(alloc, room)?;
-        match Vec::with_capacity(alloc, room) {
-            Ok(answers) => Ok(Each {
+        let answers = Vec::with_capacity(alloc, room)?;
+        let mut states = spare.take_members(alloc);
+        match states.reserve(room) {
+            Ok(()) => Ok(Each {
                 states,
                 answers,
                 visits: 0,
             }),
             Err(memory) => {
                 drop(states);
-                Err(memory.into())
+                drop(answers);
+                Err(memory)
             }
         }
+    }
+
+    /// The memory of the state in whose place that of the next member comes.
+    pub(crate) fn take_spare(&mut self) -> Spare<'n>
+        ensures { self.new ≡ self.old }
+    {
+        self.states.take_spare()
     }
 
     /// One member more. `Memory` where a growth was refused.
@@ -107,7 +119,7 @@ impl<'n> Each<'n> {
             }
             Err(memory) => {
                 drop(answer);
-                Err(memory.into())
+                Err(memory)
             }
         }
     }
@@ -123,7 +135,7 @@ impl<'n> Each<'n> {
         } = self;
         match gather(alloc, answers) {
             Ok(list) => Ok(Listed {
-                states,
+                states: states.into_states(),
                 list,
                 visits,
             }),
@@ -155,18 +167,22 @@ impl<'n> Listed<'n> {
         ensures states { result.0 ≡ self.entry.states }
         ensures list { datum_of result.1 ≡ self.entry.list }
     {
-        (States::new(self.states), self.list)
+        (self.states, self.list)
     }
 }
 
 /// `parB` round what its members led to.
-pub(crate) fn join_par<'n>(alloc: Global, all: Listed<'n>) -> Result<Ran<'n>, Memory>
+pub(crate) fn join_par<'n>(
+    alloc: Global,
+    all: Listed<'n>,
+    spare: Spare<'n>,
+) -> Result<Ran<'n>, Memory>
     ensures { IfOk result (λ r.
         IsRan r (par_state all.entry.states) all.entry.list (suc (all.entry.visits + 0))) }
 {
     let visits = count::node(all.visits(), 0);
     let (states, list) = all.into_parts();
-    around(alloc, Node::Par(states), list, visits)
+    around(alloc, Node::Par(states), list, visits, spare)
 }
 
 /// `pSwitch` round what its parts led to.
@@ -177,6 +193,7 @@ pub(crate) fn keep_p_switch<'n>(
     two: Ran<'n>,
     t: &'n Net<LeafId>,
     env: &Env<'n>,
+    spare: Spare<'n>,
 ) -> Result<Ran<'n>, Memory>
     ensures { IfOk result (λ o.
         IsRan o (p_switch_state (row_number r) all.entry.states two.entry.state
@@ -196,11 +213,12 @@ pub(crate) fn keep_p_switch<'n>(
                 net: t,
                 env,
             };
-            around_p_switch(alloc, parts, list, visits)
+            around_p_switch(alloc, parts, list, visits, spare)
         }
         Err(memory) => {
             drop(all);
             drop(two);
+            drop(spare);
             Err(memory)
         }
     }
@@ -212,6 +230,7 @@ fn around_p_switch<'n>(
     parts: PSwitchParts<'n>,
     answer: Sample,
     visits: u32,
+    spare: Spare<'n>,
 ) -> Result<Ran<'n>, Memory>
     ensures { IfOk result (λ o. o ≡ record {
       state = p_switch_of parts.entry;
@@ -220,9 +239,10 @@ fn around_p_switch<'n>(
     }) }
 {
     match Box::new(alloc, parts) {
-        Ok(parts) => around(alloc, Node::PSwitch(parts), answer, visits),
+        Ok(parts) => around(alloc, Node::PSwitch(parts), answer, visits, spare),
         Err(memory) => {
             drop(answer);
+            drop(spare);
             Err(memory.into())
         }
     }

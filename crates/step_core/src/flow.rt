@@ -18,7 +18,7 @@ use cell_core::{Cell, Form};
 use leaf_table::LeafId;
 use net_syntax::Net;
 use sample_core::{Memory, Sample};
-use state_core::{Cells, NewCells, gather};
+use state_core::{Cells, gather};
 use std::alloc::Global;
 
 /// What a sample flows through beside the network: the rows of its expressions, the parameters in
@@ -39,7 +39,7 @@ pub(crate) fn flow<R: Rows>(
     on: &Context<'_, R>,
     net: &Net<LeafId>,
     x: &Sample,
-    cells: &mut NewCells,
+    cells: &mut Cells,
 ) -> Result<Sample, Memory>
     requires { IsTrue (is_static (rows_in net.now)) }
     ensures { IfOk result (λ y. Flows (R.keys on.now.rows.now) (rows_in net.now)
@@ -71,7 +71,7 @@ fn flow_seq<R: Rows>(
     f: &Net<LeafId>,
     g: &Net<LeafId>,
     x: &Sample,
-    cells: &mut NewCells,
+    cells: &mut Cells,
 ) -> Result<Sample, Memory>
     requires { IsTrue (is_static (seq (rows_in f.now) (rows_in g.now))) }
     ensures { IfOk result (λ y. Flows (R.keys on.now.rows.now) (seq (rows_in f.now) (rows_in g.now))
@@ -90,7 +90,7 @@ fn flow_first<R: Rows>(
     on: &Context<'_, R>,
     f: &Net<LeafId>,
     x: &Sample,
-    cells: &mut NewCells,
+    cells: &mut Cells,
 ) -> Result<Sample, Memory>
     requires { IsTrue (is_static (rows_in f.now)) }
     ensures { IfOk result (λ y. Flows (R.keys on.now.rows.now) (first (rows_in f.now))
@@ -107,7 +107,7 @@ fn flow_par<R: Rows>(
     on: &Context<'_, R>,
     members: &[Net<LeafId>],
     x: &Sample,
-    cells: &mut NewCells,
+    cells: &mut Cells,
 ) -> Result<Sample, Memory>
     requires { IsTrue (are_static (map_networks row_number (members_of members.now))) }
     ensures { IfOk result (λ y. Flows (R.keys on.now.rows.now)
@@ -131,7 +131,7 @@ fn flow_each<R: Rows>(
     on: &Context<'_, R>,
     members: &[Net<LeafId>],
     x: &Sample,
-    cells: &mut NewCells,
+    cells: &mut Cells,
     answers: &mut Vec<Sample>,
 ) -> Result<(), Memory>
     requires { IsTrue (are_static (map_networks row_number (members_of members.now))) }
@@ -158,7 +158,7 @@ fn flow_loop<R: Rows>(
     c: LeafId,
     f: &Net<LeafId>,
     x: &Sample,
-    cells: &mut NewCells,
+    cells: &mut Cells,
 ) -> Result<Sample, Memory>
     requires { IsTrue (is_static (rows_in f.now)) }
     ensures { IfOk result (λ y. Flows (R.keys on.now.rows.now)
@@ -179,7 +179,7 @@ fn feed<R: Rows>(
     on: &Context<'_, R>,
     c: LeafId,
     x: &Sample,
-    cells: &mut NewCells,
+    cells: &mut Cells,
 ) -> Result<Sample, Memory>
     ensures { IfOk result (λ y. IsFedBack (R.keys on.now.rows.now) (row_number c)
         (map datum_of on.now.params.now) (past_in on.now.before on.now.dt) (datum_of x.now)
@@ -187,7 +187,7 @@ fn feed<R: Rows>(
 {
     let value = value_before(on, c, cells.len())?;
     match beside(on.alloc, x, &value) {
-        Ok(input) => hold_place(on.alloc, value, input, cells),
+        Ok(input) => hold_place(value, input, cells),
         Err(memory) => {
             drop(value);
             Err(memory)
@@ -214,15 +214,14 @@ fn value_before<R: Rows>(on: &Context<'_, R>, c: LeafId, at: usize) -> Result<Sa
 
 /// A value as the next cell, beside the input that was made of it.
 fn hold_place(
-    alloc: Global,
     value: Sample,
     input: Sample,
-    cells: &mut NewCells,
+    cells: &mut Cells,
 ) -> Result<Sample, Memory>
     ensures { IfOk result (λ y. (y ≡ input)
         × (cells.new ≡ cells.old ++ previous (datum_of value) ∷ [])) }
 {
-    match cells.push(alloc, Cell::IPre(value)) {
+    match cells.push(Cell::IPre(value)) {
         Ok(()) => Ok(input),
         Err(memory) => {
             drop(input);
@@ -236,7 +235,7 @@ fn keep_fed(
     alloc: Global,
     answer: Sample,
     at: usize,
-    cells: &mut NewCells,
+    cells: &mut Cells,
 ) -> Result<Sample, Memory>
     requires { at < length cells.old }
     ensures { IfOk result (λ y. (datum_of y ≡ left (datum_of answer))
@@ -262,7 +261,7 @@ fn flow_cell<R: Rows>(
     form: Form,
     constant: Option<LeafId>,
     x: &Sample,
-    cells: &mut NewCells,
+    cells: &mut Cells,
 ) -> Result<Sample, Memory>
     ensures { IfOk result (λ y. (net : _) → IsCell net form (number_of constant)
         → Flows (R.keys on.now.rows.now) net
@@ -273,13 +272,13 @@ fn flow_cell<R: Rows>(
         Some(before) => match before.get(cells.len()) {
             Some(cell) => {
                 let (next, answer) = cell.step(on.alloc, on.dt, x)?;
-                keep(on.alloc, next, answer, cells)
+                keep(next, answer, cells)
             }
             None => Err(Memory),
         },
         None => {
             let (first, answer) = start_cell(on.alloc, on.rows, form, constant, on.params, x)?;
-            keep(on.alloc, first, answer, cells)
+            keep(first, answer, cells)
         }
     }
 }
@@ -290,7 +289,7 @@ fn flow_accum<R: Rows>(
     g: LeafId,
     z: LeafId,
     x: &Sample,
-    cells: &mut NewCells,
+    cells: &mut Cells,
 ) -> Result<Sample, Memory>
     ensures { IfOk result (λ y. Flows (R.keys on.now.rows.now)
         (accum_by (row_number g) (row_number z))
@@ -301,22 +300,22 @@ fn flow_accum<R: Rows>(
         Some(before) => match before.get(cells.len()) {
             Some(cell) => {
                 let (next, answer) = step_accum(on.alloc, on.rows, g, on.params, cell, x)?;
-                keep(on.alloc, next, answer, cells)
+                keep(next, answer, cells)
             }
             None => Err(Memory),
         },
         None => {
             let (first, answer) = start_accum(on.alloc, on.rows, g, z, on.params, x)?;
-            keep(on.alloc, first, answer, cells)
+            keep(first, answer, cells)
         }
     }
 }
 
 /// The cell behind the others, and the answer.
-fn keep(alloc: Global, cell: Cell, answer: Sample, cells: &mut NewCells) -> Result<Sample, Memory>
+fn keep(cell: Cell, answer: Sample, cells: &mut Cells) -> Result<Sample, Memory>
     ensures { IfOk result (λ y. (y ≡ answer) × (cells.new ≡ cells.old ++ cell_of cell ∷ [])) }
 {
-    match cells.push(alloc, cell) {
+    match cells.push(cell) {
         Ok(()) => Ok(answer),
         Err(memory) => {
             drop(answer);

@@ -1,6 +1,6 @@
 // What a sample is to do, by the form of what runs.
 
-ghost use Rattle.std.specs.Prelude.{◌≡◌, false, ℕ};
+ghost use Rattle.std.specs.Prelude.{◌≡◌, [], false, ℕ};
 ghost use Rattle.state_core.specs.RowsView.{rows_in};
 ghost use Rattle.state_core.specs.State.{unstarted, paused, Frozen as FrozenState};
 ghost use Rattle.state_core.specs.StateView.{state_of, scope_of, node_of, k_switch_of, p_switch_of, frozen_of};
@@ -130,9 +130,16 @@ fn plan_step<'s, 'n>(state: &'s State<'n>) -> Plan<'s, 'n>
     ensures { (d : ℕ) → PlanBy (paused (state_of state.entry.now) d) d result }
 {
     match state {
-        State::Static(net, params, cells) => Plan::Static(*net, params, Some(cells)),
         State::Whole(whole) => plan_node(whole.get()),
+        State::Nothing => Plan::Par(Sources::States(no_states())),
     }
+}
+
+/// The states of no members.
+fn no_states<'s, 'n>() -> &'s [State<'n>]
+    ensures { result.now ≡ [] }
+{
+    &[]
 }
 
 /// What a step of a node is to do.
@@ -140,13 +147,18 @@ fn plan_node<'s, 'n>(node: &'s Node<'n>) -> Plan<'s, 'n>
     ensures { (d : ℕ) → PlanBy (paused (node_of node.entry.now) d) d result }
 {
     match node {
-        Node::Seq(a, b) => Plan::Seq(Source::State(a), Source::State(b)),
-        Node::First(a) => Plan::First(Source::State(a)),
+        Node::Static(parts) => Plan::Static(parts.net, &parts.params, Some(&parts.cells)),
+        Node::Seq(parts) => {
+            Plan::Seq(Source::State(&parts.first), Source::State(&parts.second))
+        }
+        Node::First(part) => Plan::First(Source::State(part)),
         Node::Par(all) => Plan::Par(Sources::States(all.as_slice())),
-        Node::LoopPre(fed_back, a) => Plan::LoopPre(Back::Value(fed_back), Source::State(a)),
-        Node::Switch(a, t, env) => Plan::Switch(Source::State(a), *t, env),
-        Node::DSwitch(a, t, env) => Plan::DSwitch(Source::State(a), *t, env),
-        Node::RSwitch(a, t, env) => Plan::RSwitch(Source::State(a), *t, env),
+        Node::LoopPre(parts) => {
+            Plan::LoopPre(Back::Value(&parts.fed_back), Source::State(&parts.part))
+        }
+        Node::Switch(parts) => Plan::Switch(Source::State(&parts.part), parts.net, &parts.env),
+        Node::DSwitch(parts) => Plan::DSwitch(Source::State(&parts.part), parts.net, &parts.env),
+        Node::RSwitch(parts) => Plan::RSwitch(Source::State(&parts.part), parts.net, &parts.env),
         Node::KSwitch(parts) => plan_k_switch(parts),
         Node::PSwitch(parts) => plan_p_switch(parts),
     }

@@ -5,7 +5,7 @@ ghost use Rattle.sample_core.specs.Datum.{left, right, pair};
 ghost use Rattle.sample_core.specs.ValueView.{datum_of};
 ghost use Rattle.state_core.specs.RowsView.{rows_in};
 ghost use Rattle.state_core.specs.State.{seq_state, first_state, loop_state, switch_state, d_switch_state, r_switch_state, k_switch_state};
-ghost use Rattle.state_core.specs.StateView.{state_of, node_of, k_switch_of, scope_of};
+ghost use Rattle.state_core.specs.StateView.{state_of, node_of, scope_of};
 ghost use Rattle.state_core.specs.StaticNetwork.{static_state, Counts};
 ghost use Rattle.step_core.specs.Outcome.{IsRan};
 
@@ -14,7 +14,10 @@ use crate::part::{first, paired_with, second};
 use leaf_table::LeafId;
 use net_syntax::Net;
 use sample_core::{Memory, Sample};
-use state_core::{Cells, Env, KSwitchParts, Node, Params, State, StaticNet, Whole};
+use state_core::{
+    Cells, Env, KSwitchParts, LoopParts, Node, Params, SeqParts, Spare, State, StaticNet, StaticParts,
+    SwitchParts,
+};
 use std::alloc::Global;
 use std::marker::Model;
 
@@ -100,18 +103,19 @@ impl<'n> Ran<'n> {
     }
 }
 
-/// A node round its parts' states.
+/// A node round its parts' states, in memory that is out of use.
 pub(crate) fn around<'n>(
     alloc: Global,
     node: Node<'n>,
     answer: Sample,
     visits: u32,
+    spare: Spare<'n>,
 ) -> Result<Ran<'n>, Memory>
     ensures { IfOk result (λ r. r
         ≡ record { state = node_of node.entry; answer = datum_of answer; visits = visits }) }
 {
-    match Whole::new(alloc, node) {
-        Ok(whole) => Ok(Ran::new(State::Whole(whole), answer, visits)),
+    match spare.into_state(alloc, node) {
+        Ok(state) => Ok(Ran::new(state, answer, visits)),
         Err(memory) => {
             drop(answer);
             Err(memory)
@@ -119,13 +123,14 @@ pub(crate) fn around<'n>(
     }
 }
 
-/// A network without switches round its new cells. `Memory` only where a count of references is
-/// full.
+/// A network without switches round its new cells.
 pub(crate) fn keep_static<'n>(
+    alloc: Global,
     net: StaticNet<'n>,
     params: &Params,
     cells: Cells,
     answer: Sample,
+    spare: Spare<'n>,
 ) -> Result<Ran<'n>, Memory>
     ensures { IfOk result (λ r. (r.state
         ≡ static_state (rows_in net.entry.net.now) params.now cells)
@@ -134,27 +139,34 @@ pub(crate) fn keep_static<'n>(
     match params.try_copy() {
         Ok(params) => {
             let visits = net.nodes();
-            Ok(Ran::new(State::Static(net, params, cells), answer, visits))
+            let parts = StaticParts { net, params, cells };
+            around(alloc, Node::Static(parts), answer, visits, spare)
         }
         Err(memory) => {
             drop(cells);
             drop(answer);
+            drop(spare);
             Err(memory)
         }
     }
 }
 
 /// `>>>` of what its parts led to.
-pub(crate) fn join_seq<'n>(alloc: Global, one: Ran<'n>, two: Ran<'n>) -> Result<Ran<'n>, Memory>
+pub(crate) fn join_seq<'n>(
+    alloc: Global,
+    one: Ran<'n>,
+    two: Ran<'n>,
+    spare: Spare<'n>,
+) -> Result<Ran<'n>, Memory>
     ensures { IfOk result (λ r.
         IsRan r (seq_state one.entry.state two.entry.state) two.entry.answer
         (suc (one.entry.visits + two.entry.visits))) }
 {
-    let visits = count::node(one.visits, two.visits);
-    let (left, between) = one.into_parts();
+    let visits = count::node(one.visits(), two.visits());
+    let (first, between) = one.into_parts();
     drop(between);
-    let (right, answer) = two.into_parts();
-    around(alloc, Node::Seq(left, right), answer, visits)
+    let (second, answer) = two.into_parts();
+    around(alloc, Node::Seq(SeqParts { first, second }), answer, visits, spare)
 }
 
 /// `first` round what its part led to, with the component that passes along.
@@ -162,33 +174,40 @@ pub(crate) fn join_first<'n>(
     alloc: Global,
     one: Ran<'n>,
     passed: &Sample,
+    spare: Spare<'n>,
 ) -> Result<Ran<'n>, Memory>
     ensures { IfOk result (λ r.
         IsRan r (first_state one.entry.state) (pair one.entry.answer (datum_of passed.now))
         (suc (one.entry.visits + 0))) }
 {
-    let visits = count::node(one.visits, 0);
+    let visits = count::node(one.visits(), 0);
     let (state, answer) = one.into_parts();
     match paired_with(alloc, answer, passed) {
-        Ok(answer) => around(alloc, Node::First(state), answer, visits),
+        Ok(answer) => around(alloc, Node::First(state), answer, visits, spare),
         Err(memory) => {
             drop(state);
+            drop(spare);
             Err(memory)
         }
     }
 }
 
 /// `loopPre` round what its part led to.
-pub(crate) fn join_loop<'n>(alloc: Global, one: Ran<'n>) -> Result<Ran<'n>, Memory>
+pub(crate) fn join_loop<'n>(
+    alloc: Global,
+    one: Ran<'n>,
+    spare: Spare<'n>,
+) -> Result<Ran<'n>, Memory>
     ensures { IfOk result (λ r.
         IsRan r (loop_state (right one.entry.answer) one.entry.state) (left one.entry.answer)
         (suc (one.entry.visits + 0))) }
 {
-    let visits = count::node(one.visits, 0);
+    let visits = count::node(one.visits(), 0);
     match second(&one.answer).try_copy(alloc) {
-        Ok(fed_back) => feed_back(alloc, one, fed_back, visits),
+        Ok(fed_back) => feed_back(alloc, one, fed_back, visits, spare),
         Err(memory) => {
             drop(one);
+            drop(spare);
             Err(memory)
         }
     }
@@ -200,6 +219,7 @@ fn feed_back<'n>(
     one: Ran<'n>,
     fed_back: Sample,
     visits: u32,
+    spare: Spare<'n>,
 ) -> Result<Ran<'n>, Memory>
     ensures { IfOk result (λ r. r ≡ record {
       state = loop_state (datum_of fed_back) one.entry.state;
@@ -209,22 +229,32 @@ fn feed_back<'n>(
 {
     match one.with_first(alloc) {
         Ok(one) => {
-            let (state, answer) = one.into_parts();
-            around(alloc, Node::LoopPre(fed_back, state), answer, visits)
+            let (part, answer) = one.into_parts();
+            let parts = LoopParts { fed_back, part };
+            around(alloc, Node::LoopPre(parts), answer, visits, spare)
         }
         Err(memory) => {
             drop(fed_back);
+            drop(spare);
             Err(memory)
         }
     }
 }
 
-/// What a part led to, and a copy of the scope. `Memory` only where a count of references is full.
-fn with_scope<'n>(one: Ran<'n>, env: &Env<'n>) -> Result<(Ran<'n>, Env<'n>), Memory>
-    ensures { IfOk result (λ r. (r.0 ≡ one.entry) × (scope_of r.1 ≡ scope_of env.now)) }
+/// What stands round a part's state in a switch, with what the part answered.
+fn parts_round<'n>(
+    one: Ran<'n>,
+    t: &'n Net<LeafId>,
+    env: &Env<'n>,
+) -> Result<(SwitchParts<'n>, Sample), Memory>
+    ensures { IfOk result (λ r. (state_of r.0.part ≡ one.entry.state) × (r.0.net.now ≡ t.entry.now)
+        × (scope_of r.0.env ≡ scope_of env.now) × (datum_of r.1 ≡ one.entry.answer)) }
 {
     match env.try_copy() {
-        Ok(env) => Ok((one, env)),
+        Ok(env) => {
+            let (part, answer) = one.into_parts();
+            Ok((SwitchParts { part, net: t, env }, answer))
+        }
         Err(memory) => {
             drop(one);
             Err(memory)
@@ -238,15 +268,15 @@ pub(crate) fn keep_switch<'n>(
     one: Ran<'n>,
     t: &'n Net<LeafId>,
     env: &Env<'n>,
+    spare: Spare<'n>,
 ) -> Result<Ran<'n>, Memory>
     ensures { IfOk result (λ r.
         IsRan r (switch_state one.entry.state (rows_in t.entry.now) (scope_of env.now))
         (left one.entry.answer) (suc (one.entry.visits + 0))) }
 {
-    let visits = count::node(one.visits, 0);
-    let (one, env) = with_scope(one.with_first(alloc)?, env)?;
-    let (state, answer) = one.into_parts();
-    around(alloc, Node::Switch(state, t, env), answer, visits)
+    let visits = count::node(one.visits(), 0);
+    let (parts, answer) = parts_round(one.with_first(alloc)?, t, env)?;
+    around(alloc, Node::Switch(parts), answer, visits, spare)
 }
 
 /// `dSwitch` round what its part led to.
@@ -255,15 +285,15 @@ pub(crate) fn keep_d_switch<'n>(
     one: Ran<'n>,
     t: &'n Net<LeafId>,
     env: &Env<'n>,
+    spare: Spare<'n>,
 ) -> Result<Ran<'n>, Memory>
     ensures { IfOk result (λ r.
         IsRan r (d_switch_state one.entry.state (rows_in t.entry.now) (scope_of env.now))
         (left one.entry.answer) (suc (one.entry.visits + 0))) }
 {
-    let visits = count::node(one.visits, 0);
-    let (one, env) = with_scope(one.with_first(alloc)?, env)?;
-    let (state, answer) = one.into_parts();
-    around(alloc, Node::DSwitch(state, t, env), answer, visits)
+    let visits = count::node(one.visits(), 0);
+    let (parts, answer) = parts_round(one.with_first(alloc)?, t, env)?;
+    around(alloc, Node::DSwitch(parts), answer, visits, spare)
 }
 
 /// `rSwitch` round what runs in it.
@@ -272,15 +302,15 @@ pub(crate) fn keep_r_switch<'n>(
     one: Ran<'n>,
     t: &'n Net<LeafId>,
     env: &Env<'n>,
+    spare: Spare<'n>,
 ) -> Result<Ran<'n>, Memory>
     ensures { IfOk result (λ r.
         IsRan r (r_switch_state one.entry.state (rows_in t.entry.now) (scope_of env.now))
         one.entry.answer (suc (one.entry.visits + 0))) }
 {
-    let visits = count::node(one.visits, 0);
-    let (one, env) = with_scope(one, env)?;
-    let (state, answer) = one.into_parts();
-    around(alloc, Node::RSwitch(state, t, env), answer, visits)
+    let visits = count::node(one.visits(), 0);
+    let (parts, answer) = parts_round(one, t, env)?;
+    around(alloc, Node::RSwitch(parts), answer, visits, spare)
 }
 
 /// `kSwitch` round what its parts led to.
@@ -290,52 +320,32 @@ pub(crate) fn keep_k_switch<'n>(
     two: Ran<'n>,
     t: &'n Net<LeafId>,
     env: &Env<'n>,
+    spare: Spare<'n>,
 ) -> Result<Ran<'n>, Memory>
     ensures { IfOk result (λ r.
         IsRan r (k_switch_state one.entry.state two.entry.state (rows_in t.entry.now)
         (scope_of env.now))
         one.entry.answer (suc (one.entry.visits + two.entry.visits))) }
 {
-    let visits = count::node(one.visits, two.visits);
+    let visits = count::node(one.visits(), two.visits());
     match env.try_copy() {
         Ok(env) => {
-            let (state, answer) = one.into_parts();
+            let (part, answer) = one.into_parts();
             let (watch, event) = two.into_parts();
             drop(event);
             let parts = KSwitchParts {
-                part: state,
+                part,
                 watch,
                 net: t,
                 env,
             };
-            around_k_switch(alloc, parts, answer, visits)
+            around(alloc, Node::KSwitch(parts), answer, visits, spare)
         }
         Err(memory) => {
             drop(one);
             drop(two);
+            drop(spare);
             Err(memory)
-        }
-    }
-}
-
-/// `kSwitch` round its parts.
-fn around_k_switch<'n>(
-    alloc: Global,
-    parts: KSwitchParts<'n>,
-    answer: Sample,
-    visits: u32,
-) -> Result<Ran<'n>, Memory>
-    ensures { IfOk result (λ r. r ≡ record {
-      state = k_switch_of parts.entry;
-      answer = datum_of answer;
-      visits = visits;
-    }) }
-{
-    match Box::new(alloc, parts) {
-        Ok(parts) => around(alloc, Node::KSwitch(parts), answer, visits),
-        Err(memory) => {
-            drop(answer);
-            Err(memory.into())
         }
     }
 }
@@ -344,7 +354,7 @@ fn around_k_switch<'n>(
 pub(crate) fn take_over<'n>(before: u32, over: Ran<'n>) -> Ran<'n>
     ensures { IsRan result over.entry.state over.entry.answer (before + over.entry.visits) }
 {
-    let visits = count::both(before, over.visits);
+    let visits = count::both(before, over.visits());
     let (state, answer) = over.into_parts();
     Ran::new(state, answer, visits)
 }
@@ -359,7 +369,7 @@ pub(crate) fn take_over_late<'n>(
         IsRan r over.entry.state (left one.entry.answer)
         (suc (one.entry.visits + over.entry.visits))) }
 {
-    let visits = count::node(one.visits, over.visits);
+    let visits = count::node(one.visits(), over.visits());
     let (state, unseen) = over.into_parts();
     drop(unseen);
     match one.with_first(alloc) {
@@ -379,7 +389,7 @@ pub(crate) fn take_over_late<'n>(
 pub(crate) fn resumed<'n>(over: Ran<'n>) -> Ran<'n>
     ensures { IsRan result over.entry.state over.entry.answer (suc (over.entry.visits + 0)) }
 {
-    let visits = count::node(over.visits, 0);
+    let visits = count::node(over.visits(), 0);
     let (state, answer) = over.into_parts();
     Ran::new(state, answer, visits)
 }

@@ -8,7 +8,7 @@ ghost use Rattle.state_core.specs.RowsView.{rows_in, row_number};
 ghost use Rattle.state_core.specs.State.{Frozen};
 ghost use Rattle.state_core.specs.StateView.{scope_of};
 ghost use Rattle.step_core.specs.Called.{Called};
-ghost use Rattle.step_core.specs.Flow.{FlowsThrough, IsFlow, past_in};
+ghost use Rattle.step_core.specs.Flow.{IsFlow, past_in};
 ghost use Rattle.step_core.specs.Outcome.{RunsBy, TakesOver, TakesOverLate, RunsAll};
 ghost use Rattle.step_core.specs.Plans.{IsFed, RunsMember, router_of};
 ghost use Rattle.step_core.specs.Runs.{RunsWhere, RunEachWhere, SeqBy, FirstBy, ParBy, LoopBy, SwitchBy, DSwitchBy, RSwitchBy, KSwitchBy, PSwitchBy, OldBy};
@@ -28,11 +28,11 @@ use crate::rows::Rows;
 use leaf_table::LeafId;
 use net_syntax::Net;
 use sample_core::{Memory, Sample};
-use state_core::{Cells, Env, NewCells, Params, StaticNet, push_param, route};
+use state_core::{Cells, Env, Params, Spare, StaticNet, push_param, route};
 use std::alloc::Global;
 
-/// A start or a step. `dt` is the time since the sample before, where there is one. `Memory` where
-/// a growth was refused.
+/// A start or a step. `dt` is the time since the sample before, where there is one. The new state
+/// comes into memory that is out of use. `Memory` where a growth was refused.
 #[cycle(run)]
 pub(crate) fn run<'n, R: Rows>(
     alloc: Global,
@@ -40,24 +40,28 @@ pub(crate) fn run<'n, R: Rows>(
     from: Source<'_, 'n>,
     dt: u64,
     x: &Sample,
+    spare: Spare<'n>,
 ) -> Result<Ran<'n>, Memory>
     ensures { IfOk result (λ r.
         RunsWhere (R.keys rows.now) (source_of from.entry dt) (datum_of x.now)
         r.state r.answer r.visits) }
 {
     match plan_of(from) {
-        Plan::Static(net, params, cells) => run_static(alloc, rows, net, params, cells, dt, x),
-        Plan::Seq(f, g) => run_seq(alloc, rows, f, g, dt, x),
-        Plan::First(f) => run_first(alloc, rows, f, dt, x),
-        Plan::Par(fs) => run_par(alloc, rows, fs, dt, x),
-        Plan::LoopPre(back, f) => run_loop(alloc, rows, back, f, dt, x),
-        Plan::Switch(f, t, env) => run_switch(alloc, rows, f, t, env, dt, x),
-        Plan::DSwitch(f, t, env) => run_d_switch(alloc, rows, f, t, env, dt, x),
-        Plan::RSwitch(f, t, env) => run_r_switch(alloc, rows, f, t, env, dt, x),
-        Plan::KSwitch(f, e, t, env) => run_k_switch(alloc, rows, f, e, t, env, dt, x),
-        Plan::PSwitch(r, fs, e, t, env) => run_p_switch(alloc, rows, r, fs, e, t, env, dt, x),
-        Plan::Old(frozen, step) => run_old(alloc, rows, frozen, step, x),
-        Plan::Beyond => Err(Memory),
+        Plan::Static(net, params, cells) => run_static(alloc, rows, net, params, cells, dt, x, spare),
+        Plan::Seq(f, g) => run_seq(alloc, rows, f, g, dt, x, spare),
+        Plan::First(f) => run_first(alloc, rows, f, dt, x, spare),
+        Plan::Par(fs) => run_par(alloc, rows, fs, dt, x, spare),
+        Plan::LoopPre(back, f) => run_loop(alloc, rows, back, f, dt, x, spare),
+        Plan::Switch(f, t, env) => run_switch(alloc, rows, f, t, env, dt, x, spare),
+        Plan::DSwitch(f, t, env) => run_d_switch(alloc, rows, f, t, env, dt, x, spare),
+        Plan::RSwitch(f, t, env) => run_r_switch(alloc, rows, f, t, env, dt, x, spare),
+        Plan::KSwitch(f, e, t, env) => run_k_switch(alloc, rows, f, e, t, env, dt, x, spare),
+        Plan::PSwitch(r, fs, e, t, env) => run_p_switch(alloc, rows, r, fs, e, t, env, dt, x, spare),
+        Plan::Old(frozen, step) => run_old(alloc, rows, frozen, step, x, spare),
+        Plan::Beyond => {
+            drop(spare);
+            Err(Memory)
+        }
     }
 }
 
@@ -70,35 +74,14 @@ fn run_static<'n, R: Rows>(
     before: Option<&Cells>,
     dt: u64,
     x: &Sample,
+    mut spare: Spare<'n>,
 ) -> Result<Ran<'n>, Memory>
     ensures { IfOk result (λ r.
         RunsBy (R.keys rows.now)
         (λ w. IsFlow w (rows_in net.entry.net.now) params.now (past_in before.entry dt))
         (datum_of x.now) r) }
 {
-    let (cells, answer) = flow_whole(alloc, rows, net, params, before, dt, x)?;
-    keep_static(net, params, cells, answer)
-}
-
-/// The new cells of a network without switches, and what it answers.
-#[inline(always)]
-pub(crate) fn flow_whole<R: Rows>(
-    alloc: Global,
-    rows: &R,
-    net: StaticNet<'_>,
-    params: &Params,
-    before: Option<&Cells>,
-    dt: u64,
-    x: &Sample,
-) -> Result<(Cells, Sample), Memory>
-    ensures { IfOk result (λ r. FlowsThrough (R.keys rows.now) (rows_in net.entry.net.now)
-        params.now (past_in before.entry dt) (datum_of x.now) r.0 (datum_of r.1)) }
-{
-    let room = match before {
-        Some(before) => before.len(),
-        None => 0,
-    };
-    let mut cells = NewCells::with_room(alloc, room)?;
+    let mut cells = spare.take_cells(alloc);
     let on = Context {
         alloc,
         rows,
@@ -107,22 +90,10 @@ pub(crate) fn flow_whole<R: Rows>(
         dt,
     };
     match flow(&on, net.net(), x, &mut cells) {
-        Ok(answer) => with_cells(alloc, cells, answer),
+        Ok(answer) => keep_static(alloc, net, params, cells, answer, spare),
         Err(memory) => {
             drop(cells);
-            Err(memory)
-        }
-    }
-}
-
-/// The cells, to be shared, and an answer. `Memory` where a growth was refused.
-fn with_cells(alloc: Global, cells: NewCells, answer: Sample) -> Result<(Cells, Sample), Memory>
-    ensures { IfOk result (λ r. (r.0 ≡ cells) × (r.1 ≡ answer)) }
-{
-    match cells.into_cells(alloc) {
-        Ok(cells) => Ok((cells, answer)),
-        Err(memory) => {
-            drop(answer);
+            drop(spare);
             Err(memory)
         }
     }
@@ -137,17 +108,19 @@ fn run_seq<'n, R: Rows>(
     g: Source<'_, 'n>,
     dt: u64,
     x: &Sample,
+    mut spare: Spare<'n>,
 ) -> Result<Ran<'n>, Memory>
     ensures { IfOk result (λ r.
         RunsBy (R.keys rows.now)
         (λ w. SeqBy w (source_of f.entry dt) (source_of g.entry dt))
         (datum_of x.now) r) }
 {
-    let one = run(alloc, rows, f, dt, x)?;
-    match run(alloc, rows, g, dt, one.answer()) {
-        Ok(two) => join_seq(alloc, one, two),
+    let one = run(alloc, rows, f, dt, x, spare.take_part())?;
+    match run(alloc, rows, g, dt, one.answer(), spare.take_second()) {
+        Ok(two) => join_seq(alloc, one, two, spare),
         Err(memory) => {
             drop(one);
+            drop(spare);
             Err(memory)
         }
     }
@@ -161,14 +134,15 @@ fn run_first<'n, R: Rows>(
     f: Source<'_, 'n>,
     dt: u64,
     x: &Sample,
+    mut spare: Spare<'n>,
 ) -> Result<Ran<'n>, Memory>
     ensures { IfOk result (λ r.
         RunsBy (R.keys rows.now)
         (λ w. FirstBy w (source_of f.entry dt))
         (datum_of x.now) r) }
 {
-    let one = run(alloc, rows, f, dt, first(x))?;
-    join_first(alloc, one, second(x))
+    let one = run(alloc, rows, f, dt, first(x), spare.take_part())?;
+    join_first(alloc, one, second(x), spare)
 }
 
 /// `parB` by its members.
@@ -179,14 +153,15 @@ fn run_par<'n, R: Rows>(
     fs: Sources<'_, 'n>,
     dt: u64,
     x: &Sample,
+    mut spare: Spare<'n>,
 ) -> Result<Ran<'n>, Memory>
     ensures { IfOk result (λ r.
         RunsBy (R.keys rows.now)
         (λ w. ParBy w (sources_of fs.entry dt))
         (datum_of x.now) r) }
 {
-    let all = run_all(alloc, rows, Route::ToAll, fs, dt, x)?;
-    join_par(alloc, all)
+    let all = run_all(alloc, rows, Route::ToAll, fs, dt, x, &mut spare)?;
+    join_par(alloc, all, spare)
 }
 
 /// `loopPre` by what is fed back and its part.
@@ -198,6 +173,7 @@ fn run_loop<'n, R: Rows>(
     f: Source<'_, 'n>,
     dt: u64,
     x: &Sample,
+    mut spare: Spare<'n>,
 ) -> Result<Ran<'n>, Memory>
     ensures { IfOk result (λ r.
         RunsBy (R.keys rows.now)
@@ -206,9 +182,9 @@ fn run_loop<'n, R: Rows>(
         (datum_of x.now) r) }
 {
     let input = fed(alloc, rows, back, x)?;
-    let one = run(alloc, rows, f, dt, &input);
+    let one = run(alloc, rows, f, dt, &input, spare.take_part());
     drop(input);
-    join_loop(alloc, one?)
+    join_loop(alloc, one?, spare)
 }
 
 /// `switch` by its part, the network that takes over and its scope.
@@ -221,22 +197,24 @@ fn run_switch<'n, R: Rows>(
     env: &Env<'n>,
     dt: u64,
     x: &Sample,
+    mut spare: Spare<'n>,
 ) -> Result<Ran<'n>, Memory>
     ensures { IfOk result (λ r.
         RunsBy (R.keys rows.now)
         (λ w. SwitchBy w (source_of f.entry dt) (rows_in t.entry.now) (scope_of env.now))
         (datum_of x.now) r) }
 {
-    let one = run(alloc, rows, f, dt, x)?;
+    let one = run(alloc, rows, f, dt, x, spare.take_part())?;
     match fire(alloc, second(one.answer()), env) {
         Ok(Some(inner)) => {
             let before = count::node(one.visits(), 0);
             drop(one);
-            run_over(alloc, rows, before, t, inner, x)
+            run_over(alloc, rows, before, t, inner, x, spare)
         }
-        Ok(None) => keep_switch(alloc, one, t, env),
+        Ok(None) => keep_switch(alloc, one, t, env, spare),
         Err(memory) => {
             drop(one);
+            drop(spare);
             Err(memory)
         }
     }
@@ -252,18 +230,20 @@ fn run_d_switch<'n, R: Rows>(
     env: &Env<'n>,
     dt: u64,
     x: &Sample,
+    mut spare: Spare<'n>,
 ) -> Result<Ran<'n>, Memory>
     ensures { IfOk result (λ r.
         RunsBy (R.keys rows.now)
         (λ w. DSwitchBy w (source_of f.entry dt) (rows_in t.entry.now) (scope_of env.now))
         (datum_of x.now) r) }
 {
-    let one = run(alloc, rows, f, dt, x)?;
+    let one = run(alloc, rows, f, dt, x, spare.take_part())?;
     match fire(alloc, second(one.answer()), env) {
-        Ok(Some(inner)) => run_late(alloc, rows, one, t, inner, x),
-        Ok(None) => keep_d_switch(alloc, one, t, env),
+        Ok(Some(inner)) => run_late(alloc, rows, one, t, inner, x, spare),
+        Ok(None) => keep_d_switch(alloc, one, t, env, spare),
         Err(memory) => {
             drop(one);
+            drop(spare);
             Err(memory)
         }
     }
@@ -279,6 +259,7 @@ fn run_r_switch<'n, R: Rows>(
     env: &Env<'n>,
     dt: u64,
     x: &Sample,
+    mut spare: Spare<'n>,
 ) -> Result<Ran<'n>, Memory>
     ensures { IfOk result (λ r.
         RunsBy (R.keys rows.now)
@@ -288,13 +269,13 @@ fn run_r_switch<'n, R: Rows>(
     match restart_of(x) {
         Some((u, event)) => {
             let inner = push_param(alloc, env, event)?;
-            let one = run(alloc, rows, Source::Net(t, &inner), 0, u);
+            let one = run(alloc, rows, Source::Net(t, &inner), 0, u, spare.take_part());
             drop(inner);
-            keep_r_switch(alloc, one?, t, env)
+            keep_r_switch(alloc, one?, t, env, spare)
         }
         None => {
-            let one = run(alloc, rows, f, dt, first(x))?;
-            keep_r_switch(alloc, one, t, env)
+            let one = run(alloc, rows, f, dt, first(x), spare.take_part())?;
+            keep_r_switch(alloc, one, t, env, spare)
         }
     }
 }
@@ -310,6 +291,7 @@ fn run_k_switch<'n, R: Rows>(
     env: &Env<'n>,
     dt: u64,
     x: &Sample,
+    mut spare: Spare<'n>,
 ) -> Result<Ran<'n>, Memory>
     ensures { IfOk result (λ r.
         RunsBy (R.keys rows.now)
@@ -317,24 +299,26 @@ fn run_k_switch<'n, R: Rows>(
         (scope_of env.now))
         (datum_of x.now) r) }
 {
-    let one = run(alloc, rows, f, dt, x)?;
-    match run_beside(alloc, rows, e, dt, x, one.answer()) {
+    let one = run(alloc, rows, f, dt, x, spare.take_part())?;
+    match run_beside(alloc, rows, e, dt, x, one.answer(), spare.take_second()) {
         Ok(two) => match fire_old(alloc, two.answer(), env, f, dt) {
             Ok(Some(inner)) => {
                 let before = count::node(one.visits(), two.visits());
                 drop(one);
                 drop(two);
-                run_over(alloc, rows, before, t, inner, x)
+                run_over(alloc, rows, before, t, inner, x, spare)
             }
-            Ok(None) => keep_k_switch(alloc, one, two, t, env),
+            Ok(None) => keep_k_switch(alloc, one, two, t, env, spare),
             Err(memory) => {
                 drop(one);
                 drop(two);
+                drop(spare);
                 Err(memory)
             }
         },
         Err(memory) => {
             drop(one);
+            drop(spare);
             Err(memory)
         }
     }
@@ -353,6 +337,7 @@ fn run_p_switch<'n, R: Rows>(
     env: &Env<'n>,
     dt: u64,
     x: &Sample,
+    mut spare: Spare<'n>,
 ) -> Result<Ran<'n>, Memory>
     ensures { IfOk result (λ o.
         RunsBy (R.keys rows.now)
@@ -360,24 +345,26 @@ fn run_p_switch<'n, R: Rows>(
         (rows_in t.entry.now) (scope_of env.now))
         (datum_of x.now) o) }
 {
-    let all = run_all(alloc, rows, Route::ByRow(r, &env.params), fs, dt, x)?;
-    match run_beside(alloc, rows, e, dt, x, all.list()) {
+    let all = run_all(alloc, rows, Route::ByRow(r, &env.params), fs, dt, x, &mut spare)?;
+    match run_beside(alloc, rows, e, dt, x, all.list(), spare.take_second()) {
         Ok(two) => match fire_olds(alloc, two.answer(), env, fs, dt) {
             Ok(Some(inner)) => {
                 let before = count::node(all.visits(), two.visits());
                 drop(all);
                 drop(two);
-                run_over(alloc, rows, before, t, inner, x)
+                run_over(alloc, rows, before, t, inner, x, spare)
             }
-            Ok(None) => keep_p_switch(alloc, r, all, two, t, env),
+            Ok(None) => keep_p_switch(alloc, r, all, two, t, env, spare),
             Err(memory) => {
                 drop(all);
                 drop(two);
+                drop(spare);
                 Err(memory)
             }
         },
         Err(memory) => {
             drop(all);
+            drop(spare);
             Err(memory)
         }
     }
@@ -391,13 +378,14 @@ fn run_old<'n, R: Rows>(
     frozen: Source<'_, 'n>,
     step: u64,
     x: &Sample,
+    spare: Spare<'n>,
 ) -> Result<Ran<'n>, Memory>
     ensures { IfOk result (λ r.
         RunsBy (R.keys rows.now)
         (λ w. OldBy w (source_of frozen.entry step))
         (datum_of x.now) r) }
 {
-    let over = run(alloc, rows, frozen, step, x)?;
+    let over = run(alloc, rows, frozen, step, x, spare)?;
     Ok(resumed(over))
 }
 
@@ -410,12 +398,13 @@ fn run_over<'n, R: Rows>(
     t: &'n Net<LeafId>,
     env: Env<'n>,
     x: &Sample,
+    spare: Spare<'n>,
 ) -> Result<Ran<'n>, Memory>
     ensures { IfOk result (λ r.
         TakesOver (R.keys rows.now) before (rows_in t.entry.now) (scope_of env.entry)
         (datum_of x.now) r) }
 {
-    let over = run(alloc, rows, Source::Net(t, &env), 0, x);
+    let over = run(alloc, rows, Source::Net(t, &env), 0, x, spare);
     drop(env);
     Ok(take_over(before, over?))
 }
@@ -429,12 +418,13 @@ fn run_late<'n, R: Rows>(
     t: &'n Net<LeafId>,
     env: Env<'n>,
     x: &Sample,
+    spare: Spare<'n>,
 ) -> Result<Ran<'n>, Memory>
     ensures { IfOk result (λ r.
         TakesOverLate (R.keys rows.now) one.entry (rows_in t.entry.now) (scope_of env.entry)
         (datum_of x.now) r) }
 {
-    let over = run(alloc, rows, Source::Net(t, &env), 0, x);
+    let over = run(alloc, rows, Source::Net(t, &env), 0, x, spare);
     drop(env);
     match over {
         Ok(over) => take_over_late(alloc, one, over),
@@ -454,13 +444,14 @@ fn run_beside<'n, R: Rows>(
     dt: u64,
     x: &Sample,
     y: &Sample,
+    spare: Spare<'n>,
 ) -> Result<Ran<'n>, Memory>
     ensures { IfOk result (λ r.
         RunsWhere (R.keys rows.now) (source_of e.entry dt) (pair (datum_of x.now) (datum_of y.now))
         r.state r.answer r.visits) }
 {
     let seen = beside(alloc, x, y)?;
-    let two = run(alloc, rows, e, dt, &seen);
+    let two = run(alloc, rows, e, dt, &seen, spare);
     drop(seen);
     two
 }
@@ -474,12 +465,13 @@ fn run_all<'n, R: Rows>(
     members: Sources<'_, 'n>,
     dt: u64,
     x: &Sample,
+    spare: &mut Spare<'n>,
 ) -> Result<Listed<'n>, Memory>
     ensures { IfOk result (λ all.
         RunsAll (R.keys rows.now) (router_of router.entry) (sources_of members.entry dt)
         (datum_of x.now) all) }
 {
-    let mut each = Each::none(alloc, count_of(members))?;
+    let mut each = Each::none(alloc, count_of(members), spare)?;
     match run_each(alloc, rows, router, 0, members, dt, x, &mut each) {
         Ok(()) => each.listed(alloc),
         Err(memory) => {
@@ -507,7 +499,7 @@ fn run_each<'n, R: Rows>(
 {
     match first_of(members) {
         Some((f, rest)) => {
-            let one = run_member(alloc, rows, router, i, f, dt, x)?;
+            let one = run_member(alloc, rows, router, i, f, dt, x, each.take_spare())?;
             each.add(one)?;
             run_each(alloc, rows, router, i.wrapping_add(1), rest, dt, x, each)
         }
@@ -525,16 +517,17 @@ fn run_member<'n, R: Rows>(
     f: Source<'_, 'n>,
     dt: u64,
     x: &Sample,
+    spare: Spare<'n>,
 ) -> Result<Ran<'n>, Memory>
     ensures { IfOk result (λ one.
         RunsMember (R.keys rows.now) (router_of router.entry) i (source_of f.entry dt)
         (datum_of x.now) one) }
 {
     match router {
-        Route::ToAll => run(alloc, rows, f, dt, x),
+        Route::ToAll => run(alloc, rows, f, dt, x, spare),
         Route::ByRow(r, params) => {
             let input = routed(alloc, rows, r, params, i, x)?;
-            let one = run(alloc, rows, f, dt, &input);
+            let one = run(alloc, rows, f, dt, &input, spare);
             drop(input);
             one
         }

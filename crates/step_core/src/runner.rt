@@ -1,22 +1,19 @@
 // Running a bound network, sample by sample.
 
-ghost use Rattle.std.specs.Prelude.{◌≡◌, ◌<◌, ◌≤◌, ◌+◌, ◌^◌, [], IfOk, OnErr, Some};
+ghost use Rattle.std.specs.Prelude.{◌≡◌, ◌<◌, ◌≤◌, ◌+◌, ◌^◌, [], IfOk, OnErr};
 ghost use Rattle.sample_core.specs.HasType.{HasType};
 ghost use Rattle.sample_core.specs.ValueView.{datum_of};
 ghost use Rattle.leaf_table.specs.Rows.{rows_of};
 ghost use Rattle.step_core.specs.Binding.{FitsTable};
 ghost use Rattle.step_core.specs.RunnerState.{HasPast};
-ghost use Rattle.state_core.specs.RowsView.{rows_in};
-ghost use Rattle.state_core.specs.StaticNetwork.{static_state};
-ghost use Rattle.state_core.specs.declared.state.State.TheVariants as S;
 ghost use Rattle.step_core.specs.StateOption.{state_in};
 
 use crate::bound::Bound;
 use crate::plan::Source;
-use crate::run::{flow_whole, run};
+use crate::run::run;
 use leaf_table::LeafTable;
 use sample_core::{Memory, Sample};
-use state_core::{Cells, Env, State};
+use state_core::{Env, Spare, State};
 use std::alloc::Global;
 
 /// A network that runs. It borrows the network and the table, and holds the network's state, once
@@ -29,6 +26,8 @@ pub struct Runner<'a> {
     state: Option<State<'a>>,
     samples: u64,
     visits: u32,
+    // The memory of the state before the last, for the next one.
+    spare: Spare<'a>,
     ghost past: { HasPast (record {
       input = bound.now.input;
       keys = rows_of table.now;
@@ -61,6 +60,7 @@ impl<'a> Runner<'a> {
             state: None,
             samples: 0,
             visits: 0,
+            spare: Spare::none(),
         }
     }
 
@@ -78,44 +78,17 @@ impl<'a> Runner<'a> {
             (runner_state self.new)) }
         ensures unchanged { OnErr result (runner_state self.new ≡ runner_state self.old) }
     {
-        match &self.state {
-            Some(state) => match state {
-                State::Static(net, params, cells) => {
-                    let before = Some(cells);
-                    let (next, answer) = flow_whole(
-                        self.alloc, self.table, *net, params, before, step, sample,
-                    )?;
-                    self.visits = net.nodes();
-                    self.samples += 1;
-                    put_cells(&mut self.state, next);
-                    Ok(answer)
-                }
-                State::Whole(_) => self.push_whole(step, sample),
-            },
-            None => self.push_whole(step, sample),
-        }
-    }
-
-    /// The same, whatever runs: a new state takes the place of the old one.
-    fn push_whole(&mut self, step: u64, sample: &Sample) -> Result<Sample, Memory>
-        requires typed { HasType (datum_of sample.now) (runner_state self.old).input }
-        requires later { 0 < (runner_state self.old).samples → (1 ≤ step) × (step < 2 ^ 63) }
-        requires room { (runner_state self.old).samples < 2 ^ 63 }
-        ensures pushed { IfOk result
-            (λ y. Pushes (runner_state self.old) (step, datum_of sample.now) (datum_of y)
-            (runner_state self.new)) }
-        ensures unchanged { OnErr result (runner_state self.new ≡ runner_state self.old) }
-    {
+        let spare = std::mem::replace(&mut self.spare, Spare::none());
         let env = Env::nothing();
         let from = match &self.state {
             Some(state) => Source::State(state),
             None => Source::Net(self.bound.net(), &env),
         };
-        let ran = run(self.alloc, self.table, from, step, sample)?;
+        let ran = run(self.alloc, self.table, from, step, sample, spare)?;
         let visits = ran.visits();
         let (state, answer) = ran.into_parts();
         let before = self.state.replace(state);
-        drop(before);
+        drop(std::mem::replace(&mut self.spare, spare_of(before)));
         self.samples += 1;
         self.visits = visits;
         Ok(answer)
@@ -137,13 +110,10 @@ impl<'a> Runner<'a> {
     }
 }
 
-/// Puts the new cells of a network without switches in the place of the old ones.
-fn put_cells(state: &mut Option<State<'_>>, next: Cells)
-    ensures { (net : _) (ps : _) (ks : _) → state.old ≡ Some (S.Static net ps ks)
-        → state_in state.new ≡ Some (static_state (rows_in net.net.now) ps next) }
-{
-    match state {
-        Some(State::Static(_, _, cells)) => drop(std::mem::replace(cells, next)),
-        _ => drop(next),
+/// The memory of the state before, if there was one.
+fn spare_of<'n>(before: Option<State<'n>>) -> Spare<'n> {
+    match before {
+        Some(state) => Spare::of(state),
+        None => Spare::none(),
     }
 }

@@ -1,4 +1,4 @@
-use Rattle.std.proofs.Common.{rules, arith, sym, ap, ◌∙◌, refl, List}
+use Rattle.std.proofs.Common.{rules, arith, sym, ap, subst, ◌∙◌, refl, List}
 use Rattle.leaf_core.specs.KeyTree.{KeyTree}
 use Rattle.sample_core.specs.Datum.{Datum, pair, right}
 use Rattle.sample_core.specs.ValueView.{datum_of}
@@ -7,7 +7,7 @@ use Rattle.state_core.specs.State.{push_param, push_old, push_olds}
 use Rattle.state_core.specs.StateView.{scope_of}
 use Rattle.step_core.specs.EventView.{restart_found}
 use Rattle.step_core.specs.Plans.{IsFed, router_of}
-use Rattle.step_core.specs.Runs.{to_all, by_row, SeqBy, FirstBy, ParBy, LoopBy, SwitchBy, DSwitchBy, RSwitchBy, KSwitchBy, PSwitchBy, OldBy}
+use Rattle.step_core.specs.Runs.{RunEachWhere, to_all, by_row, SeqBy, FirstBy, ParBy, LoopBy, SwitchBy, DSwitchBy, RSwitchBy, KSwitchBy, PSwitchBy, OldBy}
 use Rattle.step_core.specs.SourceView.{source_of, sources_of}
 use Rattle.step_core.proofs.Falling.{members_fall, seq_within, first_falls, par_falls, loop_falls, switch_within, d_switch_within, r_switch_within, k_switch_within, p_switch_within, old_falls, over_weighs, over_old_weighs, over_olds_weighs}
 use Rattle.step_core.proofs.RunJoins.{if_ok, fires_by, seq_joined, first_joined, loop_joined, switch_kept, switch_over, d_switch_kept, d_switch_over, r_switch_kept, r_switch_over, k_switch_kept, k_switch_over, old_over}
@@ -252,8 +252,9 @@ run_each-run_each-requires g t c κs within = (omega (arith, c.decreases, (membe
 pub run_each-returns-in_ok-add-in-Some : goal.run_each-returns-in_ok-add-in-Some
 run_each-returns-in_ok-add-in-Some g t c =
     if_ok c.run_each.result _ _
-    (λ u hs. also_run _ (router_of c.args.router) c.args.i _ _ _ _ _ c.in_ok-one-in-Some.ensures.0 _ _ _ _ (c.in-Some.ensures c.args.dt)
-    c.in_ok-one-in-Some.ensures.1 c.in_ok-one-in-Some.ensures.2 c.in_ok-add-in-Some.ensures (next_number c.args.i) hs)
+    (λ u hs. subst (λ z. RunEachWhere (g.R.Rows.keys c.args.rows.now) (router_of c.args.router) c.args.i (sources_of c.args.members c.args.dt) (datum_of c.args.x.now) z c.run_each.new.each)
+    c.take_spare.ensures (also_run _ (router_of c.args.router) c.args.i _ _ _ _ _ c.in_ok-one-in-Some.ensures.0 _ _ _ _ (c.in-Some.ensures c.args.dt)
+    c.in_ok-one-in-Some.ensures.1 c.in_ok-one-in-Some.ensures.2 c.in_ok-add-in-Some.ensures (next_number c.args.i) hs))
     c.run_each.ensures
 
 pub run_each-returns-in-None : goal.run_each-returns-in-None
