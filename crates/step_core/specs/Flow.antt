@@ -6,11 +6,11 @@ use Rattle.leaf_core.specs.KeyTree.{KeyTree}
 use Rattle.leaf_table.specs.declared.table.LeafId.{LeafId}
 use Rattle.net_syntax.specs.Network.{Network, Networks, i_pre, delay, hold, after, repeatedly, time, integral, no_members, and_member}
 use Rattle.net_syntax.specs.Weight.{weight, weights, total}
-use Rattle.cell_core.specs.Cell.{Cell, previous}
+use Rattle.cell_core.specs.Cell.{Cell, previous, accumulator_of}
 use Rattle.cell_core.specs.declared.form.Form.{Form}
 use Rattle.cell_core.specs.declared.form.Form.TheVariants as F
 use Rattle.state_core.specs.RowsView.{row_number}
-use Rattle.state_core.specs.State.{Scope, Frozen, Frozens, unstarted, paused, no_frozen, and_frozen, params_of}
+use Rattle.state_core.specs.State.{Scope, Frozen, Frozens, accum_state, unstarted, paused, no_frozen, and_frozen, params_of}
 use Rattle.state_core.specs.StaticNetwork.{Counts, cell_count, cells_count, static_state, static_states}
 use Rattle.step_core.specs.Called.{Called}
 use Rattle.step_core.specs.Outcome.{nothing_yet}
@@ -94,6 +94,13 @@ abbrev pub IsFedBack : List KeyTree → ℕ → List Datum → Past → Datum �
     → Datum → Type 0
 IsFedBack keys c ps p x before now y = (v : Datum) × IsKept keys c ps p (length before) v
     × (y ≡ pair x v) × (now ≡ before ++ previous v ∷ [])
+
+-- what an `accumBy` is after the sample x, with that accumulator before, was added, and y came out
+abbrev pub IsAccumAdded : List KeyTree → ℕ → List Datum → Datum → Datum → List Cell → List Cell
+    → Datum → Type 0
+IsAccumAdded keys g ps acc x before now y = (next : Cell) × (now ≡ before ++ next ∷ [])
+    × ((d : ℕ) → RunsWhere keys (paused (accum_state g ps acc) d) x
+    (accum_state g ps (accumulator_of next)) y 1)
 
 -- the number of a constant's row
 abbrev pub number_of : Option LeafId → Option ℕ

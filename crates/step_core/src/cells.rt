@@ -7,9 +7,9 @@ ghost use Rattle.cell_core.specs.CellView.{cell_of};
 ghost use Rattle.cell_core.specs.Start.{IsWithin};
 ghost use Rattle.net_syntax.specs.Network.{Network, accum_by};
 ghost use Rattle.state_core.specs.RowsView.{row_number};
-ghost use Rattle.state_core.specs.State.{Scope, accum_state, cell_state, params_of, paused, unstarted};
+ghost use Rattle.state_core.specs.State.{Scope, accum_state, cell_state, params_of, unstarted};
 ghost use Rattle.step_core.specs.Called.{IsConstant, IsPutIn};
-ghost use Rattle.step_core.specs.Flow.{IsCell, number_of};
+ghost use Rattle.step_core.specs.Flow.{IsAccumAdded, IsCell, number_of};
 ghost use Rattle.step_core.specs.Runs.{RunsWhere};
 
 use crate::part::beside;
@@ -17,6 +17,7 @@ use crate::rows::Rows;
 use cell_core::{Cell, Form};
 use leaf_table::LeafId;
 use sample_core::{Memory, Sample, SampleChild};
+use state_core::Cells;
 use std::alloc::Global;
 
 /// The cell after its first sample, and its answer.
@@ -96,7 +97,7 @@ pub(crate) fn start_accum<R: Rows>(
     }
 }
 
-/// The cell of an `accumBy` after a further sample, and its answer.
+/// The answer of an `accumBy` to a further sample; its cell after it is one cell more.
 pub(crate) fn step_accum<R: Rows>(
     alloc: Global,
     rows: &R,
@@ -104,20 +105,18 @@ pub(crate) fn step_accum<R: Rows>(
     params: &[Sample],
     cell: &Cell,
     x: &Sample,
-) -> Result<(Cell, Sample), Memory>
-    ensures { IfOk result (λ r. (d : ℕ) → RunsWhere (R.keys rows.now)
-        (paused (accum_state (row_number g) (map datum_of params.now)
-        (accumulator_of (cell_of cell.now))) d)
-        (datum_of x.now)
-        (accum_state (row_number g) (map datum_of params.now) (accumulator_of (cell_of r.0)))
-        (datum_of r.1) 1) }
+    cells: &mut Cells,
+) -> Result<Sample, Memory>
+    ensures { IfOk result (λ y. IsAccumAdded (R.keys rows.now) (row_number g)
+        (map datum_of params.now) (accumulator_of (cell_of cell.now)) (datum_of x.now) cells.old
+        cells.new (datum_of y)) }
 {
     match cell.accumulator() {
         Some(held) => {
             let input = put_in(alloc, rows, g, params, held, x)?;
-            let next = cell.step(alloc, 0, &input);
+            let answer = cells.push_step(alloc, cell, 0, &input);
             drop(input);
-            next
+            answer
         }
         None => Err(Memory),
     }

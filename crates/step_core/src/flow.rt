@@ -270,10 +270,7 @@ fn flow_cell<R: Rows>(
 {
     match on.before {
         Some(before) => match before.get(cells.len()) {
-            Some(cell) => {
-                let (next, answer) = cell.step(on.alloc, on.dt, x)?;
-                keep(next, answer, cells)
-            }
+            Some(cell) => cells.push_step(on.alloc, cell, on.dt, x),
             None => Err(Memory),
         },
         None => {
@@ -298,10 +295,7 @@ fn flow_accum<R: Rows>(
 {
     match on.before {
         Some(before) => match before.get(cells.len()) {
-            Some(cell) => {
-                let (next, answer) = step_accum(on.alloc, on.rows, g, on.params, cell, x)?;
-                keep(next, answer, cells)
-            }
+            Some(cell) => step_accum(on.alloc, on.rows, g, on.params, cell, x, cells),
             None => Err(Memory),
         },
         None => {

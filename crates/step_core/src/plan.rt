@@ -73,6 +73,7 @@ pub(crate) enum Plan<'s, 'n> {
 }
 
 /// What is to do.
+#[inline(always)]
 pub(crate) fn plan_of<'s, 'n>(from: Source<'s, 'n>) -> Plan<'s, 'n>
     ensures { (d : ℕ) → PlanBy (source_of from.entry d) d result }
 {
@@ -83,6 +84,7 @@ pub(crate) fn plan_of<'s, 'n>(from: Source<'s, 'n>) -> Plan<'s, 'n>
 }
 
 /// What a start is to do.
+#[inline(always)]
 fn plan_start<'s, 'n>(net: &'n Net<LeafId>, env: &'s Env<'n>) -> Plan<'s, 'n>
     ensures { (d : ℕ)
         → PlanBy (unstarted (rows_in net.entry.now) (scope_of env.entry.now)) d result }
@@ -94,6 +96,7 @@ fn plan_start<'s, 'n>(net: &'n Net<LeafId>, env: &'s Env<'n>) -> Plan<'s, 'n>
 }
 
 /// What a start of a network with switches is to do, by its form.
+#[inline(always)]
 fn plan_form<'s, 'n>(net: &'n Net<LeafId>, env: &'s Env<'n>) -> Plan<'s, 'n>
     requires { is_static (rows_in net.now) ≡ false }
     ensures { (d : ℕ)
@@ -126,6 +129,7 @@ fn plan_form<'s, 'n>(net: &'n Net<LeafId>, env: &'s Env<'n>) -> Plan<'s, 'n>
 }
 
 /// What a step is to do.
+#[inline(always)]
 fn plan_step<'s, 'n>(state: &'s State<'n>) -> Plan<'s, 'n>
     ensures { (d : ℕ) → PlanBy (paused (state_of state.entry.now) d) d result }
 {
@@ -143,6 +147,7 @@ fn no_states<'s, 'n>() -> &'s [State<'n>]
 }
 
 /// What a step of a node is to do.
+#[inline(always)]
 fn plan_node<'s, 'n>(node: &'s Node<'n>) -> Plan<'s, 'n>
     ensures { (d : ℕ) → PlanBy (paused (node_of node.entry.now) d) d result }
 {
@@ -165,6 +170,7 @@ fn plan_node<'s, 'n>(node: &'s Node<'n>) -> Plan<'s, 'n>
 }
 
 /// What a step of a `kSwitch` is to do.
+#[inline(always)]
 fn plan_k_switch<'s, 'n>(parts: &'s KSwitchParts<'n>) -> Plan<'s, 'n>
     ensures { (d : ℕ) → PlanBy (paused (k_switch_of parts.entry.now) d) d result }
 {
@@ -173,6 +179,7 @@ fn plan_k_switch<'s, 'n>(parts: &'s KSwitchParts<'n>) -> Plan<'s, 'n>
 }
 
 /// What a step of a `pSwitch` is to do.
+#[inline(always)]
 fn plan_p_switch<'s, 'n>(parts: &'s PSwitchParts<'n>) -> Plan<'s, 'n>
     ensures { (d : ℕ) → PlanBy (paused (p_switch_of parts.entry.now) d) d result }
 {
@@ -182,6 +189,7 @@ fn plan_p_switch<'s, 'n>(parts: &'s PSwitchParts<'n>) -> Plan<'s, 'n>
 }
 
 /// `old` of a frozen network.
+#[inline(always)]
 fn plan_resume<'s, 'n>(frozen: &'s Frozen<'n>) -> Plan<'s, 'n>
     ensures { (w : FrozenState ℕ) → OldBy w (frozen_of frozen.entry.now)
         → (d : ℕ) → PlanBy w d result }

@@ -66,6 +66,7 @@ pub(crate) fn run<'n, R: Rows>(
 }
 
 /// A sample of a network without switches.
+#[inline(never)]
 fn run_static<'n, R: Rows>(
     alloc: Global,
     rows: &R,
@@ -101,6 +102,7 @@ fn run_static<'n, R: Rows>(
 
 /// `>>>` by its two parts.
 #[cycle(run)]
+#[inline(never)]
 fn run_seq<'n, R: Rows>(
     alloc: Global,
     rows: &R,
@@ -128,6 +130,7 @@ fn run_seq<'n, R: Rows>(
 
 /// `first` by its part.
 #[cycle(run)]
+#[inline(never)]
 fn run_first<'n, R: Rows>(
     alloc: Global,
     rows: &R,
@@ -147,6 +150,7 @@ fn run_first<'n, R: Rows>(
 
 /// `parB` by its members.
 #[cycle(run)]
+#[inline(never)]
 fn run_par<'n, R: Rows>(
     alloc: Global,
     rows: &R,
@@ -166,6 +170,7 @@ fn run_par<'n, R: Rows>(
 
 /// `loopPre` by what is fed back and its part.
 #[cycle(run)]
+#[inline(never)]
 fn run_loop<'n, R: Rows>(
     alloc: Global,
     rows: &R,
@@ -189,6 +194,7 @@ fn run_loop<'n, R: Rows>(
 
 /// `switch` by its part, the network that takes over and its scope.
 #[cycle(run)]
+#[inline(never)]
 fn run_switch<'n, R: Rows>(
     alloc: Global,
     rows: &R,
@@ -222,6 +228,7 @@ fn run_switch<'n, R: Rows>(
 
 /// `dSwitch` likewise.
 #[cycle(run)]
+#[inline(never)]
 fn run_d_switch<'n, R: Rows>(
     alloc: Global,
     rows: &R,
@@ -251,6 +258,7 @@ fn run_d_switch<'n, R: Rows>(
 
 /// `rSwitch` likewise.
 #[cycle(run)]
+#[inline(never)]
 fn run_r_switch<'n, R: Rows>(
     alloc: Global,
     rows: &R,
@@ -282,6 +290,7 @@ fn run_r_switch<'n, R: Rows>(
 
 /// `kSwitch` likewise, with the part that watches.
 #[cycle(run)]
+#[inline(never)]
 fn run_k_switch<'n, R: Rows>(
     alloc: Global,
     rows: &R,
@@ -327,6 +336,7 @@ fn run_k_switch<'n, R: Rows>(
 /// `pSwitch` by the row that routes, its members, the part that watches them, the network that
 /// takes over and its scope.
 #[cycle(run)]
+#[inline(never)]
 fn run_p_switch<'n, R: Rows>(
     alloc: Global,
     rows: &R,
@@ -372,6 +382,7 @@ fn run_p_switch<'n, R: Rows>(
 
 /// `old` by what it resumes, after that one's own step.
 #[cycle(run)]
+#[inline(never)]
 fn run_old<'n, R: Rows>(
     alloc: Global,
     rows: &R,
@@ -391,6 +402,7 @@ fn run_old<'n, R: Rows>(
 
 /// The network takes over after so many visits.
 #[cycle(run)]
+#[inline(never)]
 fn run_over<'n, R: Rows>(
     alloc: Global,
     rows: &R,
@@ -411,6 +423,7 @@ fn run_over<'n, R: Rows>(
 
 /// The network takes over from a `dSwitch`, whose part still answers.
 #[cycle(run)]
+#[inline(never)]
 fn run_late<'n, R: Rows>(
     alloc: Global,
     rows: &R,
