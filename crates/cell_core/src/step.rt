@@ -77,7 +77,11 @@ pub(crate) fn accum_by(
         Cell::AccumBy(there) => there.put(accumulator),
         _ => place.put(Cell::AccumBy(accumulator)),
     }
-    if fires { sample.try_copy(alloc) } else { Ok(Sample::NoEvent) }
+    if fires {
+        sample.try_copy(alloc)
+    } else {
+        Ok(Sample::NoEvent)
+    }
 }
 
 /// An `after`: its event comes where it isn't past, and no more than dt is left.
@@ -135,13 +139,7 @@ pub(crate) fn time(before: i64, dt: u64, place: &mut Cell) -> Sample
 
 /// An `integral` is dt times the sample before more.
 #[inline(always)]
-pub(crate) fn integral(
-    sum: i64,
-    before: i64,
-    dt: u64,
-    sample: &Sample,
-    place: &mut Cell,
-) -> Sample
+pub(crate) fn integral(sum: i64, before: i64, dt: u64, sample: &Sample, place: &mut Cell) -> Sample
     ensures { outcome_of (place.new, result)
         ≡ cell_step (summing sum before) (dt, datum_of sample.now) }
 {

@@ -17,6 +17,7 @@ use Rattle.state_core.specs.StateView.{state_of, node_of, states_of, frozen_of, 
 -- a state's depth in the code is at most its size
 pub state_le : (n : CodeState) → deep-State n ≤ state_size (state_of n) + 1
 state_le S.Nothing = omega arith
+state_le (S.Static f k) = omega arith
 state_le (S.Whole w) = omega arith
 
 pub olds_le : (o : Olds) → deep-Olds o ≤ frozens_size (olds_of o) + 1
@@ -28,7 +29,6 @@ states_le [] = omega arith
 states_le (n ∷ ns) = omega (arith, state_le n, states_le ns)
 
 pub node_le : (n : Node) → max (deep-Node n) 0 ≤ state_size (node_of n)
-node_le (N.Static k) = omega arith
 node_le (N.Seq k) = omega (arith, state_le k.first, state_le k.second)
 node_le (N.First a) = omega (arith, state_le a)
 node_le (N.Par as') = omega arith

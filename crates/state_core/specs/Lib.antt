@@ -13,5 +13,7 @@ pub mod CellsView
 pub mod StateCode
 pub mod Sizes
 pub mod StaticNetwork
+pub mod StaticKept
+pub mod StaticLending
 pub mod StateView
 pub mod Depth

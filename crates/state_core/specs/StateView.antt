@@ -9,7 +9,6 @@ use Rattle.state_core.specs.StaticNetwork.{static_state}
 use Rattle.state_core.specs.State.{State, States, Scope, Frozens, Frozen, seq_state, first_state, par_state, loop_state, switch_state, d_switch_state, r_switch_state, k_switch_state, p_switch_state, no_state, and_state, scope, no_frozen, and_frozen, unstarted, paused, frozen_at}
 use Rattle.state_core.specs.declared.state.State.{State as CodeState}
 use Rattle.state_core.specs.declared.state.State.TheVariants as S
-use Rattle.state_core.specs.declared.state.StaticParts.{StaticParts}
 use Rattle.state_core.specs.declared.state.KSwitchParts.{KSwitchParts}
 use Rattle.state_core.specs.declared.state.PSwitchParts.{PSwitchParts}
 use Rattle.state_core.specs.declared.state.Node.{Node}
@@ -32,16 +31,13 @@ scope_of e = scope e.params (olds_of e.olds)
 -- the state that a `State` is
 abbrev pub state_of : CodeState → State ℕ
 state_of S.Nothing = par_state no_state
+state_of (S.Static f k) = static_state (rows_in f.net.now) k.0 k.1
 state_of (S.Whole w) = w
 
 -- the states of members
 abbrev pub states_of : List CodeState → States ℕ
 states_of [] = no_state
 states_of (a ∷ as') = and_state (state_of a) (states_of as')
-
--- the state that a network without switches keeps
-abbrev pub static_of : StaticParts → State ℕ
-static_of k = static_state (rows_in k.net.net.now) k.params k.cells
 
 -- the state that the parts of a `kSwitch` are
 abbrev pub k_switch_of : KSwitchParts → State ℕ
@@ -55,7 +51,6 @@ p_switch_of k = p_switch_state (row_number k.router) k.members (state_of k.watch
 
 -- the state that a `Node` is
 abbrev pub node_of : Node → State ℕ
-node_of (N.Static k) = static_of k
 node_of (N.Seq k) = seq_state (state_of k.first) (state_of k.second)
 node_of (N.First a) = first_state (state_of a)
 node_of (N.Par as') = par_state as'

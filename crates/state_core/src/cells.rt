@@ -59,20 +59,15 @@ impl Cells {
         ensures { MatchOption result (slice_get self.now i ≡ None)
             (λ k. slice_get self.now i ≡ Some (cell_of k.now)) }
     {
-        if i < self.used {
-            self.all.get(i)
-        } else {
-            None
-        }
+        if i < self.used { self.all.get(i) } else { None }
     }
 
-    /// No cells, in the memory of these, in whose place there are none then.
-    pub(crate) fn take(&mut self, alloc: Global) -> Cells
-        ensures { result ≡ [] }
+    /// No cells any more; their places stay.
+    #[inline(always)]
+    pub fn clear(&mut self)
+        ensures { self.new ≡ [] }
     {
-        let all = std::mem::replace(&mut self.all, Vec::new(alloc));
         self.used = 0;
-        Cells { all, used: 0 }
     }
 
     /// One cell more. `Memory` where a growth was refused.

@@ -9,6 +9,7 @@ mod part;
 mod spare;
 mod state;
 mod static_net;
+mod static_state;
 
 pub use cells::Cells;
 pub use env::{Env, Frozen, OldList, Olds, freeze, pause, push_old, push_olds, push_param};
@@ -17,7 +18,7 @@ pub use params::Params;
 pub use part::{gather, route};
 pub use spare::Spare;
 pub use state::{
-    KSwitchParts, LoopParts, Node, PSwitchParts, SeqParts, State, States, StaticParts, SwitchParts,
-    Whole,
+    KSwitchParts, LoopParts, Node, PSwitchParts, SeqParts, State, States, SwitchParts, Whole,
 };
 pub use static_net::StaticNet;
+pub use static_state::{StaticParts, StaticState};

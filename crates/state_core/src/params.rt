@@ -1,6 +1,6 @@
 // Parameters in scope.
 
-ghost use Rattle.std.specs.Prelude.{◌≡◌, ◌++◌, ◌∷◌, [], IfOk, map};
+ghost use Rattle.std.specs.Prelude.{◌≡◌, ◌++◌, ◌∷◌, [], IfOk, OnOk, map};
 ghost use Rattle.sample_core.specs.ValueView.{datum_of};
 
 use sample_core::{Memory, Sample};
@@ -59,6 +59,19 @@ impl Params {
             }),
             None => Ok(Params { all: None }),
         }
+    }
+
+    /// These parameters, shared, in the place of the others. It takes no memory; `Memory` only where
+    /// a count of references is full.
+    #[inline(always)]
+    pub(crate) fn renew(&mut self, from: &Params) -> Result<(), Memory>
+        ensures { OnOk result (self.new ≡ from.now) }
+    {
+        if self.all.is_some() || from.all.is_some() {
+            let copy = from.try_copy()?;
+            drop(std::mem::replace(self, copy));
+        }
+        Ok(())
     }
 
     /// These parameters and one more behind them. `Memory` where a growth was refused.

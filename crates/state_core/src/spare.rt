@@ -1,12 +1,12 @@
 // Memory of states that are out of use.
 
-ghost use Rattle.std.specs.Prelude.{◌≡◌, [], IfOk};
+ghost use Rattle.std.specs.Prelude.{◌≡◌, IfOk};
 ghost use Rattle.state_core.specs.State.{no_state};
 ghost use Rattle.state_core.specs.StateView.{state_of, node_of};
 
-use crate::cells::Cells;
 use crate::new_states::NewStates;
 use crate::state::{Node, State, Whole};
+use crate::static_state::StaticState;
 use sample_core::Memory;
 use std::alloc::Global;
 use std::marker::Model;
@@ -53,7 +53,7 @@ impl<'n> Spare<'n> {
             Node::DSwitch(parts) => taken(&mut parts.part),
             Node::RSwitch(parts) => taken(&mut parts.part),
             Node::KSwitch(parts) => taken(&mut parts.part),
-            Node::Static(_) | Node::Par(_) | Node::PSwitch(_) => Spare::none(),
+            Node::Par(_) | Node::PSwitch(_) => Spare::none(),
         }
     }
 
@@ -84,16 +84,12 @@ impl<'n> Spare<'n> {
         }
     }
 
-    /// No cells yet, with the memory of the state's cells.
-    pub fn take_cells(&mut self, alloc: Global) -> Cells
-        ensures { result ≡ [] }
-    {
-        let Some(node) = self.state.node_mut() else {
-            return Cells::none(alloc);
-        };
-        match node {
-            Node::Static(parts) => parts.cells.take(alloc),
-            _ => Cells::none(alloc),
+    /// The memory of a network without switches, where it is that.
+    #[inline(always)]
+    pub fn into_static(self) -> Option<StaticState> {
+        match self.state {
+            State::Static(_, kept) => Some(kept),
+            _ => None,
         }
     }
 
@@ -104,7 +100,10 @@ impl<'n> Spare<'n> {
     {
         let whole = match self.state {
             State::Whole(whole) => whole.renewed(alloc, node)?,
-            State::Nothing => Whole::new(alloc, node)?,
+            other => {
+                drop(other);
+                Whole::new(alloc, node)?
+            }
         };
         Ok(State::Whole(whole))
     }

@@ -4,10 +4,9 @@ ghost use Rattle.std.specs.Prelude.{◌≡◌, IfOk};
 ghost use Rattle.state_core.specs.State.{no_state};
 ghost use Rattle.state_core.specs.StateView.{state_of, node_of, states_of};
 
-use crate::cells::Cells;
 use crate::env::Env;
-use crate::params::Params;
 use crate::static_net::StaticNet;
+use crate::static_state::StaticState;
 use leaf_table::LeafId;
 use net_syntax::Net;
 use sample_core::{Memory, Sample};
@@ -21,7 +20,9 @@ use std::rc::Rc;
 pub enum State<'n> {
     /// Nothing, which keeps nothing and takes no memory: a `parB` without members.
     Nothing,
-    /// A node.
+    /// A network without switches, with its parameters and its cells.
+    Static(StaticNet<'n>, StaticState),
+    /// A node round the states of its parts.
     Whole(Whole<'n>),
 }
 
@@ -32,12 +33,10 @@ pub struct Whole<'n> {
     node: Rc<Node<'n>>,
 }
 
-/// A node of a state: a network without switches, or a form round the states of its parts.
+/// A node of a state, round the states of its parts.
 #[cycle(state)]
 #[derive(Drop)]
 pub enum Node<'n> {
-    /// A network without switches.
-    Static(StaticParts<'n>),
     /// `>>>`.
     Seq(SeqParts<'n>),
     /// `first`.
@@ -56,17 +55,6 @@ pub enum Node<'n> {
     KSwitch(KSwitchParts<'n>),
     /// `pSwitch` likewise.
     PSwitch(Box<PSwitchParts<'n>>),
-}
-
-/// A network without switches that runs.
-#[derive(Drop)]
-pub struct StaticParts<'n> {
-    /// The network.
-    pub net: StaticNet<'n>,
-    /// The parameters in its scope.
-    pub params: Params,
-    /// Its cells.
-    pub cells: Cells,
 }
 
 /// The parts of a `>>>`.
@@ -257,7 +245,7 @@ impl<'n> State<'n> {
     pub(crate) fn node_mut(&mut self) -> Option<&mut Node<'n>> {
         match self {
             State::Whole(whole) => Rc::get_mut(&mut whole.node),
-            State::Nothing => None,
+            _ => None,
         }
     }
 
@@ -267,6 +255,7 @@ impl<'n> State<'n> {
         ensures { IfOk result (λ s. state_of s ≡ state_of self.now) }
     {
         match self {
+            State::Static(net, kept) => Ok(State::Static(*net, kept.try_copy()?)),
             State::Whole(whole) => Ok(State::Whole(whole.try_copy()?)),
             State::Nothing => Ok(State::Nothing),
         }

@@ -213,11 +213,7 @@ fn value_before<R: Rows>(on: &Context<'_, R>, c: LeafId, at: usize) -> Result<Sa
 }
 
 /// A value as the next cell, beside the input that was made of it.
-fn hold_place(
-    value: Sample,
-    input: Sample,
-    cells: &mut Cells,
-) -> Result<Sample, Memory>
+fn hold_place(value: Sample, input: Sample, cells: &mut Cells) -> Result<Sample, Memory>
     ensures { IfOk result (λ y. (y ≡ input)
         × (cells.new ≡ cells.old ++ previous (datum_of value) ∷ [])) }
 {
@@ -231,12 +227,7 @@ fn hold_place(
 }
 
 /// The first part of what a `loopPre`'s part answers; the second goes into its cell.
-fn keep_fed(
-    alloc: Global,
-    answer: Sample,
-    at: usize,
-    cells: &mut Cells,
-) -> Result<Sample, Memory>
+fn keep_fed(alloc: Global, answer: Sample, at: usize, cells: &mut Cells) -> Result<Sample, Memory>
     requires { at < length cells.old }
     ensures { IfOk result (λ y. (datum_of y ≡ left (datum_of answer))
         × (cells.new ≡ slice_set cells.old at (previous (right (datum_of answer))))) }

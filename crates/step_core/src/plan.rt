@@ -4,7 +4,7 @@ ghost use Rattle.std.specs.Prelude.{◌≡◌, [], false, ℕ};
 ghost use Rattle.state_core.specs.RowsView.{rows_in};
 ghost use Rattle.state_core.specs.State.{unstarted, paused, Frozen as FrozenState};
 ghost use Rattle.state_core.specs.StateView.{state_of, scope_of, node_of, k_switch_of, p_switch_of, frozen_of};
-ghost use Rattle.state_core.specs.StaticNetwork.{is_static};
+ghost use Rattle.state_core.specs.StaticNetwork.{is_static, static_state};
 ghost use Rattle.step_core.specs.Plans.{PlanBy};
 ghost use Rattle.step_core.specs.Runs.{OldBy};
 ghost use Rattle.step_core.specs.SourceView.{source_of};
@@ -12,7 +12,9 @@ ghost use Rattle.step_core.specs.SourceView.{source_of};
 use leaf_table::LeafId;
 use net_syntax::Net;
 use sample_core::Sample;
-use state_core::{Cells, Env, Frozen, KSwitchParts, Node, PSwitchParts, Params, State, StaticNet};
+use state_core::{
+    Cells, Env, Frozen, KSwitchParts, Node, PSwitchParts, Params, State, StaticNet, StaticParts,
+};
 
 /// What runs next: a network that has not started, in a scope, or a state.
 #[derive(Clone, Copy)]
@@ -134,9 +136,20 @@ fn plan_step<'s, 'n>(state: &'s State<'n>) -> Plan<'s, 'n>
     ensures { (d : ℕ) → PlanBy (paused (state_of state.entry.now) d) d result }
 {
     match state {
+        State::Static(net, kept) => plan_static(*net, kept.get()),
         State::Whole(whole) => plan_node(whole.get()),
         State::Nothing => Plan::Par(Sources::States(no_states())),
     }
+}
+
+/// What a step of a network without switches is to do.
+#[inline(always)]
+fn plan_static<'s, 'n>(net: StaticNet<'n>, parts: &'s StaticParts) -> Plan<'s, 'n>
+    ensures { (d : ℕ) → PlanBy
+        (paused (static_state (rows_in net.entry.net.now) parts.now.params parts.now.cells) d) d
+        result }
+{
+    Plan::Static(net, &parts.params, Some(&parts.cells))
 }
 
 /// The states of no members.
@@ -152,10 +165,7 @@ fn plan_node<'s, 'n>(node: &'s Node<'n>) -> Plan<'s, 'n>
     ensures { (d : ℕ) → PlanBy (paused (node_of node.entry.now) d) d result }
 {
     match node {
-        Node::Static(parts) => Plan::Static(parts.net, &parts.params, Some(&parts.cells)),
-        Node::Seq(parts) => {
-            Plan::Seq(Source::State(&parts.first), Source::State(&parts.second))
-        }
+        Node::Seq(parts) => { Plan::Seq(Source::State(&parts.first), Source::State(&parts.second)) }
         Node::First(part) => Plan::First(Source::State(part)),
         Node::Par(all) => Plan::Par(Sources::States(all.as_slice())),
         Node::LoopPre(parts) => {

@@ -15,8 +15,8 @@ use leaf_table::LeafId;
 use net_syntax::Net;
 use sample_core::{Memory, Sample};
 use state_core::{
-    Cells, Env, KSwitchParts, LoopParts, Node, Params, SeqParts, Spare, State, StaticNet, StaticParts,
-    SwitchParts,
+    Env, KSwitchParts, LoopParts, Node, SeqParts, Spare, State, StaticNet, StaticParts,
+    StaticState, SwitchParts,
 };
 use std::alloc::Global;
 use std::marker::Model;
@@ -123,29 +123,21 @@ pub(crate) fn around<'n>(
     }
 }
 
-/// A network without switches round its new cells.
+/// A network without switches round what it keeps.
 pub(crate) fn keep_static<'n>(
     alloc: Global,
     net: StaticNet<'n>,
-    params: &Params,
-    cells: Cells,
+    parts: StaticParts,
     answer: Sample,
-    spare: Spare<'n>,
 ) -> Result<Ran<'n>, Memory>
     ensures { IfOk result (λ r. (r.state
-        ≡ static_state (rows_in net.entry.net.now) params.now cells)
+        ≡ static_state (rows_in net.entry.net.now) parts.params parts.cells)
         × (r.answer ≡ datum_of answer) × Counts (rows_in net.entry.net.now) r.visits) }
 {
-    match params.try_copy() {
-        Ok(params) => {
-            let visits = net.nodes();
-            let parts = StaticParts { net, params, cells };
-            around(alloc, Node::Static(parts), answer, visits, spare)
-        }
+    match StaticState::new(alloc, parts) {
+        Ok(kept) => Ok(Ran::new(State::Static(net, kept), answer, net.nodes())),
         Err(memory) => {
-            drop(cells);
             drop(answer);
-            drop(spare);
             Err(memory)
         }
     }
@@ -166,7 +158,13 @@ pub(crate) fn join_seq<'n>(
     let (first, between) = one.into_parts();
     drop(between);
     let (second, answer) = two.into_parts();
-    around(alloc, Node::Seq(SeqParts { first, second }), answer, visits, spare)
+    around(
+        alloc,
+        Node::Seq(SeqParts { first, second }),
+        answer,
+        visits,
+        spare,
+    )
 }
 
 /// `first` round what its part led to, with the component that passes along.

@@ -8,7 +8,7 @@ ghost use Rattle.state_core.specs.RowsView.{rows_in, row_number};
 ghost use Rattle.state_core.specs.State.{Frozen};
 ghost use Rattle.state_core.specs.StateView.{scope_of};
 ghost use Rattle.step_core.specs.Called.{Called};
-ghost use Rattle.step_core.specs.Flow.{IsFlow, past_in};
+ghost use Rattle.step_core.specs.Flow.{FlowsThrough, IsFlow, past_in};
 ghost use Rattle.step_core.specs.Outcome.{RunsBy, TakesOver, TakesOverLate, RunsAll};
 ghost use Rattle.step_core.specs.Plans.{IsFed, RunsMember, router_of};
 ghost use Rattle.step_core.specs.Runs.{RunsWhere, RunEachWhere, SeqBy, FirstBy, ParBy, LoopBy, SwitchBy, DSwitchBy, RSwitchBy, KSwitchBy, PSwitchBy, OldBy};
@@ -28,7 +28,7 @@ use crate::rows::Rows;
 use leaf_table::LeafId;
 use net_syntax::Net;
 use sample_core::{Memory, Sample};
-use state_core::{Cells, Env, Params, Spare, StaticNet, push_param, route};
+use state_core::{Cells, Env, Params, Spare, State, StaticNet, StaticParts, push_param, route};
 use std::alloc::Global;
 
 /// A start or a step. `dt` is the time since the sample before, where there is one. The new state
@@ -47,7 +47,9 @@ pub(crate) fn run<'n, R: Rows>(
         r.state r.answer r.visits) }
 {
     match plan_of(from) {
-        Plan::Static(net, params, cells) => run_static(alloc, rows, net, params, cells, dt, x, spare),
+        Plan::Static(net, params, cells) => run_static(
+            alloc, rows, net, params, cells, dt, x, spare,
+        ),
         Plan::Seq(f, g) => run_seq(alloc, rows, f, g, dt, x, spare),
         Plan::First(f) => run_first(alloc, rows, f, dt, x, spare),
         Plan::Par(fs) => run_par(alloc, rows, fs, dt, x, spare),
@@ -56,7 +58,9 @@ pub(crate) fn run<'n, R: Rows>(
         Plan::DSwitch(f, t, env) => run_d_switch(alloc, rows, f, t, env, dt, x, spare),
         Plan::RSwitch(f, t, env) => run_r_switch(alloc, rows, f, t, env, dt, x, spare),
         Plan::KSwitch(f, e, t, env) => run_k_switch(alloc, rows, f, e, t, env, dt, x, spare),
-        Plan::PSwitch(r, fs, e, t, env) => run_p_switch(alloc, rows, r, fs, e, t, env, dt, x, spare),
+        Plan::PSwitch(r, fs, e, t, env) => run_p_switch(
+            alloc, rows, r, fs, e, t, env, dt, x, spare,
+        ),
         Plan::Old(frozen, step) => run_old(alloc, rows, frozen, step, x, spare),
         Plan::Beyond => {
             drop(spare);
@@ -65,8 +69,7 @@ pub(crate) fn run<'n, R: Rows>(
     }
 }
 
-/// A sample of a network without switches.
-#[inline(never)]
+/// A sample of a network without switches, whose cells come into memory that is out of use.
 fn run_static<'n, R: Rows>(
     alloc: Global,
     rows: &R,
@@ -75,14 +78,71 @@ fn run_static<'n, R: Rows>(
     before: Option<&Cells>,
     dt: u64,
     x: &Sample,
-    mut spare: Spare<'n>,
+    spare: Spare<'n>,
 ) -> Result<Ran<'n>, Memory>
     ensures { IfOk result (λ r.
         RunsBy (R.keys rows.now)
         (λ w. IsFlow w (rows_in net.entry.net.now) params.now (past_in before.entry dt))
         (datum_of x.now) r) }
 {
-    let mut cells = spare.take_cells(alloc);
+    if let Some(mut kept) = spare.into_static() {
+        if let Some(parts) = kept.get_mut() {
+            return match flow_over(alloc, rows, net, params, before, dt, x, parts) {
+                Ok(answer) => Ok(Ran::new(State::Static(net, kept), answer, net.nodes())),
+                Err(memory) => {
+                    drop(kept);
+                    Err(memory)
+                }
+            };
+        }
+        drop(kept);
+    }
+    run_static_anew(alloc, rows, net, params, before, dt, x)
+}
+
+/// The same in memory of its own.
+#[inline(never)]
+fn run_static_anew<'n, R: Rows>(
+    alloc: Global,
+    rows: &R,
+    net: StaticNet<'n>,
+    params: &Params,
+    before: Option<&Cells>,
+    dt: u64,
+    x: &Sample,
+) -> Result<Ran<'n>, Memory>
+    ensures { IfOk result (λ r.
+        RunsBy (R.keys rows.now)
+        (λ w. IsFlow w (rows_in net.entry.net.now) params.now (past_in before.entry dt))
+        (datum_of x.now) r) }
+{
+    let mut parts = StaticParts::none(alloc);
+    match flow_over(alloc, rows, net, params, before, dt, x, &mut parts) {
+        Ok(answer) => keep_static(alloc, net, parts, answer),
+        Err(memory) => {
+            drop(parts);
+            Err(memory)
+        }
+    }
+}
+
+/// What the network answers; what it keeps then comes into that place.
+#[inline(always)]
+fn flow_over<R: Rows>(
+    alloc: Global,
+    rows: &R,
+    net: StaticNet<'_>,
+    params: &Params,
+    before: Option<&Cells>,
+    dt: u64,
+    x: &Sample,
+    parts: &mut StaticParts,
+) -> Result<Sample, Memory>
+    ensures { IfOk result (λ y. (parts.new.params ≡ params.now) × FlowsThrough (R.keys rows.now)
+        (rows_in net.entry.net.now) params.now (past_in before.entry dt) (datum_of x.now)
+        parts.new.cells (datum_of y)) }
+{
+    parts.renew(params)?;
     let on = Context {
         alloc,
         rows,
@@ -90,14 +150,7 @@ fn run_static<'n, R: Rows>(
         before,
         dt,
     };
-    match flow(&on, net.net(), x, &mut cells) {
-        Ok(answer) => keep_static(alloc, net, params, cells, answer, spare),
-        Err(memory) => {
-            drop(cells);
-            drop(spare);
-            Err(memory)
-        }
-    }
+    flow(&on, net.net(), x, &mut parts.cells)
 }
 
 /// `>>>` by its two parts.
@@ -355,7 +408,15 @@ fn run_p_switch<'n, R: Rows>(
         (rows_in t.entry.now) (scope_of env.now))
         (datum_of x.now) o) }
 {
-    let all = run_all(alloc, rows, Route::ByRow(r, &env.params), fs, dt, x, &mut spare)?;
+    let all = run_all(
+        alloc,
+        rows,
+        Route::ByRow(r, &env.params),
+        fs,
+        dt,
+        x,
+        &mut spare,
+    )?;
     match run_beside(alloc, rows, e, dt, x, all.list(), spare.take_second()) {
         Ok(two) => match fire_olds(alloc, two.answer(), env, fs, dt) {
             Ok(Some(inner)) => {

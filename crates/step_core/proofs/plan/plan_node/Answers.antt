@@ -2,11 +2,8 @@ use Rattle.std.proofs.Common.{ap, ◌∙◌, sym, subst, ℕ}
 use Rattle.state_core.specs.State.{State, par_state, paused}
 use Rattle.state_core.specs.StateView.{node_of, p_switch_of}
 use Rattle.step_core.specs.Plans.{PlanBy}
-use Rattle.step_core.proofs.PlanForms.{flow_on_by, seq_on_by, first_on_by, par_on_by, loop_on_by, switch_on_by, d_switch_on_by, r_switch_on_by}
+use Rattle.step_core.proofs.PlanForms.{seq_on_by, first_on_by, par_on_by, loop_on_by, switch_on_by, d_switch_on_by, r_switch_on_by}
 use Rattle.step_core.proofs.plan.plan_node.Goals as goal
-
-pub returns-in-Static : goal.returns-in-Static
-returns-in-Static c = λ d. flow_on_by _ _ _ _ d (ap node_of c.in-Static.is)
 
 pub returns-in-Seq : goal.returns-in-Seq
 returns-in-Seq c = λ d. seq_on_by _ _ _ d (ap node_of c.in-Seq.is)
