@@ -6,7 +6,9 @@ use cell_core::{Cell, Form};
 use leaf_table::LeafId;
 use net_syntax::Net;
 use sample_core::{Memory, Sample};
-use state_core::{Env, Frozen, NewCells, Node, Params, State, States, StaticNet, Whole, freeze};
+use state_core::{
+    Env, Frozen, Node, State, States, StaticNet, StaticParts, StaticState, Whole, freeze,
+};
 use std::alloc::Global;
 
 /// Tells what `freeze` answers on the state of `(delay 4096 0)` after 4,096 samples with step 1.
@@ -37,10 +39,17 @@ fn alone<'n>(alloc: Global, net: &'n Net<LeafId>, cell: Cell) -> Result<State<'n
     let Some(fixed) = StaticNet::of(net) else {
         return Err(Memory);
     };
-    let mut cells = NewCells::with_room(alloc, 1)?;
-    cells.push(alloc, cell)?;
-    let cells = cells.into_cells(alloc)?;
-    Ok(State::Static(fixed, Params::none(), cells))
+    let mut parts = StaticParts::none(alloc);
+    match parts.cells.push(cell) {
+        Ok(()) => {
+            let kept = StaticState::new(alloc, parts)?;
+            Ok(State::Static(fixed, kept))
+        }
+        Err(memory) => {
+            drop(parts);
+            Err(memory)
+        }
+    }
 }
 
 /// Tells what `freeze` answers on the state of 64 members.

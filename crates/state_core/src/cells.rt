@@ -36,7 +36,7 @@ impl Model for Cells {
 
 impl Cells {
     /// No cells. It takes no memory.
-    pub fn none(alloc: Global) -> Cells
+    pub(crate) fn none(alloc: Global) -> Cells
         ensures { result ≡ [] }
     {
         Cells {
@@ -64,7 +64,7 @@ impl Cells {
 
     /// No cells any more; their places stay.
     #[inline(always)]
-    pub fn clear(&mut self)
+    pub(crate) fn clear(&mut self)
         ensures { self.new ≡ [] }
     {
         self.used = 0;

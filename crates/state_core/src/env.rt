@@ -88,7 +88,7 @@ impl<'n> Model for OldList<'n> {
 
 impl<'n> OldList<'n> {
     /// Frozen networks in order. `Memory` where a growth was refused.
-    pub fn new(alloc: Global, all: Vec<Frozen<'n>>) -> Result<OldList<'n>, Memory>
+    fn new(alloc: Global, all: Vec<Frozen<'n>>) -> Result<OldList<'n>, Memory>
         ensures { IfOk result (λ fs. fs ≡ frozens_in all.entry.items) }
     {
         let all = Rc::new(alloc, all)?;
@@ -96,7 +96,7 @@ impl<'n> OldList<'n> {
     }
 
     /// The frozen networks in order.
-    pub fn as_slice(&self) -> &[Frozen<'n>]
+    fn as_slice(&self) -> &[Frozen<'n>]
         ensures { frozens_in result.now ≡ self.now }
     {
         self.all.as_slice()
@@ -104,7 +104,7 @@ impl<'n> OldList<'n> {
 
     /// The same frozen networks, shared. It takes no memory; `Memory` only where a count of
     /// references is full.
-    pub fn try_copy(&self) -> Result<OldList<'n>, Memory>
+    fn try_copy(&self) -> Result<OldList<'n>, Memory>
         ensures { IfOk result (λ fs. fs ≡ self.now) }
     {
         let all = self.all.clone()?;
@@ -114,7 +114,7 @@ impl<'n> OldList<'n> {
 
 impl<'n> Olds<'n> {
     /// The frozen networks in order.
-    pub fn as_slice(&self) -> &[Frozen<'n>]
+    fn as_slice(&self) -> &[Frozen<'n>]
         ensures { frozens_in result.now ≡ olds_of self.now }
     {
         match self {
@@ -125,7 +125,7 @@ impl<'n> Olds<'n> {
 
     /// The same frozen networks, shared. It takes no memory; `Memory` only where a count of
     /// references is full.
-    pub fn try_copy(&self) -> Result<Olds<'n>, Memory>
+    fn try_copy(&self) -> Result<Olds<'n>, Memory>
         ensures { IfOk result (λ fs. fs ≡ self.now) }
     {
         match self {
@@ -144,7 +144,7 @@ impl<'n> Olds<'n> {
 
 impl<'n> Frozen<'n> {
     /// A copy, whose parts are shared with it. `Memory` where a growth was refused.
-    pub fn try_copy(&self, alloc: Global) -> Result<Frozen<'n>, Memory>
+    fn try_copy(&self, alloc: Global) -> Result<Frozen<'n>, Memory>
         ensures { IfOk result (λ f. frozen_of f ≡ frozen_of self.now) }
     {
         match self {

@@ -37,7 +37,7 @@ impl<'n> Model for NewStates<'n> {
 
 impl<'n> NewStates<'n> {
     /// No states. It takes no memory.
-    pub fn none(alloc: Global) -> NewStates<'n>
+    pub(crate) fn none(alloc: Global) -> NewStates<'n>
         ensures { result ≡ no_state }
     {
         NewStates {

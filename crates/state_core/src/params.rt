@@ -50,7 +50,7 @@ impl Params {
 
     /// The same parameters, shared. It takes no memory; `Memory` only where a count of references
     /// is full.
-    pub fn try_copy(&self) -> Result<Params, Memory>
+    pub(crate) fn try_copy(&self) -> Result<Params, Memory>
         ensures { IfOk result (λ ps. ps ≡ self.now) }
     {
         match &self.all {
@@ -75,7 +75,7 @@ impl Params {
     }
 
     /// These parameters and one more behind them. `Memory` where a growth was refused.
-    pub fn and(&self, alloc: Global, value: &Sample) -> Result<Params, Memory>
+    pub(crate) fn and(&self, alloc: Global, value: &Sample) -> Result<Params, Memory>
         ensures { IfOk result (λ ps. ps ≡ self.now ++ datum_of value.now ∷ []) }
     {
         let mut all = copied(alloc, self.as_slice(), 1)?;

@@ -207,7 +207,7 @@ impl<'n> Whole<'n> {
 
     /// The same node, shared. It takes no memory; `Memory` only where a count of references is
     /// full.
-    pub fn try_copy(&self) -> Result<Whole<'n>, Memory>
+    fn try_copy(&self) -> Result<Whole<'n>, Memory>
         ensures { IfOk result (λ w. w ≡ self.now) }
     {
         let node = self.node.clone()?;
@@ -251,7 +251,7 @@ impl<'n> State<'n> {
 
     /// A copy, whose parts are shared with it. It takes no memory; `Memory` only where a count of
     /// references is full.
-    pub fn try_copy(&self) -> Result<State<'n>, Memory>
+    pub(crate) fn try_copy(&self) -> Result<State<'n>, Memory>
         ensures { IfOk result (λ s. state_of s ≡ state_of self.now) }
     {
         match self {

@@ -94,7 +94,7 @@ impl StaticState {
     }
 
     /// The same, shared. It takes no memory; `Memory` only where a count of references is full.
-    pub fn try_copy(&self) -> Result<StaticState, Memory>
+    pub(crate) fn try_copy(&self) -> Result<StaticState, Memory>
         ensures { IfOk result (λ k. k ≡ self.now) }
     {
         let parts = self.parts.clone()?;
