@@ -26,12 +26,23 @@ pub(crate) fn i_pre(
     ensures { IfOk result (λ y. outcome_of (place.new, y)
         ≡ cell_step (previous (datum_of before.now)) (0, datum_of sample.now)) }
 {
-    let kept = sample.try_copy(alloc)?;
+    let kept = copied(alloc, sample)?;
     match place {
         Cell::IPre(there) => there.put(kept),
         _ => place.put(Cell::IPre(kept)),
     }
-    before.try_copy(alloc)
+    copied(alloc, before)
+}
+
+/// A copy of the value: of a number at once.
+#[inline(always)]
+fn copied(alloc: Global, value: &Sample) -> Result<Sample, Memory>
+    ensures { IfOk result (λ y. datum_of y ≡ datum_of value.now) }
+{
+    match value {
+        Sample::Int(n) => Ok(Sample::Int(*n)),
+        _ => value.try_copy(alloc),
+    }
 }
 
 /// A `hold` keeps and answers an event's value, else what it has kept.
@@ -58,7 +69,7 @@ pub(crate) fn hold(
 }
 
 /// An `accumBy` keeps an event's value and answers the event.
-#[inline(always)]
+#[inline(never)]
 pub(crate) fn accum_by(
     alloc: Global,
     kept: &Sample,
@@ -85,7 +96,7 @@ pub(crate) fn accum_by(
 }
 
 /// An `after`: its event comes where it isn't past, and no more than dt is left.
-#[inline(always)]
+#[inline(never)]
 pub(crate) fn after(
     left: u64,
     value: &SampleChild,
@@ -105,7 +116,7 @@ pub(crate) fn after(
 }
 
 /// A `repeatedly`: its event comes where no more than dt is left to a multiple.
-#[inline(always)]
+#[inline(never)]
 pub(crate) fn repeatedly(
     left: u64,
     recurring: &Rc<Recurring>,

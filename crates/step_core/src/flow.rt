@@ -1,6 +1,6 @@
 // One sample through a network without switches.
 
-ghost use Rattle.std.specs.Prelude.{◌≡◌, ◌<◌, ◌++◌, ◌∷◌, [], IfOk, IsTrue, length, map, slice_set};
+ghost use Rattle.std.specs.Prelude.{◌≡◌, ◌<◌, ◌++◌, ◌∷◌, [], None, IfOk, IsTrue, length, map, slice_set};
 ghost use Rattle.sample_core.specs.Datum.{left, right};
 ghost use Rattle.sample_core.specs.ValueView.{datum_of};
 ghost use Rattle.net_syntax.specs.Network.{map_networks, seq, first, par, loop_pre, accum_by};
@@ -86,6 +86,7 @@ fn flow_seq<R: Rows>(
 
 /// `first`: the second component passes along.
 #[cycle(flow)]
+#[inline(never)]
 fn flow_first<R: Rows>(
     on: &Context<'_, R>,
     f: &Net<LeafId>,
@@ -103,6 +104,7 @@ fn flow_first<R: Rows>(
 
 /// `parB`: each member gets the sample, and their answers become one list.
 #[cycle(flow)]
+#[inline(never)]
 fn flow_par<R: Rows>(
     on: &Context<'_, R>,
     members: &[Net<LeafId>],
@@ -127,6 +129,7 @@ fn flow_par<R: Rows>(
 
 /// Adds to `answers` what the members answer, in order.
 #[cycle(flow)]
+#[inline(never)]
 fn flow_each<R: Rows>(
     on: &Context<'_, R>,
     members: &[Net<LeafId>],
@@ -153,6 +156,7 @@ fn flow_each<R: Rows>(
 /// `loopPre`: its part gets the sample and what is fed back. What is fed back next stands in the
 /// cell before those of the part.
 #[cycle(flow)]
+#[inline(never)]
 fn flow_loop<R: Rows>(
     on: &Context<'_, R>,
     c: LeafId,
@@ -264,14 +268,29 @@ fn flow_cell<R: Rows>(
             Some(cell) => cells.push_step(on.alloc, cell, on.dt, x),
             None => Err(Memory),
         },
-        None => {
-            let (first, answer) = start_cell(on.alloc, on.rows, form, constant, on.params, x)?;
-            keep(first, answer, cells)
-        }
+        None => first_cell(on, form, constant, x, cells),
     }
 }
 
+/// A cell's start.
+#[inline(never)]
+fn first_cell<R: Rows>(
+    on: &Context<'_, R>,
+    form: Form,
+    constant: Option<LeafId>,
+    x: &Sample,
+    cells: &mut Cells,
+) -> Result<Sample, Memory>
+    ensures { IfOk result (λ y. (net : _) → IsCell net form (number_of constant)
+        → Flows (R.keys on.now.rows.now) net (map datum_of on.now.params.now) None
+        (datum_of x.now) cells.old cells.new (datum_of y)) }
+{
+    let (first, answer) = start_cell(on.alloc, on.rows, form, constant, on.params, x)?;
+    keep(first, answer, cells)
+}
+
 /// `accumBy`: it starts, or steps.
+#[inline(never)]
 fn flow_accum<R: Rows>(
     on: &Context<'_, R>,
     g: LeafId,

@@ -1,7 +1,7 @@
-use Rattle.std.proofs.Common.{ap, refl, sym}
+use Rattle.std.proofs.Common.{ap, map, refl, subst, sym}
 use Rattle.sample_core.specs.ValueView.{datum_of}
-use Rattle.step_core.specs.Flow.{past_in}
-use Rattle.step_core.proofs.Flows.{cell_starts, cell_steps}
+use Rattle.step_core.specs.Flow.{Flows, past_in}
+use Rattle.step_core.proofs.Flows.{cell_steps}
 use Rattle.step_core.proofs.RunJoins.{if_ok}
 use Rattle.step_core.proofs.flow.flow_cell.Goals as goal
 
@@ -12,9 +12,9 @@ returns-in-Some-get g c =
     c.in-Some-get.ensures refl (sym h.1))
     c.push_step.ensures
 
-pub returns-in_ok-first-in-None : goal.returns-in_ok-first-in-None
-returns-in_ok-first-in-None g c =
-    if_ok c.keep.result _ _
-    (λ y h net i. cell_starts _ net _ _ _ _ _ _ _ _ _ _ i h.1 (ap (λ b. past_in b c.args.on.now.dt) c.in-None.is) (ap datum_of h.0)
-    c.in_ok-first-in-None.ensures)
-    c.keep.ensures
+pub returns-in-None : goal.returns-in-None
+returns-in-None g c =
+    if_ok c.first_cell.result _ _
+    (λ y h net i. subst (λ q. Flows (g.R.Rows.keys c.args.on.now.rows.now) net (map datum_of c.args.on.now.params.now) q (datum_of c.args.x.now)
+    c.args.cells.now c.first_cell.new.cells (datum_of y)) (sym (ap (λ b. past_in b c.args.on.now.dt) c.in-None.is)) (h net i))
+    c.first_cell.ensures

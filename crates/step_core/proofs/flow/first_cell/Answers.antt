@@ -1,0 +1,9 @@
+use Rattle.std.proofs.Common.{ap, refl}
+use Rattle.sample_core.specs.ValueView.{datum_of}
+use Rattle.step_core.proofs.Flows.{cell_starts}
+use Rattle.step_core.proofs.RunJoins.{if_ok}
+use Rattle.step_core.proofs.flow.first_cell.Goals as goal
+
+pub returns : goal.returns
+returns g c =
+    if_ok c.keep.result _ _ (λ y h net i. cell_starts _ net _ _ _ _ _ _ _ _ _ _ i h.1 refl (ap datum_of h.0) c.in_ok-first.ensures) c.keep.ensures
