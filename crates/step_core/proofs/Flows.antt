@@ -366,6 +366,12 @@ module _ (keys : List KeyTree) where
       subst (λ (a : State ℕ). RunsWhere keys w x a o.answer o.visits) (sym ea) (subst (λ v. RunsWhere keys w x (static_state net ps ks) v o.visits) (sym ez)
       (f w o.visits h hn))
 
+  -- the same for what is the same
+  pub flows_kept : (net : Network ℕ) (ps : List Datum) (p : Past) (x y z : Datum) (ks js : List Cell) → FlowsThrough keys net ps p x ks y → js ≡ ks → z ≡ y
+      → FlowsThrough keys net ps p x js z
+  flows_kept net ps p x y z ks js f e h =
+      subst (λ is. FlowsThrough keys net ps p x is z) (sym e) (subst (λ v. FlowsThrough keys net ps p x ks v) (sym h) f)
+
   pub flows_on : (net : Network ℕ) (ps : List Datum) (js : List Cell) (d : ℕ) (x y : Datum) (ks : List Cell) (n : ℕ)
       → FlowsThrough keys net ps (Some (js, d)) x ks y → Counts net n
       → RunsWhere keys (paused (static_state net ps js) d) x (static_state net ps ks) y n

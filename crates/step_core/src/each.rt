@@ -175,7 +175,7 @@ impl<'n> Listed<'n> {
 pub(crate) fn join_par<'n>(
     alloc: Global,
     all: Listed<'n>,
-    spare: Spare<'n>,
+    spare: &mut Spare<'n>,
 ) -> Result<Ran<'n>, Memory>
     ensures { IfOk result (λ r.
         IsRan r (par_state all.entry.states) all.entry.list (suc (all.entry.visits + 0))) }
@@ -193,7 +193,7 @@ pub(crate) fn keep_p_switch<'n>(
     two: Ran<'n>,
     t: &'n Net<LeafId>,
     env: &Env<'n>,
-    spare: Spare<'n>,
+    spare: &mut Spare<'n>,
 ) -> Result<Ran<'n>, Memory>
     ensures { IfOk result (λ o.
         IsRan o (p_switch_state (row_number r) all.entry.states two.entry.state
@@ -218,7 +218,6 @@ pub(crate) fn keep_p_switch<'n>(
         Err(memory) => {
             drop(all);
             drop(two);
-            drop(spare);
             Err(memory)
         }
     }
@@ -230,7 +229,7 @@ fn around_p_switch<'n>(
     parts: PSwitchParts<'n>,
     answer: Sample,
     visits: u32,
-    spare: Spare<'n>,
+    spare: &mut Spare<'n>,
 ) -> Result<Ran<'n>, Memory>
     ensures { IfOk result (λ o. o ≡ record {
       state = p_switch_of parts.entry;
@@ -242,7 +241,6 @@ fn around_p_switch<'n>(
         Ok(parts) => around(alloc, Node::PSwitch(parts), answer, visits, spare),
         Err(memory) => {
             drop(answer);
-            drop(spare);
             Err(memory.into())
         }
     }

@@ -6,7 +6,6 @@ ghost use Rattle.sample_core.specs.ValueView.{datum_of};
 ghost use Rattle.state_core.specs.RowsView.{rows_in};
 ghost use Rattle.state_core.specs.State.{seq_state, first_state, loop_state, switch_state, d_switch_state, r_switch_state, k_switch_state};
 ghost use Rattle.state_core.specs.StateView.{state_of, node_of, scope_of};
-ghost use Rattle.state_core.specs.StaticNetwork.{static_state, Counts};
 ghost use Rattle.step_core.specs.Outcome.{IsRan};
 
 use crate::count;
@@ -14,10 +13,7 @@ use crate::part::{first, paired_with, second};
 use leaf_table::LeafId;
 use net_syntax::Net;
 use sample_core::{Memory, Sample};
-use state_core::{
-    Env, KSwitchParts, LoopParts, Node, SeqParts, Spare, State, StaticNet, StaticParts,
-    StaticState, SwitchParts,
-};
+use state_core::{Env, KSwitchParts, LoopParts, Node, SeqParts, Spare, State, SwitchParts};
 use std::alloc::Global;
 use std::marker::Model;
 
@@ -109,33 +105,13 @@ pub(crate) fn around<'n>(
     node: Node<'n>,
     answer: Sample,
     visits: u32,
-    spare: Spare<'n>,
+    spare: &mut Spare<'n>,
 ) -> Result<Ran<'n>, Memory>
     ensures { IfOk result (λ r. r
         ≡ record { state = node_of node.entry; answer = datum_of answer; visits = visits }) }
 {
-    match spare.into_state(alloc, node) {
+    match std::mem::replace(spare, Spare::none()).into_state(alloc, node) {
         Ok(state) => Ok(Ran::new(state, answer, visits)),
-        Err(memory) => {
-            drop(answer);
-            Err(memory)
-        }
-    }
-}
-
-/// A network without switches round what it keeps.
-pub(crate) fn keep_static<'n>(
-    alloc: Global,
-    net: StaticNet<'n>,
-    parts: StaticParts,
-    answer: Sample,
-) -> Result<Ran<'n>, Memory>
-    ensures { IfOk result (λ r. (r.state
-        ≡ static_state (rows_in net.entry.net.now) parts.params parts.cells)
-        × (r.answer ≡ datum_of answer) × Counts (rows_in net.entry.net.now) r.visits) }
-{
-    match StaticState::new(alloc, parts) {
-        Ok(kept) => Ok(Ran::new(State::Static(net, kept), answer, net.nodes())),
         Err(memory) => {
             drop(answer);
             Err(memory)
@@ -148,7 +124,7 @@ pub(crate) fn join_seq<'n>(
     alloc: Global,
     one: Ran<'n>,
     two: Ran<'n>,
-    spare: Spare<'n>,
+    spare: &mut Spare<'n>,
 ) -> Result<Ran<'n>, Memory>
     ensures { IfOk result (λ r.
         IsRan r (seq_state one.entry.state two.entry.state) two.entry.answer
@@ -172,7 +148,7 @@ pub(crate) fn join_first<'n>(
     alloc: Global,
     one: Ran<'n>,
     passed: &Sample,
-    spare: Spare<'n>,
+    spare: &mut Spare<'n>,
 ) -> Result<Ran<'n>, Memory>
     ensures { IfOk result (λ r.
         IsRan r (first_state one.entry.state) (pair one.entry.answer (datum_of passed.now))
@@ -184,7 +160,6 @@ pub(crate) fn join_first<'n>(
         Ok(answer) => around(alloc, Node::First(state), answer, visits, spare),
         Err(memory) => {
             drop(state);
-            drop(spare);
             Err(memory)
         }
     }
@@ -194,7 +169,7 @@ pub(crate) fn join_first<'n>(
 pub(crate) fn join_loop<'n>(
     alloc: Global,
     one: Ran<'n>,
-    spare: Spare<'n>,
+    spare: &mut Spare<'n>,
 ) -> Result<Ran<'n>, Memory>
     ensures { IfOk result (λ r.
         IsRan r (loop_state (right one.entry.answer) one.entry.state) (left one.entry.answer)
@@ -205,7 +180,6 @@ pub(crate) fn join_loop<'n>(
         Ok(fed_back) => feed_back(alloc, one, fed_back, visits, spare),
         Err(memory) => {
             drop(one);
-            drop(spare);
             Err(memory)
         }
     }
@@ -217,7 +191,7 @@ fn feed_back<'n>(
     one: Ran<'n>,
     fed_back: Sample,
     visits: u32,
-    spare: Spare<'n>,
+    spare: &mut Spare<'n>,
 ) -> Result<Ran<'n>, Memory>
     ensures { IfOk result (λ r. r ≡ record {
       state = loop_state (datum_of fed_back) one.entry.state;
@@ -233,7 +207,6 @@ fn feed_back<'n>(
         }
         Err(memory) => {
             drop(fed_back);
-            drop(spare);
             Err(memory)
         }
     }
@@ -266,7 +239,7 @@ pub(crate) fn keep_switch<'n>(
     one: Ran<'n>,
     t: &'n Net<LeafId>,
     env: &Env<'n>,
-    spare: Spare<'n>,
+    spare: &mut Spare<'n>,
 ) -> Result<Ran<'n>, Memory>
     ensures { IfOk result (λ r.
         IsRan r (switch_state one.entry.state (rows_in t.entry.now) (scope_of env.now))
@@ -283,7 +256,7 @@ pub(crate) fn keep_d_switch<'n>(
     one: Ran<'n>,
     t: &'n Net<LeafId>,
     env: &Env<'n>,
-    spare: Spare<'n>,
+    spare: &mut Spare<'n>,
 ) -> Result<Ran<'n>, Memory>
     ensures { IfOk result (λ r.
         IsRan r (d_switch_state one.entry.state (rows_in t.entry.now) (scope_of env.now))
@@ -300,7 +273,7 @@ pub(crate) fn keep_r_switch<'n>(
     one: Ran<'n>,
     t: &'n Net<LeafId>,
     env: &Env<'n>,
-    spare: Spare<'n>,
+    spare: &mut Spare<'n>,
 ) -> Result<Ran<'n>, Memory>
     ensures { IfOk result (λ r.
         IsRan r (r_switch_state one.entry.state (rows_in t.entry.now) (scope_of env.now))
@@ -318,7 +291,7 @@ pub(crate) fn keep_k_switch<'n>(
     two: Ran<'n>,
     t: &'n Net<LeafId>,
     env: &Env<'n>,
-    spare: Spare<'n>,
+    spare: &mut Spare<'n>,
 ) -> Result<Ran<'n>, Memory>
     ensures { IfOk result (λ r.
         IsRan r (k_switch_state one.entry.state two.entry.state (rows_in t.entry.now)
@@ -342,7 +315,6 @@ pub(crate) fn keep_k_switch<'n>(
         Err(memory) => {
             drop(one);
             drop(two);
-            drop(spare);
             Err(memory)
         }
     }

@@ -21,14 +21,16 @@ use crate::flow::{Context, flow};
 use crate::part::{beside, first, restart_of, second};
 use crate::plan::{Back, Plan, Route, Source, Sources, plan_of};
 use crate::ran::{
-    Ran, join_first, join_loop, join_seq, keep_d_switch, keep_k_switch, keep_r_switch, keep_static,
-    keep_switch, resumed, take_over, take_over_late,
+    Ran, join_first, join_loop, join_seq, keep_d_switch, keep_k_switch, keep_r_switch, keep_switch,
+    resumed, take_over, take_over_late,
 };
 use crate::rows::Rows;
 use leaf_table::LeafId;
 use net_syntax::Net;
 use sample_core::{Memory, Sample};
-use state_core::{Cells, Env, Params, Spare, State, StaticNet, StaticParts, push_param, route};
+use state_core::{
+    Cells, Env, Params, Spare, State, StaticNet, StaticParts, StaticState, push_param, route,
+};
 use std::alloc::Global;
 
 /// A start or a step. `dt` is the time since the sample before, where there is one. The new state
@@ -40,7 +42,7 @@ pub(crate) fn run<'n, R: Rows>(
     from: Source<'_, 'n>,
     dt: u64,
     x: &Sample,
-    spare: Spare<'n>,
+    spare: &mut Spare<'n>,
 ) -> Result<Ran<'n>, Memory>
     ensures { IfOk result (λ r.
         RunsWhere (R.keys rows.now) (source_of from.entry dt) (datum_of x.now)
@@ -62,14 +64,32 @@ pub(crate) fn run<'n, R: Rows>(
             alloc, rows, r, fs, e, t, env, dt, x, spare,
         ),
         Plan::Old(frozen, step) => run_old(alloc, rows, frozen, step, x, spare),
-        Plan::Beyond => {
-            drop(spare);
-            Err(Memory)
-        }
+        Plan::Beyond => Err(Memory),
     }
 }
 
-/// A sample of a network without switches, whose cells come into memory that is out of use.
+/// The same, in the memory of a part of what is out of use.
+#[cycle(run)]
+#[inline(always)]
+fn run_in<'n, R: Rows>(
+    alloc: Global,
+    rows: &R,
+    from: Source<'_, 'n>,
+    dt: u64,
+    x: &Sample,
+    mut spare: Spare<'n>,
+) -> Result<Ran<'n>, Memory>
+    ensures { IfOk result (λ r.
+        RunsWhere (R.keys rows.now) (source_of from.entry dt) (datum_of x.now)
+        r.state r.answer r.visits) }
+{
+    let ran = run(alloc, rows, from, dt, x, &mut spare);
+    drop(spare);
+    ran
+}
+
+/// A sample of a network without switches.
+#[inline(never)]
 fn run_static<'n, R: Rows>(
     alloc: Global,
     rows: &R,
@@ -78,17 +98,39 @@ fn run_static<'n, R: Rows>(
     before: Option<&Cells>,
     dt: u64,
     x: &Sample,
-    spare: Spare<'n>,
+    spare: &mut Spare<'n>,
 ) -> Result<Ran<'n>, Memory>
     ensures { IfOk result (λ r.
         RunsBy (R.keys rows.now)
         (λ w. IsFlow w (rows_in net.entry.net.now) params.now (past_in before.entry dt))
         (datum_of x.now) r) }
 {
-    if let Some(mut kept) = spare.into_static() {
+    let kept = std::mem::replace(spare, Spare::none()).into_static();
+    let (kept, answer) = flow_kept(alloc, rows, net, params, before, dt, x, kept)?;
+    Ok(Ran::new(State::Static(net, kept), answer, net.nodes()))
+}
+
+/// What a network without switches keeps then, in memory that is out of use where there is some,
+/// and what it answers.
+#[inline(always)]
+pub(crate) fn flow_kept<R: Rows>(
+    alloc: Global,
+    rows: &R,
+    net: StaticNet<'_>,
+    params: &Params,
+    before: Option<&Cells>,
+    dt: u64,
+    x: &Sample,
+    spare: Option<StaticState>,
+) -> Result<(StaticState, Sample), Memory>
+    ensures { IfOk result (λ r. (r.0.0 ≡ params.now) × FlowsThrough (R.keys rows.now)
+        (rows_in net.entry.net.now) params.now (past_in before.entry dt) (datum_of x.now) r.0.1
+        (datum_of r.1)) }
+{
+    if let Some(mut kept) = spare {
         if let Some(parts) = kept.get_mut() {
             return match flow_over(alloc, rows, net, params, before, dt, x, parts) {
-                Ok(answer) => Ok(Ran::new(State::Static(net, kept), answer, net.nodes())),
+                Ok(answer) => Ok((kept, answer)),
                 Err(memory) => {
                     drop(kept);
                     Err(memory)
@@ -97,30 +139,47 @@ fn run_static<'n, R: Rows>(
         }
         drop(kept);
     }
-    run_static_anew(alloc, rows, net, params, before, dt, x)
+    flow_anew(alloc, rows, net, params, before, dt, x)
 }
 
 /// The same in memory of its own.
 #[inline(never)]
-fn run_static_anew<'n, R: Rows>(
+fn flow_anew<R: Rows>(
     alloc: Global,
     rows: &R,
-    net: StaticNet<'n>,
+    net: StaticNet<'_>,
     params: &Params,
     before: Option<&Cells>,
     dt: u64,
     x: &Sample,
-) -> Result<Ran<'n>, Memory>
-    ensures { IfOk result (λ r.
-        RunsBy (R.keys rows.now)
-        (λ w. IsFlow w (rows_in net.entry.net.now) params.now (past_in before.entry dt))
-        (datum_of x.now) r) }
+) -> Result<(StaticState, Sample), Memory>
+    ensures { IfOk result (λ r. (r.0.0 ≡ params.now) × FlowsThrough (R.keys rows.now)
+        (rows_in net.entry.net.now) params.now (past_in before.entry dt) (datum_of x.now) r.0.1
+        (datum_of r.1)) }
 {
     let mut parts = StaticParts::none(alloc);
     match flow_over(alloc, rows, net, params, before, dt, x, &mut parts) {
-        Ok(answer) => keep_static(alloc, net, parts, answer),
+        Ok(answer) => with_kept(alloc, parts, answer),
         Err(memory) => {
             drop(parts);
+            Err(memory)
+        }
+    }
+}
+
+/// What is kept, to be shared, and an answer. `Memory` where a growth was refused.
+fn with_kept(
+    alloc: Global,
+    parts: StaticParts,
+    answer: Sample,
+) -> Result<(StaticState, Sample), Memory>
+    ensures { IfOk result
+        (λ r. (r.0.0 ≡ parts.params) × (r.0.1 ≡ parts.cells) × (r.1 ≡ answer)) }
+{
+    match StaticState::new(alloc, parts) {
+        Ok(kept) => Ok((kept, answer)),
+        Err(memory) => {
+            drop(answer);
             Err(memory)
         }
     }
@@ -163,19 +222,18 @@ fn run_seq<'n, R: Rows>(
     g: Source<'_, 'n>,
     dt: u64,
     x: &Sample,
-    mut spare: Spare<'n>,
+    spare: &mut Spare<'n>,
 ) -> Result<Ran<'n>, Memory>
     ensures { IfOk result (λ r.
         RunsBy (R.keys rows.now)
         (λ w. SeqBy w (source_of f.entry dt) (source_of g.entry dt))
         (datum_of x.now) r) }
 {
-    let one = run(alloc, rows, f, dt, x, spare.take_part())?;
-    match run(alloc, rows, g, dt, one.answer(), spare.take_second()) {
+    let one = run_in(alloc, rows, f, dt, x, spare.take_part())?;
+    match run_in(alloc, rows, g, dt, one.answer(), spare.take_second()) {
         Ok(two) => join_seq(alloc, one, two, spare),
         Err(memory) => {
             drop(one);
-            drop(spare);
             Err(memory)
         }
     }
@@ -190,14 +248,14 @@ fn run_first<'n, R: Rows>(
     f: Source<'_, 'n>,
     dt: u64,
     x: &Sample,
-    mut spare: Spare<'n>,
+    spare: &mut Spare<'n>,
 ) -> Result<Ran<'n>, Memory>
     ensures { IfOk result (λ r.
         RunsBy (R.keys rows.now)
         (λ w. FirstBy w (source_of f.entry dt))
         (datum_of x.now) r) }
 {
-    let one = run(alloc, rows, f, dt, first(x), spare.take_part())?;
+    let one = run_in(alloc, rows, f, dt, first(x), spare.take_part())?;
     join_first(alloc, one, second(x), spare)
 }
 
@@ -210,14 +268,14 @@ fn run_par<'n, R: Rows>(
     fs: Sources<'_, 'n>,
     dt: u64,
     x: &Sample,
-    mut spare: Spare<'n>,
+    spare: &mut Spare<'n>,
 ) -> Result<Ran<'n>, Memory>
     ensures { IfOk result (λ r.
         RunsBy (R.keys rows.now)
         (λ w. ParBy w (sources_of fs.entry dt))
         (datum_of x.now) r) }
 {
-    let all = run_all(alloc, rows, Route::ToAll, fs, dt, x, &mut spare)?;
+    let all = run_all(alloc, rows, Route::ToAll, fs, dt, x, spare)?;
     join_par(alloc, all, spare)
 }
 
@@ -231,7 +289,7 @@ fn run_loop<'n, R: Rows>(
     f: Source<'_, 'n>,
     dt: u64,
     x: &Sample,
-    mut spare: Spare<'n>,
+    spare: &mut Spare<'n>,
 ) -> Result<Ran<'n>, Memory>
     ensures { IfOk result (λ r.
         RunsBy (R.keys rows.now)
@@ -240,7 +298,7 @@ fn run_loop<'n, R: Rows>(
         (datum_of x.now) r) }
 {
     let input = fed(alloc, rows, back, x)?;
-    let one = run(alloc, rows, f, dt, &input, spare.take_part());
+    let one = run_in(alloc, rows, f, dt, &input, spare.take_part());
     drop(input);
     join_loop(alloc, one?, spare)
 }
@@ -256,14 +314,14 @@ fn run_switch<'n, R: Rows>(
     env: &Env<'n>,
     dt: u64,
     x: &Sample,
-    mut spare: Spare<'n>,
+    spare: &mut Spare<'n>,
 ) -> Result<Ran<'n>, Memory>
     ensures { IfOk result (λ r.
         RunsBy (R.keys rows.now)
         (λ w. SwitchBy w (source_of f.entry dt) (rows_in t.entry.now) (scope_of env.now))
         (datum_of x.now) r) }
 {
-    let one = run(alloc, rows, f, dt, x, spare.take_part())?;
+    let one = run_in(alloc, rows, f, dt, x, spare.take_part())?;
     match fire(alloc, second(one.answer()), env) {
         Ok(Some(inner)) => {
             let before = count::node(one.visits(), 0);
@@ -273,7 +331,6 @@ fn run_switch<'n, R: Rows>(
         Ok(None) => keep_switch(alloc, one, t, env, spare),
         Err(memory) => {
             drop(one);
-            drop(spare);
             Err(memory)
         }
     }
@@ -290,20 +347,19 @@ fn run_d_switch<'n, R: Rows>(
     env: &Env<'n>,
     dt: u64,
     x: &Sample,
-    mut spare: Spare<'n>,
+    spare: &mut Spare<'n>,
 ) -> Result<Ran<'n>, Memory>
     ensures { IfOk result (λ r.
         RunsBy (R.keys rows.now)
         (λ w. DSwitchBy w (source_of f.entry dt) (rows_in t.entry.now) (scope_of env.now))
         (datum_of x.now) r) }
 {
-    let one = run(alloc, rows, f, dt, x, spare.take_part())?;
+    let one = run_in(alloc, rows, f, dt, x, spare.take_part())?;
     match fire(alloc, second(one.answer()), env) {
         Ok(Some(inner)) => run_late(alloc, rows, one, t, inner, x, spare),
         Ok(None) => keep_d_switch(alloc, one, t, env, spare),
         Err(memory) => {
             drop(one);
-            drop(spare);
             Err(memory)
         }
     }
@@ -320,7 +376,7 @@ fn run_r_switch<'n, R: Rows>(
     env: &Env<'n>,
     dt: u64,
     x: &Sample,
-    mut spare: Spare<'n>,
+    spare: &mut Spare<'n>,
 ) -> Result<Ran<'n>, Memory>
     ensures { IfOk result (λ r.
         RunsBy (R.keys rows.now)
@@ -330,12 +386,12 @@ fn run_r_switch<'n, R: Rows>(
     match restart_of(x) {
         Some((u, event)) => {
             let inner = push_param(alloc, env, event)?;
-            let one = run(alloc, rows, Source::Net(t, &inner), 0, u, spare.take_part());
+            let one = run_in(alloc, rows, Source::Net(t, &inner), 0, u, spare.take_part());
             drop(inner);
             keep_r_switch(alloc, one?, t, env, spare)
         }
         None => {
-            let one = run(alloc, rows, f, dt, first(x), spare.take_part())?;
+            let one = run_in(alloc, rows, f, dt, first(x), spare.take_part())?;
             keep_r_switch(alloc, one, t, env, spare)
         }
     }
@@ -353,7 +409,7 @@ fn run_k_switch<'n, R: Rows>(
     env: &Env<'n>,
     dt: u64,
     x: &Sample,
-    mut spare: Spare<'n>,
+    spare: &mut Spare<'n>,
 ) -> Result<Ran<'n>, Memory>
     ensures { IfOk result (λ r.
         RunsBy (R.keys rows.now)
@@ -361,7 +417,7 @@ fn run_k_switch<'n, R: Rows>(
         (scope_of env.now))
         (datum_of x.now) r) }
 {
-    let one = run(alloc, rows, f, dt, x, spare.take_part())?;
+    let one = run_in(alloc, rows, f, dt, x, spare.take_part())?;
     match run_beside(alloc, rows, e, dt, x, one.answer(), spare.take_second()) {
         Ok(two) => match fire_old(alloc, two.answer(), env, f, dt) {
             Ok(Some(inner)) => {
@@ -374,13 +430,11 @@ fn run_k_switch<'n, R: Rows>(
             Err(memory) => {
                 drop(one);
                 drop(two);
-                drop(spare);
                 Err(memory)
             }
         },
         Err(memory) => {
             drop(one);
-            drop(spare);
             Err(memory)
         }
     }
@@ -400,7 +454,7 @@ fn run_p_switch<'n, R: Rows>(
     env: &Env<'n>,
     dt: u64,
     x: &Sample,
-    mut spare: Spare<'n>,
+    spare: &mut Spare<'n>,
 ) -> Result<Ran<'n>, Memory>
     ensures { IfOk result (λ o.
         RunsBy (R.keys rows.now)
@@ -408,15 +462,7 @@ fn run_p_switch<'n, R: Rows>(
         (rows_in t.entry.now) (scope_of env.now))
         (datum_of x.now) o) }
 {
-    let all = run_all(
-        alloc,
-        rows,
-        Route::ByRow(r, &env.params),
-        fs,
-        dt,
-        x,
-        &mut spare,
-    )?;
+    let all = run_all(alloc, rows, Route::ByRow(r, &env.params), fs, dt, x, spare)?;
     match run_beside(alloc, rows, e, dt, x, all.list(), spare.take_second()) {
         Ok(two) => match fire_olds(alloc, two.answer(), env, fs, dt) {
             Ok(Some(inner)) => {
@@ -429,13 +475,11 @@ fn run_p_switch<'n, R: Rows>(
             Err(memory) => {
                 drop(all);
                 drop(two);
-                drop(spare);
                 Err(memory)
             }
         },
         Err(memory) => {
             drop(all);
-            drop(spare);
             Err(memory)
         }
     }
@@ -450,7 +494,7 @@ fn run_old<'n, R: Rows>(
     frozen: Source<'_, 'n>,
     step: u64,
     x: &Sample,
-    spare: Spare<'n>,
+    spare: &mut Spare<'n>,
 ) -> Result<Ran<'n>, Memory>
     ensures { IfOk result (λ r.
         RunsBy (R.keys rows.now)
@@ -471,7 +515,7 @@ fn run_over<'n, R: Rows>(
     t: &'n Net<LeafId>,
     env: Env<'n>,
     x: &Sample,
-    spare: Spare<'n>,
+    spare: &mut Spare<'n>,
 ) -> Result<Ran<'n>, Memory>
     ensures { IfOk result (λ r.
         TakesOver (R.keys rows.now) before (rows_in t.entry.now) (scope_of env.entry)
@@ -492,7 +536,7 @@ fn run_late<'n, R: Rows>(
     t: &'n Net<LeafId>,
     env: Env<'n>,
     x: &Sample,
-    spare: Spare<'n>,
+    spare: &mut Spare<'n>,
 ) -> Result<Ran<'n>, Memory>
     ensures { IfOk result (λ r.
         TakesOverLate (R.keys rows.now) one.entry (rows_in t.entry.now) (scope_of env.entry)
@@ -525,7 +569,7 @@ fn run_beside<'n, R: Rows>(
         r.state r.answer r.visits) }
 {
     let seen = beside(alloc, x, y)?;
-    let two = run(alloc, rows, e, dt, &seen, spare);
+    let two = run_in(alloc, rows, e, dt, &seen, spare);
     drop(seen);
     two
 }
@@ -573,8 +617,10 @@ fn run_each<'n, R: Rows>(
 {
     match first_of(members) {
         Some((f, rest)) => {
-            let one = run_member(alloc, rows, router, i, f, dt, x, each.take_spare())?;
-            each.add(one)?;
+            let mut spare = each.take_spare();
+            let one = run_member(alloc, rows, router, i, f, dt, x, &mut spare);
+            drop(spare);
+            each.add(one?)?;
             run_each(alloc, rows, router, i.wrapping_add(1), rest, dt, x, each)
         }
         None => Ok(()),
@@ -591,7 +637,7 @@ fn run_member<'n, R: Rows>(
     f: Source<'_, 'n>,
     dt: u64,
     x: &Sample,
-    spare: Spare<'n>,
+    spare: &mut Spare<'n>,
 ) -> Result<Ran<'n>, Memory>
     ensures { IfOk result (λ one.
         RunsMember (R.keys rows.now) (router_of router.entry) i (source_of f.entry dt)

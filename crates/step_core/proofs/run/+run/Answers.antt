@@ -243,9 +243,6 @@ run_member-returns-in_ok-input-in-ByRow g t c =
     k)
     c.run-one.ensures
 
-pub run_each-run_member-requires : goal.run_each-run_member-requires
-run_each-run_member-requires g t c κs within = (omega (arith, c.decreases, (members_fall _ _ _ (c.in-Some.ensures c.args.dt)).0), search rules)
-
 pub run_each-run_each-requires : goal.run_each-run_each-requires
 run_each-run_each-requires g t c κs within = (omega (arith, c.decreases, (members_fall _ _ _ (c.in-Some.ensures c.args.dt)).1), search rules)
 
@@ -253,7 +250,7 @@ pub run_each-returns-in_ok-add-in-Some : goal.run_each-returns-in_ok-add-in-Some
 run_each-returns-in_ok-add-in-Some g t c =
     if_ok c.run_each.result _ _
     (λ u hs. subst (λ z. RunEachWhere (g.R.Rows.keys c.args.rows.now) (router_of c.args.router) c.args.i (sources_of c.args.members c.args.dt) (datum_of c.args.x.now) z c.run_each.new.each)
-    c.take_spare.ensures (also_run _ (router_of c.args.router) c.args.i _ _ _ _ _ c.in_ok-one-in-Some.ensures.0 _ _ _ _ (c.in-Some.ensures c.args.dt)
+    c.take_spare-spare.ensures (also_run _ (router_of c.args.router) c.args.i _ _ _ _ _ c.in_ok-one-in-Some.ensures.0 _ _ _ _ (c.in-Some.ensures c.args.dt)
     c.in_ok-one-in-Some.ensures.1 c.in_ok-one-in-Some.ensures.2 c.in_ok-add-in-Some.ensures (next_number c.args.i) hs))
     c.run_each.ensures
 

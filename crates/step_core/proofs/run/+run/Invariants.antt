@@ -10,6 +10,9 @@ use Rattle.step_core.proofs.run.+run.Given as goal
 abbrev pub decreases-run : goal.decreases-run
 decreases-run g l = 5 * frozen_rank (source_of l.from l.dt)
 
+abbrev pub decreases-run_in : goal.decreases-run_in
+decreases-run_in g l = 5 * frozen_rank (source_of l.from l.dt) + 1
+
 abbrev pub decreases-run_seq : goal.decreases-run_seq
 decreases-run_seq g l = 5 * (frozen_rank (source_of l.f l.dt) + frozen_rank (source_of l.g l.dt)) + 4
 
@@ -54,7 +57,7 @@ abbrev pub decreases-run_late : goal.decreases-run_late
 decreases-run_late g l = 5 * frozen_rank (unstarted (rows_in l.t.now) (scope_of l.env)) + 1
 
 abbrev pub decreases-run_beside : goal.decreases-run_beside
-decreases-run_beside g l = 5 * frozen_rank (source_of l.e l.dt) + 1
+decreases-run_beside g l = 5 * frozen_rank (source_of l.e l.dt) + 2
 
 abbrev pub decreases-run_all : goal.decreases-run_all
 decreases-run_all g l = 5 * total (frozen_ranks (sources_of l.members l.dt)) + 3

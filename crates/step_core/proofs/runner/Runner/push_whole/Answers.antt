@@ -1,0 +1,40 @@
+use Rattle.std.proofs.Common.{Some, ap, subst, ◌∙◌, add-one, ◌+◌}
+use Rattle.sample_core.specs.ValueView.{datum_of}
+use Rattle.leaf_table.specs.Rows.{rows_of}
+use Rattle.step_core.specs.RunnerState.{Pushes}
+use Rattle.step_core.specs.RunnerView.{runner_state}
+use Rattle.step_core.specs.Runs.{RunsWhere}
+use Rattle.step_core.specs.SourceView.{source_of}
+use Rattle.step_core.specs.StateOption.{state_in}
+use Rattle.step_core.proofs.Pushing.{first_pushed_from, next_pushed, past_later, pushed_as}
+use Rattle.step_core.proofs.runner.Runner.push_whole.Goals.{After-drop-2, in-Some, in-None}
+use Rattle.step_core.proofs.runner.Runner.push_whole.Goals as goal
+
+-- the next output, whether or not this is the first sample
+after_push : (g : _) (c : After-drop-2 g) → Pushes (runner_state c.args.self.now) (c.args.step, datum_of c.args.sample.now)
+    (datum_of c.into_parts-state.result.1)
+    (record {
+      input = c.args.self.now.bound.now.input;
+      keys = rows_of c.args.self.now.table.now;
+      rows = c.args.self.now.bound.now.rows;
+      state = state_in c.replace-before.new.self;
+      samples = c.args.self.now.samples + 1;
+      visits = c.visits-visits.result;
+    })
+after_push g c =
+    pushed_as (runner_state c.args.self.now) _ _ _ _ _ _ _ _ (ap state_in c.replace-before.ensures.after ∙ ap Some c.into_parts-state.ensures.state)
+    (add-one c.args.self.now.samples) c.visits-visits.ensures c.into_parts-state.ensures.answer
+    (elim c.match-self.branch [
+      | in-Some w ↦ next_pushed (runner_state c.args.self.now) _ _ _ _ _ (ap state_in w.in-Some.is) c.requires.typed
+          (subst (λ o. RunsWhere (rows_of c.args.self.now.table.now) (source_of o c.args.step) (datum_of c.args.sample.now) c.in_ok-ran.ran.state
+          c.in_ok-ran.ran.answer c.in_ok-ran.ran.visits) w.from-is c.in_ok-ran.ensures)
+      | in-None w ↦ first_pushed_from (runner_state c.args.self.now) _ _ _ _ _ _ (ap state_in w.in-None.is) c.requires.typed w.net.ensures c.nothing-env.ensures
+          (subst (λ o. RunsWhere (rows_of c.args.self.now.table.now) (source_of o c.args.step) (datum_of c.args.sample.now) c.in_ok-ran.ran.state
+          c.in_ok-ran.ran.answer c.in_ok-ran.ran.visits) w.from-is c.in_ok-ran.ensures)
+    ])
+
+pub returns-clause-pushed : goal.returns-clause-pushed
+returns-clause-pushed g c = after_push g (goal.at.returns-clause-pushed g c).After-drop-2
+
+pub invariant_of-self-2 : goal.invariant_of-self-2
+invariant_of-self-2 g c = record { past = past_later (runner_state c.args.self.now) _ _ _ c.args.self.now.past (after_push g c) }
