@@ -3,6 +3,7 @@
 // and a piped file goes through in large pieces.
 
 ghost use Rattle.std.specs.Io.{WritesAtMost};
+ghost use Rattle.std.specs.Prelude.{◌≤◌, length};
 
 use sample_core::Memory;
 use std::alloc::Global;
@@ -50,21 +51,14 @@ impl Output {
         given
     }
 
-    /// Holds bytes back, as many as there is room for. Gives the host what is held before, where
-    /// there is no room for all.
+    /// Holds all of the bytes back, where there is room for them. Answers whether there is.
     #[inline(always)]
-    fn hold(&mut self, bytes: &[u8]) -> io::Result<usize>
-        ensures { WritesAtMost result bytes.now }
-    {
-        let room = ROOM.saturating_sub(self.held.len());
-        if bytes.len() <= room && self.held.extend_from_slice(bytes).is_ok() {
-            return Ok(bytes.len());
-        }
-        self.hold_on(bytes)
+    fn holds(&mut self, bytes: &[u8]) -> bool {
+        let room = self.held.capacity().saturating_sub(self.held.len());
+        bytes.len() <= room && self.held.extend_from_slice(bytes).is_ok()
     }
 
-    /// The same where there is no room for all.
-    #[inline(never)]
+    /// Gives the host what is held before, and holds bytes back, as many as there is room for.
     fn hold_on(&mut self, bytes: &[u8]) -> io::Result<usize>
         ensures { WritesAtMost result bytes.now }
     {
@@ -109,13 +103,33 @@ impl<'a> Printer<'a> {
     }
 }
 
+impl<'a> Printer<'a> {
+    /// Holds bytes back where there is no room for all yet. Answers how many, 0 where the host
+    /// refuses output.
+    #[inline(never)]
+    fn write_on(&mut self, bytes: &[u8]) -> usize
+        ensures { result ≤ length bytes.now }
+    {
+        match self.output.try_borrow_mut() {
+            Ok(mut output) => match output.hold_on(bytes) {
+                Ok(size) => size,
+                Err(_) => 0,
+            },
+            Err(_) => 0,
+        }
+    }
+}
+
+/// A write that fails takes 0 bytes.
 impl Write for Printer<'_> {
     #[inline(always)]
     fn write(&mut self, buf: &[u8]) -> io::Result<usize> {
-        match self.output.try_borrow_mut() {
-            Ok(mut output) => output.hold(buf),
-            Err(_) => Err(Error::from(ErrorKind::Other)),
+        if let Ok(mut output) = self.output.try_borrow_mut() {
+            if output.holds(buf) {
+                return Ok(buf.len());
+            }
         }
+        Ok(self.write_on(buf))
     }
 
     fn flush(&mut self) -> io::Result<()> {
