@@ -132,8 +132,13 @@ pub fn read_next(
         return None;
     }
     let (step, rest) = split_step(line)?;
-    if rest == b"=".as_slice() {
-        return Some((step, false));
+    // No value begins so.
+    if let [b'=', ..] = rest {
+        return if rest == b"=".as_slice() {
+            Some((step, false))
+        } else {
+            None
+        };
     }
     match read_value_over(alloc, rest, ty, spare) {
         Ok(taken) => {
