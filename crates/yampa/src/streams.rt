@@ -3,7 +3,7 @@
 // and a piped file goes through in large pieces.
 
 ghost use Rattle.std.specs.Io.{WritesAtMost};
-ghost use Rattle.std.specs.Prelude.{◌≤◌, length};
+ghost use Rattle.std.specs.Prelude.{◌≤◌, length, vec_len};
 
 use sample_core::Memory;
 use std::alloc::Global;
@@ -17,17 +17,23 @@ pub const ROOM: usize = 65_536;
 #[derive(Drop)]
 pub struct Output {
     stdout: Stdout,
-    held: Vec<u8>,
+    /// Room, at whose front the bytes stand that are held back.
+    room: Vec<u8>,
+    /// How many these are.
+    held: usize,
     failed: bool,
+    ghost within: { held ≤ vec_len room },
 }
 
 impl Output {
     /// No output. `Memory` where there is no room to hold any.
     pub fn new(alloc: Global, stdout: Stdout) -> Result<Output, Memory> {
-        let held = Vec::with_capacity(alloc, ROOM)?;
+        let mut room = Vec::new(alloc);
+        room.resize(ROOM, 0)?;
         Ok(Output {
             stdout,
-            held,
+            room,
+            held: 0,
             failed: false,
         })
     }
@@ -40,11 +46,11 @@ impl Output {
     /// Gives the host all that is held.
     #[inline(never)]
     pub fn give(&mut self) -> io::Result<()> {
-        if self.held.is_empty() {
+        if self.held == 0 {
             return Ok(());
         }
-        let given = self.stdout.write_all(self.held.as_slice());
-        self.held.clear();
+        let given = self.stdout.write_all(&self.room[..self.held]);
+        self.held = 0;
         if given.is_err() {
             self.failed = true;
         }
@@ -54,8 +60,13 @@ impl Output {
     /// Holds all of the bytes back, where there is room for them. Answers whether there is.
     #[inline(always)]
     fn holds(&mut self, bytes: &[u8]) -> bool {
-        let room = self.held.capacity().saturating_sub(self.held.len());
-        bytes.len() <= room && self.held.extend_from_slice(bytes).is_ok()
+        if bytes.len() > self.room.len() - self.held {
+            return false;
+        }
+        let end = self.held + bytes.len();
+        self.room[self.held..end].copy_from_slice(bytes);
+        self.held = end;
+        true
     }
 
     /// Gives the host what is held before, and holds bytes back, as many as there is room for.
@@ -63,9 +74,12 @@ impl Output {
         ensures { WritesAtMost result bytes.now }
     {
         self.give()?;
-        let size = bytes.len().min(ROOM);
-        self.held.extend_from_slice(&bytes[..size])?;
-        Ok(size)
+        let size = bytes.len().min(self.room.len() - self.held);
+        if self.holds(&bytes[..size]) {
+            Ok(size)
+        } else {
+            Ok(0)
+        }
     }
 }
 
@@ -101,9 +115,7 @@ impl<'a> Printer<'a> {
     pub fn new(output: &'a RefCell<Output>) -> Printer<'a> {
         Printer { output }
     }
-}
 
-impl<'a> Printer<'a> {
     /// Holds bytes back where there is no room for all yet. Answers how many, 0 where the host
     /// refuses output.
     #[inline(never)]
