@@ -5,6 +5,7 @@ ghost use Rattle.stream_text.specs.TextLines.{IsFeedFree, IsFirstFeed};
 ghost use Rattle.std.specs.Io.KnownBytes.{Consumes, IsAtEnd, Keeps};
 ghost use Rattle.stream_text.specs.Pieces.{KeepsPiece};
 
+use crate::step_text::has_short_step;
 use memchr::memchr;
 use sample_core::Memory;
 use std::alloc::Global;
@@ -22,7 +23,7 @@ const ROOM: usize = MOST_BYTES + PIECE;
 
 const LINE_FEED: u8 = b'\n';
 
-/// So many bytes are looked at one by one for the end of a line.
+/// So many bytes are looked at one by one for the end of a short line.
 const SHORT: usize = 16;
 
 /// What a read of a piece gave.
@@ -87,14 +88,22 @@ impl Kept {
         &self.bytes[self.start..self.start + size]
     }
 
-    /// The place of the first line feed. It is looked for behind what was searched before alone.
+    /// The place of the first line feed, where it ends a short line with a step of one digit. With
+    /// `None` it may stand anywhere.
     #[inline(always)]
+    pub fn near_feed_at(&self) -> Option<usize>
+        ensures { IfSome result (IsFirstFeed self.now) }
+    {
+        near_feed(&self.bytes[self.start..])
+    }
+
+    /// The place of the first line feed. It is looked for behind what was searched before alone.
     pub fn feed_at(&mut self) -> Option<usize>
         ensures same { self.new ≡ self.old }
         ensures found { IfSome result (IsFirstFeed self.old) }
         ensures none { IfNone result (IsFeedFree self.old) }
     {
-        match first_feed(&self.bytes[self.start + self.searched..]) {
+        match far_feed(&self.bytes[self.start + self.searched..]) {
             Some(at) => {
                 self.searched += at;
                 Some(self.searched)
@@ -106,8 +115,18 @@ impl Kept {
         }
     }
 
-    /// Lets so many of the first bytes go, and the one behind them, if there is one.
+    /// Lets so many of the first bytes go, and the one behind them.
     #[inline(always)]
+    pub fn skip_fed(&mut self, size: usize)
+        requires { size < length self.old }
+        ensures { self.new ≡ drop (size + 1) self.old }
+    {
+        let end = self.start + size;
+        self.start = end + 1;
+        self.searched = 0;
+    }
+
+    /// Lets so many of the first bytes go, and the one behind them, if there is one.
     pub fn skip_line(&mut self, size: usize)
         requires { size ≤ length self.old }
         ensures { self.new ≡ drop (size + 1) self.old }
@@ -132,23 +151,24 @@ impl Kept {
     }
 }
 
-/// The place of the first line feed. A short line's end is found faster by a look at each byte.
+/// The place of the first line feed of a short line with a step of one digit. A short line's end is
+/// found faster by a look at each byte; those of the step needn't be looked at again.
 #[inline(always)]
-fn first_feed(bytes: &[u8]) -> Option<usize>
-    ensures found { IfSome result (IsFirstFeed bytes.now) }
-    ensures none { IfNone result (IsFeedFree bytes.now) }
+fn near_feed(bytes: &[u8]) -> Option<usize>
+    ensures { IfSome result (IsFirstFeed bytes.now) }
 {
-    if bytes.len() >= SHORT {
-        for at in 0..SHORT {
-            if bytes[at] == LINE_FEED {
-                return Some(at);
-            }
+    if bytes.len() < SHORT || !has_short_step(bytes) {
+        return None;
+    }
+    for at in 0..SHORT {
+        if bytes[at] == LINE_FEED {
+            return Some(at);
         }
     }
-    far_feed(bytes)
+    None
 }
 
-/// The same, for a line of any length.
+/// The place of the first line feed of any line.
 #[inline(never)]
 fn far_feed(bytes: &[u8]) -> Option<usize>
     ensures found { IfSome result (IsFirstFeed bytes.now) }

@@ -1,6 +1,6 @@
 // Samples of the lines of a stream's text.
 
-ghost use Rattle.std.specs.Prelude.{◌≡◌, ◌≤◌, IfSome, None, Ok, Some};
+ghost use Rattle.std.specs.Prelude.{◌≡◌, ◌≤◌, IfSome, None, Ok, Some, if◌then◌else◌};
 ghost use Rattle.sample_core.specs.Datum.{Datum};
 ghost use Rattle.sample_core.specs.ValueView.{datum_of};
 ghost use Rattle.sample_core.specs.TypeView.{type_of};
@@ -12,7 +12,6 @@ use crate::fault::StreamFault;
 use crate::step_text::{split_step, strip};
 use sample_core::{Sample, Ty, ValueFault, read_value, read_value_over};
 use std::alloc::Global;
-use std::mem;
 
 /// The most samples of a run.
 const MOST_SAMPLES: u64 = 1_000_000;
@@ -111,9 +110,8 @@ fn read_whole(alloc: Global, ty: &Ty, number: u64, bytes: &[u8]) -> Result<Sampl
     }
 }
 
-/// The step of a later line that holds a sample, and its value, where it writes one; with none it
-/// repeats the value before. `None` tells nothing of the line. The value is read over `spare`, and
-/// taken from there.
+/// The step of a later line that holds a sample, and whether it writes a value, which stands in
+/// `spare` then; else it repeats the value before. `None` tells nothing of the line.
 #[inline(always)]
 pub fn read_next(
     alloc: Global,
@@ -121,22 +119,31 @@ pub fn read_next(
     number: u64,
     line: &[u8],
     spare: &mut Sample,
-) -> Option<(u64, Option<Sample>)>
-    ensures few { IfSome result (λ x. number ≤ 1000000) }
-    ensures reads { IfSome result (λ x. (before : Datum) → line_read (type_of ty.now) number
-        (Some before) line.now ≡ Ok (x.0, value_behind before x.1)) }
+) -> Option<(u64, bool)>
+    requires { number ≤ 1000000 }
+    ensures { IfSome result (λ x. (before : Datum) → line_read (type_of ty.now) number
+        (Some before) line.now ≡ Ok (
+          x.0,
+          value_behind before
+              (if x.1 then Some spare.new else None),
+        )) }
 {
-    if number > MOST_SAMPLES || line.len() > MOST_BYTES {
+    if line.len() > MOST_BYTES {
         return None;
     }
     let (step, rest) = split_step(line)?;
-    if rest == b"=".as_slice() {
-        return Some((step, None));
+    // No value begins so.
+    if let [b'=', ..] = rest {
+        return if rest == b"=".as_slice() {
+            Some((step, false))
+        } else {
+            None
+        };
     }
     match read_value_over(alloc, rest, ty, spare) {
         Ok(taken) => {
             if taken == rest.len() {
-                Some((step, Some(mem::replace(spare, Sample::Unit))))
+                Some((step, true))
             } else {
                 None
             }

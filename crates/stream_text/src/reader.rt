@@ -1,6 +1,6 @@
 // The samples of a stream, read from any reader.
 
-ghost use Rattle.std.specs.Prelude.{◌≡◌, ◌≤◌, ◌<◌, ◌^◌, IfErr, IfOk, IfSome, Some};
+ghost use Rattle.std.specs.Prelude.{◌≡◌, ◌≤◌, ◌<◌, ◌^◌, IfErr, IfOk, IfSome, None, Some, if◌then◌else◌};
 ghost use Rattle.std.specs.Option.{option_map};
 ghost use Rattle.sample_core.specs.Datum.{Datum};
 ghost use Rattle.sample_core.specs.HasType.{HasType};
@@ -14,10 +14,11 @@ use crate::device::Device;
 use crate::fault::StreamFault;
 use crate::kept::Kept;
 use crate::line::{read_line, read_next};
-use crate::settle::{Settled, settle};
+use crate::settle::{MOST_SAMPLES, Settled, settle};
 use sample_core::{Memory, Sample, Ty, reading_laws};
 use std::alloc::Global;
 use std::io::Read;
+use std::mem;
 
 /// What has ended a stream, if anything.
 #[derive(Clone, Copy)]
@@ -53,6 +54,7 @@ impl LineState {
     ghost use Rattle.stream_text.specs.ReaderState.{reader_state};
     ghost use Rattle.stream_text.specs.StreamText.{IsBefore, line_read};
     ghost use Rattle.stream_text.specs.StreamView.{before_view};
+    ghost use Rattle.stream_text.specs.TextLines.{IsFirstFeed};
     ghost use Rattle.stream_text.specs.declared.reader.Met.TheVariants as M;
 
     /// A stream of which nothing was read. `Memory`: there is no room for a line and a piece.
@@ -202,16 +204,47 @@ impl LineState {
             (reader_state self.old) step (reader_state self.new)) }
         ensures none { IfNone result (reader_state self.new ≡ reader_state self.old) }
     {
+        match self.kept.near_feed_at() {
+            Some(size) => self.take_fed(ty, size),
+            None => self.take_far(ty),
+        }
+    }
+
+    /// The same for a line of any length.
+    #[inline(never)]
+    fn take_far(&mut self, ty: &Ty) -> Option<u64>
+        requires open { self.old.met ≡ M.Nothing }
+        requires later { (reader_state self.old).before ≢ None }
+        ensures taken { IfSome result (λ step. TakesNext (type_of ty.now)
+            (reader_state self.old) step (reader_state self.new)) }
+        ensures none { IfNone result (reader_state self.new ≡ reader_state self.old) }
+    {
         let size = self.kept.feed_at()?;
-        let (step, value) = read_next(
+        self.take_fed(ty, size)
+    }
+
+    /// The same where the line has so many bytes.
+    #[inline(always)]
+    fn take_fed(&mut self, ty: &Ty, size: usize) -> Option<u64>
+        requires open { self.old.met ≡ M.Nothing }
+        requires later { (reader_state self.old).before ≢ None }
+        requires feed { IsFirstFeed self.old.kept size }
+        ensures taken { IfSome result (λ step. TakesNext (type_of ty.now)
+            (reader_state self.old) step (reader_state self.new)) }
+        ensures none { IfNone result (reader_state self.new ≡ reader_state self.old) }
+    {
+        if self.lines >= MOST_SAMPLES {
+            return None;
+        }
+        let (step, is_new) = read_next(
             self.alloc,
             ty,
             self.lines + 1,
             self.kept.front(size),
             &mut self.spare,
         )?;
-        put_behind(&mut self.before, &mut self.spare, value);
-        self.kept.skip_line(size);
+        put_behind(&mut self.before, &mut self.spare, is_new);
+        self.kept.skip_fed(size);
         self.lines += 1;
         Some(step)
     }
@@ -359,15 +392,16 @@ impl<R: Read + Device + Drop> LineReader<R> {
     }
 }
 
-/// Puts a new value, if there is one, in place of the value before, which is a spare one then.
+/// Puts the spare value, where it is new, in place of the value before, which is the spare one then.
 #[inline(always)]
-fn put_behind(before: &mut Option<Sample>, spare: &mut Sample, value: Option<Sample>)
+fn put_behind(before: &mut Option<Sample>, spare: &mut Sample, is_new: bool)
     ensures { (v : Datum) → option_map datum_of before.old ≡ Some v
-        → option_map datum_of before.new ≡ Some (value_behind v value) }
+        → option_map datum_of before.new
+        ≡ Some (value_behind v (if is_new then Some spare.old else None)) }
 {
-    if let Some(value) = value {
-        if let Some(old) = before.replace(value) {
-            spare.put(old);
+    if is_new {
+        if let Some(value) = before {
+            mem::swap(value, spare);
         }
     }
 }

@@ -3,6 +3,7 @@
 // and a piped file goes through in large pieces.
 
 ghost use Rattle.std.specs.Io.{WritesAtMost};
+ghost use Rattle.std.specs.Prelude.{◌≤◌, length, vec_len};
 
 use sample_core::Memory;
 use std::alloc::Global;
@@ -16,17 +17,23 @@ pub const ROOM: usize = 65_536;
 #[derive(Drop)]
 pub struct Output {
     stdout: Stdout,
-    held: Vec<u8>,
+    /// Room, at whose front the bytes stand that are held back.
+    room: Vec<u8>,
+    /// How many these are.
+    held: usize,
     failed: bool,
+    ghost within: { held ≤ vec_len room },
 }
 
 impl Output {
     /// No output. `Memory` where there is no room to hold any.
     pub fn new(alloc: Global, stdout: Stdout) -> Result<Output, Memory> {
-        let held = Vec::with_capacity(alloc, ROOM)?;
+        let mut room = Vec::new(alloc);
+        room.resize(ROOM, 0)?;
         Ok(Output {
             stdout,
-            held,
+            room,
+            held: 0,
             failed: false,
         })
     }
@@ -39,39 +46,40 @@ impl Output {
     /// Gives the host all that is held.
     #[inline(never)]
     pub fn give(&mut self) -> io::Result<()> {
-        if self.held.is_empty() {
+        if self.held == 0 {
             return Ok(());
         }
-        let given = self.stdout.write_all(self.held.as_slice());
-        self.held.clear();
+        let given = self.stdout.write_all(&self.room[..self.held]);
+        self.held = 0;
         if given.is_err() {
             self.failed = true;
         }
         given
     }
 
-    /// Holds bytes back, as many as there is room for. Gives the host what is held before, where
-    /// there is no room for all.
+    /// Holds all of the bytes back, where there is room for them. Answers whether there is.
     #[inline(always)]
-    fn hold(&mut self, bytes: &[u8]) -> io::Result<usize>
-        ensures { WritesAtMost result bytes.now }
-    {
-        let room = ROOM.saturating_sub(self.held.len());
-        if bytes.len() <= room && self.held.extend_from_slice(bytes).is_ok() {
-            return Ok(bytes.len());
+    fn holds(&mut self, bytes: &[u8]) -> bool {
+        if bytes.len() > self.room.len() - self.held {
+            return false;
         }
-        self.hold_on(bytes)
+        let end = self.held + bytes.len();
+        self.room[self.held..end].copy_from_slice(bytes);
+        self.held = end;
+        true
     }
 
-    /// The same where there is no room for all.
-    #[inline(never)]
+    /// Gives the host what is held before, and holds bytes back, as many as there is room for.
     fn hold_on(&mut self, bytes: &[u8]) -> io::Result<usize>
         ensures { WritesAtMost result bytes.now }
     {
         self.give()?;
-        let size = bytes.len().min(ROOM);
-        self.held.extend_from_slice(&bytes[..size])?;
-        Ok(size)
+        let size = bytes.len().min(self.room.len() - self.held);
+        if self.holds(&bytes[..size]) {
+            Ok(size)
+        } else {
+            Ok(0)
+        }
     }
 }
 
@@ -107,15 +115,33 @@ impl<'a> Printer<'a> {
     pub fn new(output: &'a RefCell<Output>) -> Printer<'a> {
         Printer { output }
     }
+
+    /// Holds bytes back where there is no room for all yet. Answers how many, 0 where the host
+    /// refuses output.
+    #[inline(never)]
+    fn write_on(&mut self, bytes: &[u8]) -> usize
+        ensures { result ≤ length bytes.now }
+    {
+        match self.output.try_borrow_mut() {
+            Ok(mut output) => match output.hold_on(bytes) {
+                Ok(size) => size,
+                Err(_) => 0,
+            },
+            Err(_) => 0,
+        }
+    }
 }
 
+/// A write that fails takes 0 bytes.
 impl Write for Printer<'_> {
     #[inline(always)]
     fn write(&mut self, buf: &[u8]) -> io::Result<usize> {
-        match self.output.try_borrow_mut() {
-            Ok(mut output) => output.hold(buf),
-            Err(_) => Err(Error::from(ErrorKind::Other)),
+        if let Ok(mut output) = self.output.try_borrow_mut() {
+            if output.holds(buf) {
+                return Ok(buf.len());
+            }
         }
+        Ok(self.write_on(buf))
     }
 
     fn flush(&mut self) -> io::Result<()> {

@@ -182,12 +182,31 @@ fn answer<W: Write + Device>(
     let Ok(answer) = runner.push(step, sample) else {
         return Err(Stop::Memory);
     };
-    let spelled = spell(text, &answer);
-    drop(answer);
-    match spelled {
-        Ok(()) => put(writer, failures, text.as_bytes()),
-        Err(Memory) => Err(Stop::Memory),
+    match spell(text, &answer) {
+        Ok(()) => {
+            let_go(answer);
+            put(writer, failures, text.as_bytes())
+        }
+        Err(Memory) => {
+            drop(answer);
+            Err(Stop::Memory)
+        }
     }
+}
+
+/// Lets a value go. Mostly it is a number, which holds nothing.
+#[inline(always)]
+fn let_go(value: Sample) {
+    match value {
+        Sample::Int(_) => {}
+        value => let_go_on(value),
+    }
+}
+
+/// The same of any value.
+#[inline(never)]
+fn let_go_on(value: Sample) {
+    drop(value);
 }
 
 /// Puts the line of a value into the text, in place of what stands there.
