@@ -114,6 +114,11 @@ static CALLS: &str = "
 § Calls on networks with little memory.
 reading a network => refused at first
 printing a network => refused at first
+";
+
+/// Checks by their names.
+static CHECKS: &str = "
+§ Checks of networks with little memory.
 checking a network => refused at first
 finding the needs => refused at first
 ";
@@ -121,4 +126,9 @@ finding the needs => refused at first
 #[test]
 fn calls_on_networks_are_refused_memory(rt: HostRuntime) {
     all_are_found(&rt, rt.alloc(), Probe::ScantNetwork, CALLS);
+}
+
+#[test]
+fn checks_of_networks_are_refused_memory(rt: HostRuntime) {
+    all_are_found(&rt, rt.alloc(), Probe::ScantNetwork, CHECKS);
 }
