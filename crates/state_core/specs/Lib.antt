@@ -3,6 +3,7 @@ pub mod CountedFunction
 pub mod CountedForms
 pub mod CountedContext
 pub mod State
+pub mod Around
 pub mod EmptyScope
 pub mod StandsByForm
 pub mod Stands

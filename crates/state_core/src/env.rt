@@ -1,6 +1,6 @@
 // What is in scope, and frozen networks.
 
-ghost use Rattle.std.specs.Prelude.{◌≡◌, ◌++◌, IfOk, IfSome, IfNone, [], Some, None};
+ghost use Rattle.std.specs.Prelude.{◌≡◌, ◌++◌, IfOk, OnOk, IfSome, IfNone, [], Some, None};
 ghost use Rattle.sample_core.specs.ValueView.{datum_of};
 ghost use Rattle.state_core.specs.State.{no_frozen, and_frozen, append_frozens, frozen_at, push_param as with_param, push_old as with_old, push_olds as with_olds, scope, unstarted as unstarted_network, paused as paused_state};
 ghost use Rattle.state_core.specs.StateView.{state_of, scope_of, frozen_of, frozens_in, olds_of, frozen_from, IsFrozenAt};
@@ -173,6 +173,23 @@ impl<'n> Env<'n> {
         let params = self.params.try_copy()?;
         let olds = self.olds.try_copy()?;
         Ok(Env { params, olds })
+    }
+
+    /// This scope, shared, in the place of the other. It takes no memory; `Memory` only where a
+    /// count of references is full.
+    #[inline(always)]
+    pub(crate) fn renew(&mut self, from: &Env<'n>) -> Result<(), Memory>
+        ensures { OnOk result (scope_of self.new ≡ scope_of from.now) }
+    {
+        self.params.renew(&from.params)?;
+        match (&self.olds, &from.olds) {
+            (Olds::Nothing, Olds::Nothing) => Ok(()),
+            _ => {
+                let olds = from.olds.try_copy()?;
+                drop(std::mem::replace(&mut self.olds, olds));
+                Ok(())
+            }
+        }
     }
 
     /// These parameters, shared, and these frozen networks. `Memory` where a growth was refused.

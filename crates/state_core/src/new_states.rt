@@ -4,7 +4,6 @@ ghost use Rattle.std.specs.Prelude.{◌≡◌, IfOk};
 ghost use Rattle.state_core.specs.State.{and_state, no_state};
 ghost use Rattle.state_core.specs.StateView.{state_of, append_states};
 
-use crate::spare::Spare;
 use crate::state::{State, States};
 use sample_core::Memory;
 use std::alloc::Global;
@@ -61,14 +60,14 @@ impl<'n> NewStates<'n> {
         Ok(self.all.try_reserve(more)?)
     }
 
-    /// The memory of the state in whose place the next one comes.
-    pub fn take_spare(&mut self) -> Spare<'n>
+    /// The place of the next state, in which nothing is then.
+    pub fn take_place(&mut self) -> State<'n>
         ensures { self.new ≡ self.old }
     {
         if self.used < self.all.len() {
-            Spare::of(std::mem::replace(&mut self.all[self.used], State::Nothing))
+            std::mem::replace(&mut self.all[self.used], State::Nothing)
         } else {
-            Spare::none()
+            State::Nothing
         }
     }
 

@@ -1,6 +1,6 @@
 // States of networks that run.
 
-ghost use Rattle.std.specs.Prelude.{◌≡◌, IfOk};
+ghost use Rattle.std.specs.Prelude.{◌≡◌, IfOk, OnOk};
 ghost use Rattle.state_core.specs.State.{no_state};
 ghost use Rattle.state_core.specs.StateView.{state_of, node_of, states_of};
 
@@ -30,7 +30,8 @@ pub enum State<'n> {
 #[cycle(state)]
 #[derive(Drop)]
 pub struct Whole<'n> {
-    node: Rc<Node<'n>>,
+    /// The node itself.
+    pub node: Rc<Node<'n>>,
 }
 
 /// A node of a state, round the states of its parts.
@@ -189,18 +190,18 @@ impl<'n> Whole<'n> {
 
     /// The new node, in the place of this one where no one else holds it, so that it takes no
     /// memory. `Memory` where a growth was refused.
-    pub(crate) fn renewed(self, alloc: Global, new: Node<'n>) -> Result<Whole<'n>, Memory>
-        ensures { IfOk result (λ w. w ≡ node_of new.entry) }
+    pub(crate) fn put(&mut self, alloc: Global, new: Node<'n>) -> Result<(), Memory>
+        ensures { OnOk result (self.new ≡ node_of new.entry) }
     {
-        let Whole { mut node } = self;
-        match Rc::get_mut(&mut node) {
+        match Rc::get_mut(&mut self.node) {
             Some(place) => {
                 drop(std::mem::replace(place, new));
-                Ok(Whole { node })
+                Ok(())
             }
             None => {
-                drop(node);
-                Whole::new(alloc, new)
+                let whole = Whole::new(alloc, new)?;
+                drop(std::mem::replace(self, whole));
+                Ok(())
             }
         }
     }

@@ -5,17 +5,18 @@ ghost use Rattle.sample_core.specs.Datum.{list, list_of};
 ghost use Rattle.sample_core.specs.ValueView.{datum_of};
 ghost use Rattle.state_core.specs.RowsView.{rows_in, row_number};
 ghost use Rattle.state_core.specs.State.{no_state, and_state, no_frozen, and_frozen, par_state, p_switch_state};
-ghost use Rattle.state_core.specs.StateView.{state_of, scope_of, p_switch_of, append_states};
-ghost use Rattle.step_core.specs.Outcome.{IsRan, IsListed, IsAdded};
+ghost use Rattle.state_core.specs.Around.{first_part};
+ghost use Rattle.state_core.specs.StateView.{state_of, scope_of, append_states};
+ghost use Rattle.step_core.specs.Outcome.{IsRan, IsListed, IsAdded, led};
 ghost use Rattle.step_core.specs.SourceView.{source_of, sources_of};
 
 use crate::count;
 use crate::plan::{Source, Sources};
-use crate::ran::{Ran, around};
+use crate::ran::{Ran, round};
 use leaf_table::LeafId;
 use net_syntax::Net;
 use sample_core::{Memory, Sample};
-use state_core::{Env, NewStates, Node, PSwitchParts, Spare, States, gather};
+use state_core::{Around, Env, NewStates, Node, State, States, gather};
 use std::alloc::Global;
 use std::marker::Model;
 
@@ -72,18 +73,18 @@ impl<'n> Model for Listed<'n> {
 }
 
 impl<'n> Each<'n> {
-    /// No member so far, with room for so many, in memory that is out of use. `Memory` where a
+    /// No member so far, with room for so many, in the places of other members. `Memory` where a
     /// growth was refused.
     pub(crate) fn none(
         alloc: Global,
         room: usize,
-        spare: &mut Spare<'n>,
+        place: &mut State<'n>,
     ) -> Result<Each<'n>, Memory>
         ensures { IfOk result
             (λ e. e ≡ record { states = no_state; answers = []; visits = 0 }) }
     {
         let answers = Vec::with_capacity(alloc, room)?;
-        let mut states = spare.take_members(alloc);
+        let mut states = place.take_members(alloc);
         match states.reserve(room) {
             Ok(()) => Ok(Each {
                 states,
@@ -98,27 +99,26 @@ impl<'n> Each<'n> {
         }
     }
 
-    /// The memory of the state in whose place that of the next member comes.
-    pub(crate) fn take_spare(&mut self) -> Spare<'n>
+    /// The place of the state of the next member, in which nothing is then.
+    pub(crate) fn take_place(&mut self) -> State<'n>
         ensures { self.new ≡ self.old }
     {
-        self.states.take_spare()
+        self.states.take_place()
     }
 
-    /// One member more. `Memory` where a growth was refused.
-    pub(crate) fn add(&mut self, one: Ran<'n>) -> Result<(), Memory>
-        ensures { IfOk result (λ _. IsAdded self.old one.entry self.new) }
+    /// One member more, with its state. `Memory` where a growth was refused.
+    pub(crate) fn add(&mut self, one: Ran, state: State<'n>) -> Result<(), Memory>
+        ensures { IfOk result (λ _. IsAdded self.old (led state.entry one) self.new) }
     {
-        let visits = count::both(self.visits, one.visits());
-        let (state, answer) = one.into_parts();
+        let visits = count::both(self.visits, one.visits);
         match self.states.push(state) {
             Ok(()) => {
-                self.answers.push(answer)?;
+                self.answers.push(one.answer)?;
                 self.visits = visits;
                 Ok(())
             }
             Err(memory) => {
-                drop(answer);
+                drop(one);
                 Err(memory)
             }
         }
@@ -175,14 +175,23 @@ impl<'n> Listed<'n> {
 pub(crate) fn join_par<'n>(
     alloc: Global,
     all: Listed<'n>,
-    spare: &mut Spare<'n>,
-) -> Result<Ran<'n>, Memory>
-    ensures { IfOk result (λ r.
-        IsRan r (par_state all.entry.states) all.entry.list (suc (all.entry.visits + 0))) }
+    place: &mut State<'n>,
+) -> Result<Ran, Memory>
+    ensures { IfOk result (λ r. IsRan (led place.new r)
+        (par_state all.entry.states) all.entry.list (suc (all.entry.visits + 0))) }
 {
     let visits = count::node(all.visits(), 0);
     let (states, list) = all.into_parts();
-    around(alloc, Node::Par(states), list, visits, spare)
+    match place.put(alloc, Node::Par(states)) {
+        Ok(()) => Ok(Ran {
+            answer: list,
+            visits,
+        }),
+        Err(memory) => {
+            drop(list);
+            Err(memory)
+        }
+    }
 }
 
 /// `pSwitch` round what its parts led to.
@@ -190,60 +199,20 @@ pub(crate) fn keep_p_switch<'n>(
     alloc: Global,
     r: LeafId,
     all: Listed<'n>,
-    two: Ran<'n>,
+    two: Ran,
     t: &'n Net<LeafId>,
     env: &Env<'n>,
-    spare: &mut Spare<'n>,
-) -> Result<Ran<'n>, Memory>
-    ensures { IfOk result (λ o.
-        IsRan o (p_switch_state (row_number r) all.entry.states two.entry.state
+    place: &mut State<'n>,
+) -> Result<Ran, Memory>
+    ensures { IfOk result (λ o. IsRan (led place.new o)
+        (p_switch_state (row_number r) all.entry.states (first_part (state_of place.old))
         (rows_in t.entry.now) (scope_of env.now))
-        all.entry.list (suc (all.entry.visits + two.entry.visits))) }
+        all.entry.list (suc (all.entry.visits + two.visits))) }
 {
-    let visits = count::node(all.visits(), two.visits());
-    match env.try_copy() {
-        Ok(env) => {
-            let (watch, event) = two.into_parts();
-            drop(event);
-            let (states, list) = all.into_parts();
-            let parts = PSwitchParts {
-                router: r,
-                members: states,
-                watch,
-                net: t,
-                env,
-            };
-            around_p_switch(alloc, parts, list, visits, spare)
-        }
-        Err(memory) => {
-            drop(all);
-            drop(two);
-            Err(memory)
-        }
-    }
-}
-
-/// `pSwitch` round its parts.
-fn around_p_switch<'n>(
-    alloc: Global,
-    parts: PSwitchParts<'n>,
-    answer: Sample,
-    visits: u32,
-    spare: &mut Spare<'n>,
-) -> Result<Ran<'n>, Memory>
-    ensures { IfOk result (λ o. o ≡ record {
-      state = p_switch_of parts.entry;
-      answer = datum_of answer;
-      visits = visits;
-    }) }
-{
-    match Box::new(alloc, parts) {
-        Ok(parts) => around(alloc, Node::PSwitch(parts), answer, visits, spare),
-        Err(memory) => {
-            drop(answer);
-            Err(memory.into())
-        }
-    }
+    let visits = count::node(all.visits(), two.visits);
+    drop(two);
+    let (states, list) = all.into_parts();
+    round(alloc, Around::PSwitch(r, states, t, env), list, visits, place)
 }
 
 /// The first of some members, and those behind it; nothing where there is none.

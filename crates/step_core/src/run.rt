@@ -6,10 +6,11 @@ ghost use Rattle.sample_core.specs.ValueView.{datum_of};
 ghost use Rattle.leaf_core.specs.KeyTree.{KeyTree};
 ghost use Rattle.state_core.specs.RowsView.{rows_in, row_number};
 ghost use Rattle.state_core.specs.State.{Frozen};
-ghost use Rattle.state_core.specs.StateView.{scope_of};
+ghost use Rattle.state_core.specs.Around.{first_part, second_part};
+ghost use Rattle.state_core.specs.StateView.{state_of, node_of, scope_of};
 ghost use Rattle.step_core.specs.Called.{Called};
 ghost use Rattle.step_core.specs.Flow.{FlowsThrough, IsFlow, past_in};
-ghost use Rattle.step_core.specs.Outcome.{RunsBy, TakesOver, TakesOverLate, RunsAll};
+ghost use Rattle.step_core.specs.Outcome.{RunsBy, TakesOver, TakesOverLate, RunsAll, led};
 ghost use Rattle.step_core.specs.Plans.{IsFed, RunsMember, router_of};
 ghost use Rattle.step_core.specs.Runs.{RunsWhere, RunEachWhere, SeqBy, FirstBy, ParBy, LoopBy, SwitchBy, DSwitchBy, RSwitchBy, KSwitchBy, PSwitchBy, OldBy};
 ghost use Rattle.step_core.specs.SourceView.{source_of, sources_of};
@@ -22,75 +23,211 @@ use crate::part::{beside, first, restart_of, second};
 use crate::plan::{Back, Plan, Route, Source, Sources, plan_of};
 use crate::ran::{
     Ran, join_first, join_loop, join_seq, keep_d_switch, keep_k_switch, keep_r_switch, keep_switch,
-    resumed, take_over, take_over_late,
+    take_over, take_over_late,
 };
 use crate::rows::Rows;
 use leaf_table::LeafId;
 use net_syntax::Net;
 use sample_core::{Memory, Sample};
 use state_core::{
-    Cells, Env, Params, Spare, State, StaticNet, StaticParts, StaticState, push_param, route,
+    Cells, Env, Node, Params, SeqParts, State, StaticNet, StaticParts, StaticState, push_param,
+    route, take_first,
 };
 use std::alloc::Global;
+use std::rc::Rc;
 
 /// A start or a step. `dt` is the time since the sample before, where there is one. The new state
-/// comes into memory that is out of use. `Memory` where a growth was refused.
+/// comes into the place, whose memory it takes as far as no one else holds that. `Memory` where a
+/// growth was refused.
 #[cycle(run)]
 pub(crate) fn run<'n, R: Rows>(
     alloc: Global,
     rows: &R,
-    from: Source<'_, 'n>,
+    from: &Source<'_, 'n>,
     dt: u64,
     x: &Sample,
-    spare: &mut Spare<'n>,
-) -> Result<Ran<'n>, Memory>
+    place: &mut State<'n>,
+) -> Result<Ran, Memory>
     ensures { IfOk result (λ r.
-        RunsWhere (R.keys rows.now) (source_of from.entry dt) (datum_of x.now)
-        r.state r.answer r.visits) }
+        RunsWhere (R.keys rows.now) (source_of from.now dt) (datum_of x.now)
+        (state_of place.new) (datum_of r.answer) r.visits) }
 {
-    match plan_of(from) {
-        Plan::Static(net, params, cells) => run_static(
-            alloc, rows, net, params, cells, dt, x, spare,
+    match plan_of(*from) {
+        Plan::Static(net, params, before) => run_apart(
+            alloc, rows, net, params, before, dt, x, place,
         ),
-        Plan::Seq(f, g) => run_seq(alloc, rows, f, g, dt, x, spare),
-        Plan::First(f) => run_first(alloc, rows, f, dt, x, spare),
-        Plan::Par(fs) => run_par(alloc, rows, fs, dt, x, spare),
-        Plan::LoopPre(back, f) => run_loop(alloc, rows, back, f, dt, x, spare),
-        Plan::Switch(f, t, env) => run_switch(alloc, rows, f, t, env, dt, x, spare),
-        Plan::DSwitch(f, t, env) => run_d_switch(alloc, rows, f, t, env, dt, x, spare),
-        Plan::RSwitch(f, t, env) => run_r_switch(alloc, rows, f, t, env, dt, x, spare),
-        Plan::KSwitch(f, e, t, env) => run_k_switch(alloc, rows, f, e, t, env, dt, x, spare),
+        Plan::Seq(f, g) => run_seq(alloc, rows, &f, &g, dt, x, place),
+        Plan::First(f) => run_first(alloc, rows, &f, dt, x, place),
+        Plan::Par(fs) => run_par(alloc, rows, fs, dt, x, place),
+        Plan::LoopPre(back, f) => run_loop(alloc, rows, back, &f, dt, x, place),
+        Plan::Switch(f, t, env) => run_switch(alloc, rows, &f, t, env, dt, x, place),
+        Plan::DSwitch(f, t, env) => run_d_switch(alloc, rows, &f, t, env, dt, x, place),
+        Plan::RSwitch(f, t, env) => run_r_switch(alloc, rows, &f, t, env, dt, x, place),
+        Plan::KSwitch(f, e, t, env) => run_k_switch(alloc, rows, &f, &e, t, env, dt, x, place),
         Plan::PSwitch(r, fs, e, t, env) => run_p_switch(
-            alloc, rows, r, fs, e, t, env, dt, x, spare,
+            alloc, rows, r, fs, &e, t, env, dt, x, place,
         ),
-        Plan::Old(frozen, step) => run_old(alloc, rows, frozen, step, x, spare),
+        Plan::Old(frozen, step) => run_old(alloc, rows, &frozen, step, x, place),
         Plan::Beyond => Err(Memory),
     }
 }
 
-/// The same, in the memory of a part of what is out of use.
-#[cycle(run)]
+/// The same, where a network without switches runs in line.
 #[inline(always)]
-fn run_in<'n, R: Rows>(
+pub(crate) fn run_top<'n, R: Rows>(
     alloc: Global,
     rows: &R,
-    from: Source<'_, 'n>,
+    from: &Source<'_, 'n>,
     dt: u64,
     x: &Sample,
-    mut spare: Spare<'n>,
-) -> Result<Ran<'n>, Memory>
+    place: &mut State<'n>,
+) -> Result<Ran, Memory>
     ensures { IfOk result (λ r.
-        RunsWhere (R.keys rows.now) (source_of from.entry dt) (datum_of x.now)
-        r.state r.answer r.visits) }
+        RunsWhere (R.keys rows.now) (source_of from.now dt) (datum_of x.now)
+        (state_of place.new) (datum_of r.answer) r.visits) }
 {
-    let ran = run(alloc, rows, from, dt, x, &mut spare);
-    drop(spare);
-    ran
+    match plan_of(*from) {
+        Plan::Static(net, params, before) => run_static(
+            alloc, rows, net, params, before, dt, x, place,
+        ),
+        _ => run(alloc, rows, from, dt, x, place),
+    }
 }
 
-/// A sample of a network without switches.
+/// The same for a part, in the place of the first part of what stands in that place.
+#[cycle(run)]
+fn run_part<'n, R: Rows>(
+    alloc: Global,
+    rows: &R,
+    from: &Source<'_, 'n>,
+    dt: u64,
+    x: &Sample,
+    place: &mut State<'n>,
+) -> Result<Ran, Memory>
+    ensures { IfOk result (λ r.
+        RunsWhere (R.keys rows.now) (source_of from.now dt) (datum_of x.now)
+        (first_part (state_of place.new)) (datum_of r.answer) r.visits) }
+{
+    if let State::Whole(whole) = place {
+        if let Some(node) = Rc::get_mut(&mut whole.node) {
+            return run_in_first(alloc, rows, from, dt, x, node);
+        }
+    }
+    let mut part = State::Nothing;
+    match run(alloc, rows, from, dt, x, &mut part) {
+        Ok(one) => put_first(alloc, part, one, place),
+        Err(memory) => {
+            drop(part);
+            Err(memory)
+        }
+    }
+}
+
+/// The same for the part that follows or watches the first, which stays.
+#[cycle(run)]
+fn run_second<'n, R: Rows>(
+    alloc: Global,
+    rows: &R,
+    from: &Source<'_, 'n>,
+    dt: u64,
+    x: &Sample,
+    place: &mut State<'n>,
+) -> Result<Ran, Memory>
+    ensures { IfOk result (λ r.
+        (first_part (state_of place.new) ≡ first_part (state_of place.old))
+        × RunsWhere (R.keys rows.now) (source_of from.now dt) (datum_of x.now)
+        (second_part (state_of place.new)) (datum_of r.answer) r.visits) }
+{
+    if let State::Whole(whole) = place {
+        if let Some(node) = Rc::get_mut(&mut whole.node) {
+            return run_in_second(alloc, rows, from, dt, x, node);
+        }
+    }
+    Err(Memory)
+}
+
+/// A part's sample, in the place of the first part of a node.
+#[cycle(run)]
+fn run_in_first<'n, R: Rows>(
+    alloc: Global,
+    rows: &R,
+    from: &Source<'_, 'n>,
+    dt: u64,
+    x: &Sample,
+    node: &mut Node<'n>,
+) -> Result<Ran, Memory>
+    ensures { IfOk result (λ r.
+        RunsWhere (R.keys rows.now) (source_of from.now dt) (datum_of x.now)
+        (first_part (node_of node.new)) (datum_of r.answer) r.visits) }
+{
+    match node {
+        Node::Seq(parts) => run(alloc, rows, from, dt, x, &mut parts.first),
+        Node::First(part) => run(alloc, rows, from, dt, x, part),
+        Node::LoopPre(parts) => run(alloc, rows, from, dt, x, &mut parts.part),
+        Node::Switch(parts) => run(alloc, rows, from, dt, x, &mut parts.part),
+        Node::DSwitch(parts) => run(alloc, rows, from, dt, x, &mut parts.part),
+        Node::RSwitch(parts) => run(alloc, rows, from, dt, x, &mut parts.part),
+        Node::KSwitch(parts) => run(alloc, rows, from, dt, x, &mut parts.part),
+        Node::PSwitch(parts) => run(alloc, rows, from, dt, x, &mut parts.watch),
+        Node::Par(_) => {
+            let mut part = State::Nothing;
+            let one = run(alloc, rows, from, dt, x, &mut part);
+            drop(std::mem::replace(node, Node::First(part)));
+            one
+        }
+    }
+}
+
+/// A part's sample, in the place of the second part of a node, whose first part stays.
+#[cycle(run)]
+fn run_in_second<'n, R: Rows>(
+    alloc: Global,
+    rows: &R,
+    from: &Source<'_, 'n>,
+    dt: u64,
+    x: &Sample,
+    node: &mut Node<'n>,
+) -> Result<Ran, Memory>
+    ensures { IfOk result (λ r.
+        (first_part (node_of node.new) ≡ first_part (node_of node.old))
+        × RunsWhere (R.keys rows.now) (source_of from.now dt) (datum_of x.now)
+        (second_part (node_of node.new)) (datum_of r.answer) r.visits) }
+{
+    match node {
+        Node::Seq(parts) => run(alloc, rows, from, dt, x, &mut parts.second),
+        Node::KSwitch(parts) => run(alloc, rows, from, dt, x, &mut parts.watch),
+        _ => {
+            let first = take_first(node);
+            let mut second = State::Nothing;
+            let two = run(alloc, rows, from, dt, x, &mut second);
+            drop(std::mem::replace(node, Node::Seq(SeqParts { first, second })));
+            two
+        }
+    }
+}
+
+/// A part's state as the first part of what stands in a place.
+fn put_first<'n>(
+    alloc: Global,
+    part: State<'n>,
+    one: Ran,
+    place: &mut State<'n>,
+) -> Result<Ran, Memory>
+    ensures { IfOk result (λ r. (first_part (state_of place.new) ≡ state_of part.entry)
+        × (r ≡ one)) }
+{
+    match place.put(alloc, Node::First(part)) {
+        Ok(()) => Ok(one),
+        Err(memory) => {
+            drop(one);
+            Err(memory)
+        }
+    }
+}
+
+/// A sample of a network without switches, called by itself.
 #[inline(never)]
-fn run_static<'n, R: Rows>(
+fn run_apart<'n, R: Rows>(
     alloc: Global,
     rows: &R,
     net: StaticNet<'n>,
@@ -98,22 +235,59 @@ fn run_static<'n, R: Rows>(
     before: Option<&Cells>,
     dt: u64,
     x: &Sample,
-    spare: &mut Spare<'n>,
-) -> Result<Ran<'n>, Memory>
+    place: &mut State<'n>,
+) -> Result<Ran, Memory>
     ensures { IfOk result (λ r.
         RunsBy (R.keys rows.now)
         (λ w. IsFlow w (rows_in net.entry.net.now) params.now (past_in before.entry dt))
-        (datum_of x.now) r) }
+        (datum_of x.now) (led place.new r)) }
 {
-    let kept = std::mem::replace(spare, Spare::none()).into_static();
-    let (kept, answer) = flow_kept(alloc, rows, net, params, before, dt, x, kept)?;
-    Ok(Ran::new(State::Static(net, kept), answer, net.nodes()))
+    run_static(alloc, rows, net, params, before, dt, x, place)
 }
 
-/// What a network without switches keeps then, in memory that is out of use where there is some,
-/// and what it answers.
+/// A sample of a network without switches.
 #[inline(always)]
-pub(crate) fn flow_kept<R: Rows>(
+pub(crate) fn run_static<'n, R: Rows>(
+    alloc: Global,
+    rows: &R,
+    net: StaticNet<'n>,
+    params: &Params,
+    before: Option<&Cells>,
+    dt: u64,
+    x: &Sample,
+    place: &mut State<'n>,
+) -> Result<Ran, Memory>
+    ensures { IfOk result (λ r.
+        RunsBy (R.keys rows.now)
+        (λ w. IsFlow w (rows_in net.entry.net.now) params.now (past_in before.entry dt))
+        (datum_of x.now) (led place.new r)) }
+{
+    if let State::Static(there, _) = place {
+        *there = net;
+    }
+    match place {
+        State::Static(_, kept) => {
+            let answer = flow_kept(alloc, rows, net, params, before, dt, x, kept)?;
+            Ok(Ran {
+                answer,
+                visits: net.nodes(),
+            })
+        }
+        other => {
+            let (kept, answer) = flow_anew(alloc, rows, net, params, before, dt, x)?;
+            drop(std::mem::replace(other, State::Static(net, kept)));
+            Ok(Ran {
+                answer,
+                visits: net.nodes(),
+            })
+        }
+    }
+}
+
+/// What a network without switches answers. What it keeps then comes into the place of what was
+/// kept, whose memory it takes where no one else holds that.
+#[inline(always)]
+fn flow_kept<R: Rows>(
     alloc: Global,
     rows: &R,
     net: StaticNet<'_>,
@@ -121,25 +295,18 @@ pub(crate) fn flow_kept<R: Rows>(
     before: Option<&Cells>,
     dt: u64,
     x: &Sample,
-    spare: Option<StaticState>,
-) -> Result<(StaticState, Sample), Memory>
-    ensures { IfOk result (λ r. (r.0.0 ≡ params.now) × FlowsThrough (R.keys rows.now)
-        (rows_in net.entry.net.now) params.now (past_in before.entry dt) (datum_of x.now) r.0.1
-        (datum_of r.1)) }
+    kept: &mut StaticState,
+) -> Result<Sample, Memory>
+    ensures { IfOk result (λ y. (kept.new.0 ≡ params.now) × FlowsThrough (R.keys rows.now)
+        (rows_in net.entry.net.now) params.now (past_in before.entry dt) (datum_of x.now) kept.new.1
+        (datum_of y)) }
 {
-    if let Some(mut kept) = spare {
-        if let Some(parts) = kept.get_mut() {
-            return match flow_over(alloc, rows, net, params, before, dt, x, parts) {
-                Ok(answer) => Ok((kept, answer)),
-                Err(memory) => {
-                    drop(kept);
-                    Err(memory)
-                }
-            };
-        }
-        drop(kept);
+    if let Some(parts) = kept.get_mut() {
+        return flow_over(alloc, rows, net, params, before, dt, x, parts);
     }
-    flow_anew(alloc, rows, net, params, before, dt, x)
+    let (fresh, answer) = flow_anew(alloc, rows, net, params, before, dt, x)?;
+    drop(std::mem::replace(kept, fresh));
+    Ok(answer)
 }
 
 /// The same in memory of its own.
@@ -218,20 +385,20 @@ fn flow_over<R: Rows>(
 fn run_seq<'n, R: Rows>(
     alloc: Global,
     rows: &R,
-    f: Source<'_, 'n>,
-    g: Source<'_, 'n>,
+    f: &Source<'_, 'n>,
+    g: &Source<'_, 'n>,
     dt: u64,
     x: &Sample,
-    spare: &mut Spare<'n>,
-) -> Result<Ran<'n>, Memory>
+    place: &mut State<'n>,
+) -> Result<Ran, Memory>
     ensures { IfOk result (λ r.
         RunsBy (R.keys rows.now)
-        (λ w. SeqBy w (source_of f.entry dt) (source_of g.entry dt))
-        (datum_of x.now) r) }
+        (λ w. SeqBy w (source_of f.now dt) (source_of g.now dt))
+        (datum_of x.now) (led place.new r)) }
 {
-    let one = run_in(alloc, rows, f, dt, x, spare.take_part())?;
-    match run_in(alloc, rows, g, dt, one.answer(), spare.take_second()) {
-        Ok(two) => join_seq(alloc, one, two, spare),
+    let one = run_part(alloc, rows, f, dt, x, place)?;
+    match run_second(alloc, rows, g, dt, &one.answer, place) {
+        Ok(two) => join_seq(alloc, one, two, place),
         Err(memory) => {
             drop(one);
             Err(memory)
@@ -245,18 +412,18 @@ fn run_seq<'n, R: Rows>(
 fn run_first<'n, R: Rows>(
     alloc: Global,
     rows: &R,
-    f: Source<'_, 'n>,
+    f: &Source<'_, 'n>,
     dt: u64,
     x: &Sample,
-    spare: &mut Spare<'n>,
-) -> Result<Ran<'n>, Memory>
+    place: &mut State<'n>,
+) -> Result<Ran, Memory>
     ensures { IfOk result (λ r.
         RunsBy (R.keys rows.now)
-        (λ w. FirstBy w (source_of f.entry dt))
-        (datum_of x.now) r) }
+        (λ w. FirstBy w (source_of f.now dt))
+        (datum_of x.now) (led place.new r)) }
 {
-    let one = run_in(alloc, rows, f, dt, first(x), spare.take_part())?;
-    join_first(alloc, one, second(x), spare)
+    let one = run_part(alloc, rows, f, dt, first(x), place)?;
+    join_first(alloc, one, second(x), place)
 }
 
 /// `parB` by its members.
@@ -268,15 +435,15 @@ fn run_par<'n, R: Rows>(
     fs: Sources<'_, 'n>,
     dt: u64,
     x: &Sample,
-    spare: &mut Spare<'n>,
-) -> Result<Ran<'n>, Memory>
+    place: &mut State<'n>,
+) -> Result<Ran, Memory>
     ensures { IfOk result (λ r.
         RunsBy (R.keys rows.now)
         (λ w. ParBy w (sources_of fs.entry dt))
-        (datum_of x.now) r) }
+        (datum_of x.now) (led place.new r)) }
 {
-    let all = run_all(alloc, rows, Route::ToAll, fs, dt, x, spare)?;
-    join_par(alloc, all, spare)
+    let all = run_all(alloc, rows, Route::ToAll, fs, dt, x, place)?;
+    join_par(alloc, all, place)
 }
 
 /// `loopPre` by what is fed back and its part.
@@ -286,21 +453,21 @@ fn run_loop<'n, R: Rows>(
     alloc: Global,
     rows: &R,
     back: Back<'_>,
-    f: Source<'_, 'n>,
+    f: &Source<'_, 'n>,
     dt: u64,
     x: &Sample,
-    spare: &mut Spare<'n>,
-) -> Result<Ran<'n>, Memory>
+    place: &mut State<'n>,
+) -> Result<Ran, Memory>
     ensures { IfOk result (λ r.
         RunsBy (R.keys rows.now)
         (λ w. (keys : List KeyTree) (u : Datum) → IsFed keys back.entry u
-        → LoopBy keys w u (source_of f.entry dt))
-        (datum_of x.now) r) }
+        → LoopBy keys w u (source_of f.now dt))
+        (datum_of x.now) (led place.new r)) }
 {
     let input = fed(alloc, rows, back, x)?;
-    let one = run_in(alloc, rows, f, dt, &input, spare.take_part());
+    let one = run_part(alloc, rows, f, dt, &input, place);
     drop(input);
-    join_loop(alloc, one?, spare)
+    join_loop(alloc, one?, place)
 }
 
 /// `switch` by its part, the network that takes over and its scope.
@@ -309,26 +476,26 @@ fn run_loop<'n, R: Rows>(
 fn run_switch<'n, R: Rows>(
     alloc: Global,
     rows: &R,
-    f: Source<'_, 'n>,
+    f: &Source<'_, 'n>,
     t: &'n Net<LeafId>,
     env: &Env<'n>,
     dt: u64,
     x: &Sample,
-    spare: &mut Spare<'n>,
-) -> Result<Ran<'n>, Memory>
+    place: &mut State<'n>,
+) -> Result<Ran, Memory>
     ensures { IfOk result (λ r.
         RunsBy (R.keys rows.now)
-        (λ w. SwitchBy w (source_of f.entry dt) (rows_in t.entry.now) (scope_of env.now))
-        (datum_of x.now) r) }
+        (λ w. SwitchBy w (source_of f.now dt) (rows_in t.entry.now) (scope_of env.now))
+        (datum_of x.now) (led place.new r)) }
 {
-    let one = run_in(alloc, rows, f, dt, x, spare.take_part())?;
-    match fire(alloc, second(one.answer()), env) {
+    let one = run_part(alloc, rows, f, dt, x, place)?;
+    match fire(alloc, second(&one.answer), env) {
         Ok(Some(inner)) => {
-            let before = count::node(one.visits(), 0);
+            let before = count::node(one.visits, 0);
             drop(one);
-            run_over(alloc, rows, before, t, inner, x, spare)
+            run_over(alloc, rows, before, t, inner, x, place)
         }
-        Ok(None) => keep_switch(alloc, one, t, env, spare),
+        Ok(None) => keep_switch(alloc, one, t, env, place),
         Err(memory) => {
             drop(one);
             Err(memory)
@@ -342,22 +509,22 @@ fn run_switch<'n, R: Rows>(
 fn run_d_switch<'n, R: Rows>(
     alloc: Global,
     rows: &R,
-    f: Source<'_, 'n>,
+    f: &Source<'_, 'n>,
     t: &'n Net<LeafId>,
     env: &Env<'n>,
     dt: u64,
     x: &Sample,
-    spare: &mut Spare<'n>,
-) -> Result<Ran<'n>, Memory>
+    place: &mut State<'n>,
+) -> Result<Ran, Memory>
     ensures { IfOk result (λ r.
         RunsBy (R.keys rows.now)
-        (λ w. DSwitchBy w (source_of f.entry dt) (rows_in t.entry.now) (scope_of env.now))
-        (datum_of x.now) r) }
+        (λ w. DSwitchBy w (source_of f.now dt) (rows_in t.entry.now) (scope_of env.now))
+        (datum_of x.now) (led place.new r)) }
 {
-    let one = run_in(alloc, rows, f, dt, x, spare.take_part())?;
-    match fire(alloc, second(one.answer()), env) {
-        Ok(Some(inner)) => run_late(alloc, rows, one, t, inner, x, spare),
-        Ok(None) => keep_d_switch(alloc, one, t, env, spare),
+    let one = run_part(alloc, rows, f, dt, x, place)?;
+    match fire(alloc, second(&one.answer), env) {
+        Ok(Some(inner)) => run_late(alloc, rows, one, t, inner, x, place),
+        Ok(None) => keep_d_switch(alloc, one, t, env, place),
         Err(memory) => {
             drop(one);
             Err(memory)
@@ -371,28 +538,28 @@ fn run_d_switch<'n, R: Rows>(
 fn run_r_switch<'n, R: Rows>(
     alloc: Global,
     rows: &R,
-    f: Source<'_, 'n>,
+    f: &Source<'_, 'n>,
     t: &'n Net<LeafId>,
     env: &Env<'n>,
     dt: u64,
     x: &Sample,
-    spare: &mut Spare<'n>,
-) -> Result<Ran<'n>, Memory>
+    place: &mut State<'n>,
+) -> Result<Ran, Memory>
     ensures { IfOk result (λ r.
         RunsBy (R.keys rows.now)
-        (λ w. RSwitchBy w (source_of f.entry dt) (rows_in t.entry.now) (scope_of env.now))
-        (datum_of x.now) r) }
+        (λ w. RSwitchBy w (source_of f.now dt) (rows_in t.entry.now) (scope_of env.now))
+        (datum_of x.now) (led place.new r)) }
 {
     match restart_of(x) {
         Some((u, event)) => {
             let inner = push_param(alloc, env, event)?;
-            let one = run_in(alloc, rows, Source::Net(t, &inner), 0, u, spare.take_part());
+            let one = run_part(alloc, rows, &Source::Net(t, &inner), 0, u, place);
             drop(inner);
-            keep_r_switch(alloc, one?, t, env, spare)
+            keep_r_switch(alloc, one?, t, env, place)
         }
         None => {
-            let one = run_in(alloc, rows, f, dt, first(x), spare.take_part())?;
-            keep_r_switch(alloc, one, t, env, spare)
+            let one = run_part(alloc, rows, f, dt, first(x), place)?;
+            keep_r_switch(alloc, one, t, env, place)
         }
     }
 }
@@ -403,30 +570,30 @@ fn run_r_switch<'n, R: Rows>(
 fn run_k_switch<'n, R: Rows>(
     alloc: Global,
     rows: &R,
-    f: Source<'_, 'n>,
-    e: Source<'_, 'n>,
+    f: &Source<'_, 'n>,
+    e: &Source<'_, 'n>,
     t: &'n Net<LeafId>,
     env: &Env<'n>,
     dt: u64,
     x: &Sample,
-    spare: &mut Spare<'n>,
-) -> Result<Ran<'n>, Memory>
+    place: &mut State<'n>,
+) -> Result<Ran, Memory>
     ensures { IfOk result (λ r.
         RunsBy (R.keys rows.now)
-        (λ w. KSwitchBy w (source_of f.entry dt) (source_of e.entry dt) (rows_in t.entry.now)
+        (λ w. KSwitchBy w (source_of f.now dt) (source_of e.now dt) (rows_in t.entry.now)
         (scope_of env.now))
-        (datum_of x.now) r) }
+        (datum_of x.now) (led place.new r)) }
 {
-    let one = run_in(alloc, rows, f, dt, x, spare.take_part())?;
-    match run_beside(alloc, rows, e, dt, x, one.answer(), spare.take_second()) {
-        Ok(two) => match fire_old(alloc, two.answer(), env, f, dt) {
+    let one = run_part(alloc, rows, f, dt, x, place)?;
+    match run_watch(alloc, rows, e, dt, x, &one.answer, place) {
+        Ok(two) => match fire_old(alloc, &two.answer, env, *f, dt) {
             Ok(Some(inner)) => {
-                let before = count::node(one.visits(), two.visits());
+                let before = count::node(one.visits, two.visits);
                 drop(one);
                 drop(two);
-                run_over(alloc, rows, before, t, inner, x, spare)
+                run_over(alloc, rows, before, t, inner, x, place)
             }
-            Ok(None) => keep_k_switch(alloc, one, two, t, env, spare),
+            Ok(None) => keep_k_switch(alloc, one, two, t, env, place),
             Err(memory) => {
                 drop(one);
                 drop(two);
@@ -449,29 +616,29 @@ fn run_p_switch<'n, R: Rows>(
     rows: &R,
     r: LeafId,
     fs: Sources<'_, 'n>,
-    e: Source<'_, 'n>,
+    e: &Source<'_, 'n>,
     t: &'n Net<LeafId>,
     env: &Env<'n>,
     dt: u64,
     x: &Sample,
-    spare: &mut Spare<'n>,
-) -> Result<Ran<'n>, Memory>
+    place: &mut State<'n>,
+) -> Result<Ran, Memory>
     ensures { IfOk result (λ o.
         RunsBy (R.keys rows.now)
-        (λ w. PSwitchBy w (row_number r) (sources_of fs.entry dt) (source_of e.entry dt)
+        (λ w. PSwitchBy w (row_number r) (sources_of fs.entry dt) (source_of e.now dt)
         (rows_in t.entry.now) (scope_of env.now))
-        (datum_of x.now) o) }
+        (datum_of x.now) (led place.new o)) }
 {
-    let all = run_all(alloc, rows, Route::ByRow(r, &env.params), fs, dt, x, spare)?;
-    match run_beside(alloc, rows, e, dt, x, all.list(), spare.take_second()) {
-        Ok(two) => match fire_olds(alloc, two.answer(), env, fs, dt) {
+    let all = run_all(alloc, rows, Route::ByRow(r, &env.params), fs, dt, x, place)?;
+    match run_members_watch(alloc, rows, e, dt, x, all.list(), place) {
+        Ok(two) => match fire_olds(alloc, &two.answer, env, fs, dt) {
             Ok(Some(inner)) => {
-                let before = count::node(all.visits(), two.visits());
+                let before = count::node(all.visits(), two.visits);
                 drop(all);
                 drop(two);
-                run_over(alloc, rows, before, t, inner, x, spare)
+                run_over(alloc, rows, before, t, inner, x, place)
             }
-            Ok(None) => keep_p_switch(alloc, r, all, two, t, env, spare),
+            Ok(None) => keep_p_switch(alloc, r, all, two, t, env, place),
             Err(memory) => {
                 drop(all);
                 drop(two);
@@ -491,18 +658,22 @@ fn run_p_switch<'n, R: Rows>(
 fn run_old<'n, R: Rows>(
     alloc: Global,
     rows: &R,
-    frozen: Source<'_, 'n>,
+    frozen: &Source<'_, 'n>,
     step: u64,
     x: &Sample,
-    spare: &mut Spare<'n>,
-) -> Result<Ran<'n>, Memory>
+    place: &mut State<'n>,
+) -> Result<Ran, Memory>
     ensures { IfOk result (λ r.
         RunsBy (R.keys rows.now)
-        (λ w. OldBy w (source_of frozen.entry step))
-        (datum_of x.now) r) }
+        (λ w. OldBy w (source_of frozen.now step))
+        (datum_of x.now) (led place.new r)) }
 {
-    let over = run(alloc, rows, frozen, step, x, spare)?;
-    Ok(resumed(over))
+    let over = run(alloc, rows, frozen, step, x, place)?;
+    let visits = count::node(over.visits, 0);
+    Ok(Ran {
+        answer: over.answer,
+        visits,
+    })
 }
 
 /// The network takes over after so many visits.
@@ -515,13 +686,13 @@ fn run_over<'n, R: Rows>(
     t: &'n Net<LeafId>,
     env: Env<'n>,
     x: &Sample,
-    spare: &mut Spare<'n>,
-) -> Result<Ran<'n>, Memory>
+    place: &mut State<'n>,
+) -> Result<Ran, Memory>
     ensures { IfOk result (λ r.
         TakesOver (R.keys rows.now) before (rows_in t.entry.now) (scope_of env.entry)
-        (datum_of x.now) r) }
+        (datum_of x.now) (led place.new r)) }
 {
-    let over = run(alloc, rows, Source::Net(t, &env), 0, x, spare);
+    let over = run(alloc, rows, &Source::Net(t, &env), 0, x, place);
     drop(env);
     Ok(take_over(before, over?))
 }
@@ -532,17 +703,17 @@ fn run_over<'n, R: Rows>(
 fn run_late<'n, R: Rows>(
     alloc: Global,
     rows: &R,
-    one: Ran<'n>,
+    one: Ran,
     t: &'n Net<LeafId>,
     env: Env<'n>,
     x: &Sample,
-    spare: &mut Spare<'n>,
-) -> Result<Ran<'n>, Memory>
+    place: &mut State<'n>,
+) -> Result<Ran, Memory>
     ensures { IfOk result (λ r.
-        TakesOverLate (R.keys rows.now) one.entry (rows_in t.entry.now) (scope_of env.entry)
-        (datum_of x.now) r) }
+        TakesOverLate (R.keys rows.now) (datum_of one.answer) one.visits
+        (rows_in t.entry.now) (scope_of env.entry) (datum_of x.now) (led place.new r)) }
 {
-    let over = run(alloc, rows, Source::Net(t, &env), 0, x, spare);
+    let over = run(alloc, rows, &Source::Net(t, &env), 0, x, place);
     drop(env);
     match over {
         Ok(over) => take_over_late(alloc, one, over),
@@ -553,23 +724,45 @@ fn run_late<'n, R: Rows>(
     }
 }
 
-/// What watches, on the sample and what was answered to it.
+/// What watches a part, on the sample and what was answered to it.
 #[cycle(run)]
-fn run_beside<'n, R: Rows>(
+fn run_watch<'n, R: Rows>(
     alloc: Global,
     rows: &R,
-    e: Source<'_, 'n>,
+    e: &Source<'_, 'n>,
     dt: u64,
     x: &Sample,
     y: &Sample,
-    spare: Spare<'n>,
-) -> Result<Ran<'n>, Memory>
+    place: &mut State<'n>,
+) -> Result<Ran, Memory>
     ensures { IfOk result (λ r.
-        RunsWhere (R.keys rows.now) (source_of e.entry dt) (pair (datum_of x.now) (datum_of y.now))
-        r.state r.answer r.visits) }
+        (first_part (state_of place.new) ≡ first_part (state_of place.old))
+        × RunsWhere (R.keys rows.now) (source_of e.now dt) (pair (datum_of x.now) (datum_of y.now))
+        (second_part (state_of place.new)) (datum_of r.answer) r.visits) }
 {
     let seen = beside(alloc, x, y)?;
-    let two = run_in(alloc, rows, e, dt, &seen, spare);
+    let two = run_second(alloc, rows, e, dt, &seen, place);
+    drop(seen);
+    two
+}
+
+/// What watches members, on the sample and the list of their answers.
+#[cycle(run)]
+fn run_members_watch<'n, R: Rows>(
+    alloc: Global,
+    rows: &R,
+    e: &Source<'_, 'n>,
+    dt: u64,
+    x: &Sample,
+    y: &Sample,
+    place: &mut State<'n>,
+) -> Result<Ran, Memory>
+    ensures { IfOk result (λ r.
+        RunsWhere (R.keys rows.now) (source_of e.now dt) (pair (datum_of x.now) (datum_of y.now))
+        (first_part (state_of place.new)) (datum_of r.answer) r.visits) }
+{
+    let seen = beside(alloc, x, y)?;
+    let two = run_part(alloc, rows, e, dt, &seen, place);
     drop(seen);
     two
 }
@@ -583,14 +776,21 @@ fn run_all<'n, R: Rows>(
     members: Sources<'_, 'n>,
     dt: u64,
     x: &Sample,
-    spare: &mut Spare<'n>,
+    place: &mut State<'n>,
 ) -> Result<Listed<'n>, Memory>
     ensures { IfOk result (λ all.
         RunsAll (R.keys rows.now) (router_of router.entry) (sources_of members.entry dt)
         (datum_of x.now) all) }
 {
-    let mut each = Each::none(alloc, count_of(members), spare)?;
-    match run_each(alloc, rows, router, 0, members, dt, x, &mut each) {
+    let mut each = Each::none(alloc, count_of(members), place)?;
+    let on = Handing {
+        alloc,
+        rows,
+        router,
+        dt,
+        x,
+    };
+    match run_each(&on, 0, members, &mut each) {
         Ok(()) => each.listed(alloc),
         Err(memory) => {
             drop(each);
@@ -599,29 +799,41 @@ fn run_all<'n, R: Rows>(
     }
 }
 
+/// What all members get: what routes the sample, the sample, and the time since the one before.
+#[derive(Drop)]
+struct Handing<'s, R> {
+    alloc: Global,
+    rows: &'s R,
+    router: Route<'s>,
+    dt: u64,
+    x: &'s Sample,
+}
+
 /// The members from member i on, added to those before.
 #[cycle(run)]
 fn run_each<'n, R: Rows>(
-    alloc: Global,
-    rows: &R,
-    router: Route<'_>,
+    on: &Handing<'_, R>,
     i: u32,
     members: Sources<'_, 'n>,
-    dt: u64,
-    x: &Sample,
     each: &mut Each<'n>,
 ) -> Result<(), Memory>
     ensures { IfOk result (λ _.
-        RunEachWhere (R.keys rows.now) (router_of router.entry) i (sources_of members.entry dt)
-        (datum_of x.now) each.old each.new) }
+        RunEachWhere (R.keys on.now.rows.now) (router_of on.now.router) i
+        (sources_of members.entry on.now.dt) (datum_of on.now.x.now) each.old each.new) }
 {
     match first_of(members) {
         Some((f, rest)) => {
-            let mut spare = each.take_spare();
-            let one = run_member(alloc, rows, router, i, f, dt, x, &mut spare);
-            drop(spare);
-            each.add(one?)?;
-            run_each(alloc, rows, router, i.wrapping_add(1), rest, dt, x, each)
+            let mut place = each.take_place();
+            match run_member(on, i, &f, &mut place) {
+                Ok(one) => {
+                    each.add(one, place)?;
+                    run_each(on, i.wrapping_add(1), rest, each)
+                }
+                Err(memory) => {
+                    drop(place);
+                    Err(memory)
+                }
+            }
         }
         None => Ok(()),
     }
@@ -630,24 +842,20 @@ fn run_each<'n, R: Rows>(
 /// Member i, on what it is handed.
 #[cycle(run)]
 fn run_member<'n, R: Rows>(
-    alloc: Global,
-    rows: &R,
-    router: Route<'_>,
+    on: &Handing<'_, R>,
     i: u32,
-    f: Source<'_, 'n>,
-    dt: u64,
-    x: &Sample,
-    spare: &mut Spare<'n>,
-) -> Result<Ran<'n>, Memory>
+    f: &Source<'_, 'n>,
+    place: &mut State<'n>,
+) -> Result<Ran, Memory>
     ensures { IfOk result (λ one.
-        RunsMember (R.keys rows.now) (router_of router.entry) i (source_of f.entry dt)
-        (datum_of x.now) one) }
+        RunsMember (R.keys on.now.rows.now) (router_of on.now.router) i (source_of f.now on.now.dt)
+        (datum_of on.now.x.now) (led place.new one)) }
 {
-    match router {
-        Route::ToAll => run(alloc, rows, f, dt, x, spare),
+    match on.router {
+        Route::ToAll => run(on.alloc, on.rows, f, on.dt, on.x, place),
         Route::ByRow(r, params) => {
-            let input = routed(alloc, rows, r, params, i, x)?;
-            let one = run(alloc, rows, f, dt, &input, spare);
+            let input = routed(on.alloc, on.rows, r, params, i, on.x)?;
+            let one = run(on.alloc, on.rows, f, on.dt, &input, place);
             drop(input);
             one
         }

@@ -13,10 +13,10 @@ ghost use Rattle.step_core.specs.StateOption.{state_in};
 
 use crate::bound::Bound;
 use crate::plan::Source;
-use crate::run::{flow_kept, run};
+use crate::run::run_top;
 use leaf_table::LeafTable;
 use sample_core::{Memory, Sample};
-use state_core::{Env, Spare, State, StaticNet, StaticState};
+use state_core::{Env, State};
 use std::alloc::Global;
 
 /// A network that runs. It borrows the network and the table, and holds the network's state, once
@@ -29,8 +29,8 @@ pub struct Runner<'a> {
     state: Option<State<'a>>,
     samples: u64,
     visits: u32,
-    // The memory of the state before the last, for the next one.
-    spare: Spare<'a>,
+    // The state before the last: the next one comes into its place.
+    place: State<'a>,
     ghost past: { HasPast (record {
       input = bound.now.input;
       keys = rows_of table.now;
@@ -63,7 +63,7 @@ impl<'a> Runner<'a> {
             state: None,
             samples: 0,
             visits: 0,
-            spare: Spare::none(),
+            place: State::Nothing,
         }
     }
 
@@ -81,54 +81,25 @@ impl<'a> Runner<'a> {
             (runner_state self.new)) }
         ensures unchanged { OnErr result (runner_state self.new ≡ runner_state self.old) }
     {
-        match &self.state {
-            Some(state) => match state {
-                State::Static(net, kept) => {
-                    let spare = std::mem::replace(&mut self.spare, Spare::none()).into_static();
-                    let (net, parts) = (*net, kept.get());
-                    let (params, before) = (&parts.params, Some(&parts.cells));
-                    let (next, answer) = flow_kept(
-                        self.alloc, self.table, net, params, before, step, sample, spare,
-                    )?;
-                    let before = put_static(&mut self.state, net, next);
-                    drop(std::mem::replace(&mut self.spare, before));
-                    self.visits = net.nodes();
-                    self.samples += 1;
-                    Ok(answer)
-                }
-                State::Whole(_) => self.push_whole(step, sample),
-                State::Nothing => self.push_whole(step, sample),
-            },
-            None => self.push_whole(step, sample),
-        }
-    }
-
-    /// The same, whatever runs: a new state takes the place of the old one.
-    fn push_whole(&mut self, step: u64, sample: &Sample) -> Result<Sample, Memory>
-        requires typed { HasType (datum_of sample.now) (runner_state self.old).input }
-        requires later { 0 < (runner_state self.old).samples → (1 ≤ step) × (step < 2 ^ 63) }
-        requires room { (runner_state self.old).samples < 2 ^ 63 }
-        ensures pushed { IfOk result
-            (λ y. Pushes (runner_state self.old) (step, datum_of sample.now) (datum_of y)
-            (runner_state self.new)) }
-        ensures unchanged { OnErr result (runner_state self.new ≡ runner_state self.old) }
-    {
-        let mut spare = std::mem::replace(&mut self.spare, Spare::none());
+        let mut place = std::mem::replace(&mut self.place, State::Nothing);
         let env = Env::nothing();
         let from = match &self.state {
             Some(state) => Source::State(state),
             None => Source::Net(self.bound.net(), &env),
         };
-        let ran = run(self.alloc, self.table, from, step, sample, &mut spare);
-        drop(spare);
-        let ran = ran?;
-        let visits = ran.visits();
-        let (state, answer) = ran.into_parts();
-        let before = self.state.replace(state);
-        drop(std::mem::replace(&mut self.spare, spare_of(before)));
-        self.samples += 1;
-        self.visits = visits;
-        Ok(answer)
+        match run_top(self.alloc, self.table, &from, step, sample, &mut place) {
+            Ok(ran) => {
+                let before = self.state.replace(place);
+                drop(std::mem::replace(&mut self.place, place_of(before)));
+                self.samples += 1;
+                self.visits = ran.visits;
+                Ok(ran.answer)
+            }
+            Err(memory) => {
+                drop(place);
+                Err(memory)
+            }
+        }
     }
 
     /// How many samples the network has answered. One that was refused isn't counted.
@@ -147,28 +118,11 @@ impl<'a> Runner<'a> {
     }
 }
 
-/// The memory of the state before, if there was one.
-fn spare_of<'n>(before: Option<State<'n>>) -> Spare<'n> {
+/// The state before as a place, if there was one.
+#[inline(always)]
+fn place_of<'n>(before: Option<State<'n>>) -> State<'n> {
     match before {
-        Some(state) => Spare::of(state),
-        None => Spare::none(),
-    }
-}
-
-/// Puts what a network without switches keeps now in the place of what it kept, whose memory it
-/// gives out.
-fn put_static<'n>(state: &mut Option<State<'n>>, net: StaticNet<'n>, next: StaticState) -> Spare<'n>
-    ensures { (n : _) (k : _) → state.old ≡ Some (S.Static n k)
-        → state_in state.new ≡ Some (static_state (rows_in n.net.now) next.0 next.1) }
-{
-    match state {
-        Some(State::Static(_, kept)) => Spare::of(State::Static(
-            net,
-            std::mem::replace(kept, next),
-        )),
-        _ => {
-            drop(next);
-            Spare::none()
-        }
+        Some(state) => state,
+        None => State::Nothing,
     }
 }

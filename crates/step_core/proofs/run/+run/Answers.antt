@@ -4,19 +4,21 @@ use Rattle.sample_core.specs.Datum.{Datum, pair, right}
 use Rattle.sample_core.specs.ValueView.{datum_of}
 use Rattle.state_core.specs.RowsView.{rows_in, row_number}
 use Rattle.state_core.specs.State.{push_param, push_old, push_olds}
-use Rattle.state_core.specs.StateView.{scope_of}
+use Rattle.state_core.specs.Around.{first_part, second_part}
+use Rattle.state_core.specs.StateView.{scope_of, state_of}
 use Rattle.step_core.specs.EventView.{restart_found}
 use Rattle.step_core.specs.Plans.{IsFed, router_of}
 use Rattle.step_core.specs.Runs.{RunEachWhere, to_all, by_row, SeqBy, FirstBy, ParBy, LoopBy, SwitchBy, DSwitchBy, RSwitchBy, KSwitchBy, PSwitchBy, OldBy}
+use Rattle.step_core.specs.Outcome.{led}
 use Rattle.step_core.specs.SourceView.{source_of, sources_of}
 use Rattle.step_core.proofs.Falling.{members_fall, seq_within, first_falls, par_falls, loop_falls, switch_within, d_switch_within, r_switch_within, k_switch_within, p_switch_within, old_falls, over_weighs, over_old_weighs, over_olds_weighs}
-use Rattle.step_core.proofs.RunJoins.{if_ok, fires_by, seq_joined, first_joined, loop_joined, switch_kept, switch_over, d_switch_kept, d_switch_over, r_switch_kept, r_switch_over, k_switch_kept, k_switch_over, old_over}
+use Rattle.step_core.proofs.RunJoins.{if_ok, fires_by, outcome, stays, seq_joined, first_joined, loop_joined, switch_kept, switch_over, d_switch_kept, d_switch_over, r_switch_kept, r_switch_over, k_switch_kept, k_switch_over, old_over}
 use Rattle.step_core.proofs.RunMembers.{none_run, also_run, all_from_none, member_ran, next_number, par_joined, p_switch_kept, p_switch_over}
 use Rattle.step_core.proofs.run.+run.Goals as goal
 
 pub run-run_seq-requires : goal.run-run_seq-requires
 run-run_seq-requires g t c κs within =
-    let h : SeqBy (source_of c.args.from c.args.dt) (source_of c.in-Seq.f c.args.dt) (source_of c.in-Seq.g c.args.dt) = c.in-Seq.ensures c.args.dt in
+    let h : SeqBy (source_of c.args.from.now c.args.dt) (source_of c.in-Seq.f c.args.dt) (source_of c.in-Seq.g c.args.dt) = c.in-Seq.ensures c.args.dt in
     (omega (arith, c.decreases, seq_within _ _ _ h), search rules)
 
 pub run-returns-in-Seq : goal.run-returns-in-Seq
@@ -24,7 +26,7 @@ run-returns-in-Seq g t c = if_ok c.run_seq.result _ _ (λ r h. h _ (c.in-Seq.ens
 
 pub run-run_first-requires : goal.run-run_first-requires
 run-run_first-requires g t c κs within =
-    let h : FirstBy (source_of c.args.from c.args.dt) (source_of c.in-First.f c.args.dt) = c.in-First.ensures c.args.dt in
+    let h : FirstBy (source_of c.args.from.now c.args.dt) (source_of c.in-First.f c.args.dt) = c.in-First.ensures c.args.dt in
     (omega (arith, c.decreases, first_falls _ _ h), search rules)
 
 pub run-returns-in-First : goal.run-returns-in-First
@@ -32,7 +34,7 @@ run-returns-in-First g t c = if_ok c.run_first.result _ _ (λ r h. h _ (c.in-Fir
 
 pub run-run_par-requires : goal.run-run_par-requires
 run-run_par-requires g t c κs within =
-    let h : ParBy (source_of c.args.from c.args.dt) (sources_of c.in-Par.fs c.args.dt) = c.in-Par.ensures c.args.dt in
+    let h : ParBy (source_of c.args.from.now c.args.dt) (sources_of c.in-Par.fs c.args.dt) = c.in-Par.ensures c.args.dt in
     (omega (arith, c.decreases, par_falls _ _ h), search rules)
 
 pub run-returns-in-Par : goal.run-returns-in-Par
@@ -41,7 +43,7 @@ run-returns-in-Par g t c = if_ok c.run_par.result _ _ (λ r h. h _ (c.in-Par.ens
 pub run-run_loop-requires : goal.run-run_loop-requires
 run-run_loop-requires g t c κs within =
     let h : (keys : List KeyTree) (u : Datum) → IsFed keys c.in-LoopPre.back u
-    → LoopBy keys (source_of c.args.from c.args.dt) u (source_of c.in-LoopPre.f c.args.dt) = c.in-LoopPre.ensures c.args.dt in
+    → LoopBy keys (source_of c.args.from.now c.args.dt) u (source_of c.in-LoopPre.f c.args.dt) = c.in-LoopPre.ensures c.args.dt in
     (omega (arith, c.decreases, loop_falls _ c.in-LoopPre.back _ h), search rules)
 
 pub run-returns-in-LoopPre : goal.run-returns-in-LoopPre
@@ -49,7 +51,7 @@ run-returns-in-LoopPre g t c = if_ok c.run_loop.result _ _ (λ r h. h _ (c.in-Lo
 
 pub run-run_switch-requires : goal.run-run_switch-requires
 run-run_switch-requires g t c κs within =
-    let h : SwitchBy (source_of c.args.from c.args.dt) (source_of c.in-Switch.f c.args.dt) (rows_in c.in-Switch.t.now) (scope_of c.in-Switch.env.now) =
+    let h : SwitchBy (source_of c.args.from.now c.args.dt) (source_of c.in-Switch.f c.args.dt) (rows_in c.in-Switch.t.now) (scope_of c.in-Switch.env.now) =
     c.in-Switch.ensures c.args.dt in
     (omega (arith, c.decreases, switch_within _ _ _ _ h), search rules)
 
@@ -58,7 +60,7 @@ run-returns-in-Switch g t c = if_ok c.run_switch.result _ _ (λ r h. h _ (c.in-S
 
 pub run-run_d_switch-requires : goal.run-run_d_switch-requires
 run-run_d_switch-requires g t c κs within =
-    let h : DSwitchBy (source_of c.args.from c.args.dt) (source_of c.in-DSwitch.f c.args.dt) (rows_in c.in-DSwitch.t.now) (scope_of c.in-DSwitch.env.now) =
+    let h : DSwitchBy (source_of c.args.from.now c.args.dt) (source_of c.in-DSwitch.f c.args.dt) (rows_in c.in-DSwitch.t.now) (scope_of c.in-DSwitch.env.now) =
     c.in-DSwitch.ensures c.args.dt in
     (omega (arith, c.decreases, d_switch_within _ _ _ _ h), search rules)
 
@@ -67,7 +69,7 @@ run-returns-in-DSwitch g t c = if_ok c.run_d_switch.result _ _ (λ r h. h _ (c.i
 
 pub run-run_r_switch-requires : goal.run-run_r_switch-requires
 run-run_r_switch-requires g t c κs within =
-    let h : RSwitchBy (source_of c.args.from c.args.dt) (source_of c.in-RSwitch.f c.args.dt) (rows_in c.in-RSwitch.t.now) (scope_of c.in-RSwitch.env.now) =
+    let h : RSwitchBy (source_of c.args.from.now c.args.dt) (source_of c.in-RSwitch.f c.args.dt) (rows_in c.in-RSwitch.t.now) (scope_of c.in-RSwitch.env.now) =
     c.in-RSwitch.ensures c.args.dt in
     (omega (arith, c.decreases, r_switch_within _ _ _ _ h), search rules)
 
@@ -76,7 +78,7 @@ run-returns-in-RSwitch g t c = if_ok c.run_r_switch.result _ _ (λ r h. h _ (c.i
 
 pub run-run_k_switch-requires : goal.run-run_k_switch-requires
 run-run_k_switch-requires g t c κs within =
-    let h : KSwitchBy (source_of c.args.from c.args.dt) (source_of c.in-KSwitch.f c.args.dt) (source_of c.in-KSwitch.e c.args.dt) (rows_in c.in-KSwitch.t.now)
+    let h : KSwitchBy (source_of c.args.from.now c.args.dt) (source_of c.in-KSwitch.f c.args.dt) (source_of c.in-KSwitch.e c.args.dt) (rows_in c.in-KSwitch.t.now)
     (scope_of c.in-KSwitch.env.now) = c.in-KSwitch.ensures c.args.dt in
     (omega (arith, c.decreases, k_switch_within _ _ _ _ _ h), search rules)
 
@@ -85,7 +87,7 @@ run-returns-in-KSwitch g t c = if_ok c.run_k_switch.result _ _ (λ r h. h _ (c.i
 
 pub run-run_p_switch-requires : goal.run-run_p_switch-requires
 run-run_p_switch-requires g t c κs within =
-    let h : PSwitchBy (source_of c.args.from c.args.dt) (row_number c.in-PSwitch.r) (sources_of c.in-PSwitch.fs c.args.dt) (source_of c.in-PSwitch.e c.args.dt)
+    let h : PSwitchBy (source_of c.args.from.now c.args.dt) (row_number c.in-PSwitch.r) (sources_of c.in-PSwitch.fs c.args.dt) (source_of c.in-PSwitch.e c.args.dt)
     (rows_in c.in-PSwitch.t.now) (scope_of c.in-PSwitch.env.now) = c.in-PSwitch.ensures c.args.dt in
     (omega (arith, c.decreases, p_switch_within _ _ _ _ _ _ h), search rules)
 
@@ -94,116 +96,137 @@ run-returns-in-PSwitch g t c = if_ok c.run_p_switch.result _ _ (λ r h. h _ (c.i
 
 pub run-run_old-requires : goal.run-run_old-requires
 run-run_old-requires g t c κs within =
-    let h : OldBy (source_of c.args.from c.args.dt) (source_of c.in-Old.frozen c.in-Old.step) = c.in-Old.ensures c.args.dt in
+    let h : OldBy (source_of c.args.from.now c.args.dt) (source_of c.in-Old.frozen c.in-Old.step) = c.in-Old.ensures c.args.dt in
     (omega (arith, c.decreases, old_falls _ _ h), search rules)
 
 pub run-returns-in-Old : goal.run-returns-in-Old
 run-returns-in-Old g t c = if_ok c.run_old.result _ _ (λ r h. h _ (c.in-Old.ensures c.args.dt)) c.run_old.ensures
 
 pub run-returns-in-Static : goal.run-returns-in-Static
-run-returns-in-Static g t c = if_ok c.run_static.result _ _ (λ r h. h _ (c.in-Static.ensures c.args.dt)) c.run_static.ensures
+run-returns-in-Static g t c = if_ok c.run_apart.result _ _ (λ r h. h _ (c.in-Static.ensures c.args.dt)) c.run_apart.ensures
 
 pub run_seq-returns-in-Ok : goal.run_seq-returns-in-Ok
 run_seq-returns-in-Ok g t c =
-    if_ok c.join_seq.result _ _ (λ r j w h. seq_joined _ w _ _ _ _ _ _ _ h c.in_ok-one.ensures c.answer.ensures c.in-Ok.ensures j) c.join_seq.ensures
+    if_ok c.join_seq.result _ _
+    (λ r j w h. seq_joined _ w _ _ _ _ (outcome (first_part (state_of c.run_second.new.place)) (datum_of c.in_ok-one.one.answer) c.in_ok-one.one.visits)
+    (outcome (second_part (state_of c.run_second.new.place)) (datum_of c.in-Ok.two.answer) c.in-Ok.two.visits) (led c.join_seq.new.place r) h
+    (stays _ _ _ _ _ _ _ c.in-Ok.ensures.0 c.in_ok-one.ensures) refl c.in-Ok.ensures.1 j) c.join_seq.ensures
 
 pub run_first-returns : goal.run_first-returns
 run_first-returns g t c =
-    if_ok c.join_first.result _ _ (λ r j w h. first_joined _ w _ _ _ _ _ _ h c.first.ensures c.second.ensures c.in_ok-one.ensures j) c.join_first.ensures
+    if_ok c.join_first.result _ _
+    (λ r j w h. first_joined _ w _ _ _ _ (outcome (first_part (state_of c.run_part.new.place)) (datum_of c.in_ok-one.one.answer) c.in_ok-one.one.visits)
+    (led c.join_first.new.place r) h c.first.ensures c.second.ensures c.in_ok-one.ensures j) c.join_first.ensures
 
 pub run_par-returns : goal.run_par-returns
 run_par-returns g t c =
-    if_ok c.join_par.result _ _ (λ r j w h. par_joined _ w _ _ _ _ _ _ h refl c.in_ok-all.ensures.1 c.in_ok-all.ensures.2 j) c.join_par.ensures
+    if_ok c.join_par.result _ _
+    (λ r j w h. par_joined _ w _ _ _ _ _ (led c.join_par.new.place r) h refl c.in_ok-all.ensures.1 c.in_ok-all.ensures.2 j) c.join_par.ensures
 
 pub run_old-returns : goal.run_old-returns
-run_old-returns g t c = λ w h. old_over _ w _ _ _ _ h c.in_ok-over.ensures c.resumed.ensures
+run_old-returns g t c =
+    λ w h. old_over _ w _ _ (outcome (state_of c.run.new.place) (datum_of c.in_ok-over.over.answer) c.in_ok-over.over.visits)
+    (outcome (state_of c.run.new.place) (datum_of c.in_ok-over.over.answer) c.node-visits.result) h c.in_ok-over.ensures
+    (refl, refl, c.node-visits.ensures)
 
 pub run_loop-returns : goal.run_loop-returns
 run_loop-returns g t c =
-    if_ok c.join_loop.result _ _ (λ r j w h. loop_joined _ w _ _ _ _ _ _ (h _ _ c.in_ok-input.ensures.1) c.in_ok-input.ensures.2 c.in_ok-one.ensures j)
+    if_ok c.join_loop.result _ _
+    (λ r j w h. loop_joined _ w _ _ _ _ (outcome (first_part (state_of c.run_part-one.new.place)) (datum_of c.in_ok-one.field-0.answer) c.in_ok-one.field-0.visits)
+    (led c.join_loop.new.place r) (h _ _ c.in_ok-input.ensures.1) c.in_ok-input.ensures.2 c.in_ok-one.ensures j)
     c.join_loop.ensures
 
 pub run_switch-run_over-requires : goal.run_switch-run_over-requires
 run_switch-run_over-requires g t c κs within =
-    let fires = fires_by _ _ (push_param (scope_of c.args.env.now)) _ _ (c.second.ensures ∙ ap right c.answer.ensures) c.in-Ok-Some.field-0-is
-    c.in-Ok-Some.ensures in
+    let fires = fires_by _ _ (push_param (scope_of c.args.env.now)) _ _ c.second.ensures c.in-Ok-Some.field-0-is c.in-Ok-Some.ensures in
     (omega (arith, c.decreases, over_weighs (rows_in c.args.t.now) (scope_of c.args.env.now) (scope_of c.in-Ok-Some.inner) fires.0 fires.2), search rules)
 
 pub run_switch-returns-in-Ok-Some : goal.run_switch-returns-in-Ok-Some
 run_switch-returns-in-Ok-Some g t c =
-    let fires = fires_by _ _ (push_param (scope_of c.args.env.now)) _ _ (c.second.ensures ∙ ap right c.answer.ensures) c.in-Ok-Some.field-0-is
-    c.in-Ok-Some.ensures in
-    if_ok c.run_over.result _ _ (λ r k w h. switch_over _ w _ _ _ (scope_of c.in-Ok-Some.inner) _ fires.0 _ k.0 r _ h c.in_ok-one.ensures fires.1 fires.2 k.1 _
-    c.visits.ensures c.node-before.ensures k.2) c.run_over.ensures
+    let fires = fires_by _ _ (push_param (scope_of c.args.env.now)) _ _ c.second.ensures c.in-Ok-Some.field-0-is c.in-Ok-Some.ensures in
+    if_ok c.run_over.result _ _
+    (λ r k w h. switch_over _ w _ _ _ (scope_of c.in-Ok-Some.inner) _ fires.0 (outcome (first_part (state_of c.run_part.new.place)) (datum_of c.in_ok-one.one.answer) c.in_ok-one.one.visits)
+    k.0 (led c.run_over.new.place r) _ h c.in_ok-one.ensures fires.1 fires.2 k.1 _ refl c.node-before.ensures k.2) c.run_over.ensures
 
 pub run_switch-returns-in-Ok-None : goal.run_switch-returns-in-Ok-None
 run_switch-returns-in-Ok-None g t c =
-    let fires = fires_by _ _ (push_param (scope_of c.args.env.now)) _ _ (c.second.ensures ∙ ap right c.answer.ensures) c.in-Ok-None.field-0-is
-    c.in-Ok-None.ensures in
-    if_ok c.keep_switch.result _ _ (λ r j w h. switch_kept _ w _ _ _ _ _ _ h c.in_ok-one.ensures fires j) c.keep_switch.ensures
+    let fires = fires_by _ _ (push_param (scope_of c.args.env.now)) _ _ c.second.ensures c.in-Ok-None.field-0-is c.in-Ok-None.ensures in
+    if_ok c.keep_switch.result _ _
+    (λ r j w h. switch_kept _ w _ _ _ _ (outcome (first_part (state_of c.run_part.new.place)) (datum_of c.in_ok-one.one.answer) c.in_ok-one.one.visits)
+    (led c.keep_switch.new.place r) h c.in_ok-one.ensures fires j) c.keep_switch.ensures
 
 pub run_d_switch-run_late-requires : goal.run_d_switch-run_late-requires
 run_d_switch-run_late-requires g t c κs within =
-    let fires = fires_by _ _ (push_param (scope_of c.args.env.now)) _ _ (c.second.ensures ∙ ap right c.answer.ensures) c.in-Ok-Some.field-0-is
-    c.in-Ok-Some.ensures in
+    let fires = fires_by _ _ (push_param (scope_of c.args.env.now)) _ _ c.second.ensures c.in-Ok-Some.field-0-is c.in-Ok-Some.ensures in
     (omega (arith, c.decreases, over_weighs (rows_in c.args.t.now) (scope_of c.args.env.now) (scope_of c.in-Ok-Some.inner) fires.0 fires.2), search rules)
 
 pub run_d_switch-returns-in-Ok-Some : goal.run_d_switch-returns-in-Ok-Some
 run_d_switch-returns-in-Ok-Some g t c =
-    let fires = fires_by _ _ (push_param (scope_of c.args.env.now)) _ _ (c.second.ensures ∙ ap right c.answer.ensures) c.in-Ok-Some.field-0-is
-    c.in-Ok-Some.ensures in
-    if_ok c.run_late.result _ _ (λ r k w h. d_switch_over _ w _ _ _ (scope_of c.in-Ok-Some.inner) _ fires.0 _ k.0 r h c.in_ok-one.ensures fires.1 fires.2 k.1
-    k.2) c.run_late.ensures
+    let fires = fires_by _ _ (push_param (scope_of c.args.env.now)) _ _ c.second.ensures c.in-Ok-Some.field-0-is c.in-Ok-Some.ensures in
+    if_ok c.run_late.result _ _
+    (λ r k w h. d_switch_over _ w _ _ _ (scope_of c.in-Ok-Some.inner) _ fires.0 (outcome (first_part (state_of c.run_part.new.place)) (datum_of c.in_ok-one.one.answer) c.in_ok-one.one.visits)
+    k.0 (led c.run_late.new.place r) h c.in_ok-one.ensures fires.1 fires.2 k.1 k.2) c.run_late.ensures
 
 pub run_d_switch-returns-in-Ok-None : goal.run_d_switch-returns-in-Ok-None
 run_d_switch-returns-in-Ok-None g t c =
-    let fires = fires_by _ _ (push_param (scope_of c.args.env.now)) _ _ (c.second.ensures ∙ ap right c.answer.ensures) c.in-Ok-None.field-0-is
-    c.in-Ok-None.ensures in
-    if_ok c.keep_d_switch.result _ _ (λ r j w h. d_switch_kept _ w _ _ _ _ _ _ h c.in_ok-one.ensures fires j) c.keep_d_switch.ensures
+    let fires = fires_by _ _ (push_param (scope_of c.args.env.now)) _ _ c.second.ensures c.in-Ok-None.field-0-is c.in-Ok-None.ensures in
+    if_ok c.keep_d_switch.result _ _
+    (λ r j w h. d_switch_kept _ w _ _ _ _ (outcome (first_part (state_of c.run_part.new.place)) (datum_of c.in_ok-one.one.answer) c.in_ok-one.one.visits)
+    (led c.keep_d_switch.new.place r) h c.in_ok-one.ensures fires j) c.keep_d_switch.ensures
 
 pub run_r_switch-returns-in_ok-one-in-Some : goal.run_r_switch-returns-in_ok-one-in-Some
 run_r_switch-returns-in_ok-one-in-Some g t c =
     let cut = sym c.restart_of.ensures ∙ ap restart_found c.in-Some.is in
-    if_ok c.keep_r_switch.result _ _ (λ r j w h. r_switch_over _ w _ _ _ (scope_of c.in_ok-inner-in-Some.inner) _ _ _ _ _ h cut c.in_ok-inner-in-Some.ensures
-    c.in_ok-one-in-Some.ensures j) c.keep_r_switch.ensures
+    if_ok c.keep_r_switch.result _ _
+    (λ r j w h. r_switch_over _ w _ _ _ (scope_of c.in_ok-inner-in-Some.inner) _ _ _
+    (outcome (first_part (state_of c.run_part-one.new.place)) (datum_of c.in_ok-one-in-Some.field-0.answer) c.in_ok-one-in-Some.field-0.visits)
+    (led c.keep_r_switch.new.place r) h cut c.in_ok-inner-in-Some.ensures c.in_ok-one-in-Some.ensures j) c.keep_r_switch.ensures
 
 pub run_r_switch-returns-in_ok-one-in-None : goal.run_r_switch-returns-in_ok-one-in-None
 run_r_switch-returns-in_ok-one-in-None g t c =
     let cut = sym c.restart_of.ensures ∙ ap restart_found c.in-None.is in
-    if_ok c.keep_r_switch-in-None.result _ _ (λ r j w h. r_switch_kept _ w _ _ _ _ _ _ _ h c.first.ensures cut c.in_ok-one-in-None.ensures j)
-    c.keep_r_switch-in-None.ensures
+    if_ok c.keep_r_switch-in-None.result _ _
+    (λ r j w h. r_switch_kept _ w _ _ _ _ _
+    (outcome (first_part (state_of c.run_part.new.place)) (datum_of c.in_ok-one-in-None.one.answer) c.in_ok-one-in-None.one.visits)
+    (led c.keep_r_switch-in-None.new.place r) h c.first.ensures cut c.in_ok-one-in-None.ensures j) c.keep_r_switch-in-None.ensures
 
 pub run_k_switch-run_over-requires : goal.run_k_switch-run_over-requires
 run_k_switch-run_over-requires g t c κs within =
-    let fires = fires_by _ _ (λ u. push_old (push_param (scope_of c.args.env.now) u) (source_of c.args.f c.args.dt)) _ _ (c.answer-in-Ok.ensures)
+    let fires = fires_by _ _ (λ u. push_old (push_param (scope_of c.args.env.now) u) (source_of c.args.f.now c.args.dt)) _ _ refl
     c.in-Ok-Some.field-0-is c.in-Ok-Some.ensures in (
       omega (
         arith,
         c.decreases,
         over_old_weighs (rows_in c.args.t.now) (scope_of c.args.env.now) (scope_of c.in-Ok-Some.inner) fires.0
-            (source_of c.args.f c.args.dt) fires.2,
+            (source_of c.args.f.now c.args.dt) fires.2,
       ),
       search rules,
     )
 
 pub run_k_switch-returns-in-Ok-Some : goal.run_k_switch-returns-in-Ok-Some
 run_k_switch-returns-in-Ok-Some g t c =
-    let fires = fires_by _ _ (λ u. push_old (push_param (scope_of c.args.env.now) u) (source_of c.args.f c.args.dt)) _ _ (c.answer-in-Ok.ensures)
+    let fires = fires_by _ _ (λ u. push_old (push_param (scope_of c.args.env.now) u) (source_of c.args.f.now c.args.dt)) _ _ refl
     c.in-Ok-Some.field-0-is c.in-Ok-Some.ensures in
-    if_ok c.run_over.result _ _ (λ r k w h. k_switch_over _ w _ _ _ _ (scope_of c.in-Ok-Some.inner) _ _ fires.0 _ _ k.0 r _ h c.in_ok-one.ensures
-    (ap (pair (datum_of c.args.x.now)) c.answer.ensures) c.in-Ok.ensures fires.1 fires.2 k.1 _ c.visits.ensures _ c.visits-in-Ok-Some.ensures
+    if_ok c.run_over.result _ _
+    (λ r k w h. k_switch_over _ w _ _ _ _ (scope_of c.in-Ok-Some.inner) _ _ fires.0 (outcome (first_part (state_of c.run_watch.new.place)) (datum_of c.in_ok-one.one.answer) c.in_ok-one.one.visits)
+    (outcome (second_part (state_of c.run_watch.new.place)) (datum_of c.in-Ok.two.answer) c.in-Ok.two.visits)
+    k.0 (led c.run_over.new.place r) _ h (stays _ _ _ _ _ _ _ c.in-Ok.ensures.0 c.in_ok-one.ensures)
+    refl c.in-Ok.ensures.1 fires.1 fires.2 k.1 _ refl _ refl
     c.node-before.ensures k.2) c.run_over.ensures
 
 pub run_k_switch-returns-in-Ok-None : goal.run_k_switch-returns-in-Ok-None
 run_k_switch-returns-in-Ok-None g t c =
-    let fires = fires_by _ _ (λ u. push_old (push_param (scope_of c.args.env.now) u) (source_of c.args.f c.args.dt)) _ _ (c.answer-in-Ok.ensures)
+    let fires = fires_by _ _ (λ u. push_old (push_param (scope_of c.args.env.now) u) (source_of c.args.f.now c.args.dt)) _ _ refl
     c.in-Ok-None.field-0-is c.in-Ok-None.ensures in
-    if_ok c.keep_k_switch.result _ _ (λ r j w h. k_switch_kept _ w _ _ _ _ _ _ _ _ _ h c.in_ok-one.ensures (ap (pair (datum_of c.args.x.now)) c.answer.ensures)
-    c.in-Ok.ensures fires j) c.keep_k_switch.ensures
+    if_ok c.keep_k_switch.result _ _
+    (λ r j w h. k_switch_kept _ w _ _ _ _ _ _ (outcome (first_part (state_of c.run_watch.new.place)) (datum_of c.in_ok-one.one.answer) c.in_ok-one.one.visits)
+    (outcome (second_part (state_of c.run_watch.new.place)) (datum_of c.in-Ok.two.answer) c.in-Ok.two.visits)
+    (led c.keep_k_switch.new.place r) h (stays _ _ _ _ _ _ _ c.in-Ok.ensures.0 c.in_ok-one.ensures) refl
+    c.in-Ok.ensures.1 fires j) c.keep_k_switch.ensures
 
 pub run_p_switch-run_over-requires : goal.run_p_switch-run_over-requires
 run_p_switch-run_over-requires g t c κs within =
-    let fires = fires_by _ _ (λ u. push_olds (push_param (scope_of c.args.env.now) u) (sources_of c.args.fs c.args.dt)) _ _ (c.answer.ensures)
+    let fires = fires_by _ _ (λ u. push_olds (push_param (scope_of c.args.env.now) u) (sources_of c.args.fs c.args.dt)) _ _ refl
     c.in-Ok-Some.field-0-is c.in-Ok-Some.ensures in (
       omega (
         arith,
@@ -216,46 +239,60 @@ run_p_switch-run_over-requires g t c κs within =
 
 pub run_p_switch-returns-in-Ok-Some : goal.run_p_switch-returns-in-Ok-Some
 run_p_switch-returns-in-Ok-Some g t c =
-    let fires = fires_by _ _ (λ u. push_olds (push_param (scope_of c.args.env.now) u) (sources_of c.args.fs c.args.dt)) _ _ (c.answer.ensures)
+    let fires = fires_by _ _ (λ u. push_olds (push_param (scope_of c.args.env.now) u) (sources_of c.args.fs c.args.dt)) _ _ refl
     c.in-Ok-Some.field-0-is c.in-Ok-Some.ensures in
-    if_ok c.run_over.result _ _ (λ r k w h. p_switch_over _ w _ _ _ _ _ _ (scope_of c.in-Ok-Some.inner) _ _ fires.0 _ _ _ _ k.0 r _ h refl refl
+    if_ok c.run_over.result _ _
+    (λ r k w h. p_switch_over _ w _ _ _ _ _ _ (scope_of c.in-Ok-Some.inner) _ _ fires.0 _ _ _ (outcome (first_part (state_of c.run_members_watch.new.place)) (datum_of c.in-Ok.two.answer) c.in-Ok.two.visits) k.0 (led c.run_over.new.place r) _ h refl refl
     c.in_ok-all.ensures.1 c.in_ok-all.ensures.2 (ap (pair (datum_of c.args.x.now)) c.list.ensures) c.in-Ok.ensures fires.1 fires.2 k.1 _ c.visits.ensures _
-    c.visits-in-Ok-Some.ensures c.node-before.ensures k.2) c.run_over.ensures
+    refl c.node-before.ensures k.2) c.run_over.ensures
 
 pub run_p_switch-returns-in-Ok-None : goal.run_p_switch-returns-in-Ok-None
 run_p_switch-returns-in-Ok-None g t c =
-    let fires = fires_by _ _ (λ u. push_olds (push_param (scope_of c.args.env.now) u) (sources_of c.args.fs c.args.dt)) _ _ (c.answer.ensures)
+    let fires = fires_by _ _ (λ u. push_olds (push_param (scope_of c.args.env.now) u) (sources_of c.args.fs c.args.dt)) _ _ refl
     c.in-Ok-None.field-0-is c.in-Ok-None.ensures in
-    if_ok c.keep_p_switch.result _ _ (λ r j w h. p_switch_kept _ w _ _ _ _ _ _ _ _ _ _ _ _ _ h refl refl c.in_ok-all.ensures.1 c.in_ok-all.ensures.2
+    if_ok c.keep_p_switch.result _ _
+    (λ r j w h. p_switch_kept _ w _ _ _ _ _ _ _ _ _ _ _ (outcome (first_part (state_of c.run_members_watch.new.place)) (datum_of c.in-Ok.two.answer) c.in-Ok.two.visits) (led c.keep_p_switch.new.place r) h refl refl c.in_ok-all.ensures.1 c.in_ok-all.ensures.2
     (ap (pair (datum_of c.args.x.now)) c.list.ensures) c.in-Ok.ensures fires j) c.keep_p_switch.ensures
 
+pub run_over-returns : goal.run_over-returns
+run_over-returns g t c = (
+  outcome (state_of c.run-over.new.place) (datum_of c.in_ok-over.field-0.answer) c.in_ok-over.field-0.visits,
+  c.in_ok-over.ensures,
+  (refl, c.take_over.ensures.answer, c.take_over.ensures.visits),
+)
+
 pub run_late-returns-in-Ok : goal.run_late-returns-in-Ok
-run_late-returns-in-Ok g t c = if_ok c.take_over_late.result _ _ (λ r j. (c.in-Ok.over, c.in-Ok.ensures, j)) c.take_over_late.ensures
+run_late-returns-in-Ok g t c =
+    if_ok c.take_over_late.result _ _
+    (λ r j. (outcome (state_of c.run-over.new.place) (datum_of c.in-Ok.over.answer) c.in-Ok.over.visits, c.in-Ok.ensures, (refl, j.0, j.1)))
+    c.take_over_late.ensures
 
 pub run_member-returns-in-ToAll : goal.run_member-returns-in-ToAll
 run_member-returns-in-ToAll g t c =
-    if_ok c.run.result _ _ (λ r k. member_ran _ to_all _ c.args.i _ _ _ r (ap router_of c.in-ToAll.is) refl k) c.run.ensures
+    if_ok c.run.result _ _ (λ r k. member_ran _ to_all _ c.args.i _ _ _ (led c.run.new.place r) (ap router_of c.in-ToAll.is) refl k) c.run.ensures
 
 pub run_member-returns-in_ok-input-in-ByRow : goal.run_member-returns-in_ok-input-in-ByRow
 run_member-returns-in_ok-input-in-ByRow g t c =
     if_ok c.run-one.result _ _
-    (λ r k. member_ran _ (by_row (row_number c.in-ByRow.r) c.in-ByRow.params.now) _ c.args.i _ _ _ r (ap router_of c.in-ByRow.is) c.in_ok-input-in-ByRow.ensures
+    (λ r k. member_ran _ (by_row (row_number c.in-ByRow.r) c.in-ByRow.params.now) _ c.args.i _ _ _ (led c.run-one.new.place r) (ap router_of c.in-ByRow.is) c.in_ok-input-in-ByRow.ensures
     k)
     c.run-one.ensures
 
 pub run_each-run_each-requires : goal.run_each-run_each-requires
-run_each-run_each-requires g t c κs within = (omega (arith, c.decreases, (members_fall _ _ _ (c.in-Some.ensures c.args.dt)).1), search rules)
+run_each-run_each-requires g t c κs within = (omega (arith, c.decreases, (members_fall _ _ _ (c.in-Some.ensures c.args.on.now.dt)).1), search rules)
 
-pub run_each-returns-in_ok-add-in-Some : goal.run_each-returns-in_ok-add-in-Some
-run_each-returns-in_ok-add-in-Some g t c =
+pub run_each-returns-in_ok-add-in-Ok : goal.run_each-returns-in_ok-add-in-Ok
+run_each-returns-in_ok-add-in-Ok g t c =
     if_ok c.run_each.result _ _
-    (λ u hs. subst (λ z. RunEachWhere (g.R.Rows.keys c.args.rows.now) (router_of c.args.router) c.args.i (sources_of c.args.members c.args.dt) (datum_of c.args.x.now) z c.run_each.new.each)
-    c.take_spare-spare.ensures (also_run _ (router_of c.args.router) c.args.i _ _ _ _ _ c.in_ok-one-in-Some.ensures.0 _ _ _ _ (c.in-Some.ensures c.args.dt)
-    c.in_ok-one-in-Some.ensures.1 c.in_ok-one-in-Some.ensures.2 c.in_ok-add-in-Some.ensures (next_number c.args.i) hs))
+    (λ u hs. subst (λ z. RunEachWhere (g.R.Rows.keys c.args.on.now.rows.now) (router_of c.args.on.now.router) c.args.i
+    (sources_of c.args.members c.args.on.now.dt) (datum_of c.args.on.now.x.now) z c.run_each.new.each)
+    c.take_place-place.ensures (also_run _ (router_of c.args.on.now.router) c.args.i _ _ _ _ _ c.in-Ok.ensures.0
+    (led c.run_member.new.place c.in-Ok.one) _ _ _ (c.in-Some.ensures c.args.on.now.dt)
+    c.in-Ok.ensures.1 c.in-Ok.ensures.2 c.in_ok-add-in-Ok.ensures (next_number c.args.i) hs))
     c.run_each.ensures
 
 pub run_each-returns-in-None : goal.run_each-returns-in-None
-run_each-returns-in-None g t c = none_run _ (router_of c.args.router) c.args.i _ _ _ (c.in-None.ensures c.args.dt)
+run_each-returns-in-None g t c = none_run _ (router_of c.args.on.now.router) c.args.i _ _ _ (c.in-None.ensures c.args.on.now.dt)
 
 pub run_all-returns-in-Ok : goal.run_all-returns-in-Ok
 run_all-returns-in-Ok g t c =

@@ -8,62 +8,74 @@ use Rattle.step_core.specs.SourceView.{source_of, sources_of}
 use Rattle.step_core.proofs.run.+run.Given as goal
 
 abbrev pub decreases-run : goal.decreases-run
-decreases-run g l = 5 * frozen_rank (source_of l.from l.dt)
+decreases-run g l = 10 * frozen_rank (source_of l.from.now l.dt)
 
-abbrev pub decreases-run_in : goal.decreases-run_in
-decreases-run_in g l = 5 * frozen_rank (source_of l.from l.dt) + 1
+abbrev pub decreases-run_part : goal.decreases-run_part
+decreases-run_part g l = 10 * frozen_rank (source_of l.from.now l.dt) + 2
+
+abbrev pub decreases-run_second : goal.decreases-run_second
+decreases-run_second g l = 10 * frozen_rank (source_of l.from.now l.dt) + 2
+
+abbrev pub decreases-run_in_first : goal.decreases-run_in_first
+decreases-run_in_first g l = 10 * frozen_rank (source_of l.from.now l.dt) + 1
+
+abbrev pub decreases-run_in_second : goal.decreases-run_in_second
+decreases-run_in_second g l = 10 * frozen_rank (source_of l.from.now l.dt) + 1
 
 abbrev pub decreases-run_seq : goal.decreases-run_seq
-decreases-run_seq g l = 5 * (frozen_rank (source_of l.f l.dt) + frozen_rank (source_of l.g l.dt)) + 4
+decreases-run_seq g l = 10 * (frozen_rank (source_of l.f.now l.dt) + frozen_rank (source_of l.g.now l.dt)) + 8
 
 abbrev pub decreases-run_first : goal.decreases-run_first
-decreases-run_first g l = 5 * frozen_rank (source_of l.f l.dt) + 4
+decreases-run_first g l = 10 * frozen_rank (source_of l.f.now l.dt) + 8
 
 abbrev pub decreases-run_par : goal.decreases-run_par
-decreases-run_par g l = 5 * total (frozen_ranks (sources_of l.fs l.dt)) + 4
+decreases-run_par g l = 10 * total (frozen_ranks (sources_of l.fs l.dt)) + 8
 
 abbrev pub decreases-run_loop : goal.decreases-run_loop
-decreases-run_loop g l = 5 * frozen_rank (source_of l.f l.dt) + 4
+decreases-run_loop g l = 10 * frozen_rank (source_of l.f.now l.dt) + 8
 
 abbrev pub decreases-run_switch : goal.decreases-run_switch
 decreases-run_switch g l =
-    5 * (frozen_rank (source_of l.f l.dt) + weight (rows_in l.t.now) (ranks_in (scope_of l.env.now))) + 4
+    10 * (frozen_rank (source_of l.f.now l.dt) + weight (rows_in l.t.now) (ranks_in (scope_of l.env.now))) + 8
 
 abbrev pub decreases-run_d_switch : goal.decreases-run_d_switch
 decreases-run_d_switch g l =
-    5 * (frozen_rank (source_of l.f l.dt) + weight (rows_in l.t.now) (ranks_in (scope_of l.env.now))) + 4
+    10 * (frozen_rank (source_of l.f.now l.dt) + weight (rows_in l.t.now) (ranks_in (scope_of l.env.now))) + 8
 
 abbrev pub decreases-run_r_switch : goal.decreases-run_r_switch
 decreases-run_r_switch g l =
-    5 * max (frozen_rank (source_of l.f l.dt)) (weight (rows_in l.t.now) (ranks_in (scope_of l.env.now))) + 4
+    10 * max (frozen_rank (source_of l.f.now l.dt)) (weight (rows_in l.t.now) (ranks_in (scope_of l.env.now))) + 8
 
 abbrev pub decreases-run_k_switch : goal.decreases-run_k_switch
 decreases-run_k_switch g l =
-    5 * (frozen_rank (source_of l.f l.dt) + frozen_rank (source_of l.e l.dt)
-    + weight (rows_in l.t.now) (ranks_in (scope_of l.env.now) ++ frozen_rank (source_of l.f l.dt) ∷ [])) + 4
+    10 * (frozen_rank (source_of l.f.now l.dt) + frozen_rank (source_of l.e.now l.dt)
+    + weight (rows_in l.t.now) (ranks_in (scope_of l.env.now) ++ frozen_rank (source_of l.f.now l.dt) ∷ [])) + 8
 
 abbrev pub decreases-run_p_switch : goal.decreases-run_p_switch
 decreases-run_p_switch g l =
-    5 * (total (frozen_ranks (sources_of l.fs l.dt)) + frozen_rank (source_of l.e l.dt)
-    + weight (rows_in l.t.now) (ranks_in (scope_of l.env.now) ++ frozen_ranks (sources_of l.fs l.dt))) + 4
+    10 * (total (frozen_ranks (sources_of l.fs l.dt)) + frozen_rank (source_of l.e.now l.dt)
+    + weight (rows_in l.t.now) (ranks_in (scope_of l.env.now) ++ frozen_ranks (sources_of l.fs l.dt))) + 8
 
 abbrev pub decreases-run_old : goal.decreases-run_old
-decreases-run_old g l = 5 * frozen_rank (source_of l.frozen l.step) + 4
+decreases-run_old g l = 10 * frozen_rank (source_of l.frozen.now l.step) + 8
 
 abbrev pub decreases-run_over : goal.decreases-run_over
-decreases-run_over g l = 5 * frozen_rank (unstarted (rows_in l.t.now) (scope_of l.env)) + 1
+decreases-run_over g l = 10 * frozen_rank (unstarted (rows_in l.t.now) (scope_of l.env)) + 1
 
 abbrev pub decreases-run_late : goal.decreases-run_late
-decreases-run_late g l = 5 * frozen_rank (unstarted (rows_in l.t.now) (scope_of l.env)) + 1
+decreases-run_late g l = 10 * frozen_rank (unstarted (rows_in l.t.now) (scope_of l.env)) + 1
 
-abbrev pub decreases-run_beside : goal.decreases-run_beside
-decreases-run_beside g l = 5 * frozen_rank (source_of l.e l.dt) + 2
+abbrev pub decreases-run_watch : goal.decreases-run_watch
+decreases-run_watch g l = 10 * frozen_rank (source_of l.e.now l.dt) + 3
+
+abbrev pub decreases-run_members_watch : goal.decreases-run_members_watch
+decreases-run_members_watch g l = 10 * frozen_rank (source_of l.e.now l.dt) + 3
 
 abbrev pub decreases-run_all : goal.decreases-run_all
-decreases-run_all g l = 5 * total (frozen_ranks (sources_of l.members l.dt)) + 3
+decreases-run_all g l = 10 * total (frozen_ranks (sources_of l.members l.dt)) + 3
 
 abbrev pub decreases-run_each : goal.decreases-run_each
-decreases-run_each g l = 5 * total (frozen_ranks (sources_of l.members l.dt)) + 2
+decreases-run_each g l = 10 * total (frozen_ranks (sources_of l.members l.on.now.dt)) + 2
 
 abbrev pub decreases-run_member : goal.decreases-run_member
-decreases-run_member g l = 5 * frozen_rank (source_of l.f l.dt) + 1
+decreases-run_member g l = 10 * frozen_rank (source_of l.f.now l.on.now.dt) + 1

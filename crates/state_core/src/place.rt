@@ -1,0 +1,400 @@
+// States as places, into whose memory others come.
+
+ghost use Rattle.std.specs.Prelude.{◌≡◌, IfOk, OnOk};
+ghost use Rattle.sample_core.specs.ValueView.{datum_of};
+ghost use Rattle.state_core.specs.Around.{first_part, second_part, node_round};
+ghost use Rattle.state_core.specs.RowsView.{rows_in, row_number};
+ghost use Rattle.state_core.specs.State.{no_state, seq_state, first_state, par_state, loop_state, switch_state, d_switch_state, r_switch_state, k_switch_state, p_switch_state};
+ghost use Rattle.state_core.specs.StateView.{state_of, node_of, scope_of};
+
+use crate::env::Env;
+use crate::new_states::NewStates;
+use crate::state::{
+    KSwitchParts, LoopParts, Node, PSwitchParts, SeqParts, State, States, SwitchParts, Whole,
+};
+use leaf_table::LeafId;
+use net_syntax::Net;
+use sample_core::{Memory, Sample};
+use std::alloc::Global;
+use std::boxed::Box;
+use std::rc::Rc;
+
+/// A node but for the states of its parts, which stand in the place that it comes into.
+#[derive(Drop)]
+pub enum Around<'s, 'n> {
+    /// `>>>`.
+    Seq,
+    /// `first`.
+    First,
+    /// `parB`, with its members.
+    Par(States<'n>),
+    /// `loopPre`, with what is fed back next.
+    LoopPre(Sample),
+    /// `switch`, with the network that takes over and its scope.
+    Switch(&'n Net<LeafId>, &'s Env<'n>),
+    /// `dSwitch` likewise.
+    DSwitch(&'n Net<LeafId>, &'s Env<'n>),
+    /// `rSwitch` likewise.
+    RSwitch(&'n Net<LeafId>, &'s Env<'n>),
+    /// `kSwitch` likewise.
+    KSwitch(&'n Net<LeafId>, &'s Env<'n>),
+    /// `pSwitch` likewise, with the row that routes and its members before.
+    PSwitch(LeafId, States<'n>, &'n Net<LeafId>, &'s Env<'n>),
+}
+
+/// A state that is out of use is a place: the state that comes into it takes its memory, as far as
+/// no one else holds that. What is shared stays as it is.
+impl<'n> State<'n> {
+    /// No members yet, with the places of the state's members.
+    pub fn take_members(&mut self, alloc: Global) -> NewStates<'n>
+        ensures { result ≡ no_state }
+    {
+        let Some(node) = self.node_mut() else {
+            return NewStates::none(alloc);
+        };
+        match node {
+            Node::Par(members) => NewStates::over(members.take(alloc)),
+            Node::PSwitch(parts) => NewStates::over(parts.members.take(alloc)),
+            _ => NewStates::none(alloc),
+        }
+    }
+
+    /// The node, in this place. `Memory` where a growth was refused.
+    pub fn put(&mut self, alloc: Global, node: Node<'n>) -> Result<(), Memory>
+        ensures { OnOk result (state_of self.new ≡ node_of node.entry) }
+    {
+        match self {
+            State::Whole(whole) => whole.put(alloc, node),
+            other => {
+                let whole = Whole::new(alloc, node)?;
+                drop(std::mem::replace(other, State::Whole(whole)));
+                Ok(())
+            }
+        }
+    }
+
+    /// The node round the parts that stand in this place, which must be no one else's. `Memory`
+    /// where a growth was refused.
+    #[inline(always)]
+    pub fn put_round(&mut self, alloc: Global, around: Around<'_, 'n>) -> Result<(), Memory>
+        ensures { OnOk result (state_of self.new ≡ node_round around.entry (state_of self.old)) }
+    {
+        if let State::Whole(whole) = self {
+            if let Some(node) = Rc::get_mut(&mut whole.node) {
+                return put_round(alloc, node, around);
+            }
+        }
+        drop(around);
+        Err(Memory)
+    }
+}
+
+/// The node round the parts of another one, in its place.
+#[inline(always)]
+fn put_round<'n>(
+    alloc: Global,
+    node: &mut Node<'n>,
+    around: Around<'_, 'n>,
+) -> Result<(), Memory>
+    ensures { OnOk result (node_of node.new ≡ node_round around.entry (node_of node.old)) }
+{
+    match around {
+        Around::Seq => put_seq(node),
+        Around::First => put_first(node),
+        Around::Par(members) => put_par(node, members),
+        Around::LoopPre(fed_back) => put_loop(node, fed_back),
+        Around::Switch(net, env) => put_switch(node, net, env),
+        Around::DSwitch(net, env) => put_d_switch(node, net, env),
+        Around::RSwitch(net, env) => put_r_switch(node, net, env),
+        Around::KSwitch(net, env) => put_k_switch(node, net, env),
+        Around::PSwitch(router, members, net, env) => {
+            put_p_switch(alloc, node, router, members, net, env)
+        }
+    }
+}
+
+/// `>>>`.
+#[inline(always)]
+fn put_seq<'n>(node: &mut Node<'n>) -> Result<(), Memory>
+    ensures { OnOk result (node_of node.new
+        ≡ seq_state (first_part (node_of node.old)) (second_part (node_of node.old))) }
+{
+    match node {
+        Node::Seq(_) => Ok(()),
+        _ => {
+            let first = take_first(node);
+            let second = take_second(node);
+            drop(std::mem::replace(node, Node::Seq(SeqParts { first, second })));
+            Ok(())
+        }
+    }
+}
+
+/// `first`.
+#[inline(always)]
+fn put_first<'n>(node: &mut Node<'n>) -> Result<(), Memory>
+    ensures { OnOk result (node_of node.new ≡ first_state (first_part (node_of node.old))) }
+{
+    match node {
+        Node::First(_) => Ok(()),
+        _ => {
+            let part = take_first(node);
+            drop(std::mem::replace(node, Node::First(part)));
+            Ok(())
+        }
+    }
+}
+
+/// `parB`.
+#[inline(always)]
+fn put_par<'n>(node: &mut Node<'n>, members: States<'n>) -> Result<(), Memory>
+    ensures { OnOk result (node_of node.new ≡ par_state members.entry) }
+{
+    match node {
+        Node::Par(there) => drop(std::mem::replace(there, members)),
+        _ => drop(std::mem::replace(node, Node::Par(members))),
+    }
+    Ok(())
+}
+
+/// `loopPre`.
+#[inline(always)]
+fn put_loop<'n>(node: &mut Node<'n>, fed_back: Sample) -> Result<(), Memory>
+    ensures { OnOk result (node_of node.new
+        ≡ loop_state (datum_of fed_back) (first_part (node_of node.old))) }
+{
+    match node {
+        Node::LoopPre(parts) => drop(std::mem::replace(&mut parts.fed_back, fed_back)),
+        _ => {
+            let part = take_first(node);
+            let parts = LoopParts { fed_back, part };
+            drop(std::mem::replace(node, Node::LoopPre(parts)));
+        }
+    }
+    Ok(())
+}
+
+/// `switch`.
+#[inline(always)]
+fn put_switch<'n>(
+    node: &mut Node<'n>,
+    net: &'n Net<LeafId>,
+    env: &Env<'n>,
+) -> Result<(), Memory>
+    ensures { OnOk result (node_of node.new
+        ≡ switch_state (first_part (node_of node.old)) (rows_in net.entry.now) (scope_of env.now)) }
+{
+    match node {
+        Node::Switch(parts) => parts.renew(net, env),
+        _ => {
+            let parts = new_parts(node, net, env)?;
+            drop(std::mem::replace(node, Node::Switch(parts)));
+            Ok(())
+        }
+    }
+}
+
+/// `dSwitch`.
+#[inline(always)]
+fn put_d_switch<'n>(
+    node: &mut Node<'n>,
+    net: &'n Net<LeafId>,
+    env: &Env<'n>,
+) -> Result<(), Memory>
+    ensures { OnOk result (node_of node.new ≡ d_switch_state (first_part (node_of node.old))
+        (rows_in net.entry.now) (scope_of env.now)) }
+{
+    match node {
+        Node::DSwitch(parts) => parts.renew(net, env),
+        _ => {
+            let parts = new_parts(node, net, env)?;
+            drop(std::mem::replace(node, Node::DSwitch(parts)));
+            Ok(())
+        }
+    }
+}
+
+/// `rSwitch`.
+#[inline(always)]
+fn put_r_switch<'n>(
+    node: &mut Node<'n>,
+    net: &'n Net<LeafId>,
+    env: &Env<'n>,
+) -> Result<(), Memory>
+    ensures { OnOk result (node_of node.new ≡ r_switch_state (first_part (node_of node.old))
+        (rows_in net.entry.now) (scope_of env.now)) }
+{
+    match node {
+        Node::RSwitch(parts) => parts.renew(net, env),
+        _ => {
+            let parts = new_parts(node, net, env)?;
+            drop(std::mem::replace(node, Node::RSwitch(parts)));
+            Ok(())
+        }
+    }
+}
+
+/// `kSwitch`.
+#[inline(always)]
+fn put_k_switch<'n>(
+    node: &mut Node<'n>,
+    net: &'n Net<LeafId>,
+    env: &Env<'n>,
+) -> Result<(), Memory>
+    ensures { OnOk result (node_of node.new ≡ k_switch_state (first_part (node_of node.old))
+        (second_part (node_of node.old)) (rows_in net.entry.now) (scope_of env.now)) }
+{
+    match node {
+        Node::KSwitch(parts) => {
+            parts.net = net;
+            parts.env.renew(env)
+        }
+        _ => {
+            let env = env.try_copy()?;
+            let part = take_first(node);
+            let watch = take_second(node);
+            let parts = KSwitchParts {
+                part,
+                watch,
+                net,
+                env,
+            };
+            drop(std::mem::replace(node, Node::KSwitch(parts)));
+            Ok(())
+        }
+    }
+}
+
+/// `pSwitch`.
+#[inline(always)]
+fn put_p_switch<'n>(
+    alloc: Global,
+    node: &mut Node<'n>,
+    router: LeafId,
+    members: States<'n>,
+    net: &'n Net<LeafId>,
+    env: &Env<'n>,
+) -> Result<(), Memory>
+    ensures { OnOk result (node_of node.new ≡ p_switch_state (row_number router) members.entry
+        (first_part (node_of node.old)) (rows_in net.entry.now) (scope_of env.now)) }
+{
+    match node {
+        Node::PSwitch(parts) => parts.renew(router, members, net, env),
+        _ => new_p_switch(alloc, node, router, members, net, env),
+    }
+}
+
+/// The same where the node was another one.
+#[inline(never)]
+fn new_p_switch<'n>(
+    alloc: Global,
+    node: &mut Node<'n>,
+    router: LeafId,
+    members: States<'n>,
+    net: &'n Net<LeafId>,
+    env: &Env<'n>,
+) -> Result<(), Memory>
+    ensures { OnOk result (node_of node.new ≡ p_switch_state (row_number router) members.entry
+        (first_part (node_of node.old)) (rows_in net.entry.now) (scope_of env.now)) }
+{
+    match env.try_copy() {
+        Ok(env) => {
+            let watch = take_first(node);
+            let parts = PSwitchParts {
+                router,
+                members,
+                watch,
+                net,
+                env,
+            };
+            let parts = Box::new(alloc, parts)?;
+            drop(std::mem::replace(node, Node::PSwitch(parts)));
+            Ok(())
+        }
+        Err(memory) => {
+            drop(members);
+            Err(memory)
+        }
+    }
+}
+
+impl<'n> SwitchParts<'n> {
+    /// The same part, with this network and this scope.
+    #[inline(always)]
+    fn renew(&mut self, net: &'n Net<LeafId>, env: &Env<'n>) -> Result<(), Memory>
+        ensures part { state_of self.new.part ≡ state_of self.old.part }
+        ensures net { self.new.net.now ≡ net.entry.now }
+        ensures env { OnOk result (scope_of self.new.env ≡ scope_of env.now) }
+    {
+        self.net = net;
+        self.env.renew(env)
+    }
+}
+
+impl<'n> PSwitchParts<'n> {
+    /// The same part that watches, with these members, this network and this scope.
+    #[inline(always)]
+    fn renew(
+        &mut self,
+        router: LeafId,
+        members: States<'n>,
+        net: &'n Net<LeafId>,
+        env: &Env<'n>,
+    ) -> Result<(), Memory>
+        ensures router { self.new.router ≡ router }
+        ensures members { self.new.members ≡ members.entry }
+        ensures watch { state_of self.new.watch ≡ state_of self.old.watch }
+        ensures net { self.new.net.now ≡ net.entry.now }
+        ensures env { OnOk result (scope_of self.new.env ≡ scope_of env.now) }
+    {
+        self.router = router;
+        self.net = net;
+        drop(std::mem::replace(&mut self.members, members));
+        self.env.renew(env)
+    }
+}
+
+/// What stands round the first part of a node, which is out of it then.
+fn new_parts<'n>(
+    node: &mut Node<'n>,
+    net: &'n Net<LeafId>,
+    env: &Env<'n>,
+) -> Result<SwitchParts<'n>, Memory>
+    ensures { IfOk result (λ r. (state_of r.part ≡ first_part (node_of node.old))
+        × (r.net.now ≡ net.entry.now) × (scope_of r.env ≡ scope_of env.now)) }
+{
+    let env = env.try_copy()?;
+    let part = take_first(node);
+    Ok(SwitchParts { part, net, env })
+}
+
+/// The first part of a node, in whose place nothing stands then; the second stays.
+#[inline(never)]
+pub fn take_first<'n>(node: &mut Node<'n>) -> State<'n>
+    ensures taken { state_of result ≡ first_part (node_of node.old) }
+    ensures left { second_part (node_of node.new) ≡ second_part (node_of node.old) }
+{
+    match node {
+        Node::Seq(parts) => std::mem::replace(&mut parts.first, State::Nothing),
+        Node::First(part) => std::mem::replace(part, State::Nothing),
+        Node::LoopPre(parts) => std::mem::replace(&mut parts.part, State::Nothing),
+        Node::Switch(parts) => std::mem::replace(&mut parts.part, State::Nothing),
+        Node::DSwitch(parts) => std::mem::replace(&mut parts.part, State::Nothing),
+        Node::RSwitch(parts) => std::mem::replace(&mut parts.part, State::Nothing),
+        Node::KSwitch(parts) => std::mem::replace(&mut parts.part, State::Nothing),
+        Node::PSwitch(parts) => std::mem::replace(&mut parts.watch, State::Nothing),
+        Node::Par(_) => State::Nothing,
+    }
+}
+
+/// The second part of a node, likewise.
+#[inline(never)]
+fn take_second<'n>(node: &mut Node<'n>) -> State<'n>
+    ensures { state_of result ≡ second_part (node_of node.old) }
+{
+    match node {
+        Node::Seq(parts) => std::mem::replace(&mut parts.second, State::Nothing),
+        Node::KSwitch(parts) => std::mem::replace(&mut parts.watch, State::Nothing),
+        _ => State::Nothing,
+    }
+}
