@@ -1,6 +1,6 @@
 // The cells.
 
-ghost use Rattle.std.specs.Prelude.{◌≡◌, ◌≢◌, IfOk, MatchOption};
+ghost use Rattle.std.specs.Prelude.{◌≡◌, ◌≢◌, IfOk, OnOk, MatchOption};
 ghost use Rattle.sample_core.specs.Datum.{Datum};
 ghost use Rattle.sample_core.specs.ValueView.{datum_of};
 ghost use Rattle.cell_core.specs.CellView.{cell_of, outcome_of};
@@ -79,36 +79,46 @@ impl Cell {
             (λ r. outcome_of r ≡ cell_step (cell_of self.now) (dt, datum_of sample.now)) }
     {
         let mut next = Cell::Time(0);
-        match self.step_over(alloc, dt, sample, &mut next) {
-            Ok(answer) => Ok((next, answer)),
+        let mut answer = Sample::Int(0);
+        match self.step_into(alloc, dt, sample, &mut next, &mut answer) {
+            Ok(()) => Ok((next, answer)),
             Err(memory) => {
                 drop(next);
+                drop(answer);
                 Err(memory)
             }
         }
     }
 
-    /// The same, with the cell after it in the place of another one.
+    /// The same, with the cell after it in the place of another one, and the answer in that of
+    /// another value.
     #[inline(always)]
-    pub fn step_over(
+    pub fn step_into(
         &self,
         alloc: Global,
         dt: u64,
         sample: &Sample,
         place: &mut Cell,
-    ) -> Result<Sample, Memory>
-        ensures { IfOk result (λ y. outcome_of (place.new, y)
+        out: &mut Sample,
+    ) -> Result<(), Memory>
+        ensures { OnOk result (outcome_of (place.new, out.new)
             ≡ cell_step (cell_of self.now) (dt, datum_of sample.now)) }
     {
         match self {
-            Cell::IPre(before) => step::i_pre(alloc, before, sample, place),
-            Cell::Delay(front, newest) => queue::step(front, newest, alloc, dt, sample, place),
-            Cell::Hold(latest) => step::hold(alloc, latest, sample, place),
-            Cell::AccumBy(accumulator) => step::accum_by(alloc, accumulator, sample, place),
-            Cell::After(left, value) => step::after(*left, value, dt, place),
-            Cell::Repeatedly(left, recurring) => step::repeatedly(*left, recurring, dt, place),
-            Cell::Time(time) => Ok(step::time(*time, dt, place)),
-            Cell::Integral(sum, before) => Ok(step::integral(*sum, *before, dt, sample, place)),
+            Cell::IPre(before) => step::i_pre(alloc, before, sample, place, out),
+            Cell::Delay(front, newest) => queue::step(front, newest, alloc, dt, sample, place, out),
+            Cell::Hold(latest) => step::hold(alloc, latest, sample, place, out),
+            Cell::AccumBy(accumulator) => step::accum_by(alloc, accumulator, sample, place, out),
+            Cell::After(left, value) => step::after(*left, value, dt, place, out),
+            Cell::Repeatedly(left, recurring) => step::repeatedly(*left, recurring, dt, place, out),
+            Cell::Time(time) => {
+                step::time(*time, dt, place, out);
+                Ok(())
+            }
+            Cell::Integral(sum, before) => {
+                step::integral(*sum, *before, dt, sample, place, out);
+                Ok(())
+            }
         }
     }
 

@@ -32,8 +32,8 @@ pub(crate) fn start(
     renewed(alloc, q, 0, entries, sample)
 }
 
-/// The queue after dt more, with the sample in it, in that place, and its answer: the latest value
-/// that is due, or what was out. It takes memory for the sample's place, and for a front of those
+/// The queue after dt more, with the sample in it, in that place, and its answer in the other: the
+/// latest value that is due, or what was out. It takes memory for the sample's place, and for a front of those
 /// that wait behind when all in front has passed.
 #[inline(never)]
 pub(crate) fn step(
@@ -43,13 +43,15 @@ pub(crate) fn step(
     dt: u64,
     sample: &Sample,
     place: &mut Cell,
-) -> Result<Sample, Memory>
-    ensures { IfOk result (λ y. outcome_of (place.new, y)
+    out: &mut Sample,
+) -> Result<(), Memory>
+    ensures { OnOk result (outcome_of (place.new, out.new)
         ≡ cell_step (delay_of front.now.value newest.now.value) (dt, datum_of sample.now)) }
 {
     let (next, answer) = after_step(front, newest, alloc, dt, sample)?;
     place.put(next);
-    Ok(answer)
+    out.put(answer);
+    Ok(())
 }
 
 /// The queue after dt more, with the sample in it, and its answer.

@@ -1,6 +1,6 @@
 // How each cell steps.
 
-ghost use Rattle.std.specs.Prelude.{◌≡◌, pos, ◌+ℤ◌, ◌*ℤ◌, IfOk};
+ghost use Rattle.std.specs.Prelude.{◌≡◌, pos, ◌+ℤ◌, ◌*ℤ◌, OnOk};
 ghost use Rattle.std.specs.Int.{int_wrap, w64};
 ghost use Rattle.sample_core.specs.Datum.{unit};
 ghost use Rattle.sample_core.specs.ValueView.{datum_of};
@@ -22,27 +22,40 @@ pub(crate) fn i_pre(
     before: &Sample,
     sample: &Sample,
     place: &mut Cell,
-) -> Result<Sample, Memory>
-    ensures { IfOk result (λ y. outcome_of (place.new, y)
+    out: &mut Sample,
+) -> Result<(), Memory>
+    ensures { OnOk result (outcome_of (place.new, out.new)
         ≡ cell_step (previous (datum_of before.now)) (0, datum_of sample.now)) }
 {
-    let kept = copied(alloc, sample)?;
     match place {
-        Cell::IPre(there) => there.put(kept),
-        _ => place.put(Cell::IPre(kept)),
+        Cell::IPre(there) => copy_over(alloc, sample, there)?,
+        _ => place.put(Cell::IPre(sample.try_copy(alloc)?)),
     }
-    copied(alloc, before)
+    copy_over(alloc, before, out)
 }
 
-/// A copy of the value: of a number at once.
+/// A copy of the value in the place of another: of a number at once.
 #[inline(always)]
-fn copied(alloc: Global, value: &Sample) -> Result<Sample, Memory>
-    ensures { IfOk result (λ y. datum_of y ≡ datum_of value.now) }
+fn copy_over(alloc: Global, value: &Sample, place: &mut Sample) -> Result<(), Memory>
+    ensures { OnOk result (datum_of place.new ≡ datum_of value.now) }
 {
     match value {
-        Sample::Int(n) => Ok(Sample::Int(*n)),
-        _ => value.try_copy(alloc),
+        Sample::Int(n) => {
+            place.put_int(*n);
+            Ok(())
+        }
+        _ => copy_any(alloc, value, place),
     }
+}
+
+/// The same of any value.
+#[inline(never)]
+fn copy_any(alloc: Global, value: &Sample, place: &mut Sample) -> Result<(), Memory>
+    ensures { OnOk result (datum_of place.new ≡ datum_of value.now) }
+{
+    let copy = value.try_copy(alloc)?;
+    place.put(copy);
+    Ok(())
 }
 
 /// A `hold` keeps and answers an event's value, else what it has kept.
@@ -52,20 +65,20 @@ pub(crate) fn hold(
     kept: &Sample,
     sample: &Sample,
     place: &mut Cell,
-) -> Result<Sample, Memory>
-    ensures { IfOk result (λ y. outcome_of (place.new, y)
+    out: &mut Sample,
+) -> Result<(), Memory>
+    ensures { OnOk result (outcome_of (place.new, out.new)
         ≡ cell_step (latest (datum_of kept.now)) (0, datum_of sample.now)) }
 {
     let value = match sample {
         Sample::Event(value) => value.get(),
         _ => kept,
     };
-    let kept = value.try_copy(alloc)?;
     match place {
-        Cell::Hold(there) => there.put(kept),
-        _ => place.put(Cell::Hold(kept)),
+        Cell::Hold(there) => copy_over(alloc, value, there)?,
+        _ => place.put(Cell::Hold(value.try_copy(alloc)?)),
     }
-    value.try_copy(alloc)
+    copy_over(alloc, value, out)
 }
 
 /// An `accumBy` keeps an event's value and answers the event.
@@ -75,23 +88,24 @@ pub(crate) fn accum_by(
     kept: &Sample,
     sample: &Sample,
     place: &mut Cell,
-) -> Result<Sample, Memory>
-    ensures { IfOk result (λ y. outcome_of (place.new, y)
+    out: &mut Sample,
+) -> Result<(), Memory>
+    ensures { OnOk result (outcome_of (place.new, out.new)
         ≡ cell_step (accumulating (datum_of kept.now)) (0, datum_of sample.now)) }
 {
     let (value, fires) = match sample {
         Sample::Event(value) => (value.get(), true),
         _ => (kept, false),
     };
-    let accumulator = value.try_copy(alloc)?;
     match place {
-        Cell::AccumBy(there) => there.put(accumulator),
-        _ => place.put(Cell::AccumBy(accumulator)),
+        Cell::AccumBy(there) => copy_over(alloc, value, there)?,
+        _ => place.put(Cell::AccumBy(value.try_copy(alloc)?)),
     }
     if fires {
-        sample.try_copy(alloc)
+        copy_any(alloc, sample, out)
     } else {
-        Ok(Sample::NoEvent)
+        out.put(Sample::NoEvent);
+        Ok(())
     }
 }
 
@@ -102,17 +116,19 @@ pub(crate) fn after(
     value: &SampleChild,
     dt: u64,
     place: &mut Cell,
-) -> Result<Sample, Memory>
-    ensures { IfOk result (λ y. outcome_of (place.new, y)
+    out: &mut Sample,
+) -> Result<(), Memory>
+    ensures { OnOk result (outcome_of (place.new, out.new)
         ≡ cell_step (after_of left value.now) (dt, unit)) }
 {
     let fires = 0 < left && left <= dt;
     place.put(Cell::After(left.saturating_sub(dt), value.try_copy()?));
     if fires {
-        Ok(Sample::Event(value.try_copy()?))
+        out.put(Sample::Event(value.try_copy()?));
     } else {
-        Ok(Sample::NoEvent)
+        out.put(Sample::NoEvent);
     }
+    Ok(())
 }
 
 /// A `repeatedly`: its event comes where no more than dt is left to a multiple.
@@ -122,8 +138,9 @@ pub(crate) fn repeatedly(
     recurring: &Rc<Recurring>,
     dt: u64,
     place: &mut Cell,
-) -> Result<Sample, Memory>
-    ensures { IfOk result (λ y. outcome_of (place.new, y)
+    out: &mut Sample,
+) -> Result<(), Memory>
+    ensures { OnOk result (outcome_of (place.new, out.new)
         ≡ cell_step (recurring_of left recurring.now.value) (dt, unit)) }
 {
     let kept = recurring.clone()?;
@@ -131,32 +148,40 @@ pub(crate) fn repeatedly(
         let q = recurring.q;
         let next = q - (dt - left) % q;
         place.put(Cell::Repeatedly(next, kept));
-        Ok(Sample::Event(recurring.value.try_copy()?))
+        out.put(Sample::Event(recurring.value.try_copy()?));
     } else {
         place.put(Cell::Repeatedly(left - dt, kept));
-        Ok(Sample::NoEvent)
+        out.put(Sample::NoEvent);
     }
+    Ok(())
 }
 
 /// A `time` is dt more.
 #[inline(always)]
-pub(crate) fn time(before: i64, dt: u64, place: &mut Cell) -> Sample
-    ensures { outcome_of (place.new, result) ≡ cell_step (ticking before) (dt, unit) }
+pub(crate) fn time(before: i64, dt: u64, place: &mut Cell, out: &mut Sample)
+    ensures { outcome_of (place.new, out.new) ≡ cell_step (ticking before) (dt, unit) }
 {
     let time = wrapped_time(before, dt);
     place.put(Cell::Time(time));
-    Sample::Int(time)
+    out.put_int(time);
 }
 
 /// An `integral` is dt times the sample before more.
 #[inline(always)]
-pub(crate) fn integral(sum: i64, before: i64, dt: u64, sample: &Sample, place: &mut Cell) -> Sample
-    ensures { outcome_of (place.new, result)
+pub(crate) fn integral(
+    sum: i64,
+    before: i64,
+    dt: u64,
+    sample: &Sample,
+    place: &mut Cell,
+    out: &mut Sample,
+)
+    ensures { outcome_of (place.new, out.new)
         ≡ cell_step (summing sum before) (dt, datum_of sample.now) }
 {
     let sum = wrapped_area(sum, before, dt);
     place.put(Cell::Integral(sum, whole_of(sample)));
-    Sample::Int(sum)
+    out.put_int(sum);
 }
 
 // A step modulo 2^64, read as signed.

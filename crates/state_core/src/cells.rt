@@ -84,8 +84,8 @@ impl Cells {
         Ok(())
     }
 
-    /// The answer of a cell to one sample more, `dt` after the one before; the cell after it is one
-    /// cell more. `Memory` where a growth was refused.
+    /// Puts the answer of a cell to one sample more, `dt` after the one before, in the place of
+    /// another value; the cell after it is one cell more. `Memory` where a growth was refused.
     #[inline(always)]
     pub fn push_step(
         &mut self,
@@ -93,23 +93,19 @@ impl Cells {
         before: &Cell,
         dt: u64,
         sample: &Sample,
-    ) -> Result<Sample, Memory>
-        ensures { IfOk result (λ y.
-            IsStepAdded self.old (cell_of before.now) (dt, datum_of sample.now) self.new (datum_of y)) }
+        out: &mut Sample,
+    ) -> Result<(), Memory>
+        ensures { IfOk result (λ _. IsStepAdded self.old (cell_of before.now)
+            (dt, datum_of sample.now) self.new (datum_of out.new)) }
     {
         if self.used < self.all.len() {
-            let answer = before.step_over(alloc, dt, sample, &mut self.all[self.used])?;
+            before.step_into(alloc, dt, sample, &mut self.all[self.used], out)?;
             self.used += 1;
-            return Ok(answer);
+            return Ok(());
         }
         let (next, answer) = before.step(alloc, dt, sample)?;
-        match self.push(next) {
-            Ok(()) => Ok(answer),
-            Err(memory) => {
-                drop(answer);
-                Err(memory)
-            }
-        }
+        out.put(answer);
+        self.push(next)
     }
 
     /// Another cell in the place of cell i.

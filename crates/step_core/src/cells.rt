@@ -97,7 +97,8 @@ pub(crate) fn start_accum<R: Rows>(
     }
 }
 
-/// The answer of an `accumBy` to a further sample; its cell after it is one cell more.
+/// Puts the answer of an `accumBy` to a further sample in the place of another value; its cell
+/// after it is one cell more.
 pub(crate) fn step_accum<R: Rows>(
     alloc: Global,
     rows: &R,
@@ -106,17 +107,18 @@ pub(crate) fn step_accum<R: Rows>(
     cell: &Cell,
     x: &Sample,
     cells: &mut Cells,
-) -> Result<Sample, Memory>
-    ensures { IfOk result (λ y. IsAccumAdded (R.keys rows.now) (row_number g)
+    out: &mut Sample,
+) -> Result<(), Memory>
+    ensures { IfOk result (λ _. IsAccumAdded (R.keys rows.now) (row_number g)
         (map datum_of params.now) (accumulator_of (cell_of cell.now)) (datum_of x.now) cells.old
-        cells.new (datum_of y)) }
+        cells.new (datum_of out.new)) }
 {
     match cell.accumulator() {
         Some(held) => {
             let input = put_in(alloc, rows, g, params, held, x)?;
-            let answer = cells.push_step(alloc, cell, 0, &input);
+            let done = cells.push_step(alloc, cell, 0, &input, out);
             drop(input);
-            answer
+            done
         }
         None => Err(Memory),
     }

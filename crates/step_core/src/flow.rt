@@ -6,9 +6,9 @@ ghost use Rattle.sample_core.specs.ValueView.{datum_of};
 ghost use Rattle.net_syntax.specs.Network.{map_networks, seq, first, par, loop_pre, accum_by};
 ghost use Rattle.net_syntax.specs.NetworkView.{members_of};
 ghost use Rattle.cell_core.specs.Cell.{previous};
-ghost use Rattle.cell_core.specs.CellView.{cell_of};
 ghost use Rattle.state_core.specs.RowsView.{rows_in, row_number};
 ghost use Rattle.state_core.specs.StaticNetwork.{is_static, are_static};
+ghost use Rattle.step_core.specs.Called.{Called};
 ghost use Rattle.step_core.specs.Flow.{Flows, AllFlow, IsCell, IsFedBack, IsKept, number_of, past_in};
 
 use crate::cells::{start_accum, start_cell, step_accum};
@@ -32,36 +32,56 @@ pub(crate) struct Context<'s, R> {
     pub(crate) dt: u64,
 }
 
-/// What the network answers. Adds its new cells to those before. `Memory` where a growth was
-/// refused.
+/// Puts what the network answers in the place of another value, and adds its new cells to those
+/// before. `Memory` where a growth was refused.
 #[cycle(flow)]
 pub(crate) fn flow<R: Rows>(
     on: &Context<'_, R>,
     net: &Net<LeafId>,
     x: &Sample,
     cells: &mut Cells,
-) -> Result<Sample, Memory>
+    out: &mut Sample,
+) -> Result<(), Memory>
     requires { IsTrue (is_static (rows_in net.now)) }
-    ensures { IfOk result (λ y. Flows (R.keys on.now.rows.now) (rows_in net.now)
+    ensures { IfOk result (λ _. Flows (R.keys on.now.rows.now) (rows_in net.now)
         (map datum_of on.now.params.now) (past_in on.now.before on.now.dt) (datum_of x.now)
-        cells.old cells.new (datum_of y)) }
+        cells.old cells.new (datum_of out.new)) }
 {
     match net {
-        Net::Arr(e) => on.rows.call(*e, on.params, x),
-        Net::Seq(f, g) => flow_seq(on, f.get(), g.get(), x, cells),
-        Net::First(f) => flow_first(on, f.get(), x, cells),
-        Net::Par(fs) => flow_par(on, fs.as_slice(), x, cells),
-        Net::LoopPre(c, f) => flow_loop(on, *c, f.get(), x, cells),
-        Net::IPre(c) => flow_cell(on, Form::IPre, Some(*c), x, cells),
-        Net::Delay(q, c) => flow_cell(on, Form::Delay(*q), Some(*c), x, cells),
-        Net::Hold(c) => flow_cell(on, Form::Hold, Some(*c), x, cells),
-        Net::AccumBy(g, z) => flow_accum(on, *g, *z, x, cells),
-        Net::After(q, c) => flow_cell(on, Form::After(*q), Some(*c), x, cells),
-        Net::Repeatedly(q, c) => flow_cell(on, Form::Repeatedly(*q), Some(*c), x, cells),
-        Net::Time => flow_cell(on, Form::Time, None, x, cells),
-        Net::Integral => flow_cell(on, Form::Integral, None, x, cells),
+        Net::Arr(e) => call_into(on, *e, x, out),
+        Net::Seq(f, g) => flow_seq(on, f.get(), g.get(), x, cells, out),
+        Net::First(f) => flow_first(on, f.get(), x, cells, out),
+        Net::Par(fs) => flow_par(on, fs.as_slice(), x, cells, out),
+        Net::LoopPre(c, f) => flow_loop(on, *c, f.get(), x, cells, out),
+        Net::IPre(c) => flow_cell(on, Form::IPre, Some(*c), x, cells, out),
+        Net::Delay(q, c) => flow_cell(on, Form::Delay(*q), Some(*c), x, cells, out),
+        Net::Hold(c) => flow_cell(on, Form::Hold, Some(*c), x, cells, out),
+        Net::AccumBy(g, z) => flow_accum(on, *g, *z, x, cells, out),
+        Net::After(q, c) => flow_cell(on, Form::After(*q), Some(*c), x, cells, out),
+        Net::Repeatedly(q, c) => flow_cell(on, Form::Repeatedly(*q), Some(*c), x, cells, out),
+        Net::Time => flow_cell(on, Form::Time, None, x, cells, out),
+        Net::Integral => flow_cell(on, Form::Integral, None, x, cells, out),
         _ => unreachable!(),
     }
+}
+
+/// What a row answers to the sample.
+#[inline(always)]
+fn call_into<R: Rows>(
+    on: &Context<'_, R>,
+    e: LeafId,
+    x: &Sample,
+    out: &mut Sample,
+) -> Result<(), Memory>
+    ensures { IfOk result (λ _. Called (R.keys on.now.rows.now) (row_number e)
+        (map datum_of on.now.params.now) (datum_of x.now) (datum_of out.new)) }
+{
+    match on.rows.call(e, on.params, x) {
+        Ok(Sample::Int(n)) => out.put_int(n),
+        Ok(answer) => out.put(answer),
+        Err(memory) => return Err(memory),
+    }
+    Ok(())
 }
 
 /// `>>>`: what the first part answers goes to the second.
@@ -72,16 +92,41 @@ fn flow_seq<R: Rows>(
     g: &Net<LeafId>,
     x: &Sample,
     cells: &mut Cells,
-) -> Result<Sample, Memory>
+    out: &mut Sample,
+) -> Result<(), Memory>
     requires { IsTrue (is_static (seq (rows_in f.now) (rows_in g.now))) }
-    ensures { IfOk result (λ y. Flows (R.keys on.now.rows.now) (seq (rows_in f.now) (rows_in g.now))
+    ensures { IfOk result (λ _. Flows (R.keys on.now.rows.now)
+        (seq (rows_in f.now) (rows_in g.now))
         (map datum_of on.now.params.now) (past_in on.now.before on.now.dt) (datum_of x.now)
-        cells.old cells.new (datum_of y)) }
+        cells.old cells.new (datum_of out.new)) }
 {
-    let between = flow(on, f, x, cells)?;
-    let answer = flow(on, g, &between, cells);
-    drop(between);
-    answer
+    let mut between = Sample::Int(0);
+    match flow(on, f, x, cells, &mut between) {
+        Ok(()) => {
+            let done = flow(on, g, &between, cells, out);
+            let_go(between);
+            done
+        }
+        Err(memory) => {
+            drop(between);
+            Err(memory)
+        }
+    }
+}
+
+/// Lets a value go. Mostly it is a number, which holds nothing.
+#[inline(always)]
+fn let_go(value: Sample) {
+    match value {
+        Sample::Int(_) => {}
+        value => let_go_on(value),
+    }
+}
+
+/// The same of any value.
+#[inline(never)]
+fn let_go_on(value: Sample) {
+    drop(value);
 }
 
 /// `first`: the second component passes along.
@@ -92,14 +137,25 @@ fn flow_first<R: Rows>(
     f: &Net<LeafId>,
     x: &Sample,
     cells: &mut Cells,
-) -> Result<Sample, Memory>
+    out: &mut Sample,
+) -> Result<(), Memory>
     requires { IsTrue (is_static (rows_in f.now)) }
-    ensures { IfOk result (λ y. Flows (R.keys on.now.rows.now) (first (rows_in f.now))
+    ensures { IfOk result (λ _. Flows (R.keys on.now.rows.now) (first (rows_in f.now))
         (map datum_of on.now.params.now) (past_in on.now.before on.now.dt) (datum_of x.now)
-        cells.old cells.new (datum_of y)) }
+        cells.old cells.new (datum_of out.new)) }
 {
-    let answer = flow(on, f, first(x), cells)?;
-    paired_with(on.alloc, answer, second(x))
+    let mut answer = Sample::Int(0);
+    match flow(on, f, first(x), cells, &mut answer) {
+        Ok(()) => {
+            let both = paired_with(on.alloc, answer, second(x))?;
+            out.put(both);
+            Ok(())
+        }
+        Err(memory) => {
+            drop(answer);
+            Err(memory)
+        }
+    }
 }
 
 /// `parB`: each member gets the sample, and their answers become one list.
@@ -110,16 +166,21 @@ fn flow_par<R: Rows>(
     members: &[Net<LeafId>],
     x: &Sample,
     cells: &mut Cells,
-) -> Result<Sample, Memory>
+    out: &mut Sample,
+) -> Result<(), Memory>
     requires { IsTrue (are_static (map_networks row_number (members_of members.now))) }
-    ensures { IfOk result (λ y. Flows (R.keys on.now.rows.now)
+    ensures { IfOk result (λ _. Flows (R.keys on.now.rows.now)
         (par (map_networks row_number (members_of members.now)))
         (map datum_of on.now.params.now) (past_in on.now.before on.now.dt) (datum_of x.now)
-        cells.old cells.new (datum_of y)) }
+        cells.old cells.new (datum_of out.new)) }
 {
     let mut answers = Vec::with_capacity(on.alloc, members.len())?;
     match flow_each(on, members, x, cells, &mut answers) {
-        Ok(()) => gather(on.alloc, answers),
+        Ok(()) => {
+            let list = gather(on.alloc, answers)?;
+            out.put(list);
+            Ok(())
+        }
         Err(memory) => {
             drop(answers);
             Err(memory)
@@ -145,9 +206,17 @@ fn flow_each<R: Rows>(
 {
     match members.split_first() {
         Some((f, rest)) => {
-            let answer = flow(on, f, x, cells)?;
-            answers.push(answer)?;
-            flow_each(on, rest, x, cells, answers)
+            let mut answer = Sample::Int(0);
+            match flow(on, f, x, cells, &mut answer) {
+                Ok(()) => {
+                    answers.push(answer)?;
+                    flow_each(on, rest, x, cells, answers)
+                }
+                Err(memory) => {
+                    drop(answer);
+                    Err(memory)
+                }
+            }
         }
         None => Ok(()),
     }
@@ -163,18 +232,26 @@ fn flow_loop<R: Rows>(
     f: &Net<LeafId>,
     x: &Sample,
     cells: &mut Cells,
-) -> Result<Sample, Memory>
+    out: &mut Sample,
+) -> Result<(), Memory>
     requires { IsTrue (is_static (rows_in f.now)) }
-    ensures { IfOk result (λ y. Flows (R.keys on.now.rows.now)
+    ensures { IfOk result (λ _. Flows (R.keys on.now.rows.now)
         (loop_pre (row_number c) (rows_in f.now))
         (map datum_of on.now.params.now) (past_in on.now.before on.now.dt) (datum_of x.now)
-        cells.old cells.new (datum_of y)) }
+        cells.old cells.new (datum_of out.new)) }
 {
     let at = cells.len();
     let input = feed(on, c, x, cells)?;
-    let answer = flow(on, f, &input, cells);
+    let mut answer = Sample::Int(0);
+    let done = flow(on, f, &input, cells, &mut answer);
     drop(input);
-    keep_fed(on.alloc, answer?, at, cells)
+    match done {
+        Ok(()) => keep_fed(on.alloc, answer, at, cells, out),
+        Err(memory) => {
+            drop(answer);
+            Err(memory)
+        }
+    }
 }
 
 /// The pair of the sample and what is fed back, which goes into the next cell until the sample has
@@ -230,10 +307,16 @@ fn hold_place(value: Sample, input: Sample, cells: &mut Cells) -> Result<Sample,
     }
 }
 
-/// The first part of what a `loopPre`'s part answers; the second goes into its cell.
-fn keep_fed(alloc: Global, answer: Sample, at: usize, cells: &mut Cells) -> Result<Sample, Memory>
+/// Puts out the first part of what a `loopPre`'s part answers; the second goes into its cell.
+fn keep_fed(
+    alloc: Global,
+    answer: Sample,
+    at: usize,
+    cells: &mut Cells,
+    out: &mut Sample,
+) -> Result<(), Memory>
     requires { at < length cells.old }
-    ensures { IfOk result (λ y. (datum_of y ≡ left (datum_of answer))
+    ensures { IfOk result (λ _. (datum_of out.new ≡ left (datum_of answer))
         × (cells.new ≡ slice_set cells.old at (previous (right (datum_of answer))))) }
 {
     match second(&answer).try_copy(alloc) {
@@ -241,7 +324,8 @@ fn keep_fed(alloc: Global, answer: Sample, at: usize, cells: &mut Cells) -> Resu
             cells.put(at, Cell::IPre(next));
             let passed = first(&answer).try_copy(alloc);
             drop(answer);
-            Ok(passed?)
+            out.put(passed?);
+            Ok(())
         }
         Err(memory) => {
             drop(answer);
@@ -257,18 +341,19 @@ fn flow_cell<R: Rows>(
     constant: Option<LeafId>,
     x: &Sample,
     cells: &mut Cells,
-) -> Result<Sample, Memory>
-    ensures { IfOk result (λ y. (net : _) → IsCell net form (number_of constant)
+    out: &mut Sample,
+) -> Result<(), Memory>
+    ensures { IfOk result (λ _. (net : _) → IsCell net form (number_of constant)
         → Flows (R.keys on.now.rows.now) net
         (map datum_of on.now.params.now) (past_in on.now.before on.now.dt) (datum_of x.now)
-        cells.old cells.new (datum_of y)) }
+        cells.old cells.new (datum_of out.new)) }
 {
     match on.before {
         Some(before) => match before.get(cells.len()) {
-            Some(cell) => cells.push_step(on.alloc, cell, on.dt, x),
+            Some(cell) => cells.push_step(on.alloc, cell, on.dt, x, out),
             None => Err(Memory),
         },
-        None => first_cell(on, form, constant, x, cells),
+        None => first_cell(on, form, constant, x, cells, out),
     }
 }
 
@@ -280,13 +365,15 @@ fn first_cell<R: Rows>(
     constant: Option<LeafId>,
     x: &Sample,
     cells: &mut Cells,
-) -> Result<Sample, Memory>
-    ensures { IfOk result (λ y. (net : _) → IsCell net form (number_of constant)
+    out: &mut Sample,
+) -> Result<(), Memory>
+    ensures { IfOk result (λ _. (net : _) → IsCell net form (number_of constant)
         → Flows (R.keys on.now.rows.now) net (map datum_of on.now.params.now) None
-        (datum_of x.now) cells.old cells.new (datum_of y)) }
+        (datum_of x.now) cells.old cells.new (datum_of out.new)) }
 {
     let (first, answer) = start_cell(on.alloc, on.rows, form, constant, on.params, x)?;
-    keep(first, answer, cells)
+    out.put(answer);
+    cells.push(first)
 }
 
 /// `accumBy`: it starts, or steps.
@@ -297,33 +384,22 @@ fn flow_accum<R: Rows>(
     z: LeafId,
     x: &Sample,
     cells: &mut Cells,
-) -> Result<Sample, Memory>
-    ensures { IfOk result (λ y. Flows (R.keys on.now.rows.now)
+    out: &mut Sample,
+) -> Result<(), Memory>
+    ensures { IfOk result (λ _. Flows (R.keys on.now.rows.now)
         (accum_by (row_number g) (row_number z))
         (map datum_of on.now.params.now) (past_in on.now.before on.now.dt) (datum_of x.now)
-        cells.old cells.new (datum_of y)) }
+        cells.old cells.new (datum_of out.new)) }
 {
     match on.before {
         Some(before) => match before.get(cells.len()) {
-            Some(cell) => step_accum(on.alloc, on.rows, g, on.params, cell, x, cells),
+            Some(cell) => step_accum(on.alloc, on.rows, g, on.params, cell, x, cells, out),
             None => Err(Memory),
         },
         None => {
             let (first, answer) = start_accum(on.alloc, on.rows, g, z, on.params, x)?;
-            keep(first, answer, cells)
-        }
-    }
-}
-
-/// The cell behind the others, and the answer.
-fn keep(cell: Cell, answer: Sample, cells: &mut Cells) -> Result<Sample, Memory>
-    ensures { IfOk result (λ y. (y ≡ answer) × (cells.new ≡ cells.old ++ cell_of cell ∷ [])) }
-{
-    match cells.push(cell) {
-        Ok(()) => Ok(answer),
-        Err(memory) => {
-            drop(answer);
-            Err(memory)
+            out.put(answer);
+            cells.push(first)
         }
     }
 }

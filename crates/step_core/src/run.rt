@@ -376,7 +376,14 @@ fn flow_over<R: Rows>(
         before,
         dt,
     };
-    flow(&on, net.net(), x, &mut parts.cells)
+    let mut answer = Sample::Int(0);
+    match flow(&on, net.net(), x, &mut parts.cells, &mut answer) {
+        Ok(()) => Ok(answer),
+        Err(memory) => {
+            drop(answer);
+            Err(memory)
+        }
+    }
 }
 
 /// `>>>` by its two parts.

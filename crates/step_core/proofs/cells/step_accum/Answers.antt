@@ -5,5 +5,5 @@ use Rattle.step_core.proofs.cells.step_accum.Goals as goal
 
 pub returns-in_ok-input-in-Some : goal.returns-in_ok-input-in-Some
 returns-in_ok-input-in-Some g c =
-    if_ok c.push_step-answer.result _ _
-    (λ y h. (h.0, h.2, λ d. accum_runs _ _ _ _ _ _ _ _ _ (sym h.1) c.in-Some.ensures c.in_ok-input-in-Some.ensures d)) c.push_step-answer.ensures
+    if_ok c.push_step-done.result _ _
+    (λ y h. (h.0, h.2, λ d. accum_runs _ _ _ _ _ _ _ _ _ (sym h.1) c.in-Some.ensures c.in_ok-input-in-Some.ensures d)) c.push_step-done.ensures

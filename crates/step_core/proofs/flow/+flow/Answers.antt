@@ -14,7 +14,8 @@ use Rattle.step_core.proofs.RunJoins.{if_ok}
 use Rattle.step_core.proofs.flow.+flow.Goals as goal
 
 pub flow-returns-in-Arr : goal.flow-returns-in-Arr
-flow-returns-in-Arr g t c = if_ok c.call.result _ _ (λ y h. arr_where _ _ c.in-Arr.e.0 _ _ _ _ _ (ap rows_in c.in-Arr.is) h) c.call.ensures
+flow-returns-in-Arr g t c =
+    if_ok c.call_into.result _ _ (λ y h. arr_where _ _ c.in-Arr.e.0 _ _ _ _ _ (ap rows_in c.in-Arr.is) h) c.call_into.ensures
 
 pub flow-returns-in-IPre : goal.flow-returns-in-IPre
 flow-returns-in-IPre g t c = if_ok c.flow_cell.result _ _ (λ y h. h _ (cell_by _ _ _ _ (ap rows_in c.in-IPre.is) F.is_i_pre)) c.flow_cell.ensures
@@ -44,31 +45,33 @@ pub flow-returns-in-Integral : goal.flow-returns-in-Integral
 flow-returns-in-Integral g t c =
     if_ok c.flow_cell-in-Integral.result _ _ (λ y h. h _ (cell_by _ _ _ _ (ap rows_in c.in-Integral.is) F.is_integral)) c.flow_cell-in-Integral.ensures
 
-pub flow_seq-returns : goal.flow_seq-returns
-flow_seq-returns g t c =
-    if_ok c.flow-answer.result _ _ (λ y two. seq_flows _ _ _ _ _ _ _ _ _ _ _ c.in_ok-between.ensures two) c.flow-answer.ensures
+pub flow_seq-returns-in-Ok : goal.flow_seq-returns-in-Ok
+flow_seq-returns-in-Ok g t c =
+    if_ok c.flow-done.result _ _ (λ y two. seq_flows _ _ _ _ _ _ _ _ _ _ _ c.in-Ok.ensures two) c.flow-done.ensures
 
-pub flow_first-returns : goal.flow_first-returns
-flow_first-returns g t c =
-    if_ok c.paired_with.result _ _ (λ y e. first_flows _ _ _ _ _ _ _ _ _ _ _ c.first.ensures c.second.ensures e c.in_ok-answer.ensures) c.paired_with.ensures
+pub flow_first-returns-in_ok-both-in-Ok : goal.flow_first-returns-in_ok-both-in-Ok
+flow_first-returns-in_ok-both-in-Ok g t c =
+    first_flows _ _ _ _ _ _ _ _ _ _ _ c.first.ensures c.second.ensures
+    (ap datum_of c.put.ensures ∙ c.in_ok-both-in-Ok.ensures) c.in-Ok.ensures
 
-pub flow_loop-returns : goal.flow_loop-returns
-flow_loop-returns g t c =
+pub flow_loop-returns-in-Ok : goal.flow_loop-returns-in-Ok
+flow_loop-returns-in-Ok g t c =
     if_ok c.keep_fed.result _ _
-    (λ y h. loop_flows _ _ _ _ _ _ _ _ _ _ _ _ _ c.in_ok-input.ensures c.in_ok-answer.ensures h.0
-    (h.1 ∙ ap (λ n. slice_set c.flow-answer.new.cells n (previous (right (datum_of c.in_ok-answer.field-0)))) c.len-at.ensures))
+    (λ y h. loop_flows _ _ _ _ _ _ _ _ _ _ _ _ _ c.in_ok-input.ensures c.in-Ok.ensures h.0
+    (h.1 ∙ ap (λ n. slice_set c.flow-done.new.cells n (previous (right (datum_of c.flow-done.new.out)))) c.len-at.ensures))
     c.keep_fed.ensures
 
-pub flow_par-returns-in-Ok : goal.flow_par-returns-in-Ok
-flow_par-returns-in-Ok g t c =
-    if_ok c.gather.result _ _ (λ y e. par_flows _ _ _ _ _ _ _ _ _ _ c.in-Ok.ensures (ap (map datum_of) c.in_ok-answers.ensures.items) e) c.gather.ensures
+pub flow_par-returns-in_ok-list-in-Ok : goal.flow_par-returns-in_ok-list-in-Ok
+flow_par-returns-in_ok-list-in-Ok g t c =
+    par_flows _ _ _ _ _ _ _ _ _ _ c.in-Ok.ensures (ap (map datum_of) c.in_ok-answers.ensures.items)
+    (ap datum_of c.put.ensures ∙ c.in_ok-list-in-Ok.ensures)
 
-pub flow_each-returns-in_ok-push-in-Some : goal.flow_each-returns-in_ok-push-in-Some
-flow_each-returns-in_ok-push-in-Some g t c =
+pub flow_each-returns-in_ok-push-in-Ok : goal.flow_each-returns-in_ok-push-in-Ok
+flow_each-returns-in_ok-push-in-Ok g t c =
     let form = ap (λ fs. map_networks row_number (members_of fs)) c.in-Some.ensures.cases.0 in
-    let pushed : map datum_of c.push.new.self.items ≡ map datum_of c.args.answers.now.items ++ datum_of c.in_ok-answer-in-Some.answer ∷ [] = grind
+    let pushed : map datum_of c.push.new.self.items ≡ map datum_of c.args.answers.now.items ++ datum_of c.flow.new.out ∷ [] = grind
     (arith, common_steps, map_push datum_of) in
-    if_ok c.flow_each.result _ _ (λ u rest. also_flow _ _ _ _ _ _ _ _ _ _ _ _ _ _ form c.in_ok-answer-in-Some.ensures pushed rest) c.flow_each.ensures
+    if_ok c.flow_each.result _ _ (λ u rest. also_flow _ _ _ _ _ _ _ _ _ _ _ _ _ _ form c.in-Ok.ensures pushed rest) c.flow_each.ensures
 
 pub flow_each-returns-in-None : goal.flow_each-returns-in-None
 flow_each-returns-in-None g t c =

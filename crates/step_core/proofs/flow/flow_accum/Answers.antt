@@ -14,7 +14,7 @@ returns-in-Some-get g c =
 
 pub returns-in_ok-first-in-None : goal.returns-in_ok-first-in-None
 returns-in_ok-first-in-None g c =
-    if_ok c.keep.result _ _
-    (λ y h. accum_starts _ _ _ _ _ _ _ _ _ _ _ h.1 (ap (λ b. past_in b c.args.on.now.dt) c.in-None.is) (ap datum_of h.0)
+    if_ok c.push.result _ _
+    (λ y h. accum_starts _ _ _ _ _ _ _ _ _ _ _ h (ap (λ b. past_in b c.args.on.now.dt) c.in-None.is) (ap datum_of c.put.ensures)
     c.in_ok-first-in-None.ensures)
-    c.keep.ensures
+    c.push.ensures
