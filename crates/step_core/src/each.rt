@@ -12,7 +12,7 @@ ghost use Rattle.step_core.specs.SourceView.{source_of, sources_of};
 
 use crate::count;
 use crate::plan::{Source, Sources};
-use crate::ran::{Ran, round};
+use crate::round::round;
 use leaf_table::LeafId;
 use net_syntax::Net;
 use sample_core::{Memory, Sample};
@@ -106,19 +106,23 @@ impl<'n> Each<'n> {
         self.states.take_place()
     }
 
-    /// One member more, with its state. `Memory` where a growth was refused.
-    pub(crate) fn add(&mut self, one: Ran, state: State<'n>) -> Result<(), Memory>
-        ensures { IfOk result (λ _. IsAdded self.old (led state.entry one) self.new) }
+    /// One member more: its state, its answer and its visits. `Memory` where a growth was refused.
+    pub(crate) fn add(
+        &mut self,
+        state: State<'n>,
+        answer: Sample,
+        visits: u32,
+    ) -> Result<(), Memory>
+        ensures { IfOk result (λ _. IsAdded self.old (led state.entry answer visits) self.new) }
     {
-        let visits = count::both(self.visits, one.visits);
         match self.states.push(state) {
             Ok(()) => {
-                self.answers.push(one.answer)?;
-                self.visits = visits;
+                self.answers.push(answer)?;
+                self.visits = count::both(self.visits, visits);
                 Ok(())
             }
             Err(memory) => {
-                drop(one);
+                drop(answer);
                 Err(memory)
             }
         }
@@ -176,22 +180,16 @@ pub(crate) fn join_par<'n>(
     alloc: Global,
     all: Listed<'n>,
     place: &mut State<'n>,
-) -> Result<Ran, Memory>
-    ensures { IfOk result (λ r. IsRan (led place.new r)
+    out: &mut Sample,
+) -> Result<u32, Memory>
+    ensures { IfOk result (λ n. IsRan (led place.new out.new n)
         (par_state all.entry.states) all.entry.list (suc (all.entry.visits + 0))) }
 {
     let visits = count::node(all.visits(), 0);
     let (states, list) = all.into_parts();
-    match place.put(alloc, Node::Par(states)) {
-        Ok(()) => Ok(Ran {
-            answer: list,
-            visits,
-        }),
-        Err(memory) => {
-            drop(list);
-            Err(memory)
-        }
-    }
+    out.put(list);
+    place.put(alloc, Node::Par(states))?;
+    Ok(visits)
 }
 
 /// `pSwitch` round what its parts led to.
@@ -199,20 +197,21 @@ pub(crate) fn keep_p_switch<'n>(
     alloc: Global,
     r: LeafId,
     all: Listed<'n>,
-    two: Ran,
+    two: u32,
     t: &'n Net<LeafId>,
     env: &Env<'n>,
     place: &mut State<'n>,
-) -> Result<Ran, Memory>
-    ensures { IfOk result (λ o. IsRan (led place.new o)
+    out: &mut Sample,
+) -> Result<u32, Memory>
+    ensures { IfOk result (λ n. IsRan (led place.new out.new n)
         (p_switch_state (row_number r) all.entry.states (first_part (state_of place.old))
         (rows_in t.entry.now) (scope_of env.now))
-        all.entry.list (suc (all.entry.visits + two.visits))) }
+        all.entry.list (suc (all.entry.visits + two))) }
 {
-    let visits = count::node(all.visits(), two.visits);
-    drop(two);
+    let one = all.visits();
     let (states, list) = all.into_parts();
-    round(alloc, Around::PSwitch(r, states, t, env), list, visits, place)
+    out.put(list);
+    round(alloc, Around::PSwitch(r, states, t, env), one, two, place)
 }
 
 /// The first of some members, and those behind it; nothing where there is none.

@@ -12,7 +12,7 @@ ghost use Rattle.step_core.specs.Called.{Called};
 ghost use Rattle.step_core.specs.Flow.{Flows, AllFlow, IsCell, IsFedBack, IsKept, number_of, past_in};
 
 use crate::cells::{start_accum, start_cell, step_accum};
-use crate::part::{beside, first, paired_with, second};
+use crate::part::{beside, first, let_go, paired_with, second};
 use crate::rows::Rows;
 use cell_core::{Cell, Form};
 use leaf_table::LeafId;
@@ -112,21 +112,6 @@ fn flow_seq<R: Rows>(
             Err(memory)
         }
     }
-}
-
-/// Lets a value go. Mostly it is a number, which holds nothing.
-#[inline(always)]
-fn let_go(value: Sample) {
-    match value {
-        Sample::Int(_) => {}
-        value => let_go_on(value),
-    }
-}
-
-/// The same of any value.
-#[inline(never)]
-fn let_go_on(value: Sample) {
-    drop(value);
 }
 
 /// `first`: the second component passes along.

@@ -13,7 +13,7 @@ mod laws;
 mod lowering;
 mod part;
 mod plan;
-mod ran;
+mod round;
 mod rows;
 mod run;
 mod runner;

@@ -81,3 +81,18 @@ pub(crate) fn restart_of(value: &Sample) -> Option<(&Sample, &Sample)>
         _ => None,
     }
 }
+
+/// Lets a value go. Mostly it is a number, which holds nothing.
+#[inline(always)]
+pub(crate) fn let_go(value: Sample) {
+    match value {
+        Sample::Int(_) => {}
+        value => let_go_on(value),
+    }
+}
+
+/// The same of any value.
+#[inline(never)]
+fn let_go_on(value: Sample) {
+    drop(value);
+}

@@ -19,18 +19,15 @@ use crate::count;
 use crate::each::{Each, Listed, count_of, first_of, join_par, keep_p_switch};
 use crate::fire::{fire, fire_old, fire_olds};
 use crate::flow::{Context, flow};
-use crate::part::{beside, first, restart_of, second};
 use crate::plan::{Back, Plan, Route, Source, Sources, plan_of};
-use crate::ran::{
-    Ran, join_first, join_loop, join_seq, keep_d_switch, keep_k_switch, keep_r_switch, keep_switch,
-    take_over, take_over_late,
-};
+use crate::part::{beside, first, let_go, paired_with, restart_of, second};
+use crate::round::{join_loop, keep_first, put_first, round};
 use crate::rows::Rows;
 use leaf_table::LeafId;
 use net_syntax::Net;
 use sample_core::{Memory, Sample};
 use state_core::{
-    Cells, Env, Node, Params, SeqParts, State, StaticNet, StaticParts, StaticState, push_param,
+    Around, Cells, Env, Node, Params, SeqParts, State, StaticNet, StaticParts, StaticState, push_param,
     route, take_first,
 };
 use std::alloc::Global;
@@ -47,27 +44,28 @@ pub(crate) fn run<'n, R: Rows>(
     dt: u64,
     x: &Sample,
     place: &mut State<'n>,
-) -> Result<Ran, Memory>
-    ensures { IfOk result (λ r.
+    out: &mut Sample,
+) -> Result<u32, Memory>
+    ensures { IfOk result (λ n.
         RunsWhere (R.keys rows.now) (source_of from.now dt) (datum_of x.now)
-        (state_of place.new) (datum_of r.answer) r.visits) }
+        (state_of place.new) (datum_of out.new) n) }
 {
     match plan_of(*from) {
         Plan::Static(net, params, before) => run_apart(
-            alloc, rows, net, params, before, dt, x, place,
+            alloc, rows, net, params, before, dt, x, place, out,
         ),
-        Plan::Seq(f, g) => run_seq(alloc, rows, &f, &g, dt, x, place),
-        Plan::First(f) => run_first(alloc, rows, &f, dt, x, place),
-        Plan::Par(fs) => run_par(alloc, rows, fs, dt, x, place),
-        Plan::LoopPre(back, f) => run_loop(alloc, rows, back, &f, dt, x, place),
-        Plan::Switch(f, t, env) => run_switch(alloc, rows, &f, t, env, dt, x, place),
-        Plan::DSwitch(f, t, env) => run_d_switch(alloc, rows, &f, t, env, dt, x, place),
-        Plan::RSwitch(f, t, env) => run_r_switch(alloc, rows, &f, t, env, dt, x, place),
-        Plan::KSwitch(f, e, t, env) => run_k_switch(alloc, rows, &f, &e, t, env, dt, x, place),
+        Plan::Seq(f, g) => run_seq(alloc, rows, &f, &g, dt, x, place, out),
+        Plan::First(f) => run_first(alloc, rows, &f, dt, x, place, out),
+        Plan::Par(fs) => run_par(alloc, rows, fs, dt, x, place, out),
+        Plan::LoopPre(back, f) => run_loop(alloc, rows, back, &f, dt, x, place, out),
+        Plan::Switch(f, t, env) => run_switch(alloc, rows, &f, t, env, dt, x, place, out),
+        Plan::DSwitch(f, t, env) => run_d_switch(alloc, rows, &f, t, env, dt, x, place, out),
+        Plan::RSwitch(f, t, env) => run_r_switch(alloc, rows, &f, t, env, dt, x, place, out),
+        Plan::KSwitch(f, e, t, env) => run_k_switch(alloc, rows, &f, &e, t, env, dt, x, place, out),
         Plan::PSwitch(r, fs, e, t, env) => run_p_switch(
-            alloc, rows, r, fs, &e, t, env, dt, x, place,
+            alloc, rows, r, fs, &e, t, env, dt, x, place, out,
         ),
-        Plan::Old(frozen, step) => run_old(alloc, rows, &frozen, step, x, place),
+        Plan::Old(frozen, step) => run_old(alloc, rows, &frozen, step, x, place, out),
         Plan::Beyond => Err(Memory),
     }
 }
@@ -81,16 +79,17 @@ pub(crate) fn run_top<'n, R: Rows>(
     dt: u64,
     x: &Sample,
     place: &mut State<'n>,
-) -> Result<Ran, Memory>
-    ensures { IfOk result (λ r.
+    out: &mut Sample,
+) -> Result<u32, Memory>
+    ensures { IfOk result (λ n.
         RunsWhere (R.keys rows.now) (source_of from.now dt) (datum_of x.now)
-        (state_of place.new) (datum_of r.answer) r.visits) }
+        (state_of place.new) (datum_of out.new) n) }
 {
     match plan_of(*from) {
         Plan::Static(net, params, before) => run_static(
-            alloc, rows, net, params, before, dt, x, place,
+            alloc, rows, net, params, before, dt, x, place, out,
         ),
-        _ => run(alloc, rows, from, dt, x, place),
+        _ => run(alloc, rows, from, dt, x, place, out),
     }
 }
 
@@ -103,19 +102,23 @@ fn run_part<'n, R: Rows>(
     dt: u64,
     x: &Sample,
     place: &mut State<'n>,
-) -> Result<Ran, Memory>
-    ensures { IfOk result (λ r.
+    out: &mut Sample,
+) -> Result<u32, Memory>
+    ensures { IfOk result (λ n.
         RunsWhere (R.keys rows.now) (source_of from.now dt) (datum_of x.now)
-        (first_part (state_of place.new)) (datum_of r.answer) r.visits) }
+        (first_part (state_of place.new)) (datum_of out.new) n) }
 {
     if let State::Whole(whole) = place {
         if let Some(node) = Rc::get_mut(&mut whole.node) {
-            return run_in_first(alloc, rows, from, dt, x, node);
+            return run_in_first(alloc, rows, from, dt, x, node, out);
         }
     }
     let mut part = State::Nothing;
-    match run(alloc, rows, from, dt, x, &mut part) {
-        Ok(one) => put_first(alloc, part, one, place),
+    match run(alloc, rows, from, dt, x, &mut part, out) {
+        Ok(one) => {
+            place.put(alloc, Node::First(part))?;
+            Ok(one)
+        }
         Err(memory) => {
             drop(part);
             Err(memory)
@@ -132,15 +135,16 @@ fn run_second<'n, R: Rows>(
     dt: u64,
     x: &Sample,
     place: &mut State<'n>,
-) -> Result<Ran, Memory>
-    ensures { IfOk result (λ r.
+    out: &mut Sample,
+) -> Result<u32, Memory>
+    ensures { IfOk result (λ n.
         (first_part (state_of place.new) ≡ first_part (state_of place.old))
         × RunsWhere (R.keys rows.now) (source_of from.now dt) (datum_of x.now)
-        (second_part (state_of place.new)) (datum_of r.answer) r.visits) }
+        (second_part (state_of place.new)) (datum_of out.new) n) }
 {
     if let State::Whole(whole) = place {
         if let Some(node) = Rc::get_mut(&mut whole.node) {
-            return run_in_second(alloc, rows, from, dt, x, node);
+            return run_in_second(alloc, rows, from, dt, x, node, out);
         }
     }
     Err(Memory)
@@ -155,23 +159,24 @@ fn run_in_first<'n, R: Rows>(
     dt: u64,
     x: &Sample,
     node: &mut Node<'n>,
-) -> Result<Ran, Memory>
-    ensures { IfOk result (λ r.
+    out: &mut Sample,
+) -> Result<u32, Memory>
+    ensures { IfOk result (λ n.
         RunsWhere (R.keys rows.now) (source_of from.now dt) (datum_of x.now)
-        (first_part (node_of node.new)) (datum_of r.answer) r.visits) }
+        (first_part (node_of node.new)) (datum_of out.new) n) }
 {
     match node {
-        Node::Seq(parts) => run(alloc, rows, from, dt, x, &mut parts.first),
-        Node::First(part) => run(alloc, rows, from, dt, x, part),
-        Node::LoopPre(parts) => run(alloc, rows, from, dt, x, &mut parts.part),
-        Node::Switch(parts) => run(alloc, rows, from, dt, x, &mut parts.part),
-        Node::DSwitch(parts) => run(alloc, rows, from, dt, x, &mut parts.part),
-        Node::RSwitch(parts) => run(alloc, rows, from, dt, x, &mut parts.part),
-        Node::KSwitch(parts) => run(alloc, rows, from, dt, x, &mut parts.part),
-        Node::PSwitch(parts) => run(alloc, rows, from, dt, x, &mut parts.watch),
+        Node::Seq(parts) => run(alloc, rows, from, dt, x, &mut parts.first, out),
+        Node::First(part) => run(alloc, rows, from, dt, x, part, out),
+        Node::LoopPre(parts) => run(alloc, rows, from, dt, x, &mut parts.part, out),
+        Node::Switch(parts) => run(alloc, rows, from, dt, x, &mut parts.part, out),
+        Node::DSwitch(parts) => run(alloc, rows, from, dt, x, &mut parts.part, out),
+        Node::RSwitch(parts) => run(alloc, rows, from, dt, x, &mut parts.part, out),
+        Node::KSwitch(parts) => run(alloc, rows, from, dt, x, &mut parts.part, out),
+        Node::PSwitch(parts) => run(alloc, rows, from, dt, x, &mut parts.watch, out),
         Node::Par(_) => {
             let mut part = State::Nothing;
-            let one = run(alloc, rows, from, dt, x, &mut part);
+            let one = run(alloc, rows, from, dt, x, &mut part, out);
             drop(std::mem::replace(node, Node::First(part)));
             one
         }
@@ -187,40 +192,22 @@ fn run_in_second<'n, R: Rows>(
     dt: u64,
     x: &Sample,
     node: &mut Node<'n>,
-) -> Result<Ran, Memory>
-    ensures { IfOk result (λ r.
+    out: &mut Sample,
+) -> Result<u32, Memory>
+    ensures { IfOk result (λ n.
         (first_part (node_of node.new) ≡ first_part (node_of node.old))
         × RunsWhere (R.keys rows.now) (source_of from.now dt) (datum_of x.now)
-        (second_part (node_of node.new)) (datum_of r.answer) r.visits) }
+        (second_part (node_of node.new)) (datum_of out.new) n) }
 {
     match node {
-        Node::Seq(parts) => run(alloc, rows, from, dt, x, &mut parts.second),
-        Node::KSwitch(parts) => run(alloc, rows, from, dt, x, &mut parts.watch),
+        Node::Seq(parts) => run(alloc, rows, from, dt, x, &mut parts.second, out),
+        Node::KSwitch(parts) => run(alloc, rows, from, dt, x, &mut parts.watch, out),
         _ => {
             let first = take_first(node);
             let mut second = State::Nothing;
-            let two = run(alloc, rows, from, dt, x, &mut second);
+            let two = run(alloc, rows, from, dt, x, &mut second, out);
             drop(std::mem::replace(node, Node::Seq(SeqParts { first, second })));
             two
-        }
-    }
-}
-
-/// A part's state as the first part of what stands in a place.
-fn put_first<'n>(
-    alloc: Global,
-    part: State<'n>,
-    one: Ran,
-    place: &mut State<'n>,
-) -> Result<Ran, Memory>
-    ensures { IfOk result (λ r. (first_part (state_of place.new) ≡ state_of part.entry)
-        × (r ≡ one)) }
-{
-    match place.put(alloc, Node::First(part)) {
-        Ok(()) => Ok(one),
-        Err(memory) => {
-            drop(one);
-            Err(memory)
         }
     }
 }
@@ -236,13 +223,14 @@ fn run_apart<'n, R: Rows>(
     dt: u64,
     x: &Sample,
     place: &mut State<'n>,
-) -> Result<Ran, Memory>
-    ensures { IfOk result (λ r.
+    out: &mut Sample,
+) -> Result<u32, Memory>
+    ensures { IfOk result (λ n.
         RunsBy (R.keys rows.now)
         (λ w. IsFlow w (rows_in net.entry.net.now) params.now (past_in before.entry dt))
-        (datum_of x.now) (led place.new r)) }
+        (datum_of x.now) (led place.new out.new n)) }
 {
-    run_static(alloc, rows, net, params, before, dt, x, place)
+    run_static(alloc, rows, net, params, before, dt, x, place, out)
 }
 
 /// A sample of a network without switches.
@@ -256,36 +244,31 @@ pub(crate) fn run_static<'n, R: Rows>(
     dt: u64,
     x: &Sample,
     place: &mut State<'n>,
-) -> Result<Ran, Memory>
-    ensures { IfOk result (λ r.
+    out: &mut Sample,
+) -> Result<u32, Memory>
+    ensures { IfOk result (λ n.
         RunsBy (R.keys rows.now)
         (λ w. IsFlow w (rows_in net.entry.net.now) params.now (past_in before.entry dt))
-        (datum_of x.now) (led place.new r)) }
+        (datum_of x.now) (led place.new out.new n)) }
 {
     if let State::Static(there, _) = place {
         *there = net;
     }
     match place {
         State::Static(_, kept) => {
-            let answer = flow_kept(alloc, rows, net, params, before, dt, x, kept)?;
-            Ok(Ran {
-                answer,
-                visits: net.nodes(),
-            })
+            flow_kept(alloc, rows, net, params, before, dt, x, kept, out)?;
+            Ok(net.nodes())
         }
         other => {
-            let (kept, answer) = flow_anew(alloc, rows, net, params, before, dt, x)?;
+            let kept = flow_anew(alloc, rows, net, params, before, dt, x, out)?;
             drop(std::mem::replace(other, State::Static(net, kept)));
-            Ok(Ran {
-                answer,
-                visits: net.nodes(),
-            })
+            Ok(net.nodes())
         }
     }
 }
 
-/// What a network without switches answers. What it keeps then comes into the place of what was
-/// kept, whose memory it takes where no one else holds that.
+/// Puts out what a network without switches answers. What it keeps then comes into the place of
+/// what was kept, whose memory it takes where no one else holds that.
 #[inline(always)]
 fn flow_kept<R: Rows>(
     alloc: Global,
@@ -296,17 +279,18 @@ fn flow_kept<R: Rows>(
     dt: u64,
     x: &Sample,
     kept: &mut StaticState,
-) -> Result<Sample, Memory>
-    ensures { IfOk result (λ y. (kept.new.0 ≡ params.now) × FlowsThrough (R.keys rows.now)
+    out: &mut Sample,
+) -> Result<(), Memory>
+    ensures { IfOk result (λ _. (kept.new.0 ≡ params.now) × FlowsThrough (R.keys rows.now)
         (rows_in net.entry.net.now) params.now (past_in before.entry dt) (datum_of x.now) kept.new.1
-        (datum_of y)) }
+        (datum_of out.new)) }
 {
     if let Some(parts) = kept.get_mut() {
-        return flow_over(alloc, rows, net, params, before, dt, x, parts);
+        return flow_over(alloc, rows, net, params, before, dt, x, parts, out);
     }
-    let (fresh, answer) = flow_anew(alloc, rows, net, params, before, dt, x)?;
+    let fresh = flow_anew(alloc, rows, net, params, before, dt, x, out)?;
     drop(std::mem::replace(kept, fresh));
-    Ok(answer)
+    Ok(())
 }
 
 /// The same in memory of its own.
@@ -319,14 +303,15 @@ fn flow_anew<R: Rows>(
     before: Option<&Cells>,
     dt: u64,
     x: &Sample,
-) -> Result<(StaticState, Sample), Memory>
-    ensures { IfOk result (λ r. (r.0.0 ≡ params.now) × FlowsThrough (R.keys rows.now)
-        (rows_in net.entry.net.now) params.now (past_in before.entry dt) (datum_of x.now) r.0.1
-        (datum_of r.1)) }
+    out: &mut Sample,
+) -> Result<StaticState, Memory>
+    ensures { IfOk result (λ k. (k.0 ≡ params.now) × FlowsThrough (R.keys rows.now)
+        (rows_in net.entry.net.now) params.now (past_in before.entry dt) (datum_of x.now) k.1
+        (datum_of out.new)) }
 {
     let mut parts = StaticParts::none(alloc);
-    match flow_over(alloc, rows, net, params, before, dt, x, &mut parts) {
-        Ok(answer) => with_kept(alloc, parts, answer),
+    match flow_over(alloc, rows, net, params, before, dt, x, &mut parts, out) {
+        Ok(()) => StaticState::new(alloc, parts),
         Err(memory) => {
             drop(parts);
             Err(memory)
@@ -334,25 +319,7 @@ fn flow_anew<R: Rows>(
     }
 }
 
-/// What is kept, to be shared, and an answer. `Memory` where a growth was refused.
-fn with_kept(
-    alloc: Global,
-    parts: StaticParts,
-    answer: Sample,
-) -> Result<(StaticState, Sample), Memory>
-    ensures { IfOk result
-        (λ r. (r.0.0 ≡ parts.params) × (r.0.1 ≡ parts.cells) × (r.1 ≡ answer)) }
-{
-    match StaticState::new(alloc, parts) {
-        Ok(kept) => Ok((kept, answer)),
-        Err(memory) => {
-            drop(answer);
-            Err(memory)
-        }
-    }
-}
-
-/// What the network answers; what it keeps then comes into that place.
+/// Puts out what the network answers; what it keeps then comes into that place.
 #[inline(always)]
 fn flow_over<R: Rows>(
     alloc: Global,
@@ -363,10 +330,11 @@ fn flow_over<R: Rows>(
     dt: u64,
     x: &Sample,
     parts: &mut StaticParts,
-) -> Result<Sample, Memory>
-    ensures { IfOk result (λ y. (parts.new.params ≡ params.now) × FlowsThrough (R.keys rows.now)
+    out: &mut Sample,
+) -> Result<(), Memory>
+    ensures { IfOk result (λ _. (parts.new.params ≡ params.now) × FlowsThrough (R.keys rows.now)
         (rows_in net.entry.net.now) params.now (past_in before.entry dt) (datum_of x.now)
-        parts.new.cells (datum_of y)) }
+        parts.new.cells (datum_of out.new)) }
 {
     parts.renew(params)?;
     let on = Context {
@@ -376,14 +344,7 @@ fn flow_over<R: Rows>(
         before,
         dt,
     };
-    let mut answer = Sample::Int(0);
-    match flow(&on, net.net(), x, &mut parts.cells, &mut answer) {
-        Ok(()) => Ok(answer),
-        Err(memory) => {
-            drop(answer);
-            Err(memory)
-        }
-    }
+    flow(&on, net.net(), x, &mut parts.cells, out)
 }
 
 /// `>>>` by its two parts.
@@ -397,17 +358,22 @@ fn run_seq<'n, R: Rows>(
     dt: u64,
     x: &Sample,
     place: &mut State<'n>,
-) -> Result<Ran, Memory>
-    ensures { IfOk result (λ r.
+    out: &mut Sample,
+) -> Result<u32, Memory>
+    ensures { IfOk result (λ n.
         RunsBy (R.keys rows.now)
         (λ w. SeqBy w (source_of f.now dt) (source_of g.now dt))
-        (datum_of x.now) (led place.new r)) }
+        (datum_of x.now) (led place.new out.new n)) }
 {
-    let one = run_part(alloc, rows, f, dt, x, place)?;
-    match run_second(alloc, rows, g, dt, &one.answer, place) {
-        Ok(two) => join_seq(alloc, one, two, place),
+    let mut between = Sample::Int(0);
+    match run_part(alloc, rows, f, dt, x, place, &mut between) {
+        Ok(one) => {
+            let two = run_second(alloc, rows, g, dt, &between, place, out);
+            let_go(between);
+            round(alloc, Around::Seq, one, two?, place)
+        }
         Err(memory) => {
-            drop(one);
+            drop(between);
             Err(memory)
         }
     }
@@ -423,14 +389,25 @@ fn run_first<'n, R: Rows>(
     dt: u64,
     x: &Sample,
     place: &mut State<'n>,
-) -> Result<Ran, Memory>
-    ensures { IfOk result (λ r.
+    out: &mut Sample,
+) -> Result<u32, Memory>
+    ensures { IfOk result (λ n.
         RunsBy (R.keys rows.now)
         (λ w. FirstBy w (source_of f.now dt))
-        (datum_of x.now) (led place.new r)) }
+        (datum_of x.now) (led place.new out.new n)) }
 {
-    let one = run_part(alloc, rows, f, dt, first(x), place)?;
-    join_first(alloc, one, second(x), place)
+    let mut answer = Sample::Int(0);
+    match run_part(alloc, rows, f, dt, first(x), place, &mut answer) {
+        Ok(one) => {
+            let both = paired_with(alloc, answer, second(x))?;
+            out.put(both);
+            round(alloc, Around::First, one, 0, place)
+        }
+        Err(memory) => {
+            drop(answer);
+            Err(memory)
+        }
+    }
 }
 
 /// `parB` by its members.
@@ -443,14 +420,15 @@ fn run_par<'n, R: Rows>(
     dt: u64,
     x: &Sample,
     place: &mut State<'n>,
-) -> Result<Ran, Memory>
-    ensures { IfOk result (λ r.
+    out: &mut Sample,
+) -> Result<u32, Memory>
+    ensures { IfOk result (λ n.
         RunsBy (R.keys rows.now)
         (λ w. ParBy w (sources_of fs.entry dt))
-        (datum_of x.now) (led place.new r)) }
+        (datum_of x.now) (led place.new out.new n)) }
 {
     let all = run_all(alloc, rows, Route::ToAll, fs, dt, x, place)?;
-    join_par(alloc, all, place)
+    join_par(alloc, all, place, out)
 }
 
 /// `loopPre` by what is fed back and its part.
@@ -464,17 +442,25 @@ fn run_loop<'n, R: Rows>(
     dt: u64,
     x: &Sample,
     place: &mut State<'n>,
-) -> Result<Ran, Memory>
-    ensures { IfOk result (λ r.
+    out: &mut Sample,
+) -> Result<u32, Memory>
+    ensures { IfOk result (λ n.
         RunsBy (R.keys rows.now)
         (λ w. (keys : List KeyTree) (u : Datum) → IsFed keys back.entry u
         → LoopBy keys w u (source_of f.now dt))
-        (datum_of x.now) (led place.new r)) }
+        (datum_of x.now) (led place.new out.new n)) }
 {
     let input = fed(alloc, rows, back, x)?;
-    let one = run_part(alloc, rows, f, dt, &input, place);
+    let mut answer = Sample::Int(0);
+    let one = run_part(alloc, rows, f, dt, &input, place, &mut answer);
     drop(input);
-    join_loop(alloc, one?, place)
+    match one {
+        Ok(one) => join_loop(alloc, one, answer, place, out),
+        Err(memory) => {
+            drop(answer);
+            Err(memory)
+        }
+    }
 }
 
 /// `switch` by its part, the network that takes over and its scope.
@@ -489,22 +475,29 @@ fn run_switch<'n, R: Rows>(
     dt: u64,
     x: &Sample,
     place: &mut State<'n>,
-) -> Result<Ran, Memory>
-    ensures { IfOk result (λ r.
+    out: &mut Sample,
+) -> Result<u32, Memory>
+    ensures { IfOk result (λ n.
         RunsBy (R.keys rows.now)
         (λ w. SwitchBy w (source_of f.now dt) (rows_in t.entry.now) (scope_of env.now))
-        (datum_of x.now) (led place.new r)) }
+        (datum_of x.now) (led place.new out.new n)) }
 {
-    let one = run_part(alloc, rows, f, dt, x, place)?;
-    match fire(alloc, second(&one.answer), env) {
-        Ok(Some(inner)) => {
-            let before = count::node(one.visits, 0);
-            drop(one);
-            run_over(alloc, rows, before, t, inner, x, place)
-        }
-        Ok(None) => keep_switch(alloc, one, t, env, place),
+    let mut answer = Sample::Int(0);
+    match run_part(alloc, rows, f, dt, x, place, &mut answer) {
+        Ok(one) => match fire(alloc, second(&answer), env) {
+            Ok(Some(inner)) => {
+                drop(answer);
+                let before = count::node(one, 0);
+                run_over(alloc, rows, before, t, inner, x, place, out)
+            }
+            Ok(None) => keep_first(alloc, Around::Switch(t, env), one, answer, place, out),
+            Err(memory) => {
+                drop(answer);
+                Err(memory)
+            }
+        },
         Err(memory) => {
-            drop(one);
+            drop(answer);
             Err(memory)
         }
     }
@@ -522,18 +515,25 @@ fn run_d_switch<'n, R: Rows>(
     dt: u64,
     x: &Sample,
     place: &mut State<'n>,
-) -> Result<Ran, Memory>
-    ensures { IfOk result (λ r.
+    out: &mut Sample,
+) -> Result<u32, Memory>
+    ensures { IfOk result (λ n.
         RunsBy (R.keys rows.now)
         (λ w. DSwitchBy w (source_of f.now dt) (rows_in t.entry.now) (scope_of env.now))
-        (datum_of x.now) (led place.new r)) }
+        (datum_of x.now) (led place.new out.new n)) }
 {
-    let one = run_part(alloc, rows, f, dt, x, place)?;
-    match fire(alloc, second(&one.answer), env) {
-        Ok(Some(inner)) => run_late(alloc, rows, one, t, inner, x, place),
-        Ok(None) => keep_d_switch(alloc, one, t, env, place),
+    let mut answer = Sample::Int(0);
+    match run_part(alloc, rows, f, dt, x, place, &mut answer) {
+        Ok(one) => match fire(alloc, second(&answer), env) {
+            Ok(Some(inner)) => run_late(alloc, rows, one, answer, t, inner, x, place, out),
+            Ok(None) => keep_first(alloc, Around::DSwitch(t, env), one, answer, place, out),
+            Err(memory) => {
+                drop(answer);
+                Err(memory)
+            }
+        },
         Err(memory) => {
-            drop(one);
+            drop(answer);
             Err(memory)
         }
     }
@@ -551,22 +551,23 @@ fn run_r_switch<'n, R: Rows>(
     dt: u64,
     x: &Sample,
     place: &mut State<'n>,
-) -> Result<Ran, Memory>
-    ensures { IfOk result (λ r.
+    out: &mut Sample,
+) -> Result<u32, Memory>
+    ensures { IfOk result (λ n.
         RunsBy (R.keys rows.now)
         (λ w. RSwitchBy w (source_of f.now dt) (rows_in t.entry.now) (scope_of env.now))
-        (datum_of x.now) (led place.new r)) }
+        (datum_of x.now) (led place.new out.new n)) }
 {
     match restart_of(x) {
         Some((u, event)) => {
             let inner = push_param(alloc, env, event)?;
-            let one = run_part(alloc, rows, &Source::Net(t, &inner), 0, u, place);
+            let one = run_part(alloc, rows, &Source::Net(t, &inner), 0, u, place, out);
             drop(inner);
-            keep_r_switch(alloc, one?, t, env, place)
+            round(alloc, Around::RSwitch(t, env), one?, 0, place)
         }
         None => {
-            let one = run_part(alloc, rows, f, dt, first(x), place)?;
-            keep_r_switch(alloc, one, t, env, place)
+            let one = run_part(alloc, rows, f, dt, first(x), place, out)?;
+            round(alloc, Around::RSwitch(t, env), one, 0, place)
         }
     }
 }
@@ -584,31 +585,30 @@ fn run_k_switch<'n, R: Rows>(
     dt: u64,
     x: &Sample,
     place: &mut State<'n>,
-) -> Result<Ran, Memory>
-    ensures { IfOk result (λ r.
+    out: &mut Sample,
+) -> Result<u32, Memory>
+    ensures { IfOk result (λ n.
         RunsBy (R.keys rows.now)
         (λ w. KSwitchBy w (source_of f.now dt) (source_of e.now dt) (rows_in t.entry.now)
         (scope_of env.now))
-        (datum_of x.now) (led place.new r)) }
+        (datum_of x.now) (led place.new out.new n)) }
 {
-    let one = run_part(alloc, rows, f, dt, x, place)?;
-    match run_watch(alloc, rows, e, dt, x, &one.answer, place) {
-        Ok(two) => match fire_old(alloc, &two.answer, env, *f, dt) {
-            Ok(Some(inner)) => {
-                let before = count::node(one.visits, two.visits);
-                drop(one);
-                drop(two);
-                run_over(alloc, rows, before, t, inner, x, place)
+    let one = run_part(alloc, rows, f, dt, x, place, out)?;
+    let mut event = Sample::Int(0);
+    match run_watch(alloc, rows, e, dt, x, out, place, &mut event) {
+        Ok(two) => {
+            let fired = fire_old(alloc, &event, env, *f, dt);
+            drop(event);
+            match fired? {
+                Some(inner) => {
+                    let before = count::node(one, two);
+                    run_over(alloc, rows, before, t, inner, x, place, out)
+                }
+                None => round(alloc, Around::KSwitch(t, env), one, two, place),
             }
-            Ok(None) => keep_k_switch(alloc, one, two, t, env, place),
-            Err(memory) => {
-                drop(one);
-                drop(two);
-                Err(memory)
-            }
-        },
+        }
         Err(memory) => {
-            drop(one);
+            drop(event);
             Err(memory)
         }
     }
@@ -629,30 +629,35 @@ fn run_p_switch<'n, R: Rows>(
     dt: u64,
     x: &Sample,
     place: &mut State<'n>,
-) -> Result<Ran, Memory>
-    ensures { IfOk result (λ o.
+    out: &mut Sample,
+) -> Result<u32, Memory>
+    ensures { IfOk result (λ n.
         RunsBy (R.keys rows.now)
         (λ w. PSwitchBy w (row_number r) (sources_of fs.entry dt) (source_of e.now dt)
         (rows_in t.entry.now) (scope_of env.now))
-        (datum_of x.now) (led place.new o)) }
+        (datum_of x.now) (led place.new out.new n)) }
 {
     let all = run_all(alloc, rows, Route::ByRow(r, &env.params), fs, dt, x, place)?;
-    match run_members_watch(alloc, rows, e, dt, x, all.list(), place) {
-        Ok(two) => match fire_olds(alloc, &two.answer, env, fs, dt) {
-            Ok(Some(inner)) => {
-                let before = count::node(all.visits(), two.visits);
-                drop(all);
-                drop(two);
-                run_over(alloc, rows, before, t, inner, x, place)
+    let mut event = Sample::Int(0);
+    match run_members_watch(alloc, rows, e, dt, x, all.list(), place, &mut event) {
+        Ok(two) => {
+            let fired = fire_olds(alloc, &event, env, fs, dt);
+            drop(event);
+            match fired {
+                Ok(Some(inner)) => {
+                    let before = count::node(all.visits(), two);
+                    drop(all);
+                    run_over(alloc, rows, before, t, inner, x, place, out)
+                }
+                Ok(None) => keep_p_switch(alloc, r, all, two, t, env, place, out),
+                Err(memory) => {
+                    drop(all);
+                    Err(memory)
+                }
             }
-            Ok(None) => keep_p_switch(alloc, r, all, two, t, env, place),
-            Err(memory) => {
-                drop(all);
-                drop(two);
-                Err(memory)
-            }
-        },
+        }
         Err(memory) => {
+            drop(event);
             drop(all);
             Err(memory)
         }
@@ -669,18 +674,15 @@ fn run_old<'n, R: Rows>(
     step: u64,
     x: &Sample,
     place: &mut State<'n>,
-) -> Result<Ran, Memory>
-    ensures { IfOk result (λ r.
+    out: &mut Sample,
+) -> Result<u32, Memory>
+    ensures { IfOk result (λ n.
         RunsBy (R.keys rows.now)
         (λ w. OldBy w (source_of frozen.now step))
-        (datum_of x.now) (led place.new r)) }
+        (datum_of x.now) (led place.new out.new n)) }
 {
-    let over = run(alloc, rows, frozen, step, x, place)?;
-    let visits = count::node(over.visits, 0);
-    Ok(Ran {
-        answer: over.answer,
-        visits,
-    })
+    let over = run(alloc, rows, frozen, step, x, place, out)?;
+    Ok(count::node(over, 0))
 }
 
 /// The network takes over after so many visits.
@@ -694,14 +696,15 @@ fn run_over<'n, R: Rows>(
     env: Env<'n>,
     x: &Sample,
     place: &mut State<'n>,
-) -> Result<Ran, Memory>
-    ensures { IfOk result (λ r.
+    out: &mut Sample,
+) -> Result<u32, Memory>
+    ensures { IfOk result (λ n.
         TakesOver (R.keys rows.now) before (rows_in t.entry.now) (scope_of env.entry)
-        (datum_of x.now) (led place.new r)) }
+        (datum_of x.now) (led place.new out.new n)) }
 {
-    let over = run(alloc, rows, &Source::Net(t, &env), 0, x, place);
+    let over = run(alloc, rows, &Source::Net(t, &env), 0, x, place, out);
     drop(env);
-    Ok(take_over(before, over?))
+    Ok(count::both(before, over?))
 }
 
 /// The network takes over from a `dSwitch`, whose part still answers.
@@ -710,22 +713,29 @@ fn run_over<'n, R: Rows>(
 fn run_late<'n, R: Rows>(
     alloc: Global,
     rows: &R,
-    one: Ran,
+    one: u32,
+    answer: Sample,
     t: &'n Net<LeafId>,
     env: Env<'n>,
     x: &Sample,
     place: &mut State<'n>,
-) -> Result<Ran, Memory>
-    ensures { IfOk result (λ r.
-        TakesOverLate (R.keys rows.now) (datum_of one.answer) one.visits
-        (rows_in t.entry.now) (scope_of env.entry) (datum_of x.now) (led place.new r)) }
+    out: &mut Sample,
+) -> Result<u32, Memory>
+    ensures { IfOk result (λ n.
+        TakesOverLate (R.keys rows.now) (datum_of answer) one
+        (rows_in t.entry.now) (scope_of env.entry) (datum_of x.now) (led place.new out.new n)) }
 {
-    let over = run(alloc, rows, &Source::Net(t, &env), 0, x, place);
+    let mut unseen = Sample::Int(0);
+    let over = run(alloc, rows, &Source::Net(t, &env), 0, x, place, &mut unseen);
     drop(env);
+    drop(unseen);
     match over {
-        Ok(over) => take_over_late(alloc, one, over),
+        Ok(over) => {
+            put_first(alloc, answer, out)?;
+            Ok(count::node(one, over))
+        }
         Err(memory) => {
-            drop(one);
+            drop(answer);
             Err(memory)
         }
     }
@@ -741,14 +751,15 @@ fn run_watch<'n, R: Rows>(
     x: &Sample,
     y: &Sample,
     place: &mut State<'n>,
-) -> Result<Ran, Memory>
-    ensures { IfOk result (λ r.
+    out: &mut Sample,
+) -> Result<u32, Memory>
+    ensures { IfOk result (λ n.
         (first_part (state_of place.new) ≡ first_part (state_of place.old))
         × RunsWhere (R.keys rows.now) (source_of e.now dt) (pair (datum_of x.now) (datum_of y.now))
-        (second_part (state_of place.new)) (datum_of r.answer) r.visits) }
+        (second_part (state_of place.new)) (datum_of out.new) n) }
 {
     let seen = beside(alloc, x, y)?;
-    let two = run_second(alloc, rows, e, dt, &seen, place);
+    let two = run_second(alloc, rows, e, dt, &seen, place, out);
     drop(seen);
     two
 }
@@ -763,13 +774,14 @@ fn run_members_watch<'n, R: Rows>(
     x: &Sample,
     y: &Sample,
     place: &mut State<'n>,
-) -> Result<Ran, Memory>
-    ensures { IfOk result (λ r.
+    out: &mut Sample,
+) -> Result<u32, Memory>
+    ensures { IfOk result (λ n.
         RunsWhere (R.keys rows.now) (source_of e.now dt) (pair (datum_of x.now) (datum_of y.now))
-        (first_part (state_of place.new)) (datum_of r.answer) r.visits) }
+        (first_part (state_of place.new)) (datum_of out.new) n) }
 {
     let seen = beside(alloc, x, y)?;
-    let two = run_part(alloc, rows, e, dt, &seen, place);
+    let two = run_part(alloc, rows, e, dt, &seen, place, out);
     drop(seen);
     two
 }
@@ -831,13 +843,15 @@ fn run_each<'n, R: Rows>(
     match first_of(members) {
         Some((f, rest)) => {
             let mut place = each.take_place();
-            match run_member(on, i, &f, &mut place) {
-                Ok(one) => {
-                    each.add(one, place)?;
+            let mut answer = Sample::Int(0);
+            match run_member(on, i, &f, &mut place, &mut answer) {
+                Ok(visits) => {
+                    each.add(place, answer, visits)?;
                     run_each(on, i.wrapping_add(1), rest, each)
                 }
                 Err(memory) => {
                     drop(place);
+                    drop(answer);
                     Err(memory)
                 }
             }
@@ -853,17 +867,18 @@ fn run_member<'n, R: Rows>(
     i: u32,
     f: &Source<'_, 'n>,
     place: &mut State<'n>,
-) -> Result<Ran, Memory>
-    ensures { IfOk result (λ one.
+    out: &mut Sample,
+) -> Result<u32, Memory>
+    ensures { IfOk result (λ n.
         RunsMember (R.keys on.now.rows.now) (router_of on.now.router) i (source_of f.now on.now.dt)
-        (datum_of on.now.x.now) (led place.new one)) }
+        (datum_of on.now.x.now) (led place.new out.new n)) }
 {
     match on.router {
-        Route::ToAll => run(on.alloc, on.rows, f, on.dt, on.x, place),
+        Route::ToAll => run(on.alloc, on.rows, f, on.dt, on.x, place, out),
         Route::ByRow(r, params) => {
             let input = routed(on.alloc, on.rows, r, params, i, on.x)?;
-            let one = run(on.alloc, on.rows, f, on.dt, &input, place);
-            drop(input);
+            let one = run(on.alloc, on.rows, f, on.dt, &input, place, out);
+            let_go(input);
             one
         }
     }

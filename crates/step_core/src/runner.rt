@@ -87,16 +87,18 @@ impl<'a> Runner<'a> {
             Some(state) => Source::State(state),
             None => Source::Net(self.bound.net(), &env),
         };
-        match run_top(self.alloc, self.table, &from, step, sample, &mut place) {
-            Ok(ran) => {
+        let mut answer = Sample::Int(0);
+        match run_top(self.alloc, self.table, &from, step, sample, &mut place, &mut answer) {
+            Ok(visits) => {
                 let before = self.state.replace(place);
                 drop(std::mem::replace(&mut self.place, place_of(before)));
                 self.samples += 1;
-                self.visits = ran.visits;
-                Ok(ran.answer)
+                self.visits = visits;
+                Ok(answer)
             }
             Err(memory) => {
                 drop(place);
+                drop(answer);
                 Err(memory)
             }
         }

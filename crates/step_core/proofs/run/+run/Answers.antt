@@ -105,35 +105,37 @@ run-returns-in-Old g t c = if_ok c.run_old.result _ _ (λ r h. h _ (c.in-Old.ens
 pub run-returns-in-Static : goal.run-returns-in-Static
 run-returns-in-Static g t c = if_ok c.run_apart.result _ _ (λ r h. h _ (c.in-Static.ensures c.args.dt)) c.run_apart.ensures
 
-pub run_seq-returns-in-Ok : goal.run_seq-returns-in-Ok
-run_seq-returns-in-Ok g t c =
-    if_ok c.join_seq.result _ _
-    (λ r j w h. seq_joined _ w _ _ _ _ (outcome (first_part (state_of c.run_second.new.place)) (datum_of c.in_ok-one.one.answer) c.in_ok-one.one.visits)
-    (outcome (second_part (state_of c.run_second.new.place)) (datum_of c.in-Ok.two.answer) c.in-Ok.two.visits) (led c.join_seq.new.place r) h
-    (stays _ _ _ _ _ _ _ c.in-Ok.ensures.0 c.in_ok-one.ensures) refl c.in-Ok.ensures.1 j) c.join_seq.ensures
+pub run_seq-returns-in_ok-two-in-Ok : goal.run_seq-returns-in_ok-two-in-Ok
+run_seq-returns-in_ok-two-in-Ok g t c =
+    if_ok c.round.result _ _
+    (λ n j w h. seq_joined _ w _ _ _ _ (outcome (first_part (state_of c.run_second-two.new.place)) (datum_of c.run_part.new.out) c.in-Ok.one)
+    (outcome (second_part (state_of c.run_second-two.new.place)) (datum_of c.run_second-two.new.out) c.in_ok-two-in-Ok.field-0)
+    (led c.round.new.place c.run_second-two.new.out n) h
+    (stays _ _ _ _ _ _ _ c.in_ok-two-in-Ok.ensures.0 c.in-Ok.ensures) refl c.in_ok-two-in-Ok.ensures.1 (j.0, refl, j.1)) c.round.ensures
 
-pub run_first-returns : goal.run_first-returns
-run_first-returns g t c =
-    if_ok c.join_first.result _ _
-    (λ r j w h. first_joined _ w _ _ _ _ (outcome (first_part (state_of c.run_part.new.place)) (datum_of c.in_ok-one.one.answer) c.in_ok-one.one.visits)
-    (led c.join_first.new.place r) h c.first.ensures c.second.ensures c.in_ok-one.ensures j) c.join_first.ensures
+pub run_first-returns-in_ok-both-in-Ok : goal.run_first-returns-in_ok-both-in-Ok
+run_first-returns-in_ok-both-in-Ok g t c =
+    if_ok c.round.result _ _
+    (λ n j w h. first_joined _ w _ _ _ _ (outcome (first_part (state_of c.run_part.new.place)) (datum_of c.run_part.new.out) c.in-Ok.one) (led c.round.new.place c.put.new.self n) h c.first.ensures c.second.ensures c.in-Ok.ensures
+    (j.0, ap datum_of c.put.ensures ∙ c.in_ok-both-in-Ok.ensures, j.1)) c.round.ensures
 
 pub run_par-returns : goal.run_par-returns
 run_par-returns g t c =
     if_ok c.join_par.result _ _
-    (λ r j w h. par_joined _ w _ _ _ _ _ (led c.join_par.new.place r) h refl c.in_ok-all.ensures.1 c.in_ok-all.ensures.2 j) c.join_par.ensures
+    (λ n j w h. par_joined _ w _ _ _ _ _ (led c.join_par.new.place c.join_par.new.out n) h refl c.in_ok-all.ensures.1 c.in_ok-all.ensures.2 j)
+    c.join_par.ensures
 
 pub run_old-returns : goal.run_old-returns
 run_old-returns g t c =
-    λ w h. old_over _ w _ _ (outcome (state_of c.run.new.place) (datum_of c.in_ok-over.over.answer) c.in_ok-over.over.visits)
-    (outcome (state_of c.run.new.place) (datum_of c.in_ok-over.over.answer) c.node-visits.result) h c.in_ok-over.ensures
-    (refl, refl, c.node-visits.ensures)
+    λ w h. old_over _ w _ _ (outcome (state_of c.run.new.place) (datum_of c.run.new.out) c.in_ok-over.over)
+    (outcome (state_of c.run.new.place) (datum_of c.run.new.out) c.node.result) h c.in_ok-over.ensures
+    (refl, refl, c.node.ensures)
 
-pub run_loop-returns : goal.run_loop-returns
-run_loop-returns g t c =
+pub run_loop-returns-in-Ok : goal.run_loop-returns-in-Ok
+run_loop-returns-in-Ok g t c =
     if_ok c.join_loop.result _ _
-    (λ r j w h. loop_joined _ w _ _ _ _ (outcome (first_part (state_of c.run_part-one.new.place)) (datum_of c.in_ok-one.field-0.answer) c.in_ok-one.field-0.visits)
-    (led c.join_loop.new.place r) (h _ _ c.in_ok-input.ensures.1) c.in_ok-input.ensures.2 c.in_ok-one.ensures j)
+    (λ n j w h. loop_joined _ w _ _ _ _ (outcome (first_part (state_of c.run_part-one.new.place)) (datum_of c.run_part-one.new.out) c.in-Ok.one)
+    (led c.join_loop.new.place c.join_loop.new.out n) (h _ _ c.in_ok-input.ensures.1) c.in_ok-input.ensures.2 c.in-Ok.ensures j)
     c.join_loop.ensures
 
 pub run_switch-run_over-requires : goal.run_switch-run_over-requires
@@ -145,15 +147,15 @@ pub run_switch-returns-in-Ok-Some : goal.run_switch-returns-in-Ok-Some
 run_switch-returns-in-Ok-Some g t c =
     let fires = fires_by _ _ (push_param (scope_of c.args.env.now)) _ _ c.second.ensures c.in-Ok-Some.field-0-is c.in-Ok-Some.ensures in
     if_ok c.run_over.result _ _
-    (λ r k w h. switch_over _ w _ _ _ (scope_of c.in-Ok-Some.inner) _ fires.0 (outcome (first_part (state_of c.run_part.new.place)) (datum_of c.in_ok-one.one.answer) c.in_ok-one.one.visits)
-    k.0 (led c.run_over.new.place r) _ h c.in_ok-one.ensures fires.1 fires.2 k.1 _ refl c.node-before.ensures k.2) c.run_over.ensures
+    (λ n k w h. switch_over _ w _ _ _ (scope_of c.in-Ok-Some.inner) _ fires.0 (outcome (first_part (state_of c.run_part.new.place)) (datum_of c.run_part.new.out) c.in-Ok.one)
+    k.0 (led c.run_over.new.place c.run_over.new.out n) _ h c.in-Ok.ensures fires.1 fires.2 k.1 _ refl c.node-before.ensures k.2) c.run_over.ensures
 
 pub run_switch-returns-in-Ok-None : goal.run_switch-returns-in-Ok-None
 run_switch-returns-in-Ok-None g t c =
     let fires = fires_by _ _ (push_param (scope_of c.args.env.now)) _ _ c.second.ensures c.in-Ok-None.field-0-is c.in-Ok-None.ensures in
-    if_ok c.keep_switch.result _ _
-    (λ r j w h. switch_kept _ w _ _ _ _ (outcome (first_part (state_of c.run_part.new.place)) (datum_of c.in_ok-one.one.answer) c.in_ok-one.one.visits)
-    (led c.keep_switch.new.place r) h c.in_ok-one.ensures fires j) c.keep_switch.ensures
+    if_ok c.keep_first.result _ _
+    (λ n j w h. switch_kept _ w _ _ _ _ (outcome (first_part (state_of c.run_part.new.place)) (datum_of c.run_part.new.out) c.in-Ok.one)
+    (led c.keep_first.new.place c.keep_first.new.out n) h c.in-Ok.ensures fires j) c.keep_first.ensures
 
 pub run_d_switch-run_late-requires : goal.run_d_switch-run_late-requires
 run_d_switch-run_late-requires g t c κs within =
@@ -164,65 +166,65 @@ pub run_d_switch-returns-in-Ok-Some : goal.run_d_switch-returns-in-Ok-Some
 run_d_switch-returns-in-Ok-Some g t c =
     let fires = fires_by _ _ (push_param (scope_of c.args.env.now)) _ _ c.second.ensures c.in-Ok-Some.field-0-is c.in-Ok-Some.ensures in
     if_ok c.run_late.result _ _
-    (λ r k w h. d_switch_over _ w _ _ _ (scope_of c.in-Ok-Some.inner) _ fires.0 (outcome (first_part (state_of c.run_part.new.place)) (datum_of c.in_ok-one.one.answer) c.in_ok-one.one.visits)
-    k.0 (led c.run_late.new.place r) h c.in_ok-one.ensures fires.1 fires.2 k.1 k.2) c.run_late.ensures
+    (λ n k w h. d_switch_over _ w _ _ _ (scope_of c.in-Ok-Some.inner) _ fires.0 (outcome (first_part (state_of c.run_part.new.place)) (datum_of c.run_part.new.out) c.in-Ok.one)
+    k.0 (led c.run_late.new.place c.run_late.new.out n) h c.in-Ok.ensures fires.1 fires.2 k.1 k.2) c.run_late.ensures
 
 pub run_d_switch-returns-in-Ok-None : goal.run_d_switch-returns-in-Ok-None
 run_d_switch-returns-in-Ok-None g t c =
     let fires = fires_by _ _ (push_param (scope_of c.args.env.now)) _ _ c.second.ensures c.in-Ok-None.field-0-is c.in-Ok-None.ensures in
-    if_ok c.keep_d_switch.result _ _
-    (λ r j w h. d_switch_kept _ w _ _ _ _ (outcome (first_part (state_of c.run_part.new.place)) (datum_of c.in_ok-one.one.answer) c.in_ok-one.one.visits)
-    (led c.keep_d_switch.new.place r) h c.in_ok-one.ensures fires j) c.keep_d_switch.ensures
+    if_ok c.keep_first.result _ _
+    (λ n j w h. d_switch_kept _ w _ _ _ _ (outcome (first_part (state_of c.run_part.new.place)) (datum_of c.run_part.new.out) c.in-Ok.one)
+    (led c.keep_first.new.place c.keep_first.new.out n) h c.in-Ok.ensures fires j) c.keep_first.ensures
 
 pub run_r_switch-returns-in_ok-one-in-Some : goal.run_r_switch-returns-in_ok-one-in-Some
 run_r_switch-returns-in_ok-one-in-Some g t c =
     let cut = sym c.restart_of.ensures ∙ ap restart_found c.in-Some.is in
-    if_ok c.keep_r_switch.result _ _
-    (λ r j w h. r_switch_over _ w _ _ _ (scope_of c.in_ok-inner-in-Some.inner) _ _ _
-    (outcome (first_part (state_of c.run_part-one.new.place)) (datum_of c.in_ok-one-in-Some.field-0.answer) c.in_ok-one-in-Some.field-0.visits)
-    (led c.keep_r_switch.new.place r) h cut c.in_ok-inner-in-Some.ensures c.in_ok-one-in-Some.ensures j) c.keep_r_switch.ensures
+    if_ok c.round.result _ _
+    (λ n j w h. r_switch_over _ w _ _ _ (scope_of c.in_ok-inner-in-Some.inner) _ _ _
+    (outcome (first_part (state_of c.run_part-one.new.place)) (datum_of c.run_part-one.new.out) c.in_ok-one-in-Some.field-0)
+    (led c.round.new.place c.run_part-one.new.out n) h cut c.in_ok-inner-in-Some.ensures c.in_ok-one-in-Some.ensures (j.0, refl, j.1)) c.round.ensures
 
 pub run_r_switch-returns-in_ok-one-in-None : goal.run_r_switch-returns-in_ok-one-in-None
 run_r_switch-returns-in_ok-one-in-None g t c =
     let cut = sym c.restart_of.ensures ∙ ap restart_found c.in-None.is in
-    if_ok c.keep_r_switch-in-None.result _ _
-    (λ r j w h. r_switch_kept _ w _ _ _ _ _
-    (outcome (first_part (state_of c.run_part.new.place)) (datum_of c.in_ok-one-in-None.one.answer) c.in_ok-one-in-None.one.visits)
-    (led c.keep_r_switch-in-None.new.place r) h c.first.ensures cut c.in_ok-one-in-None.ensures j) c.keep_r_switch-in-None.ensures
+    if_ok c.round-in-None.result _ _
+    (λ n j w h. r_switch_kept _ w _ _ _ _ _
+    (outcome (first_part (state_of c.run_part.new.place)) (datum_of c.run_part.new.out) c.in_ok-one-in-None.one)
+    (led c.round-in-None.new.place c.run_part.new.out n) h c.first.ensures cut c.in_ok-one-in-None.ensures (j.0, refl, j.1)) c.round-in-None.ensures
 
 pub run_k_switch-run_over-requires : goal.run_k_switch-run_over-requires
 run_k_switch-run_over-requires g t c κs within =
     let fires = fires_by _ _ (λ u. push_old (push_param (scope_of c.args.env.now) u) (source_of c.args.f.now c.args.dt)) _ _ refl
-    c.in-Ok-Some.field-0-is c.in-Ok-Some.ensures in (
+    c.in-Some.is c.in_ok-inner-in-Ok.ensures in (
       omega (
         arith,
         c.decreases,
-        over_old_weighs (rows_in c.args.t.now) (scope_of c.args.env.now) (scope_of c.in-Ok-Some.inner) fires.0
+        over_old_weighs (rows_in c.args.t.now) (scope_of c.args.env.now) (scope_of c.in-Some.inner) fires.0
             (source_of c.args.f.now c.args.dt) fires.2,
       ),
       search rules,
     )
 
-pub run_k_switch-returns-in-Ok-Some : goal.run_k_switch-returns-in-Ok-Some
-run_k_switch-returns-in-Ok-Some g t c =
+pub run_k_switch-returns-in-Some : goal.run_k_switch-returns-in-Some
+run_k_switch-returns-in-Some g t c =
     let fires = fires_by _ _ (λ u. push_old (push_param (scope_of c.args.env.now) u) (source_of c.args.f.now c.args.dt)) _ _ refl
-    c.in-Ok-Some.field-0-is c.in-Ok-Some.ensures in
+    c.in-Some.is c.in_ok-inner-in-Ok.ensures in
     if_ok c.run_over.result _ _
-    (λ r k w h. k_switch_over _ w _ _ _ _ (scope_of c.in-Ok-Some.inner) _ _ fires.0 (outcome (first_part (state_of c.run_watch.new.place)) (datum_of c.in_ok-one.one.answer) c.in_ok-one.one.visits)
-    (outcome (second_part (state_of c.run_watch.new.place)) (datum_of c.in-Ok.two.answer) c.in-Ok.two.visits)
-    k.0 (led c.run_over.new.place r) _ h (stays _ _ _ _ _ _ _ c.in-Ok.ensures.0 c.in_ok-one.ensures)
+    (λ n k w h. k_switch_over _ w _ _ _ _ (scope_of c.in-Some.inner) _ _ fires.0 (outcome (first_part (state_of c.run_watch.new.place)) (datum_of c.run_part.new.out) c.in_ok-one.one)
+    (outcome (second_part (state_of c.run_watch.new.place)) (datum_of c.run_watch.new.out) c.in-Ok.two)
+    k.0 (led c.run_over.new.place c.run_over.new.out n) _ h (stays _ _ _ _ _ _ _ c.in-Ok.ensures.0 c.in_ok-one.ensures)
     refl c.in-Ok.ensures.1 fires.1 fires.2 k.1 _ refl _ refl
     c.node-before.ensures k.2) c.run_over.ensures
 
-pub run_k_switch-returns-in-Ok-None : goal.run_k_switch-returns-in-Ok-None
-run_k_switch-returns-in-Ok-None g t c =
+pub run_k_switch-returns-in-None : goal.run_k_switch-returns-in-None
+run_k_switch-returns-in-None g t c =
     let fires = fires_by _ _ (λ u. push_old (push_param (scope_of c.args.env.now) u) (source_of c.args.f.now c.args.dt)) _ _ refl
-    c.in-Ok-None.field-0-is c.in-Ok-None.ensures in
-    if_ok c.keep_k_switch.result _ _
-    (λ r j w h. k_switch_kept _ w _ _ _ _ _ _ (outcome (first_part (state_of c.run_watch.new.place)) (datum_of c.in_ok-one.one.answer) c.in_ok-one.one.visits)
-    (outcome (second_part (state_of c.run_watch.new.place)) (datum_of c.in-Ok.two.answer) c.in-Ok.two.visits)
-    (led c.keep_k_switch.new.place r) h (stays _ _ _ _ _ _ _ c.in-Ok.ensures.0 c.in_ok-one.ensures) refl
-    c.in-Ok.ensures.1 fires j) c.keep_k_switch.ensures
+    c.in-None.is c.in_ok-inner-in-Ok.ensures in
+    if_ok c.round.result _ _
+    (λ n j w h. k_switch_kept _ w _ _ _ _ _ _ (outcome (first_part (state_of c.run_watch.new.place)) (datum_of c.run_part.new.out) c.in_ok-one.one)
+    (outcome (second_part (state_of c.run_watch.new.place)) (datum_of c.run_watch.new.out) c.in-Ok.two)
+    (led c.round.new.place c.run_part.new.out n) h (stays _ _ _ _ _ _ _ c.in-Ok.ensures.0 c.in_ok-one.ensures) refl
+    c.in-Ok.ensures.1 fires (j.0, refl, j.1)) c.round.ensures
 
 pub run_p_switch-run_over-requires : goal.run_p_switch-run_over-requires
 run_p_switch-run_over-requires g t c κs within =
@@ -242,7 +244,8 @@ run_p_switch-returns-in-Ok-Some g t c =
     let fires = fires_by _ _ (λ u. push_olds (push_param (scope_of c.args.env.now) u) (sources_of c.args.fs c.args.dt)) _ _ refl
     c.in-Ok-Some.field-0-is c.in-Ok-Some.ensures in
     if_ok c.run_over.result _ _
-    (λ r k w h. p_switch_over _ w _ _ _ _ _ _ (scope_of c.in-Ok-Some.inner) _ _ fires.0 _ _ _ (outcome (first_part (state_of c.run_members_watch.new.place)) (datum_of c.in-Ok.two.answer) c.in-Ok.two.visits) k.0 (led c.run_over.new.place r) _ h refl refl
+    (λ n k w h. p_switch_over _ w _ _ _ _ _ _ (scope_of c.in-Ok-Some.inner) _ _ fires.0 _ _ _ (outcome (first_part (state_of c.run_members_watch.new.place)) (datum_of c.run_members_watch.new.out) c.in-Ok.two) k.0
+    (led c.run_over.new.place c.run_over.new.out n) _ h refl refl
     c.in_ok-all.ensures.1 c.in_ok-all.ensures.2 (ap (pair (datum_of c.args.x.now)) c.list.ensures) c.in-Ok.ensures fires.1 fires.2 k.1 _ c.visits.ensures _
     refl c.node-before.ensures k.2) c.run_over.ensures
 
@@ -251,30 +254,31 @@ run_p_switch-returns-in-Ok-None g t c =
     let fires = fires_by _ _ (λ u. push_olds (push_param (scope_of c.args.env.now) u) (sources_of c.args.fs c.args.dt)) _ _ refl
     c.in-Ok-None.field-0-is c.in-Ok-None.ensures in
     if_ok c.keep_p_switch.result _ _
-    (λ r j w h. p_switch_kept _ w _ _ _ _ _ _ _ _ _ _ _ (outcome (first_part (state_of c.run_members_watch.new.place)) (datum_of c.in-Ok.two.answer) c.in-Ok.two.visits) (led c.keep_p_switch.new.place r) h refl refl c.in_ok-all.ensures.1 c.in_ok-all.ensures.2
-    (ap (pair (datum_of c.args.x.now)) c.list.ensures) c.in-Ok.ensures fires j) c.keep_p_switch.ensures
+    (λ n j w h. p_switch_kept _ w _ _ _ _ _ _ _ _ _ _ _ (outcome (first_part (state_of c.run_members_watch.new.place)) (datum_of c.run_members_watch.new.out) c.in-Ok.two) (led c.keep_p_switch.new.place c.keep_p_switch.new.out n) h refl refl
+    c.in_ok-all.ensures.1 c.in_ok-all.ensures.2 (ap (pair (datum_of c.args.x.now)) c.list.ensures) c.in-Ok.ensures fires j) c.keep_p_switch.ensures
 
 pub run_over-returns : goal.run_over-returns
 run_over-returns g t c = (
-  outcome (state_of c.run-over.new.place) (datum_of c.in_ok-over.field-0.answer) c.in_ok-over.field-0.visits,
+  outcome (state_of c.run-over.new.place) (datum_of c.run-over.new.out) c.in_ok-over.field-0,
   c.in_ok-over.ensures,
-  (refl, c.take_over.ensures.answer, c.take_over.ensures.visits),
+  (refl, refl, c.both.ensures),
 )
 
-pub run_late-returns-in-Ok : goal.run_late-returns-in-Ok
-run_late-returns-in-Ok g t c =
-    if_ok c.take_over_late.result _ _
-    (λ r j. (outcome (state_of c.run-over.new.place) (datum_of c.in-Ok.over.answer) c.in-Ok.over.visits, c.in-Ok.ensures, (refl, j.0, j.1)))
-    c.take_over_late.ensures
+pub run_late-returns-in_ok-put_first-in-Ok : goal.run_late-returns-in_ok-put_first-in-Ok
+run_late-returns-in_ok-put_first-in-Ok g t c = (
+  outcome (state_of c.run-over.new.place) (datum_of c.run-over.new.out) c.in-Ok.over,
+  c.in-Ok.ensures,
+  (refl, c.in_ok-put_first-in-Ok.ensures, c.node.ensures),
+)
 
 pub run_member-returns-in-ToAll : goal.run_member-returns-in-ToAll
 run_member-returns-in-ToAll g t c =
-    if_ok c.run.result _ _ (λ r k. member_ran _ to_all _ c.args.i _ _ _ (led c.run.new.place r) (ap router_of c.in-ToAll.is) refl k) c.run.ensures
+    if_ok c.run.result _ _ (λ r k. member_ran _ to_all _ c.args.i _ _ _ (led c.run.new.place c.run.new.out r) (ap router_of c.in-ToAll.is) refl k) c.run.ensures
 
 pub run_member-returns-in_ok-input-in-ByRow : goal.run_member-returns-in_ok-input-in-ByRow
 run_member-returns-in_ok-input-in-ByRow g t c =
     if_ok c.run-one.result _ _
-    (λ r k. member_ran _ (by_row (row_number c.in-ByRow.r) c.in-ByRow.params.now) _ c.args.i _ _ _ (led c.run-one.new.place r) (ap router_of c.in-ByRow.is) c.in_ok-input-in-ByRow.ensures
+    (λ r k. member_ran _ (by_row (row_number c.in-ByRow.r) c.in-ByRow.params.now) _ c.args.i _ _ _ (led c.run-one.new.place c.run-one.new.out r) (ap router_of c.in-ByRow.is) c.in_ok-input-in-ByRow.ensures
     k)
     c.run-one.ensures
 
@@ -287,7 +291,7 @@ run_each-returns-in_ok-add-in-Ok g t c =
     (λ u hs. subst (λ z. RunEachWhere (g.R.Rows.keys c.args.on.now.rows.now) (router_of c.args.on.now.router) c.args.i
     (sources_of c.args.members c.args.on.now.dt) (datum_of c.args.on.now.x.now) z c.run_each.new.each)
     c.take_place-place.ensures (also_run _ (router_of c.args.on.now.router) c.args.i _ _ _ _ _ c.in-Ok.ensures.0
-    (led c.run_member.new.place c.in-Ok.one) _ _ _ (c.in-Some.ensures c.args.on.now.dt)
+    (led c.run_member.new.place c.run_member.new.out c.in-Ok.visits) _ _ _ (c.in-Some.ensures c.args.on.now.dt)
     c.in-Ok.ensures.1 c.in-Ok.ensures.2 c.in_ok-add-in-Ok.ensures (next_number c.args.i) hs))
     c.run_each.ensures
 

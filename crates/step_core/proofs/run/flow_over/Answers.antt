@@ -1,11 +1,15 @@
 use Rattle.std.proofs.Common.{ap, refl}
 use Rattle.state_core.specs.RowsView.{rows_in}
 use Rattle.step_core.proofs.Flows.{flows_whole}
+use Rattle.step_core.proofs.RunJoins.{if_ok}
 use Rattle.step_core.proofs.run.flow_over.Goals as goal
 
-pub returns-in-Ok : goal.returns-in-Ok
-returns-in-Ok g c = (
-  c.in_ok-renew.ensures.params,
-  flows_whole _ _ _ _ _ _ _ _ _ _ _ _ (ap rows_in c.net.ensures.same) c.as_slice.ensures c.in-Ok.ensures
-      c.in_ok-renew.ensures.cells c.net.ensures.fixed refl refl,
-)
+pub returns : goal.returns
+returns g c =
+    if_ok c.flow.result _ _
+    (λ u f. (
+      c.in_ok-renew.ensures.params,
+      flows_whole _ _ _ _ _ _ _ _ _ _ _ _ (ap rows_in c.net.ensures.same) c.as_slice.ensures f
+          c.in_ok-renew.ensures.cells c.net.ensures.fixed refl refl,
+    ))
+    c.flow.ensures

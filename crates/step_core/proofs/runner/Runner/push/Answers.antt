@@ -13,14 +13,14 @@ use Rattle.step_core.proofs.runner.Runner.push.Goals as goal
 
 -- the next output, whether or not this is the first sample
 after_push : (g : _) (c : After-drop g) → Pushes (runner_state c.args.self.now) (c.args.step, datum_of c.args.sample.now)
-    (datum_of c.in-Ok.ran.answer)
+    (datum_of c.run_top.new.out)
     (record {
       input = c.args.self.now.bound.now.input;
       keys = rows_of c.args.self.now.table.now;
       rows = c.args.self.now.bound.now.rows;
       state = state_in c.replace-before.new.self;
       samples = c.args.self.now.samples + 1;
-      visits = c.in-Ok.ran.visits;
+      visits = c.in-Ok.visits;
     })
 after_push g c =
     pushed_as (runner_state c.args.self.now) _ _ _ _ _ _ _ _ (ap state_in c.replace-before.ensures.after)
@@ -28,10 +28,10 @@ after_push g c =
     (elim c.match-self.branch [
       | in-Some w ↦ next_pushed (runner_state c.args.self.now) _ _ _ _ _ (ap state_in w.in-Some.is) c.requires.typed
           (subst (λ o. RunsWhere (rows_of c.args.self.now.table.now) (source_of o c.args.step) (datum_of c.args.sample.now) (state_of c.run_top.new.place)
-          (datum_of c.in-Ok.ran.answer) c.in-Ok.ran.visits) w.from-is c.in-Ok.ensures)
+          (datum_of c.run_top.new.out) c.in-Ok.visits) w.from-is c.in-Ok.ensures)
       | in-None w ↦ first_pushed_from (runner_state c.args.self.now) _ _ _ _ _ _ (ap state_in w.in-None.is) c.requires.typed w.net.ensures c.nothing-env.ensures
           (subst (λ o. RunsWhere (rows_of c.args.self.now.table.now) (source_of o c.args.step) (datum_of c.args.sample.now) (state_of c.run_top.new.place)
-          (datum_of c.in-Ok.ran.answer) c.in-Ok.ran.visits) w.from-is c.in-Ok.ensures)
+          (datum_of c.run_top.new.out) c.in-Ok.visits) w.from-is c.in-Ok.ensures)
     ])
 
 pub returns-in-Ok-clause-pushed : goal.returns-in-Ok-clause-pushed

@@ -1,0 +1,86 @@
+// Nodes round what their parts led to.
+
+ghost use Rattle.std.specs.Prelude.{◌≡◌, ◌+◌, ◌<◌, ◌^◌, suc, IfOk};
+ghost use Rattle.sample_core.specs.Datum.{left, right};
+ghost use Rattle.sample_core.specs.ValueView.{datum_of};
+ghost use Rattle.state_core.specs.Around.{first_part, node_round};
+ghost use Rattle.state_core.specs.State.{loop_state};
+ghost use Rattle.state_core.specs.StateView.{state_of};
+ghost use Rattle.step_core.specs.Outcome.{IsRan, led};
+
+use crate::count;
+use crate::part::{first, second};
+use sample_core::{Memory, Sample};
+use state_core::{Around, State};
+use std::alloc::Global;
+
+/// The node round the parts that stand in the place. Answers its visits and those of its parts.
+#[inline(always)]
+pub(crate) fn round<'n>(
+    alloc: Global,
+    around: Around<'_, 'n>,
+    one: u32,
+    two: u32,
+    place: &mut State<'n>,
+) -> Result<u32, Memory>
+    ensures { IfOk result (λ n.
+        (state_of place.new ≡ node_round around.entry (state_of place.old))
+        × (suc (one + two) < 2 ^ 32 → n ≡ suc (one + two))) }
+{
+    place.put_round(alloc, around)?;
+    Ok(count::node(one, two))
+}
+
+/// Puts out the first part of a pair, or another value itself. `Memory` only where a count of
+/// references is full.
+pub(crate) fn put_first(alloc: Global, answer: Sample, out: &mut Sample) -> Result<(), Memory>
+    ensures { IfOk result (λ _. datum_of out.new ≡ left (datum_of answer)) }
+{
+    let kept = first(&answer).try_copy(alloc);
+    drop(answer);
+    out.put(kept?);
+    Ok(())
+}
+
+/// The same round a part whose answer's first part goes out.
+#[inline(always)]
+pub(crate) fn keep_first<'n>(
+    alloc: Global,
+    around: Around<'_, 'n>,
+    one: u32,
+    answer: Sample,
+    place: &mut State<'n>,
+    out: &mut Sample,
+) -> Result<u32, Memory>
+    ensures { IfOk result (λ n. IsRan (led place.new out.new n)
+        (node_round around.entry (state_of place.old)) (left (datum_of answer)) (suc (one + 0))) }
+{
+    match put_first(alloc, answer, out) {
+        Ok(()) => round(alloc, around, one, 0, place),
+        Err(memory) => {
+            drop(around);
+            Err(memory)
+        }
+    }
+}
+
+/// `loopPre` round its part, with the second part of its answer fed back next.
+pub(crate) fn join_loop<'n>(
+    alloc: Global,
+    one: u32,
+    answer: Sample,
+    place: &mut State<'n>,
+    out: &mut Sample,
+) -> Result<u32, Memory>
+    ensures { IfOk result (λ n. IsRan (led place.new out.new n)
+        (loop_state (right (datum_of answer)) (first_part (state_of place.old)))
+        (left (datum_of answer)) (suc (one + 0))) }
+{
+    match second(&answer).try_copy(alloc) {
+        Ok(fed_back) => keep_first(alloc, Around::LoopPre(fed_back), one, answer, place, out),
+        Err(memory) => {
+            drop(answer);
+            Err(memory.into())
+        }
+    }
+}
