@@ -91,11 +91,7 @@ impl<'n> State<'n> {
 
 /// The node round the parts of another one, in its place.
 #[inline(always)]
-fn put_round<'n>(
-    alloc: Global,
-    node: &mut Node<'n>,
-    around: Around<'_, 'n>,
-) -> Result<(), Memory>
+fn put_round<'n>(alloc: Global, node: &mut Node<'n>, around: Around<'_, 'n>) -> Result<(), Memory>
     ensures { OnOk result (node_of node.new ≡ node_round around.entry (node_of node.old)) }
 {
     match around {
@@ -122,8 +118,8 @@ fn put_seq<'n>(node: &mut Node<'n>) -> Result<(), Memory>
     match node {
         Node::Seq(_) => Ok(()),
         _ => {
-            let first = take_first(node);
-            let second = take_second(node);
+            let first = node.take_first();
+            let second = node.take_second();
             drop(std::mem::replace(node, Node::Seq(SeqParts { first, second })));
             Ok(())
         }
@@ -138,7 +134,7 @@ fn put_first<'n>(node: &mut Node<'n>) -> Result<(), Memory>
     match node {
         Node::First(_) => Ok(()),
         _ => {
-            let part = take_first(node);
+            let part = node.take_first();
             drop(std::mem::replace(node, Node::First(part)));
             Ok(())
         }
@@ -166,7 +162,7 @@ fn put_loop<'n>(node: &mut Node<'n>, fed_back: Sample) -> Result<(), Memory>
     match node {
         Node::LoopPre(parts) => drop(std::mem::replace(&mut parts.fed_back, fed_back)),
         _ => {
-            let part = take_first(node);
+            let part = node.take_first();
             let parts = LoopParts { fed_back, part };
             drop(std::mem::replace(node, Node::LoopPre(parts)));
         }
@@ -176,11 +172,7 @@ fn put_loop<'n>(node: &mut Node<'n>, fed_back: Sample) -> Result<(), Memory>
 
 /// `switch`.
 #[inline(always)]
-fn put_switch<'n>(
-    node: &mut Node<'n>,
-    net: &'n Net<LeafId>,
-    env: &Env<'n>,
-) -> Result<(), Memory>
+fn put_switch<'n>(node: &mut Node<'n>, net: &'n Net<LeafId>, env: &Env<'n>) -> Result<(), Memory>
     ensures { OnOk result (node_of node.new
         ≡ switch_state (first_part (node_of node.old)) (rows_in net.entry.now) (scope_of env.now)) }
 {
@@ -196,11 +188,7 @@ fn put_switch<'n>(
 
 /// `dSwitch`.
 #[inline(always)]
-fn put_d_switch<'n>(
-    node: &mut Node<'n>,
-    net: &'n Net<LeafId>,
-    env: &Env<'n>,
-) -> Result<(), Memory>
+fn put_d_switch<'n>(node: &mut Node<'n>, net: &'n Net<LeafId>, env: &Env<'n>) -> Result<(), Memory>
     ensures { OnOk result (node_of node.new ≡ d_switch_state (first_part (node_of node.old))
         (rows_in net.entry.now) (scope_of env.now)) }
 {
@@ -216,11 +204,7 @@ fn put_d_switch<'n>(
 
 /// `rSwitch`.
 #[inline(always)]
-fn put_r_switch<'n>(
-    node: &mut Node<'n>,
-    net: &'n Net<LeafId>,
-    env: &Env<'n>,
-) -> Result<(), Memory>
+fn put_r_switch<'n>(node: &mut Node<'n>, net: &'n Net<LeafId>, env: &Env<'n>) -> Result<(), Memory>
     ensures { OnOk result (node_of node.new ≡ r_switch_state (first_part (node_of node.old))
         (rows_in net.entry.now) (scope_of env.now)) }
 {
@@ -236,11 +220,7 @@ fn put_r_switch<'n>(
 
 /// `kSwitch`.
 #[inline(always)]
-fn put_k_switch<'n>(
-    node: &mut Node<'n>,
-    net: &'n Net<LeafId>,
-    env: &Env<'n>,
-) -> Result<(), Memory>
+fn put_k_switch<'n>(node: &mut Node<'n>, net: &'n Net<LeafId>, env: &Env<'n>) -> Result<(), Memory>
     ensures { OnOk result (node_of node.new ≡ k_switch_state (first_part (node_of node.old))
         (second_part (node_of node.old)) (rows_in net.entry.now) (scope_of env.now)) }
 {
@@ -251,8 +231,8 @@ fn put_k_switch<'n>(
         }
         _ => {
             let env = env.try_copy()?;
-            let part = take_first(node);
-            let watch = take_second(node);
+            let part = node.take_first();
+            let watch = node.take_second();
             let parts = KSwitchParts {
                 part,
                 watch,
@@ -299,7 +279,7 @@ fn new_p_switch<'n>(
 {
     match env.try_copy() {
         Ok(env) => {
-            let watch = take_first(node);
+            let watch = node.take_first();
             let parts = PSwitchParts {
                 router,
                 members,
@@ -364,37 +344,39 @@ fn new_parts<'n>(
         × (r.net.now ≡ net.entry.now) × (scope_of r.env ≡ scope_of env.now)) }
 {
     let env = env.try_copy()?;
-    let part = take_first(node);
+    let part = node.take_first();
     Ok(SwitchParts { part, net, env })
 }
 
-/// The first part of a node, in whose place nothing stands then; the second stays.
-#[inline(never)]
-pub fn take_first<'n>(node: &mut Node<'n>) -> State<'n>
-    ensures taken { state_of result ≡ first_part (node_of node.old) }
-    ensures left { second_part (node_of node.new) ≡ second_part (node_of node.old) }
-{
-    match node {
-        Node::Seq(parts) => std::mem::replace(&mut parts.first, State::Nothing),
-        Node::First(part) => std::mem::replace(part, State::Nothing),
-        Node::LoopPre(parts) => std::mem::replace(&mut parts.part, State::Nothing),
-        Node::Switch(parts) => std::mem::replace(&mut parts.part, State::Nothing),
-        Node::DSwitch(parts) => std::mem::replace(&mut parts.part, State::Nothing),
-        Node::RSwitch(parts) => std::mem::replace(&mut parts.part, State::Nothing),
-        Node::KSwitch(parts) => std::mem::replace(&mut parts.part, State::Nothing),
-        Node::PSwitch(parts) => std::mem::replace(&mut parts.watch, State::Nothing),
-        Node::Par(_) => State::Nothing,
+impl<'n> Node<'n> {
+    /// The first part, in whose place nothing stands then; the second stays.
+    #[inline(never)]
+    pub fn take_first(&mut self) -> State<'n>
+        ensures taken { state_of result ≡ first_part (node_of self.old) }
+        ensures left { second_part (node_of self.new) ≡ second_part (node_of self.old) }
+    {
+        match self {
+            Node::Seq(parts) => std::mem::replace(&mut parts.first, State::Nothing),
+            Node::First(part) => std::mem::replace(part, State::Nothing),
+            Node::LoopPre(parts) => std::mem::replace(&mut parts.part, State::Nothing),
+            Node::Switch(parts) => std::mem::replace(&mut parts.part, State::Nothing),
+            Node::DSwitch(parts) => std::mem::replace(&mut parts.part, State::Nothing),
+            Node::RSwitch(parts) => std::mem::replace(&mut parts.part, State::Nothing),
+            Node::KSwitch(parts) => std::mem::replace(&mut parts.part, State::Nothing),
+            Node::PSwitch(parts) => std::mem::replace(&mut parts.watch, State::Nothing),
+            Node::Par(_) => State::Nothing,
+        }
     }
-}
 
-/// The second part of a node, likewise.
-#[inline(never)]
-fn take_second<'n>(node: &mut Node<'n>) -> State<'n>
-    ensures { state_of result ≡ second_part (node_of node.old) }
-{
-    match node {
-        Node::Seq(parts) => std::mem::replace(&mut parts.second, State::Nothing),
-        Node::KSwitch(parts) => std::mem::replace(&mut parts.watch, State::Nothing),
-        _ => State::Nothing,
+    /// The second part, in whose place nothing stands then.
+    #[inline(never)]
+    fn take_second(&mut self) -> State<'n>
+        ensures { state_of result ≡ second_part (node_of self.old) }
+    {
+        match self {
+            Node::Seq(parts) => std::mem::replace(&mut parts.second, State::Nothing),
+            Node::KSwitch(parts) => std::mem::replace(&mut parts.watch, State::Nothing),
+            _ => State::Nothing,
+        }
     }
 }

@@ -19,10 +19,6 @@ if_ok (Err e) P Q f h = h
 pub fires_by : (v i : Datum) (into : Datum → Scope ℕ) (o q : Option Env) → i ≡ v → o ≡ q → Fires i into o → Fires v into q
 fires_by v i into o q e f h = subst (λ (z : Option Env). Fires v into z) f (subst (λ z. Fires z into o) e h)
 
--- a state, an answer and visits as an outcome
-abbrev pub outcome : State ℕ → Datum → ℕ → Outcome
-outcome a y n = record { state = a; answer = y; visits = n }
-
 module _ (keys : List KeyTree) where
   -- what a part led to, where its state stays
   pub stays : (p : Frozen ℕ) (x y : Datum) (a b : State ℕ) (n : ℕ) → b ≡ a → RunsWhere keys p x a y n → RunsWhere keys p x b y n

@@ -7,7 +7,7 @@ ghost use Rattle.state_core.specs.RowsView.{rows_in, row_number};
 ghost use Rattle.state_core.specs.State.{no_state, and_state, no_frozen, and_frozen, par_state, p_switch_state};
 ghost use Rattle.state_core.specs.Around.{first_part};
 ghost use Rattle.state_core.specs.StateView.{state_of, scope_of, append_states};
-ghost use Rattle.step_core.specs.Outcome.{IsRan, IsListed, IsAdded, led};
+ghost use Rattle.step_core.specs.Outcome.{IsRan, IsListed, IsAdded, outcome};
 ghost use Rattle.step_core.specs.SourceView.{source_of, sources_of};
 
 use crate::count;
@@ -113,7 +113,7 @@ impl<'n> Each<'n> {
         answer: Sample,
         visits: u32,
     ) -> Result<(), Memory>
-        ensures { IfOk result (λ _. IsAdded self.old (led state.entry answer visits) self.new) }
+        ensures { IfOk result (λ _. IsAdded self.old (outcome (state_of state.entry) (datum_of answer) visits) self.new) }
     {
         match self.states.push(state) {
             Ok(()) => {
@@ -182,7 +182,7 @@ pub(crate) fn join_par<'n>(
     place: &mut State<'n>,
     out: &mut Sample,
 ) -> Result<u32, Memory>
-    ensures { IfOk result (λ n. IsRan (led place.new out.new n)
+    ensures { IfOk result (λ n. IsRan (outcome (state_of place.new) (datum_of out.new) n)
         (par_state all.entry.states) all.entry.list (suc (all.entry.visits + 0))) }
 {
     let visits = count::node(all.visits(), 0);
@@ -203,7 +203,7 @@ pub(crate) fn keep_p_switch<'n>(
     place: &mut State<'n>,
     out: &mut Sample,
 ) -> Result<u32, Memory>
-    ensures { IfOk result (λ n. IsRan (led place.new out.new n)
+    ensures { IfOk result (λ n. IsRan (outcome (state_of place.new) (datum_of out.new) n)
         (p_switch_state (row_number r) all.entry.states (first_part (state_of place.old))
         (rows_in t.entry.now) (scope_of env.now))
         all.entry.list (suc (all.entry.visits + two))) }

@@ -6,7 +6,7 @@ ghost use Rattle.sample_core.specs.ValueView.{datum_of};
 ghost use Rattle.state_core.specs.Around.{first_part, node_round};
 ghost use Rattle.state_core.specs.State.{loop_state};
 ghost use Rattle.state_core.specs.StateView.{state_of};
-ghost use Rattle.step_core.specs.Outcome.{IsRan, led};
+ghost use Rattle.step_core.specs.Outcome.{IsRan, outcome};
 
 use crate::count;
 use crate::part::{first, second};
@@ -52,7 +52,7 @@ pub(crate) fn keep_first<'n>(
     place: &mut State<'n>,
     out: &mut Sample,
 ) -> Result<u32, Memory>
-    ensures { IfOk result (λ n. IsRan (led place.new out.new n)
+    ensures { IfOk result (λ n. IsRan (outcome (state_of place.new) (datum_of out.new) n)
         (node_round around.entry (state_of place.old)) (left (datum_of answer)) (suc (one + 0))) }
 {
     match put_first(alloc, answer, out) {
@@ -72,7 +72,7 @@ pub(crate) fn join_loop<'n>(
     place: &mut State<'n>,
     out: &mut Sample,
 ) -> Result<u32, Memory>
-    ensures { IfOk result (λ n. IsRan (led place.new out.new n)
+    ensures { IfOk result (λ n. IsRan (outcome (state_of place.new) (datum_of out.new) n)
         (loop_state (right (datum_of answer)) (first_part (state_of place.old)))
         (left (datum_of answer)) (suc (one + 0))) }
 {

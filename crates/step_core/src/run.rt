@@ -10,7 +10,7 @@ ghost use Rattle.state_core.specs.Around.{first_part, second_part};
 ghost use Rattle.state_core.specs.StateView.{state_of, node_of, scope_of};
 ghost use Rattle.step_core.specs.Called.{Called};
 ghost use Rattle.step_core.specs.Flow.{FlowsThrough, IsFlow, past_in};
-ghost use Rattle.step_core.specs.Outcome.{RunsBy, TakesOver, TakesOverLate, RunsAll, led};
+ghost use Rattle.step_core.specs.Outcome.{RunsBy, TakesOver, TakesOverLate, RunsAll, outcome};
 ghost use Rattle.step_core.specs.Plans.{IsFed, RunsMember, router_of};
 ghost use Rattle.step_core.specs.Runs.{RunsWhere, RunEachWhere, SeqBy, FirstBy, ParBy, LoopBy, SwitchBy, DSwitchBy, RSwitchBy, KSwitchBy, PSwitchBy, OldBy};
 ghost use Rattle.step_core.specs.SourceView.{source_of, sources_of};
@@ -19,16 +19,16 @@ use crate::count;
 use crate::each::{Each, Listed, count_of, first_of, join_par, keep_p_switch};
 use crate::fire::{fire, fire_old, fire_olds};
 use crate::flow::{Context, flow};
-use crate::plan::{Back, Plan, Route, Source, Sources, plan_of};
 use crate::part::{beside, first, let_go, paired_with, restart_of, second};
+use crate::plan::{Back, Plan, Route, Source, Sources, plan_of};
 use crate::round::{join_loop, keep_first, put_first, round};
 use crate::rows::Rows;
 use leaf_table::LeafId;
 use net_syntax::Net;
 use sample_core::{Memory, Sample};
 use state_core::{
-    Around, Cells, Env, Node, Params, SeqParts, State, StaticNet, StaticParts, StaticState, push_param,
-    route, take_first,
+    Around, Cells, Env, Node, Params, SeqParts, State, StaticNet, StaticParts, StaticState,
+    push_param, route,
 };
 use std::alloc::Global;
 use std::rc::Rc;
@@ -203,7 +203,7 @@ fn run_in_second<'n, R: Rows>(
         Node::Seq(parts) => run(alloc, rows, from, dt, x, &mut parts.second, out),
         Node::KSwitch(parts) => run(alloc, rows, from, dt, x, &mut parts.watch, out),
         _ => {
-            let first = take_first(node);
+            let first = node.take_first();
             let mut second = State::Nothing;
             let two = run(alloc, rows, from, dt, x, &mut second, out);
             drop(std::mem::replace(node, Node::Seq(SeqParts { first, second })));
@@ -228,7 +228,7 @@ fn run_apart<'n, R: Rows>(
     ensures { IfOk result (λ n.
         RunsBy (R.keys rows.now)
         (λ w. IsFlow w (rows_in net.entry.net.now) params.now (past_in before.entry dt))
-        (datum_of x.now) (led place.new out.new n)) }
+        (datum_of x.now) (outcome (state_of place.new) (datum_of out.new) n)) }
 {
     run_static(alloc, rows, net, params, before, dt, x, place, out)
 }
@@ -249,7 +249,7 @@ pub(crate) fn run_static<'n, R: Rows>(
     ensures { IfOk result (λ n.
         RunsBy (R.keys rows.now)
         (λ w. IsFlow w (rows_in net.entry.net.now) params.now (past_in before.entry dt))
-        (datum_of x.now) (led place.new out.new n)) }
+        (datum_of x.now) (outcome (state_of place.new) (datum_of out.new) n)) }
 {
     if let State::Static(there, _) = place {
         *there = net;
@@ -363,7 +363,7 @@ fn run_seq<'n, R: Rows>(
     ensures { IfOk result (λ n.
         RunsBy (R.keys rows.now)
         (λ w. SeqBy w (source_of f.now dt) (source_of g.now dt))
-        (datum_of x.now) (led place.new out.new n)) }
+        (datum_of x.now) (outcome (state_of place.new) (datum_of out.new) n)) }
 {
     let mut between = Sample::Int(0);
     match run_part(alloc, rows, f, dt, x, place, &mut between) {
@@ -394,7 +394,7 @@ fn run_first<'n, R: Rows>(
     ensures { IfOk result (λ n.
         RunsBy (R.keys rows.now)
         (λ w. FirstBy w (source_of f.now dt))
-        (datum_of x.now) (led place.new out.new n)) }
+        (datum_of x.now) (outcome (state_of place.new) (datum_of out.new) n)) }
 {
     let mut answer = Sample::Int(0);
     match run_part(alloc, rows, f, dt, first(x), place, &mut answer) {
@@ -425,7 +425,7 @@ fn run_par<'n, R: Rows>(
     ensures { IfOk result (λ n.
         RunsBy (R.keys rows.now)
         (λ w. ParBy w (sources_of fs.entry dt))
-        (datum_of x.now) (led place.new out.new n)) }
+        (datum_of x.now) (outcome (state_of place.new) (datum_of out.new) n)) }
 {
     let all = run_all(alloc, rows, Route::ToAll, fs, dt, x, place)?;
     join_par(alloc, all, place, out)
@@ -448,7 +448,7 @@ fn run_loop<'n, R: Rows>(
         RunsBy (R.keys rows.now)
         (λ w. (keys : List KeyTree) (u : Datum) → IsFed keys back.entry u
         → LoopBy keys w u (source_of f.now dt))
-        (datum_of x.now) (led place.new out.new n)) }
+        (datum_of x.now) (outcome (state_of place.new) (datum_of out.new) n)) }
 {
     let input = fed(alloc, rows, back, x)?;
     let mut answer = Sample::Int(0);
@@ -480,7 +480,7 @@ fn run_switch<'n, R: Rows>(
     ensures { IfOk result (λ n.
         RunsBy (R.keys rows.now)
         (λ w. SwitchBy w (source_of f.now dt) (rows_in t.entry.now) (scope_of env.now))
-        (datum_of x.now) (led place.new out.new n)) }
+        (datum_of x.now) (outcome (state_of place.new) (datum_of out.new) n)) }
 {
     let mut answer = Sample::Int(0);
     match run_part(alloc, rows, f, dt, x, place, &mut answer) {
@@ -520,7 +520,7 @@ fn run_d_switch<'n, R: Rows>(
     ensures { IfOk result (λ n.
         RunsBy (R.keys rows.now)
         (λ w. DSwitchBy w (source_of f.now dt) (rows_in t.entry.now) (scope_of env.now))
-        (datum_of x.now) (led place.new out.new n)) }
+        (datum_of x.now) (outcome (state_of place.new) (datum_of out.new) n)) }
 {
     let mut answer = Sample::Int(0);
     match run_part(alloc, rows, f, dt, x, place, &mut answer) {
@@ -556,7 +556,7 @@ fn run_r_switch<'n, R: Rows>(
     ensures { IfOk result (λ n.
         RunsBy (R.keys rows.now)
         (λ w. RSwitchBy w (source_of f.now dt) (rows_in t.entry.now) (scope_of env.now))
-        (datum_of x.now) (led place.new out.new n)) }
+        (datum_of x.now) (outcome (state_of place.new) (datum_of out.new) n)) }
 {
     match restart_of(x) {
         Some((u, event)) => {
@@ -591,7 +591,7 @@ fn run_k_switch<'n, R: Rows>(
         RunsBy (R.keys rows.now)
         (λ w. KSwitchBy w (source_of f.now dt) (source_of e.now dt) (rows_in t.entry.now)
         (scope_of env.now))
-        (datum_of x.now) (led place.new out.new n)) }
+        (datum_of x.now) (outcome (state_of place.new) (datum_of out.new) n)) }
 {
     let one = run_part(alloc, rows, f, dt, x, place, out)?;
     let mut event = Sample::Int(0);
@@ -635,7 +635,7 @@ fn run_p_switch<'n, R: Rows>(
         RunsBy (R.keys rows.now)
         (λ w. PSwitchBy w (row_number r) (sources_of fs.entry dt) (source_of e.now dt)
         (rows_in t.entry.now) (scope_of env.now))
-        (datum_of x.now) (led place.new out.new n)) }
+        (datum_of x.now) (outcome (state_of place.new) (datum_of out.new) n)) }
 {
     let all = run_all(alloc, rows, Route::ByRow(r, &env.params), fs, dt, x, place)?;
     let mut event = Sample::Int(0);
@@ -679,7 +679,7 @@ fn run_old<'n, R: Rows>(
     ensures { IfOk result (λ n.
         RunsBy (R.keys rows.now)
         (λ w. OldBy w (source_of frozen.now step))
-        (datum_of x.now) (led place.new out.new n)) }
+        (datum_of x.now) (outcome (state_of place.new) (datum_of out.new) n)) }
 {
     let over = run(alloc, rows, frozen, step, x, place, out)?;
     Ok(count::node(over, 0))
@@ -700,7 +700,7 @@ fn run_over<'n, R: Rows>(
 ) -> Result<u32, Memory>
     ensures { IfOk result (λ n.
         TakesOver (R.keys rows.now) before (rows_in t.entry.now) (scope_of env.entry)
-        (datum_of x.now) (led place.new out.new n)) }
+        (datum_of x.now) (outcome (state_of place.new) (datum_of out.new) n)) }
 {
     let over = run(alloc, rows, &Source::Net(t, &env), 0, x, place, out);
     drop(env);
@@ -723,7 +723,7 @@ fn run_late<'n, R: Rows>(
 ) -> Result<u32, Memory>
     ensures { IfOk result (λ n.
         TakesOverLate (R.keys rows.now) (datum_of answer) one
-        (rows_in t.entry.now) (scope_of env.entry) (datum_of x.now) (led place.new out.new n)) }
+        (rows_in t.entry.now) (scope_of env.entry) (datum_of x.now) (outcome (state_of place.new) (datum_of out.new) n)) }
 {
     let mut unseen = Sample::Int(0);
     let over = run(alloc, rows, &Source::Net(t, &env), 0, x, place, &mut unseen);
@@ -871,7 +871,7 @@ fn run_member<'n, R: Rows>(
 ) -> Result<u32, Memory>
     ensures { IfOk result (λ n.
         RunsMember (R.keys on.now.rows.now) (router_of on.now.router) i (source_of f.now on.now.dt)
-        (datum_of on.now.x.now) (led place.new out.new n)) }
+        (datum_of on.now.x.now) (outcome (state_of place.new) (datum_of out.new) n)) }
 {
     match on.router {
         Route::ToAll => run(on.alloc, on.rows, f, on.dt, on.x, place, out),

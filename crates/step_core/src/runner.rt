@@ -88,7 +88,15 @@ impl<'a> Runner<'a> {
             None => Source::Net(self.bound.net(), &env),
         };
         let mut answer = Sample::Int(0);
-        match run_top(self.alloc, self.table, &from, step, sample, &mut place, &mut answer) {
+        match run_top(
+            self.alloc,
+            self.table,
+            &from,
+            step,
+            sample,
+            &mut place,
+            &mut answer,
+        ) {
             Ok(visits) => {
                 let before = self.state.replace(place);
                 drop(std::mem::replace(&mut self.place, place_of(before)));

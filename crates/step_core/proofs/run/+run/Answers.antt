@@ -9,10 +9,10 @@ use Rattle.state_core.specs.StateView.{scope_of, state_of}
 use Rattle.step_core.specs.EventView.{restart_found}
 use Rattle.step_core.specs.Plans.{IsFed, router_of}
 use Rattle.step_core.specs.Runs.{RunEachWhere, to_all, by_row, SeqBy, FirstBy, ParBy, LoopBy, SwitchBy, DSwitchBy, RSwitchBy, KSwitchBy, PSwitchBy, OldBy}
-use Rattle.step_core.specs.Outcome.{led}
+use Rattle.step_core.specs.Outcome.{outcome}
 use Rattle.step_core.specs.SourceView.{source_of, sources_of}
 use Rattle.step_core.proofs.Falling.{members_fall, seq_within, first_falls, par_falls, loop_falls, switch_within, d_switch_within, r_switch_within, k_switch_within, p_switch_within, old_falls, over_weighs, over_old_weighs, over_olds_weighs}
-use Rattle.step_core.proofs.RunJoins.{if_ok, fires_by, outcome, stays, seq_joined, first_joined, loop_joined, switch_kept, switch_over, d_switch_kept, d_switch_over, r_switch_kept, r_switch_over, k_switch_kept, k_switch_over, old_over}
+use Rattle.step_core.proofs.RunJoins.{if_ok, fires_by, stays, seq_joined, first_joined, loop_joined, switch_kept, switch_over, d_switch_kept, d_switch_over, r_switch_kept, r_switch_over, k_switch_kept, k_switch_over, old_over}
 use Rattle.step_core.proofs.RunMembers.{none_run, also_run, all_from_none, member_ran, next_number, par_joined, p_switch_kept, p_switch_over}
 use Rattle.step_core.proofs.run.+run.Goals as goal
 
@@ -110,19 +110,19 @@ run_seq-returns-in_ok-two-in-Ok g t c =
     if_ok c.round.result _ _
     (λ n j w h. seq_joined _ w _ _ _ _ (outcome (first_part (state_of c.run_second-two.new.place)) (datum_of c.run_part.new.out) c.in-Ok.one)
     (outcome (second_part (state_of c.run_second-two.new.place)) (datum_of c.run_second-two.new.out) c.in_ok-two-in-Ok.field-0)
-    (led c.round.new.place c.run_second-two.new.out n) h
+    (outcome (state_of c.round.new.place) (datum_of c.run_second-two.new.out) n) h
     (stays _ _ _ _ _ _ _ c.in_ok-two-in-Ok.ensures.0 c.in-Ok.ensures) refl c.in_ok-two-in-Ok.ensures.1 (j.0, refl, j.1)) c.round.ensures
 
 pub run_first-returns-in_ok-both-in-Ok : goal.run_first-returns-in_ok-both-in-Ok
 run_first-returns-in_ok-both-in-Ok g t c =
     if_ok c.round.result _ _
-    (λ n j w h. first_joined _ w _ _ _ _ (outcome (first_part (state_of c.run_part.new.place)) (datum_of c.run_part.new.out) c.in-Ok.one) (led c.round.new.place c.put.new.self n) h c.first.ensures c.second.ensures c.in-Ok.ensures
+    (λ n j w h. first_joined _ w _ _ _ _ (outcome (first_part (state_of c.run_part.new.place)) (datum_of c.run_part.new.out) c.in-Ok.one) (outcome (state_of c.round.new.place) (datum_of c.put.new.self) n) h c.first.ensures c.second.ensures c.in-Ok.ensures
     (j.0, ap datum_of c.put.ensures ∙ c.in_ok-both-in-Ok.ensures, j.1)) c.round.ensures
 
 pub run_par-returns : goal.run_par-returns
 run_par-returns g t c =
     if_ok c.join_par.result _ _
-    (λ n j w h. par_joined _ w _ _ _ _ _ (led c.join_par.new.place c.join_par.new.out n) h refl c.in_ok-all.ensures.1 c.in_ok-all.ensures.2 j)
+    (λ n j w h. par_joined _ w _ _ _ _ _ (outcome (state_of c.join_par.new.place) (datum_of c.join_par.new.out) n) h refl c.in_ok-all.ensures.1 c.in_ok-all.ensures.2 j)
     c.join_par.ensures
 
 pub run_old-returns : goal.run_old-returns
@@ -135,7 +135,7 @@ pub run_loop-returns-in-Ok : goal.run_loop-returns-in-Ok
 run_loop-returns-in-Ok g t c =
     if_ok c.join_loop.result _ _
     (λ n j w h. loop_joined _ w _ _ _ _ (outcome (first_part (state_of c.run_part-one.new.place)) (datum_of c.run_part-one.new.out) c.in-Ok.one)
-    (led c.join_loop.new.place c.join_loop.new.out n) (h _ _ c.in_ok-input.ensures.1) c.in_ok-input.ensures.2 c.in-Ok.ensures j)
+    (outcome (state_of c.join_loop.new.place) (datum_of c.join_loop.new.out) n) (h _ _ c.in_ok-input.ensures.1) c.in_ok-input.ensures.2 c.in-Ok.ensures j)
     c.join_loop.ensures
 
 pub run_switch-run_over-requires : goal.run_switch-run_over-requires
@@ -148,14 +148,14 @@ run_switch-returns-in-Ok-Some g t c =
     let fires = fires_by _ _ (push_param (scope_of c.args.env.now)) _ _ c.second.ensures c.in-Ok-Some.field-0-is c.in-Ok-Some.ensures in
     if_ok c.run_over.result _ _
     (λ n k w h. switch_over _ w _ _ _ (scope_of c.in-Ok-Some.inner) _ fires.0 (outcome (first_part (state_of c.run_part.new.place)) (datum_of c.run_part.new.out) c.in-Ok.one)
-    k.0 (led c.run_over.new.place c.run_over.new.out n) _ h c.in-Ok.ensures fires.1 fires.2 k.1 _ refl c.node-before.ensures k.2) c.run_over.ensures
+    k.0 (outcome (state_of c.run_over.new.place) (datum_of c.run_over.new.out) n) _ h c.in-Ok.ensures fires.1 fires.2 k.1 _ refl c.node-before.ensures k.2) c.run_over.ensures
 
 pub run_switch-returns-in-Ok-None : goal.run_switch-returns-in-Ok-None
 run_switch-returns-in-Ok-None g t c =
     let fires = fires_by _ _ (push_param (scope_of c.args.env.now)) _ _ c.second.ensures c.in-Ok-None.field-0-is c.in-Ok-None.ensures in
     if_ok c.keep_first.result _ _
     (λ n j w h. switch_kept _ w _ _ _ _ (outcome (first_part (state_of c.run_part.new.place)) (datum_of c.run_part.new.out) c.in-Ok.one)
-    (led c.keep_first.new.place c.keep_first.new.out n) h c.in-Ok.ensures fires j) c.keep_first.ensures
+    (outcome (state_of c.keep_first.new.place) (datum_of c.keep_first.new.out) n) h c.in-Ok.ensures fires j) c.keep_first.ensures
 
 pub run_d_switch-run_late-requires : goal.run_d_switch-run_late-requires
 run_d_switch-run_late-requires g t c κs within =
@@ -167,14 +167,14 @@ run_d_switch-returns-in-Ok-Some g t c =
     let fires = fires_by _ _ (push_param (scope_of c.args.env.now)) _ _ c.second.ensures c.in-Ok-Some.field-0-is c.in-Ok-Some.ensures in
     if_ok c.run_late.result _ _
     (λ n k w h. d_switch_over _ w _ _ _ (scope_of c.in-Ok-Some.inner) _ fires.0 (outcome (first_part (state_of c.run_part.new.place)) (datum_of c.run_part.new.out) c.in-Ok.one)
-    k.0 (led c.run_late.new.place c.run_late.new.out n) h c.in-Ok.ensures fires.1 fires.2 k.1 k.2) c.run_late.ensures
+    k.0 (outcome (state_of c.run_late.new.place) (datum_of c.run_late.new.out) n) h c.in-Ok.ensures fires.1 fires.2 k.1 k.2) c.run_late.ensures
 
 pub run_d_switch-returns-in-Ok-None : goal.run_d_switch-returns-in-Ok-None
 run_d_switch-returns-in-Ok-None g t c =
     let fires = fires_by _ _ (push_param (scope_of c.args.env.now)) _ _ c.second.ensures c.in-Ok-None.field-0-is c.in-Ok-None.ensures in
     if_ok c.keep_first.result _ _
     (λ n j w h. d_switch_kept _ w _ _ _ _ (outcome (first_part (state_of c.run_part.new.place)) (datum_of c.run_part.new.out) c.in-Ok.one)
-    (led c.keep_first.new.place c.keep_first.new.out n) h c.in-Ok.ensures fires j) c.keep_first.ensures
+    (outcome (state_of c.keep_first.new.place) (datum_of c.keep_first.new.out) n) h c.in-Ok.ensures fires j) c.keep_first.ensures
 
 pub run_r_switch-returns-in_ok-one-in-Some : goal.run_r_switch-returns-in_ok-one-in-Some
 run_r_switch-returns-in_ok-one-in-Some g t c =
@@ -182,7 +182,7 @@ run_r_switch-returns-in_ok-one-in-Some g t c =
     if_ok c.round.result _ _
     (λ n j w h. r_switch_over _ w _ _ _ (scope_of c.in_ok-inner-in-Some.inner) _ _ _
     (outcome (first_part (state_of c.run_part-one.new.place)) (datum_of c.run_part-one.new.out) c.in_ok-one-in-Some.field-0)
-    (led c.round.new.place c.run_part-one.new.out n) h cut c.in_ok-inner-in-Some.ensures c.in_ok-one-in-Some.ensures (j.0, refl, j.1)) c.round.ensures
+    (outcome (state_of c.round.new.place) (datum_of c.run_part-one.new.out) n) h cut c.in_ok-inner-in-Some.ensures c.in_ok-one-in-Some.ensures (j.0, refl, j.1)) c.round.ensures
 
 pub run_r_switch-returns-in_ok-one-in-None : goal.run_r_switch-returns-in_ok-one-in-None
 run_r_switch-returns-in_ok-one-in-None g t c =
@@ -190,7 +190,7 @@ run_r_switch-returns-in_ok-one-in-None g t c =
     if_ok c.round-in-None.result _ _
     (λ n j w h. r_switch_kept _ w _ _ _ _ _
     (outcome (first_part (state_of c.run_part.new.place)) (datum_of c.run_part.new.out) c.in_ok-one-in-None.one)
-    (led c.round-in-None.new.place c.run_part.new.out n) h c.first.ensures cut c.in_ok-one-in-None.ensures (j.0, refl, j.1)) c.round-in-None.ensures
+    (outcome (state_of c.round-in-None.new.place) (datum_of c.run_part.new.out) n) h c.first.ensures cut c.in_ok-one-in-None.ensures (j.0, refl, j.1)) c.round-in-None.ensures
 
 pub run_k_switch-run_over-requires : goal.run_k_switch-run_over-requires
 run_k_switch-run_over-requires g t c κs within =
@@ -212,7 +212,7 @@ run_k_switch-returns-in-Some g t c =
     if_ok c.run_over.result _ _
     (λ n k w h. k_switch_over _ w _ _ _ _ (scope_of c.in-Some.inner) _ _ fires.0 (outcome (first_part (state_of c.run_watch.new.place)) (datum_of c.run_part.new.out) c.in_ok-one.one)
     (outcome (second_part (state_of c.run_watch.new.place)) (datum_of c.run_watch.new.out) c.in-Ok.two)
-    k.0 (led c.run_over.new.place c.run_over.new.out n) _ h (stays _ _ _ _ _ _ _ c.in-Ok.ensures.0 c.in_ok-one.ensures)
+    k.0 (outcome (state_of c.run_over.new.place) (datum_of c.run_over.new.out) n) _ h (stays _ _ _ _ _ _ _ c.in-Ok.ensures.0 c.in_ok-one.ensures)
     refl c.in-Ok.ensures.1 fires.1 fires.2 k.1 _ refl _ refl
     c.node-before.ensures k.2) c.run_over.ensures
 
@@ -223,7 +223,7 @@ run_k_switch-returns-in-None g t c =
     if_ok c.round.result _ _
     (λ n j w h. k_switch_kept _ w _ _ _ _ _ _ (outcome (first_part (state_of c.run_watch.new.place)) (datum_of c.run_part.new.out) c.in_ok-one.one)
     (outcome (second_part (state_of c.run_watch.new.place)) (datum_of c.run_watch.new.out) c.in-Ok.two)
-    (led c.round.new.place c.run_part.new.out n) h (stays _ _ _ _ _ _ _ c.in-Ok.ensures.0 c.in_ok-one.ensures) refl
+    (outcome (state_of c.round.new.place) (datum_of c.run_part.new.out) n) h (stays _ _ _ _ _ _ _ c.in-Ok.ensures.0 c.in_ok-one.ensures) refl
     c.in-Ok.ensures.1 fires (j.0, refl, j.1)) c.round.ensures
 
 pub run_p_switch-run_over-requires : goal.run_p_switch-run_over-requires
@@ -245,7 +245,7 @@ run_p_switch-returns-in-Ok-Some g t c =
     c.in-Ok-Some.field-0-is c.in-Ok-Some.ensures in
     if_ok c.run_over.result _ _
     (λ n k w h. p_switch_over _ w _ _ _ _ _ _ (scope_of c.in-Ok-Some.inner) _ _ fires.0 _ _ _ (outcome (first_part (state_of c.run_members_watch.new.place)) (datum_of c.run_members_watch.new.out) c.in-Ok.two) k.0
-    (led c.run_over.new.place c.run_over.new.out n) _ h refl refl
+    (outcome (state_of c.run_over.new.place) (datum_of c.run_over.new.out) n) _ h refl refl
     c.in_ok-all.ensures.1 c.in_ok-all.ensures.2 (ap (pair (datum_of c.args.x.now)) c.list.ensures) c.in-Ok.ensures fires.1 fires.2 k.1 _ c.visits.ensures _
     refl c.node-before.ensures k.2) c.run_over.ensures
 
@@ -254,7 +254,7 @@ run_p_switch-returns-in-Ok-None g t c =
     let fires = fires_by _ _ (λ u. push_olds (push_param (scope_of c.args.env.now) u) (sources_of c.args.fs c.args.dt)) _ _ refl
     c.in-Ok-None.field-0-is c.in-Ok-None.ensures in
     if_ok c.keep_p_switch.result _ _
-    (λ n j w h. p_switch_kept _ w _ _ _ _ _ _ _ _ _ _ _ (outcome (first_part (state_of c.run_members_watch.new.place)) (datum_of c.run_members_watch.new.out) c.in-Ok.two) (led c.keep_p_switch.new.place c.keep_p_switch.new.out n) h refl refl
+    (λ n j w h. p_switch_kept _ w _ _ _ _ _ _ _ _ _ _ _ (outcome (first_part (state_of c.run_members_watch.new.place)) (datum_of c.run_members_watch.new.out) c.in-Ok.two) (outcome (state_of c.keep_p_switch.new.place) (datum_of c.keep_p_switch.new.out) n) h refl refl
     c.in_ok-all.ensures.1 c.in_ok-all.ensures.2 (ap (pair (datum_of c.args.x.now)) c.list.ensures) c.in-Ok.ensures fires j) c.keep_p_switch.ensures
 
 pub run_over-returns : goal.run_over-returns
@@ -273,12 +273,12 @@ run_late-returns-in_ok-put_first-in-Ok g t c = (
 
 pub run_member-returns-in-ToAll : goal.run_member-returns-in-ToAll
 run_member-returns-in-ToAll g t c =
-    if_ok c.run.result _ _ (λ r k. member_ran _ to_all _ c.args.i _ _ _ (led c.run.new.place c.run.new.out r) (ap router_of c.in-ToAll.is) refl k) c.run.ensures
+    if_ok c.run.result _ _ (λ r k. member_ran _ to_all _ c.args.i _ _ _ (outcome (state_of c.run.new.place) (datum_of c.run.new.out) r) (ap router_of c.in-ToAll.is) refl k) c.run.ensures
 
 pub run_member-returns-in_ok-input-in-ByRow : goal.run_member-returns-in_ok-input-in-ByRow
 run_member-returns-in_ok-input-in-ByRow g t c =
     if_ok c.run-one.result _ _
-    (λ r k. member_ran _ (by_row (row_number c.in-ByRow.r) c.in-ByRow.params.now) _ c.args.i _ _ _ (led c.run-one.new.place c.run-one.new.out r) (ap router_of c.in-ByRow.is) c.in_ok-input-in-ByRow.ensures
+    (λ r k. member_ran _ (by_row (row_number c.in-ByRow.r) c.in-ByRow.params.now) _ c.args.i _ _ _ (outcome (state_of c.run-one.new.place) (datum_of c.run-one.new.out) r) (ap router_of c.in-ByRow.is) c.in_ok-input-in-ByRow.ensures
     k)
     c.run-one.ensures
 
@@ -291,7 +291,7 @@ run_each-returns-in_ok-add-in-Ok g t c =
     (λ u hs. subst (λ z. RunEachWhere (g.R.Rows.keys c.args.on.now.rows.now) (router_of c.args.on.now.router) c.args.i
     (sources_of c.args.members c.args.on.now.dt) (datum_of c.args.on.now.x.now) z c.run_each.new.each)
     c.take_place-place.ensures (also_run _ (router_of c.args.on.now.router) c.args.i _ _ _ _ _ c.in-Ok.ensures.0
-    (led c.run_member.new.place c.run_member.new.out c.in-Ok.visits) _ _ _ (c.in-Some.ensures c.args.on.now.dt)
+    (outcome (state_of c.run_member.new.place) (datum_of c.run_member.new.out) c.in-Ok.visits) _ _ _ (c.in-Some.ensures c.args.on.now.dt)
     c.in-Ok.ensures.1 c.in-Ok.ensures.2 c.in_ok-add-in-Ok.ensures (next_number c.args.i) hs))
     c.run_each.ensures
 
