@@ -113,7 +113,8 @@ impl<'n> Each<'n> {
         answer: Sample,
         visits: u32,
     ) -> Result<(), Memory>
-        ensures { IfOk result (λ _. IsAdded self.old (outcome (state_of state.entry) (datum_of answer) visits) self.new) }
+        ensures { IfOk result (λ _. IsAdded self.old
+            (outcome (state_of state.entry) (datum_of answer) visits) self.new) }
     {
         match self.states.push(state) {
             Ok(()) => {

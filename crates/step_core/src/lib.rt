@@ -17,6 +17,7 @@ mod round;
 mod rows;
 mod run;
 mod runner;
+mod static_run;
 
 pub use binding::bind;
 pub use bound::Bound;

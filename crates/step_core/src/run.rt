@@ -9,7 +9,6 @@ ghost use Rattle.state_core.specs.State.{Frozen};
 ghost use Rattle.state_core.specs.Around.{first_part, second_part};
 ghost use Rattle.state_core.specs.StateView.{state_of, node_of, scope_of};
 ghost use Rattle.step_core.specs.Called.{Called};
-ghost use Rattle.step_core.specs.Flow.{FlowsThrough, IsFlow, past_in};
 ghost use Rattle.step_core.specs.Outcome.{RunsBy, TakesOver, TakesOverLate, RunsAll, outcome};
 ghost use Rattle.step_core.specs.Plans.{IsFed, RunsMember, router_of};
 ghost use Rattle.step_core.specs.Runs.{RunsWhere, RunEachWhere, SeqBy, FirstBy, ParBy, LoopBy, SwitchBy, DSwitchBy, RSwitchBy, KSwitchBy, PSwitchBy, OldBy};
@@ -18,18 +17,15 @@ ghost use Rattle.step_core.specs.SourceView.{source_of, sources_of};
 use crate::count;
 use crate::each::{Each, Listed, count_of, first_of, join_par, keep_p_switch};
 use crate::fire::{fire, fire_old, fire_olds};
-use crate::flow::{Context, flow};
 use crate::part::{beside, first, let_go, paired_with, restart_of, second};
 use crate::plan::{Back, Plan, Route, Source, Sources, plan_of};
 use crate::round::{join_loop, keep_first, put_first, round};
 use crate::rows::Rows;
+use crate::static_run::{run_apart, run_static};
 use leaf_table::LeafId;
 use net_syntax::Net;
 use sample_core::{Memory, Sample};
-use state_core::{
-    Around, Cells, Env, Node, Params, SeqParts, State, StaticNet, StaticParts, StaticState,
-    push_param, route,
-};
+use state_core::{Around, Env, Node, Params, SeqParts, State, push_param, route};
 use std::alloc::Global;
 use std::rc::Rc;
 
@@ -210,141 +206,6 @@ fn run_in_second<'n, R: Rows>(
             two
         }
     }
-}
-
-/// A sample of a network without switches, called by itself.
-#[inline(never)]
-fn run_apart<'n, R: Rows>(
-    alloc: Global,
-    rows: &R,
-    net: StaticNet<'n>,
-    params: &Params,
-    before: Option<&Cells>,
-    dt: u64,
-    x: &Sample,
-    place: &mut State<'n>,
-    out: &mut Sample,
-) -> Result<u32, Memory>
-    ensures { IfOk result (λ n.
-        RunsBy (R.keys rows.now)
-        (λ w. IsFlow w (rows_in net.entry.net.now) params.now (past_in before.entry dt))
-        (datum_of x.now) (outcome (state_of place.new) (datum_of out.new) n)) }
-{
-    run_static(alloc, rows, net, params, before, dt, x, place, out)
-}
-
-/// A sample of a network without switches.
-#[inline(always)]
-pub(crate) fn run_static<'n, R: Rows>(
-    alloc: Global,
-    rows: &R,
-    net: StaticNet<'n>,
-    params: &Params,
-    before: Option<&Cells>,
-    dt: u64,
-    x: &Sample,
-    place: &mut State<'n>,
-    out: &mut Sample,
-) -> Result<u32, Memory>
-    ensures { IfOk result (λ n.
-        RunsBy (R.keys rows.now)
-        (λ w. IsFlow w (rows_in net.entry.net.now) params.now (past_in before.entry dt))
-        (datum_of x.now) (outcome (state_of place.new) (datum_of out.new) n)) }
-{
-    if let State::Static(there, _) = place {
-        *there = net;
-    }
-    match place {
-        State::Static(_, kept) => {
-            flow_kept(alloc, rows, net, params, before, dt, x, kept, out)?;
-            Ok(net.nodes())
-        }
-        other => {
-            let kept = flow_anew(alloc, rows, net, params, before, dt, x, out)?;
-            drop(std::mem::replace(other, State::Static(net, kept)));
-            Ok(net.nodes())
-        }
-    }
-}
-
-/// Puts out what a network without switches answers. What it keeps then comes into the place of
-/// what was kept, whose memory it takes where no one else holds that.
-#[inline(always)]
-fn flow_kept<R: Rows>(
-    alloc: Global,
-    rows: &R,
-    net: StaticNet<'_>,
-    params: &Params,
-    before: Option<&Cells>,
-    dt: u64,
-    x: &Sample,
-    kept: &mut StaticState,
-    out: &mut Sample,
-) -> Result<(), Memory>
-    ensures { IfOk result (λ _. (kept.new.0 ≡ params.now) × FlowsThrough (R.keys rows.now)
-        (rows_in net.entry.net.now) params.now (past_in before.entry dt) (datum_of x.now) kept.new.1
-        (datum_of out.new)) }
-{
-    if let Some(parts) = kept.get_mut() {
-        return flow_over(alloc, rows, net, params, before, dt, x, parts, out);
-    }
-    let fresh = flow_anew(alloc, rows, net, params, before, dt, x, out)?;
-    drop(std::mem::replace(kept, fresh));
-    Ok(())
-}
-
-/// The same in memory of its own.
-#[inline(never)]
-fn flow_anew<R: Rows>(
-    alloc: Global,
-    rows: &R,
-    net: StaticNet<'_>,
-    params: &Params,
-    before: Option<&Cells>,
-    dt: u64,
-    x: &Sample,
-    out: &mut Sample,
-) -> Result<StaticState, Memory>
-    ensures { IfOk result (λ k. (k.0 ≡ params.now) × FlowsThrough (R.keys rows.now)
-        (rows_in net.entry.net.now) params.now (past_in before.entry dt) (datum_of x.now) k.1
-        (datum_of out.new)) }
-{
-    let mut parts = StaticParts::none(alloc);
-    match flow_over(alloc, rows, net, params, before, dt, x, &mut parts, out) {
-        Ok(()) => StaticState::new(alloc, parts),
-        Err(memory) => {
-            drop(parts);
-            Err(memory)
-        }
-    }
-}
-
-/// Puts out what the network answers; what it keeps then comes into that place.
-#[inline(always)]
-fn flow_over<R: Rows>(
-    alloc: Global,
-    rows: &R,
-    net: StaticNet<'_>,
-    params: &Params,
-    before: Option<&Cells>,
-    dt: u64,
-    x: &Sample,
-    parts: &mut StaticParts,
-    out: &mut Sample,
-) -> Result<(), Memory>
-    ensures { IfOk result (λ _. (parts.new.params ≡ params.now) × FlowsThrough (R.keys rows.now)
-        (rows_in net.entry.net.now) params.now (past_in before.entry dt) (datum_of x.now)
-        parts.new.cells (datum_of out.new)) }
-{
-    parts.renew(params)?;
-    let on = Context {
-        alloc,
-        rows,
-        params: params.as_slice(),
-        before,
-        dt,
-    };
-    flow(&on, net.net(), x, &mut parts.cells, out)
 }
 
 /// `>>>` by its two parts.
@@ -723,7 +584,8 @@ fn run_late<'n, R: Rows>(
 ) -> Result<u32, Memory>
     ensures { IfOk result (λ n.
         TakesOverLate (R.keys rows.now) (datum_of answer) one
-        (rows_in t.entry.now) (scope_of env.entry) (datum_of x.now) (outcome (state_of place.new) (datum_of out.new) n)) }
+        (rows_in t.entry.now) (scope_of env.entry) (datum_of x.now)
+        (outcome (state_of place.new) (datum_of out.new) n)) }
 {
     let mut unseen = Sample::Int(0);
     let over = run(alloc, rows, &Source::Net(t, &env), 0, x, place, &mut unseen);

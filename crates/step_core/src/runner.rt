@@ -1,14 +1,11 @@
 // Running a bound network, sample by sample.
 
-ghost use Rattle.std.specs.Prelude.{◌≡◌, ◌<◌, ◌≤◌, ◌+◌, ◌^◌, [], IfOk, OnErr, Some};
+ghost use Rattle.std.specs.Prelude.{◌≡◌, ◌<◌, ◌≤◌, ◌+◌, ◌^◌, [], IfOk, OnErr};
 ghost use Rattle.sample_core.specs.HasType.{HasType};
 ghost use Rattle.sample_core.specs.ValueView.{datum_of};
 ghost use Rattle.leaf_table.specs.Rows.{rows_of};
 ghost use Rattle.step_core.specs.Binding.{FitsTable};
 ghost use Rattle.step_core.specs.RunnerState.{HasPast};
-ghost use Rattle.state_core.specs.RowsView.{rows_in};
-ghost use Rattle.state_core.specs.StaticNetwork.{static_state};
-ghost use Rattle.state_core.specs.declared.state.State.TheVariants as S;
 ghost use Rattle.step_core.specs.StateOption.{state_in};
 
 use crate::bound::Bound;

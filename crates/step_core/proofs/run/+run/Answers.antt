@@ -1,6 +1,6 @@
 use Rattle.std.proofs.Common.{rules, arith, sym, ap, subst, ◌∙◌, refl, List}
 use Rattle.leaf_core.specs.KeyTree.{KeyTree}
-use Rattle.sample_core.specs.Datum.{Datum, pair, right}
+use Rattle.sample_core.specs.Datum.{Datum, pair}
 use Rattle.sample_core.specs.ValueView.{datum_of}
 use Rattle.state_core.specs.RowsView.{rows_in, row_number}
 use Rattle.state_core.specs.State.{push_param, push_old, push_olds}

@@ -1,4 +1,4 @@
-use Rattle.std.proofs.Common.{Some, ap, subst, refl, add-one, ◌+◌}
+use Rattle.std.proofs.Common.{ap, subst, refl, add-one, ◌+◌}
 use Rattle.sample_core.specs.ValueView.{datum_of}
 use Rattle.leaf_table.specs.Rows.{rows_of}
 use Rattle.state_core.specs.StateView.{state_of}

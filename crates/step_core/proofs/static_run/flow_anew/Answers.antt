@@ -1,7 +1,7 @@
 use Rattle.std.proofs.Common.{ap, refl, ◌∙◌}
 use Rattle.step_core.proofs.Flows.{flows_kept}
 use Rattle.step_core.proofs.RunJoins.{if_ok}
-use Rattle.step_core.proofs.run.flow_anew.Goals as goal
+use Rattle.step_core.proofs.static_run.flow_anew.Goals as goal
 
 pub returns-in-Ok : goal.returns-in-Ok
 returns-in-Ok g c =

@@ -2,7 +2,7 @@ use Rattle.std.proofs.Common.{ap, refl}
 use Rattle.state_core.specs.RowsView.{rows_in}
 use Rattle.step_core.proofs.Flows.{flows_whole}
 use Rattle.step_core.proofs.RunJoins.{if_ok}
-use Rattle.step_core.proofs.run.flow_over.Goals as goal
+use Rattle.step_core.proofs.static_run.flow_over.Goals as goal
 
 pub returns : goal.returns
 returns g c =
