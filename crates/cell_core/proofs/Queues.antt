@@ -1,10 +1,13 @@
 -- What waits in a delay, in front and behind.
-use Rattle.std.proofs.Common.{◌≡◌, Bool, true, false, nat_le, ℕ, zero, suc, ◌+◌, ◌-◌, ◌≤◌, ◌<◌, if◌then◌else◌, List, [], ◌∷◌, ◌++◌, length, reverse, refl, sym, ap, ap₂, ◌∙◌, arith, append_assoc, subst, length-append}
+use Rattle.std.proofs.Common.{◌≡◌, Bool, true, false, nat_le, ℕ, zero, suc, ◌+◌, ◌-◌, ◌≤◌, ◌<◌, if◌then◌else◌, List, [], ◌∷◌, ◌++◌, length, reverse, Option, Some, None, refl, sym, ap, ap₂, ◌∙◌, arith, append_assoc, subst, length-append}
 use Rattle.std.proofs.lemmas.Bool.{le-leb, lt-leb}
-use Rattle.std.proofs.lemmas.List.{reverse-append}
+use Rattle.std.proofs.lemmas.List.{reverse-append, map-append}
 use Rattle.sample_core.specs.Datum.{Datum}
+use Rattle.sample_core.specs.ValueView.{datum_of}
+use Rattle.cell_core.specs.Entries.{entries_of}
+use Rattle.cell_core.specs.declared.entry.Entry.{Entry}
 use Rattle.cell_core.specs.Cell.{Cell, queue, due, enqueue, count_down}
-use Rattle.cell_core.specs.Queue.{behind, place, fronted, IsPassed}
+use Rattle.cell_core.specs.Queue.{behind, place, fronted, IsPassed, IsFront, then_found, Gathers}
 
 -- one that is due is out
 pub due-passes : (d : ℕ) (out : Datum) (left : ℕ) (v : Datum) (es : List (ℕ × Datum)) → left ≤ d → due d out ((left, v) ∷ es) ≡ due d v es
@@ -80,10 +83,6 @@ moved_on q d now from to es back x r p h is =
     ∙ ap (λ xs. (queue q (place es to).1 xs, (place es to).1)) (append_assoc (fronted es (now + d) to) (behind (q - d) back) ((q, x) ∷ []))
     ∙ is
 
--- what is out and what waits in all, where these were found to wait
-abbrev pub then_found : Datum × List (ℕ × Datum) → List (ℕ × Datum) → Datum × List (ℕ × Datum)
-then_found r found = (r.0, r.1 ++ reverse found)
-
 -- the newest of those behind waits
 pub one_found : (d t left s : ℕ) (out v : Datum) (back next es found : List (ℕ × Datum)) (all : Datum × List (ℕ × Datum)) → d < t
     → then_found (due d out (behind t ((s, v) ∷ back))) es ≡ all → found ≡ es ++ (t - d, v) ∷ [] → left ≡ t - s → back ≡ next
@@ -119,10 +118,47 @@ new_out (e ∷ es) out = new_out es out
 
 -- all that wait are found
 pub all_found : (es front : List (ℕ × Datum)) (v : Datum) (all : Datum × List (ℕ × Datum)) → then_found (v, []) es ≡ all → front ≡ es ++ (0, v) ∷ []
-    → (0 < length front) × (all ≡ ((place front (length front - 1)).1, fronted front 0 (length front - 1)))
+    → IsFront front all
 all_found es front v all is e =
     let n : length front ≡ length es + 1 = ap length e ∙ length-append es ((0, v) ∷ []) in
     let m : length front - 1 ≡ length es = omega (arith, n) in
     let at : (place front (length front - 1)).1 ≡ v = ap₂ (λ f i. (place f i).1) e m ∙ ap (λ p. p.1) (new_out es (0, v)) in
     let waits : fronted front 0 (length front - 1) ≡ reverse es = ap₂ (λ f i. fronted f 0 i) e m ∙ new_front es (0, v) in
     (omega (arith, n), sym is ∙ ap₂ (λ o xs. (o, xs)) (sym at) (sym waits))
+
+-- the newest of samples comes first
+pub newest_first : (xs rest : List Entry) (e : Entry) → xs ≡ rest ++ e ∷ [] → reverse (entries_of xs) ≡ (e.time, datum_of e.value) ∷ reverse (entries_of rest)
+newest_first xs rest e is =
+    ap (λ es. reverse (entries_of es)) is
+    ∙ ap reverse (map-append (λ (f : Entry). (f.time, datum_of f.value)) rest (e ∷ []))
+    ∙ reverse-append (entries_of rest) ((e.time, datum_of e.value) ∷ [])
+
+-- the newest of those behind is due, and is found last
+pub one_due : (d t : ℕ) (e : ℕ × Datum) (all back es front : List (ℕ × Datum)) → all ≡ e ∷ back → t ≤ d → front ≡ es ++ (0, e.1) ∷ []
+    → Gathers d t all es None front
+one_due d t e all back es front is h more = λ out older.
+    all_found es front e.1 _
+    (ap (λ r. then_found r es) (sym (behind-passes d t out e (back ++ older) h)) ∙ ap (λ xs. then_found (due d out (behind t (xs ++ older))) es) (sym is)) more
+
+-- the newest of those behind waits, and those before it are found
+pub gathers_on : (d t left : ℕ) (e : ℕ × Datum) (all back es found fs : List (ℕ × Datum)) (r : Option ℕ) → all ≡ e ∷ back → d < t
+    → found ≡ es ++ (t - d, e.1) ∷ [] → left ≡ t - e.0 → Gathers d left back found r fs → Gathers d t all es r fs
+gathers_on d t left e all back es found fs (Some rest) is h more later g = λ out older.
+    ap (λ xs. then_found (due d out (behind t (xs ++ older))) es) is
+    ∙ sym (one_found d t left e.0 out e.1 (back ++ older) (back ++ older) es found _ h refl more later refl)
+    ∙ g out older
+gathers_on d t left e all back es found fs None is h more later g = λ out older.
+    subst (IsFront fs)
+    (one_found d t left e.0 out e.1 (back ++ older) (back ++ older) es found _ h refl more later refl
+    ∙ ap (λ xs. then_found (due d out (behind t (xs ++ older))) es) (sym is))
+    (g out older)
+
+-- all behind are found, and what was out in front comes last
+pub gathered : (d t left : ℕ) (out v : Datum) (back older es found front : List (ℕ × Datum)) (all : Datum × List (ℕ × Datum)) (r : Option ℕ)
+    → then_found (due d out (behind t (back ++ older))) es ≡ all → Gathers d t back es r found → r ≡ Some left → older ≡ [] → out ≡ v
+    → front ≡ found ++ (0, v) ∷ [] → IsFront front all
+gathered d t left out v back older es found front all r is g rest none same more =
+    let through : Gathers d t back es (Some left) found = subst (λ o. Gathers d t back es o found) rest g in
+    all_found found front v all
+    (ap (λ o. then_found (o, []) found) (sym same) ∙ ap (λ xs. then_found (due d out (behind left xs)) found) (sym none) ∙ sym (through out older) ∙ is)
+    more

@@ -1,5 +1,5 @@
 -- The cells: what they keep, how they step, and what they stand for.
-use Rattle.std.specs.Prelude.{◌≡◌, Bool, true, false, ℕ, suc, ◌+◌, ◌-◌, ◌*◌, ◌/◌, ◌%◌, ◌≤◌, ℤ, pos, ◌+ℤ◌, ◌*ℤ◌, nat_le, if◌then◌else◌, List, [], ◌∷◌, ◌++◌, length, map}
+use Rattle.std.specs.Prelude.{◌≡◌, ℕ, suc, ◌+◌, ◌-◌, ◌*◌, ◌/◌, ◌%◌, ◌≤◌, ℤ, pos, ◌+ℤ◌, ◌*ℤ◌, nat_le, if◌then◌else◌, List, [], ◌∷◌, ◌++◌, length, map}
 use Rattle.std.specs.Int.{int_wrap, w64}
 use Rattle.sample_core.specs.Datum.{Datum, unit, int, event, no_event, int_of}
 use Rattle.net_syntax.specs.SignalFunction.{TimedList, values, times, time_at, last_or, i_pre_value, latest_event, delay_value, if_event, fold_events, accum_by_value, after_value, repeatedly_value, time_value, integral_value, latest_by}
@@ -23,11 +23,6 @@ pub data Cell : Type 0 where
   ticking : ℤ → Cell
   -- `integral`: the sum, and the value before
   summing : ℤ → ℤ → Cell
-
--- whether the cell is an accumulator
-abbrev pub is_accumulator : Cell → Bool
-is_accumulator (accumulating acc) = true
-is_accumulator _ = false
 
 -- what an accumulator holds; `unit` for another cell
 abbrev pub accumulator_of : Cell → Datum

@@ -7,6 +7,8 @@ use Rattle.cell_core.specs.Delays.{delay_of}
 use Rattle.cell_core.specs.Parts.{recurring_of, after_of}
 use Rattle.cell_core.specs.declared.cell.Cell as C
 use Rattle.cell_core.specs.declared.cell.Cell.TheVariants as V
+use Rattle.cell_core.specs.declared.step.Keeper.{Keeper}
+use Rattle.cell_core.specs.declared.step.Keeper.TheVariants as K
 
 -- the cell that a `Cell` is
 abbrev pub cell_of : C.Cell → Cell
@@ -18,6 +20,12 @@ cell_of (V.After left c) = after_of left c
 cell_of (V.Repeatedly left r) = recurring_of left r.value
 cell_of (V.Time z) = ticking z
 cell_of (V.Integral z before) = summing z before
+
+-- the cell that keeps this value
+abbrev pub kept_by : Keeper → Datum → Cell
+kept_by K.IPre = previous
+kept_by K.Hold = latest
+kept_by K.AccumBy = accumulating
 
 -- the cell and the answer that a start or a step gives
 abbrev pub outcome_of : C.Cell × Sample → Cell × Datum

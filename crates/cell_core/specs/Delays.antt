@@ -1,11 +1,11 @@
 -- What a delay's front and back are, and how they step.
-use Rattle.std.specs.Prelude.{◌≡◌, ℕ, ◌+◌, ◌-◌, ◌<◌, List, ◌∷◌, ◌++◌, length}
+use Rattle.std.specs.Prelude.{◌≡◌, ℕ, ◌+◌, List, ◌∷◌, ◌++◌, length}
 use Rattle.sample_core.specs.Datum.{Datum}
 use Rattle.cell_core.specs.Cell.{Cell, queue, due, enqueue}
-use Rattle.cell_core.specs.Queue.{behind, place, within, fronted}
+use Rattle.cell_core.specs.Queue.{behind, place, within, fronted, IsFront}
 use Rattle.cell_core.specs.Entries.{entries_of}
 use Rattle.cell_core.specs.Earlier.{back_of}
-use Rattle.cell_core.specs.declared.behind.Newest.{Newest}
+use Rattle.cell_core.specs.declared.behind.Behind.{Behind}
 use Rattle.cell_core.specs.declared.front.Front.{Front}
 
 -- those in front, the newest first
@@ -18,12 +18,16 @@ queue_of f age at back =
     queue f.q (place (front_of f) at).1 (fronted (front_of f) age at ++ behind f.q back)
 
 -- where in front what is out stands
-abbrev pub out_in : Front → Newest → ℕ
+abbrev pub out_in : Front → Behind → ℕ
 out_in f n = within (length f.entries.items) n.at
 
 -- the cell that these are
-abbrev pub delay_of : Front → Newest → Cell
+abbrev pub delay_of : Front → Behind → Cell
 delay_of f n = queue_of f n.age (out_in f n) (back_of n)
+
+-- what is behind after a further sample, at that age of the front and place of what is out
+abbrev pub Follows : Behind → ℕ → ℕ → ℕ × Datum → Behind → Type 0
+Follows b age at e c = (back_of c ≡ e ∷ back_of b) × (c.age ≡ age) × (c.at ≡ at)
 
 -- the queue and the answer with this front, its age, the place of what is out, and these behind
 abbrev pub IsJoined : Front → ℕ → ℕ → List (ℕ × Datum) → Cell × Datum → Type 0
@@ -31,18 +35,17 @@ IsJoined f age at back r = (queue_of f age at back, (place (front_of f) at).1) �
 
 -- the queue and the answer after dt more, where what is out then stands at that place and others
 -- wait before it, with v in it
-abbrev pub IsKept : Front → Newest → ℕ → ℕ → Datum → Cell × Datum → Type 0
+abbrev pub IsKept : Front → Behind → ℕ → ℕ → Datum → Cell × Datum → Type 0
 IsKept f n at dt v r = IsJoined f (n.age + dt) at ((dt, v) ∷ back_of n) r
 
 -- what is out and what waits dt later, where all in front has passed
-abbrev pub through : Front → Newest → ℕ → Datum × List (ℕ × Datum)
+abbrev pub through : Front → Behind → ℕ → Datum × List (ℕ × Datum)
 through f n dt = due dt (place (front_of f) 0).1 (behind f.q (back_of n))
 
 -- the queue and the answer after dt more, where all in front has passed, with v in it
-abbrev pub IsTurned : Front → Newest → ℕ → Datum → Cell × Datum → Type 0
+abbrev pub IsTurned : Front → Behind → ℕ → Datum → Cell × Datum → Type 0
 IsTurned f n dt v r = enqueue f.q v (through f n dt) ≡ r
 
 -- those that wait dt later, where all in front has passed, and last what is out
-abbrev pub IsGathered : Front → Newest → ℕ → List (ℕ × Datum) → Type 0
-IsGathered f n dt es = (0 < length es)
-    × (through f n dt ≡ ((place es (length es - 1)).1, fronted es 0 (length es - 1)))
+abbrev pub IsGathered : Front → Behind → ℕ → List (ℕ × Datum) → Type 0
+IsGathered f n dt es = IsFront es (through f n dt)

@@ -1,9 +1,9 @@
--- What waits in front in a delay as a list.
+-- What waits in a delay as a list.
 use Rattle.std.specs.Prelude.{ℕ, List, map}
 use Rattle.sample_core.specs.Datum.{Datum}
 use Rattle.sample_core.specs.ValueView.{datum_of}
-use Rattle.cell_core.specs.declared.front.Entry.{Entry}
+use Rattle.cell_core.specs.declared.entry.Entry.{Entry}
 
--- the times at which entries are due, and their values
+-- the times of entries, and their values
 abbrev pub entries_of : List Entry → List (ℕ × Datum)
-entries_of = map (λ e. (e.due, datum_of e.value))
+entries_of = map (λ e. (e.time, datum_of e.value))

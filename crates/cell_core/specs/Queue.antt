@@ -1,5 +1,5 @@
 -- What waits in a delay, in front and behind, newest first in both.
-use Rattle.std.specs.Prelude.{◌≡◌, ℕ, zero, suc, nat_lt, if◌then◌else◌, ◌+◌, ◌-◌, ◌≤◌, ◌<◌, ◌^◌, List, [], ◌∷◌, ◌++◌, length, get_or}
+use Rattle.std.specs.Prelude.{◌≡◌, ℕ, zero, suc, nat_lt, if◌then◌else◌, ◌+◌, ◌-◌, ◌≤◌, ◌<◌, ◌^◌, List, [], ◌∷◌, ◌++◌, length, get_or, reverse, Option, Some, None}
 use Rattle.sample_core.specs.Datum.{Datum, unit}
 use Rattle.cell_core.specs.Cell.{Cell, queue, due}
 
@@ -42,3 +42,22 @@ IsRenewed q es v r = (
   queue q (place es (length es - 1)).1 (fronted es 0 (length es - 1) ++ (q, v) ∷ []),
   (place es (length es - 1)).1,
 ) ≡ r
+
+-- what is out and what waits in all, where these were found to wait, the newest first
+abbrev pub then_found : Datum × List (ℕ × Datum) → List (ℕ × Datum) → Datum × List (ℕ × Datum)
+then_found r found = (r.0, r.1 ++ reverse found)
+
+-- what is out and what waits, as the last in front and those before it
+abbrev pub IsFront : List (ℕ × Datum) → Datum × List (ℕ × Datum) → Type 0
+IsFront es r = (0 < length es)
+    × (r ≡ ((place es (length es - 1)).1, fronted es 0 (length es - 1)))
+
+-- in d, where t is left to the newest of a back, these of it are found beside those before: all
+-- of it, and so much is left to the one before it, or one is due, which is last, and is out
+abbrev pub Gathers : ℕ → ℕ → List (ℕ × Datum) → List (ℕ × Datum) → Option ℕ → List (ℕ × Datum)
+    → Type 0
+Gathers d t back es (Some left) fs = (out : Datum) (older : List (ℕ × Datum))
+    → then_found (due d out (behind t (back ++ older))) es
+    ≡ then_found (due d out (behind left older)) fs
+Gathers d t back es None fs = (out : Datum) (older : List (ℕ × Datum))
+    → IsFront fs (then_found (due d out (behind t (back ++ older))) es)

@@ -1,19 +1,24 @@
 // What waits behind in a `delay`.
 
-ghost use Rattle.std.specs.Prelude.{◌≡◌, [], IfOk, MatchOption};
-ghost use Rattle.cell_core.specs.Earlier.{back_of};
+ghost use Rattle.std.specs.Prelude.{◌≡◌, ◌∷◌, [], IfOk, OnOk, MatchOption};
+ghost use Rattle.sample_core.specs.ValueView.{datum_of};
+ghost use Rattle.cell_core.specs.{Entries.entries_of, Earlier.back_of, Delays.Follows};
 
+use crate::entry::{Entry, copy_all, push};
 use sample_core::{Memory, Sample};
+use std::alloc::Global;
 use std::marker::Model;
 use std::rc::Rc;
 
-/// What a `delay` keeps behind: its newest sample with its step since the one before it, those
-/// before it, unless they are in front, and how those in front stand.
-#[cycle(newest)]
+/// How many of the newest samples come together in a block.
+const BLOCK: usize = 8;
+
+/// What a `delay` keeps behind: its newest samples, the oldest first, each with its step since the
+/// one before it, the blocks of those before them, unless they are in front, and how those in
+/// front stand.
 #[derive(Drop)]
-pub struct Newest {
-    pub(crate) since: u64,
-    pub(crate) value: Sample,
+pub struct Behind {
+    pub(crate) recent: Vec<Entry>,
     pub(crate) earlier: Earlier,
     // The time since the front was made.
     pub(crate) age: u64,
@@ -21,11 +26,20 @@ pub struct Newest {
     pub(crate) at: usize,
 }
 
-/// The samples behind, each with its step since the one before it, the newest first. Contracts see
-/// the list of the pairs of a step and a value's tree.
-#[cycle(newest)]
+/// A block of samples, the oldest first, each with its step since the one before it, and the
+/// blocks before it. States share it.
+#[cycle(block)]
+#[derive(Drop)]
+pub(crate) struct Block {
+    pub(crate) samples: Vec<Entry>,
+    pub(crate) earlier: Earlier,
+}
+
+/// Blocks of samples behind. Contracts see the list of them, the newest first, each the list of
+/// the pairs of a step and a value's tree.
+#[cycle(block)]
 pub(crate) struct Earlier {
-    last: Option<Rc<Newest>>,
+    last: Option<Rc<Block>>,
 }
 
 impl Model for Earlier {
@@ -34,13 +48,13 @@ impl Model for Earlier {
     ghost use Rattle.sample_core.specs.Datum.{Datum};
     ghost use Rattle.sample_core.specs.DatumCode.{datum_code};
 
-    ghost Value = { List (ℕ × Datum) };
+    ghost Value = { List (List (ℕ × Datum)) };
 
-    ghost coded = { coded_list (coded× coded_ℕ datum_code) };
+    ghost coded = { coded_list (coded_list (coded× coded_ℕ datum_code)) };
 
-    ghost use Rattle.cell_core.specs.Earlier.{samples};
+    ghost use Rattle.cell_core.specs.Earlier.{blocks};
 
-    ghost view = { λ e. samples e.last };
+    ghost view = { λ e. blocks e.last };
 
     ghost size = { length };
 
@@ -49,7 +63,7 @@ impl Model for Earlier {
     ghost size_decreases = { λ e h. Prim.grind arith };
 }
 
-// A loop, so that many samples don't run out of stack.
+// A loop, so that many blocks don't run out of stack.
 impl Drop for Earlier {
     fn drop(mut self) {
         loop {
@@ -58,14 +72,11 @@ impl Drop for Earlier {
                 None => return,
                 Some(shared) => match Rc::into_inner(shared) {
                     None => return,
-                    Some(newest) => {
-                        let Newest {
-                            since: _,
-                            value: _,
+                    Some(block) => {
+                        let Block {
+                            samples: _,
                             earlier,
-                            age: _,
-                            at: _,
-                        } = newest;
+                        } = block;
                         self = earlier;
                     }
                 },
@@ -75,29 +86,104 @@ impl Drop for Earlier {
 }
 
 impl Earlier {
-    /// No samples.
+    /// No blocks.
     pub(crate) fn new() -> Earlier
         ensures { result ≡ [] }
     {
         Earlier { last: None }
     }
 
-    /// The newest sample and those before it. `Memory` only where a count of references is full.
-    #[inline(always)]
-    pub(crate) fn of(newest: &Rc<Newest>) -> Result<Earlier, Memory>
-        ensures { IfOk result (λ e. e ≡ back_of newest.now.value) }
-    {
-        let last = Some(newest.clone()?);
-        Ok(Earlier { last })
-    }
-
-    /// What was kept after the newest of them; nothing where there is none.
-    pub(crate) fn last(&self) -> Option<&Newest>
-        ensures { MatchOption result (self.now ≡ []) (λ n. self.now ≡ back_of n.now) }
+    /// The newest block; nothing where there is none.
+    pub(crate) fn last(&self) -> Option<&Block>
+        ensures { MatchOption result (self.now ≡ [])
+            (λ b. self.now ≡ entries_of b.now.samples.items ∷ b.now.earlier) }
     {
         match &self.last {
             None => None,
-            Some(newest) => Some(newest),
+            Some(block) => Some(block),
         }
+    }
+
+    /// The same blocks, shared. It takes no memory; `Memory` only where a count of references is
+    /// full.
+    #[inline(always)]
+    fn try_copy(&self) -> Result<Earlier, Memory>
+        ensures { IfOk result (λ e. e ≡ self.now) }
+    {
+        let last = match &self.last {
+            None => None,
+            Some(block) => Some(block.clone()?),
+        };
+        Ok(Earlier { last })
+    }
+
+    /// These blocks and a further one, of copies. `Memory` where a growth was refused.
+    #[inline(never)]
+    fn and(&self, alloc: Global, entries: &[Entry]) -> Result<Earlier, Memory>
+        ensures { IfOk result (λ e. e ≡ entries_of entries.now ∷ self.now) }
+    {
+        let earlier = self.try_copy()?;
+        match new_block(alloc, entries, earlier) {
+            Ok(block) => Ok(Earlier { last: Some(block) }),
+            Err(memory) => Err(memory),
+        }
+    }
+}
+
+/// A block of copies before those blocks.
+fn new_block(alloc: Global, entries: &[Entry], earlier: Earlier) -> Result<Rc<Block>, Memory>
+    ensures { IfOk result (λ b. (entries_of b.value.samples.items ≡ entries_of entries.now)
+        × (b.value.earlier ≡ earlier)) }
+{
+    let mut samples = Vec::new(alloc);
+    match copy_all(alloc, entries, &mut samples) {
+        Ok(()) => Ok(Rc::new(alloc, Block { samples, earlier })?),
+        Err(memory) => {
+            drop(samples);
+            drop(earlier);
+            Err(memory)
+        }
+    }
+}
+
+impl Behind {
+    /// Nothing behind. It takes no memory.
+    pub(crate) fn none(alloc: Global) -> Behind
+        ensures { back_of result ≡ [] }
+    {
+        Behind {
+            recent: Vec::new(alloc),
+            earlier: Earlier::new(),
+            age: 0,
+            at: 0,
+        }
+    }
+
+    /// Becomes what was behind and the sample, dt after it, at that age of the front, where what is
+    /// out stands at that place. `Memory` where a growth was refused.
+    #[inline(always)]
+    pub(crate) fn follow(
+        &mut self,
+        alloc: Global,
+        before: &Behind,
+        age: u64,
+        at: usize,
+        dt: u64,
+        sample: &Sample,
+    ) -> Result<(), Memory>
+        ensures { OnOk result (Follows before.now age at (dt, datum_of sample.now) self.new) }
+    {
+        self.age = age;
+        self.at = at;
+        if before.recent.len() < BLOCK {
+            let earlier = before.earlier.try_copy()?;
+            drop(std::mem::replace(&mut self.earlier, earlier));
+            copy_all(alloc, before.recent.as_slice(), &mut self.recent)?;
+        } else {
+            let earlier = before.earlier.and(alloc, before.recent.as_slice())?;
+            drop(std::mem::replace(&mut self.earlier, earlier));
+            self.recent.clear();
+        }
+        push(alloc, dt, sample, &mut self.recent)
     }
 }

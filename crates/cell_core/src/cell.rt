@@ -1,16 +1,16 @@
 // The cells.
 
 ghost use Rattle.std.specs.Prelude.{◌≡◌, ◌≢◌, IfOk, OnOk, MatchOption};
-ghost use Rattle.sample_core.specs.Datum.{Datum};
-ghost use Rattle.sample_core.specs.ValueView.{datum_of};
+ghost use Rattle.sample_core.specs.{Datum.Datum, ValueView.datum_of};
 ghost use Rattle.cell_core.specs.CellView.{cell_of, outcome_of};
 ghost use Rattle.cell_core.specs.Cell.{cell_step, accumulating, previous as keeping};
 ghost use Rattle.cell_core.specs.Start.{IsWithin, cell_start};
 
-use crate::behind::Newest;
+use crate::behind::Behind;
 use crate::form::Form;
 use crate::front::Front;
 use crate::recurring::Recurring;
+use crate::step::Keeper;
 use crate::{queue, start, step};
 use sample_core::{Memory, Sample, SampleChild};
 use std::alloc::Global;
@@ -23,7 +23,7 @@ pub enum Cell {
     IPre(Sample),
     /// `delay`: those in front, of which one is out, and those behind. The front is let go of
     /// first: where a large place is given back, malloc joins the small ones that are free.
-    Delay(Rc<Front>, Rc<Newest>),
+    Delay(Rc<Front>, Rc<Behind>),
     /// `hold`: the value of the latest event, or the constant.
     Hold(Sample),
     /// `accumBy`: the accumulator.
@@ -105,9 +105,16 @@ impl Cell {
             ≡ cell_step (cell_of self.now) (dt, datum_of sample.now)) }
     {
         match self {
-            Cell::IPre(before) => step::i_pre(alloc, before, sample, place, out),
-            Cell::Delay(front, newest) => queue::step(front, newest, alloc, dt, sample, place, out),
-            Cell::Hold(latest) => step::hold(alloc, latest, sample, place, out),
+            Cell::IPre(before) => {
+                step::keep(alloc, Keeper::IPre, sample, place)?;
+                step::copy_over(alloc, before, out)
+            }
+            Cell::Delay(front, behind) => queue::step(front, behind, alloc, dt, sample, place, out),
+            Cell::Hold(kept) => {
+                let value = step::latest(kept, sample);
+                step::keep(alloc, Keeper::Hold, value, place)?;
+                step::copy_over(alloc, value, out)
+            }
             Cell::AccumBy(accumulator) => step::accum_by(alloc, accumulator, sample, place, out),
             Cell::After(left, value) => step::after(*left, value, dt, place, out),
             Cell::Repeatedly(left, recurring) => step::repeatedly(*left, recurring, dt, place, out),
@@ -161,7 +168,7 @@ impl Cell {
     {
         Ok(match self {
             Cell::IPre(before) => Cell::IPre(before.try_copy(alloc)?),
-            Cell::Delay(front, newest) => queue::try_copy(front, newest)?,
+            Cell::Delay(front, behind) => queue::try_copy(front, behind)?,
             Cell::Hold(latest) => Cell::Hold(latest.try_copy(alloc)?),
             Cell::AccumBy(accumulator) => Cell::AccumBy(accumulator.try_copy(alloc)?),
             Cell::After(left, value) => Cell::After(*left, value.try_copy()?),

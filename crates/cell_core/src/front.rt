@@ -1,12 +1,9 @@
 // What waits in front in a `delay`.
 
-ghost use Rattle.std.specs.Prelude.{◌≡◌, ◌+◌, ◌<◌, ◌^◌, ◌∷◌, [], ◌++◌, IfOk, OnOk, length};
-ghost use Rattle.sample_core.specs.ValueView.{datum_of};
-ghost use Rattle.cell_core.specs.Queue.{IsPassed, within as placed};
-ghost use Rattle.cell_core.specs.Entries.{entries_of};
+ghost use Rattle.std.specs.Prelude.{◌≡◌, ◌<◌, length};
+ghost use Rattle.cell_core.specs.{Queue.IsPassed, Queue.within as placed, Entries.entries_of};
 
-use sample_core::{Memory, Sample};
-use std::alloc::Global;
+use crate::entry::Entry;
 
 /// What a `delay` keeps in front, shared by its states until it is used up: its q, and the values,
 /// the newest first, which came before those behind. The last was out when the front was made.
@@ -15,13 +12,6 @@ pub struct Front {
     pub(crate) q: u64,
     pub(crate) entries: Vec<Entry>,
     ghost filled: { 0 < length entries.items },
-}
-
-/// A value in front, and how long after the front was made it is due.
-#[derive(Drop)]
-pub(crate) struct Entry {
-    pub(crate) due: u64,
-    pub(crate) value: Sample,
 }
 
 impl Front {
@@ -45,25 +35,11 @@ impl Front {
         let entries = self.entries.as_slice();
         let mut at = from;
         while at > 0 {
-            if dt < entries[at - 1].due.saturating_sub(age) {
+            if dt < entries[at - 1].time.saturating_sub(age) {
                 return at;
             }
             at -= 1;
         }
         0
     }
-}
-
-/// Adds a copy of the value, which is due at that time. `Memory` where a growth was refused.
-pub(crate) fn push(
-    alloc: Global,
-    due: u64,
-    value: &Sample,
-    entries: &mut Vec<Entry>,
-) -> Result<(), Memory>
-    ensures { OnOk result (entries_of entries.new.items
-        ≡ entries_of entries.old.items ++ (due, datum_of value.now) ∷ []) }
-{
-    let value = value.try_copy(alloc)?;
-    Ok(entries.push(Entry { due, value })?)
 }

@@ -3,6 +3,7 @@
 
 mod behind;
 mod cell;
+mod entry;
 mod form;
 mod front;
 mod laws;
@@ -11,7 +12,7 @@ mod recurring;
 mod start;
 mod step;
 
-pub use behind::Newest;
+pub use behind::Behind;
 pub use cell::Cell;
 pub use form::Form;
 pub use front::Front;

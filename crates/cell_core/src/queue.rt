@@ -1,18 +1,18 @@
 // The queue of a `delay` starts and steps.
 
-ghost use Rattle.std.specs.Prelude.{◌≡◌, ◌+◌, ◌<◌, ◌^◌, ◌∷◌, [], IfOk, OnOk, length};
+ghost use Rattle.std.specs.Prelude.{◌≡◌, ◌+◌, ◌<◌, ◌^◌, ◌∷◌, [], reverse, IfOk, OnOk, length};
 ghost use Rattle.sample_core.specs.ValueView.{datum_of};
-ghost use Rattle.cell_core.specs.CellView.{cell_of, outcome_of};
-ghost use Rattle.cell_core.specs.Cell.{cell_step};
+ghost use Rattle.cell_core.specs.{Cell.cell_step, CellView.cell_of, CellView.outcome_of};
+ghost use Rattle.cell_core.specs.Delays.{delay_of, queue_of, Follows, IsJoined, IsKept, IsTurned, IsGathered};
+ghost use Rattle.cell_core.specs.{Earlier.back_of, Entries.entries_of, Queue.IsRenewed, Queue.Gathers};
 ghost use Rattle.cell_core.specs.Start.{cell_start};
-ghost use Rattle.cell_core.specs.Queue.{IsRenewed};
-ghost use Rattle.cell_core.specs.Entries.{entries_of};
-ghost use Rattle.cell_core.specs.Delays.{delay_of, IsJoined, IsKept, IsTurned, IsGathered};
 
-use crate::behind::{Earlier, Newest};
+use crate::behind::Behind;
 use crate::cell::Cell;
+use crate::entry::{Entry, push};
 use crate::form::Form;
-use crate::front::{Entry, Front, push};
+use crate::front::Front;
+use crate::step::copy_over;
 use sample_core::{Memory, Sample};
 use std::alloc::Global;
 use std::rc::Rc;
@@ -28,17 +28,29 @@ pub(crate) fn start(
         outcome_of r ≡ cell_start (Form.Delay q) (datum_of out) (datum_of sample.now)) }
 {
     let mut entries = Vec::new(alloc);
-    entries.push(Entry { due: 0, value: out })?;
-    renewed(alloc, q, 0, entries, sample)
+    entries.push(Entry {
+        time: 0,
+        value: out,
+    })?;
+    let mut cell = Cell::Time(0);
+    let mut answer = Sample::Int(0);
+    match renewed(alloc, q, 0, entries, sample, &mut cell, &mut answer) {
+        Ok(()) => Ok((cell, answer)),
+        Err(memory) => {
+            drop(cell);
+            drop(answer);
+            Err(memory)
+        }
+    }
 }
 
 /// The queue after dt more, with the sample in it, in that place, and its answer in the other: the
-/// latest value that is due, or what was out. It takes memory for the sample's place, and for a front of those
-/// that wait behind when all in front has passed.
+/// latest value that is due, or what was out. It takes memory for a block of samples, and for a
+/// front of those that wait behind when all in front has passed.
 #[inline(never)]
 pub(crate) fn step(
     front: &Rc<Front>,
-    newest: &Rc<Newest>,
+    behind: &Rc<Behind>,
     alloc: Global,
     dt: u64,
     sample: &Sample,
@@ -46,34 +58,16 @@ pub(crate) fn step(
     out: &mut Sample,
 ) -> Result<(), Memory>
     ensures { OnOk result (outcome_of (place.new, out.new)
-        ≡ cell_step (delay_of front.now.value newest.now.value) (dt, datum_of sample.now)) }
-{
-    let (next, answer) = after_step(front, newest, alloc, dt, sample)?;
-    place.put(next);
-    out.put(answer);
-    Ok(())
-}
-
-/// The queue after dt more, with the sample in it, and its answer.
-#[inline(always)]
-fn after_step(
-    front: &Rc<Front>,
-    newest: &Rc<Newest>,
-    alloc: Global,
-    dt: u64,
-    sample: &Sample,
-) -> Result<(Cell, Sample), Memory>
-    ensures { IfOk result (λ r. outcome_of r
-        ≡ cell_step (delay_of front.now.value newest.now.value) (dt, datum_of sample.now)) }
+        ≡ cell_step (delay_of front.now.value behind.now.value) (dt, datum_of sample.now)) }
 {
     let ahead: &Front = front;
-    let last: &Newest = newest;
+    let last: &Behind = behind;
     let from = ahead.within(last.at);
     let at = ahead.passed(from, last.age, dt);
     if at == 0 {
-        turned(front, newest, alloc, dt, sample)
+        turned(ahead, last, alloc, dt, sample, place, out)
     } else {
-        kept(front, newest, alloc, at, dt, sample)
+        kept(front, behind, alloc, at, dt, sample, place, out)
     }
 }
 
@@ -82,39 +76,42 @@ fn after_step(
 #[inline(always)]
 fn kept(
     front: &Rc<Front>,
-    newest: &Rc<Newest>,
+    behind: &Rc<Behind>,
     alloc: Global,
     at: usize,
     dt: u64,
     sample: &Sample,
-) -> Result<(Cell, Sample), Memory>
+    place: &mut Cell,
+    out: &mut Sample,
+) -> Result<(), Memory>
     requires within { at < length front.now.value.entries.items }
-    requires fits { newest.now.value.age + dt < 2 ^ 64 }
-    ensures { IfOk result (λ r.
-        IsKept front.now.value newest.now.value at dt (datum_of sample.now) (outcome_of r)) }
+    requires fits { behind.now.value.age + dt < 2 ^ 64 }
+    ensures { OnOk result (IsKept front.now.value behind.now.value at dt (datum_of sample.now)
+        (outcome_of (place.new, out.new))) }
 {
-    let earlier = Earlier::of(newest)?;
-    let age = newest.age + dt;
+    let age = behind.age + dt;
     let front = front.clone()?;
-    joined(alloc, dt, sample, earlier, front, age, at)
+    joined(alloc, front, behind, age, at, dt, sample, place, out)
 }
 
 /// The queue after dt more, where all in front has passed: those behind that aren't due come to
 /// the front, and the sample is behind. Its answer is what is out.
 #[inline(never)]
 fn turned(
-    front: &Rc<Front>,
-    newest: &Rc<Newest>,
+    front: &Front,
+    behind: &Behind,
     alloc: Global,
     dt: u64,
     sample: &Sample,
-) -> Result<(Cell, Sample), Memory>
-    ensures { IfOk result (λ r.
-        IsTurned front.now.value newest.now.value dt (datum_of sample.now) (outcome_of r)) }
+    place: &mut Cell,
+    out: &mut Sample,
+) -> Result<(), Memory>
+    ensures { OnOk result (IsTurned front.now behind.now dt (datum_of sample.now)
+        (outcome_of (place.new, out.new))) }
 {
     let mut entries = Vec::with_capacity(alloc, front.entries.len())?;
-    match gather(front, newest, alloc, dt, &mut entries) {
-        Ok(()) => renewed(alloc, front.q, dt, entries, sample),
+    match gather(front, behind, alloc, dt, &mut entries) {
+        Ok(()) => renewed(alloc, front.q, dt, entries, sample, place, out),
         Err(memory) => {
             drop(entries);
             Err(memory)
@@ -127,25 +124,56 @@ fn turned(
 /// had passed.
 fn gather(
     front: &Front,
-    newest: &Newest,
+    behind: &Behind,
     alloc: Global,
     dt: u64,
     entries: &mut Vec<Entry>,
 ) -> Result<(), Memory>
     requires { entries.old.items ≡ [] }
-    ensures { OnOk result (IsGathered front.now newest.now dt (entries_of entries.new.items)) }
+    ensures { OnOk result (IsGathered front.now behind.now dt (entries_of entries.new.items)) }
 {
-    let mut at = newest;
     let mut left = front.q;
-    while dt < left {
-        push(alloc, left - dt, &at.value, entries)?;
-        left = left.saturating_sub(at.since);
-        match at.earlier.last() {
+    let mut samples = behind.recent.as_slice();
+    let mut earlier = &behind.earlier;
+    loop {
+        match gather_run(alloc, samples, dt, left, entries)? {
+            Some(rest) => left = rest,
+            None => return Ok(()),
+        }
+        match earlier.last() {
+            Some(block) => {
+                samples = block.samples.as_slice();
+                earlier = &block.earlier;
+            }
             None => return push(alloc, 0, &front.entries[0].value, entries),
-            Some(before) => at = before,
         }
     }
-    push(alloc, 0, &at.value, entries)
+}
+
+/// Adds those of the samples, oldest first, that aren't due in dt, the newest first, each with the
+/// time that is left to it then, where `left` is left to the newest. Answers what is left to the
+/// one before them; nothing where one is due, which is added as what is out.
+fn gather_run(
+    alloc: Global,
+    samples: &[Entry],
+    dt: u64,
+    left: u64,
+    entries: &mut Vec<Entry>,
+) -> Result<Option<u64>, Memory>
+    ensures { IfOk result (λ rest. Gathers dt left (reverse (entries_of samples.now))
+        (entries_of entries.old.items) rest (entries_of entries.new.items)) }
+{
+    match samples.split_last() {
+        None => Ok(Some(left)),
+        Some((newest, rest)) => {
+            if left <= dt {
+                push(alloc, 0, &newest.value, entries)?;
+                return Ok(None);
+            }
+            push(alloc, left - dt, &newest.value, entries)?;
+            gather_run(alloc, rest, dt, left.saturating_sub(newest.time), entries)
+        }
+    }
 }
 
 /// The queue with this front, of which the last is out, and the sample behind. Its answer is
@@ -157,53 +185,134 @@ fn renewed(
     dt: u64,
     entries: Vec<Entry>,
     sample: &Sample,
-) -> Result<(Cell, Sample), Memory>
+    place: &mut Cell,
+    out: &mut Sample,
+) -> Result<(), Memory>
     requires { 0 < length entries.items }
-    ensures { IfOk result (λ r.
-        IsRenewed q (entries_of entries.items) (datum_of sample.now) (outcome_of r)) }
+    ensures { OnOk result (IsRenewed q (entries_of entries.items) (datum_of sample.now)
+        (outcome_of (place.new, out.new))) }
 {
     let at = entries.len() - 1;
     let front = Rc::new(alloc, Front { q, entries })?;
-    joined(alloc, dt, sample, Earlier::new(), front, 0, at)
+    let nothing = Behind::none(alloc);
+    let done = joined(alloc, front, &nothing, 0, at, dt, sample, place, out);
+    drop(nothing);
+    done
 }
 
 /// The queue with the sample behind, dt after the earlier ones, at that age of the front, where
 /// what is out stands at that place. Its answer is what is out.
-#[inline(never)]
+#[inline(always)]
 fn joined(
     alloc: Global,
-    dt: u64,
-    sample: &Sample,
-    earlier: Earlier,
     front: Rc<Front>,
+    before: &Behind,
     age: u64,
     at: usize,
-) -> Result<(Cell, Sample), Memory>
+    dt: u64,
+    sample: &Sample,
+    place: &mut Cell,
+    out: &mut Sample,
+) -> Result<(), Memory>
     requires { at < length front.value.entries.items }
-    ensures { IfOk result (λ r.
-        IsJoined front.value age at ((dt, datum_of sample.now) ∷ earlier) (outcome_of r)) }
+    ensures { OnOk result (IsJoined front.value age at
+        ((dt, datum_of sample.now) ∷ back_of before.now) (outcome_of (place.new, out.new))) }
 {
-    let answer = front.entries[at].value.try_copy(alloc)?;
-    let value = sample.try_copy(alloc)?;
-    let newest = Newest {
-        since: dt,
-        value,
-        earlier,
-        age,
-        at,
-    };
-    let newest = Rc::new(alloc, newest)?;
-    Ok((Cell::Delay(front, newest), answer))
+    match copy_over(alloc, &front.entries[at].value, out) {
+        Ok(()) => put(alloc, front, before, age, at, dt, sample, place),
+        Err(memory) => {
+            drop(front);
+            Err(memory)
+        }
+    }
+}
+
+/// The same without the answer.
+#[inline(always)]
+fn put(
+    alloc: Global,
+    front: Rc<Front>,
+    before: &Behind,
+    age: u64,
+    at: usize,
+    dt: u64,
+    sample: &Sample,
+    place: &mut Cell,
+) -> Result<(), Memory>
+    requires { at < length front.value.entries.items }
+    ensures { OnOk result (cell_of place.new
+        ≡ queue_of front.value age at ((dt, datum_of sample.now) ∷ back_of before.now)) }
+{
+    if let Cell::Delay(ahead, there) = place {
+        drop(std::mem::replace(ahead, front));
+        return put_behind(there, alloc, before, age, at, dt, sample);
+    }
+    match new_behind(alloc, before, age, at, dt, sample) {
+        Ok(there) => {
+            place.put(Cell::Delay(front, there));
+            Ok(())
+        }
+        Err(memory) => {
+            drop(front);
+            Err(memory)
+        }
+    }
+}
+
+/// What is behind then, in that place where no one else holds it.
+#[inline(always)]
+fn put_behind(
+    place: &mut Rc<Behind>,
+    alloc: Global,
+    before: &Behind,
+    age: u64,
+    at: usize,
+    dt: u64,
+    sample: &Sample,
+) -> Result<(), Memory>
+    ensures { OnOk result
+        (Follows before.now age at (dt, datum_of sample.now) place.new.value) }
+{
+    match Rc::get_mut(place) {
+        Some(behind) => behind.follow(alloc, before, age, at, dt, sample),
+        None => {
+            let fresh = new_behind(alloc, before, age, at, dt, sample)?;
+            drop(std::mem::replace(place, fresh));
+            Ok(())
+        }
+    }
+}
+
+/// The same in memory of its own.
+#[inline(never)]
+fn new_behind(
+    alloc: Global,
+    before: &Behind,
+    age: u64,
+    at: usize,
+    dt: u64,
+    sample: &Sample,
+) -> Result<Rc<Behind>, Memory>
+    ensures { IfOk result (λ b. Follows before.now age at (dt, datum_of sample.now) b.value) }
+{
+    let mut fresh = Behind::none(alloc);
+    match fresh.follow(alloc, before, age, at, dt, sample) {
+        Ok(()) => Ok(Rc::new(alloc, fresh)?),
+        Err(memory) => {
+            drop(fresh);
+            Err(memory)
+        }
+    }
 }
 
 /// The same cell, with its parts shared. It takes no memory; `Memory` only where a count of
 /// references is full.
-pub(crate) fn try_copy(front: &Rc<Front>, newest: &Rc<Newest>) -> Result<Cell, Memory>
-    ensures { IfOk result (λ c. cell_of c ≡ delay_of front.now.value newest.now.value) }
+pub(crate) fn try_copy(front: &Rc<Front>, behind: &Rc<Behind>) -> Result<Cell, Memory>
+    ensures { IfOk result (λ c. cell_of c ≡ delay_of front.now.value behind.now.value) }
 {
     let front = front.clone()?;
-    match newest.clone() {
-        Ok(newest) => Ok(Cell::Delay(front, newest)),
+    match behind.clone() {
+        Ok(behind) => Ok(Cell::Delay(front, behind)),
         Err(_) => {
             drop(front);
             Err(Memory)

@@ -1,10 +1,8 @@
 // How each form starts.
 
 ghost use Rattle.std.specs.Prelude.{◌≡◌, ◌≤◌, IfOk};
-ghost use Rattle.sample_core.specs.Datum.{unit, int_of};
-ghost use Rattle.sample_core.specs.ValueView.{datum_of};
-ghost use Rattle.cell_core.specs.CellView.{cell_of, outcome_of};
-ghost use Rattle.cell_core.specs.Start.{cell_start};
+ghost use Rattle.sample_core.specs.{Datum.unit, Datum.int_of, ValueView.datum_of};
+ghost use Rattle.cell_core.specs.{CellView.cell_of, CellView.outcome_of, Start.cell_start};
 
 use crate::cell::Cell;
 use crate::form::Form;

@@ -1,12 +1,12 @@
 // How each cell steps.
 
-ghost use Rattle.std.specs.Prelude.{◌≡◌, pos, ◌+ℤ◌, ◌*ℤ◌, OnOk};
+ghost use Rattle.std.specs.Prelude.{◌≡◌, ◌∷◌, [], pos, ◌+ℤ◌, ◌*ℤ◌, OnOk};
 ghost use Rattle.std.specs.Int.{int_wrap, w64};
-ghost use Rattle.sample_core.specs.Datum.{unit};
-ghost use Rattle.sample_core.specs.ValueView.{datum_of};
-ghost use Rattle.cell_core.specs.CellView.{cell_of, outcome_of};
+ghost use Rattle.sample_core.specs.{Datum.unit, ValueView.datum_of};
+ghost use Rattle.net_syntax.specs.SignalFunction.{latest_event};
+ghost use Rattle.cell_core.specs.CellView.{cell_of, kept_by, outcome_of};
 ghost use Rattle.cell_core.specs.Parts.{after_of, recurring_of};
-ghost use Rattle.cell_core.specs.Cell.{cell_step, previous, latest, accumulating, ticking, summing};
+ghost use Rattle.cell_core.specs.Cell.{cell_step, accumulating, ticking, summing};
 
 use crate::cell::Cell;
 use crate::recurring::Recurring;
@@ -15,28 +15,53 @@ use sample_core::{Memory, Sample, SampleChild};
 use std::alloc::Global;
 use std::rc::Rc;
 
-/// An `iPre` answers the sample before and keeps this one.
-#[inline(always)]
-pub(crate) fn i_pre(
-    alloc: Global,
-    before: &Sample,
-    sample: &Sample,
-    place: &mut Cell,
-    out: &mut Sample,
-) -> Result<(), Memory>
-    ensures { OnOk result (outcome_of (place.new, out.new)
-        ≡ cell_step (previous (datum_of before.now)) (0, datum_of sample.now)) }
-{
-    match place {
-        Cell::IPre(there) => copy_over(alloc, sample, there)?,
-        _ => place.put(Cell::IPre(sample.try_copy(alloc)?)),
+/// A cell that keeps one value, and nothing else.
+#[derive(Clone, Copy)]
+pub(crate) enum Keeper {
+    IPre,
+    Hold,
+    AccumBy,
+}
+
+impl Keeper {
+    /// The cell that keeps this value.
+    #[inline(always)]
+    fn cell(self, value: Sample) -> Cell
+        ensures { cell_of result ≡ kept_by self (datum_of value) }
+    {
+        match self {
+            Keeper::IPre => Cell::IPre(value),
+            Keeper::Hold => Cell::Hold(value),
+            Keeper::AccumBy => Cell::AccumBy(value),
+        }
     }
-    copy_over(alloc, before, out)
+}
+
+/// The cell that keeps this value, in that place, whose value's memory it takes where it is one
+/// of the same form.
+#[inline(always)]
+pub(crate) fn keep(
+    alloc: Global,
+    keeper: Keeper,
+    value: &Sample,
+    place: &mut Cell,
+) -> Result<(), Memory>
+    ensures { OnOk result (cell_of place.new ≡ kept_by keeper (datum_of value.now)) }
+{
+    match (keeper, &mut *place) {
+        (Keeper::IPre, Cell::IPre(there)) => copy_over(alloc, value, there),
+        (Keeper::Hold, Cell::Hold(there)) => copy_over(alloc, value, there),
+        (Keeper::AccumBy, Cell::AccumBy(there)) => copy_over(alloc, value, there),
+        _ => {
+            place.put(keeper.cell(value.try_copy(alloc)?));
+            Ok(())
+        }
+    }
 }
 
 /// A copy of the value in the place of another: of a number at once.
 #[inline(always)]
-fn copy_over(alloc: Global, value: &Sample, place: &mut Sample) -> Result<(), Memory>
+pub(crate) fn copy_over(alloc: Global, value: &Sample, place: &mut Sample) -> Result<(), Memory>
     ensures { OnOk result (datum_of place.new ≡ datum_of value.now) }
 {
     match value {
@@ -58,27 +83,16 @@ fn copy_any(alloc: Global, value: &Sample, place: &mut Sample) -> Result<(), Mem
     Ok(())
 }
 
-/// A `hold` keeps and answers an event's value, else what it has kept.
+/// The value of the latest event: the sample's, if it is one, else what was kept.
 #[inline(always)]
-pub(crate) fn hold(
-    alloc: Global,
-    kept: &Sample,
-    sample: &Sample,
-    place: &mut Cell,
-    out: &mut Sample,
-) -> Result<(), Memory>
-    ensures { OnOk result (outcome_of (place.new, out.new)
-        ≡ cell_step (latest (datum_of kept.now)) (0, datum_of sample.now)) }
+pub(crate) fn latest<'s>(kept: &'s Sample, sample: &'s Sample) -> &'s Sample
+    ensures { datum_of result.now
+        ≡ latest_event (datum_of kept.entry.now) (datum_of sample.entry.now ∷ []) }
 {
-    let value = match sample {
+    match sample {
         Sample::Event(value) => value.get(),
         _ => kept,
-    };
-    match place {
-        Cell::Hold(there) => copy_over(alloc, value, there)?,
-        _ => place.put(Cell::Hold(value.try_copy(alloc)?)),
     }
-    copy_over(alloc, value, out)
 }
 
 /// An `accumBy` keeps an event's value and answers the event.
@@ -97,16 +111,12 @@ pub(crate) fn accum_by(
         Sample::Event(value) => (value.get(), true),
         _ => (kept, false),
     };
-    match place {
-        Cell::AccumBy(there) => copy_over(alloc, value, there)?,
-        _ => place.put(Cell::AccumBy(value.try_copy(alloc)?)),
-    }
+    keep(alloc, Keeper::AccumBy, value, place)?;
     if fires {
-        copy_any(alloc, sample, out)
-    } else {
-        out.put(Sample::NoEvent);
-        Ok(())
+        return copy_any(alloc, sample, out);
     }
+    out.put(Sample::NoEvent);
+    Ok(())
 }
 
 /// An `after`: its event comes where it isn't past, and no more than dt is left.

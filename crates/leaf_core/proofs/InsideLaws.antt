@@ -7,14 +7,14 @@ use Rattle.leaf_core.specs.Inside.{Inside, nothing, index, literal, one, two, th
 
 -- the expression of a form with this inside
 abbrev form_with : ℕ → Inside → Expression
-form_with n nothing = if nat_eq n 2 then unit_expr else if nat_eq n 3 then bool_expr false else if nat_eq n 4 then bool_expr true else input
+form_with n nothing = if nat_eq n 2 then unit_expr else if nat_eq n 3 then bool_expr false else if nat_eq n 25 then bool_expr true else input
 form_with n (index k) = param k
 form_with n (literal z) = int_expr z
-form_with n (one a) = if nat_eq n 7 then fst a else if nat_eq n 8 then snd a else if nat_eq n 10 then neg a else if nat_eq n 16 then not_expr a
-    else if nat_eq n 21 then event_expr a else len a
-form_with n (two a b) = if nat_eq n 6 then pair_expr a b else if nat_eq n 9 then then_expr a b else if nat_eq n 11 then add a b else if nat_eq n 12 then sub a b
-    else if nat_eq n 13 then mul a b else if nat_eq n 14 then less a b else if nat_eq n 15 then equal a b else if nat_eq n 17 then and_expr a b else or_expr a b
-form_with n (three a b c) = if nat_eq n 19 then if_expr a b c else if nat_eq n 22 then on a b c else nth a b c
+form_with n (one a) = if nat_eq n 6 then fst a else if nat_eq n 7 then snd a else if nat_eq n 9 then neg a else if nat_eq n 15 then not_expr a
+    else if nat_eq n 20 then event_expr a else len a
+form_with n (two a b) = if nat_eq n 5 then pair_expr a b else if nat_eq n 8 then then_expr a b else if nat_eq n 10 then add a b else if nat_eq n 11 then sub a b
+    else if nat_eq n 12 then mul a b else if nat_eq n 13 then less a b else if nat_eq n 14 then equal a b else if nat_eq n 16 then and_expr a b else or_expr a b
+form_with n (three a b c) = if nat_eq n 18 then if_expr a b c else if nat_eq n 21 then on a b c else nth a b c
 form_with n (one_type t) = no_event_expr t
 form_with n (row t es) = list_expr t es
 

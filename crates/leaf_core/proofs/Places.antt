@@ -1,6 +1,9 @@
 -- What stands at a place of a list, and how many there are.
 use Rattle.std.proofs.Common.{◌≡◌, ℕ, zero, suc, ◌<◌, ◌≤◌, ℤ, pos, List, [], ◌∷◌, length, get_or, Ok, Err, map, refl, ap, subst, sym, ◌∙◌, arith}
-use Rattle.sample_core.specs.Datum.{Datum, unit, list, elements, list_of}
+use Rattle.std.specs.Option.{ok_or, option_map}
+use Rattle.std.proofs.lemmas.List.{get_or-map, get_or_past, length-map}
+use Rattle.std.proofs.lemmas.Option.{slice_get-map, slice_get-get_or, slice_get_past}
+use Rattle.sample_core.specs.Datum.{Datum, list, elements, list_of}
 use Rattle.sample_core.specs.ValueView.{datum_of}
 use Rattle.sample_core.specs.declared.sample.Sample.{Sample}
 use Rattle.leaf_core.specs.Expression.{Expression, Expressions, no_more, and_then, expressions_of, nodes_in, nodes_in_all}
@@ -10,37 +13,28 @@ use Rattle.sample_core.specs.TypeView.{type_of}
 use Rattle.sample_core.specs.declared.ty.Ty.{Ty}
 use Rattle.leaf_core.specs.ExpressionCheck.{type_of_param}
 use Rattle.leaf_core.specs.declared.typing.ExprFault.TheVariants.{NoParam}
-use Rattle.leaf_core.specs.ExpressionValue.{nth_of, element_at, param_at}
+use Rattle.leaf_core.specs.ExpressionValue.{nth_of, element_at}
 
-pub param_found : (ps : List Sample) (k : ℕ) (s : Sample) → k < length ps → param_at (map datum_of ps) k ≡ datum_of (get_or ps k s)
-param_found [] k s h = absurd (omega arith)
-param_found (p ∷ ps) zero s h = refl
-param_found (p ∷ ps) (suc k) s h = param_found ps k s (omega arith)
-
-pub param_missing : (ps : List Sample) (k : ℕ) → length ps ≤ k → param_at (map datum_of ps) k ≡ unit
-param_missing [] k h = refl
-param_missing (p ∷ ps) zero h = absurd (omega arith)
-param_missing (p ∷ ps) (suc k) h = param_missing ps k (omega arith)
+-- a place behind a list, whose elements are seen by f
+pub past : {X Y : Type 0} (f : X → Y) (xs : List X) (k : ℕ) (d : Y) → length xs ≤ k → get_or (map f xs) k d ≡ d
+past f xs k d h = get_or_past (map f xs) k d (rw length-map h)
 
 pub type_found : (Ps : List Ty) (k : ℕ) (T : Ty) → k < length Ps → type_of_param (map type_of Ps) k ≡ Ok (type_of (get_or Ps k T))
-type_found [] k T h = absurd (omega arith)
-type_found (P ∷ Ps) zero T h = refl
-type_found (P ∷ Ps) (suc k) T h = type_found Ps k T (omega arith)
+type_found Ps k T h = ap (λ o. ok_or o NoParam) (slice_get-map type_of Ps k ∙ ap (option_map type_of) (slice_get-get_or Ps k T h))
 
 pub type_missing : (Ps : List Ty) (k : ℕ) → length Ps ≤ k → type_of_param (map type_of Ps) k ≡ Err NoParam
-type_missing [] k h = refl
-type_missing (P ∷ Ps) zero h = absurd (omega arith)
-type_missing (P ∷ Ps) (suc k) h = type_missing Ps k (omega arith)
+type_missing Ps k h = ap (λ o. ok_or o NoParam) (slice_get_past (map type_of Ps) k (rw length-map h))
 
+pub elements_of_elements : (vs : List Datum) → elements (list_of vs) ≡ vs
+elements_of_elements [] = refl
+elements_of_elements (v ∷ vs) = ap (λ t. v ∷ t) (elements_of_elements vs)
+
+-- a place of the list that a list value has elements by
 nth_found : (all : List Sample) (n : ℕ) (d : Datum) (s : Sample) → n < length all → nth_of (list_of (map datum_of all)) n d ≡ datum_of (get_or all n s)
-nth_found [] n d s h = absurd (omega arith)
-nth_found (p ∷ ps) zero d s h = refl
-nth_found (p ∷ ps) (suc k) d s h = nth_found ps k d s (omega arith)
+nth_found all n d s h = ap (λ vs. get_or vs n d) (elements_of_elements (map datum_of all)) ∙ get_or-map datum_of all n s d h
 
 nth_missing : (all : List Sample) (n : ℕ) (d : Datum) → length all ≤ n → nth_of (list_of (map datum_of all)) n d ≡ d
-nth_missing [] n d h = refl
-nth_missing (p ∷ ps) zero d h = absurd (omega arith)
-nth_missing (p ∷ ps) (suc k) d h = nth_missing ps k d (omega arith)
+nth_missing all n d h = ap (λ vs. get_or vs n d) (elements_of_elements (map datum_of all)) ∙ past datum_of all n d h
 
 pub element_found : (all : List Sample) (at : ℤ) (n : ℕ) (d : Datum) (s : Sample) → at ≡ pos n → n < length all
     → element_at (list (list_of (map datum_of all))) at d ≡ datum_of (get_or all n s)
@@ -48,10 +42,6 @@ element_found all at n d s e h = ap (λ t. element_at (list (list_of (map datum_
 
 pub element_missing : (all : List Sample) (at : ℤ) (n : ℕ) (d : Datum) → at ≡ pos n → length all ≤ n → element_at (list (list_of (map datum_of all))) at d ≡ d
 element_missing all at n d e h = ap (λ t. element_at (list (list_of (map datum_of all))) t d) e ∙ nth_missing all n d h
-
-pub elements_of_elements : (vs : List Datum) → elements (list_of vs) ≡ vs
-elements_of_elements [] = refl
-elements_of_elements (v ∷ vs) = ap (λ t. v ∷ t) (elements_of_elements vs)
 
 -- an element of a list expression has at most as many nodes as the elements
 pub element_falls : (all : List Expr) (i : ℕ) (e : Expr) → i < length all

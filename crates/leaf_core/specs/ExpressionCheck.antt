@@ -1,5 +1,6 @@
 -- The checking walk over an expression: its type, or the first test that fails.
-use Rattle.std.specs.Prelude.{ℕ, zero, suc, Bool, true, false, List, [], ◌∷◌, Result, Ok, Err}
+use Rattle.std.specs.Prelude.{ℕ, Bool, true, false, List, slice_get, Result, Ok, Err}
+use Rattle.std.specs.Option.{ok_or}
 use Rattle.std.specs.Int.{int_wrap, w64}
 use Rattle.std.specs.Ordering.{int_eq}
 use Rattle.sample_core.specs.Answer.{◌>>=◌}
@@ -59,9 +60,7 @@ element_type _ = Err Mismatch
 
 -- the type of parameter k, from 0
 abbrev pub type_of_param : List TypeTree → ℕ → TypeAnswer
-type_of_param [] k = Err NoParam
-type_of_param (P ∷ Ps) zero = Ok P
-type_of_param (P ∷ Ps) (suc k) = type_of_param Ps k
+type_of_param Ps k = ok_or (slice_get Ps k) NoParam
 
 abbrev mutual
   -- the parts in written order: each, once walked, is tested before the next is walked; a node's

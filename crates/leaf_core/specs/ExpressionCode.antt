@@ -4,7 +4,7 @@ use Rattle.std.proofs.Common.{ap, arith}
 use Rattle.std.specs.Coded.{Coded, coded_ℤ, coded_bool}
 use base.Stored.{Gv, gnil, gnum, gcons, num, coded_via}
 use denote.Struct.Codes.{itself}
-use Rattle.sample_core.specs.CodeNode.{node, tag_of, part0, part1, part2, head_of, rest_of}
+use Rattle.sample_core.specs.CodeNode.{node, tag_of, one, two, three, row}
 use Rattle.sample_core.specs.TypeCode.{type_code}
 use Rattle.leaf_core.specs.Expression.{Expression, Expressions, input, param, unit_expr, bool_expr, int_expr, pair_expr, fst, snd, then_expr, neg, add, sub, mul, less, equal, not_expr, and_expr, or_expr, if_expr, no_event_expr, event_expr, on, list_expr, nth, len, no_more, and_then}
 
@@ -44,58 +44,43 @@ abbrev mutual
 
 mutual
   -- expressions with one code are the same
-  pub to_code_inj : (x y : Expression) → to_code x ≡ to_code y → x ≡ y
-  to_code_inj input input e = refl
-  to_code_inj (param k) (param k') e = ap param (ap num (ap part0 e))
-  to_code_inj unit_expr unit_expr e = refl
-  to_code_inj (bool_expr p) (bool_expr p') e = ap bool_expr (coded_bool.inj p p' (ap part0 e))
-  to_code_inj (int_expr n) (int_expr n') e = ap int_expr (coded_ℤ.inj n n' (ap part0 e))
-  to_code_inj (pair_expr a b) (pair_expr a' b') e = λ i.
-      pair_expr (to_code_inj a a' (ap part0 e) i) (to_code_inj b b' (ap part1 e) i)
-  to_code_inj (fst a) (fst a') e = ap fst (to_code_inj a a' (ap part0 e))
-  to_code_inj (snd a) (snd a') e = ap snd (to_code_inj a a' (ap part0 e))
-  to_code_inj (then_expr a b) (then_expr a' b') e = λ i.
-      then_expr (to_code_inj a a' (ap part0 e) i) (to_code_inj b b' (ap part1 e) i)
-  to_code_inj (neg a) (neg a') e = ap neg (to_code_inj a a' (ap part0 e))
-  to_code_inj (add a b) (add a' b') e = λ i.
-      add (to_code_inj a a' (ap part0 e) i) (to_code_inj b b' (ap part1 e) i)
-  to_code_inj (sub a b) (sub a' b') e = λ i.
-      sub (to_code_inj a a' (ap part0 e) i) (to_code_inj b b' (ap part1 e) i)
-  to_code_inj (mul a b) (mul a' b') e = λ i.
-      mul (to_code_inj a a' (ap part0 e) i) (to_code_inj b b' (ap part1 e) i)
-  to_code_inj (less a b) (less a' b') e = λ i.
-      less (to_code_inj a a' (ap part0 e) i) (to_code_inj b b' (ap part1 e) i)
-  to_code_inj (equal a b) (equal a' b') e = λ i.
-      equal (to_code_inj a a' (ap part0 e) i) (to_code_inj b b' (ap part1 e) i)
-  to_code_inj (not_expr a) (not_expr a') e = ap not_expr (to_code_inj a a' (ap part0 e))
-  to_code_inj (and_expr a b) (and_expr a' b') e = λ i.
-      and_expr (to_code_inj a a' (ap part0 e) i) (to_code_inj b b' (ap part1 e) i)
-  to_code_inj (or_expr a b) (or_expr a' b') e = λ i.
-      or_expr (to_code_inj a a' (ap part0 e) i) (to_code_inj b b' (ap part1 e) i)
-  to_code_inj (if_expr a b c) (if_expr a' b' c') e = λ i.
-      if_expr (to_code_inj a a' (ap part0 e) i) (to_code_inj b b' (ap part1 e) i)
-      (to_code_inj c c' (ap part2 e) i)
-  to_code_inj (no_event_expr t) (no_event_expr t') e =
-      ap no_event_expr (type_code.inj t t' (ap part0 e))
-  to_code_inj (event_expr a) (event_expr a') e = ap event_expr (to_code_inj a a' (ap part0 e))
-  to_code_inj (on a b c) (on a' b' c') e = λ i.
-      on (to_code_inj a a' (ap part0 e) i) (to_code_inj b b' (ap part1 e) i)
-      (to_code_inj c c' (ap part2 e) i)
-  to_code_inj (list_expr t es) (list_expr t' es') e = λ i.
-      list_expr (type_code.inj t t' (ap part0 e) i) (to_codes_inj es es' (ap part1 e) i)
-  to_code_inj (nth a b c) (nth a' b' c') e = λ i.
-      nth (to_code_inj a a' (ap part0 e) i) (to_code_inj b b' (ap part1 e) i)
-      (to_code_inj c c' (ap part2 e) i)
-  to_code_inj (len a) (len a') e = ap len (to_code_inj a a' (ap part0 e))
-  to_code_inj _ _ e = absurd (omega (arith, ap tag_of e))
+  pub code_inj : (x y : Expression) → to_code x ≡ to_code y → x ≡ y
+  code_inj input input e = refl
+  code_inj (param k) (param k') e = one param (ap num) e
+  code_inj unit_expr unit_expr e = refl
+  code_inj (bool_expr p) (bool_expr p') e = one bool_expr (coded_bool.inj p p') e
+  code_inj (int_expr n) (int_expr n') e = one int_expr (coded_ℤ.inj n n') e
+  code_inj (pair_expr a b) (pair_expr a' b') e = two pair_expr (code_inj a a') (code_inj b b') e
+  code_inj (fst a) (fst a') e = one fst (code_inj a a') e
+  code_inj (snd a) (snd a') e = one snd (code_inj a a') e
+  code_inj (then_expr a b) (then_expr a' b') e = two then_expr (code_inj a a') (code_inj b b') e
+  code_inj (neg a) (neg a') e = one neg (code_inj a a') e
+  code_inj (add a b) (add a' b') e = two add (code_inj a a') (code_inj b b') e
+  code_inj (sub a b) (sub a' b') e = two sub (code_inj a a') (code_inj b b') e
+  code_inj (mul a b) (mul a' b') e = two mul (code_inj a a') (code_inj b b') e
+  code_inj (less a b) (less a' b') e = two less (code_inj a a') (code_inj b b') e
+  code_inj (equal a b) (equal a' b') e = two equal (code_inj a a') (code_inj b b') e
+  code_inj (not_expr a) (not_expr a') e = one not_expr (code_inj a a') e
+  code_inj (and_expr a b) (and_expr a' b') e = two and_expr (code_inj a a') (code_inj b b') e
+  code_inj (or_expr a b) (or_expr a' b') e = two or_expr (code_inj a a') (code_inj b b') e
+  code_inj (if_expr a b c) (if_expr a' b' c') e =
+      three if_expr (code_inj a a') (code_inj b b') (code_inj c c') e
+  code_inj (no_event_expr t) (no_event_expr t') e = one no_event_expr (type_code.inj t t') e
+  code_inj (event_expr a) (event_expr a') e = one event_expr (code_inj a a') e
+  code_inj (on a b c) (on a' b' c') e = three on (code_inj a a') (code_inj b b') (code_inj c c') e
+  code_inj (list_expr t es) (list_expr t' es') e =
+      two list_expr (type_code.inj t t') (codes_inj es es') e
+  code_inj (nth a b c) (nth a' b' c') e =
+      three nth (code_inj a a') (code_inj b b') (code_inj c c') e
+  code_inj (len a) (len a') e = one len (code_inj a a') e
+  code_inj _ _ e = absurd (omega (arith, ap tag_of e))
 
   -- elements with one code are the same
-  pub to_codes_inj : (x y : Expressions) → to_codes x ≡ to_codes y → x ≡ y
-  to_codes_inj no_more no_more e = refl
-  to_codes_inj (and_then x es) (and_then y fs) e = λ i.
-      and_then (to_code_inj x y (ap head_of e) i) (to_codes_inj es fs (ap rest_of e) i)
-  to_codes_inj _ _ e = cc
+  pub codes_inj : (x y : Expressions) → to_codes x ≡ to_codes y → x ≡ y
+  codes_inj no_more no_more e = refl
+  codes_inj (and_then x es) (and_then y fs) e = row and_then (code_inj x y) (codes_inj es fs) e
+  codes_inj _ _ e = cc
 
 -- expressions told apart by their codes
 abbrev pub expression_code : Coded Expression
-expression_code = coded_via itself to_code to_code_inj
+expression_code = coded_via itself to_code code_inj

@@ -1,5 +1,5 @@
 -- What an expression's value is.
-use Rattle.std.specs.Prelude.{ℕ, zero, suc, ℤ, pos, neg_ℤ, ◌+ℤ◌, ◌-ℤ◌, ◌*ℤ◌, int_lt, Bool, true, false, not, ◌&&◌, ◌||◌, List, [], ◌∷◌, length}
+use Rattle.std.specs.Prelude.{ℕ, ℤ, pos, neg_ℤ, ◌+ℤ◌, ◌-ℤ◌, ◌*ℤ◌, int_lt, Bool, true, false, not, ◌&&◌, ◌||◌, List, [], ◌∷◌, length, get_or}
 use Rattle.std.specs.Int.{int_wrap, w64}
 use Rattle.std.specs.Ordering.{int_eq}
 use Rattle.std.specs.Bool.{beq}
@@ -40,9 +40,7 @@ wrap z = int (int_wrap w64 z)
 
 -- the element at a place, from 0; d outside
 abbrev pub nth_of : Datums → ℕ → Datum → Datum
-nth_of end n d = d
-nth_of (more v vs) zero d = v
-nth_of (more v vs) (suc n) d = nth_of vs n d
+nth_of vs n d = get_or (elements vs) n d
 
 -- the same of a list value and a signed place; d also where the value is no list
 abbrev pub element_at : Datum → ℤ → Datum → Datum
@@ -56,9 +54,7 @@ count_of _ = 0
 
 -- parameter k, from 0; `unit` where there is none
 abbrev pub param_at : List Datum → ℕ → Datum
-param_at [] k = unit
-param_at (v ∷ vs) zero = v
-param_at (v ∷ vs) (suc k) = param_at vs k
+param_at vs k = get_or vs k unit
 
 -- with an event v, b at the pair of the input and v; else d
 abbrev pub on_event : Datum → Datum → (Datum → Datum) → Datum

@@ -3,8 +3,10 @@
 use Rattle.std.specs.Prelude.{ℕ, [], ◌++◌, true, false}
 use Rattle.std.specs.Hash as fed
 use Rattle.std.specs.List.{flat_map}
+use Rattle.sample_core.specs.CodeNode.{tag_of as node_tag}
 use Rattle.sample_core.specs.TypeTree.{TypeTree, unit_ty, bool_ty, int_ty, pair_ty, event_ty, list_ty}
 use Rattle.leaf_core.specs.Expression.{Expression, Expressions, input, param, unit_expr, bool_expr, int_expr, pair_expr, fst, snd, then_expr, neg, add, sub, mul, less, equal, not_expr, and_expr, or_expr, if_expr, no_event_expr, event_expr, on, list_expr, nth, len, no_more, and_then}
+use Rattle.leaf_core.specs.ExpressionCode.{to_code}
 use Rattle.leaf_core.specs.KeyTree.{KeyTree}
 
 -- what a hasher is fed at a type
@@ -16,34 +18,10 @@ type_writes (pair_ty A B) = fed.u8 3 ++ (type_writes A ++ type_writes B)
 type_writes (event_ty A) = fed.u8 4 ++ type_writes A
 type_writes (list_ty A) = fed.u8 5 ++ type_writes A
 
--- the number of an expression's form
+-- the number of an expression's form, as its code has it; `true` has one of its own
 abbrev pub tag_of : Expression → ℕ
-tag_of input = 0
-tag_of (param k) = 1
-tag_of unit_expr = 2
-tag_of (bool_expr false) = 3
-tag_of (bool_expr true) = 4
-tag_of (int_expr n) = 5
-tag_of (pair_expr a b) = 6
-tag_of (fst a) = 7
-tag_of (snd a) = 8
-tag_of (then_expr a b) = 9
-tag_of (neg a) = 10
-tag_of (add a b) = 11
-tag_of (sub a b) = 12
-tag_of (mul a b) = 13
-tag_of (less a b) = 14
-tag_of (equal a b) = 15
-tag_of (not_expr a) = 16
-tag_of (and_expr a b) = 17
-tag_of (or_expr a b) = 18
-tag_of (if_expr a b c) = 19
-tag_of (no_event_expr t) = 20
-tag_of (event_expr a) = 21
-tag_of (on a b c) = 22
-tag_of (list_expr t es) = 23
-tag_of (nth a b c) = 24
-tag_of (len a) = 25
+tag_of (bool_expr true) = 25
+tag_of e = node_tag (to_code e)
 
 -- what a hasher is fed at an expression: the number of its form, and then what is given
 abbrev pub tagged : Expression → fed.HashWrites → fed.HashWrites

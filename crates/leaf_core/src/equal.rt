@@ -2,9 +2,7 @@
 
 ghost use Rattle.std.specs.Prelude.{◌≡◌, ◌↔◌, IsTrue};
 ghost use Rattle.sample_core.specs.TypeView.{type_of};
-ghost use Rattle.leaf_core.specs.Expression.{expressions_of};
-ghost use Rattle.leaf_core.specs.Inside.{inside_of};
-ghost use Rattle.leaf_core.specs.ExpressionView.{expression_of};
+ghost use Rattle.leaf_core.specs.{Expression.expressions_of, Inside.inside_of, ExpressionView.expression_of};
 
 use crate::expr::{Expr, ExprChild, Exprs};
 use crate::feed::tag;
@@ -22,6 +20,7 @@ pub fn same_expr(a: &Expr, b: &Expr) -> bool
 
 /// Whether the same stands inside the two expressions, whatever their forms.
 #[cycle(same)]
+#[tactic(auto, using(std::proofs::lemmas::Grind::common_steps, crate::proofs::InsideLaws::nodes_inside))]
 fn same_inside(a: &Expr, b: &Expr) -> bool
     ensures { IsTrue result ↔ (inside_of (expression_of a.now) ≡ inside_of (expression_of b.now)) }
 {
@@ -80,6 +79,7 @@ fn same_list(t: &Ty, all: &Exprs, u: &Ty, others: &Exprs) -> bool
 
 /// Whether the elements of two list expressions are equal.
 #[cycle(same)]
+#[tactic(auto, using(std::proofs::lemmas::Grind::common_steps, crate::proofs::Places::element_smaller, crate::proofs::Places::same_length))]
 fn same_parts(all: &Exprs, others: &Exprs) -> bool
     ensures { IsTrue result ↔ (expressions_of all.now ≡ expressions_of others.now) }
 {

@@ -4,11 +4,9 @@ ghost use Rattle.std.specs.Prelude.{◌≡◌, IfOk, OnOk, int_lt, map, neg_ℤ,
 ghost use Rattle.std.specs.Int.{int_wrap, w64};
 ghost use Rattle.sample_core.specs.Datum.{event, int_of, list, list_of, pair};
 ghost use Rattle.sample_core.specs.ValueView.{datum_of};
-ghost use Rattle.leaf_core.specs.Expression.{expressions_of, on};
-ghost use Rattle.leaf_core.specs.ExpressionView.{expression_of};
+ghost use Rattle.leaf_core.specs.{Expression.expressions_of, Expression.on, ExpressionView.expression_of};
 ghost use Rattle.leaf_core.specs.ExpressionValue.{value_of, is_true, choose, count_of, element_at, logic_by, on_event, part_of, same_datum, sum_by};
-ghost use Rattle.leaf_core.specs.LookedView.{looked_value};
-ghost use Rattle.leaf_core.specs.ScopeView.{value_in, values_in};
+ghost use Rattle.leaf_core.specs.{LookedView.looked_value, ScopeView.value_in, ScopeView.values_in};
 
 use crate::expr::{Expr, ExprChild, Exprs};
 use crate::literal::Literal;
@@ -344,6 +342,7 @@ fn eval_on(
 
 /// The same, where the event has this value.
 #[cycle(eval)]
+#[tactic(auto, using(std::proofs::lemmas::Grind::common_steps))]
 fn eval_on_event(
     scope: &Scope<'_>,
     event: &Sample,
@@ -439,6 +438,7 @@ fn eval_element(
 
 /// The value of a list of these elements.
 #[cycle(eval)]
+#[tactic(auto, using(std::proofs::lemmas::Grind::common_steps, crate::proofs::Places::element_smaller))]
 fn eval_elements(scope: &Scope<'_>, elements: &Exprs, place: &mut Sample) -> Result<(), Memory>
     ensures { OnOk result
         (datum_of place.new ≡ list (list_of (values_in (expressions_of elements.now) scope.now))) }

@@ -3,8 +3,7 @@
 ghost use Rattle.std.specs.Prelude.{◌≡◌, ◌++◌, fold};
 ghost use Rattle.std.specs.Hash.{u8};
 ghost use Rattle.sample_core.specs.TypeView.{type_of};
-ghost use Rattle.leaf_core.specs.ExpressionView.{expression_of};
-ghost use Rattle.leaf_core.specs.Inside.{inside_of, inside_fed};
+ghost use Rattle.leaf_core.specs.{ExpressionView.expression_of, Inside.inside_of, Inside.inside_fed};
 ghost use Rattle.leaf_core.specs.Expression.{expressions_of};
 ghost use Rattle.leaf_core.specs.HashWrites.{tag_of, type_writes, expression_writes, expressions_writes};
 
@@ -47,28 +46,28 @@ pub fn tag(expr: &Expr) -> u8
         Expr::Param(_) => 1,
         Expr::Literal(Literal::Unit) => 2,
         Expr::Literal(Literal::Bool(false)) => 3,
-        Expr::Literal(Literal::Bool(true)) => 4,
-        Expr::Literal(Literal::Int(_)) => 5,
-        Expr::Pair(..) => 6,
-        Expr::Fst(_) => 7,
-        Expr::Snd(_) => 8,
-        Expr::Then(..) => 9,
-        Expr::Neg(_) => 10,
-        Expr::Add(..) => 11,
-        Expr::Sub(..) => 12,
-        Expr::Mul(..) => 13,
-        Expr::Less(..) => 14,
-        Expr::Equal(..) => 15,
-        Expr::Not(_) => 16,
-        Expr::And(..) => 17,
-        Expr::Or(..) => 18,
-        Expr::If(..) => 19,
-        Expr::NoEvent(_) => 20,
-        Expr::Event(_) => 21,
-        Expr::On(..) => 22,
-        Expr::List(..) => 23,
-        Expr::Nth(..) => 24,
-        Expr::Len(_) => 25,
+        Expr::Literal(Literal::Bool(true)) => 25,
+        Expr::Literal(Literal::Int(_)) => 4,
+        Expr::Pair(..) => 5,
+        Expr::Fst(_) => 6,
+        Expr::Snd(_) => 7,
+        Expr::Then(..) => 8,
+        Expr::Neg(_) => 9,
+        Expr::Add(..) => 10,
+        Expr::Sub(..) => 11,
+        Expr::Mul(..) => 12,
+        Expr::Less(..) => 13,
+        Expr::Equal(..) => 14,
+        Expr::Not(_) => 15,
+        Expr::And(..) => 16,
+        Expr::Or(..) => 17,
+        Expr::If(..) => 18,
+        Expr::NoEvent(_) => 19,
+        Expr::Event(_) => 20,
+        Expr::On(..) => 21,
+        Expr::List(..) => 22,
+        Expr::Nth(..) => 23,
+        Expr::Len(_) => 24,
     }
 }
 
@@ -85,6 +84,7 @@ pub fn feed_expr<H: Hasher>(expr: &Expr, state: &mut H)
 
 /// Feeds what stands inside the expression to the hasher.
 #[cycle(feed)]
+#[tactic(auto, using(std::proofs::lemmas::Grind::common_steps, crate::proofs::InsideLaws::nodes_inside))]
 fn feed_inside<H: Hasher>(expr: &Expr, state: &mut H)
     ensures { state.new ≡ fold H.write state.old (inside_fed (inside_of (expression_of expr.now))) }
 {
@@ -133,6 +133,7 @@ fn feed_list<H: Hasher>(t: &Ty, all: &Exprs, state: &mut H)
 
 /// Feeds the elements of a list expression to the hasher, one after another.
 #[cycle(feed)]
+#[tactic(auto, using(std::proofs::lemmas::Grind::common_steps, crate::proofs::Places::element_smaller))]
 fn feed_all<H: Hasher>(all: &Exprs, state: &mut H)
     ensures { state.new ≡ fold H.write state.old (expressions_writes (expressions_of all.now)) }
 {

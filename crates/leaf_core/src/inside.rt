@@ -1,8 +1,7 @@
 // What stands inside an expression, apart from its form.
 
 ghost use Rattle.std.specs.Prelude.{◌≡◌};
-ghost use Rattle.leaf_core.specs.Inside.{inside_of, rebuild, inside_in};
-ghost use Rattle.leaf_core.specs.ExpressionView.{expression_of};
+ghost use Rattle.leaf_core.specs.{Inside.inside_of, Inside.rebuild, Inside.inside_in, ExpressionView.expression_of};
 
 use crate::expr::{Expr, ExprChild, Exprs};
 use crate::literal::Literal;

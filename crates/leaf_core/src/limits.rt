@@ -1,12 +1,10 @@
 // The limits of types and of expressions.
 
-ghost use Rattle.std.specs.Prelude.{◌≡◌, ◌+◌, ◌≤◌, max, MatchOption};
-ghost use Rattle.sample_core.specs.TypeTree.{depth_of, nodes_of};
-ghost use Rattle.sample_core.specs.TypeView.{type_of};
+ghost use Rattle.std.specs.Prelude.{◌≡◌, ◌+◌, max};
+ghost use Rattle.sample_core.specs.{TypeTree.depth_of, TypeTree.nodes_of, TypeView.type_of};
 ghost use Rattle.leaf_core.specs.ExpressionView.{expression_of};
 ghost use Rattle.leaf_core.specs.Expression.{expressions_of, height_of, heights_of, nodes_in, nodes_in_all};
-ghost use Rattle.leaf_core.specs.TypeLimits.{type_fits};
-ghost use Rattle.leaf_core.specs.ExpressionLimits.{expression_fits};
+ghost use Rattle.leaf_core.specs.{TypeLimits.NodesLeft, TypeLimits.type_fits, ExpressionLimits.expression_fits};
 
 use crate::expr::{Expr, ExprChild, Exprs};
 use crate::inside::{Contents, inside};
@@ -43,10 +41,7 @@ pub fn expr_fits(expr: &Expr) -> bool
 /// How many of `nodes` are left after those of the type, whose depth is at most `depth`; `None`
 /// where it is deeper, or has more. It stops at the first type too many.
 fn type_nodes_left(ty: &Ty, depth: u32, nodes: u32) -> Option<u32>
-    ensures { MatchOption result (depth_of (type_of ty.now) ≤ depth
-        → nodes_of (type_of ty.now) ≤ nodes
-        → ⊥) (λ left. (depth_of (type_of ty.now) ≤ depth)
-        × (nodes_of (type_of ty.now) + left ≡ nodes)) }
+    ensures { NodesLeft result (depth_of (type_of ty.now)) (nodes_of (type_of ty.now)) depth nodes }
 {
     let depth = depth.checked_sub(1)?;
     let nodes = nodes.checked_sub(1)?;
@@ -64,10 +59,8 @@ fn type_nodes_left(ty: &Ty, depth: u32, nodes: u32) -> Option<u32>
 /// `None` where it is taller, or has more. It stops at the first expression too many.
 #[cycle(left)]
 fn nodes_left(expr: &Expr, height: u32, nodes: u32) -> Option<u32>
-    ensures { MatchOption result (height_of (expression_of expr.now) ≤ height
-        → nodes_in (expression_of expr.now) ≤ nodes
-        → ⊥) (λ left. (height_of (expression_of expr.now) ≤ height)
-        × (nodes_in (expression_of expr.now) + left ≡ nodes)) }
+    ensures { NodesLeft result (height_of (expression_of expr.now))
+        (nodes_in (expression_of expr.now)) height nodes }
 {
     let height = height.checked_sub(1)?;
     let nodes = nodes.checked_sub(1)?;
@@ -85,10 +78,8 @@ fn nodes_left(expr: &Expr, height: u32, nodes: u32) -> Option<u32>
 /// The same of two parts.
 #[cycle(left)]
 fn nodes_left_of_two(a: &ExprChild, b: &ExprChild, height: u32, nodes: u32) -> Option<u32>
-    ensures { MatchOption result (max (height_of a.now) (height_of b.now) ≤ height
-        → nodes_in a.now + nodes_in b.now ≤ nodes
-        → ⊥) (λ left. (max (height_of a.now) (height_of b.now) ≤ height)
-        × (nodes_in a.now + nodes_in b.now + left ≡ nodes)) }
+    ensures { NodesLeft result (max (height_of a.now) (height_of b.now))
+        (nodes_in a.now + nodes_in b.now) height nodes }
 {
     let nodes = nodes_left(a.get(), height, nodes)?;
     nodes_left(b.get(), height, nodes)
@@ -103,11 +94,8 @@ fn nodes_left_of_three(
     height: u32,
     nodes: u32,
 ) -> Option<u32>
-    ensures { MatchOption result
-        (max (max (height_of a.now) (height_of b.now)) (height_of c.now) ≤ height
-        → nodes_in a.now + nodes_in b.now + nodes_in c.now ≤ nodes
-        → ⊥) (λ left. (max (max (height_of a.now) (height_of b.now)) (height_of c.now) ≤ height)
-        × (nodes_in a.now + nodes_in b.now + nodes_in c.now + left ≡ nodes)) }
+    ensures { NodesLeft result (max (max (height_of a.now) (height_of b.now)) (height_of c.now))
+        (nodes_in a.now + nodes_in b.now + nodes_in c.now) height nodes }
 {
     let nodes = nodes_left_of_two(a, b, height, nodes)?;
     nodes_left(c.get(), height, nodes)
@@ -115,11 +103,10 @@ fn nodes_left_of_three(
 
 /// The same of the elements of a list expression.
 #[cycle(left)]
+#[tactic(auto, using(crate::proofs::Places::element_smaller))]
 fn nodes_left_of_all(all: &Exprs, height: u32, nodes: u32) -> Option<u32>
-    ensures { MatchOption result (heights_of (expressions_of all.now) ≤ height
-        → nodes_in_all (expressions_of all.now) ≤ nodes
-        → ⊥) (λ left. (heights_of (expressions_of all.now) ≤ height)
-        × (nodes_in_all (expressions_of all.now) + left ≡ nodes)) }
+    ensures { NodesLeft result (heights_of (expressions_of all.now))
+        (nodes_in_all (expressions_of all.now)) height nodes }
 {
     let mut left = nodes;
     for element in all.as_slice() {

@@ -1,11 +1,8 @@
 // Values that an expression only looks at.
 
-ghost use Rattle.std.specs.Prelude.{◌≡◌, IfSome, List};
-ghost use Rattle.sample_core.specs.Datum.{Datum};
+ghost use Rattle.std.specs.Prelude.{◌≡◌, IfSome};
 ghost use Rattle.sample_core.specs.ValueView.{datum_of};
-ghost use Rattle.leaf_core.specs.ExpressionView.{expression_of};
-ghost use Rattle.leaf_core.specs.ExpressionValue.{value_of};
-ghost use Rattle.leaf_core.specs.LookedView.{looked_value};
+ghost use Rattle.leaf_core.specs.{ExpressionView.expression_of, LookedView.looked_value, LookedView.IsValueAt};
 ghost use Rattle.leaf_core.specs.ScopeView.{value_in};
 
 use crate::expr::Expr;
@@ -71,8 +68,7 @@ fn long_path_at<'v>(scope: &Scope<'v>, expr: &Expr) -> Option<&'v Sample>
 #[inline(always)]
 pub fn short_path_at<'v>(x: &'v Sample, expr: &Expr) -> Option<&'v Sample>
     ensures { IfSome result
-        (λ v. (ps : List Datum) → datum_of v.now ≡
-        value_of (expression_of expr.now) ps (datum_of x.now)) }
+        (λ v. IsValueAt (datum_of x.now) (expression_of expr.now) (datum_of v.now)) }
 {
     match expr {
         Expr::Input => Some(x),

@@ -1,8 +1,7 @@
 // The shapes of the expressions that have code of their own.
 
 ghost use Rattle.std.specs.Prelude.{◌≡◌};
-ghost use Rattle.leaf_core.specs.ExpressionView.{expression_of};
-ghost use Rattle.leaf_core.specs.Shape.{shape, ShapeValueLaw};
+ghost use Rattle.leaf_core.specs.{ExpressionView.expression_of, Shape.shape, Shape.ShapeValueLaw};
 
 use crate::expr::Expr;
 use crate::literal::Literal;

@@ -7,8 +7,7 @@ ghost use Rattle.sample_core.specs.TypeView.{type_of};
 ghost use Rattle.leaf_core.specs.Expression.{expressions_of, pair_expr, then_expr, equal, if_expr, event_expr, on, list_expr, nth, len};
 ghost use Rattle.leaf_core.specs.ExpressionView.{expression_of, literal_of};
 ghost use Rattle.leaf_core.specs.ExpressionCheck.{carried_type, element_type, elements_walk, within_limits, expect_then, part_type, type_answer, type_of_param, type_walk, expect};
-ghost use Rattle.leaf_core.specs.ExpressionLimits.{ExpressionTypedWithin};
-ghost use Rattle.leaf_core.specs.CheckAnswer.{Gives, Passes};
+ghost use Rattle.leaf_core.specs.{ExpressionLimits.ExpressionTypedWithin, CheckAnswer.Gives, CheckAnswer.Passes};
 ghost use Rattle.leaf_core.specs.ScopeView.{type_in};
 ghost use Rattle.leaf_core.specs.declared.typing.ExprFault.TheVariants as F;
 
@@ -36,17 +35,6 @@ pub enum ExprFault {
     /// A growth was refused.
     #[error("memory")]
     Memory,
-}
-
-impl From<Memory> for ExprFault {
-    ghost use Rattle.std.specs.Prelude.{◌≡◌};
-    ghost use Rattle.leaf_core.specs.declared.typing.ExprFault.TheVariants as F;
-
-    ghost from_gives = { λ _ e. e ≡ F.Memory };
-
-    fn from(_: Memory) -> ExprFault {
-        ExprFault::Memory
-    }
 }
 
 /// The type of the expression, under the types of the parameters and of the input; parameter k has
@@ -385,8 +373,7 @@ fn walk_child(scope: &TypeScope<'_>, part: &ExprChild) -> Result<TyChild, ExprFa
         (type_in part.now scope.now) }
 {
     let found = walk(scope, part.get())?;
-    let child = TyChild::new(scope.alloc, found)?;
-    Ok(child)
+    child_of(scope.alloc, found)
 }
 
 /// Tests that an expression has the type that is wanted.
@@ -434,6 +421,7 @@ fn wanted_at(scope: &TypeScope<'_>, input: &Ty, expr: &Expr, ty: &Ty) -> Result<
 
 /// The type of a list of elements that are wanted to be of one type.
 #[cycle(walk)]
+#[tactic(auto, using(crate::proofs::Places::element_smaller))]
 fn walk_elements(scope: &TypeScope<'_>, element: &Ty, all: &Exprs) -> Result<Ty, ExprFault>
     ensures { Gives result
         (elements_walk (map type_of scope.now.params.now) (type_of scope.now.input.now)
@@ -501,11 +489,31 @@ fn list_type(alloc: Global, element: &Ty) -> Result<Ty, ExprFault>
 }
 
 /// A copy of the type, as a part of another.
-fn copied_child(alloc: Global, ty: &Ty) -> Result<TyChild, Memory>
-    ensures { IfOk result (λ t. t ≡ type_of ty.now) }
+fn copied_child(alloc: Global, ty: &Ty) -> Result<TyChild, ExprFault>
+    ensures { GivesUnless F.Memory (λ t. t) result (Ok (type_of ty.now)) }
 {
-    let copy = ty.try_copy(alloc)?;
-    TyChild::new(alloc, copy)
+    let copy = copied(alloc, ty)?;
+    child_of(alloc, copy)
+}
+
+/// The type as a part of another.
+fn child_of(alloc: Global, ty: Ty) -> Result<TyChild, ExprFault>
+    ensures { GivesUnless F.Memory (λ t. t) result (Ok (type_of ty)) }
+{
+    match TyChild::new(alloc, ty) {
+        Ok(child) => Ok(child),
+        Err(Memory) => Err(ExprFault::Memory),
+    }
+}
+
+/// A copy of the type.
+fn copied(alloc: Global, ty: &Ty) -> Result<Ty, ExprFault>
+    ensures { Gives result (Ok (type_of ty.now)) }
+{
+    match ty.try_copy(alloc) {
+        Ok(copy) => Ok(copy),
+        Err(Memory) => Err(ExprFault::Memory),
+    }
 }
 
 /// The type, where it is within the limits.
@@ -527,8 +535,7 @@ fn limited_copy(alloc: Global, ty: &Ty) -> Result<Ty, ExprFault>
     if !type_fits(ty) {
         return Err(ExprFault::TooDeep);
     }
-    let copy = ty.try_copy(alloc)?;
-    Ok(copy)
+    copied(alloc, ty)
 }
 
 /// The type of a literal.

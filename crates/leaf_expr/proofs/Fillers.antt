@@ -72,9 +72,11 @@ module _ (L : Language) where
       → OpensAtMost room (front ++ us)
   opens_past room t front us p d o = opens_both p.part room (front ++ us) p.stop us (p.spells us) d o
 
-  pub passed : (room : ℕ) {s q : L.Sort} (qs : Places L.Sort) (make : Maker L.Tree (place q qs) (L.Tree s)) (t : L.Tree q) (front us : List PlacedToken)
-      (p : Whole L q t front) → depth p.part ≤ room → ViableParts room s qs (make t) us → ViableParts room s (place q qs) make (front ++ us)
-  passed room qs make t front us p w d =
+  -- behind it stand the parts that follow, of places of which it and they make the tree
+  passed_to : (room : ℕ) {s q : L.Sort} (ps qs : Places L.Sort) (make : Maker L.Tree ps (L.Tree s)) (rest : Maker L.Tree qs (L.Tree s)) (t : L.Tree q)
+      (front us : List PlacedToken) (p : Whole L q t front) → depth p.part ≤ room → (d : ViableParts room s qs rest us)
+      → make_tree L s ps make (more p.part d.parts) ≡ Some d.tree → ViableParts room s ps make (front ++ us)
+  passed_to room ps qs make rest t front us p w d means =
       record {
         opens = opens_past room t front us p w d.opens;
         end = d.end;
@@ -82,22 +84,18 @@ module _ (L : Language) where
         tree = d.tree;
         spell = λ ts.
             more_spells {n = p.stop} {mid = us ++ (d.end ++ ts)} (rw append_assoc (p.spells (us ++ (d.end ++ ts)))) (d.spell ts);
-        means = rw p.means d.means;
+        means = means;
       }
+
+  pub passed : (room : ℕ) {s q : L.Sort} (qs : Places L.Sort) (make : Maker L.Tree (place q qs) (L.Tree s)) (t : L.Tree q) (front us : List PlacedToken)
+      (p : Whole L q t front) → depth p.part ≤ room → ViableParts room s qs (make t) us → ViableParts room s (place q qs) make (front ++ us)
+  passed room {q = q} qs make t front us p w d = passed_to room (place q qs) qs make (make t) t front us p w d (rw p.means d.means)
 
   pub passed_many : (room : ℕ) {s q : L.Sort} (make : List (L.Tree q) → L.Tree s) (t : L.Tree q) (front us : List PlacedToken)
       (p : Whole L q t front) → depth p.part ≤ room → ViableParts room s (places q) (λ xs. make (t ∷ xs)) us
       → ViableParts room s (places q) make (front ++ us)
-  passed_many room make t front us p w d =
-      record {
-        opens = opens_past room t front us p w d.opens;
-        end = d.end;
-        parts = more p.part d.parts;
-        tree = d.tree;
-        spell = λ ts.
-            more_spells {n = p.stop} {mid = us ++ (d.end ++ ts)} (rw append_assoc (p.spells (us ++ (d.end ++ ts)))) (d.spell ts);
-        means = rw p.means d.means;
-      }
+  passed_many room {q = q} make t front us p w d =
+      passed_to room (places q) (places q) make (λ xs. make (t ∷ xs)) t front us p w d (rw p.means d.means)
 
   completes_form : (room : ℕ) (s : L.Sort) (n m : ℕ) (w : List ℕ) (r : Row L.Sort L.Tree (L.Tree s)) (us : List PlacedToken) → L.row_at s w ≡ Some r
       → ViableParts room s r.takes r.makes us → Completes L s ((n, opening) ∷ (m, word w) ∷ us)

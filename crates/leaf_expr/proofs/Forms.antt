@@ -2,29 +2,31 @@
 use Rattle.std.proofs.Common.{◌≡◌, ℕ, Bool, true, false, if◌then◌else◌, List, [], ◌∷◌, ◌++◌, Some, None, refl, ◌∙◌}
 use Rattle.std.specs.Prelude.{bytes_eq}
 use Rattle.leaf_core.specs.Expression.{Expression}
-use Rattle.leaf_expr.specs.Language.{Row}
-use Rattle.leaf_expr.specs.Grammar.{Sort, Tree, expression_sort, row_at, rows, row_among, other_rows, unary_rows, binary_rows, ternary_rows, typed_rows}
+use Rattle.leaf_expr.specs.Language.{Row, row_among}
+use Rattle.leaf_expr.specs.Grammar.{Sort, Tree, expression_sort, row_at, rows, other_rows, unary_rows, binary_rows, ternary_rows, typed_rows}
+
+-- where a word begins a row of the first of two tables, and where it begins none
+module _ {S : Type 0} {T : S → Type 0} {R : Type 0} (w : List ℕ) where
+  pub hit : (xs ys : List (Row S T R)) (r : Row S T R) → row_among w xs ≡ Some r → row_among w (xs ++ ys) ≡ Some r
+  hit [] ys r e = absurd (cc)
+  hit (x ∷ xs) ys r e = go (bytes_eq w x.name) (hit xs ys r) e
+    where
+      go : (b : Bool) → (row_among w xs ≡ Some r → row_among w (xs ++ ys) ≡ Some r) → (if b then Some x else row_among w xs) ≡ Some r
+          → (if b then Some x else row_among w (xs ++ ys)) ≡ Some r
+      go true f p = p
+      go false f p = f p
+
+  pub miss : (xs ys : List (Row S T R)) → row_among w xs ≡ None → row_among w (xs ++ ys) ≡ row_among w ys
+  miss [] ys e = refl
+  miss (x ∷ xs) ys e = go (bytes_eq w x.name) (miss xs ys) e
+    where
+      go : (b : Bool) → (row_among w xs ≡ None → row_among w (xs ++ ys) ≡ row_among w ys) → (if b then Some x else row_among w xs) ≡ None
+          → (if b then Some x else row_among w (xs ++ ys)) ≡ row_among w ys
+      go true f p = absurd (cc)
+      go false f p = f p
 
 abbrev Rows : Type 0
 Rows = List (Row Sort Tree Expression)
-
-hit : (w : List ℕ) (xs ys : Rows) (r : Row Sort Tree Expression) → row_among w xs ≡ Some r → row_among w (xs ++ ys) ≡ Some r
-hit w [] ys r e = absurd (cc)
-hit w (x ∷ xs) ys r e = go (bytes_eq w x.name) (hit w xs ys r) e
-  where
-    go : (b : Bool) → (row_among w xs ≡ Some r → row_among w (xs ++ ys) ≡ Some r) → (if b then Some x else row_among w xs) ≡ Some r
-        → (if b then Some x else row_among w (xs ++ ys)) ≡ Some r
-    go true f p = p
-    go false f p = f p
-
-miss : (w : List ℕ) (xs ys : Rows) → row_among w xs ≡ None → row_among w (xs ++ ys) ≡ row_among w ys
-miss w [] ys e = refl
-miss w (x ∷ xs) ys e = go (bytes_eq w x.name) (miss w xs ys) e
-  where
-    go : (b : Bool) → (row_among w xs ≡ None → row_among w (xs ++ ys) ≡ row_among w ys) → (if b then Some x else row_among w xs) ≡ None
-        → (if b then Some x else row_among w (xs ++ ys)) ≡ row_among w ys
-    go true f p = absurd (cc)
-    go false f p = f p
 
 -- a word in no group so far
 abbrev upto_unary : Rows

@@ -1,5 +1,5 @@
 -- The language of types and expressions is proper.
-use Rattle.std.proofs.Common.{◌≡◌, ◌≢◌, ℕ, Bool, true, false, ◌&&◌, List, [], ◌∷◌, refl, None}
+use Rattle.std.proofs.Common.{◌≡◌, ◌≢◌, ℕ, ◌+◌, Bool, true, false, ◌&&◌, List, [], ◌∷◌, length, refl, Some, None}
 use Rattle.std.specs.Prelude.{codes, bytes_eq, if◌then◌else◌}
 use Rattle.sample_core.specs.TypeTree.{unit_ty, event_ty}
 use Rattle.sample_core.specs.Number.{is_number_word}
@@ -9,6 +9,7 @@ use Rattle.leaf_expr.specs.Sexpr.{atom, form, last, more, atom_spells, form_spel
 use Rattle.leaf_core.specs.Expression.{input, fst, int_expr}
 use Rattle.leaf_expr.specs.Grammar.{leaf, Sort, type_sort, expression_sort, index_sort, words, rows, word_at, row_at, word_among, number_at, has_form, takes_number}
 use Rattle.leaf_expr.specs.ReadLaws.{Completes}
+use Rattle.leaf_expr.specs.Language.{meaning}
 use Rattle.leaf_expr.proofs.Proper.{Proper}
 
 formless : (s : Sort) (w : List ℕ) → has_form s ≡ false → row_at s w ≡ None
@@ -66,30 +67,24 @@ filler type_sort =
 filler expression_sort = record { end = (0, word (codes "x")) ∷ []; stop = 1; part = atom (codes "x"); tree = input; spells = λ ts. atom_spells; means = refl }
 filler index_sort = record { end = (0, word (codes "1")) ∷ []; stop = 1; part = atom (codes "1"); tree = 1; spells = λ ts. atom_spells; means = refl }
 
+-- a form of one word behind its own, behind the form's parenthesis
+form_behind : (s : Sort) (n : ℕ) (name inner : List ℕ) (t : leaf.Tree s) → meaning leaf s (form name (more (atom inner) last)) ≡ Some t
+    → Completes leaf s ((n, opening) ∷ [])
+form_behind s n name inner t means =
+    record {
+      end = (0, word name) ∷ (0, word inner) ∷ (0, closing) ∷ [];
+      stop = 1;
+      part = form name (more (atom inner) last);
+      tree = t;
+      spells = λ ts.
+          form_spells (more_spells {n = 0 + length inner} atom_spells last_spells);
+      means = means;
+    }
+
 opener : (s : Sort) (n : ℕ) → has_form s ≡ true → Completes leaf s ((n, opening) ∷ [])
 unfolding word_at words row_at rows
-opener type_sort n h =
-    record {
-      end = (0, word (codes "Event")) ∷ (0, word (codes "Unit")) ∷ (0, closing)
-          ∷ [];
-      stop = 1;
-      part = form (codes "Event") (more (atom (codes "Unit")) last);
-      tree = event_ty unit_ty;
-      spells = λ ts.
-          form_spells (more_spells {n = 4} atom_spells last_spells);
-      means = refl;
-    }
-opener expression_sort n h =
-    record {
-      end = (0, word (codes "fst")) ∷ (0, word (codes "x")) ∷ (0, closing)
-          ∷ [];
-      stop = 1;
-      part = form (codes "fst") (more (atom (codes "x")) last);
-      tree = fst input;
-      spells = λ ts.
-          form_spells (more_spells {n = 1} atom_spells last_spells);
-      means = refl;
-    }
+opener type_sort n h = form_behind type_sort n (codes "Event") (codes "Unit") (event_ty unit_ty) refl
+opener expression_sort n h = form_behind expression_sort n (codes "fst") (codes "x") (fst input) refl
 opener index_sort n h = absurd (cc)
 
 pub leaf_proper : Proper leaf

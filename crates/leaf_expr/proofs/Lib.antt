@@ -7,6 +7,7 @@ pub mod ReadCounts
 pub mod Fillers
 pub mod ReadFaults
 pub mod OneFault
+pub mod ReadingLaws
 pub mod Numbers
 pub mod TokenLaws
 pub mod LeafProper
@@ -16,10 +17,12 @@ pub mod TextRows
 pub mod TokenSteps
 pub mod Forms
 pub mod ReadSteps
+pub mod Reading
 pub mod WordSteps
 pub mod ItemSteps
 pub mod NaturalSteps
 pub mod Joined
+pub mod Printed
 pub mod Answered
 pub mod FrontSteps
 pub mod PartSteps

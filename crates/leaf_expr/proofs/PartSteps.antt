@@ -6,7 +6,7 @@ use Rattle.leaf_expr.specs.Grammar.{leaf}
 use Rattle.leaf_expr.specs.TreeReader.{Read, read, read_form, read_row, read_parts, read_head, read_end}
 use Rattle.leaf_expr.specs.declared.text_fault.ExprTextFault.{ExprTextFault}
 use Rattle.leaf_expr.specs.declared.text_fault.ExprTextFault.TheVariants.{Syntax}
-use Rattle.leaf_expr.proofs.ReadSteps.{Refuses, with, with_bind, with_refused, passed, ok_same}
+use Rattle.leaf_expr.proofs.ReadSteps.{Refuses, with, with_bind, passed}
 use Rattle.leaf_expr.proofs.ItemSteps.{with_all}
 use Rattle.sample_core.specs.Answer.{◌>>=◌}
 
@@ -55,23 +55,6 @@ module _ (L : Language) (size room : ℕ) where
   pub no_part : {R : Type 0} (s : L.Sort) (x : ExprTextFault) (qs : Places L.Sort) (make : L.Tree s → Maker L.Tree qs R) (ts : List PlacedToken) →
       Refuses x (read L size room s ts) → Refuses x (parts (place s qs) make ts)
   no_part s x qs make ts p = passed x (read L size room s ts) _ p
-
-  -- a part made into something else
-  pub made_part : {Q R : Type 0} (s : L.Sort) (h : L.Tree s → Q) {q : Q} {n : ℕ} {us : List PlacedToken} (qs : Places L.Sort) (make : Q → Maker L.Tree qs R)
-      (ts : List PlacedToken) → with h (read L size room s ts) ≡ Ok (q, n, us) → parts (place s qs) (λ x. make (h x)) ts ≡ parts qs (make q) us
-  made_part {Q = Q} s h {q = q} {n = n} {us = us} qs make ts p = go (read L size room s ts) p
-    where
-      go : (r : Read (L.Tree s)) → with h r ≡ Ok (q, n, us) → (r >>= (λ x. parts qs (make (h x.0)) x.2)) ≡ parts qs (make q) us
-      go (Ok y) p =
-          let e = ok_same _ _ p in
-          let i : h y.0 ≡ q = ap (λ (z : Q × ℕ × List PlacedToken). z.0) e in
-          let j : y.2 ≡ us = ap (λ (z : Q × ℕ × List PlacedToken). z.2) e in
-          rw (i, j) refl
-      go (Err d) p = absurd (cc)
-
-  pub no_made_part : {Q R : Type 0} (s : L.Sort) (h : L.Tree s → Q) (x : ExprTextFault) (qs : Places L.Sort) (make : Q → Maker L.Tree qs R)
-      (ts : List PlacedToken) → Refuses x (with h (read L size room s ts)) → Refuses x (parts (place s qs) (λ x. make (h x)) ts)
-  no_made_part s h x qs make ts p = with_refused x h (read L size room s ts) _ p
 
   -- behind the last part stands the end
   pub ended : {R : Type 0} (r : R) {j : ℕ} {ws : List PlacedToken} (ts : List PlacedToken) → read_end leaf size room ts ≡ Ok (j, ws) →

@@ -11,14 +11,21 @@ use Rattle.leaf_expr.specs.Printing.{type_sexpr, expression_sexpr, expression_se
 use Rattle.std.proofs.lemmas.Bool.{ne_eqb}
 use Rattle.leaf_expr.proofs.Numbers.{natural_spelled, integer_spelled, signed_head, decimal_is_word, signed_is_word}
 
-pub type_means : (t : TypeTree) → meaning leaf type_sort (type_sexpr t) ≡ Some t
+-- a printed type means the type, and its words are words
+type_printed : (t : TypeTree) → (meaning leaf type_sort (type_sexpr t) ≡ Some t) × (plain (type_sexpr t) ≡ true)
 unfolding word_at words row_at rows
-type_means unit_ty = refl
-type_means bool_ty = refl
-type_means int_ty = refl
-type_means (pair_ty a b) = rw (type_means a, type_means b) refl
-type_means (event_ty a) = rw (type_means a) refl
-type_means (list_ty a) = rw (type_means a) refl
+type_printed unit_ty = (refl, refl)
+type_printed bool_ty = (refl, refl)
+type_printed int_ty = (refl, refl)
+type_printed (pair_ty a b) = let i = type_printed a in let j = type_printed b in (rw (i.0, j.0) refl, rw (i.1, j.1) refl)
+type_printed (event_ty a) = let i = type_printed a in (rw i.0 refl, rw i.1 refl)
+type_printed (list_ty a) = let i = type_printed a in (rw i.0 refl, rw i.1 refl)
+
+pub type_means : (t : TypeTree) → meaning leaf type_sort (type_sexpr t) ≡ Some t
+type_means t = (type_printed t).0
+
+pub type_plain : (t : TypeTree) → plain (type_sexpr t) ≡ true
+type_plain t = (type_printed t).1
 
 pub index_means : (n : ℕ) → n ≤ 65535 → meaning leaf index_sort (atom (decimal n)) ≡ Some n
 unfolding word_at words
@@ -50,14 +57,6 @@ items_are : (es : Expressions) → expressions_of (items es) ≡ es
 unfolding items
 items_are no_more = refl
 items_are (and_then e es) = ap (and_then e) (items_are es)
-
-pub type_plain : (t : TypeTree) → plain (type_sexpr t) ≡ true
-type_plain unit_ty = refl
-type_plain bool_ty = refl
-type_plain int_ty = refl
-type_plain (pair_ty a b) = rw (type_plain a, type_plain b) refl
-type_plain (event_ty a) = rw (type_plain a) refl
-type_plain (list_ty a) = rw (type_plain a) refl
 
 -- a printed expression means the expression, and its words are words
 mutual

@@ -31,32 +31,29 @@ module _ (L : Language) where
 
   module _ (size room : ℕ) (reader : (s : L.Sort) → List PlacedToken
       → Read (L.Tree s)) (h : (s : L.Sort) (ts : List PlacedToken) (x : L.Tree s × ℕ × List PlacedToken) → reader s ts ≡ Ok x → Found room s x ts) where
-    found_more : {s q : L.Sort} (qs : Places L.Sort) (make : Maker L.Tree (place q qs) (L.Tree s)) (ts : List PlacedToken) (y : L.Tree s × ℕ × List PlacedToken)
-        (x : L.Tree q × ℕ × List PlacedToken) → Found room q x ts → FoundAll room s qs (make x.0) y x.2 → FoundAll room s (place q qs) make y ts
-    found_more qs make ts y x i j =
+    -- a part that is found and the parts found behind it, of places of which they make the tree
+    found_with : {s q : L.Sort} (ps qs : Places L.Sort) (make : Maker L.Tree ps (L.Tree s)) (rest : Maker L.Tree qs (L.Tree s)) (ts : List PlacedToken)
+        (y : L.Tree s × ℕ × List PlacedToken) (x : L.Tree q × ℕ × List PlacedToken) (i : Found room q x ts) (j : FoundAll room s qs rest y x.2)
+        → make_tree L s ps make (more i.part j.parts) ≡ Some y.0 → FoundAll room s ps make y ts
+    found_with ps qs make rest ts y x i j made =
         record {
           parts = more i.part j.parts;
           end = j.end;
           spell = more_spells i.spells j.spell;
           behind = j.behind;
-          make_it = rw i.means j.make_it;
+          make_it = made;
           within =
               let a : depth i.part ≤ room = i.within in let b : depths j.parts ≤ room = j.within in omega arith;
         }
 
+    found_more : {s q : L.Sort} (qs : Places L.Sort) (make : Maker L.Tree (place q qs) (L.Tree s)) (ts : List PlacedToken) (y : L.Tree s × ℕ × List PlacedToken)
+        (x : L.Tree q × ℕ × List PlacedToken) → Found room q x ts → FoundAll room s qs (make x.0) y x.2 → FoundAll room s (place q qs) make y ts
+    found_more {q = q} qs make ts y x i j = found_with (place q qs) qs make (make x.0) ts y x i j (rw i.means j.make_it)
+
     found_another : {s q : L.Sort} (make : List (L.Tree q)
         → L.Tree s) (ts : List PlacedToken) (y : L.Tree s × ℕ × List PlacedToken) (x : L.Tree q × ℕ × List PlacedToken) → Found room q x ts
         → FoundAll room s (places q) (λ xs. make (x.0 ∷ xs)) y x.2 → FoundAll room s (places q) make y ts
-    found_another make ts y x i j =
-        record {
-          parts = more i.part j.parts;
-          end = j.end;
-          spell = more_spells i.spells j.spell;
-          behind = j.behind;
-          make_it = rw i.means j.make_it;
-          within =
-              let a : depth i.part ≤ room = i.within in let b : depths j.parts ≤ room = j.within in omega arith;
-        }
+    found_another {q = q} make ts y x i j = found_with (places q) (places q) make (λ xs. make (x.0 ∷ xs)) ts y x i j (rw i.means j.make_it)
 
     found_all : {s : L.Sort} (q : L.Sort) (n : ℕ) (make : List (L.Tree q) → L.Tree s) (ts : List PlacedToken) (y : L.Tree s × ℕ × List PlacedToken)
         → read_all L size (reader q) n make ts ≡ Ok y → FoundAll room s (places q) make y ts

@@ -58,13 +58,6 @@ pub with_bind : {A T R : Type 0} (f : T → R) (r : Result A ExprTextFault) (g :
 with_bind f (Ok x) g h e = e x
 with_bind f (Err d) g h e = refl
 
--- a refusal of what something was made into is one of it
-pub with_refused : {A T R : Type 0} (x : ExprTextFault) (f : T → R) (r : Read T) (g : T × ℕ × List PlacedToken → Result A ExprTextFault) → Refuses x (with f r)
-    →
-    Refuses x (r >>= g)
-with_refused x f (Ok y) g p = refused_ok x _ _ p
-with_refused x f (Err d) g p = refused_same _ _ x d p
-
 -- what a call gives is what reading gives where that is the same
 pub given : {X Y : Type 0} (view : X → Y) (r : Result X ExprTextFault) {a b : Result Y ExprTextFault} → a ≡ b → Gives view r b → Gives view r a
 given view r e g = subst (Gives view r) (sym e) g

@@ -1,9 +1,9 @@
 -- The grammar of types and expressions: a table of words, and a table of forms.
-use Rattle.std.specs.Prelude.{ℕ, true, false, Bool, List, [], ◌∷◌, ◌++◌, Option, Some, None, bytes_eq, codes, if◌then◌else◌}
+use Rattle.std.specs.Prelude.{ℕ, true, false, Bool, List, [], ◌∷◌, ◌++◌, Option, bytes_eq, codes, if◌then◌else◌}
 use Rattle.sample_core.specs.TypeTree.{TypeTree, unit_ty, bool_ty, int_ty, pair_ty, event_ty, list_ty}
 use Rattle.leaf_expr.specs.WordReading.{WordReading, reads, unfit, integer_at, natural_at, map_reading}
 use Rattle.leaf_core.specs.Expression.{Expression, input, param, unit_expr, bool_expr, int_expr, pair_expr, fst, snd, then_expr, neg, add, sub, mul, less, equal, not_expr, and_expr, or_expr, if_expr, no_event_expr, event_expr, on, list_expr, nth, len, expressions_of}
-use Rattle.leaf_expr.specs.Language.{Language, Places, Maker, Row, no_place, place, places}
+use Rattle.leaf_expr.specs.Language.{Language, Places, Maker, Row, no_place, place, places, row_among}
 
 -- what stands at a place: a type, an expression, or the number of a parameter
 pub data Sort : Type 0 where
@@ -117,11 +117,6 @@ word_among w (x ∷ xs) r = if bytes_eq w x.0 then reads x.1 else word_among w x
 -- what a word is where a tree of the sort stands
 unfoldable pub word_at : (s : Sort) → List ℕ → WordReading (Tree s)
 word_at s w = word_among w (words s) (number_at s w)
-
--- the row of a table that a word begins
-abbrev pub row_among : {R : Type 0} → List ℕ → List (Row Sort Tree R) → Option (Row Sort Tree R)
-row_among w [] = None
-row_among w (x ∷ xs) = if bytes_eq w x.name then Some x else row_among w xs
 
 -- the form of the sort that a word begins
 unfoldable pub row_at : (s : Sort) → List ℕ → Option (Row Sort Tree (Tree s))

@@ -1,5 +1,5 @@
 -- Languages of texts: sorts of trees, the words that are trees, and the forms with their parts.
-use Rattle.std.specs.Prelude.{◌≡◌, ℕ, ◌≤◌, Bool, List, [], ◌∷◌, Option, Some, None, option_and_then}
+use Rattle.std.specs.Prelude.{◌≡◌, ℕ, ◌≤◌, Bool, List, [], ◌∷◌, Option, Some, None, option_and_then, bytes_eq, if◌then◌else◌}
 use Rattle.leaf_expr.specs.WordReading.{WordReading, reads}
 use Rattle.leaf_expr.specs.Token.{PlacedToken}
 use Rattle.leaf_expr.specs.Sexpr.{Sexpr, Sexprs, atom, form, last, more, Spells, depth}
@@ -21,6 +21,12 @@ pub record Row (S : Type 0) (T : S → Type 0) (R : Type 0) : Type 0 where
   pub name : List ℕ
   pub takes : Places S
   pub makes : Maker T takes R
+
+-- the row of a table that a word begins
+abbrev pub row_among : {S : Type 0} {T : S → Type 0} {R : Type 0} → List ℕ → List (Row S T R)
+    → Option (Row S T R)
+row_among w [] = None
+row_among w (x ∷ xs) = if bytes_eq w x.name then Some x else row_among w xs
 
 -- a language: its sorts, their trees, the words that are trees, and the forms
 pub record Language : Type 1 where

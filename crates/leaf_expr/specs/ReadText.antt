@@ -4,14 +4,14 @@ use Rattle.std.specs.Prelude.{ℕ, Bool, true, false, List, [], ◌∷◌, lengt
 use Rattle.sample_core.specs.TypeTree.{TypeTree}
 use Rattle.sample_core.specs.TypeView.{type_of}
 use Rattle.sample_core.specs.declared.ty.Ty.{Ty}
-use Rattle.leaf_core.specs.Expression.{Expression, no_event_expr}
+use Rattle.leaf_core.specs.Expression.{Expression}
 use Rattle.leaf_core.specs.ExpressionView.{expression_of}
 use Rattle.leaf_core.specs.declared.expr.Expr.{Expr}
 use Rattle.leaf_expr.specs.Token.{PlacedToken, closing, tokens_from}
 use Rattle.leaf_expr.specs.WordReading.{WordReading, reads, misspelt, unfit, natural_at}
 use Rattle.leaf_expr.specs.declared.word.WordFault.{WordFault}
 use Rattle.leaf_expr.specs.declared.word.WordFault.TheVariants as W
-use Rattle.leaf_expr.specs.Grammar.{leaf, Tree, Sort, type_sort, expression_sort, e, word_at}
+use Rattle.leaf_expr.specs.Grammar.{leaf, Tree, Sort, expression_sort, e, word_at}
 use Rattle.leaf_expr.specs.TreeReader.{Read, word_read, read, read_head, read_form, read_parts, read_all}
 use Rattle.leaf_expr.specs.Language.{Row, no_place, place}
 use Rattle.leaf_expr.specs.ReadLaws.{Stops}
@@ -66,10 +66,6 @@ last_at s text room n = read_parts leaf (length text) (read leaf (length text) r
 abbrev pub last_two_at : List ℕ → ℕ → ℕ → Read (Expression × Expression)
 last_two_at text room n = read_parts leaf (length text) (read leaf (length text) room) room
     (e (e no_place)) (λ a b. (a, b)) (tokens_from n text)
-
--- a type in the text from byte n on, as no event of it
-abbrev pub none_at : List ℕ → ℕ → ℕ → Read Expression
-none_at text room n = tree_at type_sort text room n >>= (λ x. Ok (no_event_expr x.0, x.1, x.2))
 
 -- the elements of a list up to the end of the form, in the text from byte n on
 abbrev pub items_at : List ℕ → ℕ → ℕ → Read (List Expression)

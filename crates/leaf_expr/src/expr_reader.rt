@@ -1,13 +1,12 @@
 // Reading expressions.
+#![tactic(auto, using(crate::proofs::Reading::reading))]
 
 ghost use Rattle.std.specs.Prelude.{◌≡◌, ℕ, ◌-◌, ◌<◌, ◌≤◌, List, Err, IfOk, IfErr, length};
-ghost use Rattle.sample_core.specs.TypeView.{type_of};
-ghost use Rattle.sample_core.specs.TypeTree.{TypeTree};
+ghost use Rattle.sample_core.specs.{TypeView.type_of, TypeTree.TypeTree};
 ghost use Rattle.leaf_core.specs.Expression.{Expression};
 ghost use Rattle.leaf_expr.specs.Form.{form_row, unary_row, binary_row, ternary_row, typed_row};
-ghost use Rattle.leaf_expr.specs.Grammar.{leaf, expression_sort, type_sort};
-ghost use Rattle.leaf_expr.specs.Language.{Begins};
-ghost use Rattle.leaf_expr.specs.ReadText.{Gives, tree_at, word_tree, form_at, row_parts, last_two_at, none_at, expression_left, type_left, items_at, items_left, IsFault};
+ghost use Rattle.leaf_expr.specs.{Grammar.leaf, Grammar.expression_sort, Grammar.type_sort, Language.Begins};
+ghost use Rattle.leaf_expr.specs.ReadText.{Gives, tree_at, word_tree, form_at, row_parts, last_two_at, expression_left, type_left, items_at, items_left, IsFault};
 ghost use Rattle.leaf_core.specs.ExpressionView.{expression_of};
 ghost use Rattle.leaf_expr.specs.Text.{read_text, whole, IsText, IsTextFault};
 ghost use Rattle.leaf_expr.specs.Token.{PlacedToken, tokens_from};
@@ -146,8 +145,7 @@ fn binary(alloc: Global, text: &[u8], at: usize, room: usize, form: Binary) -> R
         (row_parts (binary_row form) text.now room at) }
 {
     let ((a, b), end) = last_two(alloc, text, at, room)?;
-    let expr = form.of(alloc, a, b)?;
-    Ok((expr, end))
+    Ok((form.of(alloc, a, b)?, end))
 }
 
 /// Three expressions, and the end of the form.
@@ -161,25 +159,16 @@ fn ternary(alloc: Global, text: &[u8], at: usize, room: usize, form: Ternary) ->
     Ok((form.of(a, b, c), end))
 }
 
-/// A type, as no event of it, and the byte behind it.
-fn none_part(alloc: Global, text: &[u8], at: usize, room: usize) -> Read<ExprChild>
-    ensures { Gives (λ x. (x.0, x.1, tokens_from x.1 text.now)) result (none_at text.now room at) }
-{
-    let (ty, at) = read_type(alloc, text, at, room)?;
-    let none = ExprChild::new(alloc, Expr::NoEvent(ty))?;
-    Ok((none, at))
-}
-
 /// A type and two expressions, and the end of the form.
 #[cycle(read_expression)]
 fn typed(alloc: Global, text: &[u8], at: usize, room: usize, form: Typed) -> Read<Expr>
     ensures { Gives (expression_left text.now) result
         (row_parts (typed_row form) text.now room at) }
 {
-    let (none, at) = none_part(alloc, text, at, room)?;
+    let (ty, at) = read_type(alloc, text, at, room)?;
+    let none = ExprChild::new(alloc, Expr::NoEvent(ty))?;
     let ((a, b), end) = last_two(alloc, text, at, room)?;
-    let expr = form.of(alloc, none, a, b)?;
-    Ok((expr, end))
+    Ok((form.of(alloc, none, a, b)?, end))
 }
 
 /// The type of a list and its elements, and the end of the form.
@@ -204,8 +193,7 @@ fn elements(alloc: Global, text: &[u8], at: usize, room: usize) -> Read<Exprs>
     ensures { Gives (λ x. (x.0, x.1, tokens_from x.1 text.now)) result (items_at text.now room at) }
 {
     let (all, end) = items(alloc, text, at, room)?;
-    let elements = Exprs::new(alloc, all)?;
-    Ok((elements, end))
+    Ok((Exprs::new(alloc, all)?, end))
 }
 
 /// The elements of a list, and the end of the form.

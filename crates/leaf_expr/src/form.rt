@@ -4,7 +4,8 @@ ghost use Rattle.std.specs.Prelude.{◌≡◌, IfOk, option_map};
 ghost use Rattle.leaf_core.specs.Expression.{input, fst, snd, then_expr, pair_expr, event_expr, on};
 ghost use Rattle.leaf_core.specs.ExpressionView.{expression_of};
 ghost use Rattle.leaf_expr.specs.Form.{form_row, unary_row, binary_row, ternary_row, typed_row, type_row};
-ghost use Rattle.leaf_expr.specs.Grammar.{type_sort, expression_sort, row_at, row_among, other_rows, unary_rows, binary_rows, ternary_rows, typed_rows};
+ghost use Rattle.leaf_expr.specs.Language.{row_among};
+ghost use Rattle.leaf_expr.specs.Grammar.{type_sort, expression_sort, row_at, other_rows, unary_rows, binary_rows, ternary_rows, typed_rows};
 
 use leaf_core::{Expr, ExprChild};
 use sample_core::{Memory, word_is};

@@ -1,8 +1,7 @@
 // Reading numbers that forms take.
 
 ghost use Rattle.std.specs.Prelude.{◌<◌, ◌≤◌, ◌^◌, IfOk};
-ghost use Rattle.leaf_expr.specs.Grammar.{index_sort};
-ghost use Rattle.leaf_expr.specs.ReadText.{Gives, tree_at, natural_read};
+ghost use Rattle.leaf_expr.specs.{Grammar.index_sort, ReadText.Gives, ReadText.tree_at, ReadText.natural_read};
 ghost use Rattle.leaf_expr.specs.Token.{tokens_from};
 
 use crate::text_fault::ExprTextFault;

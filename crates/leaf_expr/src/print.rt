@@ -1,9 +1,9 @@
 // The one printed form of expressions: core forms, one space between tokens, none inside a
 // parenthesis' edges.
+#![tactic(auto, using(crate::proofs::Printed::printing))]
 
 ghost use Rattle.std.specs.Prelude.{◌≡◌, ◌++◌, ◌∷◌, [], IfOk, string_bytes};
-ghost use Rattle.sample_core.specs.Adding.{Adds};
-ghost use Rattle.sample_core.specs.TypeView.{type_of};
+ghost use Rattle.sample_core.specs.{Adding.Adds, TypeView.type_of};
 ghost use Rattle.leaf_core.specs.Expression.{param, no_event_expr, list_expr, expressions_of};
 ghost use Rattle.leaf_expr.specs.Sexpr.{more, last, spelling, spellings};
 ghost use Rattle.leaf_expr.specs.Printing.{expression_sexpr, expression_sexprs, type_sexpr, one, two, three};

@@ -1,7 +1,6 @@
 // What texts of types and expressions mean, as laws of the definitions.
 
-ghost use Rattle.leaf_expr.specs.Grammar.{leaf};
-ghost use Rattle.leaf_expr.specs.WordReading.{NumberLaw, NaturalLaw};
+ghost use Rattle.leaf_expr.specs.{Grammar.leaf, WordReading.NumberLaw, WordReading.NaturalLaw};
 ghost use Rattle.leaf_expr.specs.ReadLaws.{FoundLaw, OnlyLaw, OneReadingLaw, FaultLaw, OneFaultLaw};
 ghost use Rattle.leaf_expr.specs.Text.{ReadTextLaw, OneTextLaw, TextFaultLaw, PrintedLaw, PrintedTypeLaw, PrintedTextLaw};
 ghost use Rattle.leaf_expr.specs.TextRows.{TypeRows, WordRows, UnaryRows, BinaryRows, LongRows, MergeIs, GateIs, TagIs, AttachIs, FaultRows};

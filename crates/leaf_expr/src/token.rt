@@ -1,8 +1,7 @@
 // The tokens of a text: parentheses, and words between white space and comments.
 
 ghost use Rattle.std.specs.Prelude.{◌≡◌, ◌<◌, ◌≤◌, true, length, slice_index, slice_range, MatchOption, IfSome, [], ◌∷◌};
-ghost use Rattle.leaf_expr.specs.Sexpr.{is_word};
-ghost use Rattle.leaf_expr.specs.Lexeme.{IsLexeme};
+ghost use Rattle.leaf_expr.specs.{Sexpr.is_word, Lexeme.IsLexeme};
 ghost use Rattle.leaf_expr.specs.Token.{word, tokens_from, token_of, begins_token, is_word_byte as is_byte_of_word};
 
 /// Whether the byte stands in words: all do but white space, parentheses and `;`.
@@ -71,6 +70,7 @@ pub enum Lexeme {
 
 /// The first token at or after byte `at`, as the text stands from that byte on. `End` also where
 /// the text has no such byte.
+#[tactic(auto, using(crate::proofs::TokenSteps::open_stands, crate::proofs::TokenSteps::close_stands))]
 pub fn lexeme_at(text: &[u8], at: usize) -> Lexeme
     ensures { IsLexeme text.now at result }
 {

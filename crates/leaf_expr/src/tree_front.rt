@@ -1,10 +1,8 @@
 // Where trees, the words of forms and their ends stand.
 
 ghost use Rattle.std.specs.Prelude.{◌≡◌, ◌-◌, ◌<◌, ◌≤◌, ◌∷◌, false, IfOk, IfSome, MatchOption, length, slice_range};
-ghost use Rattle.leaf_expr.specs.Front.{front_from, front_left, FrontFits};
-ghost use Rattle.leaf_expr.specs.Grammar.{leaf};
-ghost use Rattle.leaf_expr.specs.ReadText.{Gives, begins_closing};
-ghost use Rattle.leaf_expr.specs.TreeReader.{read_end, read_head};
+ghost use Rattle.leaf_expr.specs.{Front.front_from, Front.front_left, Front.FrontFits, Grammar.leaf};
+ghost use Rattle.leaf_expr.specs.{ReadText.Gives, ReadText.begins_closing, TreeReader.read_end, TreeReader.read_head};
 ghost use Rattle.leaf_expr.specs.Token.{closing, tokens_from};
 
 use crate::text_fault::ExprTextFault;

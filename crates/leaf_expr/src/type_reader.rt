@@ -1,8 +1,8 @@
 // Reading types.
+#![tactic(auto, using(crate::proofs::Reading::reading))]
 
 ghost use Rattle.std.specs.Prelude.{◌≡◌, ◌<◌, ◌≤◌, length};
-ghost use Rattle.leaf_expr.specs.Form.{type_row};
-ghost use Rattle.leaf_expr.specs.Grammar.{type_sort};
+ghost use Rattle.leaf_expr.specs.{Form.type_row, Grammar.type_sort};
 ghost use Rattle.leaf_expr.specs.ReadText.{Gives, tree_at, word_tree, form_at, row_parts, last_at, type_left};
 ghost use Rattle.leaf_expr.specs.Token.{tokens_from};
 

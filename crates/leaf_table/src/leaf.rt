@@ -1,8 +1,7 @@
 // A stored closure and what it computes.
 
 ghost use Rattle.std.specs.Prelude.{◌≡◌, IfOk, Ok, map};
-ghost use Rattle.sample_core.specs.ValueView.{datum_of};
-ghost use Rattle.sample_core.specs.TypeView.{type_of};
+ghost use Rattle.sample_core.specs.{ValueView.datum_of, TypeView.type_of};
 ghost use Rattle.leaf_core.specs.ExpressionTyping.{ExpressionTyped};
 ghost use Rattle.leaf_table.specs.Computes.{Computes};
 

@@ -2,8 +2,7 @@
 
 ghost use Rattle.std.specs.Prelude.{◌≡◌, ◌+ℤ◌, ◌*ℤ◌, IfOk};
 ghost use Rattle.std.specs.Int.{int_wrap, w64};
-ghost use Rattle.sample_core.specs.Datum.{pair, left, right, int_of};
-ghost use Rattle.sample_core.specs.ValueView.{datum_of};
+ghost use Rattle.sample_core.specs.{Datum.pair, Datum.left, Datum.right, Datum.int_of, ValueView.datum_of};
 
 use sample_core::{Memory, Sample, SampleChild, SamplePair};
 use std::alloc::{AllocError, Global};

@@ -1,12 +1,10 @@
 // What the closures call: one function for each shape of expression. Each takes the values of the
 // parameters and the input `x`; only the one for any expression looks at the parameters.
 
-ghost use Rattle.std.specs.Prelude.{◌≡◌, IfOk, Some, map};
+ghost use Rattle.std.specs.Prelude.{◌≡◌, IfOk, map};
 ghost use Rattle.sample_core.specs.ValueView.{datum_of};
-ghost use Rattle.leaf_core.specs.Shape.{shape, value_by_shape};
 ghost use Rattle.leaf_core.specs.declared.shape.Shape.TheVariants as S;
-ghost use Rattle.leaf_core.specs.KeyTree.{KeyTree};
-ghost use Rattle.leaf_table.specs.Computes.{Computes};
+ghost use Rattle.leaf_table.specs.Computes.{Computes, OfShape};
 
 use crate::part::{child, copied, first, number, paired, product, second, sum};
 use leaf_core::{LeafKey, Literal, eval, eval_over};
@@ -17,14 +15,9 @@ use std::cell::Cell;
 /// The input itself, for an expression of the shape `Identity`. `AllocError` only where a count of
 /// references is full.
 #[inline(always)]
-pub fn run_identity(alloc: Global, params: &[Sample], x: &Sample) -> Result<Sample, AllocError>
-    ensures named { IfOk result
-        (λ v. value_by_shape S.Identity (datum_of x.now) ≡ Some (datum_of v)) }
-    ensures fact { IfOk result
-        (λ v. (key : KeyTree) → shape key.expr ≡ S.Identity
-        → Computes key (map datum_of params.now) (datum_of x.now) (datum_of v)) }
+pub fn run_identity(alloc: Global, _params: &[Sample], x: &Sample) -> Result<Sample, AllocError>
+    ensures { IfOk result (λ v. OfShape S.Identity (datum_of x.now) (datum_of v)) }
 {
-    let _ = params;
     copied(alloc, x)
 }
 
@@ -32,19 +25,13 @@ pub fn run_identity(alloc: Global, params: &[Sample], x: &Sample) -> Result<Samp
 /// nothing.
 #[inline(always)]
 pub fn run_constant(
-    alloc: Global,
+    _: Global,
     c: Literal,
-    params: &[Sample],
+    _params: &[Sample],
     x: &Sample,
 ) -> Result<Sample, AllocError>
-    ensures named { IfOk result
-        (λ v. value_by_shape (S.Constant c) (datum_of x.now) ≡ Some (datum_of v)) }
-    ensures fact { IfOk result
-        (λ v. (key : KeyTree) → shape key.expr ≡ S.Constant c
-        → Computes key (map datum_of params.now) (datum_of x.now) (datum_of v)) }
+    ensures { IfOk result (λ v. OfShape (S.Constant c) (datum_of x.now) (datum_of v)) }
 {
-    let _ = alloc;
-    let _ = params;
     let _ = x;
     Ok(match c {
         Literal::Unit => Sample::Unit,
@@ -57,87 +44,59 @@ pub fn run_constant(
 /// shape `Affine`. An input that is no number counts as 0. It takes no memory and refuses nothing.
 #[inline(always)]
 pub fn run_affine(
-    alloc: Global,
+    _: Global,
     a: i64,
     b: i64,
-    params: &[Sample],
+    _params: &[Sample],
     x: &Sample,
 ) -> Result<Sample, AllocError>
-    ensures named { IfOk result
-        (λ v. value_by_shape (S.Affine a b) (datum_of x.now) ≡ Some (datum_of v)) }
-    ensures fact { IfOk result
-        (λ v. (key : KeyTree) → shape key.expr ≡ S.Affine a b
-        → Computes key (map datum_of params.now) (datum_of x.now) (datum_of v)) }
+    ensures { IfOk result (λ v. OfShape (S.Affine a b) (datum_of x.now) (datum_of v)) }
 {
-    let _ = alloc;
-    let _ = params;
     Ok(Sample::Int(sum(product(a, number(x)), b)))
 }
 
 /// The input's parts the other way round, for an expression of the shape `Swap`. Each part of an
 /// input that is no pair is the input itself. `AllocError` where a growth was refused.
 #[inline(always)]
-pub fn run_swap(alloc: Global, params: &[Sample], x: &Sample) -> Result<Sample, AllocError>
-    ensures named { IfOk result (λ v. value_by_shape S.Swap (datum_of x.now) ≡ Some (datum_of v)) }
-    ensures fact { IfOk result
-        (λ v. (key : KeyTree) → shape key.expr ≡ S.Swap
-        → Computes key (map datum_of params.now) (datum_of x.now) (datum_of v)) }
+pub fn run_swap(alloc: Global, _params: &[Sample], x: &Sample) -> Result<Sample, AllocError>
+    ensures { IfOk result (λ v. OfShape S.Swap (datum_of x.now) (datum_of v)) }
 {
-    let _ = params;
     paired(alloc, second(x), first(x))
 }
 
 /// The input's first part, for an expression of the shape `Left`; another input than a pair
 /// itself. `AllocError` only where a count of references is full.
 #[inline(always)]
-pub fn run_left(alloc: Global, params: &[Sample], x: &Sample) -> Result<Sample, AllocError>
-    ensures named { IfOk result (λ v. value_by_shape S.Left (datum_of x.now) ≡ Some (datum_of v)) }
-    ensures fact { IfOk result
-        (λ v. (key : KeyTree) → shape key.expr ≡ S.Left
-        → Computes key (map datum_of params.now) (datum_of x.now) (datum_of v)) }
+pub fn run_left(alloc: Global, _params: &[Sample], x: &Sample) -> Result<Sample, AllocError>
+    ensures { IfOk result (λ v. OfShape S.Left (datum_of x.now) (datum_of v)) }
 {
-    let _ = params;
     copied(alloc, first(x))
 }
 
 /// The input's second part, for an expression of the shape `Right`; another input than a pair
 /// itself. `AllocError` only where a count of references is full.
 #[inline(always)]
-pub fn run_right(alloc: Global, params: &[Sample], x: &Sample) -> Result<Sample, AllocError>
-    ensures named { IfOk result (λ v. value_by_shape S.Right (datum_of x.now) ≡ Some (datum_of v)) }
-    ensures fact { IfOk result
-        (λ v. (key : KeyTree) → shape key.expr ≡ S.Right
-        → Computes key (map datum_of params.now) (datum_of x.now) (datum_of v)) }
+pub fn run_right(alloc: Global, _params: &[Sample], x: &Sample) -> Result<Sample, AllocError>
+    ensures { IfOk result (λ v. OfShape S.Right (datum_of x.now) (datum_of v)) }
 {
-    let _ = params;
     copied(alloc, second(x))
 }
 
 /// Whether the input is less than `k`, for an expression of the shape `Below`. An input that is no
 /// number counts as 0. It takes no memory and refuses nothing.
 #[inline(always)]
-pub fn run_below(alloc: Global, k: i64, params: &[Sample], x: &Sample) -> Result<Sample, AllocError>
-    ensures named { IfOk result
-        (λ v. value_by_shape (S.Below k) (datum_of x.now) ≡ Some (datum_of v)) }
-    ensures fact { IfOk result
-        (λ v. (key : KeyTree) → shape key.expr ≡ S.Below k
-        → Computes key (map datum_of params.now) (datum_of x.now) (datum_of v)) }
+pub fn run_below(_: Global, k: i64, _params: &[Sample], x: &Sample) -> Result<Sample, AllocError>
+    ensures { IfOk result (λ v. OfShape (S.Below k) (datum_of x.now) (datum_of v)) }
 {
-    let _ = alloc;
-    let _ = params;
     Ok(Sample::Bool(number(x) < k))
 }
 
 /// An event that carries the input, for an expression of the shape `Wrap`. `AllocError` where a
 /// growth was refused.
 #[inline(always)]
-pub fn run_wrap(alloc: Global, params: &[Sample], x: &Sample) -> Result<Sample, AllocError>
-    ensures named { IfOk result (λ v. value_by_shape S.Wrap (datum_of x.now) ≡ Some (datum_of v)) }
-    ensures fact { IfOk result
-        (λ v. (key : KeyTree) → shape key.expr ≡ S.Wrap
-        → Computes key (map datum_of params.now) (datum_of x.now) (datum_of v)) }
+pub fn run_wrap(alloc: Global, _params: &[Sample], x: &Sample) -> Result<Sample, AllocError>
+    ensures { IfOk result (λ v. OfShape S.Wrap (datum_of x.now) (datum_of v)) }
 {
-    let _ = params;
     Ok(Sample::Event(child(alloc, x)?))
 }
 

@@ -2,10 +2,8 @@
 
 ghost use Rattle.std.specs.Prelude.{◌≡◌, ◌≤◌, ◌<◌, ◌++◌, ◌∷◌, ◌↔◌, [], length, IfOk, IfErr, IsOk, IsErr, OnOk, OnErr, IfSome, IfNone, All, Ok, Some, None, slice_get, Contains, map};
 ghost use Rattle.indexmap.specs.IndexMap.{index_map_len};
-ghost use Rattle.sample_core.specs.HasType.{HasType, TypedParams};
-ghost use Rattle.sample_core.specs.ValueView.{datum_of};
-ghost use Rattle.leaf_core.specs.ExpressionValue.{value_of};
-ghost use Rattle.leaf_core.specs.KeyTree.{KeyTree};
+ghost use Rattle.sample_core.specs.{HasType.HasType, HasType.TypedParams, ValueView.datum_of};
+ghost use Rattle.leaf_core.specs.{ExpressionValue.value_of, KeyTree.KeyTree};
 
 use crate::fault::TableFault;
 use crate::leaf::Leaf;

@@ -143,28 +143,65 @@ module _ (w : Walk) (fs : Networks Expression) (e t : Network Expression) (A D B
           (adds_then (watch w) (rest w) C T b c d saw_here (subst (λ o. Adds o T c d) (rest_here c C (still w b c here there)) last))
 
 -- the number of members that the code counts
-pub counted : (fs : Networks Expr) (count : ℕ) → count ≡ members fs → members (map_networks expression_of fs) ≡ count
+counted : (fs : Networks Expr) (count : ℕ) → count ≡ members fs → members (map_networks expression_of fs) ≡ count
 counted fs count is = members_map expression_of fs ∙ sym is
 
 -- the type of the list that the code makes of a copy of a type
-pub listed : (output copy list : Ty) → copy ≡ output → type_of list ≡ list_ty (type_of copy) → list_ty (type_of output) ≡ type_of list
+listed : (output copy list : Ty) → copy ≡ output → type_of list ≡ list_ty (type_of copy) → list_ty (type_of output) ≡ type_of list
 listed output copy list same is = ap (λ o. list_ty (type_of o)) (sym same) ∙ sym is
 
--- the expressions of members are those of the slice that has them
-pub slice_adds : (w b : Walk) (fs gs : Networks Expr) (D B : TypeTree) → gs ≡ fs
-    → Adds (find_members_at w 1 (map_networks expression_of gs) D) B w b → Adds (find_members_at w 1 (map_networks expression_of fs) D) B w b
-slice_adds w b fs gs D B is = subst (λ o. Adds (find_members_at w 1 (map_networks expression_of o) D) B w b) is
+-- the same of a pSwitch in the code, which has its members, what watches them and its continuation under other names
+module _ (w b : Walk) (fs gs : Networks Expr) (e g : Network Expr) (t : Network Expr) (A D : TypeTree) (output copy list : Ty) (count : ℕ)
+    (many : count ≡ members fs) (slice : gs ≡ fs) (watching : g ≡ e) (same : copy ≡ output) (outputs : type_of list ≡ list_ty (type_of copy))
+    (adds : Adds (find_members_at w 1 (map_networks expression_of gs) D) (type_of output) w b) (here : SamePlace w b) where
+  abbrev ms : Networks Expression
+  ms = map_networks expression_of fs
 
--- what watches, where the code has its place, itself and what it watches under other names
-pub watch_named : (b : Walk) (k n : ℕ) (e g : Network Expr) (A X Y : TypeTree) → k ≡ n → g ≡ e → X ≡ Y
-    → and_then (find_child b k (map_network expression_of e) (pair_ty A X)) event_of
-    ≡ and_then (find_child b n (map_network expression_of g) (pair_ty A Y)) event_of
-watch_named b k n e g A X Y p q r = λ i. and_then (find_child b (p i) (map_network expression_of (sym q i)) (pair_ty A (r i))) event_of
+  abbrev event : Network Expression
+  event = map_network expression_of e
 
--- the continuation, where the code has its place and itself under other names
-pub rest_named : (b : Walk) (C : TypeTree) (n m : ℕ) (D B : TypeTree) (k l : ℕ) (t g : Network Expr) (A : TypeTree) → n ≡ m → k ≡ l → g ≡ t
-    → find_resuming b C n (arrow D B) k (map_network expression_of t) A ≡ find_resuming b C m (arrow D B) l (map_network expression_of g) A
-rest_named b C n m D B k l t g A p q r = λ i. find_resuming b C (p i) (arrow D B) (q i) (map_network expression_of (sym r i)) A
+  abbrev after : Network Expression
+  after = map_network expression_of t
+
+  abbrev B : TypeTree
+  B = type_of output
+
+  abbrev code_watch : Found
+  code_watch = and_then (find_child b (1 + count) (map_network expression_of g) (pair_ty A (type_of list))) event_of
+
+  abbrev code_routed : Found
+  code_routed = find_routed_at w ms event after A D
+
+  added : Adds (find_members_at w 1 ms D) B w b
+  added = subst (λ o. Adds (find_members_at w 1 (map_networks expression_of o) D) B w b) slice adds
+
+  watch_is : and_then (find_child b (suc (members ms)) event (pair_ty A (list_ty B))) event_of ≡ code_watch
+  watch_is =
+      let n : suc (members ms) ≡ 1 + count = omega (arith, counted fs count many) in
+      λ i. and_then (find_child b (n i) (map_network expression_of (sym watching i)) (pair_ty A (listed output copy list same outputs i))) event_of
+
+  pub code_watch_found : code_routed ≢ None → code_watch ≢ None
+  code_watch_found h = subst (λ o. o ≢ None) watch_is (watch_found w ms event after A D B b added here h)
+
+  module _ (u : Network Expr) (next : u ≡ t) (c : Walk) (C : TypeTree) (saw : Adds code_watch C b c) (there : SamePlace b c) where
+    abbrev code_rest : Found
+    code_rest = find_resuming c C count (arrow D B) (2 + count) (map_network expression_of u) A
+
+    saw_it : Adds (and_then (find_child b (suc (members ms)) event (pair_ty A (list_ty B))) event_of) C b c
+    saw_it = subst (λ o. Adds o C b c) (sym watch_is) saw
+
+    rest_is : find_resuming c C (members ms) (arrow D B) (suc (suc (members ms))) after A ≡ code_rest
+    rest_is =
+        let n : members ms ≡ count = counted fs count many in
+        let k : suc (suc (members ms)) ≡ 2 + count = omega (arith, n) in
+        λ i. find_resuming c C (n i) (arrow D B) (k i) (map_network expression_of (sym next i)) A
+
+    pub code_rest_found : code_routed ≢ None → code_rest ≢ None
+    code_rest_found h = subst (λ o. o ≢ None) rest_is (rest_found w ms event after A D B b added here c C saw_it there h)
+
+    pub code_routed_adds : (T : TypeTree) (d : Walk) → Adds code_rest T c d → Adds code_routed T w d
+    code_routed_adds T d last =
+        routed_adds w ms event after A D B b added here c C saw_it there T d (subst (λ o. Adds o T c d) (sym rest_is) last)
 
 pub on_ok : {X E : Type 0} (r : Result X E) (P Q : Type 0) → (P → Q) → OnOk r P → OnOk r Q
 on_ok (Ok x) P Q f h = f h

@@ -1,6 +1,6 @@
 -- A network whose leaves are changed weighs as much, and is as high.
 use Rattle.std.proofs.Common.{◌≡◌, ℕ, suc, ◌+◌, max, List, [], ◌∷◌, ◌++◌, refl, ap, ◌∙◌}
-use Rattle.net_syntax.specs.Network.{Network, Networks, arr, seq, first, par, loop_pre, i_pre, delay, hold, accum_by, after, repeatedly, time, integral, switch, d_switch, r_switch, k_switch, p_switch, old, no_members, and_member, map_network, map_networks, network_size, networks_size}
+use Rattle.net_syntax.specs.Network.{Network, Networks, seq, first, par, loop_pre, switch, d_switch, r_switch, k_switch, p_switch, no_members, and_member, map_network, map_networks, network_size, networks_size}
 use Rattle.net_syntax.specs.Weight.{weight, weights, total}
 use Rattle.net_syntax.specs.Height.{height, heights, greatest}
 
@@ -19,16 +19,7 @@ mutual
   weight_map h (p_switch r fs e t) ws =
       λ i. suc (total (weights_map h fs ws i) + weight_map h e ws i
       + (ap (λ o. weight (map_network h t) (ws ++ o)) (weights_map h fs ws) ∙ weight_map h t (ws ++ weights fs ws)) i)
-  weight_map h (old k) ws = refl
-  weight_map h (arr e) ws = refl
-  weight_map h (i_pre c) ws = refl
-  weight_map h (delay q c) ws = refl
-  weight_map h (hold c) ws = refl
-  weight_map h (accum_by g z) ws = refl
-  weight_map h (after q c) ws = refl
-  weight_map h (repeatedly q c) ws = refl
-  weight_map h time ws = refl
-  weight_map h integral ws = refl
+  weight_map h _ ws = refl
 
   weights_map : {L M : Type 0} (h : L → M) (fs : Networks L) (ws : List ℕ) → weights (map_networks h fs) ws ≡ weights fs ws
   weights_map h no_members ws = refl
@@ -49,16 +40,7 @@ mutual
   height_map h (p_switch r fs e t) hs =
       λ i. suc (max (max (greatest (heights_map h fs hs i)) (height_map h e hs i))
       ((ap (λ o. height (map_network h t) (hs ++ o)) (heights_map h fs hs) ∙ height_map h t (hs ++ heights fs hs)) i))
-  height_map h (old k) hs = refl
-  height_map h (arr e) hs = refl
-  height_map h (i_pre c) hs = refl
-  height_map h (delay q c) hs = refl
-  height_map h (hold c) hs = refl
-  height_map h (accum_by g z) hs = refl
-  height_map h (after q c) hs = refl
-  height_map h (repeatedly q c) hs = refl
-  height_map h time hs = refl
-  height_map h integral hs = refl
+  height_map h _ hs = refl
 
   heights_map : {L M : Type 0} (h : L → M) (fs : Networks L) (hs : List ℕ) → heights (map_networks h fs) hs ≡ heights fs hs
   heights_map h no_members hs = refl
@@ -75,16 +57,7 @@ mutual
   size_map h (r_switch f t) = λ i. suc (size_map h f i + size_map h t i)
   size_map h (k_switch f e t) = λ i. suc (size_map h f i + size_map h e i + size_map h t i)
   size_map h (p_switch r fs e t) = λ i. suc (sizes_map h fs i + size_map h e i + size_map h t i)
-  size_map h (arr e) = refl
-  size_map h (i_pre c) = refl
-  size_map h (delay q c) = refl
-  size_map h (hold c) = refl
-  size_map h (accum_by g z) = refl
-  size_map h (after q c) = refl
-  size_map h (repeatedly q c) = refl
-  size_map h time = refl
-  size_map h integral = refl
-  size_map h (old k) = refl
+  size_map h _ = refl
 
   sizes_map : {L M : Type 0} (h : L → M) (fs : Networks L) → networks_size (map_networks h fs) ≡ networks_size fs
   sizes_map h no_members = refl

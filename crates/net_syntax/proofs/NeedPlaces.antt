@@ -1,14 +1,15 @@
 -- The expressions that are listed of a network stand at their positions.
-use Rattle.std.proofs.Common.{◌≡◌, ℕ, zero, suc, ◌+◌, List, [], ◌∷◌, ◌++◌, Some, All, option_map, refl, sym, ap, ◌∙◌, subst, append_assoc, arith}
+use Rattle.std.proofs.Common.{◌≡◌, ℕ, suc, ◌+◌, List, [], ◌∷◌, ◌++◌, Some, All, option_map, refl, sym, ap, ◌∙◌, subst, append_assoc, arith}
 use Rattle.std.proofs.lemmas.List.Elements.{All-append, All-cons, All-nil}
 use Rattle.sample_core.specs.TypeTree.{TypeTree, int_ty, pair_ty}
 use Rattle.leaf_core.specs.Expression.{Expression}
-use Rattle.net_syntax.specs.Network.{Network, Networks, par, p_switch, no_members, and_member}
+use Rattle.net_syntax.specs.Network.{Network, Networks, par, p_switch, and_member}
 use Rattle.net_syntax.specs.Typing.{Arrow, members, LeafTyping, Typed, AllTyped, arr_typed, seq_typed, first_typed, par_typed, loop_typed, i_pre_typed, delay_typed, hold_typed, accum_typed, after_typed, repeatedly_typed, time_typed, integral_typed, switch_typed, d_switch_typed, r_switch_typed, k_switch_typed, p_switch_typed, old_typed, no_members_typed, and_member_typed}
 use Rattle.net_syntax.specs.Place as P
-use Rattle.net_syntax.specs.Place.{a_network, a_leaf, child, member, p_switch_child, child_network, member_child, event_child, continuation_child}
+use Rattle.net_syntax.specs.Place.{a_network, a_leaf, child, member, p_switch_child, child_network}
 use Rattle.net_syntax.specs.Leaves.{Need, need_at, leaves_by, member_leaves_by}
 use Rattle.net_syntax.specs.Laws.{PositionLaw}
+use Rattle.net_syntax.proofs.Children.{member_is, event_is, continuation_is}
 
 -- the need's position is that of the network, and behind it the one of its expression in it
 record Stands (net : Network Expression) (at : List ℕ) (n : Need) : Type 0 where
@@ -49,23 +50,10 @@ two : (net : Network Expression) (at : List ℕ) (j k : ℕ) (f g : Network Expr
     → child net k ≡ Some (a_network g) → All (Stands f (at ++ j ∷ [])) ns → All (Stands g (at ++ k ∷ [])) ms → All (Stands net at) (ns ++ ms)
 two net at j k f g ns ms hf hg df dg = All-append (Stands net at) ns ms (up net f at j ns hf df) (up net g at k ms hg dg)
 
--- where the children of a pSwitch stand
+-- a member of a pSwitch is its child
 child_is_member : (fs : Networks Expression) (j : ℕ) (f e t : Network Expression) → member fs j ≡ Some f
     → child_network (p_switch_child fs j) fs e t j ≡ Some f
-child_is_member fs j f e t h = ap (λ o. child_network o fs e t j) (kind fs j h) ∙ h
-  where
-    kind : (gs : Networks Expression) (i : ℕ) → member gs i ≡ Some f → p_switch_child gs i ≡ member_child
-    kind no_members i h = absurd (cc)
-    kind (and_member g gs) zero h = refl
-    kind (and_member g gs) (suc i) h = kind gs i h
-
-event_is : (fs : Networks Expression) → p_switch_child fs (members fs) ≡ event_child
-event_is no_members = refl
-event_is (and_member f fs) = event_is fs
-
-continuation_is : (fs : Networks Expression) → p_switch_child fs (suc (members fs)) ≡ continuation_child
-continuation_is no_members = refl
-continuation_is (and_member f fs) = continuation_is fs
+child_is_member fs j f e t h = ap (λ o. child_network o fs e t j) (member_is fs j f h) ∙ h
 
 first_member : (f : Network Expression) (fs : Networks Expression) (at : List ℕ) (k : ℕ) (n : Need) → Stands f (at ++ k ∷ []) n
     → StandsIn (and_member f fs) at k n

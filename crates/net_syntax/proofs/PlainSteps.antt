@@ -73,22 +73,17 @@ heads_push (row ∷ rows) [] e a = absurd (omega arith)
 heads_push ([] ∷ rows) (v ∷ vs) e (and_row l a) = let e' : length vs ≡ length rows = omega arith in ap (λ ws. v ∷ ws) (heads_push rows vs e' a)
 heads_push ((w ∷ row) ∷ rows) (v ∷ vs) e (and_row l a) = absurd (omega arith)
 
-heads_push_more : (n : ℕ) (rows : List (List Datum)) (vs : List Datum) → length vs ≡ length rows → AllLong (suc n) rows → heads (push_each rows vs) ≡ heads rows
-heads_push_more n [] [] e a = refl
-heads_push_more n [] (v ∷ vs) e a = absurd (omega arith)
-heads_push_more n (row ∷ rows) [] e a = absurd (omega arith)
-heads_push_more n ([] ∷ rows) (v ∷ vs) e (and_row l a) = absurd (omega arith)
-heads_push_more n ((w ∷ row) ∷ rows) (v ∷ vs) e (and_row l a) =
-    let e' : length vs ≡ length rows = omega arith in ap (λ ws. w ∷ ws) (heads_push_more n rows vs e' a)
-
-tails_push_more : (n : ℕ) (rows : List (List Datum)) (vs : List Datum) → length vs ≡ length rows → AllLong (suc n) rows
-    → tails (push_each rows vs) ≡ push_each (tails rows) vs
-tails_push_more n [] [] e a = refl
-tails_push_more n [] (v ∷ vs) e a = absurd (omega arith)
-tails_push_more n (row ∷ rows) [] e a = absurd (omega arith)
-tails_push_more n ([] ∷ rows) (v ∷ vs) e (and_row l a) = absurd (omega arith)
-tails_push_more n ((w ∷ row) ∷ rows) (v ∷ vs) e (and_row l a) =
-    let e' : length vs ≡ length rows = omega arith in ap (λ ws. (row ++ v ∷ []) ∷ ws) (tails_push_more n rows vs e' a)
+-- a further item at each row's end changes the rest of the rows, and not their first items
+push_each_more : (n : ℕ) (rows : List (List Datum)) (vs : List Datum) → length vs ≡ length rows → AllLong (suc n) rows
+    → (heads (push_each rows vs) ≡ heads rows) × (tails (push_each rows vs) ≡ push_each (tails rows) vs)
+push_each_more n [] [] e a = (refl, refl)
+push_each_more n [] (v ∷ vs) e a = absurd (omega arith)
+push_each_more n (row ∷ rows) [] e a = absurd (omega arith)
+push_each_more n ([] ∷ rows) (v ∷ vs) e (and_row l a) = absurd (omega arith)
+push_each_more n ((w ∷ row) ∷ rows) (v ∷ vs) e (and_row l a) =
+    let e' : length vs ≡ length rows = omega arith in
+    let both = push_each_more n rows vs e' a in
+    (ap (λ ws. w ∷ ws) both.0, ap (λ ws. (row ++ v ∷ []) ∷ ws) both.1)
 
 tails-long : (n : ℕ) (rows : List (List Datum)) → AllLong (suc n) rows → AllLong n (tails rows)
 tails-long n [] a = no_rows
@@ -104,8 +99,8 @@ gather_push : {A : Type 0} (p : List A) (x : A) (rows : List (List Datum)) (vs :
     → gather (p ++ x ∷ []) (push_each rows vs) ≡ gather p rows ++ list (list_of vs) ∷ []
 gather_push [] x rows vs e a = ap (λ ws. list (list_of ws) ∷ []) (heads_push rows vs e a)
 gather_push (y ∷ p) x rows vs e a =
-    ap (λ ws. list (list_of ws) ∷ gather (p ++ x ∷ []) (tails (push_each rows vs))) (heads_push_more (length p) rows vs e a)
-    ∙ ap (λ ws. list (list_of (heads rows)) ∷ gather (p ++ x ∷ []) ws) (tails_push_more (length p) rows vs e a)
+    ap (λ ws. list (list_of ws) ∷ gather (p ++ x ∷ []) (tails (push_each rows vs))) (push_each_more (length p) rows vs e a).0
+    ∙ ap (λ ws. list (list_of (heads rows)) ∷ gather (p ++ x ∷ []) ws) (push_each_more (length p) rows vs e a).1
     ∙ ap (λ ws. list (list_of (heads rows)) ∷ ws) (gather_push p x (tails rows) vs (e ∙ sym (length-tails rows)) (tails-long (length p) rows a))
 
 abbrev pub answers : List SignalFunction → TimedList → ℕ × Datum → List Datum

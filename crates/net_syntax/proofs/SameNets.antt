@@ -78,52 +78,39 @@ module _ {L : Type 0} (val : L → List Datum → Datum → Datum) where
         (SameAt-feedback (val c ps unit) _ _ (const_typed hc ps k) (hf.here ps os os' k a));
   }
 
-  -- a cell with a constant
-  same-const : {Ps : List TypeTree} {C : TypeTree} {A B : TypeTree} (c c' : L) (s : Datum → SignalFunction) → SameLeaf val Ps unit_ty C c c'
-      → ((v : Datum) → HasType v C → (xs : TimedList) → TypedSamples A xs → TypedValues B (s v xs)) → (ps : List Datum) → TypedParams Ps ps
-      → SameAt A B (s (val c ps unit)) (s (val c' ps unit))
-  same-const {A = A} {B = B} c c' s hc h ps k =
-      subst (λ v. SameAt A B (s (val c ps unit)) (s v)) (const_same hc ps k) (SameAt-one (s (val c ps unit)) (h (val c ps unit) (const_typed hc ps k)))
+  -- a cell with a constant, where what it outputs is typed
+  same-const : {Ps : List TypeTree} {Os : List Arrow} {A B C : TypeTree} (net : L → Network L) (value : Datum → TimedList → Datum)
+      → ((e : L) (E : Context) → meaning val (net e) E ≡ by_past (value (val e E.params unit)))
+      → ((v : Datum) → HasType v C → (p : TimedList) → TypedSamples A p → HasType (value v p) B)
+      → (c c' : L) → SameLeaf val Ps unit_ty C c c' → SameNet val Ps Os A B (net c) (net c')
+  same-const {A = A} {B = B} net value is h c c' hc = record {
+    here = λ ps os os' k a.
+        let v = val c ps unit in
+        rw (is c (context ps os), is c' (context ps os'))
+        (subst (λ w. SameAt A B (by_past (value v)) (by_past (value w))) (const_same hc ps k)
+        (SameAt-one (by_past (value v)) (λ xs j. typed_by_past (value v) xs (λ p l. h v (const_typed hc ps k) p l) j)));
+  }
 
   pub same-i_pre : {Ps : List TypeTree} {Os : List Arrow} {A : TypeTree} (c c' : L) → SameLeaf val Ps unit_ty A c c'
       → SameNet val Ps Os A A (i_pre c) (i_pre c')
-  same-i_pre c c' hc =
-      record {
-        here = λ ps os os' k a. same-const c c' (λ v. by_past (i_pre_value v)) hc
-            (λ v i xs j. typed_by_past (i_pre_value v) xs (λ p l. typed_previous_of v p i l) j) ps k;
-      }
+  same-i_pre = same-const i_pre i_pre_value (λ e E. refl) (λ v i p l. typed_previous_of v p i l)
 
   pub same-delay : {Ps : List TypeTree} {Os : List Arrow} {A : TypeTree} (q : ℕ) (c c' : L) → SameLeaf val Ps unit_ty A c c'
       → SameNet val Ps Os A A (delay q c) (delay q c')
-  same-delay q c c' hc =
-      record {
-        here = λ ps os os' k a. same-const c c' (λ v. by_past (delay_value q v)) hc
-            (λ v i xs j. typed_by_past (delay_value q v) xs (λ p l. typed_latest_by q (time_at p) v (times p) (values p) i (typed_values p l)) j) ps k;
-      }
+  same-delay q = same-const (delay q) (delay_value q) (λ e E. refl)
+      (λ v i p l. typed_latest_by q (time_at p) v (times p) (values p) i (typed_values p l))
 
   pub same-hold : {Ps : List TypeTree} {Os : List Arrow} {A : TypeTree} (c c' : L) → SameLeaf val Ps unit_ty A c c'
       → SameNet val Ps Os (event_ty A) A (hold c) (hold c')
-  same-hold c c' hc =
-      record {
-        here = λ ps os os' k a. same-const c c' (λ v. by_past (λ p. latest_event v (values p))) hc
-            (λ v i xs j. typed_by_past (λ p. latest_event v (values p)) xs (λ p l. typed_latest_event v (values p) i (typed_values p l)) j) ps k;
-      }
+  same-hold = same-const hold (λ v p. latest_event v (values p)) (λ e E. refl) (λ v i p l. typed_latest_event v (values p) i (typed_values p l))
 
   pub same-after : {Ps : List TypeTree} {Os : List Arrow} {A C : TypeTree} (q : ℕ) (c c' : L) → SameLeaf val Ps unit_ty C c c'
       → SameNet val Ps Os A (event_ty C) (after q c) (after q c')
-  same-after q c c' hc =
-      record {
-        here = λ ps os os' k a. same-const c c' (λ v. by_past (after_value q v)) hc
-            (λ v i xs j. typed_by_past (after_value q v) xs (λ p l. typed_when _ v i) j) ps k;
-      }
+  same-after q = same-const (after q) (after_value q) (λ e E. refl) (λ v i p l. typed_when _ v i)
 
   pub same-repeatedly : {Ps : List TypeTree} {Os : List Arrow} {A C : TypeTree} (q : ℕ) (c c' : L) → SameLeaf val Ps unit_ty C c c'
       → SameNet val Ps Os A (event_ty C) (repeatedly q c) (repeatedly q c')
-  same-repeatedly q c c' hc =
-      record {
-        here = λ ps os os' k a. same-const c c' (λ v. by_past (repeatedly_value q v)) hc
-            (λ v i xs j. typed_by_past (repeatedly_value q v) xs (λ p l. typed_when _ v i) j) ps k;
-      }
+  same-repeatedly q = same-const (repeatedly q) (repeatedly_value q) (λ e E. refl) (λ v i p l. typed_when _ v i)
 
   pub same-time : {Ps : List TypeTree} {Os : List Arrow} {A : TypeTree} → SameNet val Ps Os A int_ty time time
   same-time = record { here = λ ps os os' k a. SameAt-one (by_past time_value) (λ xs j. typed_by_past time_value xs (λ p l. typed_wrapped _) j) }

@@ -1,12 +1,13 @@
 -- What the switches output, said with environments.
-use Rattle.std.proofs.Common.{◌≡◌, ℕ, zero, suc, ◌<◌, List, [], ◌∷◌, ◌++◌, length, take, drop, refl, sym, ap, ◌∙◌, arith, append-nil, append_assoc}
+use Rattle.std.proofs.Common.{◌≡◌, ℕ, suc, List, [], ◌∷◌, ◌++◌, length, take, drop, refl, sym, ap, ◌∙◌, append-nil, append_assoc}
+use Rattle.std.proofs.lemmas.List.{get_or_at, get_or_append_left}
 use mathlib.Core.Path.{fun_ext}
 use Rattle.sample_core.specs.Datum.{Datum}
 use Rattle.leaf_core.specs.Expression.{Expression}
 use Rattle.leaf_core.specs.ExpressionValue.{value_of}
-use Rattle.net_syntax.specs.SignalFunction.{TimedList, SignalFunction, pair_samples, first_event, cut_at, step_of, route, resume, freeze_all}
+use Rattle.net_syntax.specs.SignalFunction.{TimedList, values, pair_samples, first_event, cut_at, step_of, route, resume, freeze_all}
 use Rattle.net_syntax.specs.Network.{Networks, no_members, and_member}
-use Rattle.net_syntax.specs.Meaning.{old_at, with_olds, meaning, meanings}
+use Rattle.net_syntax.specs.Meaning.{with_olds, meaning, meanings}
 use Rattle.net_syntax.specs.Environment.{Environment, param, frozen, context_of}
 use Rattle.net_syntax.specs.TypedNetwork.{outputs_of}
 use Rattle.net_syntax.specs.SwitchLaws.{route_in, freeze_members, members_in, SwitchLaw, SwitchLateLaw, RestartLaw, FreezeLaw, FreezeMembersLaw, ResumeLaw, KeptNumbersLaw}
@@ -40,17 +41,10 @@ freeze_members_outputs r fs e t E xs =
     (fun_ext λ n. fun_ext λ c. ap (λ ctx. take n ys ++ meaning value_of t ctx (drop n xs))
     (sym (frozen_in E r 0 fs (take n xs) (step_of (drop n xs)) (param E c))))
 
-old_at-last : (fs : List SignalFunction) (f : SignalFunction) → old_at (fs ++ f ∷ []) (length fs) ≡ f
-old_at-last [] f = refl
-old_at-last (g ∷ gs) f = old_at-last gs f
-
-old_at-before : (fs : List SignalFunction) (f : SignalFunction) (k : ℕ) → k < length fs → old_at (fs ++ f ∷ []) k ≡ old_at fs k
-old_at-before [] f k h = absurd (omega (arith, h))
-old_at-before (g ∷ gs) f zero h = refl
-old_at-before (g ∷ gs) f (suc k) h = old_at-before gs f k (omega (arith, h))
-
 pub resume_outputs : ResumeLaw
-resume_outputs E net F p d xs = ap (λ f. f xs) (old_at-last (context_of value_of E).olds (resume (outputs_of net F) p d))
+resume_outputs E net F p d xs =
+    let olds = (context_of value_of E).olds in ap (λ f. f xs) (get_or_at olds (resume (outputs_of net F) p d) [] values (length olds) refl)
 
 pub kept_numbers : KeptNumbersLaw
-kept_numbers E net F p d k xs h = ap (λ f. f xs) (old_at-before (context_of value_of E).olds (resume (outputs_of net F) p d) k h)
+kept_numbers E net F p d k xs h =
+    ap (λ f. f xs) (get_or_append_left (context_of value_of E).olds (resume (outputs_of net F) p d ∷ []) values k h)

@@ -32,6 +32,6 @@ depth_le {L} (V.Old k) = omega arith
 
 -- each member's depth in the code is at most the size of all members
 pub depths_le : {L : Type 0} (ns : List (Net L))
-    → most (deep-Net L) ns ≤ networks_size (members_of ns)
+    → max (most (deep-Net L) ns) 0 ≤ networks_size (members_of ns)
 depths_le {L} [] = omega arith
 depths_le {L} (n ∷ ns) = omega (arith, depth_le n, depths_le ns)

@@ -1,6 +1,6 @@
 -- The height of a network: 1 without child networks, else 1 plus the greatest child's.
 use Rattle.std.specs.Prelude.{ℕ, suc, max, List, [], ◌∷◌, ◌++◌, get_or}
-use Rattle.net_syntax.specs.Network.{Network, Networks, arr, seq, first, par, loop_pre, i_pre, delay, hold, accum_by, after, repeatedly, time, integral, switch, d_switch, r_switch, k_switch, p_switch, old, no_members, and_member}
+use Rattle.net_syntax.specs.Network.{Network, Networks, seq, first, par, loop_pre, switch, d_switch, r_switch, k_switch, p_switch, old, no_members, and_member}
 
 -- the height of the frozen network k, 0 where there is none
 abbrev pub height_at : List ℕ → ℕ → ℕ
@@ -27,15 +27,7 @@ abbrev mutual
   height (p_switch r fs e t) hs =
       suc (max (max (greatest (heights fs hs)) (height e hs)) (height t (hs ++ heights fs hs)))
   height (old k) hs = suc (height_at hs k)
-  height (arr e) hs = 1
-  height (i_pre c) hs = 1
-  height (delay q c) hs = 1
-  height (hold c) hs = 1
-  height (accum_by g z) hs = 1
-  height (after q c) hs = 1
-  height (repeatedly q c) hs = 1
-  height time hs = 1
-  height integral hs = 1
+  height _ hs = 1
 
   -- each member's height
   pub heights : {L : Type 0} → Networks L → List ℕ → List ℕ

@@ -7,6 +7,7 @@ pub mod Meaning
 pub mod Environment
 pub mod TypedNetwork
 pub mod TypedNetworkCode
+pub mod TypedNetworkView
 pub mod Weight
 pub mod Height
 pub mod Typing

@@ -1,5 +1,5 @@
 -- What a network denotes.
-use Rattle.std.specs.Prelude.{ℕ, zero, suc, List, [], ◌∷◌, ◌++◌, map}
+use Rattle.std.specs.Prelude.{ℕ, List, [], ◌∷◌, ◌++◌, map, get_or}
 use Rattle.sample_core.specs.Datum.{Datum, unit}
 use Rattle.net_syntax.specs.SignalFunction.{SignalFunction, values, by_past, i_pre_value, delay_value, latest_event, accum_by_value, after_value, repeatedly_value, time_value, integral_value, seq_function, first_function, par_function, loop_pre_function, switch_function, d_switch_function, r_switch_function, k_switch_function, p_switch_function}
 use Rattle.net_syntax.specs.Network.{Network, Networks, arr, seq, first, par, loop_pre, i_pre, delay, hold, accum_by, after, repeatedly, time, integral, switch, d_switch, r_switch, k_switch, p_switch, old, no_members, and_member}
@@ -19,9 +19,7 @@ with_olds E os = record E { olds = E.olds ++ os }
 
 -- the frozen network k. Where there is none, the identity: a signal too
 abbrev pub old_at : List SignalFunction → ℕ → SignalFunction
-old_at [] k = values
-old_at (f ∷ fs) zero = f
-old_at (f ∷ fs) (suc k) = old_at fs k
+old_at fs k = get_or fs k values
 
 abbrev mutual
   -- what a network denotes in a context, where val gives the leaves' values; one line a form

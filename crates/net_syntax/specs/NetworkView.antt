@@ -3,7 +3,7 @@ use Rattle.std.specs.Prelude.{List, [], ◌∷◌}
 use Rattle.leaf_core.specs.Expression.{Expression}
 use Rattle.leaf_core.specs.ExpressionView.{expression_of}
 use Rattle.leaf_core.specs.declared.expr.Expr.{Expr}
-use Rattle.net_syntax.specs.Network.{Network, Networks, arr, seq, first, par, loop_pre, i_pre, delay, hold, accum_by, after, repeatedly, time, integral, switch, d_switch, r_switch, k_switch, p_switch, old, no_members, and_member, map_network}
+use Rattle.net_syntax.specs.Network.{Network, Networks, arr, seq, first, par, loop_pre, i_pre, delay, hold, accum_by, after, repeatedly, time, integral, switch, d_switch, r_switch, k_switch, p_switch, old, no_members, and_member, map_network, map_networks}
 use Rattle.net_syntax.specs.declared.net.Net.{Net}
 use Rattle.net_syntax.specs.declared.net.Net.TheVariants as V
 
@@ -37,3 +37,11 @@ members_of (f ∷ fs) = and_member (network_of f) (members_of fs)
 -- the network that a `Net` of expressions is
 abbrev pub tree_of : Net Expr → Network Expression
 tree_of net = map_network expression_of (network_of net)
+
+-- the network of expressions that a network of `Expr`s inside a `Net` is
+abbrev pub tree : Network Expr → Network Expression
+tree f = map_network expression_of f
+
+-- the members of expressions that members of `Expr`s are
+abbrev pub trees : Networks Expr → Networks Expression
+trees fs = map_networks expression_of fs

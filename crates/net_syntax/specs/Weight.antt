@@ -1,6 +1,6 @@
 -- The weight of a network: each node counts 1 and adds its child networks.
 use Rattle.std.specs.Prelude.{ℕ, suc, ◌+◌, List, [], ◌∷◌, ◌++◌, get_or}
-use Rattle.net_syntax.specs.Network.{Network, Networks, arr, seq, first, par, loop_pre, i_pre, delay, hold, accum_by, after, repeatedly, time, integral, switch, d_switch, r_switch, k_switch, p_switch, old, no_members, and_member}
+use Rattle.net_syntax.specs.Network.{Network, Networks, seq, first, par, loop_pre, switch, d_switch, r_switch, k_switch, p_switch, old, no_members, and_member}
 
 -- the weight of the frozen network k, 0 where there is none
 abbrev pub weight_at : List ℕ → ℕ → ℕ
@@ -26,15 +26,7 @@ abbrev mutual
   weight (p_switch r fs e t) ws =
       suc (total (weights fs ws) + weight e ws + weight t (ws ++ weights fs ws))
   weight (old k) ws = suc (weight_at ws k)
-  weight (arr e) ws = 1
-  weight (i_pre c) ws = 1
-  weight (delay q c) ws = 1
-  weight (hold c) ws = 1
-  weight (accum_by g z) ws = 1
-  weight (after q c) ws = 1
-  weight (repeatedly q c) ws = 1
-  weight time ws = 1
-  weight integral ws = 1
+  weight _ ws = 1
 
   -- each member's weight
   pub weights : {L : Type 0} → Networks L → List ℕ → List ℕ

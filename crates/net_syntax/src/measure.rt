@@ -2,10 +2,10 @@
 
 ghost use Rattle.std.specs.Prelude.{◌≡◌, ◌+◌, ◌<◌, nat_lt, ◌++◌, ◌∷◌, get_or, min, max, suc, [], IfOk, OnOk, MatchOption};
 ghost use Rattle.net_syntax.specs.Height.{height as height_of, heights as heights_of, greatest};
-ghost use Rattle.net_syntax.specs.Left.{Left, Within};
-ghost use Rattle.net_syntax.specs.Network.{network_size, networks_size};
+ghost use Rattle.net_syntax.specs.{Left.Left, Left.Within, Network.network_size, Network.networks_size};
 ghost use Rattle.net_syntax.specs.NetworkView.{network_of, members_of, tree_of};
 ghost use Rattle.net_syntax.specs.Weight.{weight as weight_of, weights as weights_of, weight_at, total};
+ghost use Rattle.net_syntax.specs.declared.measure.Stop.TheVariants as S;
 
 use crate::net::{Members, Net, NetChild};
 use leaf_core::Expr;
@@ -24,18 +24,15 @@ pub const MOST_HEIGHT: u32 = 256;
 /// Why a measure was not taken to its end.
 #[derive(Clone, Copy)]
 pub(crate) enum Stop {
-    Memory,
     More,
+    Memory(Memory),
 }
 
 impl From<Memory> for Stop {
-    ghost use Rattle.std.specs.Prelude.{◌≡◌};
-    ghost use Rattle.net_syntax.specs.declared.measure.Stop.TheVariants as S;
+    ghost from_gives = { λ refused e. e ≡ S.Memory refused };
 
-    ghost from_gives = { λ _ e. e ≡ S.Memory };
-
-    fn from(_: Memory) -> Stop {
-        Stop::Memory
+    fn from(refused: Memory) -> Stop {
+        Stop::Memory(refused)
     }
 }
 
@@ -46,7 +43,7 @@ pub fn weight(alloc: Global, net: &Net<Expr>) -> Result<u32, Memory>
     match weight_left(alloc, net, &[], MOST_WEIGHT) {
         Ok(left) => Ok(MOST_WEIGHT - left),
         Err(Stop::More) => Ok(MOST_WEIGHT + 1),
-        Err(Stop::Memory) => Err(Memory),
+        Err(Stop::Memory(refused)) => Err(refused),
     }
 }
 
@@ -57,7 +54,7 @@ pub fn height(alloc: Global, net: &Net<Expr>) -> Result<u32, Memory>
     match height_within(alloc, net, &[], MOST_HEIGHT) {
         Ok(height) => Ok(height),
         Err(Stop::More) => Ok(MOST_HEIGHT + 1),
-        Err(Stop::Memory) => Err(Memory),
+        Err(Stop::Memory(refused)) => Err(refused),
     }
 }
 

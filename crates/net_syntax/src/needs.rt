@@ -3,13 +3,10 @@
 ghost use Rattle.std.specs.Prelude.{◌≡◌, ◌≢◌, ◌+◌, ◌≤◌, ◌++◌, ◌∷◌, [], IfOk, Ok, None, map};
 ghost use Rattle.sample_core.specs.TypeTree.{TypeTree, unit_ty, int_ty, pair_ty, event_ty, list_ty};
 ghost use Rattle.sample_core.specs.TypeView.{type_of};
-ghost use Rattle.leaf_core.specs.ExpressionView.{expression_of};
-ghost use Rattle.leaf_core.specs.ExpressionCheck.{type_answer};
-ghost use Rattle.net_syntax.specs.Network.{seq, first, par, loop_pre, i_pre, hold, accum_by, after, switch, r_switch, k_switch, p_switch, old, map_network, map_networks};
-ghost use Rattle.net_syntax.specs.NetworkView.{members_of, tree_of};
-ghost use Rattle.net_syntax.specs.NeedView.{need_of};
-ghost use Rattle.net_syntax.specs.ArrowView.{arrow_of};
-ghost use Rattle.net_syntax.specs.Typing.{arrow, copies, members};
+ghost use Rattle.leaf_core.specs.{ExpressionView.expression_of, ExpressionCheck.type_answer};
+ghost use Rattle.net_syntax.specs.Network.{first, par, loop_pre, i_pre, hold, accum_by, after, r_switch, p_switch, old};
+ghost use Rattle.net_syntax.specs.NetworkView.{members_of, tree, tree_of, trees};
+ghost use Rattle.net_syntax.specs.{NeedView.need_of, ArrowView.arrow_of, Typing.arrow, Typing.copies, Typing.members};
 ghost use Rattle.net_syntax.specs.Leaves.{need_at, LeavesOf};
 ghost use Rattle.net_syntax.specs.LeafWalk.{Finds, and_then, event_of, find_at, find_child, find_leaf_at, find_members_at, find_others_at, find_resuming, find_routed_at, find_type, find_under};
 
@@ -61,7 +58,12 @@ fn add_leaves(alloc: Global, net: &Net<Expr>, input: &Ty, walk: &mut Walk) -> Re
 {
     match net {
         Net::Arr(e) => add_leaf(alloc, 0, e, input, walk),
-        Net::Seq(f, g) => add_seq(alloc, f, g, input, walk),
+        Net::Seq(f, g) => {
+            let between = add_child(alloc, 0, f.get(), input, walk)?;
+            let output = add_child(alloc, 1, g.get(), &between, walk);
+            drop(between);
+            output
+        }
         Net::First(f) => add_first(alloc, f, input, walk),
         Net::Par(fs) => add_par(alloc, fs, input, walk),
         Net::LoopPre(c, f) => add_loop(alloc, c, f, input, walk),
@@ -70,9 +72,19 @@ fn add_leaves(alloc: Global, net: &Net<Expr>, input: &Ty, walk: &mut Walk) -> Re
         Net::AccumBy(g, z) => add_accum(alloc, g, z, input, walk),
         Net::After(_, c) | Net::Repeatedly(_, c) => add_timer(alloc, c, input, walk),
         Net::Time | Net::Integral => Ok(Ty::Int),
-        Net::Switch(f, t) | Net::DSwitch(f, t) => add_switch(alloc, f, t, input, walk),
+        Net::Switch(f, t) | Net::DSwitch(f, t) => {
+            let output = add_child(alloc, 0, f.get(), input, walk)?;
+            let event = right_event_value(alloc, &output);
+            drop(output);
+            add_continuation(alloc, 1, t.get(), event?, input, walk)
+        }
         Net::RSwitch(f, t) => add_restart(alloc, f, t, input, walk),
-        Net::KSwitch(f, e, t) => add_freeze(alloc, f, e, t, input, walk),
+        Net::KSwitch(f, e, t) => {
+            let output = add_child(alloc, 0, f.get(), input, walk)?;
+            let frozen = arrow_from(alloc, input, output)?;
+            let event = add_watch(alloc, 1, e.get(), input, &frozen.output, walk)?;
+            add_resuming(alloc, 1, 2, t.get(), frozen, event, input, walk)
+        }
         Net::PSwitch(r, fs, e, t) => add_routed(alloc, r, fs, e, t, input, walk),
         Net::Old(k) => old_output(alloc, &walk.olds, *k),
     }
@@ -119,35 +131,12 @@ fn add_continuation(
     Ok(output)
 }
 
-/// Adds the expressions of two networks, the second of which gets what the first outputs.
-#[cycle(add_leaves)]
-fn add_seq(
-    alloc: Global,
-    f: &NetChild<Expr>,
-    g: &NetChild<Expr>,
-    input: &Ty,
-    walk: &mut Walk,
-) -> Result<Ty, Memory>
-    requires { find_at walk.old
-        (seq (map_network expression_of f.now) (map_network expression_of g.now))
-        (type_of input.now) ≢ None }
-    ensures { IfOk result (Finds walk.old walk.new
-        (find_at walk.old (seq (map_network expression_of f.now) (map_network expression_of g.now))
-        (type_of input.now))) }
-{
-    let between = add_child(alloc, 0, f.get(), input, walk)?;
-    let output = add_child(alloc, 1, g.get(), &between, walk);
-    drop(between);
-    output
-}
-
 /// Adds the expressions of a network that gets the left parts of pairs.
 #[cycle(add_leaves)]
 fn add_first(alloc: Global, f: &NetChild<Expr>, input: &Ty, walk: &mut Walk) -> Result<Ty, Memory>
-    requires { find_at walk.old (first (map_network expression_of f.now)) (type_of input.now)
-        ≢ None }
+    requires { find_at walk.old (first (tree f.now)) (type_of input.now) ≢ None }
     ensures { IfOk result (Finds walk.old walk.new
-        (find_at walk.old (first (map_network expression_of f.now)) (type_of input.now))) }
+        (find_at walk.old (first (tree f.now)) (type_of input.now))) }
 {
     match input {
         Ty::Pair(left, right) => {
@@ -161,10 +150,9 @@ fn add_first(alloc: Global, f: &NetChild<Expr>, input: &Ty, walk: &mut Walk) -> 
 /// Adds the expressions of `parB`.
 #[cycle(add_leaves)]
 fn add_par(alloc: Global, fs: &Members<Expr>, input: &Ty, walk: &mut Walk) -> Result<Ty, Memory>
-    requires { find_at walk.old (par (map_networks expression_of fs.now)) (type_of input.now)
-        ≢ None }
+    requires { find_at walk.old (par (trees fs.now)) (type_of input.now) ≢ None }
     ensures { IfOk result (Finds walk.old walk.new
-        (find_at walk.old (par (map_networks expression_of fs.now)) (type_of input.now))) }
+        (find_at walk.old (par (trees fs.now)) (type_of input.now))) }
 {
     let element = add_members(alloc, 0, fs.as_slice(), input, walk)?;
     list_of(alloc, element)
@@ -180,12 +168,11 @@ fn add_members(
     input: &Ty,
     walk: &mut Walk,
 ) -> Result<Ty, Memory>
-    requires typed { find_members_at walk.old k (map_networks expression_of (members_of fs.now))
+    requires typed { find_members_at walk.old k (trees (members_of fs.now))
         (type_of input.now) ≢ None }
     requires few { k + members (members_of fs.now) ≤ 65 }
     ensures { IfOk result (Finds walk.old walk.new
-        (find_members_at walk.old k (map_networks expression_of (members_of fs.now))
-        (type_of input.now))) }
+        (find_members_at walk.old k (trees (members_of fs.now)) (type_of input.now))) }
 {
     match fs.split_first() {
         Some((f, rest)) => {
@@ -206,12 +193,12 @@ fn add_others(
     output: Ty,
     walk: &mut Walk,
 ) -> Result<Ty, Memory>
-    requires typed { find_others_at walk.old k (map_networks expression_of (members_of fs.now))
+    requires typed { find_others_at walk.old k (trees (members_of fs.now))
         (type_of input.now) (type_of output) ≢ None }
     requires few { k + members (members_of fs.now) ≤ 65 }
     ensures { IfOk result (Finds walk.old walk.new
-        (find_others_at walk.old k (map_networks expression_of (members_of fs.now))
-        (type_of input.now) (type_of output))) }
+        (find_others_at walk.old k (trees (members_of fs.now)) (type_of input.now)
+        (type_of output))) }
 {
     match fs.split_first() {
         Some((f, rest)) => match add_child(alloc, k, f, input, walk) {
@@ -237,11 +224,10 @@ fn add_loop(
     input: &Ty,
     walk: &mut Walk,
 ) -> Result<Ty, Memory>
-    requires { find_at walk.old (loop_pre (expression_of c.now) (map_network expression_of f.now))
+    requires { find_at walk.old (loop_pre (expression_of c.now) (tree f.now))
         (type_of input.now) ≢ None }
     ensures { IfOk result (Finds walk.old walk.new
-        (find_at walk.old (loop_pre (expression_of c.now) (map_network expression_of f.now))
-        (type_of input.now))) }
+        (find_at walk.old (loop_pre (expression_of c.now) (tree f.now)) (type_of input.now))) }
 {
     let start = add_leaf(alloc, 0, c, &Ty::Unit, walk)?;
     let both = pair_under(alloc, input, start)?;
@@ -303,29 +289,6 @@ fn add_timer(alloc: Global, c: &Expr, input: &Ty, walk: &mut Walk) -> Result<Ty,
     event_with(alloc, value)
 }
 
-/// Adds the expressions of `switch` or `dSwitch`.
-#[cycle(add_leaves)]
-fn add_switch(
-    alloc: Global,
-    f: &NetChild<Expr>,
-    t: &NetChild<Expr>,
-    input: &Ty,
-    walk: &mut Walk,
-) -> Result<Ty, Memory>
-    requires { find_at walk.old
-        (switch (map_network expression_of f.now) (map_network expression_of t.now))
-        (type_of input.now) ≢ None }
-    ensures { IfOk result (Finds walk.old walk.new
-        (find_at walk.old
-        (switch (map_network expression_of f.now) (map_network expression_of t.now))
-        (type_of input.now))) }
-{
-    let output = add_child(alloc, 0, f.get(), input, walk)?;
-    let event = right_event_value(alloc, &output);
-    drop(output);
-    add_continuation(alloc, 1, t.get(), event?, input, walk)
-}
-
 /// Adds the expressions of `rSwitch`.
 #[cycle(add_leaves)]
 fn add_restart(
@@ -335,13 +298,9 @@ fn add_restart(
     input: &Ty,
     walk: &mut Walk,
 ) -> Result<Ty, Memory>
-    requires { find_at walk.old
-        (r_switch (map_network expression_of f.now) (map_network expression_of t.now))
-        (type_of input.now) ≢ None }
+    requires { find_at walk.old (r_switch (tree f.now) (tree t.now)) (type_of input.now) ≢ None }
     ensures { IfOk result (Finds walk.old walk.new
-        (find_at walk.old
-        (r_switch (map_network expression_of f.now) (map_network expression_of t.now))
-        (type_of input.now))) }
+        (find_at walk.old (r_switch (tree f.now) (tree t.now)) (type_of input.now))) }
 {
     match input {
         Ty::Pair(sample, event) => {
@@ -351,30 +310,6 @@ fn add_restart(
         }
         _ => unreachable!(),
     }
-}
-
-/// Adds the expressions of `kSwitch`.
-#[cycle(add_leaves)]
-fn add_freeze(
-    alloc: Global,
-    f: &NetChild<Expr>,
-    e: &NetChild<Expr>,
-    t: &NetChild<Expr>,
-    input: &Ty,
-    walk: &mut Walk,
-) -> Result<Ty, Memory>
-    requires { find_at walk.old
-        (k_switch (map_network expression_of f.now) (map_network expression_of e.now)
-        (map_network expression_of t.now)) (type_of input.now) ≢ None }
-    ensures { IfOk result (Finds walk.old walk.new
-        (find_at walk.old
-        (k_switch (map_network expression_of f.now) (map_network expression_of e.now)
-        (map_network expression_of t.now)) (type_of input.now))) }
-{
-    let output = add_child(alloc, 0, f.get(), input, walk)?;
-    let frozen = arrow_from(alloc, input, output)?;
-    let event = add_watch(alloc, 1, e.get(), input, &frozen.output, walk)?;
-    add_resuming(alloc, 1, 2, t.get(), frozen, event, input, walk)
 }
 
 /// Adds the expressions of a network that is child k of the node, and gets pairs of the input and
@@ -446,13 +381,11 @@ fn add_routed(
     walk: &mut Walk,
 ) -> Result<Ty, Memory>
     requires { find_at walk.old
-        (p_switch (expression_of r.now) (map_networks expression_of fs.now)
-        (map_network expression_of e.now) (map_network expression_of t.now))
+        (p_switch (expression_of r.now) (trees fs.now) (tree e.now) (tree t.now))
         (type_of input.now) ≢ None }
     ensures { IfOk result (Finds walk.old walk.new
         (find_at walk.old
-        (p_switch (expression_of r.now) (map_networks expression_of fs.now)
-        (map_network expression_of e.now) (map_network expression_of t.now))
+        (p_switch (expression_of r.now) (trees fs.now) (tree e.now) (tree t.now))
         (type_of input.now))) }
 {
     let indexed = pair_under(alloc, input, Ty::Int)?;
@@ -472,13 +405,11 @@ fn add_behind_route(
     input: &Ty,
     walk: &mut Walk,
 ) -> Result<Ty, Memory>
-    requires typed { find_routed_at walk.old (map_networks expression_of fs.now)
-        (map_network expression_of e.now) (map_network expression_of t.now)
+    requires typed { find_routed_at walk.old (trees fs.now) (tree e.now) (tree t.now)
         (type_of input.now) (type_of routed) ≢ None }
     requires few { members fs.now ≤ 64 }
     ensures { IfOk result (Finds walk.old walk.new
-        (find_routed_at walk.old (map_networks expression_of fs.now)
-        (map_network expression_of e.now) (map_network expression_of t.now)
+        (find_routed_at walk.old (trees fs.now) (tree e.now) (tree t.now)
         (type_of input.now) (type_of routed))) }
 {
     let count = count_members(fs);

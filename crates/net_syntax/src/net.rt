@@ -102,9 +102,8 @@ impl<L> Model for Members<L> {
     ghost size = { networks_size };
 
     ghost use Rattle.net_syntax.specs.Depth.{depths_le};
-    ghost use Rattle.std.proofs.Common.{arith};
 
-    ghost size_decreases = { λ a h. Prim.omega (arith, depths_le a.all.value.items) };
+    ghost size_decreases = { λ a h. depths_le a.all.value.items };
 }
 
 impl<L> NetChild<L> {

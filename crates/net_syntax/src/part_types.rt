@@ -1,8 +1,7 @@
 // Types that are made of others, and taken out of them.
 
 ghost use Rattle.std.specs.Prelude.{◌≡◌, ◌≢◌, ◌++◌, IfOk, OnOk, None, map, replicate};
-ghost use Rattle.sample_core.specs.TypeTree.{pair_ty, event_ty, list_ty};
-ghost use Rattle.sample_core.specs.TypeView.{type_of};
+ghost use Rattle.sample_core.specs.{TypeTree.pair_ty, TypeTree.event_ty, TypeTree.list_ty, TypeView.type_of};
 ghost use Rattle.net_syntax.specs.ArrowView.{arrow_of};
 ghost use Rattle.net_syntax.specs.LeafWalk.{event_of, left_of, old_of, only, right_event_of};
 ghost use Rattle.net_syntax.specs.Typing.{arrow};

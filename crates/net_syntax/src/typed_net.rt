@@ -2,9 +2,8 @@
 
 ghost use Rattle.std.specs.Prelude.{◌≡◌};
 ghost use Rattle.sample_core.specs.TypeView.{type_of};
-ghost use Rattle.net_syntax.specs.NetworkView.{tree_of};
-ghost use Rattle.net_syntax.specs.TypedNetwork.{HasItsTypes};
-ghost use Rattle.net_syntax.specs.NetworkLimits.{WithinLimits};
+ghost use Rattle.net_syntax.specs.{NetworkView.tree_of, TypedNetwork.HasItsTypes, NetworkLimits.WithinLimits};
+ghost use Rattle.net_syntax.specs.TypedNetworkView.{typed_network_of};
 
 use crate::net::Net;
 use leaf_core::Expr;
@@ -30,49 +29,20 @@ impl Model for TypedNet {
 
     ghost coded = { typed_network_code };
 
-    ghost use Rattle.sample_core.specs.TypeView.{type_of};
-    ghost use Rattle.net_syntax.specs.NetworkView.{tree_of};
+    ghost use Rattle.net_syntax.specs.TypedNetworkView.{typed_network_of};
     ghost use Rattle.net_syntax.specs.NetworkLimits.{WithinLimits};
 
-    ghost view = { λ a. record {
-      input = type_of a.input;
-      output = type_of a.output;
-      net = tree_of a.net;
-      weight = a.weight;
-      height = a.height;
-    } };
+    ghost view = { λ a. typed_network_of a.input a.output a.net a.weight a.height };
 
-    ghost invariant = { λ a. WithinLimits (record {
-      input = type_of a.input;
-      output = type_of a.output;
-      net = tree_of a.net;
-      weight = a.weight;
-      height = a.height;
-    }) };
+    ghost invariant = { λ a. WithinLimits (typed_network_of a.input a.output a.net a.weight a.height) };
 }
 
 impl TypedNet {
     /// The network with its types, its weight and its height. It must have these, all within the
     /// limits.
     pub fn new(input: Ty, output: Ty, net: Net<Expr>, weight: u32, height: u32) -> TypedNet
-        requires { WithinLimits
-            (record {
-              input = type_of input;
-              output = type_of output;
-              net = tree_of net;
-              weight =
-                  weight;
-              height = height;
-            }) }
-        ensures { result
-            ≡ record {
-              input = type_of input;
-              output = type_of output;
-              net = tree_of net;
-              weight =
-                  weight;
-              height = height;
-            } }
+        requires { WithinLimits (typed_network_of input output net weight height) }
+        ensures { result ≡ typed_network_of input output net weight height }
     {
         TypedNet {
             input,

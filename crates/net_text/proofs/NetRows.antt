@@ -24,15 +24,15 @@ sugar_rows = (refl, refl, refl, refl, refl, refl, refl, refl, refl)
 
 pub file_fault_rows : FileFaultRows
 unfolding word_at words row_at rows net_words net_word_at net_rows net_row_at
-file_fault_rows = (refl, refl, refl, refl, refl, refl, refl, refl, refl, refl, refl, refl, refl, refl, refl, refl, refl)
+file_fault_rows = (refl, refl, refl, refl, refl, refl, refl, refl, refl, refl)
 
 pub number_fault_rows : NumberFaultRows
 unfolding word_at words row_at rows net_words net_word_at net_rows net_row_at
-number_fault_rows = (refl, refl, refl, refl, refl, refl, refl, refl, refl, refl, refl, refl, refl, refl)
+number_fault_rows = (refl, refl, refl, refl, refl, refl)
 
 pub members_fault_rows : MembersFaultRows
 unfolding word_at words row_at rows net_words net_word_at net_rows net_row_at col_rows
-members_fault_rows = (refl, refl, refl, refl, refl)
+members_fault_rows = (refl, refl, refl, refl)
 
 pub identity_is : IdentityIs
 unfolding word_at words row_at rows net_words net_word_at net_rows net_row_at
@@ -57,29 +57,32 @@ pub second_is : SecondIs
 unfolding word_at words row_at rows net_words net_word_at net_rows net_row_at
 second_is f = second_parts (meaning networks network_sort f)
 
-beside_parts : (f g : Option (Network Expression))
-    → option_and_then (λ f. option_and_then (λ g. Some (beside f g)) g) f
-    ≡ option_and_then (λ a. option_and_then (λ b. Some (seq a b)) (option_and_then (λ g. Some (second g)) g)) (option_and_then (λ f. Some (first f)) f)
-beside_parts None None = refl
-beside_parts None (Some g) = refl
-beside_parts (Some f) None = refl
-beside_parts (Some f) (Some g) = refl
+-- two makers that make the same of two parts, and nothing where one is missing
+same_of_two : {A B R : Type 0} (f g : Option A → Option B → Option R) → ((b : Option B) → f None b ≡ g None b) → ((a : A) → f (Some a) None ≡ g (Some a) None)
+    → ((a : A) (b : B) → f (Some a) (Some b) ≡ g (Some a) (Some b)) → (a : Option A) (b : Option B) → f a b ≡ g a b
+same_of_two f g p q r None b = p b
+same_of_two f g p q r (Some a) None = q a
+same_of_two f g p q r (Some a) (Some b) = r a b
+
+-- what two parts make
+abbrev both_make : {A B R : Type 0} → (A → B → R) → Option A → Option B → Option R
+both_make make a b = option_and_then (λ a. option_and_then (λ b. Some (make a b)) b) a
+
+-- what one part makes
+abbrev makes : {A R : Type 0} → (A → R) → Option A → Option R
+makes make a = option_and_then (λ a. Some (make a)) a
 
 pub beside_is : BesideIs
 unfolding word_at words row_at rows net_words net_word_at net_rows net_row_at
-beside_is f g = beside_parts (meaning networks network_sort f) (meaning networks network_sort g)
-
-fan_out_parts : (f g : Option (Network Expression))
-    → option_and_then (λ f. option_and_then (λ g. Some (fan_out f g)) g) f
-    ≡ option_and_then (λ b. Some (seq (arr (pair_expr input input)) b)) (option_and_then (λ f. option_and_then (λ g. Some (beside f g)) g) f)
-fan_out_parts None None = refl
-fan_out_parts None (Some g) = refl
-fan_out_parts (Some f) None = refl
-fan_out_parts (Some f) (Some g) = refl
+beside_is f g =
+    same_of_two (both_make beside) (λ f g. both_make seq (makes first f) (makes second g)) (λ _. refl) (λ _. refl) (λ _ _. refl)
+    (meaning networks network_sort f) (meaning networks network_sort g)
 
 pub fan_out_is : FanOutIs
 unfolding word_at words row_at rows net_words net_word_at net_rows net_row_at
-fan_out_is f g = fan_out_parts (meaning networks network_sort f) (meaning networks network_sort g)
+fan_out_is f g =
+    same_of_two (both_make fan_out) (λ f g. makes (seq (arr (pair_expr input input))) (both_make beside f g)) (λ _. refl) (λ _. refl) (λ _ _. refl)
+    (meaning networks network_sort f) (meaning networks network_sort g)
 
 never_parts : (T : Option TypeTree)
     → option_and_then (λ T. Some (never T)) T ≡ option_and_then (λ x. Some (arr x)) (option_and_then (λ T. Some (no_event_expr T)) T)
@@ -98,15 +101,8 @@ pub edge_is : EdgeIs
 unfolding word_at words row_at rows net_words net_word_at net_rows net_row_at
 edge_is = refl
 
-accum_hold_by_parts : (g z : Option Expression)
-    → option_and_then (λ g. option_and_then (λ z. Some (accum_hold_by g z)) z) g
-    ≡ option_and_then (λ a. option_and_then (λ b. Some (seq a b)) (option_and_then (λ z. Some (hold z)) z))
-    (option_and_then (λ g. option_and_then (λ z. Some (accum_by g z)) z) g)
-accum_hold_by_parts None None = refl
-accum_hold_by_parts None (Some z) = refl
-accum_hold_by_parts (Some g) None = refl
-accum_hold_by_parts (Some g) (Some z) = refl
-
 pub accum_hold_by_is : AccumHoldByIs
 unfolding word_at words row_at rows net_words net_word_at net_rows net_row_at
-accum_hold_by_is g z = accum_hold_by_parts (meaning networks (leaf_sort expression_sort) g) (meaning networks (leaf_sort expression_sort) z)
+accum_hold_by_is g z =
+    same_of_two (both_make accum_hold_by) (λ g z. both_make seq (both_make accum_by g z) (makes hold z)) (λ _. refl) (λ _. refl) (λ _ _. refl)
+    (meaning networks (leaf_sort expression_sort) g) (meaning networks (leaf_sort expression_sort) z)

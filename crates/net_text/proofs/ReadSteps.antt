@@ -1,16 +1,17 @@
 -- Steps of reading networks, as the code takes them.
-use Rattle.std.proofs.Common.{◌≡◌, ℕ, true, false, List, [], ◌∷◌, refl, sym, ap, subst, ◌∙◌, Result, Ok, Err, Some, None, map}
-use Rattle.std.specs.Prelude.{codes, bytes_eq}
+use Rattle.std.proofs.Common.{◌≡◌, ℕ, true, false, List, [], ◌∷◌, refl, sym, ap, subst, ◌∙◌, ◌-◌, ◌≤◌, IfOk, Result, Ok, Err, Some, None, map, arith}
+use Rattle.std.specs.Prelude.{codes, bytes_eq, IfErr}
 use Rattle.leaf_core.specs.Expression.{Expression}
 use Rattle.leaf_core.specs.ExpressionView.{expression_of}
 use Rattle.leaf_core.specs.declared.expr.Expr.{Expr}
-use Rattle.leaf_expr.specs.Token.{PlacedToken}
+use Rattle.leaf_expr.specs.Token.{PlacedToken, tokens_from}
 use Rattle.leaf_expr.specs.WordReading.{natural_at}
-use Rattle.leaf_expr.specs.Language.{Places, Maker, place, places}
+use Rattle.leaf_expr.specs.Language.{Begins, Places, Maker, place, places}
 use Rattle.leaf_expr.specs.Grammar.{leaf, Sort, Tree}
-use Rattle.leaf_expr.specs.ReadText.{Gives}
+use Rattle.leaf_expr.specs.ReadText.{Gives, IsFault, tree_at}
 use Rattle.leaf_expr.specs.TreeReader.{Read, word_read, read, read_head}
 use Rattle.leaf_expr.proofs.ReadSteps.{Refuses, passed, formless_read}
+use Rattle.leaf_expr.proofs.Answered.{tree_given}
 use Rattle.leaf_expr.proofs.PartSteps.{parts, part, no_part}
 use Rattle.leaf_expr.specs.declared.text_fault.ExprTextFault.{ExprTextFault}
 use Rattle.leaf_expr.specs.declared.text_fault.ExprTextFault.TheVariants as E
@@ -56,6 +57,13 @@ read_behind view r {read = read} p g = subst (λ o. Gives view o read) p g
 pub refused_behind : {X Y : Type 0} (view : X → Y) (r : Result X ExprTextFault) {x : ExprTextFault} {read : Result Y ExprTextFault} → r ≡ Err x
     → Gives view r read → Refuses x read
 refused_behind view r {read = read} p g = subst (λ o. Gives view o read) p g
+
+-- what was read from byte at on, with so many parentheses open as leave that room
+pub room_left : {X : Type 0} (s : Sort) (text : List ℕ) (room at : ℕ) (view : X → Tree s × ℕ × List PlacedToken) (r : Result X ExprTextFault) → room ≤ 600 →
+    IfOk r (λ x. Begins leaf (600 - (600 - room)) s (view x).0 (tokens_from at text) (view x).1 (view x).2) → IfErr r (IsFault s text (600 - (600 - room)) at)
+    → Gives view r (tree_at s text room at)
+room_left s text room at view r h found refused =
+    subst (λ m. Gives view r (tree_at s text m at)) (omega arith) (tree_given s text (600 - (600 - room)) at view r found refused)
 
 -- the time of a form is a number
 pub time_read : (size room : ℕ) (g : Timer) (ts : List PlacedToken) → read networks size room (time_sort g) ts

@@ -1,5 +1,5 @@
 -- Each form of networks, read once, and the sugar in terms of the core forms.
-use Rattle.std.specs.Prelude.{◌≡◌, ◌^◌, ℕ, List, ◌++◌, true, pos, Ok, Err, codes}
+use Rattle.std.specs.Prelude.{◌≡◌, ◌^◌, ℕ, List, [], ◌∷◌, ◌++◌, map, true, pos, Ok, Err, codes}
 use Rattle.sample_core.specs.TypeTree.{unit_ty, int_ty}
 use Rattle.leaf_core.specs.Expression.{Expression, input, unit_expr, bool_expr, int_expr, pair_expr, fst, snd, then_expr, not_expr, and_expr, if_expr, no_event_expr, event_expr}
 use Rattle.leaf_expr.specs.Sexpr.{Sexpr, atom}
@@ -22,6 +22,10 @@ IsNetwork bs f = read_file (file_of bs) ≡ Ok (int_ty, f)
 -- the text is no network, for that fault; the network begins at byte 18
 abbrev pub IsNoNetwork : List ℕ → NetTextFault → Type 0
 IsNoNetwork bs f = read_file (file_of bs) ≡ Err f
+
+-- each of the texts is no network, for that fault
+abbrev pub AreNoNetworks : List (List ℕ) → NetTextFault → Type 0
+AreNoNetworks texts f = map (λ bs. read_file (file_of bs)) texts ≡ map (λ bs. Err f) texts
 
 -- each form without networks
 abbrev pub CellRows : Type 0
@@ -155,45 +159,38 @@ abbrev pub FileFaultRows : Type 0
 FileFaultRows =
     (read_file (codes "yampa 3 input Int time") ≡ Err V.Header)
     × (read_file (codes "yampa 2 input Int time") ≡ Err V.Header)
+    × AreNoNetworks (codes "arr" ∷ codes "5" ∷ []) (V.Syntax 18)
+    × AreNoNetworks
+    (codes "(5 time)" ∷ codes "(time)" ∷ codes "(identity)" ∷ codes "(edge)" ∷ codes "(col time)"
+    ∷ codes "(drSwitch time time)" ∷ codes "(--> 0 time)" ∷ [])
+    (V.Syntax 19)
     × IsNoNetwork (codes "(arr") (V.Syntax 22)
     × IsNoNetwork (codes "(arr 01)") (V.Number 23)
-    × IsNoNetwork (codes "identity )") (V.Syntax 27)
-    × IsNoNetwork (codes "arr") (V.Syntax 18)
-    × IsNoNetwork (codes "5") (V.Syntax 18)
-    × IsNoNetwork (codes "(5 time)") (V.Syntax 19)
-    × IsNoNetwork (codes "(time)") (V.Syntax 19)
-    × IsNoNetwork (codes "(identity)") (V.Syntax 19)
-    × IsNoNetwork (codes "(edge)") (V.Syntax 19)
-    × IsNoNetwork (codes "(col time)") (V.Syntax 19)
-    × IsNoNetwork (codes "(drSwitch time time)") (V.Syntax 19)
-    × IsNoNetwork (codes "(--> 0 time)") (V.Syntax 19)
-    × IsNoNetwork (codes "(parB time") (V.Syntax 28)
     × IsNoNetwork (codes "(never 5)") (V.Syntax 25)
+    × IsNoNetwork (codes "identity )") (V.Syntax 27)
     × IsNoNetwork (codes "(loopPre 01 time)") (V.Number 27)
+    × IsNoNetwork (codes "(parB time") (V.Syntax 28)
 
 -- refusals of numbers of frozen networks and of times
 abbrev pub NumberFaultRows : Type 0
 NumberFaultRows =
     IsNoNetwork (codes "(old)") (V.Syntax 22)
     × IsNoNetwork (codes "(old x)") (V.Syntax 23)
-    × IsNoNetwork (codes "(old -1)") (V.Number 23)
-    × IsNoNetwork (codes "(old 65536)") (V.Number 23)
-    × IsNoNetwork (codes "(delay 01 0)") (V.Number 25)
-    × IsNoNetwork (codes "(delay x 0)") (V.Syntax 25)
-    × IsNoNetwork (codes "(delay (p 0) 0)") (V.Syntax 25)
-    × IsNoNetwork (codes "(delay 0 0)") (V.Number 25)
-    × IsNoNetwork (codes "(delay 4097 0)") (V.Number 25)
-    × IsNoNetwork (codes "(delay 18446744073709551616 0)") (V.Number 25)
-    × IsNoNetwork (codes "(after -1 0)") (V.Number 25)
-    × IsNoNetwork (codes "(after 4611686018427387905 0)") (V.Number 25)
-    × IsNoNetwork (codes "(repeatedly 0 0)") (V.Number 30)
-    × IsNoNetwork (codes "(repeatedly 4611686018427387905 0)") (V.Number 30)
+    × AreNoNetworks (codes "(old -1)" ∷ codes "(old 65536)" ∷ []) (V.Number 23)
+    × AreNoNetworks (codes "(delay x 0)" ∷ codes "(delay (p 0) 0)" ∷ []) (V.Syntax 25)
+    × AreNoNetworks
+    (codes "(delay 01 0)" ∷ codes "(delay 0 0)" ∷ codes "(delay 4097 0)"
+    ∷ codes "(delay 18446744073709551616 0)" ∷ codes "(after -1 0)"
+    ∷ codes "(after 4611686018427387905 0)" ∷ [])
+    (V.Number 25)
+    × AreNoNetworks
+    (codes "(repeatedly 0 0)" ∷ codes "(repeatedly 4611686018427387905 0)" ∷ []) (V.Number 30)
 
 -- refusals of what stands where the members of `pSwitch` must
 abbrev pub MembersFaultRows : Type 0
 MembersFaultRows =
-    IsNoNetwork (codes "(pSwitch x time time time)") (V.Syntax 29)
-    × IsNoNetwork (codes "(pSwitch x 5 time time)") (V.Syntax 29)
+    AreNoNetworks (codes "(pSwitch x time time time)" ∷ codes "(pSwitch x 5 time time)" ∷ [])
+    (V.Syntax 29)
     × IsNoNetwork (codes "(pSwitch x (parB) time time)") (V.Syntax 30)
     × IsNoNetwork (codes "(pSwitch x (col time") (V.Syntax 38)
     × IsNoNetwork (codes "(pSwitch x (col) time)") (V.Syntax 39)

@@ -1,9 +1,9 @@
 -- The grammar of networks, on top of that of types and expressions: a table of words, and tables
 -- of forms.
-use Rattle.std.specs.Prelude.{ℕ, ◌^◌, true, false, Bool, List, [], ◌∷◌, ◌++◌, Option, Some, None, option_map, bytes_eq, codes, if◌then◌else◌}
+use Rattle.std.specs.Prelude.{ℕ, ◌^◌, true, false, Bool, List, [], ◌∷◌, ◌++◌, Option, None, option_map, codes}
 use Rattle.leaf_expr.specs.WordReading.{WordReading, unfit, natural_at}
 use Rattle.leaf_core.specs.Expression.{Expression}
-use Rattle.leaf_expr.specs.Language.{Language, Places, Maker, Row, no_place, place, places}
+use Rattle.leaf_expr.specs.Language.{Language, Places, Maker, Row, no_place, place, places, row_among}
 use Rattle.leaf_expr.specs.Grammar.{Sort, Tree, type_sort, expression_sort, index_sort, word_at, row_at, has_form, takes_number, word_among}
 use Rattle.net_syntax.specs.Network.{Network, Networks, networks_of, arr, seq, first, par, loop_pre, i_pre, delay, hold, accum_by, after, repeatedly, time, integral, switch, d_switch, r_switch, k_switch, p_switch, old}
 use Rattle.net_text.specs.Sugar.{identity, constant, now, second, beside, fan_out, never, edge, accum_hold_by}
@@ -144,12 +144,6 @@ net_rows = cell_rows ++ (pair_rows ++ other_rows)
 unfoldable pub col_rows : List (Row NetSort NetTree (Networks Expression))
 col_rows = row (codes "col") (places network_sort) networks_of ∷ []
 
--- the row of a table that a word begins
-abbrev pub net_row_among : {R : Type 0} → List ℕ → List (Row NetSort NetTree R)
-    → Option (Row NetSort NetTree R)
-net_row_among w [] = None
-net_row_among w (x ∷ xs) = if bytes_eq w x.name then Some x else net_row_among w xs
-
 -- what a word is where a tree of the sort stands
 unfoldable pub net_word_at : (s : NetSort) → List ℕ → WordReading (NetTree s)
 net_word_at (leaf_sort s) w = word_at s w
@@ -160,8 +154,8 @@ net_word_at (time_sort g) w = natural_at (least g) (greatest g) w
 -- the form that a word begins
 unfoldable pub net_row_at : (s : NetSort) → List ℕ → Option (Row NetSort NetTree (NetTree s))
 net_row_at (leaf_sort s) w = option_map leaf_row (row_at s w)
-net_row_at network_sort w = net_row_among w net_rows
-net_row_at members_sort w = net_row_among w col_rows
+net_row_at network_sort w = row_among w net_rows
+net_row_at members_sort w = row_among w col_rows
 net_row_at (time_sort g) w = None
 
 -- whether a tree of the sort may be a form, which begins with a parenthesis

@@ -13,21 +13,21 @@ abbrev mutual
   -- the part that a network is printed as
   pub network_sexpr : Network Expression → Sexpr
   network_sexpr (arr e) = one (codes "arr") (expression_sexpr e)
-  network_sexpr (i_pre e) = one (codes "iPre") (expression_sexpr e)
-  network_sexpr (hold e) = one (codes "hold") (expression_sexpr e)
-  network_sexpr (first f) = one (codes "first") (network_sexpr f)
   network_sexpr (seq f g) = two (codes ">>>") (network_sexpr f) (network_sexpr g)
-  network_sexpr (switch f g) = two (codes "switch") (network_sexpr f) (network_sexpr g)
-  network_sexpr (d_switch f g) = two (codes "dSwitch") (network_sexpr f) (network_sexpr g)
-  network_sexpr (r_switch f g) = two (codes "rSwitch") (network_sexpr f) (network_sexpr g)
+  network_sexpr (first f) = one (codes "first") (network_sexpr f)
   network_sexpr (par fs) = form (codes "parB") (network_sexprs fs)
   network_sexpr (loop_pre c f) = two (codes "loopPre") (expression_sexpr c) (network_sexpr f)
+  network_sexpr (i_pre e) = one (codes "iPre") (expression_sexpr e)
   network_sexpr (delay q c) = two (codes "delay") (atom (decimal q)) (expression_sexpr c)
+  network_sexpr (hold e) = one (codes "hold") (expression_sexpr e)
   network_sexpr (accum_by g z) = two (codes "accumBy") (expression_sexpr g) (expression_sexpr z)
   network_sexpr (after q c) = two (codes "after") (atom (decimal q)) (expression_sexpr c)
   network_sexpr (repeatedly q c) = two (codes "repeatedly") (atom (decimal q)) (expression_sexpr c)
   network_sexpr time = atom (codes "time")
   network_sexpr integral = atom (codes "integral")
+  network_sexpr (switch f g) = two (codes "switch") (network_sexpr f) (network_sexpr g)
+  network_sexpr (d_switch f g) = two (codes "dSwitch") (network_sexpr f) (network_sexpr g)
+  network_sexpr (r_switch f g) = two (codes "rSwitch") (network_sexpr f) (network_sexpr g)
   network_sexpr (k_switch f e t) =
       three (codes "kSwitch") (network_sexpr f) (network_sexpr e) (network_sexpr t)
   network_sexpr (p_switch r fs e t) =
@@ -55,22 +55,22 @@ TimeFits g q = (least g ≤ q) × (q ≤ greatest g)
 abbrev mutual
   pub Writable : Network Expression → Type 0
   Writable (arr e) = InRange e
+  Writable (seq f g) = Writable f × Writable g
+  Writable (first f) = Writable f
+  Writable (par fs) = AllWritable fs
+  Writable (loop_pre c f) = InRange c × Writable f
   Writable (i_pre c) = InRange c
-  Writable (hold c) = InRange c
   Writable (delay q c) = TimeFits delay_timer q × InRange c
+  Writable (hold c) = InRange c
+  Writable (accum_by g z) = InRange g × InRange z
   Writable (after q c) = TimeFits after_timer q × InRange c
   Writable (repeatedly q c) = TimeFits repeatedly_timer q × InRange c
-  Writable (accum_by g z) = InRange g × InRange z
   Writable time = Unit {0}
   Writable integral = Unit {0}
-  Writable (first f) = Writable f
-  Writable (seq f g) = Writable f × Writable g
   Writable (switch f t) = Writable f × Writable t
   Writable (d_switch f t) = Writable f × Writable t
   Writable (r_switch f t) = Writable f × Writable t
   Writable (k_switch f e t) = Writable f × Writable e × Writable t
-  Writable (loop_pre c f) = InRange c × Writable f
-  Writable (par fs) = AllWritable fs
   Writable (p_switch r fs e t) = InRange r × AllWritable fs × Writable e × Writable t
   Writable (old k) = k ≤ 65535
 

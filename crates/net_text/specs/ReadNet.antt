@@ -9,13 +9,16 @@ use Rattle.leaf_core.specs.ExpressionView.{expression_of}
 use Rattle.leaf_core.specs.declared.expr.Expr.{Expr}
 use Rattle.leaf_expr.specs.declared.text_fault.ExprTextFault.{ExprTextFault}
 use Rattle.leaf_expr.specs.Language.{Places, Maker, no_place}
+use Rattle.leaf_expr.specs.ReadText.{Gives}
 use Rattle.leaf_expr.specs.Token.{PlacedToken, tokens_from}
 use Rattle.leaf_expr.specs.TreeReader.{word_read, Read, read, read_form, read_parts}
 use Rattle.net_syntax.specs.Network.{Network, Networks, map_network, map_networks}
 use Rattle.net_syntax.specs.NetworkView.{tree_of}
 use Rattle.net_syntax.specs.declared.net.Net.{Net}
-use Rattle.net_text.specs.Grammar.{networks, NetSort, NetTree, network_sort, net_word_at, NetRow, f, col}
+use Rattle.net_text.specs.Grammar.{networks, NetSort, NetTree, network_sort, net_word_at, f, col}
 use Rattle.net_text.specs.File.{at_end}
+use Rattle.net_text.specs.Form.{form_row}
+use Rattle.net_text.specs.declared.form.Form.{Form}
 use Rattle.net_text.specs.declared.fault.NetTextFault.{NetTextFault}
 use Rattle.net_text.specs.declared.fault.NetTextFault.TheVariants as V
 use Rattle.sample_core.specs.Answer.{◌>>=◌, GivesUnless}
@@ -56,10 +59,6 @@ last_three_at text room n =
     parts_at {R = Networks Expression × Network Expression × Network Expression}
     (col (f (f no_place))) (λ fs g h. (fs, g, h)) text room n
 
--- the parts of the row's form and its end, in the text from byte n on
-abbrev pub row_parts : NetRow → List ℕ → ℕ → ℕ → Read (Network Expression)
-row_parts r text room n = parts_at r.takes r.makes text room n
-
 -- a network, the byte behind it, and the tokens from there on
 abbrev pub network_left : List ℕ → Net Expr × ℕ → Network Expression × ℕ × List PlacedToken
 network_left text x = (tree_of x.0, x.1, tokens_from x.1 text)
@@ -71,6 +70,12 @@ child_left text x = (map_network expression_of x.0, x.1, tokens_from x.1 text)
 -- the same of members
 abbrev pub members_left : List ℕ → Networks Expr × ℕ → Networks Expression × ℕ × List PlacedToken
 members_left text x = (map_networks expression_of x.0, x.1, tokens_from x.1 text)
+
+-- what the call returned is what reading the parts of the form and its end gives, in the text from
+-- byte n on, unless memory ran out
+abbrev pub GivesForm : Result (Net Expr × ℕ) ExprTextFault → Form → List ℕ → ℕ → ℕ → Type 0
+GivesForm result form text room n = Gives (network_left text) result
+    (parts_at (form_row form).takes (form_row form).makes text room n)
 
 -- what the call returned is what reading gives, unless memory ran out
 abbrev pub GivesFile : Result (Ty × Net Expr) NetTextFault

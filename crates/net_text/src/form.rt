@@ -3,15 +3,15 @@
 ghost use Rattle.std.specs.Prelude.{◌≡◌, ◌≤◌, ◌^◌, IfOk, option_map};
 ghost use Rattle.leaf_core.specs.ExpressionView.{expression_of};
 ghost use Rattle.leaf_expr.specs.ReadText.{fit};
-ghost use Rattle.net_syntax.specs.Network.{map_network};
-ghost use Rattle.net_syntax.specs.NetworkView.{tree_of};
+ghost use Rattle.net_syntax.specs.{Network.map_network, NetworkView.tree_of};
 ghost use Rattle.net_text.specs.Form.{form_row, word_of};
-ghost use Rattle.net_text.specs.Grammar.{cell_rows, pair_rows, other_rows, net_row_among, net_row_at, net_word_at, network_sort};
+ghost use Rattle.leaf_expr.specs.Language.{row_among};
+ghost use Rattle.net_text.specs.Grammar.{cell_rows, pair_rows, other_rows, net_row_at, net_word_at, network_sort};
 
-use crate::sugar::{accum_hold_by, beside, constant, edge, fan_out, second};
+use crate::sugar::{Made, accum_hold_by, beside, constant, edge, fan_out, second};
 use leaf_expr::Expr;
 use net_syntax::{Net, NetChild};
-use sample_core::{Memory, word_is};
+use sample_core::word_is;
 use std::alloc::Global;
 
 /// A word that is a network by itself. `Identity` and `Edge` are sugar.
@@ -90,7 +90,7 @@ pub(crate) enum Form {
 
 impl NetWord {
     /// The network that the word is.
-    pub(crate) fn of(self, alloc: Global) -> Result<Net<Expr>, Memory>
+    pub(crate) fn of(self, alloc: Global) -> Made
         ensures { IfOk result (λ net. tree_of net ≡ word_of self) }
     {
         match self {
@@ -106,7 +106,7 @@ impl LeafForm {
     ghost use Rattle.net_text.specs.Form.{leaf_form_of};
 
     /// The form with that expression.
-    pub(crate) fn of(self, alloc: Global, e: Expr) -> Result<Net<Expr>, Memory>
+    pub(crate) fn of(self, alloc: Global, e: Expr) -> Made
         ensures { IfOk result (λ net. tree_of net ≡ leaf_form_of self (expression_of e)) }
     {
         match self {
@@ -162,7 +162,7 @@ impl Accumulator {
     ghost use Rattle.net_text.specs.Form.{accumulator_of};
 
     /// The form with those expressions.
-    pub(crate) fn of(self, alloc: Global, g: Expr, z: Expr) -> Result<Net<Expr>, Memory>
+    pub(crate) fn of(self, alloc: Global, g: Expr, z: Expr) -> Made
         ensures { IfOk result
             (λ net. tree_of net ≡ accumulator_of self (expression_of g) (expression_of z)) }
     {
@@ -177,7 +177,7 @@ impl Unary {
     ghost use Rattle.net_text.specs.Form.{unary_of};
 
     /// The form with that network.
-    pub(crate) fn of(self, alloc: Global, f: NetChild<Expr>) -> Result<Net<Expr>, Memory>
+    pub(crate) fn of(self, alloc: Global, f: NetChild<Expr>) -> Made
         ensures { IfOk result
             (λ net. tree_of net ≡ unary_of self (map_network expression_of f)) }
     {
@@ -192,12 +192,7 @@ impl Binary {
     ghost use Rattle.net_text.specs.Form.{binary_of};
 
     /// The form with those networks.
-    pub(crate) fn of(
-        self,
-        alloc: Global,
-        f: NetChild<Expr>,
-        g: NetChild<Expr>,
-    ) -> Result<Net<Expr>, Memory>
+    pub(crate) fn of(self, alloc: Global, f: NetChild<Expr>, g: NetChild<Expr>) -> Made
         ensures { IfOk result
             (λ net. tree_of net
             ≡ binary_of self (map_network expression_of f) (map_network expression_of g)) }
@@ -215,7 +210,7 @@ impl Binary {
 
 /// The form without networks that the word begins.
 fn cell_named(word: &[u8]) -> Option<Form>
-    ensures { option_map form_row result ≡ net_row_among word.now cell_rows }
+    ensures { option_map form_row result ≡ row_among word.now cell_rows }
 {
     if word_is(word, "arr") {
         Some(Form::Leaf(LeafForm::Arr))
@@ -244,7 +239,7 @@ fn cell_named(word: &[u8]) -> Option<Form>
 
 /// The form of one or two networks that the word begins.
 fn pair_named(word: &[u8]) -> Option<Form>
-    ensures { option_map form_row result ≡ net_row_among word.now pair_rows }
+    ensures { option_map form_row result ≡ row_among word.now pair_rows }
 {
     if word_is(word, "first") {
         Some(Form::Unary(Unary::First))
@@ -269,7 +264,7 @@ fn pair_named(word: &[u8]) -> Option<Form>
 
 /// The form of other parts that the word begins.
 fn other_named(word: &[u8]) -> Option<Form>
-    ensures { option_map form_row result ≡ net_row_among word.now other_rows }
+    ensures { option_map form_row result ≡ row_among word.now other_rows }
 {
     if word_is(word, "loopPre") {
         Some(Form::LoopPre)

@@ -3,15 +3,13 @@
 ghost use Rattle.std.specs.Prelude.{◌≡◌, ◌<◌, ◌≤◌, Err, MatchResult, Ok, length, map};
 ghost use Rattle.sample_core.specs.TypeView.{type_of};
 ghost use Rattle.leaf_core.specs.ExpressionView.{expression_of};
-ghost use Rattle.leaf_expr.specs.Grammar.{type_sort, expression_sort};
-ghost use Rattle.leaf_expr.specs.Language.{no_place, places};
+ghost use Rattle.leaf_expr.specs.{Grammar.type_sort, Grammar.expression_sort, Language.no_place, Language.places};
 ghost use Rattle.leaf_expr.specs.ReadText.{Gives, tree_at, expression_left, type_left};
 ghost use Rattle.leaf_expr.specs.Token.{tokens_from};
-ghost use Rattle.net_syntax.specs.Network.{networks_of, map_network, map_networks};
-ghost use Rattle.net_syntax.specs.NetworkView.{tree_of};
-ghost use Rattle.net_text.specs.Form.{form_row, timer_of, leaf_form_row, timer_row, accumulator_row, unary_row, binary_row};
+ghost use Rattle.net_syntax.specs.{Network.networks_of, Network.map_network, Network.map_networks, NetworkView.tree_of};
+ghost use Rattle.net_text.specs.Form.{timer_of};
 ghost use Rattle.net_text.specs.Grammar.{network_sort, members_sort, time_sort, e, f};
-ghost use Rattle.net_text.specs.ReadNet.{sort_at, word_network as word_read, form_at as form_read, parts_at as parts_read, last_two_at as last_two_read, last_three_at as last_three_read, row_parts, network_left, child_left, members_left};
+ghost use Rattle.net_text.specs.ReadNet.{sort_at, word_network as word_read, form_at as form_read, parts_at as parts_read, last_two_at as last_two_read, last_three_at as last_three_read, GivesForm, network_left, child_left, members_left};
 
 use crate::form::{Accumulator, Binary, Form, LeafForm, Timer, Unary, form_named, network_named};
 use leaf_expr::{
@@ -22,10 +20,16 @@ use net_syntax::{Members, Net, NetChild};
 use sample_core::{Ty, word_is};
 use std::alloc::Global;
 
+/// A network that was read, and the byte behind it.
+type ReadNet = Read<Net<Expr>>;
+
+/// A network inside a network.
+type Child = NetChild<Expr>;
+
 /// The network at or after byte `at`, with room for so many more parentheses, and the byte behind
 /// it.
 #[cycle(network)]
-pub(crate) fn network_at(alloc: Global, text: &[u8], at: usize, room: usize) -> Read<Net<Expr>>
+pub(crate) fn network_at(alloc: Global, text: &[u8], at: usize, room: usize) -> ReadNet
     requires { room ≤ 600 }
     ensures { Gives (network_left text.now) result (sort_at network_sort text.now room at) }
 {
@@ -36,22 +40,19 @@ pub(crate) fn network_at(alloc: Global, text: &[u8], at: usize, room: usize) -> 
 }
 
 /// The network that the word is from the first byte up to and without the second, and the latter.
-fn word_network(alloc: Global, text: &[u8], start: usize, end: usize) -> Read<Net<Expr>>
+fn word_network(alloc: Global, text: &[u8], start: usize, end: usize) -> ReadNet
     requires { (start < end) × (end ≤ length text.now) }
     ensures { Gives (network_left text.now) result (word_read text.now start end) }
 {
     match network_named(&text[start..end]) {
-        Some(word) => {
-            let net = word.of(alloc)?;
-            Ok((net, end))
-        }
+        Some(word) => { Ok((word.of(alloc)?, end)) }
         None => Err(ExprTextFault::Syntax { at: start }),
     }
 }
 
 /// What stands behind the parenthesis of a form.
 #[cycle(network)]
-fn form_at(alloc: Global, text: &[u8], at: usize, room: usize) -> Read<Net<Expr>>
+fn form_at(alloc: Global, text: &[u8], at: usize, room: usize) -> ReadNet
     requires { room ≤ 600 }
     ensures { Gives (network_left text.now) result (form_read network_sort text.now room at) }
 {
@@ -64,9 +65,9 @@ fn form_at(alloc: Global, text: &[u8], at: usize, room: usize) -> Read<Net<Expr>
 
 /// The parts of a form, and its end.
 #[cycle(network)]
-fn parts_at(alloc: Global, text: &[u8], at: usize, room: usize, form: Form) -> Read<Net<Expr>>
+fn parts_at(alloc: Global, text: &[u8], at: usize, room: usize, form: Form) -> ReadNet
     requires { room ≤ 600 }
-    ensures { Gives (network_left text.now) result (row_parts (form_row form) text.now room at) }
+    ensures { GivesForm result form text.now room at }
 {
     match form {
         Form::Leaf(form) => leaf_form_at(alloc, text, at, room, form),
@@ -128,20 +129,12 @@ fn last_expr_at(alloc: Global, text: &[u8], at: usize, room: usize) -> Read<Expr
 }
 
 /// One expression, and the end of the form.
-fn leaf_form_at(
-    alloc: Global,
-    text: &[u8],
-    at: usize,
-    room: usize,
-    form: LeafForm,
-) -> Read<Net<Expr>>
+fn leaf_form_at(alloc: Global, text: &[u8], at: usize, room: usize, form: LeafForm) -> ReadNet
     requires { room ≤ 600 }
-    ensures { Gives (network_left text.now) result
-        (row_parts (leaf_form_row form) text.now room at) }
+    ensures { GivesForm result (Form.Leaf form) text.now room at }
 {
     let (expr, end) = last_expr_at(alloc, text, at, room)?;
-    let net = form.of(alloc, expr)?;
-    Ok((net, end))
+    Ok((form.of(alloc, expr)?, end))
 }
 
 /// The time of the form at or after byte `at`, and the byte behind it.
@@ -153,9 +146,9 @@ fn time_at(text: &[u8], at: usize, room: usize, form: Timer) -> Read<u64>
 }
 
 /// A time and an expression, and the end of the form.
-fn timer_at(alloc: Global, text: &[u8], at: usize, room: usize, form: Timer) -> Read<Net<Expr>>
+fn timer_at(alloc: Global, text: &[u8], at: usize, room: usize, form: Timer) -> ReadNet
     requires { room ≤ 600 }
-    ensures { Gives (network_left text.now) result (row_parts (timer_row form) text.now room at) }
+    ensures { GivesForm result (Form.Timer form) text.now room at }
 {
     let (q, at) = time_at(text, at, room, form)?;
     let (c, end) = last_expr_at(alloc, text, at, room)?;
@@ -163,27 +156,18 @@ fn timer_at(alloc: Global, text: &[u8], at: usize, room: usize, form: Timer) -> 
 }
 
 /// Two expressions, and the end of the form.
-fn accumulator_at(
-    alloc: Global,
-    text: &[u8],
-    at: usize,
-    room: usize,
-    form: Accumulator,
-) -> Read<Net<Expr>>
+fn accumulator_at(alloc: Global, text: &[u8], at: usize, room: usize, form: Accumulator) -> ReadNet
     requires { room ≤ 600 }
-    ensures { Gives (network_left text.now) result
-        (row_parts (accumulator_row form) text.now room at) }
+    ensures { GivesForm result (Form.Accumulator form) text.now room at }
 {
     let (g, at) = expr_at(alloc, text, at, room)?;
     let (g, (z, end)) = both(g, last_expr_at(alloc, text, at, room))?;
-    let net = form.of(alloc, g, z)?;
-    Ok((net, end))
+    Ok((form.of(alloc, g, z)?, end))
 }
 
 /// The number of a frozen network, and the end of the form.
-fn old_at(text: &[u8], at: usize, room: usize) -> Read<Net<Expr>>
-    ensures { Gives (network_left text.now) result
-        (row_parts (form_row Form.Old) text.now room at) }
+fn old_at(text: &[u8], at: usize, room: usize) -> ReadNet
+    ensures { GivesForm result Form.Old text.now room at }
 {
     let (k, at) = read_index(text, at, room)?;
     let end = form_end(text, at, room)?;
@@ -191,10 +175,9 @@ fn old_at(text: &[u8], at: usize, room: usize) -> Read<Net<Expr>>
 }
 
 /// A type, and the end of the form.
-fn never_at(alloc: Global, text: &[u8], at: usize, room: usize) -> Read<Net<Expr>>
+fn never_at(alloc: Global, text: &[u8], at: usize, room: usize) -> ReadNet
     requires { room ≤ 600 }
-    ensures { Gives (network_left text.now) result
-        (row_parts (form_row Form.Never) text.now room at) }
+    ensures { GivesForm result Form.Never text.now room at }
 {
     let (carried, at) = type_at(alloc, text, at, room)?;
     let (carried, end) = both(carried, form_end(text, at, room))?;
@@ -203,7 +186,7 @@ fn never_at(alloc: Global, text: &[u8], at: usize, room: usize) -> Read<Net<Expr
 
 /// A network inside a network.
 #[cycle(network)]
-fn child_at(alloc: Global, text: &[u8], at: usize, room: usize) -> Read<NetChild<Expr>>
+fn child_at(alloc: Global, text: &[u8], at: usize, room: usize) -> Read<Child>
     requires { room ≤ 600 }
     ensures { Gives (child_left text.now) result (sort_at network_sort text.now room at) }
 {
@@ -214,7 +197,7 @@ fn child_at(alloc: Global, text: &[u8], at: usize, room: usize) -> Read<NetChild
 
 /// The last network of a form, and the form's end.
 #[cycle(network)]
-fn last_child_at(alloc: Global, text: &[u8], at: usize, room: usize) -> Read<NetChild<Expr>>
+fn last_child_at(alloc: Global, text: &[u8], at: usize, room: usize) -> Read<Child>
     requires { room ≤ 600 }
     ensures { Gives (child_left text.now) result
         (parts_read (f no_place) (λ g. g) text.now room at) }
@@ -226,12 +209,7 @@ fn last_child_at(alloc: Global, text: &[u8], at: usize, room: usize) -> Read<Net
 
 /// The last two networks of a form, and the form's end.
 #[cycle(network)]
-fn last_two_at(
-    alloc: Global,
-    text: &[u8],
-    at: usize,
-    room: usize,
-) -> Read<(NetChild<Expr>, NetChild<Expr>)>
+fn last_two_at(alloc: Global, text: &[u8], at: usize, room: usize) -> Read<(Child, Child)>
     requires { room ≤ 600 }
     ensures { Gives
         (λ x. (
@@ -248,32 +226,29 @@ fn last_two_at(
 
 /// One network, and the end of the form.
 #[cycle(network)]
-fn unary_at(alloc: Global, text: &[u8], at: usize, room: usize, form: Unary) -> Read<Net<Expr>>
+fn unary_at(alloc: Global, text: &[u8], at: usize, room: usize, form: Unary) -> ReadNet
     requires { room ≤ 600 }
-    ensures { Gives (network_left text.now) result (row_parts (unary_row form) text.now room at) }
+    ensures { GivesForm result (Form.Unary form) text.now room at }
 {
     let (g, end) = last_child_at(alloc, text, at, room)?;
-    let net = form.of(alloc, g)?;
-    Ok((net, end))
+    Ok((form.of(alloc, g)?, end))
 }
 
 /// Two networks, and the end of the form.
 #[cycle(network)]
-fn binary_at(alloc: Global, text: &[u8], at: usize, room: usize, form: Binary) -> Read<Net<Expr>>
+fn binary_at(alloc: Global, text: &[u8], at: usize, room: usize, form: Binary) -> ReadNet
     requires { room ≤ 600 }
-    ensures { Gives (network_left text.now) result (row_parts (binary_row form) text.now room at) }
+    ensures { GivesForm result (Form.Binary form) text.now room at }
 {
     let ((g, h), end) = last_two_at(alloc, text, at, room)?;
-    let net = form.of(alloc, g, h)?;
-    Ok((net, end))
+    Ok((form.of(alloc, g, h)?, end))
 }
 
 /// Three networks, and the end of the form.
 #[cycle(network)]
-fn k_switch_at(alloc: Global, text: &[u8], at: usize, room: usize) -> Read<Net<Expr>>
+fn k_switch_at(alloc: Global, text: &[u8], at: usize, room: usize) -> ReadNet
     requires { room ≤ 600 }
-    ensures { Gives (network_left text.now) result
-        (row_parts (form_row Form.KSwitch) text.now room at) }
+    ensures { GivesForm result Form.KSwitch text.now room at }
 {
     let (g, at) = child_at(alloc, text, at, room)?;
     let ((test, t), end) = last_two_at(alloc, text, at, room)?;
@@ -282,10 +257,9 @@ fn k_switch_at(alloc: Global, text: &[u8], at: usize, room: usize) -> Read<Net<E
 
 /// An expression and a network, and the end of the form.
 #[cycle(network)]
-fn loop_at(alloc: Global, text: &[u8], at: usize, room: usize) -> Read<Net<Expr>>
+fn loop_at(alloc: Global, text: &[u8], at: usize, room: usize) -> ReadNet
     requires { room ≤ 600 }
-    ensures { Gives (network_left text.now) result
-        (row_parts (form_row Form.LoopPre) text.now room at) }
+    ensures { GivesForm result Form.LoopPre text.now room at }
 {
     let (c, at) = expr_at(alloc, text, at, room)?;
     let (c, (g, end)) = both(c, last_child_at(alloc, text, at, room))?;
@@ -294,10 +268,9 @@ fn loop_at(alloc: Global, text: &[u8], at: usize, room: usize) -> Read<Net<Expr>
 
 /// Members, and the end of the form.
 #[cycle(network)]
-fn par_at(alloc: Global, text: &[u8], at: usize, room: usize) -> Read<Net<Expr>>
+fn par_at(alloc: Global, text: &[u8], at: usize, room: usize) -> ReadNet
     requires { room ≤ 600 }
-    ensures { Gives (network_left text.now) result
-        (row_parts (form_row Form.Par) text.now room at) }
+    ensures { GivesForm result Form.Par text.now room at }
 {
     let (all, end) = members_at(alloc, text, at, room)?;
     Ok((Net::Par(all), end))
@@ -305,10 +278,9 @@ fn par_at(alloc: Global, text: &[u8], at: usize, room: usize) -> Read<Net<Expr>>
 
 /// An expression, members and two networks, and the end of the form.
 #[cycle(network)]
-fn p_switch_at(alloc: Global, text: &[u8], at: usize, room: usize) -> Read<Net<Expr>>
+fn p_switch_at(alloc: Global, text: &[u8], at: usize, room: usize) -> ReadNet
     requires { room ≤ 600 }
-    ensures { Gives (network_left text.now) result
-        (row_parts (form_row Form.PSwitch) text.now room at) }
+    ensures { GivesForm result Form.PSwitch text.now room at }
 {
     let (r, at) = expr_at(alloc, text, at, room)?;
     let (r, ((all, test, t), end)) = both(r, last_three_at(alloc, text, at, room))?;
@@ -322,7 +294,7 @@ fn last_three_at(
     text: &[u8],
     at: usize,
     room: usize,
-) -> Read<(Members<Expr>, NetChild<Expr>, NetChild<Expr>)>
+) -> Read<(Members<Expr>, Child, Child)>
     requires { room ≤ 600 }
     ensures { Gives
         (λ x. (

@@ -1,16 +1,13 @@
 // Reading network files.
 
 ghost use Rattle.std.specs.Prelude.{◌≡◌, ◌<◌, Err, length, option_map, IfOk, IfErr};
-ghost use Rattle.leaf_expr.specs.ReadText.{Gives};
-ghost use Rattle.leaf_expr.specs.Token.{tokens, tokens_from};
+ghost use Rattle.leaf_expr.specs.{ReadText.Gives, Token.tokens, Token.tokens_from};
 ghost use Rattle.leaf_core.specs.Expression.{Expression};
 ghost use Rattle.sample_core.specs.TypeTree.{TypeTree};
-ghost use Rattle.net_syntax.specs.Network.{Network};
-ghost use Rattle.net_syntax.specs.NetworkView.{tree_of};
+ghost use Rattle.net_syntax.specs.{Network.Network, NetworkView.tree_of};
 ghost use Rattle.sample_core.specs.TypeView.{type_of};
 ghost use Rattle.net_text.specs.File.{behind_word, behind_header, read_body, read_behind, read_file};
-ghost use Rattle.net_text.specs.FileLaws.{IsFile, IsFileFault};
-ghost use Rattle.net_text.specs.ReadNet.{GivesFile, last_network_at};
+ghost use Rattle.net_text.specs.{FileLaws.IsFile, FileLaws.IsFileFault, ReadNet.GivesFile, ReadNet.last_network_at};
 ghost use Rattle.net_text.specs.declared.fault.NetTextFault.TheVariants as Fault;
 
 use crate::fault::NetTextFault;

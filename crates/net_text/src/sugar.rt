@@ -3,8 +3,7 @@
 ghost use Rattle.std.specs.Prelude.{◌≡◌, IfOk};
 ghost use Rattle.leaf_core.specs.Expression.{input, fst, snd, and_expr, not_expr, pair_expr};
 ghost use Rattle.leaf_core.specs.ExpressionView.{expression_of};
-ghost use Rattle.net_syntax.specs.Network.{arr, hold, map_network};
-ghost use Rattle.net_syntax.specs.NetworkView.{tree_of};
+ghost use Rattle.net_syntax.specs.{Network.arr, Network.hold, Network.map_network, NetworkView.tree_of};
 ghost use Rattle.net_text.specs.Sugar.{swap, rise};
 ghost use Rattle.net_text.specs.Sugar as sugar;
 
@@ -13,8 +12,11 @@ use net_syntax::{Net, NetChild};
 use sample_core::{Memory, Ty};
 use std::alloc::Global;
 
+/// A network that was made, unless memory ran out.
+pub(crate) type Made = Result<Net<Expr>, Memory>;
+
 /// `(arr (then unit e))`.
-pub(crate) fn constant(alloc: Global, e: Expr) -> Result<Net<Expr>, Memory>
+pub(crate) fn constant(alloc: Global, e: Expr) -> Made
     ensures { IfOk result (λ net. tree_of net ≡ sugar.constant (expression_of e)) }
 {
     let value = ExprChild::new(alloc, e)?;
@@ -43,7 +45,7 @@ fn doubled(alloc: Global) -> Result<NetChild<Expr>, Memory>
 }
 
 /// `(>>> (arr SWAP) (>>> (first f) (arr SWAP)))`, where SWAP is `(pair (snd x) (fst x))`.
-pub(crate) fn second(alloc: Global, f: NetChild<Expr>) -> Result<Net<Expr>, Memory>
+pub(crate) fn second(alloc: Global, f: NetChild<Expr>) -> Made
     ensures { IfOk result (λ net. tree_of net ≡ sugar.second (map_network expression_of f)) }
 {
     let front = turned_round(alloc)?;
@@ -54,11 +56,7 @@ pub(crate) fn second(alloc: Global, f: NetChild<Expr>) -> Result<Net<Expr>, Memo
 }
 
 /// `(>>> (first f) (second g))`.
-pub(crate) fn beside(
-    alloc: Global,
-    f: NetChild<Expr>,
-    g: NetChild<Expr>,
-) -> Result<Net<Expr>, Memory>
+pub(crate) fn beside(alloc: Global, f: NetChild<Expr>, g: NetChild<Expr>) -> Made
     ensures { IfOk result
         (λ net. tree_of net
         ≡ sugar.beside (map_network expression_of f) (map_network expression_of g)) }
@@ -70,11 +68,7 @@ pub(crate) fn beside(
 }
 
 /// `(>>> (arr (pair x x)) (*** f g))`.
-pub(crate) fn fan_out(
-    alloc: Global,
-    f: NetChild<Expr>,
-    g: NetChild<Expr>,
-) -> Result<Net<Expr>, Memory>
+pub(crate) fn fan_out(alloc: Global, f: NetChild<Expr>, g: NetChild<Expr>) -> Made
     ensures { IfOk result
         (λ net. tree_of net
         ≡ sugar.fan_out (map_network expression_of f) (map_network expression_of g)) }
@@ -110,7 +104,7 @@ fn rises(alloc: Global) -> Result<NetChild<Expr>, Memory>
 
 /// `(>>> (&&& identity (iPre true)) (arr RISE))`, where RISE is
 /// `(if (and (fst x) (not (snd x))) (event unit) (none Unit))`.
-pub(crate) fn edge(alloc: Global) -> Result<Net<Expr>, Memory>
+pub(crate) fn edge(alloc: Global) -> Made
     ensures { IfOk result (λ net. tree_of net ≡ sugar.edge) }
 {
     let now = NetChild::new(alloc, Net::Arr(Expr::Input))?;
@@ -130,7 +124,7 @@ fn held(alloc: Global, z: &Expr) -> Result<NetChild<Expr>, Memory>
 }
 
 /// `(>>> (accumBy g z) (hold z))`.
-pub(crate) fn accum_hold_by(alloc: Global, g: Expr, z: Expr) -> Result<Net<Expr>, Memory>
+pub(crate) fn accum_hold_by(alloc: Global, g: Expr, z: Expr) -> Made
     ensures { IfOk result
         (λ net. tree_of net ≡ sugar.accum_hold_by (expression_of g) (expression_of z)) }
 {

@@ -10,10 +10,11 @@ use Rattle.net_syntax.specs.Typing.{Arrow, copies, members}
 use Rattle.net_syntax.specs.Height.{height}
 use Rattle.net_syntax.specs.Weight.{weight}
 use Rattle.net_syntax.specs.Place as place
-use Rattle.net_syntax.specs.Place.{a_network, a_leaf, member, p_switch_child, child_network, member_child, event_child, continuation_child, child}
+use Rattle.net_syntax.specs.Place.{a_network, a_leaf, member, child_network, child}
+use Rattle.net_syntax.proofs.Children.{member_is, event_is, continuation_is}
 use Rattle.net_types.specs.declared.fault.TypeFault.{TypeFault}
 use Rattle.net_types.specs.declared.fault.TypeFault.TheVariants as Fault
-use Rattle.net_types.specs.Walk.{LeafChecker, ◌>>=◌, ◌↓◌, test, within, expect_same, as_pair, as_event, test_range, test_members, old_at, all_same, one_output, leaf_fault_at, leaf, walk, walk_all}
+use Rattle.net_types.specs.Walk.{LeafChecker, ◌>>=◌, ◌↓◌, test, within, expect_same, as_pair, as_event, test_range, test_members, old_at, all_same, one_output, leaf_fault_at, leaf, switched, walk, walk_all}
 use Rattle.net_types.specs.Check.{check}
 use Rattle.net_types.specs.FaultPlaces.{FaultStandsIn, NetworkPlace, LeafPlace}
 use Rattle.net_types.specs.TypingLaws.{FaultLaw}
@@ -52,19 +53,6 @@ module _ {L : Type 0} where
   par_child : (fs : Networks L) (i : ℕ) (f : Network L) → member fs i ≡ Some f → child (par fs) (from 0 i) ≡ Some (a_network f)
   par_child fs i f e = ap (λ k. option_map a_network (member fs k)) (from_zero i) ∙ ap (option_map a_network) e
 
-  member_is : (fs : Networks L) (i : ℕ) (f : Network L) → member fs i ≡ Some f → p_switch_child fs i ≡ member_child
-  member_is no_members i f e = absurd (cc)
-  member_is (and_member g fs) zero f e = refl
-  member_is (and_member g fs) (suc i) f e = member_is fs i f e
-
-  event_is : (fs : Networks L) → p_switch_child fs (members fs) ≡ event_child
-  event_is no_members = refl
-  event_is (and_member g fs) = event_is fs
-
-  after_is : (fs : Networks L) → p_switch_child fs (suc (members fs)) ≡ continuation_child
-  after_is no_members = refl
-  after_is (and_member g fs) = after_is fs
-
   switch_child : (r : L) (fs : Networks L) (e n : Network L) (i : ℕ) (f : Network L) → member fs i ≡ Some f
       → child (p_switch r fs e n) (from 1 i) ≡ Some (a_network f)
   switch_child r fs e n i f q =
@@ -75,7 +63,7 @@ module _ {L : Type 0} where
   event_net_child r fs e n = ap (λ w. option_map a_network (child_network w fs e n (members fs))) (event_is fs)
 
   after_child : (r : L) (fs : Networks L) (e n : Network L) → child (p_switch r fs e n) (suc (suc (members fs))) ≡ Some (a_network n)
-  after_child r fs e n = ap (λ w. option_map a_network (child_network w fs e n (suc (members fs)))) (after_is fs)
+  after_child r fs e n = ap (λ w. option_map a_network (child_network w fs e n (suc (members fs)))) (continuation_is fs)
 
 module _ {L : Type 0} (t : LeafChecker L) where
   here : (net : Network L) (P : List ℕ) → NetworkPlace net P P
@@ -163,6 +151,13 @@ module _ {L : Type 0} (t : LeafChecker L) where
     by_one_output k fs Bs h no_more = failed (here net P)
     by_one_output k fs Bs h (one_each {fs = gs} {B = B} {Bs = Cs} m) = by_all_same (suc k) gs B Cs (λ i. h (suc i)) m
 
+    by_switched : (f n : Network L) → child net 0 ≡ Some (a_network f) → child net 1 ≡ Some (a_network n) → (F : TypeTree)
+        (go : TypeTree → Result TypeTree TypeFault)
+        → ((C : TypeTree) → Ends (FaultStandsIn net P) (λ D. Unit {0}) (go C)) → Ends (FaultStandsIn net P) (λ D. Unit {0}) (switched P F go)
+    by_switched f n i j F go s = ends_next (by_pair (P ↓ 0) F (at_child net P 0 f i))
+        (λ q u. ends_next (by_event (P ↓ 0) q.1 (at_child net P 0 f i))
+        (λ C v. ends_next (s C) (λ D w. by_same (P ↓ 1) q.0 D (at_child net P 1 n j))))
+
   mutual
     pub sited : (P : List ℕ) (Ps : List TypeTree) (Os : List Arrow) (A : TypeTree) (net : Network L)
         → Ends (FaultStandsIn net P) (λ B. Unit {0}) (walk t P Ps Os A net)
@@ -198,18 +193,10 @@ module _ {L : Type 0} (t : LeafChecker L) where
         (λ v w. ends_next (by_leaf (repeatedly q c) P 0 Ps unit_ty c refl) (λ C u. by_within (repeatedly q c) P (event_ty C)))
     sited P Ps Os A time = ended tt
     sited P Ps Os A integral = by_same integral P P int_ty A (here integral P)
-    sited P Ps Os A (switch f n) =
-        ends_next (in_child (switch f n) P 0 f refl (sited (P ↓ 0) Ps Os A f))
-        (λ F u. ends_next (by_pair (switch f n) P (P ↓ 0) F (at_child (switch f n) P 0 f refl))
-        (λ q v. ends_next (by_event (switch f n) P (P ↓ 0) q.1 (at_child (switch f n) P 0 f refl))
-        (λ C w. ends_next (in_child (switch f n) P 1 n refl (sited (P ↓ 1) (Ps ++ C ∷ []) Os A n))
-        (λ D i. by_same (switch f n) P (P ↓ 1) q.0 D (at_child (switch f n) P 1 n refl)))))
-    sited P Ps Os A (d_switch f n) =
-        ends_next (in_child (d_switch f n) P 0 f refl (sited (P ↓ 0) Ps Os A f))
-        (λ F u. ends_next (by_pair (d_switch f n) P (P ↓ 0) F (at_child (d_switch f n) P 0 f refl))
-        (λ q v. ends_next (by_event (d_switch f n) P (P ↓ 0) q.1 (at_child (d_switch f n) P 0 f refl))
-        (λ C w. ends_next (in_child (d_switch f n) P 1 n refl (sited (P ↓ 1) (Ps ++ C ∷ []) Os A n))
-        (λ D i. by_same (d_switch f n) P (P ↓ 1) q.0 D (at_child (d_switch f n) P 1 n refl)))))
+    sited P Ps Os A (switch f n) = ends_next (in_child (switch f n) P 0 f refl (sited (P ↓ 0) Ps Os A f))
+        (λ F u. by_switched (switch f n) P f n refl refl F _ (λ C. in_child (switch f n) P 1 n refl (sited (P ↓ 1) (Ps ++ C ∷ []) Os A n)))
+    sited P Ps Os A (d_switch f n) = ends_next (in_child (d_switch f n) P 0 f refl (sited (P ↓ 0) Ps Os A f))
+        (λ F u. by_switched (d_switch f n) P f n refl refl F _ (λ C. in_child (d_switch f n) P 1 n refl (sited (P ↓ 1) (Ps ++ C ∷ []) Os A n)))
     sited P Ps Os A (r_switch f n) =
         ends_next (by_pair (r_switch f n) P P A (here (r_switch f n) P))
         (λ q v. ends_next (by_event (r_switch f n) P P q.1 (here (r_switch f n) P))

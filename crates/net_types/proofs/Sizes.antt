@@ -1,7 +1,7 @@
 -- A network of many networks is heavy.
 use Rattle.std.proofs.Common.{ℕ, ◌*◌, ◌<◌, ◌≤◌, List, [], ◌∷◌, ◌++◌, arith}
 use Rattle.leaf_core.specs.Expression.{Expression}
-use Rattle.net_syntax.specs.Network.{Network, Networks, network_size, networks_size, arr, seq, first, par, loop_pre, i_pre, delay, hold, accum_by, after, repeatedly, time, integral, switch, d_switch, r_switch, k_switch, p_switch, old, no_members, and_member}
+use Rattle.net_syntax.specs.Network.{Network, Networks, network_size, networks_size, seq, first, par, loop_pre, switch, d_switch, r_switch, k_switch, p_switch, no_members, and_member}
 use Rattle.net_syntax.specs.Weight.{weight, weights, total}
 use Rattle.net_types.specs.TypingLaws.{SizeLaw}
 
@@ -16,16 +16,7 @@ mutual
   size_weight (r_switch f t) ws = omega (arith, size_weight f ws, size_weight t ws)
   size_weight (k_switch f e t) ws = omega (arith, size_weight f ws, size_weight e ws, size_weight t (ws ++ weight f ws ∷ []))
   size_weight (p_switch r fs e t) ws = omega (arith, sizes_weights fs ws, size_weight e ws, size_weight t (ws ++ weights fs ws))
-  size_weight (old k) ws = omega arith
-  size_weight (arr e) ws = omega arith
-  size_weight (i_pre c) ws = omega arith
-  size_weight (delay q c) ws = omega arith
-  size_weight (hold c) ws = omega arith
-  size_weight (accum_by g z) ws = omega arith
-  size_weight (after q c) ws = omega arith
-  size_weight (repeatedly q c) ws = omega arith
-  size_weight time ws = omega arith
-  size_weight integral ws = omega arith
+  size_weight _ ws = omega arith
 
   sizes_weights : {L : Type 0} (fs : Networks L) (ws : List ℕ) → networks_size fs ≤ 2 * total (weights fs ws)
   sizes_weights no_members ws = omega arith

@@ -5,7 +5,8 @@ use Rattle.sample_core.specs.TypeTree.{TypeTree, unit_ty, int_ty, pair_ty, event
 use Rattle.net_syntax.specs.Typing.{Arrow, LeafTyping, copies, members, Typed, AllTyped, arr_typed, seq_typed, first_typed, par_typed, loop_typed, i_pre_typed, delay_typed, hold_typed, accum_typed, after_typed, repeatedly_typed, time_typed, integral_typed, switch_typed, d_switch_typed, r_switch_typed, k_switch_typed, p_switch_typed, old_typed, no_members_typed, and_member_typed}
 use Rattle.leaf_core.specs.TypeLimits.{TypeFits}
 use Rattle.leaf_core.specs.declared.typing.ExprFault.{ExprFault}
-use Rattle.net_types.specs.Walk.{LeafChecker, ◌↓◌, within, expect_same, all_same, one_output, leaf_fault_at, leaf, walk, walk_all}
+use Rattle.net_types.specs.declared.fault.TypeFault.{TypeFault}
+use Rattle.net_types.specs.Walk.{LeafChecker, ◌↓◌, within, expect_same, all_same, one_output, leaf_fault_at, leaf, switched, walk, walk_all}
 use Rattle.net_types.proofs.WalkTests.{Holds, ok_holds, err_holds, next, weaker, within_tells, same_tells, pair_tells, event_tells, between_tells, counted_tells, frozen_tells, IsExact}
 
 -- the outputs of the members one by one
@@ -47,6 +48,17 @@ module _ {L : Type 0} (t : LeafChecker L) (T : LeafTyping L) (ex : IsExact t T) 
   one_output_tells P k Ps Os A fs Bs (and_member_each {f = g} {fs = gs} {B = B} {Bs = Cs} d ds) =
       weaker (all_same_tells P Ps Os A (suc k) gs B Cs ds) (λ D w. subst (λ Z. AllTyped T TypeFits Ps Os (and_member g gs) A Z) w.0 (and_member_typed d w.1))
 
+  -- a switch is typed, where its network outputs F and its continuation is typed under each parameter
+  switched_tells : {Ps : List TypeTree} {Os : List Arrow} {f n : Network L} {A F : TypeTree} {go : TypeTree → Result TypeTree TypeFault} {Q : TypeTree → Type 0}
+      (P : List ℕ)
+      → Typed T TypeFits Ps Os f A F → ((C : TypeTree) → Holds (λ D. Typed T TypeFits (Ps ++ C ∷ []) Os n A D) (go C))
+      → ((B C : TypeTree) → Typed T TypeFits Ps Os f A (pair_ty B (event_ty C)) → Typed T TypeFits (Ps ++ C ∷ []) Os n A B → Q B) → Holds Q (switched P F go)
+  switched_tells {Ps = Ps} {Os = Os} {n = n} {A = A} {F = F} P d s typed =
+      next (pair_tells (P ↓ 0) F)
+      (λ q e. next (event_tells (P ↓ 0) q.1)
+      (λ C i. next (s C)
+      (λ D k. same_ends (λ Z. Typed T TypeFits (Ps ++ C ∷ []) Os n A Z) (P ↓ 1) q.0 D k (λ m. typed q.0 C (turn (e ∙ ap (pair_ty q.0) i) d) m))))
+
   mutual
     pub sound : (P : List ℕ) (Ps : List TypeTree) (Os : List Arrow) (A : TypeTree) (net : Network L)
         → Holds (λ B. Typed T TypeFits Ps Os net A B) (walk t P Ps Os A net)
@@ -86,17 +98,9 @@ module _ {L : Type 0} (t : LeafChecker L) (T : LeafTyping L) (ex : IsExact t T) 
     sound P Ps Os A integral = same_ends (λ Z. Typed T TypeFits Ps Os integral Z int_ty
         → Typed T TypeFits Ps Os integral A int_ty) P int_ty A (λ d. d) (λ s. s integral_typed)
     sound P Ps Os A (switch f n) =
-        next (sound (P ↓ 0) Ps Os A f)
-        (λ F d. next (pair_tells (P ↓ 0) F)
-        (λ q e. next (event_tells (P ↓ 0) q.1)
-        (λ C i. next (sound (P ↓ 1) (Ps ++ C ∷ []) Os A n)
-        (λ D k. same_ends (λ Z. Typed T TypeFits (Ps ++ C ∷ []) Os n A Z) (P ↓ 1) q.0 D k (λ m. switch_typed (turn (e ∙ ap (pair_ty q.0) i) d) m)))))
+        next (sound (P ↓ 0) Ps Os A f) (λ F d. switched_tells P d (λ C. sound (P ↓ 1) (Ps ++ C ∷ []) Os A n) (λ B C k m. switch_typed k m))
     sound P Ps Os A (d_switch f n) =
-        next (sound (P ↓ 0) Ps Os A f)
-        (λ F d. next (pair_tells (P ↓ 0) F)
-        (λ q e. next (event_tells (P ↓ 0) q.1)
-        (λ C i. next (sound (P ↓ 1) (Ps ++ C ∷ []) Os A n)
-        (λ D k. same_ends (λ Z. Typed T TypeFits (Ps ++ C ∷ []) Os n A Z) (P ↓ 1) q.0 D k (λ m. d_switch_typed (turn (e ∙ ap (pair_ty q.0) i) d) m)))))
+        next (sound (P ↓ 0) Ps Os A f) (λ F d. switched_tells P d (λ C. sound (P ↓ 1) (Ps ++ C ∷ []) Os A n) (λ B C k m. d_switch_typed k m))
     sound P Ps Os A (r_switch f n) =
         next (pair_tells P A)
         (λ q e.

@@ -80,6 +80,16 @@ abbrev pub leaf : {L : Type 0} → LeafChecker L → List ℕ → List TypeTree 
     → Result TypeTree TypeFault
 leaf t P Ps A e = leaf_fault_at P (t e Ps A)
 
+-- the output of a switch at P whose network outputs F, where its continuation outputs this under a
+-- parameter
+abbrev pub switched : List ℕ → TypeTree → (TypeTree → Result TypeTree TypeFault)
+    → Result TypeTree TypeFault
+switched P F under = do
+  (B, E) ← as_pair (P ↓ 0) F
+  C ← as_event (P ↓ 0) E
+  D ← under C
+  expect_same (P ↓ 1) B D
+
 -- the output of the network at P, under parameters, frozen networks and an input, or the first
 -- fault in it
 abbrev mutual
@@ -135,16 +145,10 @@ abbrev mutual
   walk t P Ps Os A integral = expect_same P int_ty A
   walk t P Ps Os A (switch f n) = do
     F ← walk t (P ↓ 0) Ps Os A f
-    (B, E) ← as_pair (P ↓ 0) F
-    C ← as_event (P ↓ 0) E
-    D ← walk t (P ↓ 1) (Ps ++ C ∷ []) Os A n
-    expect_same (P ↓ 1) B D
+    switched P F (λ C. walk t (P ↓ 1) (Ps ++ C ∷ []) Os A n)
   walk t P Ps Os A (d_switch f n) = do
     F ← walk t (P ↓ 0) Ps Os A f
-    (B, E) ← as_pair (P ↓ 0) F
-    C ← as_event (P ↓ 0) E
-    D ← walk t (P ↓ 1) (Ps ++ C ∷ []) Os A n
-    expect_same (P ↓ 1) B D
+    switched P F (λ C. walk t (P ↓ 1) (Ps ++ C ∷ []) Os A n)
   walk t P Ps Os A (r_switch f n) = do
     (D, M) ← as_pair P A
     C ← as_event P M

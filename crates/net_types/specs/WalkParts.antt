@@ -6,7 +6,7 @@ use Rattle.leaf_core.specs.ExpressionCheck.{type_answer}
 use Rattle.net_syntax.specs.Network.{Network, Networks}
 use Rattle.net_syntax.specs.Typing.{Arrow, arrow}
 use Rattle.net_types.specs.declared.fault.TypeFault.{TypeFault}
-use Rattle.net_types.specs.Walk.{◌>>=◌, ◌>>◌, ◌↓◌, as_event, as_pair, expect_same, leaf_fault_at, one_output, test_range, within}
+use Rattle.net_types.specs.Walk.{◌>>=◌, ◌>>◌, ◌↓◌, as_event, as_pair, expect_same, leaf_fault_at, one_output, switched, test_range, within}
 use Rattle.net_types.specs.Check.{net_walk, net_walk_all}
 use Rattle.net_types.specs.Scopes.{InScope, and_param, and_olds}
 
@@ -66,10 +66,7 @@ loop_walk P S A C f = do
 -- the output of a switch whose first network outputs F
 abbrev pub switched_walk : List ℕ → InScope → TypeTree → TypeTree → Network Expression
     → Result TypeTree TypeFault
-switched_walk P S A F n = do
-  (B, E) ← as_pair (P ↓ 0) F
-  C ← as_event (P ↓ 0) E
-  next_walk (P ↓ 1) (and_param S C) A B n
+switched_walk P S A F n = switched P F (λ C. walk_in (P ↓ 1) (and_param S C) A n)
 
 -- the scope with one more parameter, of what E carries, which stands at P
 abbrev pub under_event : List ℕ → InScope → TypeTree → Result InScope TypeFault

@@ -1,13 +1,10 @@
 // The walk at nodes without child networks, and at the expressions of nodes.
 
 ghost use Rattle.std.specs.Prelude.{map};
-ghost use Rattle.sample_core.specs.TypeTree.{int_ty};
-ghost use Rattle.sample_core.specs.TypeView.{type_of};
+ghost use Rattle.sample_core.specs.{TypeTree.int_ty, TypeView.type_of};
 ghost use Rattle.leaf_core.specs.ExpressionView.{expression_of};
-ghost use Rattle.net_syntax.specs.ArrowView.{arrow_of};
-ghost use Rattle.net_syntax.specs.Network.{accum_by, delay, hold, i_pre, old};
-ghost use Rattle.net_types.specs.Walk.{◌↓◌, expect_same, old_at};
-ghost use Rattle.net_types.specs.Check.{Gives};
+ghost use Rattle.net_syntax.specs.{ArrowView.arrow_of, Network.accum_by, Network.delay, Network.i_pre, Network.old};
+ghost use Rattle.net_types.specs.{Walk.◌↓◌, Walk.expect_same, Walk.old_at, Check.Gives};
 ghost use Rattle.net_types.specs.WalkParts.{leaf_walk, route_walk, step_walk, timer_walk, walk_in};
 
 use crate::fault::TypeFault;
@@ -76,21 +73,6 @@ pub(crate) fn delay_type(
 {
     in_range(alloc, path, 1, MOST_DELAY, q)?;
     constant_type(alloc, path, scope, input, c)
-}
-
-/// The output type of a `hold`: that of what its input's events carry.
-pub(crate) fn hold_type(
-    alloc: Global,
-    path: &[u32],
-    scope: &Scope,
-    input: &Ty,
-    c: &Expr,
-) -> Result<Ty, TypeFault>
-    ensures { Gives type_of result
-        (walk_in path.now scope.now (type_of input.now) (hold (expression_of c.now))) }
-{
-    let carried = event_at(alloc, path, Site::Node, input)?;
-    constant_type(alloc, path, scope, carried, c)
 }
 
 /// The output type of an `accumBy`: events of its accumulator.

@@ -2,12 +2,10 @@
 
 ghost use Rattle.std.specs.Prelude.{◌≡◌, ◌+◌, ◌≤◌, ℕ, IfOk, length, map};
 ghost use Rattle.sample_core.specs.TypeView.{type_of};
-ghost use Rattle.net_syntax.specs.Network.{map_networks};
-ghost use Rattle.net_syntax.specs.NetworkView.{members_of};
+ghost use Rattle.net_syntax.specs.{Network.map_networks, NetworkView.members_of};
 ghost use Rattle.leaf_core.specs.ExpressionView.{expression_of};
 ghost use Rattle.net_types.specs.Walk.{all_same, as_event, as_pair, expect_same, one_output, test_members, test_range};
-ghost use Rattle.net_types.specs.Check.{Gives};
-ghost use Rattle.net_types.specs.Sites.{site_of};
+ghost use Rattle.net_types.specs.{Check.Gives, Sites.site_of};
 
 use crate::fault::TypeFault;
 use leaf_core::Expr;

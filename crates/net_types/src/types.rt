@@ -1,10 +1,8 @@
 // Types that a node makes, within the limits, and what is in scope.
 
 ghost use Rattle.std.specs.Prelude.{◌≡◌, IfOk, OnOk, map};
-ghost use Rattle.sample_core.specs.TypeTree.{event_ty, list_ty, pair_ty};
-ghost use Rattle.sample_core.specs.TypeView.{type_of};
-ghost use Rattle.net_types.specs.Walk.{within};
-ghost use Rattle.net_types.specs.Check.{Gives};
+ghost use Rattle.sample_core.specs.{TypeTree.event_ty, TypeTree.list_ty, TypeTree.pair_ty, TypeView.type_of};
+ghost use Rattle.net_types.specs.{Walk.within, Check.Gives};
 
 use crate::fault::TypeFault;
 use leaf_core::type_fits;

@@ -1,22 +1,18 @@
 // The walk over a network: its output type, or the first fault.
 
 ghost use Rattle.std.specs.Prelude.{◌≡◌, ◌+◌, ◌≤◌, ◌++◌, Ok, OnOk, length, map, suc};
-ghost use Rattle.sample_core.specs.Answer.{◌>>=◌ as on_ok};
-ghost use Rattle.sample_core.specs.TypeTree.{list_ty};
-ghost use Rattle.sample_core.specs.TypeView.{type_of};
+ghost use Rattle.sample_core.specs.{Answer.◌>>=◌ as on_ok, TypeTree.list_ty, TypeView.type_of};
 ghost use Rattle.leaf_core.specs.ExpressionView.{expression_of};
 ghost use Rattle.net_syntax.specs.ArrowView.{arrow_of};
 ghost use Rattle.net_syntax.specs.Network.{first as first_of, k_switch, loop_pre, map_network, map_networks, p_switch, par, r_switch, seq, switch};
-ghost use Rattle.net_syntax.specs.NetworkView.{members_of, tree_of};
-ghost use Rattle.net_syntax.specs.Typing.{arrow};
-ghost use Rattle.net_types.specs.Walk.{◌↓◌};
-ghost use Rattle.net_types.specs.Check.{Gives, net_walk_all};
+ghost use Rattle.net_syntax.specs.{NetworkView.members_of, NetworkView.tree_of, Typing.arrow};
+ghost use Rattle.net_types.specs.{Walk.◌↓◌, Check.Gives, Check.net_walk_all};
 ghost use Rattle.net_types.specs.WalkParts.{freezing_walk, loop_output, loop_walk, members_walk, next_walk, routed_walk, switched_walk, under_event, walk_in, watch_walk};
 
 use crate::fault::TypeFault;
 use crate::nodes::{
-    accumulator_type, constant_type, delay_type, hold_type, integral_type, leaf_type, old_type,
-    route_type, timer_type,
+    accumulator_type, constant_type, delay_type, integral_type, leaf_type, old_type, route_type,
+    timer_type,
 };
 use crate::scope::{Scope, arrow_between};
 use crate::site::{Site, count_members, event_at, one_type, pair_at, same_at, wanted_at};
@@ -48,7 +44,10 @@ pub(crate) fn walk(
         Net::LoopPre(c, f) => walk_loop(alloc, path, scope, input, c, f),
         Net::IPre(c) => constant_type(alloc, path, scope, input, c),
         Net::Delay(q, c) => delay_type(alloc, path, scope, input, *q, c),
-        Net::Hold(c) => hold_type(alloc, path, scope, input, c),
+        Net::Hold(c) => {
+            let carried = event_at(alloc, path, Site::Node, input)?;
+            constant_type(alloc, path, scope, carried, c)
+        }
         Net::AccumBy(g, z) => accumulator_type(alloc, path, scope, input, g, z),
         Net::After(q, c) => timer_type(alloc, path, scope, 0, *q, c),
         Net::Repeatedly(q, c) => timer_type(alloc, path, scope, 1, *q, c),

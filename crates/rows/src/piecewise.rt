@@ -1,7 +1,9 @@
 // Runs over readers that give pieces and fail, and writers that take little and fail.
 
+ghost use Rattle.std.specs.Prelude.{IfErr};
 ghost use Rattle.leaf_table.specs.Rows.{rows_of};
 ghost use Rattle.step_core.specs.Binding.{FitsTable};
+ghost use Rattle.yampa_run.specs.FaultLines.{EndsRun};
 
 use crate::ballast::{TRIES, Tally, spare_at, take_all};
 use crate::devices::{Pieces, Repeats, Shared, Sink, Small, Witness};
@@ -102,10 +104,7 @@ fn unread_told(
     let mut writer = Counted::new(Vec::new(alloc));
     let ended = run(alloc, bound, table, &mut reader, &mut writer);
     let written = writer.into_inner();
-    say_at(out, "lines", lines_of(&ended));
-    say(out, ":");
-    say(out, str::from_utf8(&written).unwrap_or("no text"));
-    ended_told(alloc, ended, out);
+    run_told(alloc, ended, &written, out);
 }
 
 fn unwritten_told(
@@ -123,9 +122,16 @@ fn unwritten_told(
     let mut writer = Counted::new(Small::new(Vec::new(alloc), most, fails_at, quiet));
     let ended = run(alloc, bound, table, &mut reader, &mut writer);
     let written = writer.into_inner().into_kept();
+    run_told(alloc, ended, &written, out);
+}
+
+/// Tells how many lines a run counts, what it wrote, and why it ends early.
+fn run_told(alloc: Global, ended: Result<RunReport, RunFault>, written: &[u8], out: &mut String)
+    requires { IfErr ended EndsRun }
+{
     say_at(out, "lines", lines_of(&ended));
     say(out, ":");
-    say(out, str::from_utf8(&written).unwrap_or("no text"));
+    say(out, str::from_utf8(written).unwrap_or("no text"));
     ended_told(alloc, ended, out);
 }
 
@@ -198,10 +204,7 @@ fn scant_tried(
     let ended = run(alloc, bound, table, &mut reader, &mut writer);
     drop(ballast);
     let written = writer.into_inner();
-    say_at(out, "lines", lines_of(&ended));
-    say(out, ":");
-    say(out, str::from_utf8(&written).unwrap_or("no text"));
-    ended_told(alloc, ended, out);
+    run_told(alloc, ended, &written, out);
 }
 
 /// Tells what was written before each read, each read as `.`, of a reader of single bytes.

@@ -2,11 +2,9 @@
 
 ghost use Rattle.std.specs.Prelude.{◌≡◌};
 ghost use Rattle.std.proofs.Props.{props};
-ghost use Rattle.sample_core.specs.TypeCode.{type_code};
-ghost use Rattle.sample_core.specs.TypeView.{type_of};
+ghost use Rattle.sample_core.specs.{TypeCode.type_code, TypeView.type_of};
 ghost use Rattle.leaf_table.specs.Rows.{rows_of};
-ghost use Rattle.step_core.specs.Binding.{FitsTable};
-ghost use Rattle.step_core.specs.RunnerView.{runner_state};
+ghost use Rattle.step_core.specs.{Binding.FitsTable, RunnerView.runner_state};
 
 use crate::texts::{number_in, value_in};
 use leaf_table::LeafTable;

@@ -1,8 +1,7 @@
 // What successive calls of a reader of lines answer.
 
 ghost use Rattle.sample_core.specs.TypeView.{type_of};
-ghost use Rattle.stream_text.specs.LineReaderView.{state_of};
-ghost use Rattle.stream_text.specs.StreamText.{IsBefore};
+ghost use Rattle.stream_text.specs.{LineReaderView.state_of, StreamText.IsBefore};
 
 use crate::ballast::take_all;
 use crate::devices::Pieces;

@@ -16,7 +16,7 @@ use Rattle.sample_core.specs.declared.fault.ValueFault.{ValueFault}
 use Rattle.sample_core.specs.declared.fault.ValueFault.TheVariants as Fault
 use Rattle.sample_core.proofs.Behind.{all_spelled_is, row_kept_apart, apart_row}
 use Rattle.sample_core.proofs.ReadingIs.{spells_found}
-use Rattle.sample_core.proofs.ValueFound.{AreElements, value_found, elements_found, head_found, byte_found, if_is}
+use Rattle.sample_core.proofs.ValueFound.{AreElements, value_found, elements_found, head_found, byte_found, if_is, ifs_are}
 
 -- the bytes lead to a place where the fault is
 pub record Fails (size : ℕ) (A : TypeTree) (bs : List ℕ) (f : ValueFault) : Type 0 where
@@ -117,30 +117,10 @@ truth_fails size bs f e =
 number_fails : (size : ℕ) (bs : List ℕ) (f : ValueFault) → number_at size bs ≡ Err f → Fails size int_ty bs f
 unfolding number_at
 number_fails size bs f e =
-    go
-    (if_is (is_number (word_of bs)) (if is_in_64 (word_of bs) then Ok (int (number_of (word_of bs)), after_word bs)
-    else Err (Fault.NumberRange (size - length bs))) (Err (wrong size bs)) (Err f) e)
-  where
-    go2 : is_number (word_of bs) ≡ true
-        → ((is_in_64 (word_of bs) ≡ true) × ◌≡◌ {A = Result (Datum × List ℕ) ValueFault} (Ok (int (number_of (word_of bs)), after_word bs)) (Err f))
-        ⊎ ((is_in_64 (word_of bs) ≡ false) × ◌≡◌ {A = Result (Datum × List ℕ) ValueFault} (Err (Fault.NumberRange (size - length bs))) (Err f))
-        → Fails size int_ty bs f
-    go2 h (inl p) = absurd (no_err p.1)
-    go2 h (inr p) =
-        record {
-          wanted = a_value int_ty;
-          rest = bs;
-          leads = at_front;
-          wrongs =
-              subst (Wrong (a_value int_ty) bs (size - length bs)) (err_is p.1) (too_large h p.0);
-        }
-
-    go : ((is_number (word_of bs) ≡ true)
-        × (NoValue (if is_in_64 (word_of bs) then Ok (int (number_of (word_of bs)), after_word bs) else Err (Fault.NumberRange (size - length bs))) f))
-        ⊎ ((is_number (word_of bs) ≡ false) × ◌≡◌ {A = Result (Datum × List ℕ) ValueFault} (Err (wrong size bs)) (Err f)) → Fails size int_ty bs f
-    go (inl p) =
-        go2 p.0 (if_is (is_in_64 (word_of bs)) (Ok (int (number_of (word_of bs)), after_word bs)) (Err (Fault.NumberRange (size - length bs))) (Err f) p.1)
-    go (inr p) = front size int_ty bs f p.0 (err_is p.1)
+    ifs_are (is_number (word_of bs)) (is_in_64 (word_of bs)) (Ok (int (number_of (word_of bs)), after_word bs)) (Err (Fault.NumberRange (size - length bs)))
+    (Err (wrong size bs)) (Err f) e (λ h p q. absurd (no_err q))
+    (λ h p q. record { wanted = a_value int_ty; rest = bs; leads = at_front; wrongs = subst (Wrong (a_value int_ty) bs (size - length bs)) (err_is q) (too_large h p) })
+    (λ h q. front size int_ty bs f h (err_is q))
 
 -- some elements, a space, and an element that fails
 record RowFails (size : ℕ) (A : TypeTree) (bs : List ℕ) (f : ValueFault) : Type 0 where

@@ -120,6 +120,10 @@ end_read size A vs cs rest f s (neither d e) =
 
 -- a form behind whose word and a space a part is read: the part's fault, and what follows the part
 module _ {R : Type 0} (size : ℕ) (A : TypeTree) (name bs cs : List ℕ) where
+  space_missing : (f : ValueFault) (k : List ℕ → Result R ValueFault) → behind_head size name bs ≡ Ok cs → Wrong (a_byte 32) cs (size - length cs) f →
+      (behind_head size name bs >>= (λ ds. behind_byte size 32 ds >>= k)) ≡ Err f
+  space_missing f k h x = let b : behind_byte size 32 cs ≡ Err f = byte_read size 32 cs f x in rw (h, b) refl
+
   part_fails : (f : ValueFault) (k : Datum × List ℕ → Result R ValueFault) → behind_head size name bs ≡ Ok (32 ∷ cs) → value_at size A cs ≡ Err f →
       (behind_head size name bs >>= (λ ds. behind_byte size 32 ds >>= (λ es. value_at size A es >>= k))) ≡ Err f
   part_fails f k h i = rw (h, space_here size cs, i) refl
@@ -129,19 +133,22 @@ module _ {R : Type 0} (size : ℕ) (A : TypeTree) (name bs cs : List ℕ) where
       (behind_head size name bs >>= (λ ds. behind_byte size 32 ds >>= (λ es. value_at size A es >>= k))) ≡ Err f
   part_read rest v f k h i e = rw (h, space_here size cs, i) e
 
+  byte_after : (b : ℕ) (rest : List ℕ) (v : Datum) (f : ValueFault) (k : Datum × List ℕ → List ℕ → Result R ValueFault) →
+      behind_head size name bs ≡ Ok (32 ∷ cs) → value_at size A cs ≡ Ok (v, rest) → Wrong (a_byte b) rest (size - length rest) f →
+      (behind_head size name bs >>= (λ ds. behind_byte size 32 ds >>= (λ es. value_at size A es >>= (λ p. behind_byte size b p.1 >>= k p)))) ≡ Err f
+  byte_after b rest v f k h i x =
+      let e : behind_byte size b rest ≡ Err f = byte_read size b rest f x in
+      part_read rest v f (λ p. behind_byte size b p.1 >>= k p) h i (rw e refl)
+
 pub fault_read : (size : ℕ) (A : TypeTree) (bs : List ℕ) (w : Expectation) (rest : List ℕ) (f : ValueFault) → Leads A bs w rest
     → Wrong w rest (size - length rest) f → value_at size A bs ≡ Err f
 unfolding value_at
 fault_read size A bs w rest f at_front x = front_read size A bs f x
-fault_read size A bs w rest f (behind_pair g) x =
-    let h : behind_head size (codes "pair") (codes "(pair" ++ rest) ≡ Ok rest = head_only size (codes "pair") rest refl g in
-    let b : behind_byte size 32 rest ≡ Err f = byte_read size 32 rest f x in
-    rw (h, b) refl
+fault_read size A bs w rest f (behind_pair g) x = space_missing size A (codes "pair") (codes "(pair" ++ rest) rest f _ (head_only size (codes "pair") rest refl g) x
 fault_read size A bs w rest f (in_first {A = B} {bs = cs} l) x =
     part_fails size B (codes "pair") (codes "(pair " ++ cs) cs f _ (head_only size (codes "pair") (32 ∷ cs) refl refl) (fault_read size B cs w rest f l x)
 fault_read size A bs w rest f (behind_first {A = B} {v = v} {bs = cs} s) x =
-    part_read size B (codes "pair") (codes "(pair " ++ cs) cs rest v f _ (head_only size (codes "pair") (32 ∷ cs) refl refl) (spells_read size B cs v rest s)
-    (let b : behind_byte size 32 rest ≡ Err f = byte_read size 32 rest f x in rw b refl)
+    byte_after size B (codes "pair") _ cs 32 rest v f _ (head_only size (codes "pair") (32 ∷ cs) refl refl) (spells_read size B cs v rest s) x
 fault_read size A bs w rest f (in_second {A = B} {B = C} {v = v} {bs = cs} {cs = ds} s l) x =
     let j : value_at size C ds ≡ Err f = fault_read size C ds w rest f l x in
     part_read size B (codes "pair") (codes "(pair " ++ cs) cs (32 ∷ ds) v f _ (head_only size (codes "pair") (32 ∷ cs) refl refl)
@@ -151,15 +158,11 @@ fault_read size A bs w rest f (behind_second {A = B} {B = C} {v = v} {x = y} {bs
     let b : behind_byte size 41 rest ≡ Err f = byte_read size 41 rest f x in
     part_read size B (codes "pair") (codes "(pair " ++ cs) cs (32 ∷ ds) v f _ (head_only size (codes "pair") (32 ∷ cs) refl refl)
     (spells_read size B cs v (32 ∷ ds) s) (rw (space_here size ds, j, b) refl)
-fault_read size A bs w rest f (behind_event g) x =
-    let h : behind_head size (codes "event") (codes "(event" ++ rest) ≡ Ok rest = head_only size (codes "event") rest refl g in
-    let b : behind_byte size 32 rest ≡ Err f = byte_read size 32 rest f x in
-    rw (h, b) refl
+fault_read size A bs w rest f (behind_event g) x = space_missing size A (codes "event") (codes "(event" ++ rest) rest f _ (head_only size (codes "event") rest refl g) x
 fault_read size A bs w rest f (in_event {A = B} {bs = cs} l) x =
     part_fails size B (codes "event") (codes "(event " ++ cs) cs f _ (head_only size (codes "event") (32 ∷ cs) refl refl) (fault_read size B cs w rest f l x)
 fault_read size A bs w rest f (behind_inner {A = B} {v = v} {bs = cs} s) x =
-    part_read size B (codes "event") (codes "(event " ++ cs) cs rest v f _ (head_only size (codes "event") (32 ∷ cs) refl refl) (spells_read size B cs v rest s)
-    (let b : behind_byte size 41 rest ≡ Err f = byte_read size 41 rest f x in rw b refl)
+    byte_after size B (codes "event") _ cs 41 rest v f _ (head_only size (codes "event") (32 ∷ cs) refl refl) (spells_read size B cs v rest s) x
 fault_read size A bs w rest f (behind_elements {A = B} {vs = vs} {bs = cs} s) x = end_read size B vs cs rest f s x
 fault_read size A bs w rest f (in_element {A = B} {vs = vs} {bs = cs} {cs = ds} s l) x =
     let h : behind_head size (codes "list") (codes "(list" ++ cs) ≡ Ok cs = head_only size (codes "list") cs refl (row_begins vs B cs (32 ∷ ds) s) in

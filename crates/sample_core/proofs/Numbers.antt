@@ -151,30 +151,26 @@ plain_back w m h l =
     let d : Digits (digits_part w) (magnitude w) = record { some = h.some; all = h.all; first = λ e. ap length p ∙ h.first e; value = refl } in
     sym p ∙ sym (digits_are (digits_part w) (magnitude w) d l)
 
+-- the digits behind a minus, where they are worth m
+minus_digits : (ds : List ℕ) (m : ℕ) → Word (45 ∷ ds) → digits_value 10 ds ≡ m → Digits ds m
+minus_digits ds m h v =
+    record {
+      some = h.some;
+      all = h.all;
+      first = λ e.
+          absurd (let i : length (45 ∷ ds) ≡ 1 = h.first e in let j : 0 < length ds = h.some in omega arith);
+      value = v;
+    }
+
 minus_back : (ds : List ℕ) (m : ℕ) → Word (45 ∷ ds) → digits_value 10 ds ≡ m → m ≤ 2 ^ 63
     → FitsSigned w64 (neg_ℤ (pos m)) × (45 ∷ ds ≡ signed_decimal (neg_ℤ (pos m)))
 minus_back ds zero h v l =
-    let d : Digits ds 0 =
-    record {
-      some = h.some;
-      all = h.all;
-      first = λ e.
-          absurd (let i : length (45 ∷ ds) ≡ 1 = h.first e in let j : 0 < length ds = h.some in omega arith);
-      value = v;
-    } in
-    let e : decimal 0 ≡ ds = digits_are ds 0 d (omega arith) in
+    let e : decimal 0 ≡ ds = digits_are ds 0 (minus_digits ds 0 h v) (omega arith) in
     absurd (let z : begins_zero ds ≡ true = ap begins_zero (sym e ∙ decimal_digit 0 (omega arith)) in let i : length (45 ∷ ds) ≡ 1 = h.first z in
     let j : 0 < length ds = h.some in omega arith)
 minus_back ds (suc m) h v l =
-    let d : Digits ds (suc m) =
-    record {
-      some = h.some;
-      all = h.all;
-      first = λ e.
-          absurd (let i : length (45 ∷ ds) ≡ 1 = h.first e in let j : 0 < length ds = h.some in omega arith);
-      value = v;
-    } in
-    (record { sfits = omega arith }, ap (λ x. 45 ∷ x) (sym (digits_are ds (suc m) d (omega arith))))
+    let e : decimal (suc m) ≡ ds = digits_are ds (suc m) (minus_digits ds (suc m) h v) (omega arith) in
+    (record { sfits = omega arith }, ap (λ x. 45 ∷ x) (sym e))
 
 minus_word : (w : List ℕ) → is_minus w ≡ true → w ≡ 45 ∷ digits_part w
 minus_word [] e = absurd (cc)

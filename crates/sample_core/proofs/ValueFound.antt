@@ -36,6 +36,13 @@ pub if_is : {A : Type 0} (b : Bool) (r s y : A) → (if b then r else s) ≡ y �
 if_is true r s y e = inl (refl, e)
 if_is false r s y e = inr (refl, e)
 
+-- one branch of three answered
+pub ifs_are : {A C : Type 0} (b d : Bool) (r s t y : A) → (if b then (if d then r else s) else t) ≡ y → (b ≡ true → d ≡ true → r ≡ y → C)
+    → (b ≡ true → d ≡ false → s ≡ y → C) → (b ≡ false → t ≡ y → C) → C
+ifs_are true true r s t y e f g h = f refl refl e
+ifs_are true false r s t y e f g h = g refl refl e
+ifs_are false d r s t y e f g h = h refl e
+
 pub byte_found : (size b : ℕ) (bs cs : List ℕ) → behind_byte size b bs ≡ Ok cs → bs ≡ b ∷ cs
 unfolding behind_byte
 byte_found size b [] cs e = absurd (cc)
@@ -99,24 +106,12 @@ truth_found size bs y e =
 number_found : (size : ℕ) (bs : List ℕ) (y : Datum × List ℕ) → number_at size bs ≡ Ok y → Is int_ty bs y
 unfolding number_at
 number_found size bs y e =
-    go
-    (if_is (is_number (word_of bs)) (if is_in_64 (word_of bs) then Ok (int (number_of (word_of bs)), after_word bs)
-    else Err (Fault.NumberRange (size - length bs))) (Err (wrong size bs)) (Ok y) e)
-  where
-    go2 : is_number (word_of bs) ≡ true
-        → ((is_in_64 (word_of bs) ≡ true) × ◌≡◌ {A = Result (Datum × List ℕ) ValueFault} (Ok (int (number_of (word_of bs)), after_word bs)) (Ok y))
-        ⊎ ((is_in_64 (word_of bs) ≡ false) × ◌≡◌ {A = Result (Datum × List ℕ) ValueFault} (Err (Fault.NumberRange (size - length bs))) (Ok y)) → Is int_ty bs y
-    go2 h (inl p) =
-        let i : FitsSigned w64 (number_of (word_of bs)) × (word_of bs ≡ signed_decimal (number_of (word_of bs))) = integer_back (word_of bs) h p.0 in
-        subst (Is int_ty bs) (ok_is p.1) (record { typed = int_has i.0; spells = (split bs).0 ∙ ap (λ x. x ++ after_word bs) i.1; apart = (split bs).1 })
-    go2 h (inr p) = absurd (not_ok p.1)
-
-    go : ((is_number (word_of bs) ≡ true)
-        × ((if is_in_64 (word_of bs) then Ok (int (number_of (word_of bs)), after_word bs) else Err (Fault.NumberRange (size - length bs))) ≡ Ok y))
-        ⊎ ((is_number (word_of bs) ≡ false) × ◌≡◌ {A = Result (Datum × List ℕ) ValueFault} (Err (wrong size bs)) (Ok y)) → Is int_ty bs y
-    go (inl p) =
-        go2 p.0 (if_is (is_in_64 (word_of bs)) (Ok (int (number_of (word_of bs)), after_word bs)) (Err (Fault.NumberRange (size - length bs))) (Ok y) p.1)
-    go (inr p) = absurd (not_ok p.1)
+    ifs_are (is_number (word_of bs)) (is_in_64 (word_of bs)) (Ok (int (number_of (word_of bs)), after_word bs)) (Err (Fault.NumberRange (size - length bs)))
+    (Err (wrong size bs)) (Ok y) e
+    (λ h p q.
+    let i : FitsSigned w64 (number_of (word_of bs)) × (word_of bs ≡ signed_decimal (number_of (word_of bs))) = integer_back (word_of bs) h p in
+    subst (Is int_ty bs) (ok_is q) (record { typed = int_has i.0; spells = (split bs).0 ∙ ap (λ x. x ++ after_word bs) i.1; apart = (split bs).1 }))
+    (λ h p q. absurd (not_ok q)) (λ h q. absurd (not_ok q))
 
 behind_shorter : (v : Datum) (r bs : List ℕ) (n : ℕ) → bs ≡ spelled v r → suc (length bs) ≤ suc n → length r ≤ n
 behind_shorter v r bs n e l = let k : length bs ≡ length (spelled v r) = ap length e in omega (arith, longer v r)

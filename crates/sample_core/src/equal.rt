@@ -1,9 +1,7 @@
 // When two values, or two types, are the same.
 
 ghost use Rattle.std.specs.Prelude.{◌≡◌, ◌↔◌, IsTrue};
-ghost use Rattle.sample_core.specs.Datum.{list_of};
-ghost use Rattle.sample_core.specs.ValueView.{datum_of};
-ghost use Rattle.sample_core.specs.TypeView.{type_of};
+ghost use Rattle.sample_core.specs.{Datum.list_of, ValueView.datum_of, TypeView.type_of};
 
 use crate::sample::{Sample, Samples};
 use crate::ty::Ty;
@@ -28,6 +26,7 @@ pub fn same(a: &Sample, b: &Sample) -> bool
 
 /// Whether the elements of two lists are equal.
 #[cycle(same)]
+#[tactic(auto, using(std::proofs::lemmas::Grind::common_steps, crate::proofs::Elements::element_smaller, crate::proofs::Elements::same_length))]
 fn same_elements(vs: &Samples, xs: &Samples) -> bool
     ensures { IsTrue result ↔ (list_of vs.now ≡ list_of xs.now) }
 {

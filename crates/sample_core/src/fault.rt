@@ -1,6 +1,7 @@
 // Why a value could not be read.
 
 ghost use Rattle.std.specs.Prelude.{◌≡◌};
+ghost use Rattle.sample_core.specs.declared.fault.ValueFault.TheVariants as Fault;
 
 use crate::memory::OutOfMemory;
 use thiserror::Error;
@@ -24,8 +25,6 @@ pub enum ValueFault {
 }
 
 impl<E: OutOfMemory> From<E> for ValueFault {
-    ghost use Rattle.sample_core.specs.declared.fault.ValueFault.TheVariants as Fault;
-
     ghost from_gives = { λ _ e. e ≡ Fault.Memory };
 
     fn from(_: E) -> ValueFault {

@@ -4,10 +4,7 @@ ghost use Rattle.std.specs.Prelude.{◌≡◌, ◌<◌, ◌≤◌, ◌^◌, ◌+
 ghost use Rattle.std.specs.Fmt.{decimal};
 ghost use Rattle.std.specs.Str.{all_ascii_digits};
 ghost use Rattle.std.specs.Str.Parse.{digits_value};
-ghost use Rattle.sample_core.specs.Datum.{int};
-ghost use Rattle.sample_core.specs.TypeTree.{int_ty};
-ghost use Rattle.sample_core.specs.SpellsValue.{SpellsValue};
-ghost use Rattle.sample_core.specs.Words.{goes_on as is_longer};
+ghost use Rattle.sample_core.specs.{Datum.int, TypeTree.int_ty, SpellsValue.SpellsValue, Words.goes_on as is_longer};
 
 use crate::words::goes_on;
 

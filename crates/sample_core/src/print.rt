@@ -2,10 +2,7 @@
 
 ghost use Rattle.std.specs.Prelude.{◌≡◌, ◌++◌, IfOk, codes, string_bytes};
 ghost use Rattle.std.specs.Fmt.{signed_decimal};
-ghost use Rattle.sample_core.specs.Adding.{Adds};
-ghost use Rattle.sample_core.specs.Datum.{list, list_of};
-ghost use Rattle.sample_core.specs.ValueView.{datum_of};
-ghost use Rattle.sample_core.specs.TypeView.{type_of};
+ghost use Rattle.sample_core.specs.{Adding.Adds, Datum.list, Datum.list_of, ValueView.datum_of, TypeView.type_of};
 ghost use Rattle.sample_core.specs.Spelling.{spelling, type_spelling};
 
 use crate::memory::Memory;

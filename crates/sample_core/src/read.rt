@@ -4,12 +4,9 @@ ghost use Rattle.std.specs.Prelude.{◌≡◌, ◌-◌, ◌≤◌, ◌<◌, ◌�
 ghost use Rattle.sample_core.specs.Reading.{Gives, begins_value, begins_with, wrong, behind_byte, behind_head, unit_at, truth_at, number_at, elements_at, part_at, pair_behind, event_behind, list_behind, value_at, reading};
 ghost use Rattle.sample_core.specs.Faults.{FaultOf};
 ghost use Rattle.sample_core.specs.Datum.{int, pair, event, list, list_of};
-ghost use Rattle.sample_core.specs.ValueView.{datum_of};
-ghost use Rattle.sample_core.specs.TypeView.{type_of};
+ghost use Rattle.sample_core.specs.{ValueView.datum_of, TypeView.type_of};
 ghost use Rattle.sample_core.specs.TypeTree.{int_ty, pair_ty, event_ty, list_ty};
-ghost use Rattle.sample_core.specs.SpellsValue.{SpellsValue};
-ghost use Rattle.sample_core.specs.Spelling.{spelling};
-ghost use Rattle.sample_core.specs.Words.{word_of};
+ghost use Rattle.sample_core.specs.{SpellsValue.SpellsValue, Spelling.spelling, Words.word_of};
 
 use crate::fault::ValueFault;
 use crate::front_number::front_number;

@@ -271,6 +271,21 @@ impl Sample {
         }
     }
 
+    /// Lets the value go. Mostly it is a number, which holds nothing.
+    #[inline(always)]
+    pub fn let_go(self) {
+        match self {
+            Sample::Int(_) => {}
+            value => value.let_go_on(),
+        }
+    }
+
+    /// The same of any value.
+    #[inline(never)]
+    fn let_go_on(self) {
+        drop(self);
+    }
+
     /// Puts another value in the place of this one, in a frame of its own.
     #[inline(never)]
     fn replace(&mut self, value: Sample)

@@ -1,9 +1,7 @@
 // Which values are of which type.
 
 ghost use Rattle.std.specs.Prelude.{◌↔◌, IsTrue};
-ghost use Rattle.sample_core.specs.Datum.{list_of};
-ghost use Rattle.sample_core.specs.HasType.{HasType, HaveType};
-ghost use Rattle.sample_core.specs.ValueView.{datum_of};
+ghost use Rattle.sample_core.specs.{Datum.list_of, HasType.HasType, HasType.HaveType, ValueView.datum_of};
 ghost use Rattle.sample_core.specs.TypeView.{type_of};
 
 use crate::sample::{Sample, Samples};

@@ -3,10 +3,10 @@ use Rattle.std.specs.Prelude.{◌≡◌, ℕ, suc, List, [], ◌∷◌}
 use Rattle.sample_core.specs.Datum.{Datum}
 use Rattle.net_syntax.specs.SignalFunction.{TimedList, each_value}
 use Rattle.state_core.specs.CountedFunction.{CountedFunction, IsCountedFunction, StandsVia}
-use Rattle.state_core.specs.CountedForms.{counted_resume, same_input, route_by}
+use Rattle.state_core.specs.CountedForms.{counted_switch, counted_d_switch, counted_resume, same_input, route_by}
 use Rattle.state_core.specs.CountedContext.{CountedContext, context_with_param, context_with_olds, counted_meaning}
 use Rattle.state_core.specs.State.{State, States, Scope, Frozens, Frozen, arr_state, seq_state, first_state, par_state, loop_state, cell_state, accum_state, switch_state, d_switch_state, r_switch_state, k_switch_state, p_switch_state, no_state, and_state, scope, no_frozen, and_frozen, unstarted, paused, params_of}
-use Rattle.state_core.specs.StandsByForm.{ArrStands, SeqStands, FirstStands, ParStands, LoopStands, CellStands, AccumStands, SwitchStands, DSwitchStands, RSwitchStands, KSwitchStands, PSwitchStands}
+use Rattle.state_core.specs.StandsByForm.{ArrStands, SeqStands, FirstStands, ParStands, LoopStands, CellStands, AccumStands, SwitchStands, RSwitchStands, KSwitchStands, PSwitchStands}
 
 -- a state that has just this form of a counted function after just this past
 abbrev mutual
@@ -21,10 +21,10 @@ abbrev mutual
   StandsDirectly val (cell_state k) c p = CellStands k c p
   StandsDirectly val (accum_state g ps acc) c p = AccumStands (val g ps) acc c p
   StandsDirectly val (switch_state a t s) c p = (S : CountedContext) × Denotes val s S
-      × SwitchStands (StandsVia (StandsDirectly val a))
+      × SwitchStands counted_switch (StandsVia (StandsDirectly val a))
       (λ v. counted_meaning val t (context_with_param S v)) c p
   StandsDirectly val (d_switch_state a t s) c p = (S : CountedContext) × Denotes val s S
-      × DSwitchStands (StandsVia (StandsDirectly val a))
+      × SwitchStands counted_d_switch (StandsVia (StandsDirectly val a))
       (λ v. counted_meaning val t (context_with_param S v)) c p
   StandsDirectly val (r_switch_state a t s) c p = (S : CountedContext) × Denotes val s S
       × RSwitchStands (StandsVia (StandsDirectly val a))

@@ -3,7 +3,7 @@ use Rattle.std.specs.Prelude.{◌≡◌, ℕ, List, ◌∷◌, ◌++◌, None, m
 use Rattle.sample_core.specs.Datum.{Datum, left, right}
 use Rattle.net_syntax.specs.SignalFunction.{TimedList, each_value, with_values, pair_samples, values, accum_by_value, fold_events, feedback_values, first_event, rights, watch, last_or, collect, pieces}
 use Rattle.state_core.specs.CountedFunction.{CountedFunction, IsCountedFunction}
-use Rattle.state_core.specs.CountedForms.{counted_arr, counted_cell, counted_seq, counted_first, counted_loop, counted_par, counted_switch, counted_d_switch, counted_r_switch, counted_k_switch, counted_p_switch, functions_of}
+use Rattle.state_core.specs.CountedForms.{counted_arr, counted_cell, counted_seq, counted_first, counted_loop, counted_par, counted_r_switch, counted_k_switch, counted_p_switch, functions_of}
 use Rattle.cell_core.specs.Cell.{Cell, Keeps}
 
 -- In each record A and B are what the parts stand for; the whole has the counted function c after
@@ -68,23 +68,15 @@ pub record AccumStands (g : Datum
   pub so_far : acc ≡ fold_events g z (values q)
   pub same : c ≡ counted_cell (accum_by_value g z)
 
--- `switch` before its first event
-pub record SwitchStands (A : CountedFunction → TimedList → Type 0) (t : Datum
-    → CountedFunction) (c : CountedFunction) (q : TimedList) : Type 0 where
+-- `switch` or `dSwitch`, which `form` makes of its f and of what takes over, before its first event
+pub record SwitchStands (form : CountedFunction → (Datum → CountedFunction) → CountedFunction)
+    (A : CountedFunction → TimedList → Type 0) (t : Datum → CountedFunction) (c : CountedFunction)
+    (q : TimedList) : Type 0 where
   pub f : CountedFunction
   pub is_f : IsCountedFunction f
   pub unseen : first_event (rights f.function q) ≡ None
   pub first_part : A f q
-  pub same : c ≡ counted_switch f t
-
--- `dSwitch` before its first event
-pub record DSwitchStands (A : CountedFunction → TimedList → Type 0) (t : Datum
-    → CountedFunction) (c : CountedFunction) (q : TimedList) : Type 0 where
-  pub f : CountedFunction
-  pub is_f : IsCountedFunction f
-  pub unseen : first_event (rights f.function q) ≡ None
-  pub first_part : A f q
-  pub same : c ≡ counted_d_switch f t
+  pub same : c ≡ form f t
 
 -- no sample of q has an event
 pub record Uncut (q : TimedList) : Type 0 where

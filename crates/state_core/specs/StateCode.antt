@@ -1,5 +1,5 @@
 -- The codes of states, scopes and frozen networks, by which the check tells them apart.
-use Rattle.std.specs.Prelude.{◌≡◌, ℕ, refl, List}
+use Rattle.std.specs.Prelude.{◌≡◌, refl, List}
 use Rattle.std.proofs.Common.{ap, arith}
 use Rattle.std.specs.Coded.{Coded, coded_list}
 use base.Stored.{Gv, gnil, gnum, gcons, num, coded_via}

@@ -1,7 +1,6 @@
 -- What the code's states, scopes and frozen networks are as clean ones.
 use Rattle.std.specs.Prelude.{◌≡◌, ℕ, List, [], ◌∷◌, Option, Some, None}
 use Rattle.std.proofs.Common.{Bor}
-use Rattle.sample_core.specs.Datum.{Datum}
 use Rattle.sample_core.specs.ValueView.{datum_of}
 use Rattle.net_syntax.specs.Network.{Network}
 use Rattle.state_core.specs.RowsView.{row_number, rows_in}

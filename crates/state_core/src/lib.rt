@@ -16,7 +16,7 @@ pub use env::{Env, Frozen, OldList, Olds, freeze, pause, push_old, push_olds, pu
 pub use new_states::NewStates;
 pub use params::Params;
 pub use part::{gather, route};
-pub use place::Around;
+pub use place::{Around, Turn};
 pub use state::{
     KSwitchParts, LoopParts, Node, PSwitchParts, SeqParts, State, States, SwitchParts, Whole,
 };

@@ -1,8 +1,7 @@
 // The states of members in the making.
 
 ghost use Rattle.std.specs.Prelude.{◌≡◌, IfOk};
-ghost use Rattle.state_core.specs.State.{and_state, no_state};
-ghost use Rattle.state_core.specs.StateView.{state_of, append_states};
+ghost use Rattle.state_core.specs.{State.and_state, State.no_state, StateView.state_of, StateView.append_states};
 
 use crate::state::{State, States};
 use sample_core::Memory;

@@ -1,8 +1,7 @@
 // What members of a switch are asked with, and the list of their answers.
 
 ghost use Rattle.std.specs.Prelude.{◌≡◌, IfOk, map, pos};
-ghost use Rattle.sample_core.specs.Datum.{int, list, list_of, pair};
-ghost use Rattle.sample_core.specs.ValueView.{datum_of};
+ghost use Rattle.sample_core.specs.{Datum.int, Datum.list, Datum.list_of, Datum.pair, ValueView.datum_of};
 
 use sample_core::{Memory, Sample, SamplePair, Samples};
 use std::alloc::Global;

@@ -2,10 +2,10 @@
 
 ghost use Rattle.std.specs.Prelude.{◌≡◌, IfOk, OnOk};
 ghost use Rattle.sample_core.specs.ValueView.{datum_of};
-ghost use Rattle.state_core.specs.Around.{first_part, second_part, node_round};
+ghost use Rattle.state_core.specs.Around.{first_part, second_part, switch_round, node_round};
 ghost use Rattle.state_core.specs.RowsView.{rows_in, row_number};
-ghost use Rattle.state_core.specs.State.{no_state, seq_state, first_state, par_state, loop_state, switch_state, d_switch_state, r_switch_state, k_switch_state, p_switch_state};
-ghost use Rattle.state_core.specs.StateView.{state_of, node_of, scope_of};
+ghost use Rattle.state_core.specs.State.{no_state, seq_state, first_state, loop_state, k_switch_state, p_switch_state};
+ghost use Rattle.state_core.specs.StateView.{state_of, node_of, p_switch_of, scope_of};
 
 use crate::env::Env;
 use crate::new_states::NewStates;
@@ -19,6 +19,17 @@ use std::alloc::Global;
 use std::boxed::Box;
 use std::rc::Rc;
 
+/// Which form of one part a switch is.
+#[derive(Clone, Copy)]
+pub enum Turn {
+    /// `switch`.
+    AtOnce,
+    /// `dSwitch`.
+    Late,
+    /// `rSwitch`.
+    Recurring,
+}
+
 /// A node but for the states of its parts, which stand in the place that it comes into.
 #[derive(Drop)]
 pub enum Around<'s, 'n> {
@@ -26,16 +37,10 @@ pub enum Around<'s, 'n> {
     Seq,
     /// `first`.
     First,
-    /// `parB`, with its members.
-    Par(States<'n>),
     /// `loopPre`, with what is fed back next.
     LoopPre(Sample),
-    /// `switch`, with the network that takes over and its scope.
-    Switch(&'n Net<LeafId>, &'s Env<'n>),
-    /// `dSwitch` likewise.
-    DSwitch(&'n Net<LeafId>, &'s Env<'n>),
-    /// `rSwitch` likewise.
-    RSwitch(&'n Net<LeafId>, &'s Env<'n>),
+    /// `switch`, `dSwitch` or `rSwitch`, with the network that takes over and its scope.
+    Switch(Turn, &'n Net<LeafId>, &'s Env<'n>),
     /// `kSwitch` likewise.
     KSwitch(&'n Net<LeafId>, &'s Env<'n>),
     /// `pSwitch` likewise, with the row that routes and its members before.
@@ -97,11 +102,8 @@ fn put_round<'n>(alloc: Global, node: &mut Node<'n>, around: Around<'_, 'n>) -> 
     match around {
         Around::Seq => put_seq(node),
         Around::First => put_first(node),
-        Around::Par(members) => put_par(node, members),
         Around::LoopPre(fed_back) => put_loop(node, fed_back),
-        Around::Switch(net, env) => put_switch(node, net, env),
-        Around::DSwitch(net, env) => put_d_switch(node, net, env),
-        Around::RSwitch(net, env) => put_r_switch(node, net, env),
+        Around::Switch(turn, net, env) => put_switch(node, turn, net, env),
         Around::KSwitch(net, env) => put_k_switch(node, net, env),
         Around::PSwitch(router, members, net, env) => {
             put_p_switch(alloc, node, router, members, net, env)
@@ -141,18 +143,6 @@ fn put_first<'n>(node: &mut Node<'n>) -> Result<(), Memory>
     }
 }
 
-/// `parB`.
-#[inline(always)]
-fn put_par<'n>(node: &mut Node<'n>, members: States<'n>) -> Result<(), Memory>
-    ensures { OnOk result (node_of node.new ≡ par_state members.entry) }
-{
-    match node {
-        Node::Par(there) => drop(std::mem::replace(there, members)),
-        _ => drop(std::mem::replace(node, Node::Par(members))),
-    }
-    Ok(())
-}
-
 /// `loopPre`.
 #[inline(always)]
 fn put_loop<'n>(node: &mut Node<'n>, fed_back: Sample) -> Result<(), Memory>
@@ -170,49 +160,24 @@ fn put_loop<'n>(node: &mut Node<'n>, fed_back: Sample) -> Result<(), Memory>
     Ok(())
 }
 
-/// `switch`.
+/// `switch`, `dSwitch` or `rSwitch`.
 #[inline(always)]
-fn put_switch<'n>(node: &mut Node<'n>, net: &'n Net<LeafId>, env: &Env<'n>) -> Result<(), Memory>
-    ensures { OnOk result (node_of node.new
-        ≡ switch_state (first_part (node_of node.old)) (rows_in net.entry.now) (scope_of env.now)) }
-{
-    match node {
-        Node::Switch(parts) => parts.renew(net, env),
-        _ => {
-            let parts = new_parts(node, net, env)?;
-            drop(std::mem::replace(node, Node::Switch(parts)));
-            Ok(())
-        }
-    }
-}
-
-/// `dSwitch`.
-#[inline(always)]
-fn put_d_switch<'n>(node: &mut Node<'n>, net: &'n Net<LeafId>, env: &Env<'n>) -> Result<(), Memory>
-    ensures { OnOk result (node_of node.new ≡ d_switch_state (first_part (node_of node.old))
+fn put_switch<'n>(
+    node: &mut Node<'n>,
+    turn: Turn,
+    net: &'n Net<LeafId>,
+    env: &Env<'n>,
+) -> Result<(), Memory>
+    ensures { OnOk result (node_of node.new ≡ switch_round turn (first_part (node_of node.old))
         (rows_in net.entry.now) (scope_of env.now)) }
 {
-    match node {
-        Node::DSwitch(parts) => parts.renew(net, env),
+    match (turn, &mut *node) {
+        (Turn::AtOnce, Node::Switch(parts)) => parts.renew(net, env),
+        (Turn::Late, Node::DSwitch(parts)) => parts.renew(net, env),
+        (Turn::Recurring, Node::RSwitch(parts)) => parts.renew(net, env),
         _ => {
             let parts = new_parts(node, net, env)?;
-            drop(std::mem::replace(node, Node::DSwitch(parts)));
-            Ok(())
-        }
-    }
-}
-
-/// `rSwitch`.
-#[inline(always)]
-fn put_r_switch<'n>(node: &mut Node<'n>, net: &'n Net<LeafId>, env: &Env<'n>) -> Result<(), Memory>
-    ensures { OnOk result (node_of node.new ≡ r_switch_state (first_part (node_of node.old))
-        (rows_in net.entry.now) (scope_of env.now)) }
-{
-    match node {
-        Node::RSwitch(parts) => parts.renew(net, env),
-        _ => {
-            let parts = new_parts(node, net, env)?;
-            drop(std::mem::replace(node, Node::RSwitch(parts)));
+            drop(std::mem::replace(node, turn.around(parts)));
             Ok(())
         }
     }
@@ -260,42 +225,33 @@ fn put_p_switch<'n>(
 {
     match node {
         Node::PSwitch(parts) => parts.renew(router, members, net, env),
-        _ => new_p_switch(alloc, node, router, members, net, env),
+        _ => match env.try_copy() {
+            Ok(env) => {
+                let parts = PSwitchParts {
+                    router,
+                    members,
+                    watch: node.take_first(),
+                    net,
+                    env,
+                };
+                put_parts(alloc, node, parts)
+            }
+            Err(memory) => {
+                drop(members);
+                Err(memory)
+            }
+        },
     }
 }
 
-/// The same where the node was another one.
+/// A `pSwitch` of these parts, where the node was another one.
 #[inline(never)]
-fn new_p_switch<'n>(
-    alloc: Global,
-    node: &mut Node<'n>,
-    router: LeafId,
-    members: States<'n>,
-    net: &'n Net<LeafId>,
-    env: &Env<'n>,
-) -> Result<(), Memory>
-    ensures { OnOk result (node_of node.new ≡ p_switch_state (row_number router) members.entry
-        (first_part (node_of node.old)) (rows_in net.entry.now) (scope_of env.now)) }
+fn put_parts<'n>(alloc: Global, node: &mut Node<'n>, parts: PSwitchParts<'n>) -> Result<(), Memory>
+    ensures { OnOk result (node_of node.new ≡ p_switch_of parts.entry) }
 {
-    match env.try_copy() {
-        Ok(env) => {
-            let watch = node.take_first();
-            let parts = PSwitchParts {
-                router,
-                members,
-                watch,
-                net,
-                env,
-            };
-            let parts = Box::new(alloc, parts)?;
-            drop(std::mem::replace(node, Node::PSwitch(parts)));
-            Ok(())
-        }
-        Err(memory) => {
-            drop(members);
-            Err(memory)
-        }
-    }
+    let parts = Box::new(alloc, parts)?;
+    drop(std::mem::replace(node, Node::PSwitch(parts)));
+    Ok(())
 }
 
 impl<'n> SwitchParts<'n> {
@@ -331,6 +287,21 @@ impl<'n> PSwitchParts<'n> {
         self.net = net;
         drop(std::mem::replace(&mut self.members, members));
         self.env.renew(env)
+    }
+}
+
+impl Turn {
+    /// The node of these parts.
+    #[inline(always)]
+    fn around<'n>(self, parts: SwitchParts<'n>) -> Node<'n>
+        ensures { node_of result ≡ switch_round self (state_of parts.entry.part)
+            (rows_in parts.entry.net.now) (scope_of parts.entry.env) }
+    {
+        match self {
+            Turn::AtOnce => Node::Switch(parts),
+            Turn::Late => Node::DSwitch(parts),
+            Turn::Recurring => Node::RSwitch(parts),
+        }
     }
 }
 

@@ -1,8 +1,7 @@
 // States of networks that run.
 
 ghost use Rattle.std.specs.Prelude.{◌≡◌, IfOk, OnOk};
-ghost use Rattle.state_core.specs.State.{no_state};
-ghost use Rattle.state_core.specs.StateView.{state_of, node_of, states_of};
+ghost use Rattle.state_core.specs.{State.no_state, StateView.state_of, StateView.node_of, StateView.states_of};
 
 use crate::env::Env;
 use crate::static_net::StaticNet;

@@ -1,8 +1,7 @@
 // Networks without switches.
 
 ghost use Rattle.std.specs.Prelude.{◌≡◌, ◌+◌, ◌<◌, ◌^◌, suc, IsTrue, IfSome, IfNone, false};
-ghost use Rattle.net_syntax.specs.Network.{map_networks};
-ghost use Rattle.net_syntax.specs.NetworkView.{members_of};
+ghost use Rattle.net_syntax.specs.{Network.map_networks, NetworkView.members_of};
 ghost use Rattle.state_core.specs.RowsView.{rows_in, row_number};
 ghost use Rattle.state_core.specs.StaticNetwork.{is_static, are_static, Counts, CountsAll};
 

@@ -55,6 +55,13 @@ module _ {L : Type 0} (val : L → List Datum → Datum → Datum) where
       TakesSample (Stands val a) (counted_meaning val net S') [] z y n in
       subst F h.0 t
 
+  -- the part of a switch in such a scope, which has seen no event at the start
+  part_of : (f : Network L) (s : Scope L) (S : CountedContext) → Denotes val s S → IsCountedFunction (counted_meaning val f S)
+  part_of f s S h = IsCounted-counted val f S (Denotes-counted_each val s S h)
+
+  unseen_in : (f : Network L) (s : Scope L) (S : CountedContext) → Denotes val s S → first_event (rights (counted_meaning val f S).function []) ≡ None
+  unseen_in f s S h = unseen-rights (counted_meaning val f S).function (part_of f s S h).is_signal_function
+
   FrozenDenotes-all : (s : Scope L) (S : CountedContext) → Denotes val s S → AllDenote val (frozens_of s) S.olds
   FrozenDenotes-all (scope ps fs) S h = h.1
 
@@ -109,29 +116,23 @@ module _ {L : Type 0} (val : L → List Datum → Datum → Datum) where
     starts (Stepping.start_time {s = s} {x = x}) S d h = time_starts (d, x)
     starts (Stepping.start_integral {s = s} {x = x}) S d h = integral_starts (d, x)
     starts (Stepping.start_switch {f = f} {t = t} {s = s} {x = x} {v = v} {n = n} kf e) S d h =
-        let cf : IsCountedFunction (counted_meaning val f S) = IsCounted-counted val f S (Denotes-counted_each val s S h) in
         Took-weaker (counted_meaning val (switch f t) S) [] (d, x) (left v) (suc n) (λ c q sh. (S, h, sh))
-        (switch_took (counted_meaning val f S) (λ v. counted_meaning val t (context_with_param S v)) cf [] (d, x)
-        (unseen-rights (counted_meaning val f S).function cf.is_signal_function) v n (starts kf S d h) e)
-    starts (Stepping.fire_switch {f = f} {t = t} {s = s} {x = x} {b = b} {v = v} {c = c} {y = y} {m = m} {n = n} kf e kt) S d h =
-        let all : AllCounted S.olds = Denotes-counted_each val s S h in
-        let cf : IsCountedFunction (counted_meaning val f S) = IsCounted-counted val f S all in
-        switch_over_took (counted_meaning val f S) (λ v. counted_meaning val t (context_with_param S v)) cf [] (d, x)
-        (unseen-rights (counted_meaning val f S).function cf.is_signal_function) {P = StandsDirectly val b} v c y m n
-        (counted-over t S all c) (starts kf S d h) e (starts kt (context_with_param S c) d (Denotes-push_param val s S c h))
+        (switch_took (counted_meaning val f S) (λ v. counted_meaning val t (context_with_param S v)) (part_of f s S h) [] (d, x)
+        (unseen_in f s S h) v n (starts kf S d h) e)
     starts (Stepping.start_d_switch {f = f} {t = t} {s = s} {x = x} {v = v} {n = n} kf e) S d h =
-        let cf : IsCountedFunction (counted_meaning val f S) = IsCounted-counted val f S (Denotes-counted_each val s S h) in
         Took-weaker (counted_meaning val (d_switch f t) S) [] (d, x) (left v) (suc n) (λ c q sh. (S, h, sh))
-        (d_switch_took (counted_meaning val f S) (λ v. counted_meaning val t (context_with_param S v)) cf [] (d, x)
-        (unseen-rights (counted_meaning val f S).function cf.is_signal_function) v n (starts kf S d h) e)
+        (d_switch_took (counted_meaning val f S) (λ v. counted_meaning val t (context_with_param S v)) (part_of f s S h) [] (d, x)
+        (unseen_in f s S h) v n (starts kf S d h) e)
+    starts (Stepping.fire_switch {f = f} {t = t} {s = s} {x = x} {b = b} {v = v} {c = c} {y = y} {m = m} {n = n} kf e kt) S d h =
+        switch_over_took (counted_meaning val f S) (λ v. counted_meaning val t (context_with_param S v)) (part_of f s S h) [] (d, x)
+        (unseen_in f s S h) {P = StandsDirectly val b} v c y m n (counted-over t S (Denotes-counted_each val s S h) c)
+        (starts kf S d h) e (starts kt (context_with_param S c) d (Denotes-push_param val s S c h))
     starts (Stepping.fire_d_switch {f = f} {t = t} {s = s} {x = x} {b = b} {v = v} {c = c} {y = y} {m = m} {n = n} kf e kt) S d h =
-        let all : AllCounted S.olds = Denotes-counted_each val s S h in
-        let cf : IsCountedFunction (counted_meaning val f S) = IsCounted-counted val f S all in
-        d_switch_over_took (counted_meaning val f S) (λ v. counted_meaning val t (context_with_param S v)) cf [] (d, x)
-        (unseen-rights (counted_meaning val f S).function cf.is_signal_function) {P = StandsDirectly val b} v c y m n
-        (counted-over t S all c) (starts kf S d h) e (starts kt (context_with_param S c) d (Denotes-push_param val s S c h))
+        d_switch_over_took (counted_meaning val f S) (λ v. counted_meaning val t (context_with_param S v)) (part_of f s S h) [] (d, x)
+        (unseen_in f s S h) {P = StandsDirectly val b} v c y m n (counted-over t S (Denotes-counted_each val s S h) c)
+        (starts kf S d h) e (starts kt (context_with_param S c) d (Denotes-push_param val s S c h))
     starts (Stepping.start_r_switch {f = f} {t = t} {s = s} {x = x} {y = y} {n = n} e kf) S d h =
-        let cf : IsCountedFunction (counted_meaning val f S) = IsCounted-counted val f S (Denotes-counted_each val s S h) in
+        let cf : IsCountedFunction (counted_meaning val f S) = part_of f s S h in
         Took-weaker (counted_meaning val (r_switch f t) S) [] (d, x) y (suc n) (λ c q sh. (S, h, sh))
         (r_switch_took (counted_meaning val f S) (λ v. counted_meaning val t (context_with_param S v)) cf [] (d, x) Uncut-nil y n e (starts kf S d h))
     starts (Stepping.cut_r_switch {f = f} {t = t} {s = s} {x = x} {u = u} {c = c} {y = y} {n = n} e kt) S d h =

@@ -3,8 +3,8 @@ use Rattle.std.proofs.Common.{◌≡◌, ℕ, suc, ◌+◌, List, [], ◌∷◌,
 use Rattle.sample_core.specs.Datum.{Datum, left, right, pair, list, list_of}
 use Rattle.net_syntax.specs.SignalFunction.{TimedList, if_event, fold_events}
 use Rattle.state_core.specs.CountedFunction.{CountedFunction, IsCountedFunction, StandsVia, TakesSample}
-use Rattle.state_core.specs.CountedForms.{counted_cell, same_input, route_by, counted_resume, counted_resume_each}
-use Rattle.state_core.specs.StandsByForm.{ArrStands, SeqStands, FirstStands, ParStands, LoopStands, AccumStands, SwitchStands, DSwitchStands, RSwitchStands, KSwitchStands, PSwitchStands, CellStands}
+use Rattle.state_core.specs.CountedForms.{counted_cell, counted_switch, counted_d_switch, same_input, route_by, counted_resume, counted_resume_each}
+use Rattle.state_core.specs.StandsByForm.{ArrStands, SeqStands, FirstStands, ParStands, LoopStands, AccumStands, SwitchStands, RSwitchStands, KSwitchStands, PSwitchStands, CellStands}
 use Rattle.step_core.specs.Stepping.{event_in, restart_in}
 use Rattle.step_core.proofs.PlainCounts.{arr_took, seq_took, first_took, loop_took}
 use Rattle.cell_core.specs.Cell.{Cell, cell_step}
@@ -62,25 +62,25 @@ module _ (x : ℕ × Datum) (c : CountedFunction) (p : TimedList) where
       (accum_took g s.z p x acc acc' s.so_far e)
 
   module _ (t : Datum → CountedFunction) (ct : (v : Datum) → IsCountedFunction (t v)) where
-    pub switch_moves : {A A' : CountedFunction → TimedList → Type 0} (v : Datum) (n : ℕ) → SwitchStands A t c p → Moves A A' x v n → event_in (right v) ≡ None
-        → TakesSample (StandsVia (SwitchStands A' t)) c p x (left v) (suc n)
+    pub switch_moves : {A A' : CountedFunction → TimedList → Type 0} (v : Datum) (n : ℕ) → SwitchStands counted_switch A t c p → Moves A A' x v n → event_in (right v) ≡ None
+        → TakesSample (StandsVia (SwitchStands counted_switch A' t)) c p x (left v) (suc n)
     switch_moves {A} {A'} v n s ka h =
-        subst (λ d. TakesSample (StandsVia (SwitchStands A' t)) d p x (left v) (suc n)) (sym s.same)
+        subst (λ d. TakesSample (StandsVia (SwitchStands counted_switch A' t)) d p x (left v) (suc n)) (sym s.same)
         (switch_took s.f t s.is_f p x s.unseen {A = A'} v n (ka s.f p s.first_part) h)
 
-    pub switch_over_moves : {A A' P : CountedFunction → TimedList → Type 0} (v e y : Datum) (m n : ℕ) → SwitchStands A t c p → Moves A A' x v m
+    pub switch_over_moves : {A A' P : CountedFunction → TimedList → Type 0} (v e y : Datum) (m n : ℕ) → SwitchStands counted_switch A t c p → Moves A A' x v m
         → event_in (right v) ≡ Some e → TakesSample (StandsVia P) (t e) [] x y n → TakesSample (StandsVia P) c p x y (suc m + n)
     switch_over_moves {A} {A'} {P} v e y m n s ka h tt' =
         subst (λ d. TakesSample (StandsVia P) d p x y (suc m + n)) (sym s.same)
         (switch_over_took s.f t s.is_f p x s.unseen {A = A'} {P = P} v e y m n (ct e) (ka s.f p s.first_part) h tt')
 
-    pub d_switch_moves : {A A' : CountedFunction → TimedList → Type 0} (v : Datum) (n : ℕ) → DSwitchStands A t c p → Moves A A' x v n
-        → event_in (right v) ≡ None → TakesSample (StandsVia (DSwitchStands A' t)) c p x (left v) (suc n)
+    pub d_switch_moves : {A A' : CountedFunction → TimedList → Type 0} (v : Datum) (n : ℕ) → SwitchStands counted_d_switch A t c p → Moves A A' x v n
+        → event_in (right v) ≡ None → TakesSample (StandsVia (SwitchStands counted_d_switch A' t)) c p x (left v) (suc n)
     d_switch_moves {A} {A'} v n s ka h =
-        subst (λ d. TakesSample (StandsVia (DSwitchStands A' t)) d p x (left v) (suc n)) (sym s.same)
+        subst (λ d. TakesSample (StandsVia (SwitchStands counted_d_switch A' t)) d p x (left v) (suc n)) (sym s.same)
         (d_switch_took s.f t s.is_f p x s.unseen {A = A'} v n (ka s.f p s.first_part) h)
 
-    pub d_switch_over_moves : {A A' P : CountedFunction → TimedList → Type 0} (v e y : Datum) (m n : ℕ) → DSwitchStands A t c p → Moves A A' x v m
+    pub d_switch_over_moves : {A A' P : CountedFunction → TimedList → Type 0} (v e y : Datum) (m n : ℕ) → SwitchStands counted_d_switch A t c p → Moves A A' x v m
         → event_in (right v) ≡ Some e → TakesSample (StandsVia P) (t e) [] x y n → TakesSample (StandsVia P) c p x (left v) (suc m + n)
     d_switch_over_moves {A} {A'} {P} v e y m n s ka h tt' =
         subst (λ d. TakesSample (StandsVia P) d p x (left v) (suc m + n)) (sym s.same)

@@ -1,5 +1,5 @@
 -- What one sample does, form by form, by what it does to the parts.
-use Rattle.std.proofs.Common.{◌≡◌, ℕ, suc, ◌+◌, ◌<◌, ◌^◌, List, Some, None, sym, ap, ◌∙◌, subst, arith}
+use Rattle.std.proofs.Common.{◌≡◌, ℕ, suc, ◌+◌, ◌<◌, ◌^◌, List, [], ◌∷◌, ◌++◌, Some, None, refl, sym, ap, ◌∙◌, subst, arith}
 use Rattle.sample_core.specs.Datum.{Datum, unit, left, right, pair}
 use Rattle.sample_core.specs.TypeTree.{TypeTree, pair_ty, event_ty}
 use Rattle.sample_core.specs.HasType.{HasType, pair_has, unit_has}
@@ -11,6 +11,7 @@ use Rattle.state_core.specs.State.{State, Scope, Frozen, seq_state, first_state,
 use Rattle.step_core.specs.Stepping.{event_in, restart_in}
 use Rattle.step_core.specs.Stepping as G
 use Rattle.step_core.specs.Stepping.{Starts, StartsEach, Resumes, Steps, StepsEach}
+use Rattle.step_core.specs.RowTyping.{RowTyped}
 use Rattle.step_core.specs.StateTyping as T
 use Rattle.step_core.specs.StateTyping.{StateTyped, StatesTyped, ScopeTyped, FrozenTyped, FrozensTyped, row_value}
 use Rattle.step_core.specs.Runs as R
@@ -33,28 +34,58 @@ module _ (keys : List KeyTree) where
       → Steps (row_value keys) a (d, x) b y n
   stepped (G.resume_paused k) = k
 
+  -- what a part led to leads what is round it to this, with one visit more
+  round_one : {p w : Frozen ℕ} {l x v y : Datum} {a r : State ℕ} (m c : ℕ) → Ran keys p l a v m → (suc (m + 0) < 2 ^ 32 → c ≡ suc (m + 0))
+      → ((k : ℕ) → Resumes (row_value keys) p l a v k → Resumes (row_value keys) w x r y (suc k)) → Ran keys w x r y c
+  round_one m c one hc go = record {
+    visits = suc one.visits;
+    resumes = go one.visits one.resumes;
+    is_count = λ h. let i : m ≡ one.visits = one.is_count (omega arith) in let e : c ≡ suc (m + 0) = hc (omega arith) in omega arith;
+  }
+
+  -- the same of two parts
+  round_two : {p q w : Frozen ℕ} {l z x v u y : Datum} {a b r : State ℕ} (m n c : ℕ) (sum : ℕ → ℕ → ℕ) → ((j k : ℕ) → sum j k ≡ suc (j + k))
+      → Ran keys p l a v m → Ran keys q z b u n → (suc (m + n) < 2 ^ 32 → c ≡ suc (m + n))
+      → ((j k : ℕ) → Resumes (row_value keys) p l a v j → Resumes (row_value keys) q z b u k → Resumes (row_value keys) w x r y (sum j k)) → Ran keys w x r y c
+  round_two m n c sum is one two hc go = record {
+    visits = sum one.visits two.visits;
+    resumes = go one.visits two.visits one.resumes two.resumes;
+    is_count = λ h.
+        let s : sum one.visits two.visits ≡ suc (one.visits + two.visits) = is one.visits two.visits in
+        let i : m ≡ one.visits = one.is_count (omega arith) in
+        let j : n ≡ two.visits = two.is_count (omega arith) in
+        let e : c ≡ suc (m + n) = hc (omega arith) in
+        omega arith;
+  }
+
+  -- the same of two parts and of what takes over
+  round_three : {p q g w : Frozen ℕ} {l z i x v u o y : Datum} {a b d r : State ℕ} (m n k c : ℕ) → Ran keys p l a v m → Ran keys q z b u n
+      → Ran keys g i d o k → (suc (m + n) + k < 2 ^ 32 → c ≡ suc (m + n) + k)
+      → ((j1 j2 j3 : ℕ) → Resumes (row_value keys) p l a v j1 → Resumes (row_value keys) q z b u j2 → Resumes (row_value keys) g i d o j3
+      → Resumes (row_value keys) w x r y (suc (j1 + j2) + j3)) → Ran keys w x r y c
+  round_three m n k c one two three hc go = record {
+    visits = suc (one.visits + two.visits) + three.visits;
+    resumes = go one.visits two.visits three.visits one.resumes two.resumes three.resumes;
+    is_count = λ h.
+        let i : m ≡ one.visits = one.is_count (omega arith) in
+        let j : n ≡ two.visits = two.is_count (omega arith) in
+        let f : k ≡ three.visits = three.is_count (omega arith) in
+        let e : c ≡ suc (m + n) + k = hc (omega arith) in
+        omega arith;
+  }
+
   seq_at : (p q : Frozen ℕ) (x v y : Datum) (a b : State ℕ) (m n c : ℕ) → RunsWhere keys p x a v m → RunsWhere keys q v b y n
       → (suc (m + n) < 2 ^ 32 → c ≡ suc (m + n)) → (w : Frozen ℕ) → SeqBy w p q → RunsWhere keys w x (seq_state a b) y c
-  seq_at p q x v y a b m n c hp hq hc w (R.seq_new {f = f} {g = g} {s = s}) A B (T.unstarted_typed (N.seq_typed {B = M} tf tg) ts) t =
-      let one : Ran keys (unstarted f s) x a v m = hp A M (T.unstarted_typed tf ts) t in
+  seq_at p q x v y a b m n c hp hq hc w R.seq_new A B (T.unstarted_typed (N.seq_typed {B = M} tf tg) ts) t =
+      let one = hp A M (T.unstarted_typed tf ts) t in
       let tv : HasType v M = (resumes_typed keys one.resumes (T.unstarted_typed tf ts) t).1 in
-      let two : Ran keys (unstarted g s) v b y n = hq M B (T.unstarted_typed tg ts) tv in
-      record {
-        visits = suc (one.visits + two.visits);
-        resumes = G.resume_unstarted (G.start_seq (started one.resumes) (started two.resumes));
-        is_count = λ l. let i : m ≡ one.visits = one.is_count (omega arith) in let j : n ≡ two.visits = two.is_count (omega arith) in let e : c
-            ≡ suc (m + n) = hc (omega arith) in omega arith;
-      }
-  seq_at p q x v y a b m n c hp hq hc w (R.seq_on {a = a0} {b = b0} {d = d}) A B (T.paused_typed (T.seq_state_typed {B = M} ta tb)) t =
-      let one : Ran keys (paused a0 d) x a v m = hp A M (T.paused_typed ta) t in
+      round_two m n c (λ j k. suc (j + k)) (λ j k. refl) one (hq M B (T.unstarted_typed tg ts) tv) hc
+      (λ j k i o. G.resume_unstarted (G.start_seq (started i) (started o)))
+  seq_at p q x v y a b m n c hp hq hc w R.seq_on A B (T.paused_typed (T.seq_state_typed {B = M} ta tb)) t =
+      let one = hp A M (T.paused_typed ta) t in
       let tv : HasType v M = (resumes_typed keys one.resumes (T.paused_typed ta) t).1 in
-      let two : Ran keys (paused b0 d) v b y n = hq M B (T.paused_typed tb) tv in
-      record {
-        visits = suc (one.visits + two.visits);
-        resumes = G.resume_paused (G.step_seq (stepped one.resumes) (stepped two.resumes));
-        is_count = λ l. let i : m ≡ one.visits = one.is_count (omega arith) in let j : n ≡ two.visits = two.is_count (omega arith) in let e : c
-            ≡ suc (m + n) = hc (omega arith) in omega arith;
-      }
+      round_two m n c (λ j k. suc (j + k)) (λ j k. refl) one (hq M B (T.paused_typed tb) tv) hc
+      (λ j k i o. G.resume_paused (G.step_seq (stepped i) (stepped o)))
 
   pub seq_runs : (p q : Frozen ℕ) (x v y : Datum) (a b r : State ℕ) (m n c : ℕ) → r ≡ seq_state a b → RunsWhere keys p x a v m → RunsWhere keys q v b y n
       → (suc (m + n) < 2 ^ 32 → c ≡ suc (m + n)) → (w : Frozen ℕ) → SeqBy w p q → RunsWhere keys w x r y c
@@ -62,20 +93,10 @@ module _ (keys : List KeyTree) where
 
   first_at : (p : Frozen ℕ) (x v : Datum) (a : State ℕ) (m c : ℕ) → RunsWhere keys p (left x) a v m → (suc (m + 0) < 2 ^ 32 → c ≡ suc (m + 0)) → (w : Frozen ℕ)
       → FirstBy w p → RunsWhere keys w x (first_state a) (pair v (right x)) c
-  first_at p x v a m c hp hc w (R.first_new {f = f} {s = s}) A B (T.unstarted_typed (N.first_typed {A = A'} {B = B'} tf _) ts) t =
-      let one : Ran keys (unstarted f s) (left x) a v m = hp A' B' (T.unstarted_typed tf ts) (left_typed t) in
-      record {
-        visits = suc one.visits;
-        resumes = G.resume_unstarted (G.start_first (started one.resumes));
-        is_count = λ l. let i : m ≡ one.visits = one.is_count (omega arith) in let e : c ≡ suc (m + 0) = hc (omega arith) in omega arith;
-      }
-  first_at p x v a m c hp hc w (R.first_on {a = a0} {d = d}) A B (T.paused_typed (T.first_state_typed {A = A'} {B = B'} ta)) t =
-      let one : Ran keys (paused a0 d) (left x) a v m = hp A' B' (T.paused_typed ta) (left_typed t) in
-      record {
-        visits = suc one.visits;
-        resumes = G.resume_paused (G.step_first (stepped one.resumes));
-        is_count = λ l. let i : m ≡ one.visits = one.is_count (omega arith) in let e : c ≡ suc (m + 0) = hc (omega arith) in omega arith;
-      }
+  first_at p x v a m c hp hc w R.first_new A B (T.unstarted_typed (N.first_typed {A = A'} {B = B'} tf _) ts) t =
+      round_one m c (hp A' B' (T.unstarted_typed tf ts) (left_typed t)) hc (λ k i. G.resume_unstarted (G.start_first (started i)))
+  first_at p x v a m c hp hc w R.first_on A B (T.paused_typed (T.first_state_typed {A = A'} {B = B'} ta)) t =
+      round_one m c (hp A' B' (T.paused_typed ta) (left_typed t)) hc (λ k i. G.resume_paused (G.step_first (stepped i)))
 
   pub first_runs : (p : Frozen ℕ) (x l v u y : Datum) (a r : State ℕ) (m c : ℕ) → r ≡ first_state a → l ≡ left x → u ≡ right x → y ≡ pair v u
       → RunsWhere keys p l a v m → (suc (m + 0) < 2 ^ 32 → c ≡ suc (m + 0)) → (w : Frozen ℕ) → FirstBy w p → RunsWhere keys w x r y c
@@ -88,19 +109,10 @@ module _ (keys : List KeyTree) where
   loop_at p x u v a m c hp hc w (R.loop_new {c = k} {f = f} {s = s} h) A B (T.unstarted_typed (N.loop_typed {C = C} r _ tf) ts) t =
       let e : u ≡ row_value keys k (params_of s) unit = called_value keys k (params_of s) unit u h r (params_typed keys ts) unit_has in
       let tu : HasType u C = subst (λ z. HasType z C) (sym e) (row_typed keys r (params_typed keys ts) unit_has) in
-      let one : Ran keys (unstarted f s) (pair x u) a v m = hp (pair_ty A C) (pair_ty B C) (T.unstarted_typed tf ts) (pair_has t tu) in
-      record {
-        visits = suc one.visits;
-        resumes = G.resume_unstarted (G.start_loop (subst (λ z. Starts (row_value keys) f s (pair x z) a v one.visits) e (started one.resumes)));
-        is_count = λ l. let i : m ≡ one.visits = one.is_count (omega arith) in let e : c ≡ suc (m + 0) = hc (omega arith) in omega arith;
-      }
-  loop_at p x u v a m c hp hc w (R.loop_on {a = a0} {d = d}) A B (T.paused_typed (T.loop_state_typed {C = C} tu ta)) t =
-      let one : Ran keys (paused a0 d) (pair x u) a v m = hp (pair_ty A C) (pair_ty B C) (T.paused_typed ta) (pair_has t tu) in
-      record {
-        visits = suc one.visits;
-        resumes = G.resume_paused (G.step_loop (stepped one.resumes));
-        is_count = λ l. let i : m ≡ one.visits = one.is_count (omega arith) in let e : c ≡ suc (m + 0) = hc (omega arith) in omega arith;
-      }
+      round_one m c (hp (pair_ty A C) (pair_ty B C) (T.unstarted_typed tf ts) (pair_has t tu)) hc
+      (λ j i. G.resume_unstarted (G.start_loop (subst (λ z. Starts (row_value keys) f s (pair x z) a v j) e (started i))))
+  loop_at p x u v a m c hp hc w R.loop_on A B (T.paused_typed (T.loop_state_typed {C = C} tu ta)) t =
+      round_one m c (hp (pair_ty A C) (pair_ty B C) (T.paused_typed ta) (pair_has t tu)) hc (λ j i. G.resume_paused (G.step_loop (stepped i)))
 
   pub loop_runs : (p : Frozen ℕ) (x u z v y f : Datum) (a r : State ℕ) (m c : ℕ) → r ≡ loop_state f a → z ≡ pair x u → y ≡ left v → f ≡ right v
       → RunsWhere keys p z a v m → (suc (m + 0) < 2 ^ 32 → c ≡ suc (m + 0)) → (w : Frozen ℕ) → LoopBy keys w u p → RunsWhere keys w x r y c
@@ -108,141 +120,102 @@ module _ (keys : List KeyTree) where
       subst (λ b. RunsWhere keys w x b y c) (sym (e ∙ ap (λ g. loop_state g a) ef)) (subst (λ b. RunsWhere keys w x (loop_state (right v) a) b c) (sym ey)
       (loop_at p x u v a m c (subst (λ b. RunsWhere keys p b a v m) ez hp) hc w k))
 
-  switch_goes_at : (p : Frozen ℕ) (t : Network ℕ) (s : Scope ℕ) (x v : Datum) (a : State ℕ) (m c : ℕ) → RunsWhere keys p x a v m → event_in (right v) ≡ None
-      → (suc (m + 0) < 2 ^ 32 → c ≡ suc (m + 0)) → (w : Frozen ℕ) → SwitchBy w p t s → RunsWhere keys w x (switch_state a t s) (left v) c
-  switch_goes_at p t s x v a m c hp ev hc w (R.switch_new {f = f}) A B (T.unstarted_typed (N.switch_typed {C = C} tf tg) ts) h =
-      let one : Ran keys (unstarted f s) x a v m = hp A (pair_ty B (event_ty C)) (T.unstarted_typed tf ts) h in
-      record {
-        visits = suc one.visits;
-        resumes = G.resume_unstarted (G.start_switch (started one.resumes) ev);
-        is_count = λ l. let i : m
-            ≡ one.visits = one.is_count (omega arith) in let e : c ≡ suc (m + 0) = hc (omega arith) in omega arith;
-      }
-  switch_goes_at p t s x v a m c hp ev hc w (R.switch_on {a = a0} {d = d}) A B (T.paused_typed (T.switch_state_typed {C = C} ta ts tg)) h =
-      let one : Ran keys (paused a0 d) x a v m = hp A (pair_ty B (event_ty C)) (T.paused_typed ta) h in
-      record {
-        visits = suc one.visits;
-        resumes = G.resume_paused (G.step_switch (stepped one.resumes) ev);
-        is_count = λ l. let i : m
-            ≡ one.visits = one.is_count (omega arith) in let e : c ≡ suc (m + 0) = hc (omega arith) in omega arith;
-      }
+  -- a switch round p: it goes on as r, or another network takes over from it and the switch answers what `out` makes of that one's answer
+  record Switched (w p : Frozen ℕ) (t : Network ℕ) (s : Scope ℕ) (x v : Datum) (a r : State ℕ) (out : Datum → Datum) (A B : TypeTree) : Type 0 where
+    event : TypeTree
+    part_typed : FrozenTyped keys p A (pair_ty B (event_ty event))
+    over_typed : (u : Datum) → HasType u event → FrozenTyped keys (unstarted t (push_param s u)) A B
+    kept : (k : ℕ) → Resumes (row_value keys) p x a v k → event_in (right v) ≡ None → Resumes (row_value keys) w x r (left v) (suc k)
+    fired : (u : Datum) (b : State ℕ) (y : Datum) (j k : ℕ) → Resumes (row_value keys) p x a v j → event_in (right v) ≡ Some u
+        → Starts (row_value keys) t (push_param s u) x b y k → Resumes (row_value keys) w x b (out y) (suc j + k)
+
+  -- of a switch that starts, and of one that steps
+  switched_new : {f t net : Network ℕ} {s : Scope ℕ} {x v : Datum} {a r : State ℕ} {out : Datum → Datum} {Ps : List TypeTree} {Os : List Arrow}
+      {A B C : TypeTree} → Typed (RowTyped keys) AnyType Ps Os f A (pair_ty B (event_ty C)) → Typed (RowTyped keys) AnyType (Ps ++ C ∷ []) Os t A B
+      → ScopeTyped keys s Ps Os
+      → ((k : ℕ) → Starts (row_value keys) f s x a v k → event_in (right v) ≡ None → Starts (row_value keys) net s x r (left v) (suc k))
+      → ((u : Datum) (b : State ℕ) (y : Datum) (j k : ℕ) → Starts (row_value keys) f s x a v j → event_in (right v) ≡ Some u
+      → Starts (row_value keys) t (push_param s u) x b y k → Starts (row_value keys) net s x b (out y) (suc j + k))
+      → Switched (unstarted net s) (unstarted f s) t s x v a r out A B
+  switched_new {C = C} tf tg ts goes fires = record {
+    event = C;
+    part_typed = T.unstarted_typed tf ts;
+    over_typed = λ u h. T.unstarted_typed tg (pushed_param keys ts h);
+    kept = λ k i ev. G.resume_unstarted (goes k (started i) ev);
+    fired = λ u b y j k i ev o. G.resume_unstarted (fires u b y j k (started i) ev o);
+  }
+
+  switched_on : {a0 now a r : State ℕ} {t : Network ℕ} {s : Scope ℕ} {d : ℕ} {x v : Datum} {out : Datum → Datum} {Ps : List TypeTree} {Os : List Arrow}
+      {A B C : TypeTree} → StateTyped keys a0 A (pair_ty B (event_ty C)) → Typed (RowTyped keys) AnyType (Ps ++ C ∷ []) Os t A B → ScopeTyped keys s Ps Os
+      → ((k : ℕ) → Steps (row_value keys) a0 (d, x) a v k → event_in (right v) ≡ None → Steps (row_value keys) now (d, x) r (left v) (suc k))
+      → ((u : Datum) (b : State ℕ) (y : Datum) (j k : ℕ) → Steps (row_value keys) a0 (d, x) a v j → event_in (right v) ≡ Some u
+      → Starts (row_value keys) t (push_param s u) x b y k → Steps (row_value keys) now (d, x) b (out y) (suc j + k))
+      → Switched (paused now d) (paused a0 d) t s x v a r out A B
+  switched_on {C = C} ta tg ts goes fires = record {
+    event = C;
+    part_typed = T.paused_typed ta;
+    over_typed = λ u h. T.unstarted_typed tg (pushed_param keys ts h);
+    kept = λ k i ev. G.resume_paused (goes k (stepped i) ev);
+    fired = λ u b y j k i ev o. G.resume_paused (fires u b y j k (stepped i) ev o);
+  }
+
+  switch_is : (p : Frozen ℕ) (t : Network ℕ) (s : Scope ℕ) (x v : Datum) (a : State ℕ) (w : Frozen ℕ) → SwitchBy w p t s → (A B : TypeTree)
+      → FrozenTyped keys w A B → Switched w p t s x v a (switch_state a t s) (λ y. y) A B
+  switch_is p t s x v a w R.switch_new A B (T.unstarted_typed (N.switch_typed tf tg) ts) =
+      switched_new tf tg ts (λ k i ev. G.start_switch i ev) (λ u b y j k i ev o. G.fire_switch i ev o)
+  switch_is p t s x v a w R.switch_on A B (T.paused_typed (T.switch_state_typed ta ts tg)) =
+      switched_on ta tg ts (λ k i ev. G.step_switch i ev) (λ u b y j k i ev o. G.step_switch_over i ev o)
+
+  d_switch_is : (p : Frozen ℕ) (t : Network ℕ) (s : Scope ℕ) (x v : Datum) (a : State ℕ) (w : Frozen ℕ) → DSwitchBy w p t s → (A B : TypeTree)
+      → FrozenTyped keys w A B → Switched w p t s x v a (d_switch_state a t s) (λ y. left v) A B
+  d_switch_is p t s x v a w R.d_switch_new A B (T.unstarted_typed (N.d_switch_typed tf tg) ts) =
+      switched_new tf tg ts (λ k i ev. G.start_d_switch i ev) (λ u b y j k i ev o. G.fire_d_switch i ev o)
+  d_switch_is p t s x v a w R.d_switch_on A B (T.paused_typed (T.d_switch_state_typed ta ts tg)) =
+      switched_on ta tg ts (λ k i ev. G.step_d_switch i ev) (λ u b y j k i ev o. G.step_d_switch_over i ev o)
+
+  kept_by : {w p : Frozen ℕ} {t : Network ℕ} {s : Scope ℕ} {x v : Datum} {a r : State ℕ} {out : Datum → Datum} {A B : TypeTree} (y : Datum) (o : State ℕ)
+      (m c : ℕ) → Switched w p t s x v a r out A B → o ≡ r → y ≡ left v → RunsWhere keys p x a v m → event_in (right v) ≡ None
+      → (suc (m + 0) < 2 ^ 32 → c ≡ suc (m + 0)) → HasType x A → Ran keys w x o y c
+  kept_by {w = w} {x = x} {r = r} {A = A} {B = B} y o m c g e ey hp ev hc h =
+      subst (λ z. Ran keys w x z y c) (sym e) (subst (λ z. Ran keys w x r z c) (sym ey)
+      (round_one m c (hp A (pair_ty B (event_ty g.event)) g.part_typed h) hc (λ k i. g.kept k i ev)))
+
+  fired_by : {w p : Frozen ℕ} {t : Network ℕ} {s : Scope ℕ} {x v : Datum} {a r : State ℕ} {out : Datum → Datum} {A B : TypeTree} (s' : Scope ℕ) (u y : Datum)
+      (b : State ℕ) (m n c : ℕ) → Switched w p t s x v a r out A B → s' ≡ push_param s u → RunsWhere keys p x a v m → event_in (right v) ≡ Some u
+      → RunsWhere keys (unstarted t s') x b y n → (suc (m + n) < 2 ^ 32 → c ≡ suc (m + n)) → HasType x A → Ran keys w x b (out y) c
+  fired_by {t = t} {x = x} {A = A} {B = B} s' u y b m n c g e hp ev hq hc h =
+      let one = hp A (pair_ty B (event_ty g.event)) g.part_typed h in
+      let tv = (resumes_typed keys one.resumes g.part_typed h).1 in
+      let two = subst (λ o. RunsWhere keys (unstarted t o) x b y n) e hq A B (g.over_typed u (event_typed (right_typed tv) ev)) h in
+      round_two m n c (λ j k. suc j + k) (λ j k. omega arith) one two hc (λ j k i o. g.fired u b y j k i ev (started o))
 
   pub switch_goes : (p : Frozen ℕ) (t : Network ℕ) (s : Scope ℕ) (x v y : Datum) (a r : State ℕ) (m c : ℕ) → r ≡ switch_state a t s → y ≡ left v
       → RunsWhere keys p x a v m → event_in (right v) ≡ None → (suc (m + 0) < 2 ^ 32 → c ≡ suc (m + 0)) → (w : Frozen ℕ) → SwitchBy w p t s
       → RunsWhere keys w x r y c
-  switch_goes p t s x v y a r m c e ey hp ev hc w k =
-      subst (λ z. RunsWhere keys w x z y c) (sym e) (subst (λ z. RunsWhere keys w x (switch_state a t s) z c) (sym ey)
-      (switch_goes_at p t s x v a m c hp ev hc w k))
-
-  switch_fires_at : (p : Frozen ℕ) (t : Network ℕ) (s : Scope ℕ) (x v u y : Datum) (a b : State ℕ) (m n c : ℕ) → RunsWhere keys p x a v m → event_in (right v)
-      ≡ Some u → RunsWhere keys (unstarted t (push_param s u)) x b y n → (suc (m + n) < 2 ^ 32 → c ≡ suc (m + n)) → (w : Frozen ℕ) → SwitchBy w p t s
-      → RunsWhere keys w x b y c
-  switch_fires_at p t s x v u y a b m n c hp ev hq hc w (R.switch_new {f = f}) A B (T.unstarted_typed (N.switch_typed {C = C} tf tg) ts) h =
-      let one : Ran keys (unstarted f s) x a v m = hp A (pair_ty B (event_ty C)) (T.unstarted_typed tf ts) h in
-      let tv : HasType v (pair_ty B (event_ty C)) = (resumes_typed keys one.resumes (T.unstarted_typed tf ts) h).1 in
-      let two : Ran keys (unstarted t (push_param s u)) x b y n = hq A B (T.unstarted_typed tg (pushed_param keys ts (event_typed (right_typed tv) ev))) h in
-      record {
-        visits = suc one.visits + two.visits;
-        resumes = G.resume_unstarted (G.fire_switch (started one.resumes) ev (started two.resumes));
-        is_count = λ
-            l. let i : m ≡ one.visits = one.is_count (omega arith) in let j : n ≡ two.visits = two.is_count (omega arith) in let e : c
-            ≡ suc (m + n) = hc (omega arith) in omega arith;
-      }
-  switch_fires_at p t s x v u y a b m n c hp ev hq hc w (R.switch_on {a = a0} {d = d}) A B (T.paused_typed (T.switch_state_typed {C = C} ta ts tg)) h =
-      let one : Ran keys (paused a0 d) x a v m = hp A (pair_ty B (event_ty C)) (T.paused_typed ta) h in
-      let tv : HasType v (pair_ty B (event_ty C)) = (resumes_typed keys one.resumes (T.paused_typed ta) h).1 in
-      let two : Ran keys (unstarted t (push_param s u)) x b y n = hq A B (T.unstarted_typed tg (pushed_param keys ts (event_typed (right_typed tv) ev))) h in
-      record {
-        visits = suc one.visits + two.visits;
-        resumes = G.resume_paused (G.step_switch_over (stepped one.resumes) ev (started two.resumes));
-        is_count = λ
-            l. let i : m ≡ one.visits = one.is_count (omega arith) in let j : n ≡ two.visits = two.is_count (omega arith) in let e : c
-            ≡ suc (m + n) = hc (omega arith) in omega arith;
-      }
-
-  pub switch_fires : (p : Frozen ℕ) (t : Network ℕ) (s s' : Scope ℕ) (x v u y : Datum) (a b : State ℕ) (m n c : ℕ) → s' ≡ push_param s u
-      → RunsWhere keys p x a v m → event_in (right v) ≡ Some u → RunsWhere keys (unstarted t s') x b y n → (suc (m + n) < 2 ^ 32 → c ≡ suc (m + n))
-      → (w : Frozen ℕ) → SwitchBy w p t s → RunsWhere keys w x b y c
-  switch_fires p t s s' x v u y a b m n c e hp ev hq hc w k =
-      switch_fires_at p t s x v u y a b m n c hp ev (subst (λ o. RunsWhere keys (unstarted t o) x b y n) e hq) hc w k
-
-  d_switch_goes_at : (p : Frozen ℕ) (t : Network ℕ) (s : Scope ℕ) (x v : Datum) (a : State ℕ) (m c : ℕ) → RunsWhere keys p x a v m → event_in (right v) ≡ None
-      → (suc (m + 0) < 2 ^ 32 → c ≡ suc (m + 0)) → (w : Frozen ℕ) → DSwitchBy w p t s → RunsWhere keys w x (d_switch_state a t s) (left v) c
-  d_switch_goes_at p t s x v a m c hp ev hc w (R.d_switch_new {f = f}) A B (T.unstarted_typed (N.d_switch_typed {C = C} tf tg) ts) h =
-      let one : Ran keys (unstarted f s) x a v m = hp A (pair_ty B (event_ty C)) (T.unstarted_typed tf ts) h in
-      record {
-        visits = suc one.visits;
-        resumes = G.resume_unstarted (G.start_d_switch (started one.resumes) ev);
-        is_count = λ l. let i : m
-            ≡ one.visits = one.is_count (omega arith) in let e : c ≡ suc (m + 0) = hc (omega arith) in omega arith;
-      }
-  d_switch_goes_at p t s x v a m c hp ev hc w (R.d_switch_on {a = a0} {d = d}) A B (T.paused_typed (T.d_switch_state_typed {C = C} ta ts tg)) h =
-      let one : Ran keys (paused a0 d) x a v m = hp A (pair_ty B (event_ty C)) (T.paused_typed ta) h in
-      record {
-        visits = suc one.visits;
-        resumes = G.resume_paused (G.step_d_switch (stepped one.resumes) ev);
-        is_count = λ l. let i : m
-            ≡ one.visits = one.is_count (omega arith) in let e : c ≡ suc (m + 0) = hc (omega arith) in omega arith;
-      }
+  switch_goes p t s x v y a r m c e ey hp ev hc w k A B tw h = kept_by y r m c (switch_is p t s x v a w k A B tw) e ey hp ev hc h
 
   pub d_switch_goes : (p : Frozen ℕ) (t : Network ℕ) (s : Scope ℕ) (x v y : Datum) (a r : State ℕ) (m c : ℕ) → r ≡ d_switch_state a t s → y ≡ left v
       → RunsWhere keys p x a v m → event_in (right v) ≡ None → (suc (m + 0) < 2 ^ 32 → c ≡ suc (m + 0)) → (w : Frozen ℕ) → DSwitchBy w p t s
       → RunsWhere keys w x r y c
-  d_switch_goes p t s x v y a r m c e ey hp ev hc w k =
-      subst (λ z. RunsWhere keys w x z y c) (sym e) (subst (λ z. RunsWhere keys w x (d_switch_state a t s) z c) (sym ey)
-      (d_switch_goes_at p t s x v a m c hp ev hc w k))
+  d_switch_goes p t s x v y a r m c e ey hp ev hc w k A B tw h = kept_by y r m c (d_switch_is p t s x v a w k A B tw) e ey hp ev hc h
 
-  d_switch_fires_at : (p : Frozen ℕ) (t : Network ℕ) (s : Scope ℕ) (x v u y : Datum) (a b : State ℕ) (m n c : ℕ) → RunsWhere keys p x a v m → event_in (right v)
-      ≡ Some u → RunsWhere keys (unstarted t (push_param s u)) x b y n → (suc (m + n) < 2 ^ 32 → c ≡ suc (m + n)) → (w : Frozen ℕ) → DSwitchBy w p t s
-      → RunsWhere keys w x b (left v) c
-  d_switch_fires_at p t s x v u y a b m n c hp ev hq hc w (R.d_switch_new {f = f}) A B (T.unstarted_typed (N.d_switch_typed {C = C} tf tg) ts) h =
-      let one : Ran keys (unstarted f s) x a v m = hp A (pair_ty B (event_ty C)) (T.unstarted_typed tf ts) h in
-      let tv : HasType v (pair_ty B (event_ty C)) = (resumes_typed keys one.resumes (T.unstarted_typed tf ts) h).1 in
-      let two : Ran keys (unstarted t (push_param s u)) x b y n = hq A B (T.unstarted_typed tg (pushed_param keys ts (event_typed (right_typed tv) ev))) h in
-      record {
-        visits = suc one.visits + two.visits;
-        resumes = G.resume_unstarted (G.fire_d_switch (started one.resumes) ev (started two.resumes));
-        is_count = λ
-            l. let i : m ≡ one.visits = one.is_count (omega arith) in let j : n ≡ two.visits = two.is_count (omega arith) in let e : c
-            ≡ suc (m + n) = hc (omega arith) in omega arith;
-      }
-  d_switch_fires_at p t s x v u y a b m n c hp ev hq hc w (R.d_switch_on {a = a0} {d = d}) A B (T.paused_typed (T.d_switch_state_typed {C = C} ta ts tg)) h =
-      let one : Ran keys (paused a0 d) x a v m = hp A (pair_ty B (event_ty C)) (T.paused_typed ta) h in
-      let tv : HasType v (pair_ty B (event_ty C)) = (resumes_typed keys one.resumes (T.paused_typed ta) h).1 in
-      let two : Ran keys (unstarted t (push_param s u)) x b y n = hq A B (T.unstarted_typed tg (pushed_param keys ts (event_typed (right_typed tv) ev))) h in
-      record {
-        visits = suc one.visits + two.visits;
-        resumes = G.resume_paused (G.step_d_switch_over (stepped one.resumes) ev (started two.resumes));
-        is_count =
-            λ l. let i : m ≡ one.visits = one.is_count (omega arith) in let j : n ≡ two.visits = two.is_count (omega arith) in let e : c
-            ≡ suc (m + n) = hc (omega arith) in omega arith;
-      }
+  pub switch_fires : (p : Frozen ℕ) (t : Network ℕ) (s s' : Scope ℕ) (x v u y : Datum) (a b : State ℕ) (m n c : ℕ) → s' ≡ push_param s u
+      → RunsWhere keys p x a v m → event_in (right v) ≡ Some u → RunsWhere keys (unstarted t s') x b y n → (suc (m + n) < 2 ^ 32 → c ≡ suc (m + n))
+      → (w : Frozen ℕ) → SwitchBy w p t s → RunsWhere keys w x b y c
+  switch_fires p t s s' x v u y a b m n c e hp ev hq hc w k A B tw h = fired_by s' u y b m n c (switch_is p t s x v a w k A B tw) e hp ev hq hc h
 
   pub d_switch_fires : (p : Frozen ℕ) (t : Network ℕ) (s s' : Scope ℕ) (x v u y z : Datum) (a b : State ℕ) (m n c : ℕ) → s' ≡ push_param s u → z ≡ left v
       → RunsWhere keys p x a v m → event_in (right v) ≡ Some u → RunsWhere keys (unstarted t s') x b y n → (suc (m + n) < 2 ^ 32 → c ≡ suc (m + n))
       → (w : Frozen ℕ) → DSwitchBy w p t s → RunsWhere keys w x b z c
-  d_switch_fires p t s s' x v u y z a b m n c e ez hp ev hq hc w k =
-      subst (λ o. RunsWhere keys w x b o c) (sym ez) (d_switch_fires_at p t s x v u y a b m n c hp ev (subst (λ o. RunsWhere keys (unstarted t o) x b y n) e hq)
-      hc w k)
+  d_switch_fires p t s s' x v u y z a b m n c e ez hp ev hq hc w k A B tw h =
+      subst (λ o. Ran keys w x b o c) (sym ez) (fired_by s' u y b m n c (d_switch_is p t s x v a w k A B tw) e hp ev hq hc h)
 
   r_switch_goes_at : (p : Frozen ℕ) (t : Network ℕ) (s : Scope ℕ) (x y : Datum) (a : State ℕ) (m c : ℕ) → restart_in x ≡ None → RunsWhere keys p (left x) a y m
       → (suc (m + 0) < 2 ^ 32 → c ≡ suc (m + 0)) → (w : Frozen ℕ) → RSwitchBy w p t s → RunsWhere keys w x (r_switch_state a t s) y c
-  r_switch_goes_at p t s x y a m c ev hp hc w (R.r_switch_new {f = f}) A B (T.unstarted_typed (N.r_switch_typed {D = D} {C = C} tf tg) ts) h =
-      let one : Ran keys (unstarted f s) (left x) a y m = hp D B (T.unstarted_typed tf ts) (left_typed h) in
-      record {
-        visits = suc one.visits;
-        resumes = G.resume_unstarted (G.start_r_switch ev (started one.resumes));
-        is_count = λ l. let i : m
-            ≡ one.visits = one.is_count (omega arith) in let e : c ≡ suc (m + 0) = hc (omega arith) in omega arith;
-      }
-  r_switch_goes_at p t s x y a m c ev hp hc w (R.r_switch_on {a = a0} {d = d}) A B (T.paused_typed (T.r_switch_state_typed {D = D} {C = C} ta ts tg)) h =
-      let one : Ran keys (paused a0 d) (left x) a y m = hp D B (T.paused_typed ta) (left_typed h) in
-      record {
-        visits = suc one.visits;
-        resumes = G.resume_paused (G.step_r_switch ev (stepped one.resumes));
-        is_count = λ l. let i : m
-            ≡ one.visits = one.is_count (omega arith) in let e : c ≡ suc (m + 0) = hc (omega arith) in omega arith;
-      }
+  r_switch_goes_at p t s x y a m c ev hp hc w R.r_switch_new A B (T.unstarted_typed (N.r_switch_typed {D = D} tf tg) ts) h =
+      round_one m c (hp D B (T.unstarted_typed tf ts) (left_typed h)) hc (λ k i. G.resume_unstarted (G.start_r_switch ev (started i)))
+  r_switch_goes_at p t s x y a m c ev hp hc w R.r_switch_on A B (T.paused_typed (T.r_switch_state_typed {D = D} ta ts tg)) h =
+      round_one m c (hp D B (T.paused_typed ta) (left_typed h)) hc (λ k i. G.resume_paused (G.step_r_switch ev (stepped i)))
 
   pub r_switch_goes : (p : Frozen ℕ) (t : Network ℕ) (s : Scope ℕ) (x l y : Datum) (a r : State ℕ) (m c : ℕ) → r ≡ r_switch_state a t s → l ≡ left x
       → restart_in x ≡ None → RunsWhere keys p l a y m → (suc (m + 0) < 2 ^ 32 → c ≡ suc (m + 0)) → (w : Frozen ℕ) → RSwitchBy w p t s
@@ -255,22 +228,10 @@ module _ (keys : List KeyTree) where
       → RunsWhere keys w x (r_switch_state a t s) y c
   r_switch_cuts_at p t s x v u y a m c ev hp hc w R.r_switch_new A B (T.unstarted_typed (N.r_switch_typed {D = D} {C = C} tf tg) ts) h =
       let k : HasType v D × HasType u C = cut_typed h ev in
-      let one : Ran keys (unstarted t (push_param s u)) v a y m = hp D B (T.unstarted_typed tg (pushed_param keys ts k.1)) k.0 in
-      record {
-        visits = suc one.visits;
-        resumes = G.resume_unstarted (G.cut_r_switch ev (started one.resumes));
-        is_count = λ l. let i : m
-            ≡ one.visits = one.is_count (omega arith) in let e : c ≡ suc (m + 0) = hc (omega arith) in omega arith;
-      }
+      round_one m c (hp D B (T.unstarted_typed tg (pushed_param keys ts k.1)) k.0) hc (λ j i. G.resume_unstarted (G.cut_r_switch ev (started i)))
   r_switch_cuts_at p t s x v u y a m c ev hp hc w R.r_switch_on A B (T.paused_typed (T.r_switch_state_typed {D = D} {C = C} ta ts tg)) h =
       let k : HasType v D × HasType u C = cut_typed h ev in
-      let one : Ran keys (unstarted t (push_param s u)) v a y m = hp D B (T.unstarted_typed tg (pushed_param keys ts k.1)) k.0 in
-      record {
-        visits = suc one.visits;
-        resumes = G.resume_paused (G.step_r_switch_over ev (started one.resumes));
-        is_count = λ l. let i : m
-            ≡ one.visits = one.is_count (omega arith) in let e : c ≡ suc (m + 0) = hc (omega arith) in omega arith;
-      }
+      round_one m c (hp D B (T.unstarted_typed tg (pushed_param keys ts k.1)) k.0) hc (λ j i. G.resume_paused (G.step_r_switch_over ev (started i)))
 
   pub r_switch_cuts : (p : Frozen ℕ) (t : Network ℕ) (s s' : Scope ℕ) (x v u y : Datum) (a r : State ℕ) (m c : ℕ) → r ≡ r_switch_state a t s → s'
       ≡ push_param s u → restart_in x ≡ Some (v, u) → RunsWhere keys (unstarted t s') v a y m → (suc (m + 0) < 2 ^ 32 → c ≡ suc (m + 0)) → (w : Frozen ℕ)
@@ -281,29 +242,16 @@ module _ (keys : List KeyTree) where
   k_switch_goes_at : (p q : Frozen ℕ) (t : Network ℕ) (s : Scope ℕ) (x v u : Datum) (a b : State ℕ) (m n c : ℕ) → RunsWhere keys p x a v m
       → RunsWhere keys q (pair x v) b u n → event_in u ≡ None → (suc (m + n) < 2 ^ 32 → c ≡ suc (m + n)) → (w : Frozen ℕ) → KSwitchBy w p q t s
       → RunsWhere keys w x (k_switch_state a b t s) v c
-  k_switch_goes_at p q t s x v u a b m n c hp hq ev hc w (R.k_switch_new {f = f} {e = e}) A B (T.unstarted_typed (N.k_switch_typed {C = C} tf _ te tg) ts) h =
-      let one : Ran keys (unstarted f s) x a v m = hp A B (T.unstarted_typed tf ts) h in
-      let tv : HasType v B = (resumes_typed keys one.resumes (T.unstarted_typed tf ts) h).1 in
-      let two : Ran keys (unstarted e s) (pair x v) b u n = hq (pair_ty A B) (event_ty C) (T.unstarted_typed te ts) (pair_has h tv) in
-      record {
-        visits = suc (one.visits + two.visits);
-        resumes = G.resume_unstarted (G.start_k_switch (started one.resumes) (started two.resumes) ev);
-        is_count
-            = λ l. let i : m ≡ one.visits = one.is_count (omega arith) in let j : n ≡ two.visits = two.is_count (omega arith) in let e : c
-            ≡ suc (m + n) = hc (omega arith) in omega arith;
-      }
-  k_switch_goes_at p q t s x v u a b m n c hp hq ev hc w (R.k_switch_on {a = a0} {b = b0} {d = d}) A B
-      (T.paused_typed (T.k_switch_state_typed {C = C} ta tb ts tg)) h =
-      let one : Ran keys (paused a0 d) x a v m = hp A B (T.paused_typed ta) h in
-      let tv : HasType v B = (resumes_typed keys one.resumes (T.paused_typed ta) h).1 in
-      let two : Ran keys (paused b0 d) (pair x v) b u n = hq (pair_ty A B) (event_ty C) (T.paused_typed tb) (pair_has h tv) in
-      record {
-        visits = suc (one.visits + two.visits);
-        resumes = G.resume_paused (G.step_k_switch (stepped one.resumes) (stepped two.resumes) ev);
-        is_count = λ
-            l. let i : m ≡ one.visits = one.is_count (omega arith) in let j : n ≡ two.visits = two.is_count (omega arith) in let e : c
-            ≡ suc (m + n) = hc (omega arith) in omega arith;
-      }
+  k_switch_goes_at p q t s x v u a b m n c hp hq ev hc w R.k_switch_new A B (T.unstarted_typed (N.k_switch_typed {C = C} tf _ te tg) ts) h =
+      let one = hp A B (T.unstarted_typed tf ts) h in
+      let tv = (resumes_typed keys one.resumes (T.unstarted_typed tf ts) h).1 in
+      round_two m n c (λ j k. suc (j + k)) (λ j k. refl) one (hq (pair_ty A B) (event_ty C) (T.unstarted_typed te ts) (pair_has h tv)) hc
+      (λ j k i o. G.resume_unstarted (G.start_k_switch (started i) (started o) ev))
+  k_switch_goes_at p q t s x v u a b m n c hp hq ev hc w R.k_switch_on A B (T.paused_typed (T.k_switch_state_typed {C = C} ta tb ts tg)) h =
+      let one = hp A B (T.paused_typed ta) h in
+      let tv = (resumes_typed keys one.resumes (T.paused_typed ta) h).1 in
+      round_two m n c (λ j k. suc (j + k)) (λ j k. refl) one (hq (pair_ty A B) (event_ty C) (T.paused_typed tb) (pair_has h tv)) hc
+      (λ j k i o. G.resume_paused (G.step_k_switch (stepped i) (stepped o) ev))
 
   pub k_switch_goes : (p q : Frozen ℕ) (t : Network ℕ) (s : Scope ℕ) (x v z u : Datum) (a b r : State ℕ) (m n c : ℕ) → r ≡ k_switch_state a b t s → z ≡ pair x v
       → RunsWhere keys p x a v m → RunsWhere keys q z b u n → event_in u ≡ None → (suc (m + n) < 2 ^ 32 → c ≡ suc (m + n)) → (w : Frozen ℕ)
@@ -314,39 +262,24 @@ module _ (keys : List KeyTree) where
   k_switch_fires_at : (p q : Frozen ℕ) (t : Network ℕ) (s : Scope ℕ) (x v u z y : Datum) (a b o : State ℕ) (m n k c : ℕ) → RunsWhere keys p x a v m
       → RunsWhere keys q (pair x v) b u n → event_in u ≡ Some z → RunsWhere keys (unstarted t (push_old (push_param s z) p)) x o y k
       → (suc (m + n) + k < 2 ^ 32 → c ≡ suc (m + n) + k) → (w : Frozen ℕ) → KSwitchBy w p q t s → RunsWhere keys w x o y c
-  k_switch_fires_at p q t s x v u z y a b o m n k c hp hq ev ho hc w (R.k_switch_new {f = f} {e = e}) A B
+  k_switch_fires_at p q t s x v u z y a b o m n k c hp hq ev ho hc w R.k_switch_new A B
       (T.unstarted_typed (N.k_switch_typed {C = C} tf _ te tg) ts) h =
-      let one : Ran keys (unstarted f s) x a v m = hp A B (T.unstarted_typed tf ts) h in
-      let tv : HasType v B = (resumes_typed keys one.resumes (T.unstarted_typed tf ts) h).1 in
-      let two : Ran keys (unstarted e s) (pair x v) b u n = hq (pair_ty A B) (event_ty C) (T.unstarted_typed te ts) (pair_has h tv) in
-      let tu : HasType u (event_ty C) = (resumes_typed keys two.resumes (T.unstarted_typed te ts) (pair_has h tv)).1 in
-      let three : Ran keys (unstarted t (push_old (push_param s z) (unstarted f s))) x o y k = ho A B
-      (T.unstarted_typed tg (pushed_olds keys (pushed_param keys ts (event_typed tu ev)) (T.and_frozen_typed (T.unstarted_typed tf ts) T.no_frozen_typed)))
-      h in
-      record {
-        visits = suc (one.visits + two.visits) + three.visits;
-        resumes = G.resume_unstarted
-            (G.fire_k_switch (started one.resumes) (started two.resumes) ev (started three.resumes));
-        is_count = λ l. let i : m
-            ≡ one.visits = one.is_count (omega arith) in let j : n ≡ two.visits = two.is_count (omega arith) in let g : k
-            ≡ three.visits = three.is_count (omega arith) in let e : c ≡ suc (m + n) + k = hc (omega arith) in omega arith;
-      }
-  k_switch_fires_at p q t s x v u z y a b o m n k c hp hq ev ho hc w (R.k_switch_on {a = a0} {b = b0} {d = d}) A B
+      let one = hp A B (T.unstarted_typed tf ts) h in
+      let tv = (resumes_typed keys one.resumes (T.unstarted_typed tf ts) h).1 in
+      let two = hq (pair_ty A B) (event_ty C) (T.unstarted_typed te ts) (pair_has h tv) in
+      let tu = (resumes_typed keys two.resumes (T.unstarted_typed te ts) (pair_has h tv)).1 in
+      let olds = T.and_frozen_typed (T.unstarted_typed tf ts) T.no_frozen_typed in
+      round_three m n k c one two (ho A B (T.unstarted_typed tg (pushed_olds keys (pushed_param keys ts (event_typed tu ev)) olds)) h) hc
+      (λ j1 j2 j3 i1 i2 i3. G.resume_unstarted (G.fire_k_switch (started i1) (started i2) ev (started i3)))
+  k_switch_fires_at p q t s x v u z y a b o m n k c hp hq ev ho hc w R.k_switch_on A B
       (T.paused_typed (T.k_switch_state_typed {C = C} ta tb ts tg)) h =
-      let one : Ran keys (paused a0 d) x a v m = hp A B (T.paused_typed ta) h in
-      let tv : HasType v B = (resumes_typed keys one.resumes (T.paused_typed ta) h).1 in
-      let two : Ran keys (paused b0 d) (pair x v) b u n = hq (pair_ty A B) (event_ty C) (T.paused_typed tb) (pair_has h tv) in
-      let tu : HasType u (event_ty C) = (resumes_typed keys two.resumes (T.paused_typed tb) (pair_has h tv)).1 in
-      let three : Ran keys (unstarted t (push_old (push_param s z) (paused a0 d))) x o y k = ho A B
-      (T.unstarted_typed tg (pushed_olds keys (pushed_param keys ts (event_typed tu ev)) (T.and_frozen_typed (T.paused_typed ta) T.no_frozen_typed))) h in
-      record {
-        visits = suc (one.visits + two.visits) + three.visits;
-        resumes = G.resume_paused
-            (G.step_k_switch_over (stepped one.resumes) (stepped two.resumes) ev (started three.resumes));
-        is_count = λ l. let i : m
-            ≡ one.visits = one.is_count (omega arith) in let j : n ≡ two.visits = two.is_count (omega arith) in let g : k
-            ≡ three.visits = three.is_count (omega arith) in let e : c ≡ suc (m + n) + k = hc (omega arith) in omega arith;
-      }
+      let one = hp A B (T.paused_typed ta) h in
+      let tv = (resumes_typed keys one.resumes (T.paused_typed ta) h).1 in
+      let two = hq (pair_ty A B) (event_ty C) (T.paused_typed tb) (pair_has h tv) in
+      let tu = (resumes_typed keys two.resumes (T.paused_typed tb) (pair_has h tv)).1 in
+      let olds = T.and_frozen_typed (T.paused_typed ta) T.no_frozen_typed in
+      round_three m n k c one two (ho A B (T.unstarted_typed tg (pushed_olds keys (pushed_param keys ts (event_typed tu ev)) olds)) h) hc
+      (λ j1 j2 j3 i1 i2 i3. G.resume_paused (G.step_k_switch_over (stepped i1) (stepped i2) ev (started i3)))
 
   pub k_switch_fires : (p q : Frozen ℕ) (t : Network ℕ) (s s' : Scope ℕ) (x v zz u z y : Datum) (a b o : State ℕ) (m n k c1 c : ℕ) → s'
       ≡ push_old (push_param s z) p → zz ≡ pair x v → RunsWhere keys p x a v m → RunsWhere keys q zz b u n → event_in u ≡ Some z
@@ -360,10 +293,4 @@ module _ (keys : List KeyTree) where
   pub old_runs : (f : Frozen ℕ) (x y : Datum) (a : State ℕ) (m c : ℕ) → RunsWhere keys f x a y m → (suc (m + 0) < 2 ^ 32 → c ≡ suc (m + 0)) → (w : Frozen ℕ)
       → OldBy w f → RunsWhere keys w x a y c
   old_runs f x y a m c hf hc w (R.old_new e) A B (T.unstarted_typed (N.old_typed o) ts) h =
-      let one : Ran keys f x a y m = hf A B (old_typed keys ts o e) h in
-      record {
-        visits = suc one.visits;
-        resumes = G.resume_unstarted (G.start_old e one.resumes);
-        is_count = λ l. let i : m
-            ≡ one.visits = one.is_count (omega arith) in let e : c ≡ suc (m + 0) = hc (omega arith) in omega arith;
-      }
+      round_one m c (hf A B (old_typed keys ts o e) h) hc (λ k i. G.resume_unstarted (G.start_old e i))

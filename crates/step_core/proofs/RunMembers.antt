@@ -5,16 +5,16 @@ use Rattle.sample_core.specs.Datum.{Datum, pair, int, list, list_of}
 use Rattle.sample_core.specs.TypeTree.{TypeTree, pair_ty, event_ty, list_ty}
 use Rattle.sample_core.specs.HasType.{HasType, TypedParams, pair_has, list_has}
 use Rattle.leaf_core.specs.KeyTree.{KeyTree}
-use Rattle.net_syntax.specs.Network.{Network, Networks, no_members, and_member, par, p_switch}
+use Rattle.net_syntax.specs.Network.{Network, Networks, no_members, and_member}
 use Rattle.net_syntax.specs.Typing as N
 use Rattle.net_syntax.specs.Typing.{members}
 use Rattle.state_core.specs.CountedForms.{same_input, route_by}
-use Rattle.state_core.specs.State.{States, Scope, Frozen, Frozens, par_state, p_switch_state, no_state, and_state, no_frozen, and_frozen, unstarted, paused, params_of, push_param, push_olds, all_unstarted, all_paused}
+use Rattle.state_core.specs.State.{State, States, Scope, Frozen, Frozens, par_state, p_switch_state, no_state, and_state, no_frozen, and_frozen, unstarted, params_of, push_param, push_olds, all_unstarted, all_paused}
 use Rattle.state_core.specs.StateView.{append_states}
 use Rattle.step_core.specs.Stepping as G
 use Rattle.step_core.specs.Stepping.{Starts, StartsEach, Resumes, Steps, StepsEach, event_in}
 use Rattle.step_core.specs.StateTyping as T
-use Rattle.step_core.specs.StateTyping.{FrozensTyped, row_value}
+use Rattle.step_core.specs.StateTyping.{FrozenTyped, FrozensTyped, row_value}
 use Rattle.step_core.specs.Outcome.{Outcome, ListOutcome, IsRan, IsAdded, IsListed, RunsAll, nothing_yet}
 use Rattle.step_core.specs.Plans.{IsRouted, RunsMember}
 use Rattle.step_core.specs.Runs as R
@@ -123,6 +123,16 @@ module _ (keys : List KeyTree) where
         omega (arith, k, z, l.2),
   )
 
+  -- what led to an end, by another name of its state and its answer, and a count of its visits
+  ended : (w : Frozen ℕ) (x y z : Datum) (a b : State ℕ) (n k : ℕ) (o : Outcome) → Resumes (row_value keys) w x a y n → b ≡ a → z ≡ y → (n < 2 ^ 32 → k ≡ n)
+      → IsRan o b z k → Ran keys w x o.state o.answer o.visits
+  ended w x y z a b n k o go eb ez ek hr = record {
+    visits = n;
+    resumes = subst (λ c. Resumes (row_value keys) w x c o.answer n) (sym (hr.0 ∙ eb))
+        (subst (λ v. Resumes (row_value keys) w x a v n) (sym (hr.1 ∙ ez)) go);
+    is_count = λ l. let e : k ≡ n = ek l in hr.2 (omega (arith, e, l)) ∙ e;
+  }
+
   -- `parB`
   pub par_joined : (w : Frozen ℕ) (ms : Frozens ℕ) (x : Datum) (before now : Gathered) (all : ListOutcome) (r : Outcome) → ParBy w ms → before ≡ nothing_yet
       → RunEachWhere keys to_all 0 ms x before now
@@ -130,27 +140,82 @@ module _ (keys : List KeyTree) where
   par_joined w ms x before now all r (R.par_new {fs = fs} {s = s}) e hs hl hr A B (T.unstarted_typed (N.par_typed {B = B'} lo hi tf _) ts) t =
       let each : RanEach keys same_input x 0 (all_unstarted fs s) before now = hs (members fs) A A B' refl (omega (arith, hi)) (unstarted_all keys tf ts) t in
       let all_is = listed_is same_input 0 x (all_unstarted fs s) before now all e each hl in
-      let go : Resumes (row_value keys) (unstarted (par fs) s) x (par_state each.states) (list (list_of each.answers)) (suc each.visits) = G.resume_unstarted
-      (G.start_par (each_started fs s each.runs)) in
-      record {
-        visits = suc each.visits;
-        resumes = subst (λ a. Resumes (row_value keys) (unstarted (par fs) s) x a r.answer (suc each.visits)) (sym (hr.0 ∙ ap par_state all_is.0))
-            (subst (λ y. Resumes (row_value keys) (unstarted (par fs) s) x (par_state each.states) y (suc each.visits)) (sym (hr.1 ∙ all_is.1)) go);
-        is_count = λ l. let i : all.visits ≡ each.visits = all_is.2 (omega (arith, l)) in let j : r.visits
-            ≡ suc (all.visits + 0) = hr.2 (omega (arith, i, l)) in omega (arith, i, j);
-      }
+      ended _ x _ _ _ _ (suc each.visits) _ r (G.resume_unstarted (G.start_par (each_started fs s each.runs))) (ap par_state all_is.0) all_is.1
+      (λ l. let i : all.visits ≡ each.visits = all_is.2 (omega (arith, l)) in omega (arith, i)) hr
   par_joined w ms x before now all r (R.par_on {as' = as'} {d = d}) e hs hl hr A B (T.paused_typed (T.par_state_typed {n = k} {B = B'} hi tas)) t =
       let each : RanEach keys same_input x 0 (all_paused as' d) before now = hs k A A B' refl (omega (arith, hi)) (paused_all keys d tas) t in
       let all_is = listed_is same_input 0 x (all_paused as' d) before now all e each hl in
-      let go : Resumes (row_value keys) (paused (par_state as') d) x (par_state each.states) (list (list_of each.answers)) (suc each.visits) = G.resume_paused
-      (G.step_par (each_stepped as' d each.runs)) in
+      ended _ x _ _ _ _ (suc each.visits) _ r (G.resume_paused (G.step_par (each_stepped as' d each.runs))) (ap par_state all_is.0) all_is.1
+      (λ l. let i : all.visits ≡ each.visits = all_is.2 (omega (arith, l)) in omega (arith, i)) hr
+
+  -- the members of a `pSwitch` and what watches them went on: so it goes on, or it is taken over from
+  record Watched (w : Frozen ℕ) (r : ℕ) (ms : Frozens ℕ) (q : Frozen ℕ) (t : Network ℕ) (s : Scope ℕ) (x : Datum) (before now : Gathered)
+      (all : ListOutcome) (two : Outcome) (A B : TypeTree) : Type 0 where
+    each : RanEach keys (route_by (row_value keys r (params_of s))) x 0 ms before now
+    states : all.states ≡ each.states
+    answers : all.list ≡ list (list_of each.answers)
+    visits : each.visits < 2 ^ 32 → all.visits ≡ each.visits
+    watched : Ran keys q (pair x (list (list_of each.answers))) two.state two.answer two.visits
+    kept : event_in two.answer ≡ None → Resumes (row_value keys) w x (p_switch_state r each.states two.state t s) (list (list_of each.answers))
+        (suc (each.visits + watched.visits))
+    fired : (u : Datum) (a : State ℕ) (y : Datum) (n : ℕ) → event_in two.answer ≡ Some u
+        → Starts (row_value keys) t (push_olds (push_param s u) ms) x a y n → Resumes (row_value keys) w x a y (suc (each.visits + watched.visits) + n)
+    over_typed : (u : Datum) → event_in two.answer ≡ Some u → FrozenTyped keys (unstarted t (push_olds (push_param s u) ms)) A B
+
+  -- what watches sees what the members answered
+  watched_by : (w : Frozen ℕ) (r : ℕ) (ms : Frozens ℕ) (q : Frozen ℕ) (t : Network ℕ) (s : Scope ℕ) (x z : Datum) (before now : Gathered)
+      (all : ListOutcome) (two : Outcome) {A B C E : TypeTree} (each : RanEach keys (route_by (row_value keys r (params_of s))) x 0 ms before now)
+      → (all.states ≡ each.states) × (all.list ≡ list (list_of each.answers)) × (each.visits < 2 ^ 32 → all.visits ≡ each.visits) → z ≡ pair x all.list
+      → RunsWhere keys q z two.state two.answer two.visits → FrozenTyped keys q (pair_ty A (list_ty E)) (event_ty C) → HasType x A
+      → HasType (list (list_of each.answers)) (list_ty E)
+      → ((m : ℕ) → Resumes (row_value keys) q (pair x (list (list_of each.answers))) two.state two.answer m → event_in two.answer ≡ None
+      → Resumes (row_value keys) w x (p_switch_state r each.states two.state t s) (list (list_of each.answers)) (suc (each.visits + m)))
+      → ((m : ℕ) → Resumes (row_value keys) q (pair x (list (list_of each.answers))) two.state two.answer m → (u : Datum) (a : State ℕ) (y : Datum) (n : ℕ)
+      → event_in two.answer ≡ Some u → Starts (row_value keys) t (push_olds (push_param s u) ms) x a y n
+      → Resumes (row_value keys) w x a y (suc (each.visits + m) + n))
+      → ((u : Datum) → HasType u C → FrozenTyped keys (unstarted t (push_olds (push_param s u) ms)) A B) → Watched w r ms q t s x before now all two A B
+  watched_by w r ms q t s x z before now all two {A} {B} {C} {E} each all_is ez hq tq h tl goes fires over =
+      let watched : Ran keys q (pair x (list (list_of each.answers))) two.state two.answer two.visits = subst
+      (λ v. RunsWhere keys q v two.state two.answer two.visits) (ez ∙ ap (pair x) all_is.1) hq (pair_ty A (list_ty E)) (event_ty C) tq (pair_has h tl) in
       record {
-        visits = suc each.visits;
-        resumes = subst (λ a. Resumes (row_value keys) (paused (par_state as') d) x a r.answer (suc each.visits)) (sym (hr.0 ∙ ap par_state all_is.0))
-            (subst (λ y. Resumes (row_value keys) (paused (par_state as') d) x (par_state each.states) y (suc each.visits)) (sym (hr.1 ∙ all_is.1)) go);
-        is_count = λ l. let i : all.visits ≡ each.visits = all_is.2 (omega (arith, l)) in let j : r.visits
-            ≡ suc (all.visits + 0) = hr.2 (omega (arith, i, l)) in omega (arith, i, j);
+        each = each;
+        states = all_is.0;
+        answers = all_is.1;
+        visits = all_is.2;
+        watched = watched;
+        kept = goes watched.visits watched.resumes;
+        fired = fires watched.visits watched.resumes;
+        over_typed = λ u ev. over u (event_typed (resumes_typed keys watched.resumes tq (pair_has h tl)).1 ev);
       }
+
+  p_switch_watched : (w : Frozen ℕ) (r : ℕ) (ps : List Datum) (ms : Frozens ℕ) (q : Frozen ℕ) (t : Network ℕ) (s : Scope ℕ) (x z : Datum)
+      (before now : Gathered) (all : ListOutcome) (two : Outcome) → PSwitchBy w r ms q t s → ps ≡ params_of s → before ≡ nothing_yet
+      → RunEachWhere keys (by_row r ps) 0 ms x before now → IsListed now all → z ≡ pair x all.list → RunsWhere keys q z two.state two.answer two.visits
+      → (A B : TypeTree) → FrozenTyped keys w A B → HasType x A → Watched w r ms q t s x before now all two A B
+  p_switch_watched w r ps ms q t s x z before now all two (R.p_switch_new {fs = fs} {e = e}) ep eb hs hl ez hq A B
+      (T.unstarted_typed (N.p_switch_typed {Ps = Ps} {B = B'} {C = C} {D = D} lo hi _ rr tf _ te tg) ts) h =
+      let hd : HandsOut keys (by_row r ps) A D = (Ps, rr, subst (λ vs. TypedParams Ps vs) (sym ep) (params_typed keys ts)) in
+      let each : RanEach keys (route_by (row_value keys r (params_of s))) x 0 (all_unstarted fs s) before now = subst
+      (λ vs. RanEach keys (route_by (row_value keys r vs)) x 0 (all_unstarted fs s) before now) ep
+      (hs (members fs) A D B' hd (omega (arith, hi)) (unstarted_all keys tf ts) h) in
+      let all_is = listed_is (route_by (row_value keys r (params_of s))) 0 x (all_unstarted fs s) before now all eb each hl in
+      watched_by _ r _ _ t s x z before now all two each all_is ez hq (T.unstarted_typed te ts) h (list_has
+      (each_starts_typed keys (each_started fs s each.runs) tf ts (λ i b. route_typed keys rr (params_typed keys ts) h hi i (omega (arith, b)))).1)
+      (λ m k ev. G.resume_unstarted (G.start_p_switch (each_started fs s each.runs) (started keys k) ev))
+      (λ m k u a y n ev o. G.resume_unstarted (G.fire_p_switch (each_started fs s each.runs) (started keys k) ev o))
+      (λ u tu. T.unstarted_typed tg (pushed_olds keys (pushed_param keys ts tu) (unstarted_all keys tf ts)))
+  p_switch_watched w r ps ms q t s x z before now all two (R.p_switch_on {as' = as'} {b = b0} {d = d}) ep eb hs hl ez hq A B
+      (T.paused_typed (T.p_switch_state_typed {n = k} {Ps = Ps} {A = A'} {B = B'} {C = C} {D = D} hi rr tas tb ts tg)) h =
+      let hd : HandsOut keys (by_row r ps) A D = (Ps, rr, subst (λ vs. TypedParams Ps vs) (sym ep) (params_typed keys ts)) in
+      let each : RanEach keys (route_by (row_value keys r (params_of s))) x 0 (all_paused as' d) before now = subst
+      (λ vs. RanEach keys (route_by (row_value keys r vs)) x 0 (all_paused as' d) before now) ep
+      (hs k A D B' hd (omega (arith, hi)) (paused_all keys d tas) h) in
+      let all_is = listed_is (route_by (row_value keys r (params_of s))) 0 x (all_paused as' d) before now all eb each hl in
+      watched_by _ r _ _ t s x z before now all two each all_is ez hq (T.paused_typed tb) h (list_has
+      (each_steps_typed keys (each_stepped as' d each.runs) tas (λ i b. route_typed keys rr (params_typed keys ts) h hi i (omega (arith, b)))).1)
+      (λ m k ev. G.resume_paused (G.step_p_switch (each_stepped as' d each.runs) (stepped keys k) ev))
+      (λ m k u a y n ev o. G.resume_paused (G.step_p_switch_over (each_stepped as' d each.runs) (stepped keys k) ev o))
+      (λ u tu. T.unstarted_typed tg (pushed_olds keys (pushed_param keys ts tu) (paused_all keys d tas)))
 
   -- `pSwitch` that goes on
   pub p_switch_kept : (w : Frozen ℕ) (r : ℕ) (ps : List Datum) (ms : Frozens ℕ) (q : Frozen ℕ) (t : Network ℕ) (s : Scope ℕ) (x z : Datum)
@@ -159,62 +224,11 @@ module _ (keys : List KeyTree) where
       ≡ pair x all.list
       → RunsWhere keys q z two.state two.answer two.visits → event_in two.answer ≡ None
       → IsRan o (p_switch_state r all.states two.state t s) all.list (suc (all.visits + two.visits)) → RunsWhere keys w x o.state o.answer o.visits
-  p_switch_kept w r ps ms q t s x z before now all two o (R.p_switch_new {fs = fs} {e = e}) ep eb hs hl ez hq ev hr A B
-      (T.unstarted_typed (N.p_switch_typed {Ps = Ps} {B = B'} {C = C} {D = D} lo hi _ rr tf _ te tg) ts) h =
-      let hd : HandsOut keys (by_row r ps) A D = (Ps, rr, subst (λ vs. TypedParams Ps vs) (sym ep) (params_typed keys ts)) in
-      let each0 : RanEach keys (route_by (row_value keys r ps)) x 0 (all_unstarted fs s) before now = hs (members fs) A D B' hd (omega (arith, hi))
-      (unstarted_all keys tf ts) h in
-      let each : RanEach keys (route_by (row_value keys r (params_of s))) x 0 (all_unstarted fs s) before now = subst
-      (λ vs. RanEach keys (route_by (row_value keys r vs)) x 0 (all_unstarted fs s) before now) ep each0 in
-      let all_is = listed_is (route_by (row_value keys r (params_of s))) 0 x (all_unstarted fs s) before now all eb each hl in
-      let tl : HasType (list (list_of each.answers)) (list_ty B') = (list_has
-      (each_starts_typed keys (each_started fs s each.runs) tf ts (λ i b. route_typed keys rr (params_typed keys ts) h hi i (omega (arith, b)))).1) in
-      let z_is : z ≡ pair x (list (list_of each.answers)) = ez ∙ ap (pair x) all_is.1 in
-      let watched : Ran keys (unstarted e s) (pair x (list (list_of each.answers))) two.state two.answer two.visits = subst
-      (λ v. RunsWhere keys (unstarted e s) v two.state two.answer two.visits) z_is hq (pair_ty A (list_ty B')) (event_ty C) (T.unstarted_typed te ts)
-      (pair_has h tl) in
-      let go : Resumes (row_value keys) (unstarted (p_switch r fs e t) s) x (p_switch_state r each.states two.state t s) (list (list_of each.answers))
-      (suc (each.visits + watched.visits)) = G.resume_unstarted (G.start_p_switch (each_started fs s each.runs) (started keys watched.resumes) ev) in
-      record {
-        visits = suc (each.visits + watched.visits);
-        resumes = subst (λ a. Resumes (row_value keys) (unstarted (p_switch r fs e t) s) x a o.answer (suc (each.visits + watched.visits)))
-            (sym (hr.0 ∙ ap (λ bs. p_switch_state r bs two.state t s) all_is.0))
-            (subst (λ y. Resumes (row_value keys) (unstarted (p_switch r fs e t) s) x (p_switch_state r each.states two.state t s) y
-            (suc (each.visits + watched.visits))) (sym (hr.1 ∙ all_is.1)) go);
-        is_count = λ l.
-            let i : all.visits ≡ each.visits = all_is.2 (omega (arith, l)) in
-            let j : two.visits ≡ watched.visits = watched.is_count (omega (arith, l)) in
-            let n : o.visits ≡ suc (all.visits + two.visits) = hr.2 (omega (arith, i, j, l)) in
-            omega (arith, i, j, n);
-      }
-  p_switch_kept w r ps ms q t s x z before now all two o (R.p_switch_on {as' = as'} {b = b0} {d = d}) ep eb hs hl ez hq ev hr A B
-      (T.paused_typed (T.p_switch_state_typed {n = k} {Ps = Ps} {A = A'} {B = B'} {C = C} {D = D} hi rr tas tb ts tg)) h =
-      let hd : HandsOut keys (by_row r ps) A D = (Ps, rr, subst (λ vs. TypedParams Ps vs) (sym ep) (params_typed keys ts)) in
-      let each0 : RanEach keys (route_by (row_value keys r ps)) x 0 (all_paused as' d) before now = hs k A D B' hd (omega (arith, hi)) (paused_all keys d tas) h
-      in
-      let each : RanEach keys (route_by (row_value keys r (params_of s))) x 0 (all_paused as' d) before now = subst
-      (λ vs. RanEach keys (route_by (row_value keys r vs)) x 0 (all_paused as' d) before now) ep each0 in
-      let all_is = listed_is (route_by (row_value keys r (params_of s))) 0 x (all_paused as' d) before now all eb each hl in
-      let tl : HasType (list (list_of each.answers)) (list_ty B') = (list_has
-      (each_steps_typed keys (each_stepped as' d each.runs) tas (λ i b. route_typed keys rr (params_typed keys ts) h hi i (omega (arith, b)))).1) in
-      let z_is : z ≡ pair x (list (list_of each.answers)) = ez ∙ ap (pair x) all_is.1 in
-      let watched : Ran keys (paused b0 d) (pair x (list (list_of each.answers))) two.state two.answer two.visits = subst
-      (λ v. RunsWhere keys (paused b0 d) v two.state two.answer two.visits) z_is hq (pair_ty A (list_ty B')) (event_ty C) (T.paused_typed tb)
-      (pair_has h tl) in
-      let go : Resumes (row_value keys) (paused (p_switch_state r as' b0 t s) d) x (p_switch_state r each.states two.state t s) (list (list_of each.answers))
-      (suc (each.visits + watched.visits)) = G.resume_paused (G.step_p_switch (each_stepped as' d each.runs) (stepped keys watched.resumes) ev) in
-      record {
-        visits = suc (each.visits + watched.visits);
-        resumes = subst (λ a. Resumes (row_value keys) (paused (p_switch_state r as' b0 t s) d) x a o.answer (suc (each.visits + watched.visits)))
-            (sym (hr.0 ∙ ap (λ bs. p_switch_state r bs two.state t s) all_is.0))
-            (subst (λ y. Resumes (row_value keys) (paused (p_switch_state r as' b0 t s) d) x (p_switch_state r each.states two.state t s) y
-            (suc (each.visits + watched.visits))) (sym (hr.1 ∙ all_is.1)) go);
-        is_count = λ l.
-            let i : all.visits ≡ each.visits = all_is.2 (omega (arith, l)) in
-            let j : two.visits ≡ watched.visits = watched.is_count (omega (arith, l)) in
-            let n : o.visits ≡ suc (all.visits + two.visits) = hr.2 (omega (arith, i, j, l)) in
-            omega (arith, i, j, n);
-      }
+  p_switch_kept w r ps ms q t s x z before now all two o by ep eb hs hl ez hq ev hr A B tw h =
+      let g = p_switch_watched w r ps ms q t s x z before now all two by ep eb hs hl ez hq A B tw h in
+      ended w x _ _ _ _ (suc (g.each.visits + g.watched.visits)) _ o (g.kept ev) (ap (λ bs. p_switch_state r bs two.state t s) g.states) g.answers
+      (λ l. let i : all.visits ≡ g.each.visits = g.visits (omega (arith, l)) in
+      let j : two.visits ≡ g.watched.visits = g.watched.is_count (omega (arith, l)) in omega (arith, i, j)) hr
 
   -- and one that is taken over from
   pub p_switch_over : (w : Frozen ℕ) (r : ℕ) (ps : List Datum) (ms : Frozens ℕ) (q : Frozen ℕ) (t : Network ℕ) (s s' : Scope ℕ) (x z u : Datum)
@@ -225,74 +239,17 @@ module _ (keys : List KeyTree) where
       → RunsWhere keys (unstarted t s') x over.state over.answer over.visits
       → (m : ℕ) → m ≡ all.visits → (n : ℕ) → n ≡ two.visits → (suc (m + n) < 2 ^ 32 → b ≡ suc (m + n)) → IsRan o over.state over.answer (b + over.visits)
       → RunsWhere keys w x o.state o.answer o.visits
-  p_switch_over w r ps ms q t s s' x z u before now all two over o b (R.p_switch_new {fs = fs} {e = e}) ep eb hs hl ez hq ev es ho m em n en hb hr A B
-      (T.unstarted_typed (N.p_switch_typed {Ps = Ps} {B = B'} {C = C} {D = D} lo hi _ rr tf _ te tg) ts) h =
-      let hd : HandsOut keys (by_row r ps) A D = (Ps, rr, subst (λ vs. TypedParams Ps vs) (sym ep) (params_typed keys ts)) in
-      let each0 : RanEach keys (route_by (row_value keys r ps)) x 0 (all_unstarted fs s) before now = hs (members fs) A D B' hd (omega (arith, hi))
-      (unstarted_all keys tf ts) h in
-      let each : RanEach keys (route_by (row_value keys r (params_of s))) x 0 (all_unstarted fs s) before now = subst
-      (λ vs. RanEach keys (route_by (row_value keys r vs)) x 0 (all_unstarted fs s) before now) ep each0 in
-      let all_is = listed_is (route_by (row_value keys r (params_of s))) 0 x (all_unstarted fs s) before now all eb each hl in
-      let tl : HasType (list (list_of each.answers)) (list_ty B') = (list_has
-      (each_starts_typed keys (each_started fs s each.runs) tf ts (λ i b. route_typed keys rr (params_typed keys ts) h hi i (omega (arith, b)))).1) in
-      let z_is : z ≡ pair x (list (list_of each.answers)) = ez ∙ ap (pair x) all_is.1 in
-      let watched : Ran keys (unstarted e s) (pair x (list (list_of each.answers))) two.state two.answer two.visits = subst
-      (λ v. RunsWhere keys (unstarted e s) v two.state two.answer two.visits) z_is hq (pair_ty A (list_ty B')) (event_ty C) (T.unstarted_typed te ts)
-      (pair_has h tl) in
-      let tu : HasType two.answer (event_ty C) = (resumes_typed keys watched.resumes (T.unstarted_typed te ts) (pair_has h tl)).1 in
-      let third : Ran keys (unstarted t (push_olds (push_param s u) (all_unstarted fs s))) x over.state over.answer over.visits = subst
-      (λ v. RunsWhere keys (unstarted t v) x over.state over.answer over.visits) es ho A B
-      (T.unstarted_typed tg (pushed_olds keys (pushed_param keys ts (event_typed tu ev)) (unstarted_all keys tf ts))) h in
-      let go : Resumes (row_value keys) (unstarted (p_switch r fs e t) s) x over.state over.answer (suc (each.visits + watched.visits) + third.visits) =
-      G.resume_unstarted (G.fire_p_switch (each_started fs s each.runs) (started keys watched.resumes) ev (started keys third.resumes)) in
-      record {
-        visits = suc (each.visits + watched.visits) + third.visits;
-        resumes = subst (λ a. Resumes (row_value keys) (unstarted (p_switch r fs e t) s) x a o.answer (suc (each.visits + watched.visits) + third.visits))
-            (sym hr.0)
-            (subst (λ y. Resumes (row_value keys) (unstarted (p_switch r fs e t) s) x over.state y (suc (each.visits + watched.visits) + third.visits))
-            (sym hr.1) go);
-        is_count = λ l.
-            let i : all.visits ≡ each.visits = all_is.2 (omega (arith, l)) in
-            let j : two.visits ≡ watched.visits = watched.is_count (omega (arith, l)) in
-            let k : over.visits ≡ third.visits = third.is_count (omega (arith, l)) in
-            let c : b ≡ suc (m + n) = hb (omega (arith, i, j, em, en, l)) in
-            let e2 : o.visits ≡ b + over.visits = hr.2 (omega (arith, i, j, k, c, em, en, l)) in
-            omega (arith, i, j, k, c, e2, em, en);
-      }
-  p_switch_over w r ps ms q t s s' x z u before now all two over o b (R.p_switch_on {as' = as'} {b = b0} {d = d}) ep eb hs hl ez hq ev es ho m em n en hb hr A B
-      (T.paused_typed (T.p_switch_state_typed {n = k} {Ps = Ps} {A = A'} {B = B'} {C = C} {D = D} hi rr tas tb ts tg)) h =
-      let hd : HandsOut keys (by_row r ps) A D = (Ps, rr, subst (λ vs. TypedParams Ps vs) (sym ep) (params_typed keys ts)) in
-      let each0 : RanEach keys (route_by (row_value keys r ps)) x 0 (all_paused as' d) before now = hs k A D B' hd (omega (arith, hi)) (paused_all keys d tas) h
-      in
-      let each : RanEach keys (route_by (row_value keys r (params_of s))) x 0 (all_paused as' d) before now = subst
-      (λ vs. RanEach keys (route_by (row_value keys r vs)) x 0 (all_paused as' d) before now) ep each0 in
-      let all_is = listed_is (route_by (row_value keys r (params_of s))) 0 x (all_paused as' d) before now all eb each hl in
-      let tl : HasType (list (list_of each.answers)) (list_ty B') = (list_has
-      (each_steps_typed keys (each_stepped as' d each.runs) tas (λ i b. route_typed keys rr (params_typed keys ts) h hi i (omega (arith, b)))).1) in
-      let z_is : z ≡ pair x (list (list_of each.answers)) = ez ∙ ap (pair x) all_is.1 in
-      let watched : Ran keys (paused b0 d) (pair x (list (list_of each.answers))) two.state two.answer two.visits = subst
-      (λ v. RunsWhere keys (paused b0 d) v two.state two.answer two.visits) z_is hq (pair_ty A (list_ty B')) (event_ty C) (T.paused_typed tb)
-      (pair_has h tl) in
-      let tu : HasType two.answer (event_ty C) = (resumes_typed keys watched.resumes (T.paused_typed tb) (pair_has h tl)).1 in
-      let third : Ran keys (unstarted t (push_olds (push_param s u) (all_paused as' d))) x over.state over.answer over.visits = subst
-      (λ v. RunsWhere keys (unstarted t v) x over.state over.answer over.visits) es ho A B
-      (T.unstarted_typed tg (pushed_olds keys (pushed_param keys ts (event_typed tu ev)) (paused_all keys d tas))) h in
-      let go : Resumes (row_value keys) (paused (p_switch_state r as' b0 t s) d) x over.state over.answer (suc (each.visits + watched.visits) + third.visits) =
-      G.resume_paused (G.step_p_switch_over (each_stepped as' d each.runs) (stepped keys watched.resumes) ev (started keys third.resumes)) in
-      record {
-        visits = suc (each.visits + watched.visits) + third.visits;
-        resumes = subst (λ a. Resumes (row_value keys) (paused (p_switch_state r as' b0 t s) d) x a o.answer
-            (suc (each.visits + watched.visits) + third.visits)) (sym hr.0)
-            (subst (λ y. Resumes (row_value keys) (paused (p_switch_state r as' b0 t s) d) x over.state y (suc (each.visits + watched.visits) + third.visits))
-            (sym hr.1) go);
-        is_count = λ l.
-            let i : all.visits ≡ each.visits = all_is.2 (omega (arith, l)) in
-            let j : two.visits ≡ watched.visits = watched.is_count (omega (arith, l)) in
-            let k : over.visits ≡ third.visits = third.is_count (omega (arith, l)) in
-            let c : b ≡ suc (m + n) = hb (omega (arith, i, j, em, en, l)) in
-            let e2 : o.visits ≡ b + over.visits = hr.2 (omega (arith, i, j, k, c, em, en, l)) in
-            omega (arith, i, j, k, c, e2, em, en);
-      }
+  p_switch_over w r ps ms q t s s' x z u before now all two over o b by ep eb hs hl ez hq ev es ho m em n en hb hr A B tw h =
+      let g = p_switch_watched w r ps ms q t s x z before now all two by ep eb hs hl ez hq A B tw h in
+      let third : Ran keys (unstarted t (push_olds (push_param s u) ms)) x over.state over.answer over.visits = subst
+      (λ v. RunsWhere keys (unstarted t v) x over.state over.answer over.visits) es ho A B (g.over_typed u ev) h in
+      ended w x _ _ _ _ (suc (g.each.visits + g.watched.visits) + third.visits) _ o
+      (g.fired u over.state over.answer third.visits ev (started keys third.resumes)) refl refl
+      (λ l. let i : all.visits ≡ g.each.visits = g.visits (omega (arith, l)) in
+      let j : two.visits ≡ g.watched.visits = g.watched.is_count (omega (arith, l)) in
+      let k : over.visits ≡ third.visits = third.is_count (omega (arith, l)) in
+      let c : b ≡ suc (m + n) = hb (omega (arith, i, j, em, en, l)) in
+      omega (arith, i, j, k, c, em, en)) hr
 
 -- the number of the next member
 pub next_number : (i : ℕ) → i < 64 → (i + 1) % 4294967296 ≡ suc i

@@ -35,16 +35,25 @@ head_more : (ks more : List Cell) → 1 ≤ length ks → head_cell (ks ++ more)
 head_more [] more h = absurd (omega (arith, h))
 head_more (k ∷ ks) more h = refl
 
+-- the cells of a first part that has m, and those behind them, at least n
+record TwoMore (m n : ℕ) (ks more : List Cell) : Type 0 where
+  here : m ≤ length ks
+  rest : drop m (ks ++ more) ≡ drop m ks ++ more
+  left : n ≤ length (drop m ks)
+
+two_more : (m n : ℕ) (ks more : List Cell) → m + n ≤ length ks → TwoMore m n ks more
+two_more m n ks more h =
+    let here : m ≤ length ks = omega (arith, h) in
+    record { here = here; rest = drop-append-le m ks more here; left = omega (arith, h, length-drop m ks) }
+
 mutual
   -- a network's state looks at its own cells alone
   pub static_more : (f : Network ℕ) (ps : List Datum) (ks more : List Cell) → cell_count f ≤ length ks → static_state f ps (ks ++ more) ≡ static_state f ps ks
   static_more (arr e) ps ks more h = refl
   static_more (seq f g) ps ks more h =
-      let here : cell_count f ≤ length ks = omega (arith, h) in
-      let rest : drop (cell_count f) (ks ++ more) ≡ drop (cell_count f) ks ++ more = drop-append-le (cell_count f) ks more here in
-      let left : cell_count g ≤ length (drop (cell_count f) ks) = omega (arith, h, length-drop (cell_count f) ks) in
-      λ i. seq_state (static_more f ps ks more here i)
-      ((ap (static_state g ps) rest ∙ static_more g ps (drop (cell_count f) ks) more left) i)
+      let both = two_more (cell_count f) (cell_count g) ks more h in
+      λ i. seq_state (static_more f ps ks more both.here i)
+      ((ap (static_state g ps) both.rest ∙ static_more g ps (drop (cell_count f) ks) more both.left) i)
   static_more (first f) ps ks more h = ap first_state (static_more f ps ks more h)
   static_more (par fs) ps ks more h = ap par_state (statics_more fs ps ks more h)
   static_more (loop_pre c f) ps [] more h = absurd (omega (arith, h))
@@ -68,11 +77,9 @@ mutual
       → static_states fs ps (ks ++ more) ≡ static_states fs ps ks
   statics_more no_members ps ks more h = refl
   statics_more (and_member f fs) ps ks more h =
-      let here : cell_count f ≤ length ks = omega (arith, h) in
-      let rest : drop (cell_count f) (ks ++ more) ≡ drop (cell_count f) ks ++ more = drop-append-le (cell_count f) ks more here in
-      let left : cells_count fs ≤ length (drop (cell_count f) ks) = omega (arith, h, length-drop (cell_count f) ks) in
-      λ i. and_state (static_more f ps ks more here i)
-      ((ap (static_states fs ps) rest ∙ statics_more fs ps (drop (cell_count f) ks) more left) i)
+      let both = two_more (cell_count f) (cells_count fs) ks more h in
+      λ i. and_state (static_more f ps ks more both.here i)
+      ((ap (static_states fs ps) both.rest ∙ statics_more fs ps (drop (cell_count f) ks) more both.left) i)
 
 -- the first of two parts has the first cells
 pub one_of_two : (f : Network ℕ) (ps : List Datum) (ks more : List Cell) → length ks ≡ cell_count f → static_state f ps (ks ++ more) ≡ static_state f ps ks

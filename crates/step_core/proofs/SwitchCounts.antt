@@ -6,7 +6,7 @@ use Rattle.net_syntax.specs.SignalFunction.{TimedList, SignalFunction, last_or, 
 use Rattle.state_core.specs.Visits.{VisitCounts, both_at_first, switch_counts, and_one, add_counts}
 use Rattle.state_core.specs.CountedFunction.{CountedFunction, IsCountedFunction, Continues, StandsVia, TakesSample, visits_at}
 use Rattle.state_core.specs.CountedForms.{counted_switch_at, counted_switch, counted_d_switch, counted_watch, counted_k_switch, counted_resume}
-use Rattle.state_core.specs.StandsByForm.{SwitchStands, DSwitchStands, KSwitchStands}
+use Rattle.state_core.specs.StandsByForm.{SwitchStands, KSwitchStands}
 use Rattle.step_core.specs.Stepping.{event_in}
 use Rattle.net_syntax.proofs.Zips.{length-zip_with}
 use Rattle.net_syntax.proofs.Events.{IsPlain}
@@ -156,19 +156,26 @@ module _ (f : CountedFunction) (t : Datum
   answer-right : (v : Datum) (o : Option Datum) → v ≡ answer f.function q x → event_in (right v) ≡ o → event_in (answer (rights f.function) q x) ≡ o
   answer-right v o e h = ap event_in (answer-after right f.function cf.is_signal_function q x ∙ ap right (sym e)) ∙ h
 
-  pub switch_took : {A : CountedFunction → TimedList → Type 0} (v : Datum) (n : ℕ) → TakesSample A f q x v n → event_in (right v) ≡ None
-      → TakesSample (StandsVia (SwitchStands A t)) (counted_switch f t) q x (left v) (suc n)
-  switch_took v n tf h =
+  -- a switch goes on, where what takes over starts as `over` says
+  quiet_took : (form : CountedFunction → (Datum → CountedFunction) → CountedFunction) (over : Datum → TimedList → ℕ → CountedFunction)
+      → form f t ≡ counted_switch_at (halved f) (rights f.function) over → {A : CountedFunction → TimedList → Type 0} (v : Datum) (n : ℕ)
+      → TakesSample A f q x v n → event_in (right v) ≡ None → TakesSample (StandsVia (SwitchStands form A t)) (form f t) q x (left v) (suc n)
+  quiet_took form over is v n tf h =
       let se : IsSignalFunction (rights f.function) = IsSignal-rights f.function cf.is_signal_function in
       let ch : IsCountedFunction (halved f) = IsCounted-halved f cf in
       let i' : first_event (rights f.function (q ++ x ∷ [])) ≡ None =
-      switch_at_quiet (halved f) (rights f.function) (λ c p d. t c) ch se q x i (answer-right v None tf.answered h) in
+      switch_at_quiet (halved f) (rights f.function) over ch se q x i (answer-right v None tf.answered h) in
       record {
-        stands = Via-here (counted_switch f t) (q ++ x ∷ []) (record { f = f; is_f = cf; unseen = i'; first_part = tf.stands; same = refl });
+        stands = Via-here (form f t) (q ++ x ∷ []) (record { f = f; is_f = cf; unseen = i'; first_part = tf.stands; same = refl });
         answered = ap left tf.answered ∙ sym (answer-after left f.function cf.is_signal_function q x)
-            ∙ sym (answer_quiet (halved f) (rights f.function) (λ c p d. t c) ch se q x i');
-        counted = tally-halved f cf q x n tf.counted ∙ sym (tally_quiet (halved f) (rights f.function) (λ c p d. t c) ch se q x i');
+            ∙ sym (answer_quiet (halved f) (rights f.function) over ch se q x i') ∙ ap (λ s. answer s.function q x) (sym is);
+        counted = tally-halved f cf q x n tf.counted ∙ sym (tally_quiet (halved f) (rights f.function) over ch se q x i')
+            ∙ ap (λ s. visits_at s.visits q x) (sym is);
       }
+
+  pub switch_took : {A : CountedFunction → TimedList → Type 0} (v : Datum) (n : ℕ) → TakesSample A f q x v n → event_in (right v) ≡ None
+      → TakesSample (StandsVia (SwitchStands counted_switch A t)) (counted_switch f t) q x (left v) (suc n)
+  switch_took v n tf h = quiet_took counted_switch (λ c p d. t c) refl v n tf h
 
   pub switch_over_took : {A P : CountedFunction → TimedList → Type 0} (v c y : Datum) (m n : ℕ) → IsCountedFunction (t c) → TakesSample A f q x v m
       → event_in (right v) ≡ Some c → TakesSample (StandsVia P) (t c) [] x y n → TakesSample (StandsVia P) (counted_switch f t) q x y (suc m + n)
@@ -186,18 +193,8 @@ module _ (f : CountedFunction) (t : Datum
       (switching_late-is f.function (λ c. (t c).function) cf.is_signal_function)
 
   pub d_switch_took : {A : CountedFunction → TimedList → Type 0} (v : Datum) (n : ℕ) → TakesSample A f q x v n → event_in (right v) ≡ None
-      → TakesSample (StandsVia (DSwitchStands A t)) (counted_d_switch f t) q x (left v) (suc n)
-  d_switch_took v n tf h =
-      let se : IsSignalFunction (rights f.function) = IsSignal-rights f.function cf.is_signal_function in
-      let ch : IsCountedFunction (halved f) = IsCounted-halved f cf in
-      let i' : first_event (rights f.function (q ++ x ∷ [])) ≡ None =
-      switch_at_quiet (halved f) (rights f.function) lately_counted ch se q x i (answer-right v None tf.answered h) in
-      record {
-        stands = Via-here (counted_d_switch f t) (q ++ x ∷ []) (record { f = f; is_f = cf; unseen = i'; first_part = tf.stands; same = refl });
-        answered = ap left tf.answered ∙ sym (answer-after left f.function cf.is_signal_function q x)
-            ∙ sym (answer_quiet (halved f) (rights f.function) lately_counted ch se q x i') ∙ ap (λ s. answer s.function q x) (sym d_switch-is);
-        counted = tally-halved f cf q x n tf.counted ∙ sym (tally_quiet (halved f) (rights f.function) lately_counted ch se q x i');
-      }
+      → TakesSample (StandsVia (SwitchStands counted_d_switch A t)) (counted_d_switch f t) q x (left v) (suc n)
+  d_switch_took v n tf h = quiet_took counted_d_switch lately_counted d_switch-is v n tf h
 
   IsSignal-kept_back : IsSignalFunction (resume (lefts f.function) q x.0)
   IsSignal-kept_back = IsSignal-resume (lefts f.function) (IsSignal-lefts f.function cf.is_signal_function) q x.0

@@ -34,6 +34,14 @@ IsCount-taken_over e se v w ns cn u cu = record {
       (cn.bounded xs) (λ n c. (cu c (take n xs) (step_of (drop n xs))).bounded (drop n xs)) (outlook (e xs));
 }
 
+-- `switch` and `dSwitch`: what takes over at their f's first event adds its own visits
+IsCount-switched : (f : SignalFunction) → IsSignalFunction f → (v w : ℕ) (ns : VisitCounts) (u : Datum → VisitCounts) → IsCount v ns
+    → ((c : Datum) → IsCount w (u c))
+    → IsCount (suc (v + w)) (λ xs. switch_counts (first_event (rights f xs)) (and_one (ns xs)) (λ n c. u c (drop n xs)))
+IsCount-switched f sf v w ns u cn cu =
+    IsCount-weaker (suc v + w) (suc (v + w)) _ (omega arith)
+    (IsCount-taken_over (rights f) (IsSignal-rights f sf) (suc v) w (λ xs. and_one (ns xs)) (IsCount-and_one v ns cn) (λ c p d. u c) (λ c p d. cu c))
+
 mutual
   pub IsCount-visits : {L : Type 0} (val : L → List Datum → Datum → Datum) (net : Network L) (E : Context) (C : List VisitCounts) (ws : List ℕ)
       → AllSignals E.olds → AllCounts ws C → IsCount (weight net ws) (visits val net E C)
@@ -53,17 +61,11 @@ mutual
       (IsCount-before (weight f ws) (fed (val c E.params unit) (meaning val f E)) (visits val f E C)
       (length-fed (val c E.params unit) (meaning val f E) (IsSignal-meaning val f E s)) (IsCount-visits val f E C ws s a))
   IsCount-visits val (switch f t) E C ws s a =
-      IsCount-weaker (suc (weight f ws) + weight t ws) (suc (weight f ws + weight t ws)) _ (omega arith)
-      (IsCount-taken_over (rights (meaning val f E)) (IsSignal-rights (meaning val f E) (IsSignal-meaning val f E s)) (suc (weight f ws)) (weight t ws)
-      (λ xs. and_one (visits val f E C xs))
-      (IsCount-and_one (weight f ws) (visits val f E C) (IsCount-visits val f E C ws s a))
-      (λ c p d. visits val t (with_param E c) C) (λ c p d. IsCount-visits val t (with_param E c) C ws s a))
+      IsCount-switched (meaning val f E) (IsSignal-meaning val f E s) (weight f ws) (weight t ws) _ (λ c. visits val t (with_param E c) C)
+      (IsCount-visits val f E C ws s a) (λ c. IsCount-visits val t (with_param E c) C ws s a)
   IsCount-visits val (d_switch f t) E C ws s a =
-      IsCount-weaker (suc (weight f ws) + weight t ws) (suc (weight f ws + weight t ws)) _ (omega arith)
-      (IsCount-taken_over (rights (meaning val f E)) (IsSignal-rights (meaning val f E) (IsSignal-meaning val f E s)) (suc (weight f ws)) (weight t ws)
-      (λ xs. and_one (visits val f E C xs))
-      (IsCount-and_one (weight f ws) (visits val f E C) (IsCount-visits val f E C ws s a))
-      (λ c p d. visits val t (with_param E c) C) (λ c p d. IsCount-visits val t (with_param E c) C ws s a))
+      IsCount-switched (meaning val f E) (IsSignal-meaning val f E s) (weight f ws) (weight t ws) _ (λ c. visits val t (with_param E c) C)
+      (IsCount-visits val f E C ws s a) (λ c. IsCount-visits val t (with_param E c) C ws s a)
   IsCount-visits val (r_switch f t) E C ws s a =
       IsCount-and_one (weight f ws + weight t ws) _
       (IsCount-pieces (visits val f E C) (λ c. visits val t (with_param E c) C) (weight f ws) (weight t ws) (IsCount-visits val f E C ws s a)

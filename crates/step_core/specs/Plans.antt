@@ -28,6 +28,10 @@ abbrev pub router_of : Route → Router
 router_of W.ToAll = to_all
 router_of (W.ByRow r ps) = by_row (row_number r) ps.now
 
+-- what the routing row got, if anything: a pair's first part is the sample
+abbrev pub IsAsked : Datum → Datum → Type 0
+IsAsked x asked = (u v : Datum) → asked ≡ pair u v → u ≡ x
+
 -- y is what member i is handed
 abbrev pub IsRouted : List KeyTree → Router → ℕ → Datum → Datum → Type 0
 IsRouted keys to_all i x y = y ≡ x

@@ -4,8 +4,7 @@ ghost use Rattle.std.specs.Prelude.{◌≡◌, IfOk, IfErr, OnOk, map};
 ghost use Rattle.leaf_table.specs.Rows.{rows_of};
 ghost use Rattle.net_syntax.specs.NeedView.{need_of};
 ghost use Rattle.state_core.specs.RowsView.{row_number};
-ghost use Rattle.step_core.specs.Binding.{FitsTable};
-ghost use Rattle.step_core.specs.RowTyping.{network_by};
+ghost use Rattle.step_core.specs.{Binding.FitsTable, RowTyping.network_by};
 ghost use Rattle.step_core.specs.Lookup.{AddsRows, FindsAll, Misses, MissesIn, Names};
 
 use crate::bound::Bound;

@@ -2,14 +2,11 @@
 
 ghost use Rattle.std.specs.Prelude.{◌≡◌, ℕ, IfOk, IsTrue, map};
 ghost use Rattle.sample_core.specs.ValueView.{datum_of};
-ghost use Rattle.cell_core.specs.Cell.{accumulator_of};
-ghost use Rattle.cell_core.specs.CellView.{cell_of};
-ghost use Rattle.cell_core.specs.Start.{IsWithin};
+ghost use Rattle.cell_core.specs.{Cell.accumulator_of, CellView.cell_of, Start.IsWithin};
 ghost use Rattle.net_syntax.specs.Network.{Network, accum_by};
 ghost use Rattle.state_core.specs.RowsView.{row_number};
 ghost use Rattle.state_core.specs.State.{Scope, accum_state, cell_state, params_of, unstarted};
-ghost use Rattle.step_core.specs.Called.{IsConstant, IsPutIn};
-ghost use Rattle.step_core.specs.Flow.{IsAccumAdded, IsCell, number_of};
+ghost use Rattle.step_core.specs.{Called.IsConstant, Called.IsPutIn, Flow.IsAccumAdded, Flow.IsCell, Flow.number_of};
 ghost use Rattle.step_core.specs.Runs.{RunsWhere};
 
 use crate::part::beside;

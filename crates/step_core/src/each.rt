@@ -1,12 +1,10 @@
 // What one sample led to in members.
 
 ghost use Rattle.std.specs.Prelude.{◌≡◌, ◌+◌, ◌++◌, ◌∷◌, [], suc, IfOk, MatchOption, ℕ};
-ghost use Rattle.sample_core.specs.Datum.{list, list_of};
-ghost use Rattle.sample_core.specs.ValueView.{datum_of};
+ghost use Rattle.sample_core.specs.{Datum.list, Datum.list_of, ValueView.datum_of};
 ghost use Rattle.state_core.specs.RowsView.{rows_in, row_number};
 ghost use Rattle.state_core.specs.State.{no_state, and_state, no_frozen, and_frozen, par_state, p_switch_state};
-ghost use Rattle.state_core.specs.Around.{first_part};
-ghost use Rattle.state_core.specs.StateView.{state_of, scope_of, append_states};
+ghost use Rattle.state_core.specs.{Around.first_part, StateView.state_of, StateView.scope_of, StateView.append_states};
 ghost use Rattle.step_core.specs.Outcome.{IsRan, IsListed, IsAdded, outcome};
 ghost use Rattle.step_core.specs.SourceView.{source_of, sources_of};
 

@@ -2,13 +2,11 @@
 
 ghost use Rattle.std.specs.Prelude.{◌≡◌, ◌++◌, IfOk};
 ghost use Rattle.sample_core.specs.ValueView.{datum_of};
-ghost use Rattle.net_syntax.specs.Network.{map_networks};
-ghost use Rattle.net_syntax.specs.NetworkView.{members_of};
+ghost use Rattle.net_syntax.specs.{Network.map_networks, NetworkView.members_of};
 ghost use Rattle.state_core.specs.RowsView.{row_number};
-ghost use Rattle.state_core.specs.State.{all_unstarted, all_paused, push_param as with_param, push_old as with_old, push_olds as with_olds};
+ghost use Rattle.state_core.specs.State.{all_unstarted, all_paused, push_param as with_param};
 ghost use Rattle.state_core.specs.StateView.{scope_of, states_of, frozen_of, frozens_in};
-ghost use Rattle.step_core.specs.Joined.{Fires};
-ghost use Rattle.step_core.specs.SourceView.{source_of, sources_of};
+ghost use Rattle.step_core.specs.{Joined.Fires, Joined.with_stopped, SourceView.source_of, SourceView.sources_of};
 
 use crate::part::event_of;
 use crate::plan::{Source, Sources};
@@ -36,20 +34,28 @@ pub(crate) fn fire<'n>(
     }
 }
 
+/// What a network takes over from, as it was before the sample: one that ran, or all members.
+#[derive(Clone, Copy)]
+pub(crate) enum Stopped<'s, 'n> {
+    One(Source<'s, 'n>),
+    All(Sources<'s, 'n>),
+}
+
 /// The same, with what ran frozen.
+#[inline(always)]
 pub(crate) fn fire_old<'n>(
     alloc: Global,
     seen: &Sample,
     env: &Env<'n>,
-    from: Source<'_, 'n>,
+    stopped: Stopped<'_, 'n>,
     dt: u64,
 ) -> Result<Option<Env<'n>>, Memory>
     ensures { IfOk result (λ e. Fires (datum_of seen.now)
-        (λ u. with_old (with_param (scope_of env.now) u) (source_of from.entry dt)) e) }
+        (λ u. with_stopped (with_param (scope_of env.now) u) stopped.entry dt) e) }
 {
     match fire(alloc, seen, env)? {
         Some(fired) => {
-            let inner = with_frozen(alloc, &fired, from, dt);
+            let inner = with_frozen(alloc, &fired, stopped, dt);
             drop(fired);
             Ok(Some(inner?))
         }
@@ -57,57 +63,30 @@ pub(crate) fn fire_old<'n>(
     }
 }
 
-/// The same, with all members frozen.
-pub(crate) fn fire_olds<'n>(
-    alloc: Global,
-    seen: &Sample,
-    env: &Env<'n>,
-    members: Sources<'_, 'n>,
-    dt: u64,
-) -> Result<Option<Env<'n>>, Memory>
-    ensures { IfOk result (λ e. Fires (datum_of seen.now)
-        (λ u. with_olds (with_param (scope_of env.now) u) (sources_of members.entry dt)) e) }
-{
-    match fire(alloc, seen, env)? {
-        Some(fired) => {
-            let inner = with_all_frozen(alloc, &fired, members, dt);
-            drop(fired);
-            Ok(Some(inner?))
-        }
-        None => Ok(None),
-    }
-}
-
-/// The scope with what runs frozen.
+/// The scope with what ran frozen.
+#[inline(never)]
 fn with_frozen<'n>(
     alloc: Global,
     env: &Env<'n>,
-    from: Source<'_, 'n>,
+    stopped: Stopped<'_, 'n>,
     dt: u64,
 ) -> Result<Env<'n>, Memory>
-    ensures { IfOk result (λ e.
-        scope_of e ≡ with_old (scope_of env.now) (source_of from.entry dt)) }
+    ensures { IfOk result (λ e. scope_of e ≡ with_stopped (scope_of env.now) stopped.entry dt) }
 {
-    let frozen = frozen_source(alloc, from, dt)?;
-    let inner = push_old(alloc, env, &frozen);
-    drop(frozen);
-    inner
-}
-
-/// The scope with all members frozen.
-fn with_all_frozen<'n>(
-    alloc: Global,
-    env: &Env<'n>,
-    members: Sources<'_, 'n>,
-    dt: u64,
-) -> Result<Env<'n>, Memory>
-    ensures { IfOk result (λ e.
-        scope_of e ≡ with_olds (scope_of env.now) (sources_of members.entry dt)) }
-{
-    let frozen = frozen_sources(alloc, members, dt)?;
-    let inner = push_olds(alloc, env, frozen.as_slice());
-    drop(frozen);
-    inner
+    match stopped {
+        Stopped::One(from) => {
+            let frozen = frozen_source(alloc, from, dt)?;
+            let inner = push_old(alloc, env, &frozen);
+            drop(frozen);
+            inner
+        }
+        Stopped::All(members) => {
+            let frozen = frozen_sources(alloc, members, dt)?;
+            let inner = push_olds(alloc, env, frozen.as_slice());
+            drop(frozen);
+            inner
+        }
+    }
 }
 
 /// What runs, frozen as it was before the sample, with the sample's step.

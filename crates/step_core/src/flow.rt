@@ -1,8 +1,7 @@
 // One sample through a network without switches.
 
 ghost use Rattle.std.specs.Prelude.{◌≡◌, ◌<◌, ◌++◌, ◌∷◌, [], None, IfOk, IsTrue, length, map, slice_set};
-ghost use Rattle.sample_core.specs.Datum.{left, right};
-ghost use Rattle.sample_core.specs.ValueView.{datum_of};
+ghost use Rattle.sample_core.specs.{Datum.left, Datum.right, ValueView.datum_of};
 ghost use Rattle.net_syntax.specs.Network.{map_networks, seq, first, par, loop_pre, accum_by};
 ghost use Rattle.net_syntax.specs.NetworkView.{members_of};
 ghost use Rattle.cell_core.specs.Cell.{previous};
@@ -12,7 +11,7 @@ ghost use Rattle.step_core.specs.Called.{Called};
 ghost use Rattle.step_core.specs.Flow.{Flows, AllFlow, IsCell, IsFedBack, IsKept, number_of, past_in};
 
 use crate::cells::{start_accum, start_cell, step_accum};
-use crate::part::{beside, first, let_go, paired_with, second};
+use crate::part::{beside, first, paired_with, second};
 use crate::rows::Rows;
 use cell_core::{Cell, Form};
 use leaf_table::LeafId;
@@ -104,7 +103,7 @@ fn flow_seq<R: Rows>(
     match flow(on, f, x, cells, &mut between) {
         Ok(()) => {
             let done = flow(on, g, &between, cells, out);
-            let_go(between);
+            between.let_go();
             done
         }
         Err(memory) => {

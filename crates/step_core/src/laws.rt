@@ -1,7 +1,6 @@
 // Laws of binding and of scopes: each function is a law, and does nothing.
 
-ghost use Rattle.step_core.specs.BindingLaws.{GrownTableLaw};
-ghost use Rattle.step_core.specs.ScopeLaws.{ScopesLaw};
+ghost use Rattle.step_core.specs.{BindingLaws.GrownTableLaw, ScopeLaws.ScopesLaw};
 
 /// What is bound to a table fits that table with more rows, and is the same network there.
 pub fn binding_laws()

@@ -9,6 +9,7 @@ mod each;
 mod fault;
 mod fire;
 mod flow;
+mod handed;
 mod laws;
 mod lowering;
 mod part;

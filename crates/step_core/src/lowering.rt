@@ -1,8 +1,7 @@
 // Networks with rows in the place of their expressions.
 
 ghost use Rattle.std.specs.Prelude.{◌≡◌, ◌≢◌, ◌++◌, [], IfOk, None, Some, map, zero};
-ghost use Rattle.leaf_core.specs.Expression.{input};
-ghost use Rattle.leaf_core.specs.ExpressionView.{expression_of};
+ghost use Rattle.leaf_core.specs.{Expression.input, ExpressionView.expression_of};
 ghost use Rattle.net_syntax.specs.Network.{first, par, loop_pre, accum_by, k_switch, p_switch, map_network, map_networks};
 ghost use Rattle.net_syntax.specs.NetworkView.{members_of, tree_of};
 ghost use Rattle.state_core.specs.RowsView.{row_number, rows_in};

@@ -1,8 +1,7 @@
 // Parts of values.
 
 ghost use Rattle.std.specs.Prelude.{◌≡◌, IfOk};
-ghost use Rattle.sample_core.specs.Datum.{left, right, pair};
-ghost use Rattle.sample_core.specs.ValueView.{datum_of};
+ghost use Rattle.sample_core.specs.{Datum.left, Datum.right, Datum.pair, ValueView.datum_of};
 ghost use Rattle.step_core.specs.Stepping.{event_in, restart_in};
 ghost use Rattle.step_core.specs.EventView.{event_found, restart_found};
 
@@ -80,19 +79,4 @@ pub(crate) fn restart_of(value: &Sample) -> Option<(&Sample, &Sample)>
         },
         _ => None,
     }
-}
-
-/// Lets a value go. Mostly it is a number, which holds nothing.
-#[inline(always)]
-pub(crate) fn let_go(value: Sample) {
-    match value {
-        Sample::Int(_) => {}
-        value => let_go_on(value),
-    }
-}
-
-/// The same of any value.
-#[inline(never)]
-fn let_go_on(value: Sample) {
-    drop(value);
 }

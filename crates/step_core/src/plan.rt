@@ -1,13 +1,10 @@
 // What a sample is to do, by the form of what runs.
 
 ghost use Rattle.std.specs.Prelude.{◌≡◌, [], false, ℕ};
-ghost use Rattle.state_core.specs.RowsView.{rows_in};
-ghost use Rattle.state_core.specs.State.{unstarted, paused, Frozen as FrozenState};
+ghost use Rattle.state_core.specs.{RowsView.rows_in, State.unstarted, State.paused, State.Frozen as FrozenState};
 ghost use Rattle.state_core.specs.StateView.{state_of, scope_of, node_of, k_switch_of, p_switch_of, frozen_of};
 ghost use Rattle.state_core.specs.StaticNetwork.{is_static, static_state};
-ghost use Rattle.step_core.specs.Plans.{PlanBy};
-ghost use Rattle.step_core.specs.Runs.{OldBy};
-ghost use Rattle.step_core.specs.SourceView.{source_of};
+ghost use Rattle.step_core.specs.{Plans.PlanBy, Runs.OldBy, SourceView.source_of};
 
 use leaf_table::LeafId;
 use net_syntax::Net;

@@ -1,12 +1,8 @@
 // Nodes round what their parts led to.
 
 ghost use Rattle.std.specs.Prelude.{◌≡◌, ◌+◌, ◌<◌, ◌^◌, suc, IfOk};
-ghost use Rattle.sample_core.specs.Datum.{left, right};
-ghost use Rattle.sample_core.specs.ValueView.{datum_of};
-ghost use Rattle.state_core.specs.Around.{first_part, node_round};
-ghost use Rattle.state_core.specs.State.{loop_state};
-ghost use Rattle.state_core.specs.StateView.{state_of};
-ghost use Rattle.step_core.specs.Outcome.{IsRan, outcome};
+ghost use Rattle.sample_core.specs.{Datum.left, Datum.right, ValueView.datum_of};
+ghost use Rattle.state_core.specs.{Around.first_part, Around.node_round, State.loop_state, StateView.state_of};
 
 use crate::count;
 use crate::part::{first, second};
@@ -42,21 +38,21 @@ pub(crate) fn put_first(alloc: Global, answer: Sample, out: &mut Sample) -> Resu
     Ok(())
 }
 
-/// The same round a part whose answer's first part goes out.
+/// The node round a part that stands in the place, whose answer's first part goes out.
 #[inline(always)]
 pub(crate) fn keep_first<'n>(
     alloc: Global,
     around: Around<'_, 'n>,
-    one: u32,
     answer: Sample,
     place: &mut State<'n>,
     out: &mut Sample,
-) -> Result<u32, Memory>
-    ensures { IfOk result (λ n. IsRan (outcome (state_of place.new) (datum_of out.new) n)
-        (node_round around.entry (state_of place.old)) (left (datum_of answer)) (suc (one + 0))) }
+) -> Result<(), Memory>
+    ensures { IfOk result (λ _.
+        (state_of place.new ≡ node_round around.entry (state_of place.old))
+        × (datum_of out.new ≡ left (datum_of answer))) }
 {
     match put_first(alloc, answer, out) {
-        Ok(()) => round(alloc, around, one, 0, place),
+        Ok(()) => place.put_round(alloc, around),
         Err(memory) => {
             drop(around);
             Err(memory)
@@ -67,17 +63,16 @@ pub(crate) fn keep_first<'n>(
 /// `loopPre` round its part, with the second part of its answer fed back next.
 pub(crate) fn join_loop<'n>(
     alloc: Global,
-    one: u32,
     answer: Sample,
     place: &mut State<'n>,
     out: &mut Sample,
-) -> Result<u32, Memory>
-    ensures { IfOk result (λ n. IsRan (outcome (state_of place.new) (datum_of out.new) n)
-        (loop_state (right (datum_of answer)) (first_part (state_of place.old)))
-        (left (datum_of answer)) (suc (one + 0))) }
+) -> Result<(), Memory>
+    ensures { IfOk result (λ _. (state_of place.new
+        ≡ loop_state (right (datum_of answer)) (first_part (state_of place.old)))
+        × (datum_of out.new ≡ left (datum_of answer))) }
 {
     match second(&answer).try_copy(alloc) {
-        Ok(fed_back) => keep_first(alloc, Around::LoopPre(fed_back), one, answer, place, out),
+        Ok(fed_back) => keep_first(alloc, Around::LoopPre(fed_back), answer, place, out),
         Err(memory) => {
             drop(answer);
             Err(memory.into())

@@ -1,31 +1,29 @@
 // One sample through a network or a state.
 
-ghost use Rattle.std.specs.Prelude.{◌≡◌, ℕ, List, IfOk, pos};
-ghost use Rattle.sample_core.specs.Datum.{Datum, pair, int};
-ghost use Rattle.sample_core.specs.ValueView.{datum_of};
+ghost use Rattle.std.specs.Prelude.{◌≡◌, ℕ, List, IfOk};
+ghost use Rattle.sample_core.specs.{Datum.Datum, Datum.pair, ValueView.datum_of};
 ghost use Rattle.leaf_core.specs.KeyTree.{KeyTree};
-ghost use Rattle.state_core.specs.RowsView.{rows_in, row_number};
-ghost use Rattle.state_core.specs.State.{Frozen};
+ghost use Rattle.state_core.specs.{RowsView.rows_in, RowsView.row_number, State.Frozen};
 ghost use Rattle.state_core.specs.Around.{first_part, second_part};
 ghost use Rattle.state_core.specs.StateView.{state_of, node_of, scope_of};
-ghost use Rattle.step_core.specs.Called.{Called};
 ghost use Rattle.step_core.specs.Outcome.{RunsBy, TakesOver, TakesOverLate, RunsAll, outcome};
-ghost use Rattle.step_core.specs.Plans.{IsFed, RunsMember, router_of};
+ghost use Rattle.step_core.specs.Plans.{IsAsked, IsFed, RunsMember, router_of};
 ghost use Rattle.step_core.specs.Runs.{RunsWhere, RunEachWhere, SeqBy, FirstBy, ParBy, LoopBy, SwitchBy, DSwitchBy, RSwitchBy, KSwitchBy, PSwitchBy, OldBy};
 ghost use Rattle.step_core.specs.SourceView.{source_of, sources_of};
 
 use crate::count;
 use crate::each::{Each, Listed, count_of, first_of, join_par, keep_p_switch};
-use crate::fire::{fire, fire_old, fire_olds};
-use crate::part::{beside, first, let_go, paired_with, restart_of, second};
+use crate::fire::{Stopped, fire, fire_old};
+use crate::handed::{fed, routed};
+use crate::part::{beside, first, paired_with, restart_of, second};
 use crate::plan::{Back, Plan, Route, Source, Sources, plan_of};
 use crate::round::{join_loop, keep_first, put_first, round};
 use crate::rows::Rows;
-use crate::static_run::{run_apart, run_static};
+use crate::static_run::run_static;
 use leaf_table::LeafId;
 use net_syntax::Net;
 use sample_core::{Memory, Sample};
-use state_core::{Around, Env, Node, Params, SeqParts, State, push_param, route};
+use state_core::{Around, Env, Node, SeqParts, State, Turn, push_param};
 use std::alloc::Global;
 use std::rc::Rc;
 
@@ -46,29 +44,13 @@ pub(crate) fn run<'n, R: Rows>(
         RunsWhere (R.keys rows.now) (source_of from.now dt) (datum_of x.now)
         (state_of place.new) (datum_of out.new) n) }
 {
-    match plan_of(*from) {
-        Plan::Static(net, params, before) => run_apart(
-            alloc, rows, net, params, before, dt, x, place, out,
-        ),
-        Plan::Seq(f, g) => run_seq(alloc, rows, &f, &g, dt, x, place, out),
-        Plan::First(f) => run_first(alloc, rows, &f, dt, x, place, out),
-        Plan::Par(fs) => run_par(alloc, rows, fs, dt, x, place, out),
-        Plan::LoopPre(back, f) => run_loop(alloc, rows, back, &f, dt, x, place, out),
-        Plan::Switch(f, t, env) => run_switch(alloc, rows, &f, t, env, dt, x, place, out),
-        Plan::DSwitch(f, t, env) => run_d_switch(alloc, rows, &f, t, env, dt, x, place, out),
-        Plan::RSwitch(f, t, env) => run_r_switch(alloc, rows, &f, t, env, dt, x, place, out),
-        Plan::KSwitch(f, e, t, env) => run_k_switch(alloc, rows, &f, &e, t, env, dt, x, place, out),
-        Plan::PSwitch(r, fs, e, t, env) => run_p_switch(
-            alloc, rows, r, fs, &e, t, env, dt, x, place, out,
-        ),
-        Plan::Old(frozen, step) => run_old(alloc, rows, &frozen, step, x, place, out),
-        Plan::Beyond => Err(Memory),
-    }
+    run_in_line(alloc, rows, from, dt, x, place, out)
 }
 
 /// The same, where a network without switches runs in line.
+#[cycle(run)]
 #[inline(always)]
-pub(crate) fn run_top<'n, R: Rows>(
+pub(crate) fn run_in_line<'n, R: Rows>(
     alloc: Global,
     rows: &R,
     from: &Source<'_, 'n>,
@@ -85,7 +67,43 @@ pub(crate) fn run_top<'n, R: Rows>(
         Plan::Static(net, params, before) => run_static(
             alloc, rows, net, params, before, dt, x, place, out,
         ),
-        _ => run(alloc, rows, from, dt, x, place, out),
+        _ => run_parts(alloc, rows, from, dt, x, place, out),
+    }
+}
+
+/// The same by the parts of what runs.
+#[cycle(run)]
+#[inline(never)]
+fn run_parts<'n, R: Rows>(
+    alloc: Global,
+    rows: &R,
+    from: &Source<'_, 'n>,
+    dt: u64,
+    x: &Sample,
+    place: &mut State<'n>,
+    out: &mut Sample,
+) -> Result<u32, Memory>
+    ensures { IfOk result (λ n.
+        RunsWhere (R.keys rows.now) (source_of from.now dt) (datum_of x.now)
+        (state_of place.new) (datum_of out.new) n) }
+{
+    match plan_of(*from) {
+        Plan::Static(net, params, before) => run_static(
+            alloc, rows, net, params, before, dt, x, place, out,
+        ),
+        Plan::Seq(f, g) => run_seq(alloc, rows, &f, &g, dt, x, place, out),
+        Plan::First(f) => run_first(alloc, rows, &f, dt, x, place, out),
+        Plan::Par(fs) => run_par(alloc, rows, fs, dt, x, place, out),
+        Plan::LoopPre(back, f) => run_loop(alloc, rows, back, &f, dt, x, place, out),
+        Plan::Switch(f, t, env) => run_switch(alloc, rows, &f, t, env, dt, x, place, out),
+        Plan::DSwitch(f, t, env) => run_d_switch(alloc, rows, &f, t, env, dt, x, place, out),
+        Plan::RSwitch(f, t, env) => run_r_switch(alloc, rows, &f, t, env, dt, x, place, out),
+        Plan::KSwitch(f, e, t, env) => run_k_switch(alloc, rows, &f, &e, t, env, dt, x, place, out),
+        Plan::PSwitch(r, fs, e, t, env) => run_p_switch(
+            alloc, rows, r, fs, &e, t, env, dt, x, place, out,
+        ),
+        Plan::Old(frozen, step) => run_old(alloc, rows, &frozen, step, x, place, out),
+        Plan::Beyond => Err(Memory),
     }
 }
 
@@ -230,7 +248,7 @@ fn run_seq<'n, R: Rows>(
     match run_part(alloc, rows, f, dt, x, place, &mut between) {
         Ok(one) => {
             let two = run_second(alloc, rows, g, dt, &between, place, out);
-            let_go(between);
+            between.let_go();
             round(alloc, Around::Seq, one, two?, place)
         }
         Err(memory) => {
@@ -316,7 +334,10 @@ fn run_loop<'n, R: Rows>(
     let one = run_part(alloc, rows, f, dt, &input, place, &mut answer);
     drop(input);
     match one {
-        Ok(one) => join_loop(alloc, one, answer, place, out),
+        Ok(one) => {
+            join_loop(alloc, answer, place, out)?;
+            Ok(count::node(one, 0))
+        }
         Err(memory) => {
             drop(answer);
             Err(memory)
@@ -351,7 +372,11 @@ fn run_switch<'n, R: Rows>(
                 let before = count::node(one, 0);
                 run_over(alloc, rows, before, t, inner, x, place, out)
             }
-            Ok(None) => keep_first(alloc, Around::Switch(t, env), one, answer, place, out),
+            Ok(None) => {
+                let around = Around::Switch(Turn::AtOnce, t, env);
+                keep_first(alloc, around, answer, place, out)?;
+                Ok(count::node(one, 0))
+            }
             Err(memory) => {
                 drop(answer);
                 Err(memory)
@@ -387,7 +412,11 @@ fn run_d_switch<'n, R: Rows>(
     match run_part(alloc, rows, f, dt, x, place, &mut answer) {
         Ok(one) => match fire(alloc, second(&answer), env) {
             Ok(Some(inner)) => run_late(alloc, rows, one, answer, t, inner, x, place, out),
-            Ok(None) => keep_first(alloc, Around::DSwitch(t, env), one, answer, place, out),
+            Ok(None) => {
+                let around = Around::Switch(Turn::Late, t, env);
+                keep_first(alloc, around, answer, place, out)?;
+                Ok(count::node(one, 0))
+            }
             Err(memory) => {
                 drop(answer);
                 Err(memory)
@@ -424,11 +453,13 @@ fn run_r_switch<'n, R: Rows>(
             let inner = push_param(alloc, env, event)?;
             let one = run_part(alloc, rows, &Source::Net(t, &inner), 0, u, place, out);
             drop(inner);
-            round(alloc, Around::RSwitch(t, env), one?, 0, place)
+            let around = Around::Switch(Turn::Recurring, t, env);
+            round(alloc, around, one?, 0, place)
         }
         None => {
             let one = run_part(alloc, rows, f, dt, first(x), place, out)?;
-            round(alloc, Around::RSwitch(t, env), one, 0, place)
+            let around = Around::Switch(Turn::Recurring, t, env);
+            round(alloc, around, one, 0, place)
         }
     }
 }
@@ -458,7 +489,7 @@ fn run_k_switch<'n, R: Rows>(
     let mut event = Sample::Int(0);
     match run_watch(alloc, rows, e, dt, x, out, place, &mut event) {
         Ok(two) => {
-            let fired = fire_old(alloc, &event, env, *f, dt);
+            let fired = fire_old(alloc, &event, env, Stopped::One(*f), dt);
             drop(event);
             match fired? {
                 Some(inner) => {
@@ -502,7 +533,7 @@ fn run_p_switch<'n, R: Rows>(
     let mut event = Sample::Int(0);
     match run_members_watch(alloc, rows, e, dt, x, all.list(), place, &mut event) {
         Ok(two) => {
-            let fired = fire_olds(alloc, &event, env, fs, dt);
+            let fired = fire_old(alloc, &event, env, Stopped::All(fs), dt);
             drop(event);
             match fired {
                 Ok(Some(inner)) => {
@@ -671,7 +702,7 @@ fn run_all<'n, R: Rows>(
         dt,
         x,
     };
-    match run_each(&on, 0, members, &mut each) {
+    match run_each(&on, members, &mut each) {
         Ok(()) => each.listed(alloc),
         Err(memory) => {
             drop(each);
@@ -690,93 +721,64 @@ struct Handing<'s, R> {
     x: &'s Sample,
 }
 
-/// The members from member i on, added to those before.
+/// The members in order, added to those before.
 #[cycle(run)]
 fn run_each<'n, R: Rows>(
     on: &Handing<'_, R>,
-    i: u32,
     members: Sources<'_, 'n>,
     each: &mut Each<'n>,
 ) -> Result<(), Memory>
     ensures { IfOk result (λ _.
-        RunEachWhere (R.keys on.now.rows.now) (router_of on.now.router) i
+        RunEachWhere (R.keys on.now.rows.now) (router_of on.now.router) 0
         (sources_of members.entry on.now.dt) (datum_of on.now.x.now) each.old each.new) }
 {
-    match first_of(members) {
-        Some((f, rest)) => {
-            let mut place = each.take_place();
-            let mut answer = Sample::Int(0);
-            match run_member(on, i, &f, &mut place, &mut answer) {
-                Ok(visits) => {
-                    each.add(place, answer, visits)?;
-                    run_each(on, i.wrapping_add(1), rest, each)
+    let mut asked = Sample::Unit;
+    let mut rest = members;
+    let mut i: u32 = 0;
+    'members: loop {
+        match first_of(rest) {
+            Some((f, behind)) => {
+                let mut place = each.take_place();
+                let mut answer = Sample::Int(0);
+                match run_member(on, i, &f, &mut asked, &mut place, &mut answer) {
+                    Ok(visits) => each.add(place, answer, visits)?,
+                    Err(memory) => {
+                        drop(place);
+                        drop(answer);
+                        return Err(memory);
+                    }
                 }
-                Err(memory) => {
-                    drop(place);
-                    drop(answer);
-                    Err(memory)
-                }
+                rest = behind;
+                i = i.wrapping_add(1);
             }
+            None => return Ok(()),
         }
-        None => Ok(()),
     }
 }
 
-/// Member i, on what it is handed.
+/// Member i, on what it is handed. `asked` is the place of what the routing row gets.
 #[cycle(run)]
 fn run_member<'n, R: Rows>(
     on: &Handing<'_, R>,
     i: u32,
     f: &Source<'_, 'n>,
+    asked: &mut Sample,
     place: &mut State<'n>,
     out: &mut Sample,
 ) -> Result<u32, Memory>
-    ensures { IfOk result (λ n.
+    requires asked { IsAsked (datum_of on.now.x.now) (datum_of asked.old) }
+    ensures asked { IsAsked (datum_of on.now.x.now) (datum_of asked.new) }
+    ensures runs { IfOk result (λ n.
         RunsMember (R.keys on.now.rows.now) (router_of on.now.router) i (source_of f.now on.now.dt)
         (datum_of on.now.x.now) (outcome (state_of place.new) (datum_of out.new) n)) }
 {
     match on.router {
         Route::ToAll => run(on.alloc, on.rows, f, on.dt, on.x, place, out),
         Route::ByRow(r, params) => {
-            let input = routed(on.alloc, on.rows, r, params, i, on.x)?;
+            let input = routed(on.alloc, on.rows, r, params, i, on.x, asked)?;
             let one = run(on.alloc, on.rows, f, on.dt, &input, place, out);
-            let_go(input);
+            input.let_go();
             one
         }
-    }
-}
-
-/// What a row makes of the sample and member i's number. `Memory` where a growth was refused.
-fn routed<R: Rows>(
-    alloc: Global,
-    rows: &R,
-    r: LeafId,
-    params: &Params,
-    i: u32,
-    x: &Sample,
-) -> Result<Sample, Memory>
-    ensures { IfOk result (λ y.
-        Called (R.keys rows.now) (row_number r) params.now
-        (pair (datum_of x.now) (int (pos i))) (datum_of y)) }
-{
-    let asked = route(alloc, x, i)?;
-    let answer = rows.call(r, params.as_slice(), &asked);
-    drop(asked);
-    answer
-}
-
-/// The pair of the sample and what is fed back. `Memory` where a growth was refused.
-fn fed<R: Rows>(alloc: Global, rows: &R, back: Back<'_>, x: &Sample) -> Result<Sample, Memory>
-    ensures { IfOk result (λ p. (u : Datum)
-        × IsFed (R.keys rows.now) back.entry u × (datum_of p ≡ pair (datum_of x.now) u)) }
-{
-    match back {
-        Back::Row(c, params) => {
-            let value = rows.call(c, params.as_slice(), &Sample::Unit)?;
-            let input = beside(alloc, x, &value);
-            drop(value);
-            input
-        }
-        Back::Value(value) => beside(alloc, x, value),
     }
 }

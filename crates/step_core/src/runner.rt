@@ -1,16 +1,13 @@
 // Running a bound network, sample by sample.
 
 ghost use Rattle.std.specs.Prelude.{◌≡◌, ◌<◌, ◌≤◌, ◌+◌, ◌^◌, [], IfOk, OnErr};
-ghost use Rattle.sample_core.specs.HasType.{HasType};
-ghost use Rattle.sample_core.specs.ValueView.{datum_of};
+ghost use Rattle.sample_core.specs.{HasType.HasType, ValueView.datum_of};
 ghost use Rattle.leaf_table.specs.Rows.{rows_of};
-ghost use Rattle.step_core.specs.Binding.{FitsTable};
-ghost use Rattle.step_core.specs.RunnerState.{HasPast};
-ghost use Rattle.step_core.specs.StateOption.{state_in};
+ghost use Rattle.step_core.specs.{Binding.FitsTable, RunnerState.HasPast, StateOption.state_in};
 
 use crate::bound::Bound;
 use crate::plan::Source;
-use crate::run::run_top;
+use crate::run::run_in_line;
 use leaf_table::LeafTable;
 use sample_core::{Memory, Sample};
 use state_core::{Env, State};
@@ -85,7 +82,7 @@ impl<'a> Runner<'a> {
             None => Source::Net(self.bound.net(), &env),
         };
         let mut answer = Sample::Int(0);
-        match run_top(
+        match run_in_line(
             self.alloc,
             self.table,
             &from,

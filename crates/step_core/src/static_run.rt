@@ -2,37 +2,14 @@
 
 ghost use Rattle.std.specs.Prelude.{◌≡◌, IfOk};
 ghost use Rattle.sample_core.specs.ValueView.{datum_of};
-ghost use Rattle.state_core.specs.RowsView.{rows_in};
-ghost use Rattle.state_core.specs.StateView.{state_of};
-ghost use Rattle.step_core.specs.Flow.{FlowsThrough, IsFlow, past_in};
-ghost use Rattle.step_core.specs.Outcome.{RunsBy, outcome};
+ghost use Rattle.state_core.specs.{RowsView.rows_in, StateView.state_of};
+ghost use Rattle.step_core.specs.{Flow.FlowsThrough, Flow.IsFlow, Flow.past_in, Outcome.RunsBy, Outcome.outcome};
 
 use crate::flow::{Context, flow};
 use crate::rows::Rows;
 use sample_core::{Memory, Sample};
 use state_core::{Cells, Params, State, StaticNet, StaticParts, StaticState};
 use std::alloc::Global;
-
-/// A sample of a network without switches, called by itself.
-#[inline(never)]
-pub(crate) fn run_apart<'n, R: Rows>(
-    alloc: Global,
-    rows: &R,
-    net: StaticNet<'n>,
-    params: &Params,
-    before: Option<&Cells>,
-    dt: u64,
-    x: &Sample,
-    place: &mut State<'n>,
-    out: &mut Sample,
-) -> Result<u32, Memory>
-    ensures { IfOk result (λ n.
-        RunsBy (R.keys rows.now)
-        (λ w. IsFlow w (rows_in net.entry.net.now) params.now (past_in before.entry dt))
-        (datum_of x.now) (outcome (state_of place.new) (datum_of out.new) n)) }
-{
-    run_static(alloc, rows, net, params, before, dt, x, place, out)
-}
 
 /// A sample of a network without switches.
 #[inline(always)]

@@ -1,6 +1,6 @@
 -- What is known of the next line gives the answer.
 use Rattle.std.proofs.Common.{◌≡◌, ◌≤◌, ◌<◌, ◌+◌, ◌^◌, ℕ, suc, List, [], ◌∷◌, ◌++◌, append-nil, length, take, drop, Option, Some, None, Result, Ok, Err, refl, sym, ap, ◌∙◌, subst, arith, inl, inr}
-use Rattle.std.specs.Prelude.{◌≢◌, ◌⊎◌, IfNone, IfOk, IfSome}
+use Rattle.std.specs.Prelude.{◌≢◌, ◌⊎◌, IfOk, IfSome}
 use Rattle.std.proofs.lemmas.Grind.{common_steps}
 use Rattle.std.specs.Io.KnownBytes.{IsAtEnd}
 use Rattle.std.specs.Option.{option_map, option_copied}
@@ -11,7 +11,8 @@ use Rattle.sample_core.specs.ReadingLaws.{ReadingLaw}
 use Rattle.sample_core.specs.TypeTree.{TypeTree}
 use Rattle.sample_core.specs.ValueView.{datum_of}
 use Rattle.sample_core.specs.declared.sample.Sample.{Sample}
-use Rattle.stream_text.specs.Answers.{ReaderState, SameLast, TakesLine, TakesSample, TakesNext, KnownLine, ended, shown, last, Unfinished, HasFault, IsAnswer, GivesAnswer}
+use Rattle.stream_text.specs.Calls.{MayTakeNext, step_of}
+use Rattle.stream_text.specs.Answers.{ReaderState, SameLast, TakesLine, TakesSample, TakesNext, KnownLine, ended, shown, last, Unfinished, HasFault, IsAnswer, GivesAnswer, GivesStep}
 use Rattle.stream_text.specs.LineTaken.{TakesKept, TakesLast}
 use Rattle.stream_text.specs.Settling.{AsksAsNeeded, IsSettled, SettlesLine, Settles}
 use Rattle.stream_text.specs.StreamText.{IsBefore, line_read}
@@ -264,7 +265,7 @@ last_answered A s s' has has' d y z h e =
 
 -- its step is in range
 pub next_stepped : ReadingLaw → (A : TypeTree) (s s' : ReaderState) (answer : Option ℕ) → IsBefore A s.lines s.before → s.before ≢ None
-    → IfSome answer (λ d. TakesNext A s d s') → IfSome answer (λ d. (1 ≤ d) × (d < 2 ^ 63))
+    → MayTakeNext A s answer s' → IfSome answer (λ d. (1 ≤ d) × (d < 2 ^ 63))
 next_stepped law A s s' None b some h = tt
 next_stepped law A s s' (Some d) b some h = go s.before refl
   where
@@ -275,7 +276,20 @@ next_stepped law A s s' (Some d) b some h = go s.before refl
 
 -- the value that is kept then is one of the type
 pub next_before : ReadingLaw → (A : TypeTree) (s s' : ReaderState) (answer : Option ℕ) → IsBefore A s.lines s.before
-    → IfSome answer (λ d. TakesNext A s d s') → IfNone answer (s' ≡ s) → IsBefore A s'.lines s'.before
-next_before law A s s' None b h same = subst (λ r. IsBefore A r.lines r.before) (sym same) b
-next_before law A s s' (Some d) b h same = subst (IsBefore A s'.lines) (sym h.takes.keeps)
+    → MayTakeNext A s answer s' → IsBefore A s'.lines s'.before
+next_before law A s s' None b same = subst (λ r. IsBefore A r.lines r.before) (sym same) b
+next_before law A s s' (Some d) b h = subst (IsBefore A s'.lines) (sym h.takes.keeps)
     (read_typed law A (suc s.lines) s.lines s.before h.takes.line (d, h.value) b h.takes.reads)
+
+-- an answer is one with the step alone
+step_answers : (A : TypeTree) (s s' : ReaderState) (has has' : Option (List ℕ)) (answer : Result (Option (ℕ × Sample)) StreamFault)
+    → GivesAnswer A s has answer s' has' → GivesStep A s has (step_of answer) s' has'
+step_answers A s s' has has' (Ok (Some x)) h = (x.1, h)
+step_answers A s s' has has' (Ok None) h = h
+step_answers A s s' has has' (Err fault) h = h
+
+-- where nothing was told before, and all was as it was
+pub step_given : (A : TypeTree) (s same s' : ReaderState) (has has' : Option (List ℕ)) (answer : Result (Option (ℕ × Sample)) StreamFault)
+    (step : Result (Option ℕ) StreamFault) → same ≡ s → step ≡ step_of answer → GivesAnswer A same has answer s' has' → GivesStep A s has step s' has'
+step_given A s same s' has has' answer step e q h =
+    subst (λ r. GivesStep A s has r s' has') (sym q) (step_answers A s s' has has' answer (subst (λ t. GivesAnswer A t has answer s' has') e h))

@@ -7,6 +7,7 @@ pub mod StepText
 pub mod StreamView
 pub mod StreamText
 pub mod Answers
+pub mod Calls
 pub mod LineTaken
 pub mod ReaderState
 pub mod LineReaderView

@@ -1,9 +1,7 @@
 // Samples of the lines of a stream's text.
 
 ghost use Rattle.std.specs.Prelude.{◌≡◌, ◌≤◌, IfSome, None, Ok, Some, if◌then◌else◌};
-ghost use Rattle.sample_core.specs.Datum.{Datum};
-ghost use Rattle.sample_core.specs.ValueView.{datum_of};
-ghost use Rattle.sample_core.specs.TypeView.{type_of};
+ghost use Rattle.sample_core.specs.{Datum.Datum, ValueView.datum_of, TypeView.type_of};
 ghost use Rattle.stream_text.specs.StepText.{step_in};
 ghost use Rattle.stream_text.specs.StreamView.{before_view, sample_view, value_behind};
 ghost use Rattle.stream_text.specs.StreamText.{Gives, first_line, later_line, line_read, whole_value};

@@ -1,14 +1,9 @@
 // The samples of a stream, read from any reader.
 
-ghost use Rattle.std.specs.Prelude.{◌≡◌, ◌≤◌, ◌<◌, ◌^◌, IfErr, IfOk, IfSome, None, Some, if◌then◌else◌};
+ghost use Rattle.std.specs.Prelude.{◌≡◌, ◌≤◌, ◌<◌, ◌^◌, IfOk, IfSome, None, Some, if◌then◌else◌};
 ghost use Rattle.std.specs.Option.{option_map};
-ghost use Rattle.sample_core.specs.Datum.{Datum};
-ghost use Rattle.sample_core.specs.HasType.{HasType};
-ghost use Rattle.sample_core.specs.TypeView.{type_of};
-ghost use Rattle.sample_core.specs.ValueView.{datum_of};
-ghost use Rattle.stream_text.specs.Failures.{Rose};
-ghost use Rattle.stream_text.specs.StreamView.{value_behind};
-ghost use Rattle.stream_text.specs.declared.fault.StreamFault.TheVariants as Fault;
+ghost use Rattle.sample_core.specs.{Datum.Datum, HasType.HasType, TypeView.type_of, ValueView.datum_of};
+ghost use Rattle.stream_text.specs.{Calls.FailsBySource, Calls.LastFits, Calls.step_of, StreamView.value_behind};
 
 use crate::device::Device;
 use crate::fault::StreamFault;
@@ -48,11 +43,12 @@ pub struct LineState {
 }
 
 impl LineState {
-    ghost use Rattle.std.specs.Prelude.{◌≡◌, ◌≢◌, ◌≤◌, ◌<◌, ◌^◌, suc, length, IfNone, None, Some};
-    ghost use Rattle.stream_text.specs.Answers.{GivesAnswer, GivesStep, IsFresh, SettlesNext, TakesNext};
+    ghost use Rattle.std.specs.Prelude.{◌≡◌, ◌≢◌, ◌≤◌, ◌<◌, ◌^◌, suc, length, None, Some};
+    ghost use Rattle.stream_text.specs.Answers.{GivesAnswer, GivesStep, IsFresh, SettlesNext};
+    ghost use Rattle.stream_text.specs.Calls.{MayTakeNext};
     ghost use Rattle.stream_text.specs.LineTaken.{TakesKept, TakesLast, KeepsCopy};
     ghost use Rattle.stream_text.specs.ReaderState.{reader_state};
-    ghost use Rattle.stream_text.specs.StreamText.{IsBefore, line_read};
+    ghost use Rattle.stream_text.specs.StreamText.{line_read};
     ghost use Rattle.stream_text.specs.StreamView.{before_view};
     ghost use Rattle.stream_text.specs.TextLines.{IsFirstFeed};
     ghost use Rattle.stream_text.specs.declared.reader.Met.TheVariants as M;
@@ -88,18 +84,15 @@ impl LineState {
         failures: u64,
         ty: &Ty,
     ) -> Result<Option<(u64, Sample)>, StreamFault>
-        requires { IsBefore (type_of ty.now) (reader_state self.old).lines
-            (reader_state self.old).before }
+        requires { LastFits (type_of ty.now) (reader_state self.old) }
         ensures answers { GivesAnswer (type_of ty.now) (reader_state self.old)
             (R.remaining source.old) result (reader_state self.new) (R.remaining source.new) }
-        ensures failed { IfErr result (λ fault. fault ≡ Fault.Read
-            → Rose failures (R.count source.new)) }
+        ensures failed { FailsBySource failures result (R.count source.new) }
         ensures unasked { SettlesNext (reader_state self.old) → source.new ≡ source.old }
         ensures typed { IfOk result (λ o. IfSome o (λ x. HasType (datum_of x.1) (type_of ty.now))) }
         ensures stepped { IfOk result (λ o. IfSome o (λ x. 0 < (reader_state self.old).lines
             → (1 ≤ x.0) × (x.0 < 2 ^ 63))) }
-        ensures before { IsBefore (type_of ty.now) (reader_state self.new).lines
-            (reader_state self.new).before }
+        ensures before { LastFits (type_of ty.now) (reader_state self.new) }
         ensures few { (reader_state self.new).lines ≤ 1000000 }
     {
         // By these laws the sample is of the type.
@@ -121,54 +114,19 @@ impl LineState {
         failures: u64,
         ty: &Ty,
     ) -> Result<Option<u64>, StreamFault>
-        requires { IsBefore (type_of ty.now) (reader_state self.old).lines
-            (reader_state self.old).before }
+        requires { LastFits (type_of ty.now) (reader_state self.old) }
         ensures answers { GivesStep (type_of ty.now) (reader_state self.old)
             (R.remaining source.old) result (reader_state self.new) (R.remaining source.new) }
-        ensures failed { IfErr result (λ fault. fault ≡ Fault.Read
-            → Rose failures (R.count source.new)) }
+        ensures failed { FailsBySource failures result (R.count source.new) }
         ensures unasked { SettlesNext (reader_state self.old) → source.new ≡ source.old }
         ensures stepped { IfOk result (λ o. IfSome o (λ step. 0 < (reader_state self.old).lines
             → (1 ≤ step) × (step < 2 ^ 63))) }
-        ensures before { IsBefore (type_of ty.now) (reader_state self.new).lines
-            (reader_state self.new).before }
+        ensures before { LastFits (type_of ty.now) (reader_state self.new) }
         ensures few { (reader_state self.new).lines ≤ 1000000 }
     {
         match self.next_kept(ty) {
             Some(step) => Ok(Some(step)),
-            None => self.read_step(source, failures, ty),
-        }
-    }
-
-    /// The same in any case.
-    #[inline(never)]
-    fn read_step<R: Read + Device>(
-        &mut self,
-        source: &mut R,
-        failures: u64,
-        ty: &Ty,
-    ) -> Result<Option<u64>, StreamFault>
-        requires { IsBefore (type_of ty.now) (reader_state self.old).lines
-            (reader_state self.old).before }
-        ensures answers { GivesStep (type_of ty.now) (reader_state self.old)
-            (R.remaining source.old) result (reader_state self.new) (R.remaining source.new) }
-        ensures failed { IfErr result (λ fault. fault ≡ Fault.Read
-            → Rose failures (R.count source.new)) }
-        ensures unasked { SettlesNext (reader_state self.old) → source.new ≡ source.old }
-        ensures stepped { IfOk result (λ o. IfSome o (λ step. 0 < (reader_state self.old).lines
-            → (1 ≤ step) × (step < 2 ^ 63))) }
-        ensures before { IsBefore (type_of ty.now) (reader_state self.new).lines
-            (reader_state self.new).before }
-        ensures few { (reader_state self.new).lines ≤ 1000000 }
-    {
-        match self.next(source, failures, ty) {
-            Ok(Some((step, sample))) => {
-                // A copy of it is kept.
-                drop(sample);
-                Ok(Some(step))
-            }
-            Ok(None) => Ok(None),
-            Err(fault) => Err(fault),
+            None => step_alone(self.next(source, failures, ty)),
         }
     }
 
@@ -177,14 +135,11 @@ impl LineState {
     /// leaves it as it is.
     #[inline(always)]
     fn next_kept(&mut self, ty: &Ty) -> Option<u64>
-        requires { IsBefore (type_of ty.now) (reader_state self.old).lines
-            (reader_state self.old).before }
-        ensures taken { IfSome result (λ step. TakesNext (type_of ty.now)
-            (reader_state self.old) step (reader_state self.new)) }
-        ensures none { IfNone result (reader_state self.new ≡ reader_state self.old) }
+        requires { LastFits (type_of ty.now) (reader_state self.old) }
+        ensures taken { MayTakeNext (type_of ty.now) (reader_state self.old) result
+            (reader_state self.new) }
         ensures stepped { IfSome result (λ step. (1 ≤ step) × (step < 2 ^ 63)) }
-        ensures before { IsBefore (type_of ty.now) (reader_state self.new).lines
-            (reader_state self.new).before }
+        ensures before { LastFits (type_of ty.now) (reader_state self.new) }
         ensures few { (reader_state self.new).lines ≤ 1000000 }
     {
         // By these laws the sample is of the type.
@@ -200,9 +155,7 @@ impl LineState {
     fn take_next(&mut self, ty: &Ty) -> Option<u64>
         requires open { self.old.met ≡ M.Nothing }
         requires later { (reader_state self.old).before ≢ None }
-        ensures taken { IfSome result (λ step. TakesNext (type_of ty.now)
-            (reader_state self.old) step (reader_state self.new)) }
-        ensures none { IfNone result (reader_state self.new ≡ reader_state self.old) }
+        ensures { MayTakeNext (type_of ty.now) (reader_state self.old) result (reader_state self.new) }
     {
         match self.kept.near_feed_at() {
             Some(size) => self.take_fed(ty, size),
@@ -215,9 +168,7 @@ impl LineState {
     fn take_far(&mut self, ty: &Ty) -> Option<u64>
         requires open { self.old.met ≡ M.Nothing }
         requires later { (reader_state self.old).before ≢ None }
-        ensures taken { IfSome result (λ step. TakesNext (type_of ty.now)
-            (reader_state self.old) step (reader_state self.new)) }
-        ensures none { IfNone result (reader_state self.new ≡ reader_state self.old) }
+        ensures { MayTakeNext (type_of ty.now) (reader_state self.old) result (reader_state self.new) }
     {
         let size = self.kept.feed_at()?;
         self.take_fed(ty, size)
@@ -229,9 +180,7 @@ impl LineState {
         requires open { self.old.met ≡ M.Nothing }
         requires later { (reader_state self.old).before ≢ None }
         requires feed { IsFirstFeed self.old.kept size }
-        ensures taken { IfSome result (λ step. TakesNext (type_of ty.now)
-            (reader_state self.old) step (reader_state self.new)) }
-        ensures none { IfNone result (reader_state self.new ≡ reader_state self.old) }
+        ensures { MayTakeNext (type_of ty.now) (reader_state self.old) result (reader_state self.new) }
     {
         if self.lines >= MOST_SAMPLES {
             return None;
@@ -258,6 +207,7 @@ impl LineState {
     }
 
     /// The next answer, where nothing has ended the stream.
+    #[inline(never)]
     fn go_on<R: Read + Device>(
         &mut self,
         source: &mut R,
@@ -267,8 +217,7 @@ impl LineState {
         requires { self.old.met ≡ M.Nothing }
         ensures answers { GivesAnswer (type_of ty.now) (reader_state self.old)
             (R.remaining source.old) result (reader_state self.new) (R.remaining source.new) }
-        ensures failed { IfErr result (λ fault. fault ≡ Fault.Read
-            → Rose failures (R.count source.new)) }
+        ensures failed { FailsBySource failures result (R.count source.new) }
         ensures unasked { SettlesNext (reader_state self.old) → source.new ≡ source.old }
     {
         let number = self.lines + 1;
@@ -355,7 +304,6 @@ impl<R: Read + Device + Drop> LineReader<R> {
     ghost use Rattle.std.specs.Prelude.{◌≡◌, ◌≤◌, ◌<◌, ◌^◌};
     ghost use Rattle.stream_text.specs.Answers.{GivesAnswer, IsFresh, SettlesNext};
     ghost use Rattle.stream_text.specs.LineReaderView.{source_of, state_of};
-    ghost use Rattle.stream_text.specs.StreamText.{IsBefore};
 
     /// The stream that the reader gives. `Memory`: there is no room for a line and a piece.
     pub fn new(alloc: Global, source: R) -> Result<LineReader<R>, Memory>
@@ -373,22 +321,38 @@ impl<R: Read + Device + Drop> LineReader<R> {
 
     /// The next sample, as [`LineState::next`] answers it.
     pub fn next(&mut self, ty: &Ty) -> Result<Option<(u64, Sample)>, StreamFault>
-        requires { IsBefore (type_of ty.now) (state_of self.old).lines (state_of self.old).before }
+        requires { LastFits (type_of ty.now) (state_of self.old) }
         ensures answers { GivesAnswer (type_of ty.now) (state_of self.old)
             (R.remaining (source_of self.old)) result (state_of self.new)
             (R.remaining (source_of self.new)) }
-        ensures failed { IfErr result (λ fault. fault ≡ Fault.Read
-            → Rose (R.count (source_of self.old)) (R.count (source_of self.new))) }
+        ensures failed { FailsBySource (R.count (source_of self.old)) result
+            (R.count (source_of self.new)) }
         ensures unasked { SettlesNext (state_of self.old)
             → source_of self.new ≡ source_of self.old }
         ensures typed { IfOk result (λ o. IfSome o (λ x. HasType (datum_of x.1) (type_of ty.now))) }
         ensures stepped { IfOk result (λ o. IfSome o (λ x. 0 < (state_of self.old).lines
             → (1 ≤ x.0) × (x.0 < 2 ^ 63))) }
-        ensures before { IsBefore (type_of ty.now) (state_of self.new).lines
-            (state_of self.new).before }
+        ensures before { LastFits (type_of ty.now) (state_of self.new) }
     {
         let failures = self.source.failures();
         self.state.next(&mut self.source, failures, ty)
+    }
+}
+
+/// The answer with the sample's step alone, where a copy of its value is kept.
+#[inline(never)]
+fn step_alone(
+    answer: Result<Option<(u64, Sample)>, StreamFault>,
+) -> Result<Option<u64>, StreamFault>
+    ensures { result ≡ step_of answer }
+{
+    match answer {
+        Ok(Some((step, sample))) => {
+            drop(sample);
+            Ok(Some(step))
+        }
+        Ok(None) => Ok(None),
+        Err(fault) => Err(fault),
     }
 }
 

@@ -1,9 +1,7 @@
 // Reading on until the next line is known.
 
 ghost use Rattle.std.specs.Prelude.{◌≡◌, ◌≢◌, ◌≤◌, ◌^◌, [], length, IfErr, IfNone, IfSome};
-ghost use Rattle.stream_text.specs.Failures.{Rose};
-ghost use Rattle.stream_text.specs.Pieces.{KeepsPiece};
-ghost use Rattle.stream_text.specs.Settling.{SettlesLine, Settles};
+ghost use Rattle.stream_text.specs.{Failures.Rose, Pieces.KeepsPiece, Settling.SettlesLine, Settling.Settles};
 ghost use Rattle.stream_text.specs.TextLines.{IsFeedFree, front_lines, shows_fault};
 ghost use Rattle.stream_text.specs.declared.fault.StreamFault.TheVariants as Fault;
 ghost use Rattle.stream_text.specs.declared.kept.Piece.TheVariants as P;

@@ -5,8 +5,7 @@ ghost use Rattle.std.specs.Char.{is_ascii_digit};
 ghost use Rattle.std.specs.Option.{option_copied};
 ghost use Rattle.std.specs.List.{prefix_len};
 ghost use Rattle.std.specs.Str.Parse.{digits_value};
-ghost use Rattle.stream_text.specs.StepText.{behind, is_step, step_in};
-ghost use Rattle.stream_text.specs.StreamView.{step_view};
+ghost use Rattle.stream_text.specs.{StepText.behind, StepText.is_step, StepText.step_in, StreamView.step_view};
 
 /// The greatest step, 2^63 - 1.
 const MOST: u64 = 0x7fff_ffff_ffff_ffff;

@@ -6,8 +6,7 @@
 
 ghost use Rattle.std.specs.Prelude.{◌≡◌, [], ◌∷◌, ◌++◌, Contains, IfErr, IfSome, Ok, OnErr, OnOk, length, map};
 ghost use Rattle.sample_core.specs.ValueView.{datum_of};
-ghost use Rattle.leaf_table.specs.Computes.{Computes};
-ghost use Rattle.leaf_table.specs.Rows.{rows_of};
+ghost use Rattle.leaf_table.specs.{Computes.Computes, Rows.rows_of};
 ghost use Rattle.yampa_run.specs.Preparation.{RefusesTable};
 
 use crate::preparation::Refusal;

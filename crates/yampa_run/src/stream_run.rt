@@ -2,19 +2,12 @@
 
 ghost use Rattle.std.specs.Prelude.{◌≡◌, ◌<◌, ◌≤◌, ◌^◌, ℕ, List, Option, [], IfErr, IfOk, OnErr, OnOk, length, string_bytes, take, true};
 ghost use Rattle.std.specs.Io.KnownBytes.{Appends};
-ghost use Rattle.sample_core.specs.HasType.{HasType};
-ghost use Rattle.sample_core.specs.TypeView.{type_of};
-ghost use Rattle.sample_core.specs.ValueView.{datum_of};
+ghost use Rattle.sample_core.specs.{HasType.HasType, TypeView.type_of, ValueView.datum_of};
 ghost use Rattle.leaf_table.specs.Rows.{rows_of};
-ghost use Rattle.step_core.specs.Binding.{FitsTable};
-ghost use Rattle.step_core.specs.RowTyping.{network_by};
-ghost use Rattle.step_core.specs.RunnerState.{StandsFor, network_in};
-ghost use Rattle.step_core.specs.RunnerView.{runner_state};
-ghost use Rattle.stream_text.specs.Failures.{Rose};
-ghost use Rattle.stream_text.specs.Answers.{IsFresh};
-ghost use Rattle.stream_text.specs.ReaderState.{reader_state};
-ghost use Rattle.yampa_run.specs.FaultLines.{EndsRun};
-ghost use Rattle.yampa_run.specs.Output.{line_of_value};
+ghost use Rattle.step_core.specs.{Binding.FitsTable, RowTyping.network_by};
+ghost use Rattle.step_core.specs.{RunnerState.StandsFor, RunnerState.network_in, RunnerView.runner_state};
+ghost use Rattle.stream_text.specs.{Failures.Rose, Answers.IsFresh, ReaderState.reader_state};
+ghost use Rattle.yampa_run.specs.{FaultLines.EndsRun, Output.line_of_value};
 ghost use Rattle.yampa_run.specs.Runs.{Answers, Breaks, BreaksOff, FailsByDevice, RunsToEnd, Stops, run_fault_of, stream_fault_of};
 ghost use Rattle.yampa_run.specs.declared.stream_run.Stop.TheVariants as T;
 
@@ -184,7 +177,7 @@ fn answer<W: Write + Device>(
     };
     match spell(text, &answer) {
         Ok(()) => {
-            let_go(answer);
+            answer.let_go();
             put(writer, failures, text.as_bytes())
         }
         Err(Memory) => {
@@ -192,21 +185,6 @@ fn answer<W: Write + Device>(
             Err(Stop::Memory)
         }
     }
-}
-
-/// Lets a value go. Mostly it is a number, which holds nothing.
-#[inline(always)]
-fn let_go(value: Sample) {
-    match value {
-        Sample::Int(_) => {}
-        value => let_go_on(value),
-    }
-}
-
-/// The same of any value.
-#[inline(never)]
-fn let_go_on(value: Sample) {
-    drop(value);
 }
 
 /// Puts the line of a value into the text, in place of what stands there.

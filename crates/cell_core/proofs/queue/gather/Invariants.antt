@@ -1,16 +1,16 @@
-use Rattle.std.proofs.Common.{◌≡◌, length}
+use Rattle.std.proofs.Common.{◌≡◌, ◌++◌, length, reverse}
 use Rattle.cell_core.specs.Cell.{due}
-use Rattle.cell_core.specs.Queue.{behind, place}
+use Rattle.cell_core.specs.Queue.{behind, place, then_found}
 use Rattle.cell_core.specs.Entries.{entries_of}
-use Rattle.cell_core.specs.Earlier.{back_of}
+use Rattle.cell_core.specs.Earlier.{in_blocks}
 use Rattle.cell_core.specs.Delays.{front_of, through}
-use Rattle.cell_core.proofs.Queues.{then_found}
 use Rattle.cell_core.proofs.queue.gather.Given as goal
 
-abbrev pub invariant-loop-left : goal.invariant-loop-left
-invariant-loop-left l =
-    then_found (due l.dt (place (front_of l.front) 0).1 (behind l.left (back_of l.at))) (entries_of l.entries.items)
-    ≡ through l.front l.newest l.dt
+-- what is found so far, and what is still behind, are all that go through
+abbrev pub invariant-loop-rest : goal.invariant-loop-rest
+invariant-loop-rest l =
+    then_found (due l.dt (place (front_of l.front) 0).1 (behind l.left (reverse (entries_of l.samples) ++ in_blocks l.earlier))) (entries_of l.entries.items)
+    ≡ through l.front l.behind l.dt
 
-abbrev pub decreases-loop-left : goal.decreases-loop-left
-decreases-loop-left l = length l.at.earlier
+abbrev pub decreases-loop-rest : goal.decreases-loop-rest
+decreases-loop-rest l = length l.earlier

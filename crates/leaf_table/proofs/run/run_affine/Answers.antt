@@ -5,11 +5,9 @@ use Rattle.leaf_core.specs.declared.shape.Shape.TheVariants as S
 use Rattle.leaf_table.proofs.Shapes.{by_shape, affine_value}
 use Rattle.leaf_table.proofs.run.run_affine.Goals as goal
 
-pub returns-clause-named : goal.returns-clause-named
-returns-clause-named c =
+pub returns : goal.returns
+returns c =
     let p : c.product.result ≡ int_wrap w64 (c.args.a *ℤ c.number.result) = search rules in
     let s : to_z w64 (of_z w64 c.sum.result) ≡ int_wrap w64 (c.product.result +ℤ c.args.b) = search rules in
-    affine_value c.args.a c.args.b c.number.result c.product.result _ (datum_of c.args.x.now) c.number.ensures p s
-
-pub returns-clause-fact : goal.returns-clause-fact
-returns-clause-fact c = by_shape (S.Affine c.args.a c.args.b) _ _ _ (returns-clause-named c)
+    by_shape (S.Affine c.args.a c.args.b) _ _
+    (affine_value c.args.a c.args.b c.number.result c.product.result _ (datum_of c.args.x.now) c.number.ensures p s)

@@ -1,15 +1,13 @@
-use Rattle.std.proofs.Common.{rules, arith, ◌≡◌, ◌+◌, ◌≢◌, [], ◌∷◌, ◌++◌, suc, None, Some, map, subst, sym, List}
+use Rattle.std.proofs.Common.{rules, arith, ◌≡◌, ◌≢◌, [], ◌∷◌, ◌++◌, None, Some, map, subst, sym, List}
 use Rattle.std.proofs.lemmas.Grind.{common_steps}
-use Rattle.sample_core.specs.TypeTree.{list_ty}
 use Rattle.sample_core.specs.TypeView.{type_of}
 use Rattle.leaf_core.specs.ExpressionView.{expression_of}
 use Rattle.net_syntax.specs.Leaves.{Need}
-use Rattle.net_syntax.specs.Network.{map_network, map_networks}
+use Rattle.net_syntax.specs.Network.{map_network}
 use Rattle.net_syntax.specs.NetworkView.{tree_of}
 use Rattle.net_syntax.specs.NeedView.{need_of}
-use Rattle.net_syntax.specs.Typing.{members}
-use Rattle.net_syntax.specs.LeafWalk.{Adds, find}
-use Rattle.net_syntax.proofs.LeafWalks.{counted, if_ok, joined_copies, listed, par_members, rest_found, rest_named, route_found, routed_adds, slice_adds, still, watch_found, watch_named}
+use Rattle.net_syntax.specs.LeafWalk.{find}
+use Rattle.net_syntax.proofs.LeafWalks.{code_rest_found, code_routed_adds, code_watch_found, if_ok, joined_copies, par_members, route_found, still}
 use Rattle.net_syntax.proofs.needs.+add_leaves.Goals as goal
 
 pub add_resuming-add_continuation-requires : goal.add_resuming-add_continuation-requires
@@ -44,71 +42,33 @@ add_routed-add_behind_route-requires t c = (
 )
 
 pub add_behind_route-add_watch-event-requires : goal.add_behind_route-add_watch-event-requires
-add_behind_route-add_watch-event-requires t c =
-    let fs = map_networks expression_of c.args.fs.now in
-    let e = map_network expression_of c.args.e.now in
-    let next = map_network expression_of c.args.t.now in
-    let A = type_of c.args.input.now in
-    let D = type_of c.args.routed in
-    let B = type_of c.in_ok-output.output in
-    let w = c.args.walk.now in
-    let b = c.add_members.new.walk in
-    let count = c.count_members-count.result in
-    let n : members fs ≡ count = counted c.args.fs.now count c.count_members-count.ensures in
-    let outputs : list_ty B ≡ type_of c.in_ok-outputs.outputs = listed c.in_ok-output.output _ _ c.in_ok-output-2.ensures c.in_ok-outputs.ensures in
-    let added = slice_adds w b c.args.fs.now _ D B c.as_slice.ensures c.in_ok-output.ensures.0 in
-    let watch = watch_named b (suc (members fs)) (1 + count) c.args.e.now _ A _ _ (omega (arith, n)) c.get.ensures outputs in (
-      search rules,
-      subst (λ o. o ≢ None) watch (watch_found w fs e next A D B b added c.in_ok-output.ensures.1 c.requires.typed),
-    )
+add_behind_route-add_watch-event-requires t c = (
+  search rules,
+  code_watch_found c.args.walk.now c.add_members.new.walk c.args.fs.now _ c.args.e.now _ c.args.t.now (type_of c.args.input.now) (type_of c.args.routed)
+      c.in_ok-output.output _ _ c.count_members-count.result c.count_members-count.ensures c.as_slice.ensures c.get.ensures c.in_ok-output-2.ensures
+      c.in_ok-outputs.ensures c.in_ok-output.ensures.0 c.in_ok-output.ensures.1 c.requires.typed,
+)
 
 pub add_behind_route-add_resuming-requires : goal.add_behind_route-add_resuming-requires
-add_behind_route-add_resuming-requires t c =
-    let fs = map_networks expression_of c.args.fs.now in
-    let e = map_network expression_of c.args.e.now in
-    let next = map_network expression_of c.args.t.now in
-    let A = type_of c.args.input.now in
-    let D = type_of c.args.routed in
-    let B = type_of c.in_ok-output.output in
-    let w = c.args.walk.now in
-    let b = c.add_members.new.walk in
-    let d = c.add_watch-event.new.walk in
-    let C = type_of c.in_ok-event.field-0 in
-    let count = c.count_members-count.result in
-    let n : members fs ≡ count = counted c.args.fs.now count c.count_members-count.ensures in
-    let outputs : list_ty B ≡ type_of c.in_ok-outputs.outputs = listed c.in_ok-output.output _ _ c.in_ok-output-2.ensures c.in_ok-outputs.ensures in
-    let added = slice_adds w b c.args.fs.now _ D B c.as_slice.ensures c.in_ok-output.ensures.0 in
-    let watch = watch_named b (suc (members fs)) (1 + count) c.args.e.now _ A _ _ (omega (arith, n)) c.get.ensures outputs in
-    let saw = subst (λ o. Adds o C b d) (sym watch) c.in_ok-event.ensures.0 in
-    let rest = rest_named d C (members fs) count D B (suc (suc (members fs))) (2 + count) c.args.t.now _ A n (omega (arith, n)) c.get-2.ensures in (
-      search rules,
-      subst (λ o. o ≢ None) rest
-          (rest_found w fs e next A D B b added c.in_ok-output.ensures.1 d C saw c.in_ok-event.ensures.1 c.requires.typed),
-    )
+add_behind_route-add_resuming-requires t c = (
+  search rules,
+  code_rest_found c.args.walk.now c.add_members.new.walk c.args.fs.now _ c.args.e.now _ c.args.t.now (type_of c.args.input.now) (type_of c.args.routed)
+      c.in_ok-output.output _ _ c.count_members-count.result c.count_members-count.ensures c.as_slice.ensures c.get.ensures c.in_ok-output-2.ensures
+      c.in_ok-outputs.ensures c.in_ok-output.ensures.0 c.in_ok-output.ensures.1 _ c.get-2.ensures c.add_watch-event.new.walk
+      (type_of c.in_ok-event.field-0) c.in_ok-event.ensures.0 c.in_ok-event.ensures.1 c.requires.typed,
+)
 
 pub add_behind_route-returns : goal.add_behind_route-returns
 add_behind_route-returns t c =
-    let fs = map_networks expression_of c.args.fs.now in
-    let e = map_network expression_of c.args.e.now in
-    let next = map_network expression_of c.args.t.now in
-    let A = type_of c.args.input.now in
-    let D = type_of c.args.routed in
-    let B = type_of c.in_ok-output.output in
     let w = c.args.walk.now in
     let b = c.add_members.new.walk in
     let d = c.add_watch-event.new.walk in
-    let C = type_of c.in_ok-event.field-0 in
-    let count = c.count_members-count.result in
-    let n : members fs ≡ count = counted c.args.fs.now count c.count_members-count.ensures in
-    let outputs : list_ty B ≡ type_of c.in_ok-outputs.outputs = listed c.in_ok-output.output _ _ c.in_ok-output-2.ensures c.in_ok-outputs.ensures in
-    let added = slice_adds w b c.args.fs.now _ D B c.as_slice.ensures c.in_ok-output.ensures.0 in
-    let watch = watch_named b (suc (members fs)) (1 + count) c.args.e.now _ A _ _ (omega (arith, n)) c.get.ensures outputs in
-    let saw = subst (λ o. Adds o C b d) (sym watch) c.in_ok-event.ensures.0 in
-    let rest = rest_named d C (members fs) count D B (suc (suc (members fs))) (2 + count) c.args.t.now _ A n (omega (arith, n)) c.get-2.ensures in
     let last = c.add_resuming.new.walk in
     if_ok c.add_resuming.result _ _
     (λ o h. (
-      routed_adds w fs e next A D B b added c.in_ok-output.ensures.1 d C saw c.in_ok-event.ensures.1 (type_of o) last
-          (subst (λ f. Adds f (type_of o) d last) (sym rest) h.0),
+      code_routed_adds w b c.args.fs.now _ c.args.e.now _ c.args.t.now (type_of c.args.input.now) (type_of c.args.routed) c.in_ok-output.output _ _
+          c.count_members-count.result c.count_members-count.ensures c.as_slice.ensures c.get.ensures c.in_ok-output-2.ensures c.in_ok-outputs.ensures
+          c.in_ok-output.ensures.0 c.in_ok-output.ensures.1 _ c.get-2.ensures d (type_of c.in_ok-event.field-0) c.in_ok-event.ensures.0
+          c.in_ok-event.ensures.1 (type_of o) last h.0,
       still w d last (still w b d c.in_ok-output.ensures.1 c.in_ok-event.ensures.1) h.1,
     )) c.add_resuming.ensures

@@ -18,9 +18,6 @@ decreases-add_resuming l = 8 * network_size (network_of l.t.now) + 3
 abbrev pub decreases-add_watch : goal.decreases-add_watch
 decreases-add_watch l = 8 * network_size (network_of l.e.now) + 2
 
-abbrev pub decreases-add_seq : goal.decreases-add_seq
-decreases-add_seq l = 8 * (network_size l.f.now + network_size l.g.now) + 4
-
 abbrev pub decreases-add_first : goal.decreases-add_first
 decreases-add_first l = 8 * network_size l.f.now + 4
 
@@ -36,14 +33,8 @@ decreases-add_members l = 8 * networks_size (members_of l.fs.now) + 2
 abbrev pub decreases-add_others : goal.decreases-add_others
 decreases-add_others l = 8 * networks_size (members_of l.fs.now) + 2
 
-abbrev pub decreases-add_switch : goal.decreases-add_switch
-decreases-add_switch l = 8 * (network_size l.f.now + network_size l.t.now) + 4
-
 abbrev pub decreases-add_restart : goal.decreases-add_restart
 decreases-add_restart l = 8 * (network_size l.f.now + network_size l.t.now) + 4
-
-abbrev pub decreases-add_freeze : goal.decreases-add_freeze
-decreases-add_freeze l = 8 * (network_size l.f.now + network_size l.e.now + network_size l.t.now) + 4
 
 abbrev pub decreases-add_behind_route : goal.decreases-add_behind_route
 decreases-add_behind_route l = 8 * (networks_size l.fs.now + network_size l.e.now + network_size l.t.now) + 4

@@ -7,143 +7,20 @@ use Rattle.leaf_core.specs.ExpressionView.{expression_of}
 use Rattle.leaf_expr.specs.Grammar.{expression_sort}
 use Rattle.leaf_expr.specs.Language.{no_place, places}
 use Rattle.leaf_expr.specs.Token.{tokens_from}
-use Rattle.leaf_expr.proofs.FrontSteps.{in_form, in_word, front_refused}
-use Rattle.leaf_expr.proofs.ItemSteps.{done, more, gone}
+use Rattle.leaf_expr.proofs.FrontSteps.{in_form, in_word}
+use Rattle.leaf_expr.proofs.ItemSteps.{more}
 use Rattle.leaf_expr.proofs.ReadCounts.{read_shortens}
-use Rattle.leaf_expr.proofs.ReadSteps.{given, made, told, told_memory}
-use Rattle.leaf_expr.proofs.PartSteps.{named, unnamed, headless, part, no_part, ended, no_end, parts_made, parts_refused}
-use Rattle.net_syntax.specs.Network.{Network, Networks, networks_of, loop_pre, par, k_switch, p_switch, map_network, map_networks}
+use Rattle.leaf_expr.proofs.ReadSteps.{given, made, told}
+use Rattle.leaf_expr.proofs.PartSteps.{named, unnamed, parts_made, parts_refused}
+use Rattle.net_syntax.specs.Network.{Network, Networks, networks_of, loop_pre, par, p_switch, map_network, map_networks}
 use Rattle.leaf_core.specs.Expression.{Expression}
 use Rattle.net_syntax.specs.NetworkView.{tree_of}
-use Rattle.net_text.specs.Form.{form_row, unary_of, binary_of}
 use Rattle.net_text.specs.Grammar.{networks, network_sort, members_sort, row, f, col}
 use Rattle.net_text.proofs.ReadSteps.{col_named, col_unnamed, col_no_word, leaf_part, no_leaf, members_are, read_behind, refused_behind}
 use Rattle.net_text.proofs.network_reader.+network.Goals as goal
 
-pub network_at-returns-in_err-start : goal.network_at-returns-in_err-start
-network_at-returns-in_err-start t c =
-    told _ _ _ _ c.from_residual.ensures.1 (front_refused networks _ _ _ network_sort _ c.in_err-start.ensures.front)
-
 pub network_at-returns-in-Form : goal.network_at-returns-in-Form
 network_at-returns-in-Form t c = in_form networks network_sort _ _ _ _ _ refl c.in-Form.is c.in_ok-start.ensures.front c.form_at.ensures
-
-pub network_at-returns-in-Word : goal.network_at-returns-in-Word
-network_at-returns-in-Word t c = in_word networks network_sort _ _ _ _ _ c.in-Word.is c.in_ok-start.ensures.front c.word_network.ensures
-
-pub form_at-returns-in_err-start : goal.form_at-returns-in_err-start
-form_at-returns-in_err-start t c = told _ _ _ _ c.from_residual.ensures.1 (headless networks _ _ _ _ network_sort _ c.in_err-start.ensures.head)
-
-pub form_at-returns-in-Some : goal.form_at-returns-in-Some
-form_at-returns-in-Some t c =
-    given _ _ (named networks _ _ _ network_sort _ (form_row c.in-Some.form) c.in_ok-start.ensures.head c.in-Some.ensures) c.parts_at.ensures
-
-pub form_at-returns-in-None : goal.form_at-returns-in-None
-form_at-returns-in-None t c = λ m. unnamed networks _ _ _ network_sort _ c.in_ok-start.ensures.head c.in-None.ensures
-
-pub child_at-returns-in_err-net : goal.child_at-returns-in_err-net
-child_at-returns-in_err-net t c = told _ _ _ _ c.from_residual.ensures.1 c.in_err-net.ensures
-
-pub child_at-returns-in_err-child : goal.child_at-returns-in_err-child
-child_at-returns-in_err-child t c = told_memory _ _ _ c.from_residual-in_err-child.ensures.1
-
-pub child_at-returns : goal.child_at-returns
-child_at-returns t c = made _ c.in_ok-net.ensures (ap (map_network expression_of) c.in_ok-child.ensures)
-
-pub last_child_at-returns-in_err-child : goal.last_child_at-returns-in_err-child
-last_child_at-returns-in_err-child t c =
-    told _ _ _ _ c.from_residual.ensures.1 (no_part networks _ _ network_sort _ no_place (λ g. g) _ c.in_err-child.ensures)
-
-pub last_child_at-returns-in_err-end : goal.last_child_at-returns-in_err-end
-last_child_at-returns-in_err-end t c =
-    given _ _ (part networks _ _ {R = Network Expression} network_sort no_place (λ g. g) _ c.in_ok-child.ensures)
-    (told _ _ _ _ c.from_residual-in_err-end.ensures.1 (no_end networks _ _ _ _ _ c.in_err-end.ensures))
-
-pub last_child_at-returns : goal.last_child_at-returns
-last_child_at-returns t c =
-    part networks _ _ {R = Network Expression} network_sort no_place (λ g. g) _ c.in_ok-child.ensures ∙ ended networks _ _ _ _ c.in_ok-end.ensures
-
--- two networks
-abbrev Two : Type 0
-Two = Network Expression × Network Expression
-
--- members and two networks
-abbrev Three : Type 0
-Three = Networks Expression × Network Expression × Network Expression
-
-pub last_two_at-returns-in_err-g : goal.last_two_at-returns-in_err-g
-last_two_at-returns-in_err-g t c =
-    told _ _ _ _ c.from_residual.ensures.1 (no_part networks _ _ {R = Two} network_sort _ (f no_place) (λ g h. (g, h)) _ c.in_err-g.ensures)
-
-pub last_two_at-returns-in_err-h : goal.last_two_at-returns-in_err-h
-last_two_at-returns-in_err-h t c =
-    let g = map_network expression_of c.in_ok-g.g in
-    given _ _ (part networks _ _ {R = Two} network_sort (f no_place) (λ g h. (g, h)) _ c.in_ok-g.ensures)
-    (told _ _ _ _ c.from_residual-in_err-h.ensures.1
-    (parts_refused networks _ _ {Q = Two} (λ h. (g, h)) _ (f no_place) (λ h. h) _ c.in_err-h.ensures))
-
-pub last_two_at-returns : goal.last_two_at-returns
-last_two_at-returns t c =
-    let g = map_network expression_of c.in_ok-g.g in
-    part networks _ _ {R = Two} network_sort (f no_place) (λ g h. (g, h)) _ c.in_ok-g.ensures
-    ∙ parts_made networks _ _ {Q = Two} (λ h. (g, h)) (f no_place) (λ h. h) _ c.in_ok-h.ensures
-
-pub last_three_at-returns-in_err-all : goal.last_three_at-returns-in_err-all
-last_three_at-returns-in_err-all t c =
-    told _ _ _ _ c.from_residual.ensures.1
-    (no_part networks _ _ {R = Three} members_sort _ (f (f no_place)) (λ fs g h. (fs, g, h)) _ c.in_err-all.ensures)
-
-pub last_three_at-returns-in_err-g : goal.last_three_at-returns-in_err-g
-last_three_at-returns-in_err-g t c =
-    let fs = map_networks expression_of c.in_ok-all.all in
-    given _ _ (part networks _ _ {R = Three} members_sort (f (f no_place)) (λ fs g h. (fs, g, h)) _ c.in_ok-all.ensures)
-    (told _ _ _ _ c.from_residual-in_err-g.ensures.1
-    (parts_refused networks _ _ {R = Two} {Q = Three} (λ p. (fs, p.0, p.1)) _ (f (f no_place)) (λ g h. (g, h)) _ c.in_err-g.ensures))
-
-pub last_three_at-returns : goal.last_three_at-returns
-last_three_at-returns t c =
-    let fs = map_networks expression_of c.in_ok-all.all in
-    part networks _ _ {R = Three} members_sort (f (f no_place)) (λ fs g h. (fs, g, h)) _ c.in_ok-all.ensures
-    ∙ parts_made networks _ _ {R = Two} {Q = Three} (λ p. (fs, p.0, p.1)) (f (f no_place)) (λ g h. (g, h)) _ c.in_ok-g.ensures
-
-pub unary_at-returns-in_err-g : goal.unary_at-returns-in_err-g
-unary_at-returns-in_err-g t c =
-    told _ _ _ _ c.from_residual.ensures.1 (parts_refused networks _ _ (unary_of c.args.form) _ (f no_place) (λ g. g) _ c.in_err-g.ensures)
-
-pub unary_at-returns-in_err-net : goal.unary_at-returns-in_err-net
-unary_at-returns-in_err-net t c = told_memory _ _ _ c.from_residual-in_err-net.ensures.1
-
-pub unary_at-returns : goal.unary_at-returns
-unary_at-returns t c = made _ (parts_made networks _ _ (unary_of c.args.form) (f no_place) (λ g. g) _ c.in_ok-g.ensures) c.in_ok-net.ensures
-
-pub binary_at-returns-in_err-g : goal.binary_at-returns-in_err-g
-binary_at-returns-in_err-g t c =
-    told _ _ _ _ c.from_residual.ensures.1
-    (parts_refused networks _ _ {R = Two} (λ p. binary_of c.args.form p.0 p.1) _ (f (f no_place)) (λ g h. (g, h)) _ c.in_err-g.ensures)
-
-pub binary_at-returns-in_err-net : goal.binary_at-returns-in_err-net
-binary_at-returns-in_err-net t c = told_memory _ _ _ c.from_residual-in_err-net.ensures.1
-
-pub binary_at-returns : goal.binary_at-returns
-binary_at-returns t c =
-    made _ (parts_made networks _ _ {R = Two} (λ p. binary_of c.args.form p.0 p.1) (f (f no_place)) (λ g h. (g, h)) _ c.in_ok-g.ensures)
-    c.in_ok-net.ensures
-
-pub k_switch_at-returns-in_err-g : goal.k_switch_at-returns-in_err-g
-k_switch_at-returns-in_err-g t c =
-    told _ _ _ _ c.from_residual.ensures.1 (no_part networks _ _ network_sort _ (f (f no_place)) k_switch _ c.in_err-g.ensures)
-
-pub k_switch_at-returns-in_err-test : goal.k_switch_at-returns-in_err-test
-k_switch_at-returns-in_err-test t c =
-    let g = map_network expression_of c.in_ok-g.g in
-    given _ _ (part networks _ _ network_sort (f (f no_place)) k_switch _ c.in_ok-g.ensures)
-    (told _ _ _ _ c.from_residual-in_err-test.ensures.1
-    (parts_refused networks _ _ {R = Two} (λ p. k_switch g p.0 p.1) _ (f (f no_place)) (λ g h. (g, h)) _ c.in_err-test.ensures))
-
-pub k_switch_at-returns : goal.k_switch_at-returns
-k_switch_at-returns t c =
-    let g = map_network expression_of c.in_ok-g.g in
-    part networks _ _ network_sort (f (f no_place)) k_switch _ c.in_ok-g.ensures
-    ∙ parts_made networks _ _ {R = Two} (λ p. k_switch g p.0 p.1) (f (f no_place)) (λ g h. (g, h)) _ c.in_ok-test.ensures
 
 pub loop_at-returns-in_err-c : goal.loop_at-returns-in_err-c
 loop_at-returns-in_err-c t c = told _ _ _ _ c.from_residual.ensures.1 (no_leaf _ _ expression_sort _ (f no_place) loop_pre _ c.in_err-c.ensures)
@@ -170,6 +47,10 @@ par_at-returns-in_err-all t c =
 pub par_at-returns : goal.par_at-returns
 par_at-returns t c = parts_made networks _ _ par (places network_sort) networks_of _ c.in_ok-all.ensures
 
+-- members and two networks
+abbrev Three : Type 0
+Three = Networks Expression × Network Expression × Network Expression
+
 pub p_switch_at-returns-in_err-r : goal.p_switch_at-returns-in_err-r
 p_switch_at-returns-in_err-r t c =
     told _ _ _ _ c.from_residual.ensures.1 (no_leaf _ _ expression_sort _ (col (f (f no_place))) p_switch _ c.in_err-r.ensures)
@@ -193,10 +74,6 @@ p_switch_at-returns t c =
     ∙ parts_made networks _ _ {R = Three} (λ p. p_switch r p.0 p.1 p.2) (col (f (f no_place))) (λ fs g h. (fs, g, h)) _
     (read_behind _ _ c.in_ok-r-2.ensures.1 c.last_three_at.ensures)) (ap (λ e. p_switch (expression_of e) fs g h) c.in_ok-r-2.ensures.0)
 
-pub col_at-returns-in_err-start : goal.col_at-returns-in_err-start
-col_at-returns-in_err-start t c =
-    told _ _ _ _ c.from_residual.ensures.1 (front_refused networks _ _ _ members_sort _ c.in_err-start.ensures.front)
-
 pub col_at-returns-in-Form : goal.col_at-returns-in-Form
 col_at-returns-in-Form t c = in_form networks members_sort _ _ _ _ _ refl c.in-Form.is c.in_ok-start.ensures.front c.col_form_at.ensures
 
@@ -204,9 +81,6 @@ pub col_at-returns-in-Word : goal.col_at-returns-in-Word
 col_at-returns-in-Word t c =
     in_word networks members_sort (members_left c.args.text.now) (Err (E.Syntax c.in-Word.start)) c.args.text.now c.args.room c.args.at c.in-Word.is
     c.in_ok-start.ensures.front (λ m. col_no_word _ _ _)
-
-pub col_form_at-returns-in_err-start : goal.col_form_at-returns-in_err-start
-col_form_at-returns-in_err-start t c = told _ _ _ _ c.from_residual.ensures.1 (headless networks _ _ _ _ members_sort _ c.in_err-start.ensures.head)
 
 pub col_form_at-returns-then-word_is : goal.col_form_at-returns-then-word_is
 col_form_at-returns-then-word_is t c =
@@ -223,9 +97,6 @@ members_at-returns-in_err-all t c =
     told _ _ _ _ c.from_residual.ensures.1
     (parts_refused networks _ _ networks_of _ (places network_sort) (λ fs. fs) _ c.in_err-all.ensures)
 
-pub members_at-returns-in_err-members : goal.members_at-returns-in_err-members
-members_at-returns-in_err-members t c = told_memory _ _ _ c.from_residual-in_err-members.ensures.1
-
 pub members_at-returns : goal.members_at-returns
 members_at-returns t c =
     made _ (parts_made networks _ _ networks_of (places network_sort) (λ fs. fs) _ c.in_ok-all.ensures)
@@ -234,12 +105,6 @@ members_at-returns t c =
 pub networks_at-loop-end-smaller : goal.networks_at-loop-end-smaller
 networks_at-loop-end-smaller t c = read_shortens networks (length c.args.text.now) c.args.room network_sort _ _ c.in_ok-net.ensures
 
-pub networks_at-returns-in-Some : goal.networks_at-returns-in-Some
-networks_at-returns-in-Some t c =
-    let text = c.args.text.now in
-    done networks network_sort (length text) c.args.room c.in-Some.end (map tree_of c.loop-end.all.items) (tokens_from c.loop-end.next text)
-    (tokens_from c.in-Some.end text) _ c.loop-end.invariant c.in-Some.ensures.behind c.in-Some.ensures.token
-
 pub networks_at-loop-end-preserved : goal.networks_at-loop-end-preserved
 networks_at-loop-end-preserved t c =
     let p = c.in_ok-push.ensures.items in
@@ -247,14 +112,6 @@ networks_at-loop-end-preserved t c =
     more networks network_sort (length c.args.text.now) c.args.room c.in_ok-net.behind (map tree_of c.loop-end.all.items)
     (map tree_of c.push.new.self.items) (tree_of c.in_ok-net.net) (tokens_from c.loop-end.next c.args.text.now)
     (tokens_from c.in_ok-net.behind c.args.text.now) _ c.loop-end.invariant c.in_default.ensures.token c.in_ok-net.ensures m
-
-pub networks_at-returns-in_err-net : goal.networks_at-returns-in_err-net
-networks_at-returns-in_err-net t c =
-    told _ _ _ _ c.from_residual.ensures.1
-    (gone networks network_sort _ _ (map tree_of c.loop-end.all.items) _ _ _ c.loop-end.invariant c.in_default.ensures.token c.in_err-net.ensures)
-
-pub networks_at-returns-in_err-push : goal.networks_at-returns-in_err-push
-networks_at-returns-in_err-push t c = told_memory _ _ _ c.from_residual-in_err-push.ensures.1
 
 pub parts_at-returns-in-Leaf : goal.parts_at-returns-in-Leaf
 parts_at-returns-in-Leaf t c = rw c.in-Leaf.is c.leaf_form_at.ensures

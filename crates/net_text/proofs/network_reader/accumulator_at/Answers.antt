@@ -2,7 +2,7 @@ use Rattle.std.proofs.Common.{ap, ◌∙◌}
 use Rattle.leaf_core.specs.ExpressionView.{expression_of}
 use Rattle.leaf_expr.specs.Grammar.{expression_sort}
 use Rattle.leaf_expr.specs.Language.{no_place}
-use Rattle.leaf_expr.proofs.ReadSteps.{told, told_memory, made}
+use Rattle.leaf_expr.proofs.ReadSteps.{told, made}
 use Rattle.leaf_expr.proofs.PartSteps.{parts_made, parts_refused}
 use Rattle.net_text.specs.Form.{accumulator_of}
 use Rattle.net_text.specs.Grammar.{networks, e}
@@ -20,13 +20,10 @@ returns-in_err-g-2 c =
     ∙ parts_refused networks _ _ (accumulator_of c.args.form (expression_of c.in_ok-g.g)) _ (e no_place) (λ x. x) _
     (refused_behind _ _ c.in_err-g-2.ensures c.last_expr_at.ensures) m)
 
-pub returns-in_err-net : goal.returns-in_err-net
-returns-in_err-net c = told_memory _ _ _ c.from_residual-in_err-net.ensures.1
-
 pub returns : goal.returns
 returns c =
     made _
     (leaf_part _ _ expression_sort (e no_place) (accumulator_of c.args.form) _ c.in_ok-g.ensures
     ∙ parts_made networks _ _ (accumulator_of c.args.form (expression_of c.in_ok-g.g)) (e no_place) (λ x. x) _
     (read_behind _ _ c.in_ok-g-2.ensures.1 c.last_expr_at.ensures))
-    (c.in_ok-net.ensures ∙ ap (λ g. accumulator_of c.args.form (expression_of g) (expression_of c.in_ok-g-2.z)) c.in_ok-g-2.ensures.0)
+    (c.in_ok-of.ensures ∙ ap (λ g. accumulator_of c.args.form (expression_of g) (expression_of c.in_ok-g-2.z)) c.in_ok-g-2.ensures.0)

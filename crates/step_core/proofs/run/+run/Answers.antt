@@ -16,94 +16,97 @@ use Rattle.step_core.proofs.RunJoins.{if_ok, fires_by, stays, seq_joined, first_
 use Rattle.step_core.proofs.RunMembers.{none_run, also_run, all_from_none, member_ran, next_number, par_joined, p_switch_kept, p_switch_over}
 use Rattle.step_core.proofs.run.+run.Goals as goal
 
-pub run-run_seq-requires : goal.run-run_seq-requires
-run-run_seq-requires g t c κs within =
+pub run_parts-run_seq-requires : goal.run_parts-run_seq-requires
+run_parts-run_seq-requires g t c κs within =
     let h : SeqBy (source_of c.args.from.now c.args.dt) (source_of c.in-Seq.f c.args.dt) (source_of c.in-Seq.g c.args.dt) = c.in-Seq.ensures c.args.dt in
     (omega (arith, c.decreases, seq_within _ _ _ h), search rules)
 
-pub run-returns-in-Seq : goal.run-returns-in-Seq
-run-returns-in-Seq g t c = if_ok c.run_seq.result _ _ (λ r h. h _ (c.in-Seq.ensures c.args.dt)) c.run_seq.ensures
+pub run_parts-returns-in-Seq : goal.run_parts-returns-in-Seq
+run_parts-returns-in-Seq g t c = if_ok c.run_seq.result _ _ (λ r h. h _ (c.in-Seq.ensures c.args.dt)) c.run_seq.ensures
 
-pub run-run_first-requires : goal.run-run_first-requires
-run-run_first-requires g t c κs within =
+pub run_parts-run_first-requires : goal.run_parts-run_first-requires
+run_parts-run_first-requires g t c κs within =
     let h : FirstBy (source_of c.args.from.now c.args.dt) (source_of c.in-First.f c.args.dt) = c.in-First.ensures c.args.dt in
     (omega (arith, c.decreases, first_falls _ _ h), search rules)
 
-pub run-returns-in-First : goal.run-returns-in-First
-run-returns-in-First g t c = if_ok c.run_first.result _ _ (λ r h. h _ (c.in-First.ensures c.args.dt)) c.run_first.ensures
+pub run_parts-returns-in-First : goal.run_parts-returns-in-First
+run_parts-returns-in-First g t c = if_ok c.run_first.result _ _ (λ r h. h _ (c.in-First.ensures c.args.dt)) c.run_first.ensures
 
-pub run-run_par-requires : goal.run-run_par-requires
-run-run_par-requires g t c κs within =
+pub run_parts-run_par-requires : goal.run_parts-run_par-requires
+run_parts-run_par-requires g t c κs within =
     let h : ParBy (source_of c.args.from.now c.args.dt) (sources_of c.in-Par.fs c.args.dt) = c.in-Par.ensures c.args.dt in
     (omega (arith, c.decreases, par_falls _ _ h), search rules)
 
-pub run-returns-in-Par : goal.run-returns-in-Par
-run-returns-in-Par g t c = if_ok c.run_par.result _ _ (λ r h. h _ (c.in-Par.ensures c.args.dt)) c.run_par.ensures
+pub run_parts-returns-in-Par : goal.run_parts-returns-in-Par
+run_parts-returns-in-Par g t c = if_ok c.run_par.result _ _ (λ r h. h _ (c.in-Par.ensures c.args.dt)) c.run_par.ensures
 
-pub run-run_loop-requires : goal.run-run_loop-requires
-run-run_loop-requires g t c κs within =
+pub run_parts-run_loop-requires : goal.run_parts-run_loop-requires
+run_parts-run_loop-requires g t c κs within =
     let h : (keys : List KeyTree) (u : Datum) → IsFed keys c.in-LoopPre.back u
     → LoopBy keys (source_of c.args.from.now c.args.dt) u (source_of c.in-LoopPre.f c.args.dt) = c.in-LoopPre.ensures c.args.dt in
     (omega (arith, c.decreases, loop_falls _ c.in-LoopPre.back _ h), search rules)
 
-pub run-returns-in-LoopPre : goal.run-returns-in-LoopPre
-run-returns-in-LoopPre g t c = if_ok c.run_loop.result _ _ (λ r h. h _ (c.in-LoopPre.ensures c.args.dt)) c.run_loop.ensures
+pub run_parts-returns-in-LoopPre : goal.run_parts-returns-in-LoopPre
+run_parts-returns-in-LoopPre g t c = if_ok c.run_loop.result _ _ (λ r h. h _ (c.in-LoopPre.ensures c.args.dt)) c.run_loop.ensures
 
-pub run-run_switch-requires : goal.run-run_switch-requires
-run-run_switch-requires g t c κs within =
+pub run_parts-run_switch-requires : goal.run_parts-run_switch-requires
+run_parts-run_switch-requires g t c κs within =
     let h : SwitchBy (source_of c.args.from.now c.args.dt) (source_of c.in-Switch.f c.args.dt) (rows_in c.in-Switch.t.now) (scope_of c.in-Switch.env.now) =
     c.in-Switch.ensures c.args.dt in
     (omega (arith, c.decreases, switch_within _ _ _ _ h), search rules)
 
-pub run-returns-in-Switch : goal.run-returns-in-Switch
-run-returns-in-Switch g t c = if_ok c.run_switch.result _ _ (λ r h. h _ (c.in-Switch.ensures c.args.dt)) c.run_switch.ensures
+pub run_parts-returns-in-Switch : goal.run_parts-returns-in-Switch
+run_parts-returns-in-Switch g t c = if_ok c.run_switch.result _ _ (λ r h. h _ (c.in-Switch.ensures c.args.dt)) c.run_switch.ensures
 
-pub run-run_d_switch-requires : goal.run-run_d_switch-requires
-run-run_d_switch-requires g t c κs within =
+pub run_parts-run_d_switch-requires : goal.run_parts-run_d_switch-requires
+run_parts-run_d_switch-requires g t c κs within =
     let h : DSwitchBy (source_of c.args.from.now c.args.dt) (source_of c.in-DSwitch.f c.args.dt) (rows_in c.in-DSwitch.t.now) (scope_of c.in-DSwitch.env.now) =
     c.in-DSwitch.ensures c.args.dt in
     (omega (arith, c.decreases, d_switch_within _ _ _ _ h), search rules)
 
-pub run-returns-in-DSwitch : goal.run-returns-in-DSwitch
-run-returns-in-DSwitch g t c = if_ok c.run_d_switch.result _ _ (λ r h. h _ (c.in-DSwitch.ensures c.args.dt)) c.run_d_switch.ensures
+pub run_parts-returns-in-DSwitch : goal.run_parts-returns-in-DSwitch
+run_parts-returns-in-DSwitch g t c = if_ok c.run_d_switch.result _ _ (λ r h. h _ (c.in-DSwitch.ensures c.args.dt)) c.run_d_switch.ensures
 
-pub run-run_r_switch-requires : goal.run-run_r_switch-requires
-run-run_r_switch-requires g t c κs within =
+pub run_parts-run_r_switch-requires : goal.run_parts-run_r_switch-requires
+run_parts-run_r_switch-requires g t c κs within =
     let h : RSwitchBy (source_of c.args.from.now c.args.dt) (source_of c.in-RSwitch.f c.args.dt) (rows_in c.in-RSwitch.t.now) (scope_of c.in-RSwitch.env.now) =
     c.in-RSwitch.ensures c.args.dt in
     (omega (arith, c.decreases, r_switch_within _ _ _ _ h), search rules)
 
-pub run-returns-in-RSwitch : goal.run-returns-in-RSwitch
-run-returns-in-RSwitch g t c = if_ok c.run_r_switch.result _ _ (λ r h. h _ (c.in-RSwitch.ensures c.args.dt)) c.run_r_switch.ensures
+pub run_parts-returns-in-RSwitch : goal.run_parts-returns-in-RSwitch
+run_parts-returns-in-RSwitch g t c = if_ok c.run_r_switch.result _ _ (λ r h. h _ (c.in-RSwitch.ensures c.args.dt)) c.run_r_switch.ensures
 
-pub run-run_k_switch-requires : goal.run-run_k_switch-requires
-run-run_k_switch-requires g t c κs within =
+pub run_parts-run_k_switch-requires : goal.run_parts-run_k_switch-requires
+run_parts-run_k_switch-requires g t c κs within =
     let h : KSwitchBy (source_of c.args.from.now c.args.dt) (source_of c.in-KSwitch.f c.args.dt) (source_of c.in-KSwitch.e c.args.dt) (rows_in c.in-KSwitch.t.now)
     (scope_of c.in-KSwitch.env.now) = c.in-KSwitch.ensures c.args.dt in
     (omega (arith, c.decreases, k_switch_within _ _ _ _ _ h), search rules)
 
-pub run-returns-in-KSwitch : goal.run-returns-in-KSwitch
-run-returns-in-KSwitch g t c = if_ok c.run_k_switch.result _ _ (λ r h. h _ (c.in-KSwitch.ensures c.args.dt)) c.run_k_switch.ensures
+pub run_parts-returns-in-KSwitch : goal.run_parts-returns-in-KSwitch
+run_parts-returns-in-KSwitch g t c = if_ok c.run_k_switch.result _ _ (λ r h. h _ (c.in-KSwitch.ensures c.args.dt)) c.run_k_switch.ensures
 
-pub run-run_p_switch-requires : goal.run-run_p_switch-requires
-run-run_p_switch-requires g t c κs within =
+pub run_parts-run_p_switch-requires : goal.run_parts-run_p_switch-requires
+run_parts-run_p_switch-requires g t c κs within =
     let h : PSwitchBy (source_of c.args.from.now c.args.dt) (row_number c.in-PSwitch.r) (sources_of c.in-PSwitch.fs c.args.dt) (source_of c.in-PSwitch.e c.args.dt)
     (rows_in c.in-PSwitch.t.now) (scope_of c.in-PSwitch.env.now) = c.in-PSwitch.ensures c.args.dt in
     (omega (arith, c.decreases, p_switch_within _ _ _ _ _ _ h), search rules)
 
-pub run-returns-in-PSwitch : goal.run-returns-in-PSwitch
-run-returns-in-PSwitch g t c = if_ok c.run_p_switch.result _ _ (λ r h. h _ (c.in-PSwitch.ensures c.args.dt)) c.run_p_switch.ensures
+pub run_parts-returns-in-PSwitch : goal.run_parts-returns-in-PSwitch
+run_parts-returns-in-PSwitch g t c = if_ok c.run_p_switch.result _ _ (λ r h. h _ (c.in-PSwitch.ensures c.args.dt)) c.run_p_switch.ensures
 
-pub run-run_old-requires : goal.run-run_old-requires
-run-run_old-requires g t c κs within =
+pub run_parts-run_old-requires : goal.run_parts-run_old-requires
+run_parts-run_old-requires g t c κs within =
     let h : OldBy (source_of c.args.from.now c.args.dt) (source_of c.in-Old.frozen c.in-Old.step) = c.in-Old.ensures c.args.dt in
     (omega (arith, c.decreases, old_falls _ _ h), search rules)
 
-pub run-returns-in-Old : goal.run-returns-in-Old
-run-returns-in-Old g t c = if_ok c.run_old.result _ _ (λ r h. h _ (c.in-Old.ensures c.args.dt)) c.run_old.ensures
+pub run_parts-returns-in-Old : goal.run_parts-returns-in-Old
+run_parts-returns-in-Old g t c = if_ok c.run_old.result _ _ (λ r h. h _ (c.in-Old.ensures c.args.dt)) c.run_old.ensures
 
-pub run-returns-in-Static : goal.run-returns-in-Static
-run-returns-in-Static g t c = if_ok c.run_apart.result _ _ (λ r h. h _ (c.in-Static.ensures c.args.dt)) c.run_apart.ensures
+pub run_parts-returns-in-Static : goal.run_parts-returns-in-Static
+run_parts-returns-in-Static g t c = if_ok c.run_static.result _ _ (λ r h. h _ (c.in-Static.ensures c.args.dt)) c.run_static.ensures
+
+pub run_in_line-returns-in-Static : goal.run_in_line-returns-in-Static
+run_in_line-returns-in-Static g t c = if_ok c.run_static.result _ _ (λ r h. h _ (c.in-Static.ensures c.args.dt)) c.run_static.ensures
 
 pub run_seq-returns-in_ok-two-in-Ok : goal.run_seq-returns-in_ok-two-in-Ok
 run_seq-returns-in_ok-two-in-Ok g t c =
@@ -131,12 +134,11 @@ run_old-returns g t c =
     (outcome (state_of c.run.new.place) (datum_of c.run.new.out) c.node.result) h c.in_ok-over.ensures
     (refl, refl, c.node.ensures)
 
-pub run_loop-returns-in-Ok : goal.run_loop-returns-in-Ok
-run_loop-returns-in-Ok g t c =
-    if_ok c.join_loop.result _ _
-    (λ n j w h. loop_joined _ w _ _ _ _ (outcome (first_part (state_of c.run_part-one.new.place)) (datum_of c.run_part-one.new.out) c.in-Ok.one)
-    (outcome (state_of c.join_loop.new.place) (datum_of c.join_loop.new.out) n) (h _ _ c.in_ok-input.ensures.1) c.in_ok-input.ensures.2 c.in-Ok.ensures j)
-    c.join_loop.ensures
+pub run_loop-returns-in_ok-join_loop-in-Ok : goal.run_loop-returns-in_ok-join_loop-in-Ok
+run_loop-returns-in_ok-join_loop-in-Ok g t c =
+    λ w h. loop_joined _ w _ _ _ _ (outcome (first_part (state_of c.run_part-one.new.place)) (datum_of c.run_part-one.new.out) c.in-Ok.one)
+    (outcome (state_of c.join_loop.new.place) (datum_of c.join_loop.new.out) c.node.result) (h _ _ c.in_ok-input.ensures.1) c.in_ok-input.ensures.2
+    c.in-Ok.ensures (c.in_ok-join_loop-in-Ok.ensures.0, c.in_ok-join_loop-in-Ok.ensures.1, c.node.ensures)
 
 pub run_switch-run_over-requires : goal.run_switch-run_over-requires
 run_switch-run_over-requires g t c κs within =
@@ -150,12 +152,12 @@ run_switch-returns-in-Ok-Some g t c =
     (λ n k w h. switch_over _ w _ _ _ (scope_of c.in-Ok-Some.inner) _ fires.0 (outcome (first_part (state_of c.run_part.new.place)) (datum_of c.run_part.new.out) c.in-Ok.one)
     k.0 (outcome (state_of c.run_over.new.place) (datum_of c.run_over.new.out) n) _ h c.in-Ok.ensures fires.1 fires.2 k.1 _ refl c.node-before.ensures k.2) c.run_over.ensures
 
-pub run_switch-returns-in-Ok-None : goal.run_switch-returns-in-Ok-None
-run_switch-returns-in-Ok-None g t c =
+pub run_switch-returns-in_ok-keep_first-in-Ok-None : goal.run_switch-returns-in_ok-keep_first-in-Ok-None
+run_switch-returns-in_ok-keep_first-in-Ok-None g t c =
     let fires = fires_by _ _ (push_param (scope_of c.args.env.now)) _ _ c.second.ensures c.in-Ok-None.field-0-is c.in-Ok-None.ensures in
-    if_ok c.keep_first.result _ _
-    (λ n j w h. switch_kept _ w _ _ _ _ (outcome (first_part (state_of c.run_part.new.place)) (datum_of c.run_part.new.out) c.in-Ok.one)
-    (outcome (state_of c.keep_first.new.place) (datum_of c.keep_first.new.out) n) h c.in-Ok.ensures fires j) c.keep_first.ensures
+    let kept = c.in_ok-keep_first-in-Ok-None.ensures in
+    λ w h. switch_kept _ w _ _ _ _ (outcome (first_part (state_of c.run_part.new.place)) (datum_of c.run_part.new.out) c.in-Ok.one)
+    (outcome (state_of c.keep_first.new.place) (datum_of c.keep_first.new.out) c.node.result) h c.in-Ok.ensures fires (kept.0, kept.1, c.node.ensures)
 
 pub run_d_switch-run_late-requires : goal.run_d_switch-run_late-requires
 run_d_switch-run_late-requires g t c κs within =
@@ -169,12 +171,12 @@ run_d_switch-returns-in-Ok-Some g t c =
     (λ n k w h. d_switch_over _ w _ _ _ (scope_of c.in-Ok-Some.inner) _ fires.0 (outcome (first_part (state_of c.run_part.new.place)) (datum_of c.run_part.new.out) c.in-Ok.one)
     k.0 (outcome (state_of c.run_late.new.place) (datum_of c.run_late.new.out) n) h c.in-Ok.ensures fires.1 fires.2 k.1 k.2) c.run_late.ensures
 
-pub run_d_switch-returns-in-Ok-None : goal.run_d_switch-returns-in-Ok-None
-run_d_switch-returns-in-Ok-None g t c =
+pub run_d_switch-returns-in_ok-keep_first-in-Ok-None : goal.run_d_switch-returns-in_ok-keep_first-in-Ok-None
+run_d_switch-returns-in_ok-keep_first-in-Ok-None g t c =
     let fires = fires_by _ _ (push_param (scope_of c.args.env.now)) _ _ c.second.ensures c.in-Ok-None.field-0-is c.in-Ok-None.ensures in
-    if_ok c.keep_first.result _ _
-    (λ n j w h. d_switch_kept _ w _ _ _ _ (outcome (first_part (state_of c.run_part.new.place)) (datum_of c.run_part.new.out) c.in-Ok.one)
-    (outcome (state_of c.keep_first.new.place) (datum_of c.keep_first.new.out) n) h c.in-Ok.ensures fires j) c.keep_first.ensures
+    let kept = c.in_ok-keep_first-in-Ok-None.ensures in
+    λ w h. d_switch_kept _ w _ _ _ _ (outcome (first_part (state_of c.run_part.new.place)) (datum_of c.run_part.new.out) c.in-Ok.one)
+    (outcome (state_of c.keep_first.new.place) (datum_of c.keep_first.new.out) c.node.result) h c.in-Ok.ensures fires (kept.0, kept.1, c.node.ensures)
 
 pub run_r_switch-returns-in_ok-one-in-Some : goal.run_r_switch-returns-in_ok-one-in-Some
 run_r_switch-returns-in_ok-one-in-Some g t c =
@@ -271,32 +273,35 @@ run_late-returns-in_ok-put_first-in-Ok g t c = (
   (refl, c.in_ok-put_first-in-Ok.ensures, c.node.ensures),
 )
 
-pub run_member-returns-in-ToAll : goal.run_member-returns-in-ToAll
-run_member-returns-in-ToAll g t c =
+pub run_member-returns-in-ToAll-clause-runs : goal.run_member-returns-in-ToAll-clause-runs
+run_member-returns-in-ToAll-clause-runs g t c =
     if_ok c.run.result _ _ (λ r k. member_ran _ to_all _ c.args.i _ _ _ (outcome (state_of c.run.new.place) (datum_of c.run.new.out) r) (ap router_of c.in-ToAll.is) refl k) c.run.ensures
 
-pub run_member-returns-in_ok-input-in-ByRow : goal.run_member-returns-in_ok-input-in-ByRow
-run_member-returns-in_ok-input-in-ByRow g t c =
+pub run_member-returns-in_ok-input-in-ByRow-clause-runs : goal.run_member-returns-in_ok-input-in-ByRow-clause-runs
+run_member-returns-in_ok-input-in-ByRow-clause-runs g t c =
     if_ok c.run-one.result _ _
-    (λ r k. member_ran _ (by_row (row_number c.in-ByRow.r) c.in-ByRow.params.now) _ c.args.i _ _ _ (outcome (state_of c.run-one.new.place) (datum_of c.run-one.new.out) r) (ap router_of c.in-ByRow.is) c.in_ok-input-in-ByRow.ensures
+    (λ r k. member_ran _ (by_row (row_number c.in-ByRow.r) c.in-ByRow.params.now) _ c.args.i _ _ _ (outcome (state_of c.run-one.new.place) (datum_of c.run-one.new.out) r) (ap router_of c.in-ByRow.is) c.in_ok-input-in-ByRow.ensures.called
     k)
     c.run-one.ensures
 
-pub run_each-run_each-requires : goal.run_each-run_each-requires
-run_each-run_each-requires g t c κs within = (omega (arith, c.decreases, (members_fall _ _ _ (c.in-Some.ensures c.args.on.now.dt)).1), search rules)
+pub run_each-members-smaller : goal.run_each-members-smaller
+run_each-members-smaller g t c = (members_fall _ _ _ (c.in-Some.ensures c.args.on.now.dt)).1
 
-pub run_each-returns-in_ok-add-in-Ok : goal.run_each-returns-in_ok-add-in-Ok
-run_each-returns-in_ok-add-in-Ok g t c =
-    if_ok c.run_each.result _ _
-    (λ u hs. subst (λ z. RunEachWhere (g.R.Rows.keys c.args.on.now.rows.now) (router_of c.args.on.now.router) c.args.i
-    (sources_of c.args.members c.args.on.now.dt) (datum_of c.args.on.now.x.now) z c.run_each.new.each)
-    c.take_place-place.ensures (also_run _ (router_of c.args.on.now.router) c.args.i _ _ _ _ _ c.in-Ok.ensures.0
-    (outcome (state_of c.run_member.new.place) (datum_of c.run_member.new.out) c.in-Ok.visits) _ _ _ (c.in-Some.ensures c.args.on.now.dt)
-    c.in-Ok.ensures.1 c.in-Ok.ensures.2 c.in_ok-add-in-Ok.ensures (next_number c.args.i) hs))
-    c.run_each.ensures
+pub run_each-members-preserved : goal.run_each-members-preserved
+run_each-members-preserved g t c =
+    let fall = members_fall _ _ _ (c.in-Some.ensures c.args.on.now.dt) in (
+      omega (arith, fall.1, c.members.invariant.0),
+      (λ all h. c.members.invariant.1 all (subst (λ z. RunEachWhere (g.R.Rows.keys c.args.on.now.rows.now) (router_of c.args.on.now.router) c.members.i
+          (sources_of c.members.rest c.args.on.now.dt) (datum_of c.args.on.now.x.now) z all)
+          c.take_place-place.ensures (also_run _ (router_of c.args.on.now.router) c.members.i _ _ _ _ _ c.in-Ok.ensures.runs.0
+          (outcome (state_of c.run_member.new.place) (datum_of c.run_member.new.out) c.in-Ok.visits) _ _ _ (c.in-Some.ensures c.args.on.now.dt)
+          c.in-Ok.ensures.runs.1 c.in-Ok.ensures.runs.2 c.in_ok-add-in-Ok.ensures (next_number c.members.i) h))),
+      c.run_member.ensures.asked,
+    )
 
 pub run_each-returns-in-None : goal.run_each-returns-in-None
-run_each-returns-in-None g t c = none_run _ (router_of c.args.on.now.router) c.args.i _ _ _ (c.in-None.ensures c.args.on.now.dt)
+run_each-returns-in-None g t c =
+    c.members.invariant.1 _ (none_run _ (router_of c.args.on.now.router) c.members.i _ _ _ (c.in-None.ensures c.args.on.now.dt))
 
 pub run_all-returns-in-Ok : goal.run_all-returns-in-Ok
 run_all-returns-in-Ok g t c =

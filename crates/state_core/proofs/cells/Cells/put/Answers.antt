@@ -1,4 +1,4 @@
-use Rattle.std.proofs.Common.{◌<◌, ap, ◌∙◌, sym, map, take, length, arith, subst}
+use Rattle.std.proofs.Common.{◌<◌, ap, ◌∙◌, map, take, length, arith}
 use Rattle.std.proofs.Math.Seq.{take-set-lt}
 use Rattle.std.proofs.lemmas.List.{map-set, length-map, length-take-le}
 use Rattle.std.specs.Prelude.{slice_set}
