@@ -53,7 +53,12 @@ fn ask(alloc: Global, i: u32, x: &Sample, asked: &mut Sample) -> Result<(), Memo
 }
 
 /// The pair of the sample and what is fed back. `Memory` where a growth was refused.
-pub(crate) fn fed<R: Rows>(alloc: Global, rows: &R, back: Back<'_>, x: &Sample) -> Result<Sample, Memory>
+pub(crate) fn fed<R: Rows>(
+    alloc: Global,
+    rows: &R,
+    back: Back<'_>,
+    x: &Sample,
+) -> Result<Sample, Memory>
     ensures { IfOk result (λ p. (u : Datum)
         × IsFed (R.keys rows.now) back.entry u × (datum_of p ≡ pair (datum_of x.now) u)) }
 {
