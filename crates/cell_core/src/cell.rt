@@ -129,12 +129,15 @@ impl Cell {
         }
     }
 
-    /// Another cell in the place of this one.
+    /// Another cell in the place of this one. A place that holds no parts is written at once.
     #[inline(always)]
     pub(crate) fn put(&mut self, cell: Cell)
         ensures { self.new ≡ cell }
     {
-        drop(std::mem::replace(self, cell));
+        match self {
+            Cell::Time(_) | Cell::Integral(..) => *self = cell,
+            _ => drop(std::mem::replace(self, cell)),
+        }
     }
 
     /// The accumulator of an `accumBy`; nothing for another cell.

@@ -1,6 +1,6 @@
 // Values with times, as they wait in a `delay`.
 
-ghost use Rattle.std.specs.Prelude.{◌≡◌, ◌++◌, ◌∷◌, [], OnOk};
+ghost use Rattle.std.specs.Prelude.{◌≡◌, ◌≤◌, ◌++◌, ◌∷◌, [], OnOk, length};
 ghost use Rattle.sample_core.specs.ValueView.{datum_of};
 ghost use Rattle.cell_core.specs.Entries.{entries_of};
 
@@ -43,7 +43,7 @@ pub(crate) fn copy_all(
 ) -> Result<(), Memory>
     ensures { OnOk result (entries_of entries.new.items ≡ entries_of from.now) }
 {
-    entries.truncate(from.len());
+    shorten(entries, from.len());
     let there = entries.len();
     for i in 0..there {
         copy_over(alloc, &from[i], &mut entries[i])?;
@@ -53,6 +53,16 @@ pub(crate) fn copy_all(
         push(alloc, entry.time, &entry.value, entries)?;
     }
     Ok(())
+}
+
+/// Lets those go that stand beyond the count. Mostly there are none.
+#[inline(always)]
+fn shorten(entries: &mut Vec<Entry>, count: usize)
+    ensures { length entries.new.items ≤ count }
+{
+    if count < entries.len() {
+        entries.truncate(count);
+    }
 }
 
 /// A copy of the entry in the place of another: of a number at once.

@@ -132,11 +132,27 @@ pub(crate) fn after(
         ≡ cell_step (after_of left value.now) (dt, unit)) }
 {
     let fires = 0 < left && left <= dt;
-    place.put(Cell::After(left.saturating_sub(dt), value.try_copy()?));
+    put_after(left.saturating_sub(dt), value, place)?;
     if fires {
         out.put(Sample::Event(value.try_copy()?));
     } else {
         out.put(Sample::NoEvent);
+    }
+    Ok(())
+}
+
+/// The cell of an `after` to whose event so much time is left, in that place.
+#[inline(always)]
+fn put_after(left: u64, value: &SampleChild, place: &mut Cell) -> Result<(), Memory>
+    ensures { OnOk result (cell_of place.new ≡ after_of left value.now) }
+{
+    let value = value.try_copy()?;
+    match place {
+        Cell::After(there, kept) => {
+            *there = left;
+            drop(std::mem::replace(kept, value));
+        }
+        _ => place.put(Cell::After(left, value)),
     }
     Ok(())
 }
@@ -153,15 +169,29 @@ pub(crate) fn repeatedly(
     ensures { OnOk result (outcome_of (place.new, out.new)
         ≡ cell_step (recurring_of left recurring.now.value) (dt, unit)) }
 {
-    let kept = recurring.clone()?;
     if left <= dt {
         let q = recurring.q;
-        let next = q - (dt - left) % q;
-        place.put(Cell::Repeatedly(next, kept));
+        put_repeatedly(q - (dt - left) % q, recurring, place)?;
         out.put(Sample::Event(recurring.value.try_copy()?));
     } else {
-        place.put(Cell::Repeatedly(left - dt, kept));
+        put_repeatedly(left - dt, recurring, place)?;
         out.put(Sample::NoEvent);
+    }
+    Ok(())
+}
+
+/// The cell of a `repeatedly` to whose next multiple so much time is left, in that place.
+#[inline(always)]
+fn put_repeatedly(left: u64, recurring: &Rc<Recurring>, place: &mut Cell) -> Result<(), Memory>
+    ensures { OnOk result (cell_of place.new ≡ recurring_of left recurring.now.value) }
+{
+    let recurring = recurring.clone()?;
+    match place {
+        Cell::Repeatedly(there, kept) => {
+            *there = left;
+            drop(std::mem::replace(kept, recurring));
+        }
+        _ => place.put(Cell::Repeatedly(left, recurring)),
     }
     Ok(())
 }

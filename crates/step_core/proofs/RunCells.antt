@@ -1,6 +1,9 @@
 -- What one sample does to cells, by what the rows answer.
-use Rattle.std.proofs.Common.{◌≡◌, ℕ, zero, suc, List, [], ◌∷◌, Option, refl, sym, ap, ◌∙◌, subst, arith}
+use Rattle.std.proofs.Common.{◌≡◌, ◌≢◌, ℕ, zero, suc, List, [], ◌∷◌, Option, refl, sym, ap, ◌∙◌, subst, arith}
 use Rattle.sample_core.specs.Datum.{Datum, unit, bool, int, pair, no_event, event, list}
+use Rattle.sample_core.specs.ValueView.{datum_of}
+use Rattle.sample_core.specs.declared.sample.Sample.{Sample}
+use Rattle.sample_core.specs.declared.sample.Sample.TheVariants as V
 use Rattle.sample_core.specs.TypeTree.{TypeTree, pair_ty, event_ty}
 use Rattle.sample_core.specs.HasType.{HasType, TypedParams, pair_has, unit_has}
 use Rattle.leaf_core.specs.KeyTree.{KeyTree}
@@ -28,6 +31,16 @@ use Rattle.step_core.proofs.StateTypings.{row_typed, params_typed}
 use Rattle.step_core.proofs.CalledRows.{called_value}
 
 module _ (keys : List KeyTree) where
+  -- what is no event stays
+  pub no_event_stays : (g : ℕ) (ps : List Datum) (acc : Datum) (x : Sample) → ((v : Datum) → x ≢ V.Event v) → IsPutIn keys g ps acc (datum_of x) (datum_of x)
+  no_event_stays g ps acc V.Unit isnt = refl
+  no_event_stays g ps acc (V.Bool b) isnt = refl
+  no_event_stays g ps acc (V.Int n) isnt = refl
+  no_event_stays g ps acc (V.Pair p) isnt = refl
+  no_event_stays g ps acc V.NoEvent isnt = refl
+  no_event_stays g ps acc (V.Event v) isnt = absurd (isnt v refl)
+  no_event_stays g ps acc (V.List vs) isnt = refl
+
   -- one visit, of a cell that is this and answers this
   one_visit : (w : Frozen ℕ) (x : Datum) (r q : Cell × Datum) → q ≡ r → Resumes (row_value keys) w x (cell_state r.0) r.1 1
       → Ran keys w x (cell_state q.0) q.1 1

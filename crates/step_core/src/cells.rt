@@ -1,7 +1,7 @@
 // The first sample of a cell, and a sample of an `accumBy`.
 
 ghost use Rattle.std.specs.Prelude.{◌≡◌, ℕ, IfOk, IsTrue, map};
-ghost use Rattle.sample_core.specs.ValueView.{datum_of};
+ghost use Rattle.sample_core.specs.{Datum.event, ValueView.datum_of};
 ghost use Rattle.cell_core.specs.{Cell.accumulator_of, CellView.cell_of, Start.IsWithin};
 ghost use Rattle.net_syntax.specs.Network.{Network, accum_by};
 ghost use Rattle.state_core.specs.RowsView.{row_number};
@@ -111,12 +111,15 @@ pub(crate) fn step_accum<R: Rows>(
         cells.new (datum_of out.new)) }
 {
     match cell.accumulator() {
-        Some(held) => {
-            let input = put_in(alloc, rows, g, params, held, x)?;
-            let done = cells.push_step(alloc, cell, 0, &input, out);
-            drop(input);
-            done
-        }
+        Some(held) => match x {
+            Sample::Event(value) => {
+                let input = put_event(alloc, rows, g, params, held, value.get())?;
+                let done = cells.push_step(alloc, cell, 0, &input, out);
+                drop(input);
+                done
+            }
+            _ => cells.push_step(alloc, cell, 0, x, out),
+        },
         None => Err(Memory),
     }
 }
@@ -135,13 +138,26 @@ fn put_in<R: Rows>(
         (map datum_of params.now) (datum_of held.now) (datum_of x.now) (datum_of a)) }
 {
     match x {
-        Sample::Event(value) => {
-            let input = beside(alloc, held, value.get())?;
-            let answer = rows.call(g, params, &input);
-            drop(input);
-            let event = SampleChild::new(alloc, answer?)?;
-            Ok(Sample::Event(event))
-        }
+        Sample::Event(value) => put_event(alloc, rows, g, params, held, value.get()),
         _ => x.try_copy(alloc),
     }
+}
+
+/// The event of what the row answers to the pair of the accumulator and an event's value.
+fn put_event<R: Rows>(
+    alloc: Global,
+    rows: &R,
+    g: LeafId,
+    params: &[Sample],
+    held: &Sample,
+    value: &Sample,
+) -> Result<Sample, Memory>
+    ensures { IfOk result (λ a. IsPutIn (R.keys rows.now) (row_number g)
+        (map datum_of params.now) (datum_of held.now) (event (datum_of value.now)) (datum_of a)) }
+{
+    let input = beside(alloc, held, value)?;
+    let answer = rows.call(g, params, &input);
+    drop(input);
+    let event = SampleChild::new(alloc, answer?)?;
+    Ok(Sample::Event(event))
 }

@@ -52,20 +52,20 @@ pub(crate) fn flow<R: Rows>(
         Net::First(f) => flow_first(on, f.get(), x, cells, out),
         Net::Par(fs) => flow_par(on, fs.as_slice(), x, cells, out),
         Net::LoopPre(c, f) => flow_loop(on, *c, f.get(), x, cells, out),
-        Net::IPre(c) => flow_cell(on, Form::IPre, Some(*c), x, cells, out),
-        Net::Delay(q, c) => flow_cell(on, Form::Delay(*q), Some(*c), x, cells, out),
-        Net::Hold(c) => flow_cell(on, Form::Hold, Some(*c), x, cells, out),
         Net::AccumBy(g, z) => flow_accum(on, *g, *z, x, cells, out),
-        Net::After(q, c) => flow_cell(on, Form::After(*q), Some(*c), x, cells, out),
-        Net::Repeatedly(q, c) => flow_cell(on, Form::Repeatedly(*q), Some(*c), x, cells, out),
-        Net::Time => flow_cell(on, Form::Time, None, x, cells, out),
-        Net::Integral => flow_cell(on, Form::Integral, None, x, cells, out),
+        Net::IPre(_)
+        | Net::Delay(..)
+        | Net::Hold(_)
+        | Net::After(..)
+        | Net::Repeatedly(..)
+        | Net::Time
+        | Net::Integral => flow_cell(on, net, x, cells, out),
         _ => unreachable!(),
     }
 }
 
 /// What a row answers to the sample.
-#[inline(always)]
+#[inline(never)]
 fn call_into<R: Rows>(
     on: &Context<'_, R>,
     e: LeafId,
@@ -85,6 +85,7 @@ fn call_into<R: Rows>(
 
 /// `>>>`: what the first part answers goes to the second.
 #[cycle(flow)]
+#[inline(never)]
 fn flow_seq<R: Rows>(
     on: &Context<'_, R>,
     f: &Net<LeafId>,
@@ -319,16 +320,16 @@ fn keep_fed(
 }
 
 /// A cell: it starts, or steps.
+#[inline(never)]
 fn flow_cell<R: Rows>(
     on: &Context<'_, R>,
-    form: Form,
-    constant: Option<LeafId>,
+    net: &Net<LeafId>,
     x: &Sample,
     cells: &mut Cells,
     out: &mut Sample,
 ) -> Result<(), Memory>
-    ensures { IfOk result (λ _. (net : _) → IsCell net form (number_of constant)
-        → Flows (R.keys on.now.rows.now) net
+    ensures { IfOk result (λ _. (form : _) (c : _) → IsCell (rows_in net.now) form c
+        → Flows (R.keys on.now.rows.now) (rows_in net.now)
         (map datum_of on.now.params.now) (past_in on.now.before on.now.dt) (datum_of x.now)
         cells.old cells.new (datum_of out.new)) }
 {
@@ -337,7 +338,7 @@ fn flow_cell<R: Rows>(
             Some(cell) => cells.push_step(on.alloc, cell, on.dt, x, out),
             None => Err(Memory),
         },
-        None => first_cell(on, form, constant, x, cells, out),
+        None => first_cell(on, net, x, cells, out),
     }
 }
 
@@ -345,19 +346,36 @@ fn flow_cell<R: Rows>(
 #[inline(never)]
 fn first_cell<R: Rows>(
     on: &Context<'_, R>,
-    form: Form,
-    constant: Option<LeafId>,
+    net: &Net<LeafId>,
     x: &Sample,
     cells: &mut Cells,
     out: &mut Sample,
 ) -> Result<(), Memory>
-    ensures { IfOk result (λ _. (net : _) → IsCell net form (number_of constant)
-        → Flows (R.keys on.now.rows.now) net (map datum_of on.now.params.now) None
-        (datum_of x.now) cells.old cells.new (datum_of out.new)) }
+    ensures { IfOk result (λ _. Flows (R.keys on.now.rows.now) (rows_in net.now)
+        (map datum_of on.now.params.now) None (datum_of x.now) cells.old cells.new
+        (datum_of out.new)) }
 {
+    let (form, constant) = form_of(net)?;
     let (first, answer) = start_cell(on.alloc, on.rows, form, constant, on.params, x)?;
     out.put(answer);
     cells.push(first)
+}
+
+/// The form of a cell, and its constant, if it has one. `flow` asks for no other network; `Memory`
+/// then.
+fn form_of(net: &Net<LeafId>) -> Result<(Form, Option<LeafId>), Memory>
+    ensures { IfOk result (λ r. IsCell (rows_in net.now) r.0 (number_of r.1)) }
+{
+    match net {
+        Net::IPre(c) => Ok((Form::IPre, Some(*c))),
+        Net::Delay(q, c) => Ok((Form::Delay(*q), Some(*c))),
+        Net::Hold(c) => Ok((Form::Hold, Some(*c))),
+        Net::After(q, c) => Ok((Form::After(*q), Some(*c))),
+        Net::Repeatedly(q, c) => Ok((Form::Repeatedly(*q), Some(*c))),
+        Net::Time => Ok((Form::Time, None)),
+        Net::Integral => Ok((Form::Integral, None)),
+        _ => Err(Memory),
+    }
 }
 
 /// `accumBy`: it starts, or steps.

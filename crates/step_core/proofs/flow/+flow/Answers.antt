@@ -1,4 +1,4 @@
-use Rattle.std.proofs.Common.{◌≡◌, ◌++◌, ◌∷◌, [], map, ap, ◌∙◌, arith}
+use Rattle.std.proofs.Common.{◌≡◌, ◌++◌, ◌∷◌, [], map, ap, ◌∙◌, arith, inl, inr}
 use Rattle.std.proofs.lemmas.Grind.{common_steps}
 use Rattle.std.proofs.lemmas.List.{map_push}
 use Rattle.std.specs.Prelude.{slice_set}
@@ -18,32 +18,25 @@ flow-returns-in-Arr g t c =
     if_ok c.call_into.result _ _ (λ y h. arr_where _ _ c.in-Arr.e.0 _ _ _ _ _ (ap rows_in c.in-Arr.is) h) c.call_into.ensures
 
 pub flow-returns-in-IPre : goal.flow-returns-in-IPre
-flow-returns-in-IPre g t c = if_ok c.flow_cell.result _ _ (λ y h. h _ (cell_by _ _ _ _ (ap rows_in c.in-IPre.is) F.is_i_pre)) c.flow_cell.ensures
-
-pub flow-returns-in-Delay : goal.flow-returns-in-Delay
-flow-returns-in-Delay g t c =
-    if_ok c.flow_cell-in-Delay.result _ _ (λ y h. h _ (cell_by _ _ _ _ (ap rows_in c.in-Delay.is) F.is_delay)) c.flow_cell-in-Delay.ensures
-
-pub flow-returns-in-Hold : goal.flow-returns-in-Hold
-flow-returns-in-Hold g t c =
-    if_ok c.flow_cell-in-Hold.result _ _ (λ y h. h _ (cell_by _ _ _ _ (ap rows_in c.in-Hold.is) F.is_hold)) c.flow_cell-in-Hold.ensures
-
-pub flow-returns-in-After : goal.flow-returns-in-After
-flow-returns-in-After g t c =
-    if_ok c.flow_cell-in-After.result _ _ (λ y h. h _ (cell_by _ _ _ _ (ap rows_in c.in-After.is) F.is_after)) c.flow_cell-in-After.ensures
-
-pub flow-returns-in-Repeatedly : goal.flow-returns-in-Repeatedly
-flow-returns-in-Repeatedly g t c =
-    if_ok c.flow_cell-in-Repeatedly.result _ _ (λ y h. h _ (cell_by _ _ _ _ (ap rows_in c.in-Repeatedly.is) F.is_repeatedly))
-    c.flow_cell-in-Repeatedly.ensures
-
-pub flow-returns-in-Time : goal.flow-returns-in-Time
-flow-returns-in-Time g t c =
-    if_ok c.flow_cell-in-Time.result _ _ (λ y h. h _ (cell_by _ _ _ _ (ap rows_in c.in-Time.is) F.is_time)) c.flow_cell-in-Time.ensures
-
-pub flow-returns-in-Integral : goal.flow-returns-in-Integral
-flow-returns-in-Integral g t c =
-    if_ok c.flow_cell-in-Integral.result _ _ (λ y h. h _ (cell_by _ _ _ _ (ap rows_in c.in-Integral.is) F.is_integral)) c.flow_cell-in-Integral.ensures
+flow-returns-in-IPre g t c = if_ok c.flow_cell.result _ _ (λ y h. elim c.in-IPre.is [
+  | inl e ↦ h _ _ (cell_by _ _ _ _ (ap rows_in e.1) F.is_i_pre)
+  | inr others ↦ elim others [
+    | inl e ↦ h _ _ (cell_by _ _ _ _ (ap rows_in e.2) F.is_delay)
+    | inr others ↦ elim others [
+      | inl e ↦ h _ _ (cell_by _ _ _ _ (ap rows_in e.1) F.is_hold)
+      | inr others ↦ elim others [
+        | inl e ↦ h _ _ (cell_by _ _ _ _ (ap rows_in e.2) F.is_after)
+        | inr others ↦ elim others [
+          | inl e ↦ h _ _ (cell_by _ _ _ _ (ap rows_in e.2) F.is_repeatedly)
+          | inr others ↦ elim others [
+            | inl e ↦ h _ _ (cell_by _ _ _ _ (ap rows_in e) F.is_time)
+            | inr e ↦ h _ _ (cell_by _ _ _ _ (ap rows_in e) F.is_integral)
+          ]
+        ]
+      ]
+    ]
+  ]
+]) c.flow_cell.ensures
 
 pub flow_seq-returns-in-Ok : goal.flow_seq-returns-in-Ok
 flow_seq-returns-in-Ok g t c =
