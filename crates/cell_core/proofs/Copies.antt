@@ -1,5 +1,5 @@
 -- Entries are copied one by one.
-use Rattle.std.proofs.Common.{◌≡◌, ℕ, List, [], ◌∷◌, ◌++◌, ◌<◌, ◌+◌, refl, sym, ap, ap₂, ◌∙◌, length, take, set, get_or, arith}
+use Rattle.std.proofs.Common.{◌≡◌, ℕ, List, [], ◌∷◌, ◌++◌, ◌<◌, ◌+◌, sym, ap, ap₂, ◌∙◌, length, take, set, get_or, arith}
 use Rattle.std.proofs.lemmas.List.{take_more, take_more_set, map-set, length-map, get_or-map}
 use Rattle.sample_core.specs.Datum.{Datum, unit}
 use Rattle.sample_core.specs.ValueView.{datum_of}

@@ -4,7 +4,7 @@ ghost use Rattle.std.specs.Prelude.{◌≡◌, ◌∷◌, [], IfOk, OnOk, MatchO
 ghost use Rattle.sample_core.specs.ValueView.{datum_of};
 ghost use Rattle.cell_core.specs.{Entries.entries_of, Earlier.back_of, Delays.Follows};
 
-use crate::entry::{Entry, copy_all, push};
+use crate::entry::{Entry, copies, copy_all, push};
 use sample_core::{Memory, Sample};
 use std::alloc::Global;
 use std::marker::Model;
@@ -122,26 +122,16 @@ impl Earlier {
     fn and(&self, alloc: Global, entries: &[Entry]) -> Result<Earlier, Memory>
         ensures { IfOk result (λ e. e ≡ entries_of entries.now ∷ self.now) }
     {
-        let earlier = self.try_copy()?;
-        match new_block(alloc, entries, earlier) {
-            Ok(block) => Ok(Earlier { last: Some(block) }),
-            Err(memory) => Err(memory),
-        }
-    }
-}
-
-/// A block of copies before those blocks.
-fn new_block(alloc: Global, entries: &[Entry], earlier: Earlier) -> Result<Rc<Block>, Memory>
-    ensures { IfOk result (λ b. (entries_of b.value.samples.items ≡ entries_of entries.now)
-        × (b.value.earlier ≡ earlier)) }
-{
-    let mut samples = Vec::new(alloc);
-    match copy_all(alloc, entries, &mut samples) {
-        Ok(()) => Ok(Rc::new(alloc, Block { samples, earlier })?),
-        Err(memory) => {
-            drop(samples);
-            drop(earlier);
-            Err(memory)
+        let samples = copies(alloc, entries)?;
+        match self.try_copy() {
+            Ok(earlier) => {
+                let block = Rc::new(alloc, Block { samples, earlier })?;
+                Ok(Earlier { last: Some(block) })
+            }
+            Err(memory) => {
+                drop(samples);
+                Err(memory)
+            }
         }
     }
 }

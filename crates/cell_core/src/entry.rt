@@ -1,6 +1,6 @@
 // Values with times, as they wait in a `delay`.
 
-ghost use Rattle.std.specs.Prelude.{◌≡◌, ◌≤◌, ◌++◌, ◌∷◌, [], OnOk, length};
+ghost use Rattle.std.specs.Prelude.{◌≡◌, ◌≤◌, ◌++◌, ◌∷◌, [], IfOk, OnOk, length};
 ghost use Rattle.sample_core.specs.ValueView.{datum_of};
 ghost use Rattle.cell_core.specs.Entries.{entries_of};
 
@@ -53,6 +53,20 @@ pub(crate) fn copy_all(
         push(alloc, entry.time, &entry.value, entries)?;
     }
     Ok(())
+}
+
+/// Copies of these. `Memory` where a growth was refused.
+pub(crate) fn copies(alloc: Global, from: &[Entry]) -> Result<Vec<Entry>, Memory>
+    ensures { IfOk result (λ es. entries_of es.items ≡ entries_of from.now) }
+{
+    let mut entries = Vec::with_capacity(alloc, from.len())?;
+    match copy_all(alloc, from, &mut entries) {
+        Ok(()) => Ok(entries),
+        Err(memory) => {
+            drop(entries);
+            Err(memory)
+        }
+    }
 }
 
 /// Lets those go that stand beyond the count. Mostly there are none.
