@@ -27,10 +27,27 @@ pub(crate) fn push(
     ensures { OnOk result (entries_of entries.new.items
         ≡ entries_of entries.old.items ++ (time, datum_of value.now) ∷ []) }
 {
-    let value = match value {
-        Sample::Int(n) => Sample::Int(*n),
-        value => value.try_copy(alloc)?,
-    };
+    match value {
+        Sample::Int(n) => {
+            let value = Sample::Int(*n);
+            Ok(entries.push(Entry { time, value })?)
+        }
+        _ => push_any(alloc, time, value, entries),
+    }
+}
+
+/// The same of any value.
+#[inline(never)]
+fn push_any(
+    alloc: Global,
+    time: u64,
+    value: &Sample,
+    entries: &mut Vec<Entry>,
+) -> Result<(), Memory>
+    ensures { OnOk result (entries_of entries.new.items
+        ≡ entries_of entries.old.items ++ (time, datum_of value.now) ∷ []) }
+{
+    let value = value.try_copy(alloc)?;
     Ok(entries.push(Entry { time, value })?)
 }
 
