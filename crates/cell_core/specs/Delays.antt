@@ -3,14 +3,13 @@ use Rattle.std.specs.Prelude.{◌≡◌, ℕ, ◌+◌, List, ◌∷◌, ◌++◌
 use Rattle.sample_core.specs.Datum.{Datum}
 use Rattle.cell_core.specs.Cell.{Cell, queue, due, enqueue}
 use Rattle.cell_core.specs.Queue.{behind, place, within, fronted, IsFront}
-use Rattle.cell_core.specs.Entries.{entries_of}
 use Rattle.cell_core.specs.Earlier.{back_of}
 use Rattle.cell_core.specs.declared.behind.Behind.{Behind}
 use Rattle.cell_core.specs.declared.front.Front.{Front}
 
 -- those in front, the newest first
 abbrev pub front_of : Front → List (ℕ × Datum)
-front_of f = entries_of f.entries.items
+front_of f = f.entries
 
 -- the queue at that age of the front, from the place of what is out and those behind
 abbrev pub queue_of : Front → ℕ → ℕ → List (ℕ × Datum) → Cell
@@ -19,7 +18,7 @@ queue_of f age at back =
 
 -- where in front what is out stands
 abbrev pub out_in : Front → Behind → ℕ
-out_in f n = within (length f.entries.items) n.at
+out_in f n = within (length f.entries) n.at
 
 -- the cell that these are
 abbrev pub delay_of : Front → Behind → Cell

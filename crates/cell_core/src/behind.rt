@@ -4,7 +4,7 @@ ghost use Rattle.std.specs.Prelude.{◌≡◌, ◌∷◌, [], IfOk, OnOk, MatchO
 ghost use Rattle.sample_core.specs.ValueView.{datum_of};
 ghost use Rattle.cell_core.specs.{Entries.entries_of, Earlier.back_of, Delays.Follows};
 
-use crate::entry::{Entry, copies, copy_all, push};
+use crate::entry::{Entries, Entry};
 use sample_core::{Memory, Sample};
 use std::alloc::Global;
 use std::marker::Model;
@@ -18,7 +18,7 @@ const BLOCK: usize = 8;
 /// front stand.
 #[derive(Drop)]
 pub struct Behind {
-    pub(crate) recent: Vec<Entry>,
+    pub(crate) recent: Entries,
     pub(crate) earlier: Earlier,
     // The time since the front was made.
     pub(crate) age: u64,
@@ -31,7 +31,7 @@ pub struct Behind {
 #[cycle(block)]
 #[derive(Drop)]
 pub(crate) struct Block {
-    pub(crate) samples: Vec<Entry>,
+    pub(crate) samples: Entries,
     pub(crate) earlier: Earlier,
 }
 
@@ -96,7 +96,7 @@ impl Earlier {
     /// The newest block; nothing where there is none.
     pub(crate) fn last(&self) -> Option<&Block>
         ensures { MatchOption result (self.now ≡ [])
-            (λ b. self.now ≡ entries_of b.now.samples.items ∷ b.now.earlier) }
+            (λ b. self.now ≡ b.now.samples ∷ b.now.earlier) }
     {
         match &self.last {
             None => None,
@@ -136,13 +136,27 @@ impl Earlier {
     }
 }
 
+/// Copies of these, in a place that fits them. `Memory` where a growth was refused.
+fn copies(alloc: Global, from: &[Entry]) -> Result<Entries, Memory>
+    ensures { IfOk result (λ es. es ≡ entries_of from.now) }
+{
+    let mut entries = Entries::with_room(alloc, from.len())?;
+    match entries.renew(alloc, from) {
+        Ok(()) => Ok(entries),
+        Err(memory) => {
+            drop(entries);
+            Err(memory)
+        }
+    }
+}
+
 impl Behind {
     /// Nothing behind. It takes no memory.
     pub(crate) fn none(alloc: Global) -> Behind
         ensures { back_of result ≡ [] }
     {
         Behind {
-            recent: Vec::new(alloc),
+            recent: Entries::none(alloc),
             earlier: Earlier::new(),
             age: 0,
             at: 0,
@@ -165,15 +179,16 @@ impl Behind {
     {
         self.age = age;
         self.at = at;
-        if before.recent.len() < BLOCK {
+        let recent = before.recent.as_slice();
+        if recent.len() < BLOCK {
             let earlier = before.earlier.try_copy()?;
             drop(std::mem::replace(&mut self.earlier, earlier));
-            copy_all(alloc, before.recent.as_slice(), &mut self.recent)?;
+            self.recent.renew(alloc, recent)?;
         } else {
-            let earlier = before.earlier.and(alloc, before.recent.as_slice())?;
+            let earlier = before.earlier.and(alloc, recent)?;
             drop(std::mem::replace(&mut self.earlier, earlier));
             self.recent.clear();
         }
-        push(alloc, dt, sample, &mut self.recent)
+        self.recent.push(alloc, dt, sample)
     }
 }

@@ -14,16 +14,17 @@ use crate::step::Keeper;
 use crate::{queue, start, step};
 use sample_core::{Memory, Sample, SampleChild};
 use std::alloc::Global;
+use std::boxed::Box;
 use std::rc::Rc;
 
-/// What a cell keeps from one sample to the next. Copies of it share its parts.
+/// What a cell keeps from one sample to the next.
 #[derive(Drop)]
 pub enum Cell {
     /// `iPre`: the sample before.
     IPre(Sample),
     /// `delay`: those in front, of which one is out, and those behind. The front is let go of
     /// first: where a large place is given back, malloc joins the small ones that are free.
-    Delay(Rc<Front>, Rc<Behind>),
+    Delay(Rc<Front>, Box<Behind>),
     /// `hold`: the value of the latest event, or the constant.
     Hold(Sample),
     /// `accumBy`: the accumulator.
@@ -162,23 +163,6 @@ impl Cell {
             Cell::IPre(before) => Some(before),
             _ => None,
         }
-    }
-
-    /// The same cell, with its parts shared. It takes no memory; `Memory` only where a count of
-    /// references is full.
-    pub fn try_copy(&self, alloc: Global) -> Result<Cell, Memory>
-        ensures { IfOk result (λ c. cell_of c ≡ cell_of self.now) }
-    {
-        Ok(match self {
-            Cell::IPre(before) => Cell::IPre(before.try_copy(alloc)?),
-            Cell::Delay(front, behind) => queue::try_copy(front, behind)?,
-            Cell::Hold(latest) => Cell::Hold(latest.try_copy(alloc)?),
-            Cell::AccumBy(accumulator) => Cell::AccumBy(accumulator.try_copy(alloc)?),
-            Cell::After(left, value) => Cell::After(*left, value.try_copy()?),
-            Cell::Repeatedly(left, recurring) => Cell::Repeatedly(*left, recurring.clone()?),
-            Cell::Time(time) => Cell::Time(*time),
-            Cell::Integral(sum, before) => Cell::Integral(*sum, *before),
-        })
     }
 }
 

@@ -1,12 +1,13 @@
 // Values with times, as they wait in a `delay`.
 
-ghost use Rattle.std.specs.Prelude.{◌≡◌, ◌≤◌, ◌++◌, ◌∷◌, [], IfOk, OnOk, length};
+ghost use Rattle.std.specs.Prelude.{◌≡◌, ◌++◌, ◌∷◌, [], IfOk, OnOk};
 ghost use Rattle.sample_core.specs.ValueView.{datum_of};
 ghost use Rattle.cell_core.specs.Entries.{entries_of};
 
 use crate::step;
 use sample_core::{Memory, Sample};
 use std::alloc::Global;
+use std::marker::Model;
 
 /// A value with a time: in front, how long after the front was made it is due; behind, its step
 /// since the one before it.
@@ -16,92 +17,92 @@ pub(crate) struct Entry {
     pub(crate) value: Sample,
 }
 
-/// Adds a copy of the value, with that time. `Memory` where a growth was refused.
-#[inline(always)]
-pub(crate) fn push(
-    alloc: Global,
-    time: u64,
-    value: &Sample,
-    entries: &mut Vec<Entry>,
-) -> Result<(), Memory>
-    ensures { OnOk result (entries_of entries.new.items
-        ≡ entries_of entries.old.items ++ (time, datum_of value.now) ∷ []) }
-{
-    match value {
-        Sample::Int(n) => {
-            let value = Sample::Int(*n);
-            Ok(entries.push(Entry { time, value })?)
-        }
-        _ => push_any(alloc, time, value, entries),
-    }
+/// Entries in order. Behind them stand entries that are out of use, whose places are taken first.
+/// Contracts see those in use, each as the pair of its time and its value's tree.
+#[derive(Drop)]
+pub(crate) struct Entries {
+    all: Vec<Entry>,
+    used: usize,
 }
 
-/// The same of any value.
-#[inline(never)]
-fn push_any(
-    alloc: Global,
-    time: u64,
-    value: &Sample,
-    entries: &mut Vec<Entry>,
-) -> Result<(), Memory>
-    ensures { OnOk result (entries_of entries.new.items
-        ≡ entries_of entries.old.items ++ (time, datum_of value.now) ∷ []) }
-{
-    let value = value.try_copy(alloc)?;
-    Ok(entries.push(Entry { time, value })?)
+impl Model for Entries {
+    ghost use Rattle.std.specs.Prelude.{◌≤◌, List, ℕ, length, take};
+    ghost use Rattle.std.specs.Coded.{coded_list, coded×, coded_ℕ};
+    ghost use Rattle.sample_core.specs.Datum.{Datum};
+    ghost use Rattle.sample_core.specs.DatumCode.{datum_code};
+
+    ghost Value = { List (ℕ × Datum) };
+
+    ghost coded = { coded_list (coded× coded_ℕ datum_code) };
+
+    ghost use Rattle.cell_core.specs.Entries.{entries_of};
+
+    ghost view = { λ a. entries_of (take a.used a.all.items) };
+
+    ghost invariant = { λ a. a.used ≤ length a.all.items };
 }
 
-/// Copies of these in the place of others. `Memory` where a growth was refused.
-#[inline(always)]
-pub(crate) fn copy_all(
-    alloc: Global,
-    from: &[Entry],
-    entries: &mut Vec<Entry>,
-) -> Result<(), Memory>
-    ensures { OnOk result (entries_of entries.new.items ≡ entries_of from.now) }
-{
-    shorten(entries, from.len());
-    let there = entries.len();
-    for i in 0..there {
-        copy_over(alloc, &from[i], &mut entries[i])?;
+impl Entries {
+    /// No entries, with room for so many. `Memory` where a growth was refused.
+    pub(crate) fn with_room(alloc: Global, room: usize) -> Result<Entries, Memory>
+        ensures { IfOk result (λ es. es ≡ []) }
+    {
+        let all = Vec::with_capacity(alloc, room)?;
+        Ok(Entries { all, used: 0 })
     }
-    for i in there..from.len() {
-        let entry = &from[i];
-        push(alloc, entry.time, &entry.value, entries)?;
-    }
-    Ok(())
-}
 
-/// Copies of these. `Memory` where a growth was refused.
-pub(crate) fn copies(alloc: Global, from: &[Entry]) -> Result<Vec<Entry>, Memory>
-    ensures { IfOk result (λ es. entries_of es.items ≡ entries_of from.now) }
-{
-    let mut entries = Vec::with_capacity(alloc, from.len())?;
-    match copy_all(alloc, from, &mut entries) {
-        Ok(()) => Ok(entries),
-        Err(memory) => {
-            drop(entries);
-            Err(memory)
+    /// No entries. It takes no memory.
+    pub(crate) fn none(alloc: Global) -> Entries
+        ensures { result ≡ [] }
+    {
+        Entries {
+            all: Vec::new(alloc),
+            used: 0,
         }
     }
-}
 
-/// Lets those go that stand beyond the count. Mostly there are none.
-#[inline(always)]
-fn shorten(entries: &mut Vec<Entry>, count: usize)
-    ensures { length entries.new.items ≤ count }
-{
-    if count < entries.len() {
-        entries.truncate(count);
+    /// The entries in order.
+    #[inline(always)]
+    pub(crate) fn as_slice(&self) -> &[Entry]
+        ensures { entries_of result.now ≡ self.now }
+    {
+        &self.all[..self.used]
     }
-}
 
-/// A copy of the entry in the place of another: of a number at once.
-#[inline(always)]
-fn copy_over(alloc: Global, entry: &Entry, place: &mut Entry) -> Result<(), Memory>
-    ensures time { OnOk result (place.new.time ≡ entry.now.time) }
-    ensures value { OnOk result (datum_of place.new.value ≡ datum_of entry.now.value) }
-{
-    place.time = entry.time;
-    step::copy_over(alloc, &entry.value, &mut place.value)
+    /// No entries any more; their places stay.
+    #[inline(always)]
+    pub(crate) fn clear(&mut self)
+        ensures { self.new ≡ [] }
+    {
+        self.used = 0;
+    }
+
+    /// One entry more, with that time and a copy of the value. `Memory` where a growth was refused.
+    #[inline(always)]
+    pub(crate) fn push(&mut self, alloc: Global, time: u64, value: &Sample) -> Result<(), Memory>
+        ensures { OnOk result (self.new ≡ self.old ++ (time, datum_of value.now) ∷ []) }
+    {
+        if self.used < self.all.len() {
+            let place = &mut self.all[self.used];
+            place.time = time;
+            step::copy_over(alloc, value, &mut place.value)?;
+        } else {
+            let value = value.try_copy(alloc)?;
+            self.all.push(Entry { time, value })?;
+        }
+        self.used += 1;
+        Ok(())
+    }
+
+    /// Copies of these entries in the place of those before. `Memory` where a growth was refused.
+    #[inline(always)]
+    pub(crate) fn renew(&mut self, alloc: Global, from: &[Entry]) -> Result<(), Memory>
+        ensures { OnOk result (self.new ≡ entries_of from.now) }
+    {
+        self.clear();
+        for entry in from {
+            self.push(alloc, entry.time, &entry.value)?;
+        }
+        Ok(())
+    }
 }

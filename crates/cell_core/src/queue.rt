@@ -9,12 +9,13 @@ ghost use Rattle.cell_core.specs.Start.{cell_start};
 
 use crate::behind::Behind;
 use crate::cell::Cell;
-use crate::entry::{Entry, push};
+use crate::entry::{Entries, Entry};
 use crate::form::Form;
 use crate::front::Front;
 use crate::step::copy_over;
 use sample_core::{Memory, Sample};
 use std::alloc::Global;
+use std::boxed::Box;
 use std::rc::Rc;
 
 /// The queue in which only the sample waits, all of q, and its answer, `out`.
@@ -27,11 +28,13 @@ pub(crate) fn start(
     ensures { IfOk result (λ r.
         outcome_of r ≡ cell_start (Form.Delay q) (datum_of out) (datum_of sample.now)) }
 {
-    let mut entries = Vec::new(alloc);
-    entries.push(Entry {
-        time: 0,
-        value: out,
-    })?;
+    let mut entries = Entries::none(alloc);
+    let kept = entries.push(alloc, 0, &out);
+    drop(out);
+    if let Err(memory) = kept {
+        drop(entries);
+        return Err(memory);
+    }
     let mut cell = Cell::Time(0);
     let mut answer = Sample::Int(0);
     match renewed(alloc, q, 0, entries, sample, &mut cell, &mut answer) {
@@ -50,7 +53,7 @@ pub(crate) fn start(
 #[inline(never)]
 pub(crate) fn step(
     front: &Rc<Front>,
-    behind: &Rc<Behind>,
+    behind: &Behind,
     alloc: Global,
     dt: u64,
     sample: &Sample,
@@ -58,14 +61,13 @@ pub(crate) fn step(
     out: &mut Sample,
 ) -> Result<(), Memory>
     ensures { OnOk result (outcome_of (place.new, out.new)
-        ≡ cell_step (delay_of front.now.value behind.now.value) (dt, datum_of sample.now)) }
+        ≡ cell_step (delay_of front.now.value behind.now) (dt, datum_of sample.now)) }
 {
     let ahead: &Front = front;
-    let last: &Behind = behind;
-    let from = ahead.within(last.at);
-    let at = ahead.passed(from, last.age, dt);
+    let from = ahead.within(behind.at);
+    let at = ahead.passed(from, behind.age, dt);
     if at == 0 {
-        turned(ahead, last, alloc, dt, sample, place, out)
+        turned(ahead, behind, alloc, dt, sample, place, out)
     } else {
         kept(front, behind, alloc, at, dt, sample, place, out)
     }
@@ -76,7 +78,7 @@ pub(crate) fn step(
 #[inline(always)]
 fn kept(
     front: &Rc<Front>,
-    behind: &Rc<Behind>,
+    behind: &Behind,
     alloc: Global,
     at: usize,
     dt: u64,
@@ -84,9 +86,9 @@ fn kept(
     place: &mut Cell,
     out: &mut Sample,
 ) -> Result<(), Memory>
-    requires within { at < length front.now.value.entries.items }
-    requires fits { behind.now.value.age + dt < 2 ^ 64 }
-    ensures { OnOk result (IsKept front.now.value behind.now.value at dt (datum_of sample.now)
+    requires within { at < length front.now.value.entries }
+    requires fits { behind.now.age + dt < 2 ^ 64 }
+    ensures { OnOk result (IsKept front.now.value behind.now at dt (datum_of sample.now)
         (outcome_of (place.new, out.new))) }
 {
     let age = behind.age + dt;
@@ -109,7 +111,7 @@ fn turned(
     ensures { OnOk result (IsTurned front.now behind.now dt (datum_of sample.now)
         (outcome_of (place.new, out.new))) }
 {
-    let mut entries = Vec::with_capacity(alloc, front.entries.len())?;
+    let mut entries = Entries::with_room(alloc, front.entries.as_slice().len())?;
     match gather(front, behind, alloc, dt, &mut entries) {
         Ok(()) => renewed(alloc, front.q, dt, entries, sample, place, out),
         Err(memory) => {
@@ -127,10 +129,10 @@ fn gather(
     behind: &Behind,
     alloc: Global,
     dt: u64,
-    entries: &mut Vec<Entry>,
+    entries: &mut Entries,
 ) -> Result<(), Memory>
-    requires { entries.old.items ≡ [] }
-    ensures { OnOk result (IsGathered front.now behind.now dt (entries_of entries.new.items)) }
+    requires { entries.old ≡ [] }
+    ensures { OnOk result (IsGathered front.now behind.now dt entries.new) }
 {
     let mut left = front.q;
     let mut samples = behind.recent.as_slice();
@@ -145,7 +147,10 @@ fn gather(
                 samples = block.samples.as_slice();
                 earlier = &block.earlier;
             }
-            None => return push(alloc, 0, &front.entries[0].value, entries),
+            None => {
+                let out = &front.entries.as_slice()[0].value;
+                return entries.push(alloc, 0, out);
+            }
         }
     }
 }
@@ -158,19 +163,19 @@ fn gather_run(
     samples: &[Entry],
     dt: u64,
     left: u64,
-    entries: &mut Vec<Entry>,
+    entries: &mut Entries,
 ) -> Result<Option<u64>, Memory>
     ensures { IfOk result (λ rest. Gathers dt left (reverse (entries_of samples.now))
-        (entries_of entries.old.items) rest (entries_of entries.new.items)) }
+        entries.old rest entries.new) }
 {
     match samples.split_last() {
         None => Ok(Some(left)),
         Some((newest, rest)) => {
             if left <= dt {
-                push(alloc, 0, &newest.value, entries)?;
+                entries.push(alloc, 0, &newest.value)?;
                 return Ok(None);
             }
-            push(alloc, left - dt, &newest.value, entries)?;
+            entries.push(alloc, left - dt, &newest.value)?;
             gather_run(alloc, rest, dt, left.saturating_sub(newest.time), entries)
         }
     }
@@ -183,16 +188,16 @@ fn renewed(
     alloc: Global,
     q: u64,
     dt: u64,
-    entries: Vec<Entry>,
+    entries: Entries,
     sample: &Sample,
     place: &mut Cell,
     out: &mut Sample,
 ) -> Result<(), Memory>
-    requires { 0 < length entries.items }
-    ensures { OnOk result (IsRenewed q (entries_of entries.items) (datum_of sample.now)
+    requires { 0 < length entries }
+    ensures { OnOk result (IsRenewed q entries (datum_of sample.now)
         (outcome_of (place.new, out.new))) }
 {
-    let at = entries.len() - 1;
+    let at = entries.as_slice().len() - 1;
     let front = Rc::new(alloc, Front { q, entries })?;
     let nothing = Behind::none(alloc);
     let done = joined(alloc, front, &nothing, 0, at, dt, sample, place, out);
@@ -214,11 +219,11 @@ fn joined(
     place: &mut Cell,
     out: &mut Sample,
 ) -> Result<(), Memory>
-    requires { at < length front.value.entries.items }
+    requires { at < length front.value.entries }
     ensures { OnOk result (IsJoined front.value age at
         ((dt, datum_of sample.now) ∷ back_of before.now) (outcome_of (place.new, out.new))) }
 {
-    match copy_over(alloc, &front.entries[at].value, out) {
+    match copy_over(alloc, &front.entries.as_slice()[at].value, out) {
         Ok(()) => put(alloc, front, before, age, at, dt, sample, place),
         Err(memory) => {
             drop(front);
@@ -239,13 +244,13 @@ fn put(
     sample: &Sample,
     place: &mut Cell,
 ) -> Result<(), Memory>
-    requires { at < length front.value.entries.items }
+    requires { at < length front.value.entries }
     ensures { OnOk result (cell_of place.new
         ≡ queue_of front.value age at ((dt, datum_of sample.now) ∷ back_of before.now)) }
 {
     if let Cell::Delay(ahead, there) = place {
         drop(std::mem::replace(ahead, front));
-        return put_behind(there, alloc, before, age, at, dt, sample);
+        return there.follow(alloc, before, age, at, dt, sample);
     }
     match new_behind(alloc, before, age, at, dt, sample) {
         Ok(there) => {
@@ -259,31 +264,7 @@ fn put(
     }
 }
 
-/// What is behind then, in that place where no one else holds it.
-#[inline(always)]
-fn put_behind(
-    place: &mut Rc<Behind>,
-    alloc: Global,
-    before: &Behind,
-    age: u64,
-    at: usize,
-    dt: u64,
-    sample: &Sample,
-) -> Result<(), Memory>
-    ensures { OnOk result
-        (Follows before.now age at (dt, datum_of sample.now) place.new.value) }
-{
-    match Rc::get_mut(place) {
-        Some(behind) => behind.follow(alloc, before, age, at, dt, sample),
-        None => {
-            let fresh = new_behind(alloc, before, age, at, dt, sample)?;
-            drop(std::mem::replace(place, fresh));
-            Ok(())
-        }
-    }
-}
-
-/// The same in memory of its own.
+/// What is behind then, in memory of its own.
 #[inline(never)]
 fn new_behind(
     alloc: Global,
@@ -292,30 +273,15 @@ fn new_behind(
     at: usize,
     dt: u64,
     sample: &Sample,
-) -> Result<Rc<Behind>, Memory>
+) -> Result<Box<Behind>, Memory>
     ensures { IfOk result (λ b. Follows before.now age at (dt, datum_of sample.now) b.value) }
 {
     let mut fresh = Behind::none(alloc);
     match fresh.follow(alloc, before, age, at, dt, sample) {
-        Ok(()) => Ok(Rc::new(alloc, fresh)?),
+        Ok(()) => Ok(Box::new(alloc, fresh)?),
         Err(memory) => {
             drop(fresh);
             Err(memory)
-        }
-    }
-}
-
-/// The same cell, with its parts shared. It takes no memory; `Memory` only where a count of
-/// references is full.
-pub(crate) fn try_copy(front: &Rc<Front>, behind: &Rc<Behind>) -> Result<Cell, Memory>
-    ensures { IfOk result (λ c. cell_of c ≡ delay_of front.now.value behind.now.value) }
-{
-    let front = front.clone()?;
-    match behind.clone() {
-        Ok(behind) => Ok(Cell::Delay(front, behind)),
-        Err(_) => {
-            drop(front);
-            Err(Memory)
         }
     }
 }

@@ -1,6 +1,6 @@
 // One sample through a whole network without switches, whose state is a leaf of the tree.
 
-ghost use Rattle.std.specs.Prelude.{◌≡◌, IfOk};
+ghost use Rattle.std.specs.Prelude.{◌≡◌, IfOk, map};
 ghost use Rattle.sample_core.specs.ValueView.{datum_of};
 ghost use Rattle.state_core.specs.{RowsView.rows_in, StateView.state_of};
 ghost use Rattle.step_core.specs.{Flow.FlowsThrough, Flow.IsFlow, Flow.past_in, Outcome.RunsBy, Outcome.outcome};
@@ -32,41 +32,46 @@ pub(crate) fn run_static<'n, R: Rows>(
     if let State::Static(there, _) = place {
         *there = net;
     }
+    let on = Context {
+        alloc,
+        rows,
+        params: params.as_slice(),
+        before,
+        dt,
+    };
     match place {
         State::Static(_, kept) => {
-            flow_kept(alloc, rows, net, params, before, dt, x, kept, out)?;
+            flow_kept(&on, net, params, x, kept, out)?;
             Ok(net.nodes())
         }
         other => {
-            let kept = flow_anew(alloc, rows, net, params, before, dt, x, out)?;
+            let kept = flow_anew(&on, net, params, x, out)?;
             drop(std::mem::replace(other, State::Static(net, kept)));
             Ok(net.nodes())
         }
     }
 }
 
-/// Puts out what a network without switches answers. What it keeps then comes into the place of
-/// what was kept, whose memory it takes where no one else holds that.
+/// Puts out what a network without switches answers, with these parameters in scope. What it keeps
+/// then comes into the place of what was kept, whose memory it takes where no one else holds that.
 #[inline(always)]
 fn flow_kept<R: Rows>(
-    alloc: Global,
-    rows: &R,
+    on: &Context<'_, R>,
     net: StaticNet<'_>,
     params: &Params,
-    before: Option<&Cells>,
-    dt: u64,
     x: &Sample,
     kept: &mut StaticState,
     out: &mut Sample,
 ) -> Result<(), Memory>
-    ensures { IfOk result (λ _. (kept.new.0 ≡ params.now) × FlowsThrough (R.keys rows.now)
-        (rows_in net.entry.net.now) params.now (past_in before.entry dt) (datum_of x.now) kept.new.1
-        (datum_of out.new)) }
+    requires { params.now ≡ map datum_of on.now.params.now }
+    ensures { IfOk result (λ _. (kept.new.0 ≡ params.now) × FlowsThrough (R.keys on.now.rows.now)
+        (rows_in net.entry.net.now) params.now (past_in on.now.before on.now.dt) (datum_of x.now)
+        kept.new.1 (datum_of out.new)) }
 {
     if let Some(parts) = kept.get_mut() {
-        return flow_over(alloc, rows, net, params, before, dt, x, parts, out);
+        return flow_over(on, net, params, x, parts, out);
     }
-    let fresh = flow_anew(alloc, rows, net, params, before, dt, x, out)?;
+    let fresh = flow_anew(on, net, params, x, out)?;
     drop(std::mem::replace(kept, fresh));
     Ok(())
 }
@@ -74,22 +79,20 @@ fn flow_kept<R: Rows>(
 /// The same in memory of its own.
 #[inline(never)]
 fn flow_anew<R: Rows>(
-    alloc: Global,
-    rows: &R,
+    on: &Context<'_, R>,
     net: StaticNet<'_>,
     params: &Params,
-    before: Option<&Cells>,
-    dt: u64,
     x: &Sample,
     out: &mut Sample,
 ) -> Result<StaticState, Memory>
-    ensures { IfOk result (λ k. (k.0 ≡ params.now) × FlowsThrough (R.keys rows.now)
-        (rows_in net.entry.net.now) params.now (past_in before.entry dt) (datum_of x.now) k.1
-        (datum_of out.new)) }
+    requires { params.now ≡ map datum_of on.now.params.now }
+    ensures { IfOk result (λ k. (k.0 ≡ params.now) × FlowsThrough (R.keys on.now.rows.now)
+        (rows_in net.entry.net.now) params.now (past_in on.now.before on.now.dt) (datum_of x.now)
+        k.1 (datum_of out.new)) }
 {
-    let mut parts = StaticParts::none(alloc);
-    match flow_over(alloc, rows, net, params, before, dt, x, &mut parts, out) {
-        Ok(()) => StaticState::new(alloc, parts),
+    let mut parts = StaticParts::none(on.alloc);
+    match flow_over(on, net, params, x, &mut parts, out) {
+        Ok(()) => StaticState::new(on.alloc, parts),
         Err(memory) => {
             drop(parts);
             Err(memory)
@@ -100,27 +103,18 @@ fn flow_anew<R: Rows>(
 /// Puts out what the network answers; what it keeps then comes into that place.
 #[inline(always)]
 fn flow_over<R: Rows>(
-    alloc: Global,
-    rows: &R,
+    on: &Context<'_, R>,
     net: StaticNet<'_>,
     params: &Params,
-    before: Option<&Cells>,
-    dt: u64,
     x: &Sample,
     parts: &mut StaticParts,
     out: &mut Sample,
 ) -> Result<(), Memory>
-    ensures { IfOk result (λ _. (parts.new.params ≡ params.now) × FlowsThrough (R.keys rows.now)
-        (rows_in net.entry.net.now) params.now (past_in before.entry dt) (datum_of x.now)
-        parts.new.cells (datum_of out.new)) }
+    requires { params.now ≡ map datum_of on.now.params.now }
+    ensures { IfOk result (λ _. (parts.new.params ≡ params.now)
+        × FlowsThrough (R.keys on.now.rows.now) (rows_in net.entry.net.now) params.now
+        (past_in on.now.before on.now.dt) (datum_of x.now) parts.new.cells (datum_of out.new)) }
 {
     parts.renew(params)?;
-    let on = Context {
-        alloc,
-        rows,
-        params: params.as_slice(),
-        before,
-        dt,
-    };
-    flow(&on, net.net(), x, &mut parts.cells, out)
+    flow(on, net.net(), x, &mut parts.cells, out)
 }

@@ -9,7 +9,7 @@ use Rattle.cell_core.proofs.queue.gather.Given as goal
 -- what is found so far, and what is still behind, are all that go through
 abbrev pub invariant-loop-rest : goal.invariant-loop-rest
 invariant-loop-rest l =
-    then_found (due l.dt (place (front_of l.front) 0).1 (behind l.left (reverse (entries_of l.samples) ++ in_blocks l.earlier))) (entries_of l.entries.items)
+    then_found (due l.dt (place (front_of l.front) 0).1 (behind l.left (reverse (entries_of l.samples) ++ in_blocks l.earlier))) l.entries
     ≡ through l.front l.behind l.dt
 
 abbrev pub decreases-loop-rest : goal.decreases-loop-rest

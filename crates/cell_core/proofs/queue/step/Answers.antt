@@ -10,18 +10,17 @@ use Rattle.cell_core.proofs.Queues.{moved_on}
 use Rattle.cell_core.proofs.queue.step.Goals as goal
 
 -- what is read through a reference is what it leads to
-read_through : (f g : Front) (n m : Behind) (from dt r : ℕ) → f ≡ g → n ≡ m → from ≡ out_in f n → IsPassed (front_of f) n.age dt from r
-    → IsPassed (front_of g) m.age dt (out_in g m) r
-read_through f g n m from dt r front last is p =
-    subst (λ k. IsPassed (front_of k) m.age dt (out_in k m) r) front
-    (subst (λ k. IsPassed (front_of f) k.age dt (out_in f k) r) last (subst (λ i. IsPassed (front_of f) n.age dt i r) is p))
+read_through : (f g : Front) (n : Behind) (from dt r : ℕ) → f ≡ g → from ≡ out_in f n → IsPassed (front_of f) n.age dt from r
+    → IsPassed (front_of g) n.age dt (out_in g n) r
+read_through f g n from dt r front is p =
+    subst (λ k. IsPassed (front_of k) n.age dt (out_in k n) r) front (subst (λ i. IsPassed (front_of f) n.age dt i r) is p)
 
 pub returns-else-at-eq0 : goal.returns-else-at-eq0
 returns-else-at-eq0 c =
     on_ok_weaker c.kept.result
-    (λ h. sym (moved_on c.args.front.now.value.q c.args.dt c.args.behind.now.value.age (out_in c.args.front.now.value c.args.behind.now.value)
-    c.passed-at.result (front_of c.args.front.now.value) (back_of c.args.behind.now.value) (datum_of c.args.sample.now) _
-    (read_through c.deref-ahead.result.now c.args.front.now.value c.deref-last.result.now c.args.behind.now.value c.within-from.result c.args.dt
-    c.passed-at.result c.deref-ahead.ensures c.deref-last.ensures c.within-from.ensures.is c.passed-at.ensures)
+    (λ h. sym (moved_on c.args.front.now.value.q c.args.dt c.args.behind.now.age (out_in c.args.front.now.value c.args.behind.now)
+    c.passed-at.result (front_of c.args.front.now.value) (back_of c.args.behind.now) (datum_of c.args.sample.now) _
+    (read_through c.deref-ahead.result.now c.args.front.now.value c.args.behind.now c.within-from.result c.args.dt c.passed-at.result
+    c.deref-ahead.ensures c.within-from.ensures.is c.passed-at.ensures)
     (omega (arith, c.if-at-eq0.false)) h))
     c.kept.ensures

@@ -1,4 +1,4 @@
-use Rattle.std.proofs.Common.{ap, refl}
+use Rattle.std.proofs.Common.{ap, refl, sym}
 use Rattle.state_core.specs.RowsView.{rows_in}
 use Rattle.step_core.proofs.Flows.{flows_whole}
 use Rattle.step_core.proofs.RunJoins.{if_ok}
@@ -9,7 +9,7 @@ returns g c =
     if_ok c.flow.result _ _
     (λ u f. (
       c.in_ok-renew.ensures.params,
-      flows_whole _ _ _ _ _ _ _ _ _ _ _ _ (ap rows_in c.net.ensures.same) c.as_slice.ensures f
+      flows_whole _ _ _ _ _ _ _ _ _ _ _ _ (ap rows_in c.net.ensures.same) (sym c.requires) f
           c.in_ok-renew.ensures.cells c.net.ensures.fixed refl refl,
     ))
     c.flow.ensures

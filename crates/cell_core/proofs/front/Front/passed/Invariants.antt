@@ -6,7 +6,7 @@ use Rattle.cell_core.proofs.front.Front.passed.Given as goal
 abbrev pub invariant-loop-at : goal.invariant-loop-at
 invariant-loop-at l = record {
   down : l.at ≤ l.from;
-  moved : Moves (entries_of l.self.entries.items) l.age l.dt l.from l.at;
+  moved : Moves (entries_of l.entries) l.age l.dt l.from l.at;
 }
 
 abbrev pub decreases-loop-at : goal.decreases-loop-at
