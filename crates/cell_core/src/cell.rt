@@ -1,6 +1,6 @@
 // The cells.
 
-ghost use Rattle.std.specs.Prelude.{◌≡◌, ◌≢◌, IfOk, OnOk, MatchOption};
+ghost use Rattle.std.specs.Prelude.{◌≡◌, ◌≢◌, IfOk, IsOk, OnOk, MatchOption};
 ghost use Rattle.sample_core.specs.{Datum.Datum, ValueView.datum_of};
 ghost use Rattle.cell_core.specs.CellView.{cell_of, outcome_of};
 ghost use Rattle.cell_core.specs.Cell.{cell_step, accumulating, previous as keeping};
@@ -81,14 +81,8 @@ impl Cell {
     {
         let mut next = Cell::Time(0);
         let mut answer = Sample::Int(0);
-        match self.step_into(alloc, dt, sample, &mut next, &mut answer) {
-            Ok(()) => Ok((next, answer)),
-            Err(memory) => {
-                drop(next);
-                drop(answer);
-                Err(memory)
-            }
-        }
+        let done = self.step_into(alloc, dt, sample, &mut next, &mut answer);
+        answered(done, next, answer)
     }
 
     /// The same, with the cell after it in the place of another one, and the answer in that of
@@ -162,6 +156,24 @@ impl Cell {
         match self {
             Cell::IPre(before) => Some(before),
             _ => None,
+        }
+    }
+}
+
+/// The cell and its answer, where all was done that they come of.
+pub(crate) fn answered(
+    done: Result<(), Memory>,
+    cell: Cell,
+    answer: Sample,
+) -> Result<(Cell, Sample), Memory>
+    ensures { IfOk result (λ r. IsOk done × (r ≡ (cell, answer))) }
+{
+    match done {
+        Ok(()) => Ok((cell, answer)),
+        Err(memory) => {
+            drop(cell);
+            drop(answer);
+            Err(memory)
         }
     }
 }

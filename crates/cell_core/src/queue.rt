@@ -8,7 +8,7 @@ ghost use Rattle.cell_core.specs.{Earlier.back_of, Entries.entries_of, Queue.IsR
 ghost use Rattle.cell_core.specs.Start.{cell_start};
 
 use crate::behind::Behind;
-use crate::cell::Cell;
+use crate::cell::{Cell, answered};
 use crate::entry::{Entries, Entry};
 use crate::form::Form;
 use crate::front::Front;
@@ -37,14 +37,8 @@ pub(crate) fn start(
     }
     let mut cell = Cell::Time(0);
     let mut answer = Sample::Int(0);
-    match renewed(alloc, q, 0, entries, sample, &mut cell, &mut answer) {
-        Ok(()) => Ok((cell, answer)),
-        Err(memory) => {
-            drop(cell);
-            drop(answer);
-            Err(memory)
-        }
-    }
+    let done = renewed(alloc, q, 0, entries, sample, &mut cell, &mut answer);
+    answered(done, cell, answer)
 }
 
 /// The queue after dt more, with the sample in it, in that place, and its answer in the other: the
@@ -223,65 +217,44 @@ fn joined(
     ensures { OnOk result (IsJoined front.value age at
         ((dt, datum_of sample.now) ∷ back_of before.now) (outcome_of (place.new, out.new))) }
 {
-    match copy_over(alloc, &front.entries.as_slice()[at].value, out) {
-        Ok(()) => put(alloc, front, before, age, at, dt, sample, place),
-        Err(memory) => {
-            drop(front);
-            Err(memory)
-        }
+    if let Err(memory) = copy_over(alloc, &front.entries.as_slice()[at].value, out) {
+        drop(front);
+        return Err(memory);
     }
-}
-
-/// The same without the answer.
-#[inline(always)]
-fn put(
-    alloc: Global,
-    front: Rc<Front>,
-    before: &Behind,
-    age: u64,
-    at: usize,
-    dt: u64,
-    sample: &Sample,
-    place: &mut Cell,
-) -> Result<(), Memory>
-    requires { at < length front.value.entries }
-    ensures { OnOk result (cell_of place.new
-        ≡ queue_of front.value age at ((dt, datum_of sample.now) ∷ back_of before.now)) }
-{
     if let Cell::Delay(ahead, there) = place {
         drop(std::mem::replace(ahead, front));
         return there.follow(alloc, before, age, at, dt, sample);
     }
-    match new_behind(alloc, before, age, at, dt, sample) {
-        Ok(there) => {
-            place.put(Cell::Delay(front, there));
-            Ok(())
-        }
+    let mut fresh = Behind::none(alloc);
+    match fresh.follow(alloc, before, age, at, dt, sample) {
+        Ok(()) => put_new(alloc, front, fresh, place),
         Err(memory) => {
+            drop(fresh);
             drop(front);
             Err(memory)
         }
     }
 }
 
-/// What is behind then, in memory of its own.
+/// A `delay` with this front and what is behind it, where the place is of another form.
 #[inline(never)]
-fn new_behind(
+fn put_new(
     alloc: Global,
-    before: &Behind,
-    age: u64,
-    at: usize,
-    dt: u64,
-    sample: &Sample,
-) -> Result<Box<Behind>, Memory>
-    ensures { IfOk result (λ b. Follows before.now age at (dt, datum_of sample.now) b.value) }
+    front: Rc<Front>,
+    behind: Behind,
+    place: &mut Cell,
+) -> Result<(), Memory>
+    ensures { OnOk result (cell_of place.new ≡ delay_of front.value behind) }
 {
-    let mut fresh = Behind::none(alloc);
-    match fresh.follow(alloc, before, age, at, dt, sample) {
-        Ok(()) => Ok(Box::new(alloc, fresh)?),
-        Err(memory) => {
-            drop(fresh);
-            Err(memory)
+    match Box::new(alloc, behind) {
+        Ok(behind) => {
+            place.put(Cell::Delay(front, behind));
+            Ok(())
+        }
+        Err(refused) => {
+            drop(refused);
+            drop(front);
+            Err(Memory)
         }
     }
 }

@@ -62,6 +62,9 @@ no_items (x ∷ xs) e = absurd (omega (arith, e))
 pub cell_by : (net m : Network ℕ) (form : Form) (c : Option ℕ) → net ≡ m → IsCell m form c → IsCell net form c
 cell_by net m form c e h = subst (λ z. IsCell z form c) (sym e) h
 
+-- the forms of cells
+pub ruleset cell_forms = (F.is_i_pre, F.is_delay, F.is_hold, F.is_after, F.is_repeatedly, F.is_time, F.is_integral)
+
 from_start : (p : Past) → p ≡ behind 0 p
 from_start None = refl
 from_start (Some p) = refl

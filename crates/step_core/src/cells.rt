@@ -81,16 +81,19 @@ pub(crate) fn start_accum<R: Rows>(
         (datum_of r.1) 1) }
 {
     let value = rows.call(z, params, &Sample::Unit)?;
-    match put_in(alloc, rows, g, params, &value, x) {
-        Ok(input) => {
-            let first = Cell::start(alloc, Form::AccumBy, value, &input);
-            drop(input);
-            first
-        }
-        Err(memory) => {
-            drop(value);
-            Err(memory)
-        }
+    match x {
+        Sample::Event(event) => match put_event(alloc, rows, g, params, &value, event.get()) {
+            Ok(input) => {
+                let first = Cell::start(alloc, Form::AccumBy, value, &input);
+                drop(input);
+                first
+            }
+            Err(memory) => {
+                drop(value);
+                Err(memory)
+            }
+        },
+        _ => Cell::start(alloc, Form::AccumBy, value, x),
     }
 }
 
@@ -121,25 +124,6 @@ pub(crate) fn step_accum<R: Rows>(
             _ => cells.push_step(alloc, cell, 0, x, out),
         },
         None => Err(Memory),
-    }
-}
-
-/// In the place of an event, the event of what the row answers to the pair of the accumulator and
-/// the event's value.
-fn put_in<R: Rows>(
-    alloc: Global,
-    rows: &R,
-    g: LeafId,
-    params: &[Sample],
-    held: &Sample,
-    x: &Sample,
-) -> Result<Sample, Memory>
-    ensures { IfOk result (λ a. IsPutIn (R.keys rows.now) (row_number g)
-        (map datum_of params.now) (datum_of held.now) (datum_of x.now) (datum_of a)) }
-{
-    match x {
-        Sample::Event(value) => put_event(alloc, rows, g, params, held, value.get()),
-        _ => x.try_copy(alloc),
     }
 }
 

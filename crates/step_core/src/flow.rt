@@ -363,6 +363,7 @@ fn first_cell<R: Rows>(
 
 /// The form of a cell, and its constant, if it has one. `flow` asks for no other network; `Memory`
 /// then.
+#[tactic(auto, using(crate::proofs::Flows::cell_forms))]
 fn form_of(net: &Net<LeafId>) -> Result<(Form, Option<LeafId>), Memory>
     ensures { IfOk result (λ r. IsCell (rows_in net.now) r.0 (number_of r.1)) }
 {
