@@ -1,5 +1,5 @@
 -- What a delay's front and back are, and how they step.
-use Rattle.std.specs.Prelude.{◌≡◌, ℕ, ◌+◌, List, ◌∷◌, ◌++◌, length}
+use Rattle.std.specs.Prelude.{◌≡◌, ℕ, List, ◌∷◌, ◌++◌, length}
 use Rattle.sample_core.specs.Datum.{Datum}
 use Rattle.cell_core.specs.Cell.{Cell, queue, due, enqueue}
 use Rattle.cell_core.specs.Queue.{behind, place, within, fronted, IsFront}
@@ -31,11 +31,6 @@ Follows b age at e c = (back_of c ≡ e ∷ back_of b) × (c.age ≡ age) × (c.
 -- the queue and the answer with this front, its age, the place of what is out, and these behind
 abbrev pub IsJoined : Front → ℕ → ℕ → List (ℕ × Datum) → Cell × Datum → Type 0
 IsJoined f age at back r = (queue_of f age at back, (place (front_of f) at).1) ≡ r
-
--- the queue and the answer after dt more, where what is out then stands at that place and others
--- wait before it, with v in it
-abbrev pub IsKept : Front → Behind → ℕ → ℕ → Datum → Cell × Datum → Type 0
-IsKept f n at dt v r = IsJoined f (n.age + dt) at ((dt, v) ∷ back_of n) r
 
 -- what is out and what waits dt later, where all in front has passed
 abbrev pub through : Front → Behind → ℕ → Datum × List (ℕ × Datum)

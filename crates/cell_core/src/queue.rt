@@ -3,7 +3,7 @@
 ghost use Rattle.std.specs.Prelude.{◌≡◌, ◌+◌, ◌<◌, ◌^◌, ◌∷◌, [], reverse, IfOk, OnOk, length};
 ghost use Rattle.sample_core.specs.ValueView.{datum_of};
 ghost use Rattle.cell_core.specs.{Cell.cell_step, CellView.cell_of, CellView.outcome_of};
-ghost use Rattle.cell_core.specs.Delays.{delay_of, queue_of, Follows, IsJoined, IsKept, IsTurned, IsGathered};
+ghost use Rattle.cell_core.specs.Delays.{delay_of, queue_of, Follows, IsJoined, IsTurned, IsGathered};
 ghost use Rattle.cell_core.specs.{Earlier.back_of, Entries.entries_of, Queue.IsRenewed, Queue.Gathers};
 ghost use Rattle.cell_core.specs.Start.{cell_start};
 
@@ -61,33 +61,20 @@ pub(crate) fn step(
     let from = ahead.within(behind.at);
     let at = ahead.passed(from, behind.age, dt);
     if at == 0 {
-        turned(ahead, behind, alloc, dt, sample, place, out)
-    } else {
-        kept(front, behind, alloc, at, dt, sample, place, out)
+        return turned(ahead, behind, alloc, dt, sample, place, out);
     }
-}
-
-/// The queue after dt more, where what is out then stands at `at` in front and others wait
-/// before it, with the sample in it, and its answer.
-#[inline(always)]
-fn kept(
-    front: &Rc<Front>,
-    behind: &Behind,
-    alloc: Global,
-    at: usize,
-    dt: u64,
-    sample: &Sample,
-    place: &mut Cell,
-    out: &mut Sample,
-) -> Result<(), Memory>
-    requires within { at < length front.now.value.entries }
-    requires fits { behind.now.age + dt < 2 ^ 64 }
-    ensures { OnOk result (IsKept front.now.value behind.now at dt (datum_of sample.now)
-        (outcome_of (place.new, out.new))) }
-{
-    let age = behind.age + dt;
     let front = front.clone()?;
-    joined(alloc, front, behind, age, at, dt, sample, place, out)
+    joined(
+        alloc,
+        front,
+        behind,
+        behind.age + dt,
+        at,
+        dt,
+        sample,
+        place,
+        out,
+    )
 }
 
 /// The queue after dt more, where all in front has passed: those behind that aren't due come to
@@ -238,12 +225,7 @@ fn joined(
 
 /// A `delay` with this front and what is behind it, where the place is of another form.
 #[inline(never)]
-fn put_new(
-    alloc: Global,
-    front: Rc<Front>,
-    behind: Behind,
-    place: &mut Cell,
-) -> Result<(), Memory>
+fn put_new(alloc: Global, front: Rc<Front>, behind: Behind, place: &mut Cell) -> Result<(), Memory>
     ensures { OnOk result (cell_of place.new ≡ delay_of front.value behind) }
 {
     match Box::new(alloc, behind) {
