@@ -6,3 +6,4 @@ pub mod Exactness
 mod Typed
 pub mod Uniqueness
 pub mod ShapeValue
+pub mod Sizes

@@ -7,7 +7,7 @@ ghost use Rattle.leaf_core.specs.{ExpressionView.expression_of, Inside.inside_of
 ghost use Rattle.leaf_core.specs.Expression.{expressions_of};
 ghost use Rattle.leaf_core.specs.HashWrites.{tag_of, type_writes, expression_writes, expressions_writes};
 
-use crate::expr::{Expr, ExprChild, Exprs};
+use crate::expr::{Expr, Exprs};
 use crate::inside::{Contents, inside};
 use crate::literal::Literal;
 use sample_core::Ty;
@@ -93,31 +93,18 @@ fn feed_inside<H: Hasher>(expr: &Expr, state: &mut H)
         Contents::Index(k) => state.write_u32(k),
         Contents::Number(n) => state.write_i64(n),
         Contents::One(a) => feed_expr(a.get(), state),
-        Contents::Two(a, b) => feed_two(a, b, state),
-        Contents::Three(a, b, c) => feed_three(a, b, c, state),
+        Contents::Two(a, b) => {
+            feed_expr(a.get(), state);
+            feed_expr(b.get(), state);
+        }
+        Contents::Three(a, b, c) => {
+            feed_expr(a.get(), state);
+            feed_expr(b.get(), state);
+            feed_expr(c.get(), state);
+        }
         Contents::Type(t) => feed_type(t, state),
         Contents::Elements(t, all) => feed_list(t, all, state),
     }
-}
-
-/// Feeds two parts to the hasher, one after the other.
-#[cycle(feed)]
-fn feed_two<H: Hasher>(a: &ExprChild, b: &ExprChild, state: &mut H)
-    ensures { state.new ≡ fold H.write state.old
-        (expression_writes a.now ++ expression_writes b.now) }
-{
-    feed_expr(a.get(), state);
-    feed_expr(b.get(), state);
-}
-
-/// Feeds three parts to the hasher, one after another.
-#[cycle(feed)]
-fn feed_three<H: Hasher>(a: &ExprChild, b: &ExprChild, c: &ExprChild, state: &mut H)
-    ensures { state.new ≡ fold H.write state.old
-        (expression_writes a.now ++ (expression_writes b.now ++ expression_writes c.now)) }
-{
-    feed_expr(a.get(), state);
-    feed_two(b, c, state);
 }
 
 /// Feeds the type and the elements of a list expression to the hasher, and the byte behind them.

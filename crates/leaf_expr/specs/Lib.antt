@@ -1,3 +1,4 @@
+-- How types and expressions are read and printed, a file a line.
 pub mod WordReading
 pub mod Token
 pub mod Sexpr

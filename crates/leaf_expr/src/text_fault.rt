@@ -1,6 +1,7 @@
 // Why a type or an expression could not be read.
 
 ghost use Rattle.std.specs.Prelude.{◌≡◌};
+ghost use Rattle.leaf_expr.specs.declared.text_fault.ExprTextFault.TheVariants.{Memory};
 
 use sample_core::OutOfMemory;
 use thiserror::Error;
@@ -28,9 +29,7 @@ pub enum ExprTextFault {
 }
 
 impl<E: OutOfMemory> From<E> for ExprTextFault {
-    ghost use Rattle.leaf_expr.specs.declared.text_fault.ExprTextFault.TheVariants as Fault;
-
-    ghost from_gives = { λ _ e. e ≡ Fault.Memory };
+    ghost from_gives = { λ _ e. e ≡ Memory };
 
     fn from(_: E) -> ExprTextFault {
         ExprTextFault::Memory

@@ -431,44 +431,23 @@ fn size_left<L>(net: &Net<L>, most: u32) -> Option<u32>
         | Net::Time
         | Net::Integral
         | Net::Old(_) => Some(most),
-        Net::First(f) | Net::LoopPre(_, f) => size_left_of_one(f, most),
+        Net::First(f) | Net::LoopPre(_, f) => size_left(f.get(), most.checked_sub(1)?),
         Net::Seq(f, g) | Net::Switch(f, g) | Net::DSwitch(f, g) | Net::RSwitch(f, g) => {
-            size_left_of_two(f, g, most)
+            let rest = size_left(f.get(), most.checked_sub(1)?)?;
+            size_left(g.get(), rest)
         }
-        Net::Par(fs) => size_left_of_all(fs, most),
-        Net::KSwitch(f, e, t) => size_left(t.get(), size_left_of_two(f, e, most)?),
+        Net::Par(fs) => size_left_of_members(fs.as_slice(), most.checked_sub(1)?),
+        Net::KSwitch(f, e, t) => {
+            let rest = size_left(f.get(), most.checked_sub(1)?)?;
+            let rest = size_left(e.get(), rest)?;
+            size_left(t.get(), rest)
+        }
         Net::PSwitch(_, fs, e, t) => {
-            let rest = size_left_of_all(fs, most)?;
-            size_left(t.get(), size_left(e.get(), rest)?)
+            let rest = size_left_of_members(fs.as_slice(), most.checked_sub(1)?)?;
+            let rest = size_left(e.get(), rest)?;
+            size_left(t.get(), rest)
         }
     }
-}
-
-/// The same of a node with one network.
-#[cycle(size)]
-fn size_left_of_one<L>(f: &NetChild<L>, most: u32) -> Option<u32>
-    ensures { MatchOption result (most < suc (network_size f.now))
-        (λ left. suc (network_size f.now) + left ≡ most) }
-{
-    size_left(f.get(), most.checked_sub(1)?)
-}
-
-/// The same of a node with two networks.
-#[cycle(size)]
-fn size_left_of_two<L>(f: &NetChild<L>, g: &NetChild<L>, most: u32) -> Option<u32>
-    ensures { MatchOption result (most < suc (network_size f.now + network_size g.now))
-        (λ left. suc (network_size f.now + network_size g.now) + left ≡ most) }
-{
-    size_left(g.get(), size_left_of_one(f, most)?)
-}
-
-/// The same of a node with members.
-#[cycle(size)]
-fn size_left_of_all<L>(fs: &Members<L>, most: u32) -> Option<u32>
-    ensures { MatchOption result (most < suc (networks_size fs.now))
-        (λ left. suc (networks_size fs.now) + left ≡ most) }
-{
-    size_left_of_members(fs.as_slice(), most.checked_sub(1)?)
 }
 
 /// The same of members.

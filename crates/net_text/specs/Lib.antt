@@ -1,3 +1,4 @@
+-- How network files are read and printed, a file a line.
 pub mod Sugar
 pub mod Grammar
 pub mod Form

@@ -1,3 +1,4 @@
+-- What the type checker of networks is to do, a file a line.
 pub mod Walk
 pub mod Check
 pub mod Scopes

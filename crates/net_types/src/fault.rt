@@ -60,9 +60,9 @@ pub enum TypeFault {
 }
 
 impl<E: OutOfMemory> From<E> for TypeFault {
-    ghost use Rattle.net_types.specs.declared.fault.TypeFault.TheVariants as Fault;
+    ghost use Rattle.net_types.specs.declared.fault.TypeFault.TheVariants.{Memory};
 
-    ghost from_gives = { λ _ e. e ≡ Fault.Memory };
+    ghost from_gives = { λ _ e. e ≡ Memory };
 
     fn from(_: E) -> TypeFault {
         TypeFault::Memory

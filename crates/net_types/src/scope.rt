@@ -18,13 +18,13 @@ pub(crate) struct Scope {
 }
 
 impl Model for Scope {
+    ghost use Rattle.std.specs.Prelude.{map};
     ghost use Rattle.net_types.specs.Scopes.{InScope, in_scope_code};
 
     ghost Value = { InScope };
 
     ghost coded = { in_scope_code };
 
-    ghost use Rattle.std.specs.Prelude.{map};
     ghost use Rattle.sample_core.specs.TypeView.{type_of};
     ghost use Rattle.net_syntax.specs.ArrowView.{arrow_of};
 

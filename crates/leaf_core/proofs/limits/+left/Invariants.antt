@@ -1,5 +1,5 @@
 use Rattle.std.proofs.Common.{◌≡◌, ◌+◌, ◌*◌, ◌≤◌, ◌↔◌, drop, map}
-use Rattle.leaf_core.specs.Expression.{expressions_of, heights_of, nodes_in, nodes_in_all}
+use Rattle.leaf_core.specs.Expression.{expressions_of, heights_of, nodes_in_all}
 use Rattle.leaf_core.specs.ExpressionView.{expression_of}
 use Rattle.leaf_core.proofs.limits.+left.Given as goal
 
@@ -12,13 +12,13 @@ invariant-nodes_left_of_all-loop-element l =
     + l.left ≡ nodes_in_all (expressions_of (map expression_of (drop l.element-index l.element-items))) + l.initial.left)
 
 abbrev pub decreases-nodes_left : goal.decreases-nodes_left
-decreases-nodes_left l = 3 * nodes_in (expression_of l.expr.now)
+decreases-nodes_left l = 3 * l.height + 1
 
 abbrev pub decreases-nodes_left_of_all : goal.decreases-nodes_left_of_all
-decreases-nodes_left_of_all l = 3 * nodes_in_all (expressions_of l.all.now) + 1
+decreases-nodes_left_of_all l = 3 * l.height + 2
 
 abbrev pub decreases-nodes_left_of_two : goal.decreases-nodes_left_of_two
-decreases-nodes_left_of_two l = 3 * (nodes_in l.a.now + nodes_in l.b.now) + 1
+decreases-nodes_left_of_two l = 3 * l.height + 2
 
 abbrev pub decreases-nodes_left_of_three : goal.decreases-nodes_left_of_three
-decreases-nodes_left_of_three l = 3 * (nodes_in l.a.now + nodes_in l.b.now + nodes_in l.c.now) + 2
+decreases-nodes_left_of_three l = 3 * l.height + 3

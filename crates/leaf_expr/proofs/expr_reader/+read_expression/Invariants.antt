@@ -10,40 +10,40 @@ abbrev pub invariant-items-loop-end : goal.invariant-items-loop-end
 invariant-items-loop-end l = with_front (map expression_of l.all.items) (items_at l.text l.room l.next) ≡ items_at l.text l.room l.at
 
 abbrev pub decreases-read_expression : goal.decreases-read_expression
-decreases-read_expression l = 6 * l.room
+decreases-read_expression l = 6 * l.room + 1
 
 abbrev pub decreases-form : goal.decreases-form
-decreases-form l = 6 * l.room + 5
+decreases-form l = 6 * l.room + 6
 
 abbrev pub decreases-parts : goal.decreases-parts
-decreases-parts l = 6 * l.room + 4
+decreases-parts l = 6 * l.room + 5
 
 abbrev pub decreases-part : goal.decreases-part
-decreases-part l = 6 * l.room + 1
+decreases-part l = 6 * l.room + 2
 
 abbrev pub decreases-last_two : goal.decreases-last_two
-decreases-last_two l = 6 * l.room + 2
+decreases-last_two l = 6 * l.room + 3
 
 abbrev pub decreases-elements : goal.decreases-elements
-decreases-elements l = 6 * l.room + 2
+decreases-elements l = 6 * l.room + 3
 
 abbrev pub decreases-unary : goal.decreases-unary
-decreases-unary l = 6 * l.room + 3
+decreases-unary l = 6 * l.room + 4
 
 abbrev pub decreases-binary : goal.decreases-binary
-decreases-binary l = 6 * l.room + 3
+decreases-binary l = 6 * l.room + 4
 
 abbrev pub decreases-ternary : goal.decreases-ternary
-decreases-ternary l = 6 * l.room + 3
+decreases-ternary l = 6 * l.room + 4
 
 abbrev pub decreases-typed : goal.decreases-typed
-decreases-typed l = 6 * l.room + 3
+decreases-typed l = 6 * l.room + 4
 
 abbrev pub decreases-list : goal.decreases-list
-decreases-list l = 6 * l.room + 3
+decreases-list l = 6 * l.room + 4
 
 abbrev pub decreases-items : goal.decreases-items
-decreases-items l = 6 * l.room + 1
+decreases-items l = 6 * l.room + 2
 
 abbrev pub decreases-items-loop-end : goal.decreases-items-loop-end
 decreases-items-loop-end l = length (tokens_from l.next l.text)

@@ -17,52 +17,52 @@ abbrev pub decreases-networks_at-loop-end : goal.decreases-networks_at-loop-end
 decreases-networks_at-loop-end l = length (tokens_from l.next l.text)
 
 abbrev pub decreases-network_at : goal.decreases-network_at
-decreases-network_at l = 8 * l.room
+decreases-network_at l = 8 * l.room + 1
 
 abbrev pub decreases-form_at : goal.decreases-form_at
-decreases-form_at l = 8 * l.room + 7
+decreases-form_at l = 8 * l.room + 8
 
 abbrev pub decreases-parts_at : goal.decreases-parts_at
-decreases-parts_at l = 8 * l.room + 6
+decreases-parts_at l = 8 * l.room + 7
 
 abbrev pub decreases-child_at : goal.decreases-child_at
-decreases-child_at l = 8 * l.room + 1
+decreases-child_at l = 8 * l.room + 2
 
 abbrev pub decreases-last_child_at : goal.decreases-last_child_at
-decreases-last_child_at l = 8 * l.room + 2
+decreases-last_child_at l = 8 * l.room + 3
 
 abbrev pub decreases-last_two_at : goal.decreases-last_two_at
-decreases-last_two_at l = 8 * l.room + 3
+decreases-last_two_at l = 8 * l.room + 4
 
 abbrev pub decreases-last_three_at : goal.decreases-last_three_at
-decreases-last_three_at l = 8 * l.room + 4
+decreases-last_three_at l = 8 * l.room + 5
 
 abbrev pub decreases-unary_at : goal.decreases-unary_at
-decreases-unary_at l = 8 * l.room + 4
+decreases-unary_at l = 8 * l.room + 5
 
 abbrev pub decreases-binary_at : goal.decreases-binary_at
-decreases-binary_at l = 8 * l.room + 4
+decreases-binary_at l = 8 * l.room + 5
 
 abbrev pub decreases-k_switch_at : goal.decreases-k_switch_at
-decreases-k_switch_at l = 8 * l.room + 4
+decreases-k_switch_at l = 8 * l.room + 5
 
 abbrev pub decreases-loop_at : goal.decreases-loop_at
-decreases-loop_at l = 8 * l.room + 4
+decreases-loop_at l = 8 * l.room + 5
 
 abbrev pub decreases-par_at : goal.decreases-par_at
-decreases-par_at l = 8 * l.room + 4
+decreases-par_at l = 8 * l.room + 5
 
 abbrev pub decreases-p_switch_at : goal.decreases-p_switch_at
-decreases-p_switch_at l = 8 * l.room + 5
+decreases-p_switch_at l = 8 * l.room + 6
 
 abbrev pub decreases-col_at : goal.decreases-col_at
-decreases-col_at l = 8 * l.room
+decreases-col_at l = 8 * l.room + 1
 
 abbrev pub decreases-col_form_at : goal.decreases-col_form_at
-decreases-col_form_at l = 8 * l.room + 3
+decreases-col_form_at l = 8 * l.room + 4
 
 abbrev pub decreases-members_at : goal.decreases-members_at
-decreases-members_at l = 8 * l.room + 2
+decreases-members_at l = 8 * l.room + 3
 
 abbrev pub decreases-networks_at : goal.decreases-networks_at
-decreases-networks_at l = 8 * l.room + 1
+decreases-networks_at l = 8 * l.room + 2

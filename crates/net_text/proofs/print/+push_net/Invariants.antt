@@ -3,8 +3,9 @@ use Rattle.sample_core.specs.Adding.{Extends}
 use Rattle.leaf_core.specs.ExpressionView.{expression_of}
 use Rattle.leaf_expr.specs.Sexpr.{spellings}
 use Rattle.net_syntax.specs.Network.{network_size, networks_size, map_networks}
-use Rattle.net_syntax.specs.NetworkView.{network_of, members_of}
+use Rattle.net_syntax.specs.NetworkView.{members_of}
 use Rattle.net_text.specs.Printing.{network_sexprs}
+use Rattle.net_syntax.proofs.Sizes.{net_size}
 use Rattle.net_text.proofs.print.+push_net.Given as goal
 
 -- the text begins as it did, and what stands there and the spelling of the members to come is the whole
@@ -15,37 +16,37 @@ invariant-push_members-loop-net l =
     ≡ string_bytes l.initial.text ++ spellings (network_sexprs (map_networks expression_of (members_of l.net-items))))
 
 abbrev pub decreases-push_net : goal.decreases-push_net
-decreases-push_net l = 5 * network_size (network_of l.net.now)
+decreases-push_net l = 5 * net_size l.net.now + 1
 
 abbrev pub decreases-push_next : goal.decreases-push_next
-decreases-push_next l = 5 * network_size (network_of l.net.now) + 1
+decreases-push_next l = 5 * net_size l.net.now + 2
 
 abbrev pub decreases-push_last : goal.decreases-push_last
-decreases-push_last l = 5 * network_size l.f.now + 2
-
-abbrev pub decreases-push_last_two : goal.decreases-push_last_two
-decreases-push_last_two l = 5 * (network_size l.f.now + network_size l.g.now) + 3
-
-abbrev pub decreases-push_one : goal.decreases-push_one
-decreases-push_one l = 5 * network_size l.f.now + 3
-
-abbrev pub decreases-push_two : goal.decreases-push_two
-decreases-push_two l = 5 * (network_size l.f.now + network_size l.g.now) + 4
-
-abbrev pub decreases-push_k_switch : goal.decreases-push_k_switch
-decreases-push_k_switch l = 5 * (network_size l.f.now + network_size l.e.now + network_size l.t.now) + 4
-
-abbrev pub decreases-push_loop : goal.decreases-push_loop
-decreases-push_loop l = 5 * network_size l.f.now + 3
+decreases-push_last l = 5 * network_size l.f.now + 3
 
 abbrev pub decreases-push_members : goal.decreases-push_members
-decreases-push_members l = 5 * networks_size l.all.now + 2
+decreases-push_members l = 5 * networks_size l.all.now + 3
+
+abbrev pub decreases-push_last_two : goal.decreases-push_last_two
+decreases-push_last_two l = 5 * (network_size l.f.now + network_size l.g.now) + 4
+
+abbrev pub decreases-push_one : goal.decreases-push_one
+decreases-push_one l = 5 * network_size l.f.now + 4
+
+abbrev pub decreases-push_loop : goal.decreases-push_loop
+decreases-push_loop l = 5 * network_size l.f.now + 4
 
 abbrev pub decreases-push_par : goal.decreases-push_par
-decreases-push_par l = 5 * networks_size l.all.now + 3
+decreases-push_par l = 5 * networks_size l.all.now + 4
 
 abbrev pub decreases-push_col : goal.decreases-push_col
-decreases-push_col l = 5 * networks_size l.all.now + 3
+decreases-push_col l = 5 * networks_size l.all.now + 4
+
+abbrev pub decreases-push_two : goal.decreases-push_two
+decreases-push_two l = 5 * (network_size l.f.now + network_size l.g.now) + 5
+
+abbrev pub decreases-push_k_switch : goal.decreases-push_k_switch
+decreases-push_k_switch l = 5 * (network_size l.f.now + network_size l.e.now + network_size l.t.now) + 5
 
 abbrev pub decreases-push_p_switch : goal.decreases-push_p_switch
-decreases-push_p_switch l = 5 * (networks_size l.all.now + network_size l.e.now + network_size l.t.now) + 4
+decreases-push_p_switch l = 5 * (networks_size l.all.now + network_size l.e.now + network_size l.t.now) + 5

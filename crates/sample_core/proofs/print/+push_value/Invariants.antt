@@ -1,7 +1,7 @@
-use Rattle.std.proofs.Common.{◌≡◌, ◌+◌, ◌*◌, ◌++◌, string_bytes, drop, map}
+use Rattle.std.proofs.Common.{◌≡◌, ◌++◌, string_bytes, drop, map}
 use Rattle.sample_core.specs.ValueView.{datum_of}
 use Rattle.sample_core.specs.Adding.{Extends}
-use Rattle.sample_core.specs.Datum.{list_of, datum_size, datums_size}
+use Rattle.sample_core.specs.Datum.{list_of}
 use Rattle.sample_core.specs.Spelling.{spellings}
 use Rattle.sample_core.proofs.print.+push_value.Given as goal
 
@@ -11,18 +11,3 @@ invariant-push_list-loop-v l =
     Extends (string_bytes l.initial.text) (string_bytes l.text)
     × (string_bytes l.text ++ spellings (list_of (map datum_of (drop l.v-index l.v-items))) ≡ string_bytes l.initial.text
     ++ spellings (list_of (map datum_of l.v-items)))
-
-abbrev pub decreases-push_value : goal.decreases-push_value
-decreases-push_value l = 3 * datum_size (datum_of l.sample.now)
-
-abbrev pub decreases-push_last : goal.decreases-push_last
-decreases-push_last l = 3 * datum_size (datum_of l.v.now) + 2
-
-abbrev pub decreases-push_next : goal.decreases-push_next
-decreases-push_next l = 3 * datum_size (datum_of l.v.now) + 2
-
-abbrev pub decreases-push_list : goal.decreases-push_list
-decreases-push_list l = 3 * datums_size (list_of l.all.now) + 2
-
-abbrev pub decreases-push_part : goal.decreases-push_part
-decreases-push_part l = 3 * datum_size (datum_of l.v.now) + 1
