@@ -1,3 +1,4 @@
+-- What the text of a stream holds, and what its readers answer, a file a line.
 pub mod Failures
 pub mod CountedView
 pub mod TextLines
