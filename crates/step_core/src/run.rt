@@ -87,22 +87,25 @@ fn run_parts<'n, R: Rows>(
         RunsWhere (R.keys rows.now) (source_of from.now dt) (datum_of x.now)
         (state_of place.new) (datum_of out.new) n) }
 {
-    match plan_of(*from) {
+    let plan = plan_of(*from);
+    match &plan {
         Plan::Static(net, params, before) => run_static(
-            alloc, rows, net, params, before, dt, x, place, out,
+            alloc, rows, *net, *params, *before, dt, x, place, out,
         ),
-        Plan::Seq(f, g) => run_seq(alloc, rows, &f, &g, dt, x, place, out),
-        Plan::First(f) => run_first(alloc, rows, &f, dt, x, place, out),
-        Plan::Par(fs) => run_par(alloc, rows, fs, dt, x, place, out),
-        Plan::LoopPre(back, f) => run_loop(alloc, rows, back, &f, dt, x, place, out),
-        Plan::Switch(f, t, env) => run_switch(alloc, rows, &f, t, env, dt, x, place, out),
-        Plan::DSwitch(f, t, env) => run_d_switch(alloc, rows, &f, t, env, dt, x, place, out),
-        Plan::RSwitch(f, t, env) => run_r_switch(alloc, rows, &f, t, env, dt, x, place, out),
-        Plan::KSwitch(f, e, t, env) => run_k_switch(alloc, rows, &f, &e, t, env, dt, x, place, out),
+        Plan::Seq(f, g) => run_seq(alloc, rows, f, g, dt, x, place, out),
+        Plan::First(f) => run_first(alloc, rows, f, dt, x, place, out),
+        Plan::Par(fs) => run_par(alloc, rows, *fs, dt, x, place, out),
+        Plan::LoopPre(back, f) => run_loop(alloc, rows, *back, f, dt, x, place, out),
+        Plan::Switch(f, t, env) => run_switch(alloc, rows, f, *t, *env, dt, x, place, out),
+        Plan::DSwitch(f, t, env) => run_d_switch(alloc, rows, f, *t, *env, dt, x, place, out),
+        Plan::RSwitch(f, t, env) => run_r_switch(alloc, rows, f, *t, *env, dt, x, place, out),
+        Plan::KSwitch(f, e, t, env) => {
+            run_k_switch(alloc, rows, f, e, *t, *env, dt, x, place, out)
+        }
         Plan::PSwitch(r, fs, e, t, env) => run_p_switch(
-            alloc, rows, r, fs, &e, t, env, dt, x, place, out,
+            alloc, rows, *r, *fs, e, *t, *env, dt, x, place, out,
         ),
-        Plan::Old(frozen, step) => run_old(alloc, rows, &frozen, step, x, place, out),
+        Plan::Old(frozen, step) => run_old(alloc, rows, frozen, *step, x, place, out),
         Plan::Beyond => Err(Memory),
     }
 }

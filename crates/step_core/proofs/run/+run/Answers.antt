@@ -1,13 +1,14 @@
-use Rattle.std.proofs.Common.{rules, arith, sym, ap, subst, ◌∙◌, refl, List}
+use Rattle.std.proofs.Common.{◌≡◌, ℕ, rules, arith, sym, ap, subst, ◌∙◌, refl, List}
 use Rattle.leaf_core.specs.KeyTree.{KeyTree}
 use Rattle.sample_core.specs.Datum.{Datum, pair}
 use Rattle.sample_core.specs.ValueView.{datum_of}
 use Rattle.state_core.specs.RowsView.{rows_in, row_number}
-use Rattle.state_core.specs.State.{push_param, push_old, push_olds}
+use Rattle.state_core.specs.State.{Frozen, push_param, push_old, push_olds}
 use Rattle.state_core.specs.Around.{first_part, second_part}
 use Rattle.state_core.specs.StateView.{scope_of, state_of}
 use Rattle.step_core.specs.EventView.{restart_found}
-use Rattle.step_core.specs.Plans.{IsFed, router_of}
+use Rattle.step_core.specs.Plans.{PlanBy, IsFed, router_of}
+use Rattle.step_core.specs.declared.plan.Plan.{Plan}
 use Rattle.step_core.specs.Runs.{RunEachWhere, to_all, by_row, SeqBy, FirstBy, ParBy, LoopBy, SwitchBy, DSwitchBy, RSwitchBy, KSwitchBy, PSwitchBy, OldBy}
 use Rattle.step_core.specs.Outcome.{outcome}
 use Rattle.step_core.specs.SourceView.{source_of, sources_of}
@@ -16,94 +17,105 @@ use Rattle.step_core.proofs.RunJoins.{if_ok, fires_by, stays, seq_joined, first_
 use Rattle.step_core.proofs.RunMembers.{none_run, also_run, all_from_none, member_ran, next_number, par_joined, p_switch_kept, p_switch_over}
 use Rattle.step_core.proofs.run.+run.Goals as goal
 
+-- the plan at an arm
+planned : (p : Plan) (w : Frozen ℕ) (d : ℕ) (q : Plan) → p ≡ q → PlanBy w d p → PlanBy w d q
+planned p w d q is h = subst (PlanBy w d) is h
+
 pub run_parts-run_seq-requires : goal.run_parts-run_seq-requires
 run_parts-run_seq-requires g t c κs within =
-    let h : SeqBy (source_of c.args.from.now c.args.dt) (source_of c.in-Seq.f c.args.dt) (source_of c.in-Seq.g c.args.dt) = c.in-Seq.ensures c.args.dt in
+    let h : SeqBy (source_of c.args.from.now c.args.dt) (source_of c.in-Seq.f c.args.dt) (source_of c.in-Seq.g c.args.dt) =
+    planned _ (source_of c.args.from.now c.args.dt) c.args.dt _ c.in-Seq.is (c.plan_of-plan.ensures c.args.dt) in
     (omega (arith, c.decreases, seq_within _ _ _ h), search rules)
 
 pub run_parts-returns-in-Seq : goal.run_parts-returns-in-Seq
-run_parts-returns-in-Seq g t c = if_ok c.run_seq.result _ _ (λ r h. h _ (c.in-Seq.ensures c.args.dt)) c.run_seq.ensures
+run_parts-returns-in-Seq g t c = if_ok c.run_seq.result _ _ (λ r h. h _ (planned _ (source_of c.args.from.now c.args.dt) c.args.dt _ c.in-Seq.is (c.plan_of-plan.ensures c.args.dt))) c.run_seq.ensures
 
 pub run_parts-run_first-requires : goal.run_parts-run_first-requires
 run_parts-run_first-requires g t c κs within =
-    let h : FirstBy (source_of c.args.from.now c.args.dt) (source_of c.in-First.f c.args.dt) = c.in-First.ensures c.args.dt in
+    let h : FirstBy (source_of c.args.from.now c.args.dt) (source_of c.in-First.f c.args.dt) =
+    planned _ (source_of c.args.from.now c.args.dt) c.args.dt _ c.in-First.is (c.plan_of-plan.ensures c.args.dt) in
     (omega (arith, c.decreases, first_falls _ _ h), search rules)
 
 pub run_parts-returns-in-First : goal.run_parts-returns-in-First
-run_parts-returns-in-First g t c = if_ok c.run_first.result _ _ (λ r h. h _ (c.in-First.ensures c.args.dt)) c.run_first.ensures
+run_parts-returns-in-First g t c = if_ok c.run_first.result _ _ (λ r h. h _ (planned _ (source_of c.args.from.now c.args.dt) c.args.dt _ c.in-First.is (c.plan_of-plan.ensures c.args.dt))) c.run_first.ensures
 
 pub run_parts-run_par-requires : goal.run_parts-run_par-requires
 run_parts-run_par-requires g t c κs within =
-    let h : ParBy (source_of c.args.from.now c.args.dt) (sources_of c.in-Par.fs c.args.dt) = c.in-Par.ensures c.args.dt in
+    let h : ParBy (source_of c.args.from.now c.args.dt) (sources_of c.in-Par.fs c.args.dt) =
+    planned _ (source_of c.args.from.now c.args.dt) c.args.dt _ c.in-Par.is (c.plan_of-plan.ensures c.args.dt) in
     (omega (arith, c.decreases, par_falls _ _ h), search rules)
 
 pub run_parts-returns-in-Par : goal.run_parts-returns-in-Par
-run_parts-returns-in-Par g t c = if_ok c.run_par.result _ _ (λ r h. h _ (c.in-Par.ensures c.args.dt)) c.run_par.ensures
+run_parts-returns-in-Par g t c = if_ok c.run_par.result _ _ (λ r h. h _ (planned _ (source_of c.args.from.now c.args.dt) c.args.dt _ c.in-Par.is (c.plan_of-plan.ensures c.args.dt))) c.run_par.ensures
 
 pub run_parts-run_loop-requires : goal.run_parts-run_loop-requires
 run_parts-run_loop-requires g t c κs within =
     let h : (keys : List KeyTree) (u : Datum) → IsFed keys c.in-LoopPre.back u
-    → LoopBy keys (source_of c.args.from.now c.args.dt) u (source_of c.in-LoopPre.f c.args.dt) = c.in-LoopPre.ensures c.args.dt in
+    → LoopBy keys (source_of c.args.from.now c.args.dt) u (source_of c.in-LoopPre.f c.args.dt) =
+    planned _ (source_of c.args.from.now c.args.dt) c.args.dt _ c.in-LoopPre.is (c.plan_of-plan.ensures c.args.dt) in
     (omega (arith, c.decreases, loop_falls _ c.in-LoopPre.back _ h), search rules)
 
 pub run_parts-returns-in-LoopPre : goal.run_parts-returns-in-LoopPre
-run_parts-returns-in-LoopPre g t c = if_ok c.run_loop.result _ _ (λ r h. h _ (c.in-LoopPre.ensures c.args.dt)) c.run_loop.ensures
+run_parts-returns-in-LoopPre g t c = if_ok c.run_loop.result _ _ (λ r h. h _ (planned _ (source_of c.args.from.now c.args.dt) c.args.dt _ c.in-LoopPre.is (c.plan_of-plan.ensures c.args.dt))) c.run_loop.ensures
 
 pub run_parts-run_switch-requires : goal.run_parts-run_switch-requires
 run_parts-run_switch-requires g t c κs within =
     let h : SwitchBy (source_of c.args.from.now c.args.dt) (source_of c.in-Switch.f c.args.dt) (rows_in c.in-Switch.t.now) (scope_of c.in-Switch.env.now) =
-    c.in-Switch.ensures c.args.dt in
+    planned _ (source_of c.args.from.now c.args.dt) c.args.dt _ c.in-Switch.is (c.plan_of-plan.ensures c.args.dt) in
     (omega (arith, c.decreases, switch_within _ _ _ _ h), search rules)
 
 pub run_parts-returns-in-Switch : goal.run_parts-returns-in-Switch
-run_parts-returns-in-Switch g t c = if_ok c.run_switch.result _ _ (λ r h. h _ (c.in-Switch.ensures c.args.dt)) c.run_switch.ensures
+run_parts-returns-in-Switch g t c = if_ok c.run_switch.result _ _ (λ r h. h _ (planned _ (source_of c.args.from.now c.args.dt) c.args.dt _ c.in-Switch.is (c.plan_of-plan.ensures c.args.dt))) c.run_switch.ensures
 
 pub run_parts-run_d_switch-requires : goal.run_parts-run_d_switch-requires
 run_parts-run_d_switch-requires g t c κs within =
     let h : DSwitchBy (source_of c.args.from.now c.args.dt) (source_of c.in-DSwitch.f c.args.dt) (rows_in c.in-DSwitch.t.now) (scope_of c.in-DSwitch.env.now) =
-    c.in-DSwitch.ensures c.args.dt in
+    planned _ (source_of c.args.from.now c.args.dt) c.args.dt _ c.in-DSwitch.is (c.plan_of-plan.ensures c.args.dt) in
     (omega (arith, c.decreases, d_switch_within _ _ _ _ h), search rules)
 
 pub run_parts-returns-in-DSwitch : goal.run_parts-returns-in-DSwitch
-run_parts-returns-in-DSwitch g t c = if_ok c.run_d_switch.result _ _ (λ r h. h _ (c.in-DSwitch.ensures c.args.dt)) c.run_d_switch.ensures
+run_parts-returns-in-DSwitch g t c = if_ok c.run_d_switch.result _ _ (λ r h. h _ (planned _ (source_of c.args.from.now c.args.dt) c.args.dt _ c.in-DSwitch.is (c.plan_of-plan.ensures c.args.dt))) c.run_d_switch.ensures
 
 pub run_parts-run_r_switch-requires : goal.run_parts-run_r_switch-requires
 run_parts-run_r_switch-requires g t c κs within =
     let h : RSwitchBy (source_of c.args.from.now c.args.dt) (source_of c.in-RSwitch.f c.args.dt) (rows_in c.in-RSwitch.t.now) (scope_of c.in-RSwitch.env.now) =
-    c.in-RSwitch.ensures c.args.dt in
+    planned _ (source_of c.args.from.now c.args.dt) c.args.dt _ c.in-RSwitch.is (c.plan_of-plan.ensures c.args.dt) in
     (omega (arith, c.decreases, r_switch_within _ _ _ _ h), search rules)
 
 pub run_parts-returns-in-RSwitch : goal.run_parts-returns-in-RSwitch
-run_parts-returns-in-RSwitch g t c = if_ok c.run_r_switch.result _ _ (λ r h. h _ (c.in-RSwitch.ensures c.args.dt)) c.run_r_switch.ensures
+run_parts-returns-in-RSwitch g t c = if_ok c.run_r_switch.result _ _ (λ r h. h _ (planned _ (source_of c.args.from.now c.args.dt) c.args.dt _ c.in-RSwitch.is (c.plan_of-plan.ensures c.args.dt))) c.run_r_switch.ensures
 
 pub run_parts-run_k_switch-requires : goal.run_parts-run_k_switch-requires
 run_parts-run_k_switch-requires g t c κs within =
     let h : KSwitchBy (source_of c.args.from.now c.args.dt) (source_of c.in-KSwitch.f c.args.dt) (source_of c.in-KSwitch.e c.args.dt) (rows_in c.in-KSwitch.t.now)
-    (scope_of c.in-KSwitch.env.now) = c.in-KSwitch.ensures c.args.dt in
+    (scope_of c.in-KSwitch.env.now) =
+    planned _ (source_of c.args.from.now c.args.dt) c.args.dt _ c.in-KSwitch.is (c.plan_of-plan.ensures c.args.dt) in
     (omega (arith, c.decreases, k_switch_within _ _ _ _ _ h), search rules)
 
 pub run_parts-returns-in-KSwitch : goal.run_parts-returns-in-KSwitch
-run_parts-returns-in-KSwitch g t c = if_ok c.run_k_switch.result _ _ (λ r h. h _ (c.in-KSwitch.ensures c.args.dt)) c.run_k_switch.ensures
+run_parts-returns-in-KSwitch g t c = if_ok c.run_k_switch.result _ _ (λ r h. h _ (planned _ (source_of c.args.from.now c.args.dt) c.args.dt _ c.in-KSwitch.is (c.plan_of-plan.ensures c.args.dt))) c.run_k_switch.ensures
 
 pub run_parts-run_p_switch-requires : goal.run_parts-run_p_switch-requires
 run_parts-run_p_switch-requires g t c κs within =
     let h : PSwitchBy (source_of c.args.from.now c.args.dt) (row_number c.in-PSwitch.r) (sources_of c.in-PSwitch.fs c.args.dt) (source_of c.in-PSwitch.e c.args.dt)
-    (rows_in c.in-PSwitch.t.now) (scope_of c.in-PSwitch.env.now) = c.in-PSwitch.ensures c.args.dt in
+    (rows_in c.in-PSwitch.t.now) (scope_of c.in-PSwitch.env.now) =
+    planned _ (source_of c.args.from.now c.args.dt) c.args.dt _ c.in-PSwitch.is (c.plan_of-plan.ensures c.args.dt) in
     (omega (arith, c.decreases, p_switch_within _ _ _ _ _ _ h), search rules)
 
 pub run_parts-returns-in-PSwitch : goal.run_parts-returns-in-PSwitch
-run_parts-returns-in-PSwitch g t c = if_ok c.run_p_switch.result _ _ (λ r h. h _ (c.in-PSwitch.ensures c.args.dt)) c.run_p_switch.ensures
+run_parts-returns-in-PSwitch g t c = if_ok c.run_p_switch.result _ _ (λ r h. h _ (planned _ (source_of c.args.from.now c.args.dt) c.args.dt _ c.in-PSwitch.is (c.plan_of-plan.ensures c.args.dt))) c.run_p_switch.ensures
 
 pub run_parts-run_old-requires : goal.run_parts-run_old-requires
 run_parts-run_old-requires g t c κs within =
-    let h : OldBy (source_of c.args.from.now c.args.dt) (source_of c.in-Old.frozen c.in-Old.step) = c.in-Old.ensures c.args.dt in
+    let h : OldBy (source_of c.args.from.now c.args.dt) (source_of c.in-Old.frozen c.in-Old.step) =
+    planned _ (source_of c.args.from.now c.args.dt) c.args.dt _ c.in-Old.is (c.plan_of-plan.ensures c.args.dt) in
     (omega (arith, c.decreases, old_falls _ _ h), search rules)
 
 pub run_parts-returns-in-Old : goal.run_parts-returns-in-Old
-run_parts-returns-in-Old g t c = if_ok c.run_old.result _ _ (λ r h. h _ (c.in-Old.ensures c.args.dt)) c.run_old.ensures
+run_parts-returns-in-Old g t c = if_ok c.run_old.result _ _ (λ r h. h _ (planned _ (source_of c.args.from.now c.args.dt) c.args.dt _ c.in-Old.is (c.plan_of-plan.ensures c.args.dt))) c.run_old.ensures
 
 pub run_parts-returns-in-Static : goal.run_parts-returns-in-Static
-run_parts-returns-in-Static g t c = if_ok c.run_static.result _ _ (λ r h. h _ (c.in-Static.ensures c.args.dt)) c.run_static.ensures
+run_parts-returns-in-Static g t c = if_ok c.run_static.result _ _ (λ r h. h _ (planned _ (source_of c.args.from.now c.args.dt) c.args.dt _ c.in-Static.is (c.plan_of-plan.ensures c.args.dt))) c.run_static.ensures
 
 pub run_in_line-returns-in-Static : goal.run_in_line-returns-in-Static
 run_in_line-returns-in-Static g t c = if_ok c.run_static.result _ _ (λ r h. h _ (c.in-Static.ensures c.args.dt)) c.run_static.ensures
