@@ -1,3 +1,4 @@
+-- What the primitive forms keep, and how that starts and steps, a file a line.
 pub mod Cell
 pub mod Queue
 pub mod Entries

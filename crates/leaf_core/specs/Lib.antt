@@ -1,3 +1,4 @@
+-- What expressions are, what they are worth and when they are typed, a file a line.
 pub mod Expression
 pub mod ExpressionCode
 pub mod ExpressionValue

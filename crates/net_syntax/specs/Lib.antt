@@ -1,3 +1,4 @@
+-- What networks are, what they mean, their typing and their measures, a file a line.
 pub mod Network
 pub mod NetworkCode
 pub mod NetworkView

@@ -1,3 +1,4 @@
+-- What values and types are, and how they are spelled and read, a file a line.
 pub mod Answer
 pub mod CodeNode
 pub mod Datum

@@ -1,3 +1,4 @@
+-- What the states of networks, scopes and frozen networks are, a file a line.
 pub mod Visits
 pub mod CountedFunction
 pub mod CountedForms

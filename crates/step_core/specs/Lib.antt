@@ -1,3 +1,4 @@
+-- How bound networks start and step, and what their states stand for, a file a line.
 pub mod EnvironmentVisits
 pub mod Stepping
 pub mod Rank

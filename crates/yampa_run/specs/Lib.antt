@@ -1,3 +1,4 @@
+-- What a command line leads to, and what a run reads and writes, a file a line.
 pub mod FaultLines
 pub mod Output
 pub mod Runs
