@@ -125,8 +125,8 @@ fn without_line_feed(text: String) -> String {
     text
 }
 
-/// Reads the words of a command line. The first is the program's name. Answers what they ask for; else help, where it
-/// is asked for, or what is wrong with them.
+/// Reads the words of a command line. The first is the program's name. Answers what they ask for;
+/// else help, where it is asked for, or what is wrong with them.
 pub fn parse<'a>(alloc: Global, words: &'a [&'a str]) -> Result<Request<'a>, Reply>
     ensures { ReadsWords (map (λ w. w.now) words.entry.now) result }
 {
@@ -157,7 +157,8 @@ fn no_such_command(alloc: Global) -> Reply
     }
 }
 
-/// Command lines, word for word, and what they ask for: a file's types or its run, help, or nothing that is there.
+/// Command lines, word for word, and what they ask for: a file's types or its run, help, or nothing
+/// that is there.
 pub fn command_rows()
     ensures asked { RequestRows }
     ensures help { HelpRows }

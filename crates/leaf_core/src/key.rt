@@ -33,7 +33,11 @@ impl Model for LeafKey {
 
     ghost coded = { key_code };
 
-    ghost view = { λ k. record { expr = expression_of k.expr; params = map type_of k.params.items; input = type_of k.input } };
+    ghost view = { λ k. record {
+      expr = expression_of k.expr;
+      params = map type_of k.params.items;
+      input = type_of k.input;
+    } };
 }
 
 impl LeafKey {

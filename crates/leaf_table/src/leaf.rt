@@ -22,7 +22,8 @@ pub struct Leaf {
     pub output: Ty,
     run: Run,
     ghost callable: { Run.IsAlwaysCallable run },
-    ghost computes: { (ps : _) (x : _) (v : _) → Run.post run ps x (Ok v) → ∥ Computes key (map datum_of ps.now) (datum_of x.now) (datum_of v) ∥₁ },
+    ghost computes: { (ps : _) (x : _) (v : _) → Run.post run ps x (Ok v)
+        → ∥ Computes key (map datum_of ps.now) (datum_of x.now) (datum_of v) ∥₁ },
     ghost typed: { ∥ ExpressionTyped key.expr key.params key.input (type_of output) ∥₁ },
 }
 

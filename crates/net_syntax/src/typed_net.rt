@@ -34,7 +34,8 @@ impl Model for TypedNet {
 
     ghost view = { λ a. typed_network_of a.input a.output a.net a.weight a.height };
 
-    ghost invariant = { λ a. WithinLimits (typed_network_of a.input a.output a.net a.weight a.height) };
+    ghost invariant = { λ a.
+        WithinLimits (typed_network_of a.input a.output a.net a.weight a.height) };
 }
 
 impl TypedNet {

@@ -119,7 +119,12 @@ unfolding number_at
 number_fails size bs f e =
     ifs_are (is_number (word_of bs)) (is_in_64 (word_of bs)) (Ok (int (number_of (word_of bs)), after_word bs)) (Err (Fault.NumberRange (size - length bs)))
     (Err (wrong size bs)) (Err f) e (λ h p q. absurd (no_err q))
-    (λ h p q. record { wanted = a_value int_ty; rest = bs; leads = at_front; wrongs = subst (Wrong (a_value int_ty) bs (size - length bs)) (err_is q) (too_large h p) })
+    (λ h p q. record {
+      wanted = a_value int_ty;
+      rest = bs;
+      leads = at_front;
+      wrongs = subst (Wrong (a_value int_ty) bs (size - length bs)) (err_is q) (too_large h p);
+    })
     (λ h q. front size int_ty bs f h (err_is q))
 
 -- some elements, a space, and an element that fails

@@ -61,8 +61,8 @@ impl Params {
         }
     }
 
-    /// These parameters, shared, in the place of the others. It takes no memory; `Memory` only where
-    /// a count of references is full.
+    /// These parameters, shared, in the place of the others. It takes no memory; `Memory` only
+    /// where a count of references is full.
     #[inline(always)]
     pub(crate) fn renew(&mut self, from: &Params) -> Result<(), Memory>
         ensures { OnOk result (self.new ≡ from.now) }

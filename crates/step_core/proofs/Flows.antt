@@ -129,7 +129,8 @@ module _ (keys : List KeyTree) where
     is_count = length-append one.cells two.cells ∙ (λ i. one.is_count i + two.is_count i);
     runs = λ w h.
         let parts = seq_parts h in
-        let from : length mid ≡ length before + cell_count f = ap length one.added ∙ length-append before one.cells ∙ ap (λ n. length before + n) one.is_count in
+        let from : length mid ≡ length before + cell_count f =
+        ap length one.added ∙ length-append before one.cells ∙ ap (λ n. length before + n) one.is_count in
         let state : static_state (seq f g) ps (one.cells ++ two.cells) ≡ seq_state (static_state f ps one.cells) (static_state g ps two.cells) = λ i. seq_state
         (one_of_two f ps one.cells two.cells one.is_count i) (static_state g ps (others_of_two (cell_count f) one.cells two.cells one.is_count i)) in
         seq_runs keys parts.0 parts.1 x v y (static_state f ps one.cells) (static_state g ps two.cells) _ (weight f []) (weight g []) _ state
@@ -147,8 +148,8 @@ module _ (keys : List KeyTree) where
         first_runs keys part.0 x l v u y (static_state f ps one.cells) _ (weight f []) _ refl el eu ey (one.runs _ part.1) (λ _. omega arith) w part.2;
   }
 
-  pub loop_flows : (c : ℕ) (f : Network ℕ) (ps : List Datum) (p : Past) (x z v y : Datum) (before mid inner now : List Cell) → IsFedBack keys c ps p x before mid z
-      → Flows keys f ps p z mid inner v → y ≡ left v → now ≡ slice_set inner (length before) (previous (right v))
+  pub loop_flows : (c : ℕ) (f : Network ℕ) (ps : List Datum) (p : Past) (x z v y : Datum) (before mid inner now : List Cell)
+      → IsFedBack keys c ps p x before mid z → Flows keys f ps p z mid inner v → y ≡ left v → now ≡ slice_set inner (length before) (previous (right v))
       → Flows keys (loop_pre c f) ps p x before now y
   loop_flows c f ps p x z v y before mid inner now fed one ey en = record {
     cells = previous (right v) ∷ one.cells;
@@ -227,10 +228,12 @@ module _ (keys : List KeyTree) where
     is_count = length-append one.cells rest.cells ∙ (λ i. one.is_count i + rest.is_count i);
     runs = λ ws i h.
         let parts = also_part h in
-        let from : length mid ≡ length before + cell_count f = ap length one.added ∙ length-append before one.cells ∙ ap (λ n. length before + n) one.is_count in
+        let from : length mid ≡ length before + cell_count f =
+        ap length one.added ∙ length-append before one.cells ∙ ap (λ n. length before + n) one.is_count in
         let others : AreFlows parts.1 fs ps (behind (length mid) p) = subst (λ q. AreFlows parts.1 fs ps q)
         (behind_behind (cell_count f) (length before) (length mid) p from) parts.3 in
-        let all = also_runs parts.0 parts.1 i x y (static_state f ps one.cells) (static_states fs ps rest.cells) rest.answers (weight f []) (total (weights fs []))
+        let all =
+        also_runs parts.0 parts.1 i x y (static_state f ps one.cells) (static_states fs ps rest.cells) rest.answers (weight f []) (total (weights fs []))
         (one.runs _ parts.2) (rest.runs _ (suc i) others) in
         let state : static_states (and_member f fs) ps (one.cells ++ rest.cells) ≡ and_state (static_state f ps one.cells) (static_states fs ps rest.cells) = λ
         j. and_state (one_of_two f ps one.cells rest.cells one.is_count j)
@@ -242,7 +245,8 @@ module _ (keys : List KeyTree) where
   })
 
   -- `parB`, whose answers became one list
-  pub par_flows : (fs : Networks ℕ) (ps : List Datum) (p : Past) (x y : Datum) (before now : List Cell) (xs ys : List Datum) → AllFlow keys fs ps p x before now xs ys
+  pub par_flows : (fs : Networks ℕ) (ps : List Datum) (p : Past) (x y : Datum) (before now : List Cell) (xs ys : List Datum)
+      → AllFlow keys fs ps p x before now xs ys
       → xs ≡ [] → y ≡ list (list_of ys) → Flows keys (par fs) ps p x before now y
   par_flows fs ps p x y before now xs ys all ex ey = record {
     cells = all.cells;

@@ -62,7 +62,8 @@ module _ (x : ℕ × Datum) (c : CountedFunction) (p : TimedList) where
       (accum_took g s.z p x acc acc' s.so_far e)
 
   module _ (t : Datum → CountedFunction) (ct : (v : Datum) → IsCountedFunction (t v)) where
-    pub switch_moves : {A A' : CountedFunction → TimedList → Type 0} (v : Datum) (n : ℕ) → SwitchStands counted_switch A t c p → Moves A A' x v n → event_in (right v) ≡ None
+    pub switch_moves : {A A' : CountedFunction → TimedList → Type 0} (v : Datum) (n : ℕ)
+        → SwitchStands counted_switch A t c p → Moves A A' x v n → event_in (right v) ≡ None
         → TakesSample (StandsVia (SwitchStands counted_switch A' t)) c p x (left v) (suc n)
     switch_moves {A} {A'} v n s ka h =
         subst (λ d. TakesSample (StandsVia (SwitchStands counted_switch A' t)) d p x (left v) (suc n)) (sym s.same)
@@ -80,8 +81,8 @@ module _ (x : ℕ × Datum) (c : CountedFunction) (p : TimedList) where
         subst (λ d. TakesSample (StandsVia (SwitchStands counted_d_switch A' t)) d p x (left v) (suc n)) (sym s.same)
         (d_switch_took s.f t s.is_f p x s.unseen {A = A'} v n (ka s.f p s.first_part) h)
 
-    pub d_switch_over_moves : {A A' P : CountedFunction → TimedList → Type 0} (v e y : Datum) (m n : ℕ) → SwitchStands counted_d_switch A t c p → Moves A A' x v m
-        → event_in (right v) ≡ Some e → TakesSample (StandsVia P) (t e) [] x y n → TakesSample (StandsVia P) c p x (left v) (suc m + n)
+    pub d_switch_over_moves : {A A' P : CountedFunction → TimedList → Type 0} (v e y : Datum) (m n : ℕ)
+        → SwitchStands counted_d_switch A t c p → Moves A A' x v m → event_in (right v) ≡ Some e → TakesSample (StandsVia P) (t e) [] x y n → TakesSample (StandsVia P) c p x (left v) (suc m + n)
     d_switch_over_moves {A} {A'} {P} v e y m n s ka h tt' =
         subst (λ d. TakesSample (StandsVia P) d p x (left v) (suc m + n)) (sym s.same)
         (d_switch_over_took s.f t s.is_f p x s.unseen {A = A'} {P = P} v e y m n (ct e) (ka s.f p s.first_part) h tt')

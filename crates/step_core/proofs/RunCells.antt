@@ -117,13 +117,14 @@ module _ (keys : List KeyTree) where
       let tv : HasType v Z = subst (λ u. HasType u Z) (sym ev) (row_typed keys rz tp unit_has) in
       let p : a ≡ put_in (row_value keys g ps) v x = put_in_row g ps v x a hp rg tp tv t in
       let same : (accumulating (accumulator_of q.0), q.1) ≡ cell_start F.AccumBy v a = ap (λ (u : Cell × Datum). (accumulating (accumulator_of u.0), u.1)) e in
-      let held : accumulator_of q.0 ≡ fold_events (row_value keys g ps) (row_value keys z ps unit) (x ∷ []) = now_held g ps v x a (accumulator_of q.0) q.1 same p
-      ∙ ap (λ u. fold_events (row_value keys g ps) u (x ∷ [])) ev in
+      let held : accumulator_of q.0 ≡ fold_events (row_value keys g ps) (row_value keys z ps unit) (x ∷ []) =
+      now_held g ps v x a (accumulator_of q.0) q.1 same p ∙ ap (λ u. fold_events (row_value keys g ps) u (x ∷ [])) ev in
       record {
         visits = 1;
         resumes = subst (λ u. Resumes (row_value keys) (unstarted (accum_by g z) s) x (accum_state g ps (accumulator_of q.0)) u 1)
             (sym (now_answered g ps v x a (accumulator_of q.0) q.1 same p))
-            (subst (λ rs. Resumes (row_value keys) (unstarted (accum_by g z) s) x (accum_state g rs (accumulator_of q.0)) (if_event x (accumulator_of q.0)) 1) es
+            (subst (λ rs. Resumes (row_value keys) (unstarted (accum_by g z) s) x (accum_state g rs (accumulator_of q.0))
+            (if_event x (accumulator_of q.0)) 1) es
             (G.resume_unstarted (G.start_accum (subst (λ rs. accumulator_of q.0 ≡ fold_events (row_value keys g rs) (row_value keys z rs unit) (x ∷ [])) (sym es)
             held))));
         is_count = λ _. refl;
@@ -142,6 +143,7 @@ module _ (keys : List KeyTree) where
         visits = 1;
         resumes = subst (λ u. Resumes (row_value keys) (paused (accum_state g ps u) d) x (accum_state g ps (accumulator_of q.0)) q.1 1) (sym held)
             (subst (λ u. Resumes (row_value keys) (paused (accum_state g ps h) d) x (accum_state g ps (accumulator_of q.0)) u 1)
-            (sym (now_answered g ps h x a (accumulator_of q.0) q.1 same p)) (G.resume_paused (G.step_accum (now_held g ps h x a (accumulator_of q.0) q.1 same p))));
+            (sym (now_answered g ps h x a (accumulator_of q.0) q.1 same p))
+            (G.resume_paused (G.step_accum (now_held g ps h x a (accumulator_of q.0) q.1 same p))));
         is_count = λ _. refl;
       }

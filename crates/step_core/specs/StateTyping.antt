@@ -1,5 +1,5 @@
--- When states, scopes and frozen networks over the rows of a table are typed. What starts from typed
--- parts, and what steps by a typed sample, is typed again, and so is its answer.
+-- When states, scopes and frozen networks over the rows of a table are typed. What starts from
+-- typed parts, and what steps by a typed sample, is typed again, and so is its answer.
 use Rattle.std.specs.Prelude.{ℕ, suc, ◌≤◌, ℤ, List, [], ◌∷◌, ◌++◌}
 use Rattle.sample_core.specs.Datum.{Datum}
 use Rattle.sample_core.specs.TypeTree.{TypeTree, int_ty, pair_ty, event_ty, list_ty}

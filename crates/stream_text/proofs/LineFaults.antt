@@ -86,7 +86,8 @@ module _ (A : TypeTree) (n : ℕ) (line : List ℕ) where
           subst (λ f. LineFaulty A n line None f) i (first_with_plus l (plus line q))
       plus_or false q e = same_or (λ k. let p : is_some (behind 43 line) ≡ true = plus_found line k in cc) (bytes_eq line (codes "=")) refl e
 
-  later_faulty : StepLaw → (v : Datum) (fault : StreamFault) → IsWithinLimits n line → line_after A n (Some v) line ≡ Err fault → LineFaulty A n line (Some v) fault
+  later_faulty : StepLaw → (v : Datum) (fault : StreamFault) → IsWithinLimits n line → line_after A n (Some v) line ≡ Err fault
+      → LineFaulty A n line (Some v) fault
   later_faulty step v fault l h = go (step_in line) refl h
     where
       same_or : (d : ℕ) (rest : List ℕ) → step_in line ≡ Some (d, rest) → (b : Bool) → bytes_eq rest (codes "=") ≡ b
@@ -101,7 +102,8 @@ module _ (A : TypeTree) (n : ℕ) (line : List ℕ) where
           (later_no_step l (λ d rest k. let p : step_in line ≡ Some (d, rest) = (step line rest d).1 k in cc))
       go (Some (d, rest)) s e = same_or d rest s (bytes_eq rest (codes "=")) refl e
 
-  within_faulty : StepLaw → (before : Option Datum) (fault : StreamFault) → IsWithinLimits n line → line_after A n before line ≡ Err fault → LineFaulty A n line before fault
+  within_faulty : StepLaw → (before : Option Datum) (fault : StreamFault) → IsWithinLimits n line → line_after A n before line ≡ Err fault
+      → LineFaulty A n line before fault
   within_faulty step None fault l h = first_faulty fault l h
   within_faulty step (Some v) fault l h = later_faulty step v fault l h
 

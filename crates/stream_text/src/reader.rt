@@ -155,7 +155,8 @@ impl LineState {
     fn take_next(&mut self, ty: &Ty) -> Option<u64>
         requires open { self.old.met ≡ M.Nothing }
         requires later { (reader_state self.old).before ≢ None }
-        ensures { MayTakeNext (type_of ty.now) (reader_state self.old) result (reader_state self.new) }
+        ensures { MayTakeNext (type_of ty.now) (reader_state self.old) result
+            (reader_state self.new) }
     {
         match self.kept.near_feed_at() {
             Some(size) => self.take_fed(ty, size),
@@ -168,7 +169,8 @@ impl LineState {
     fn take_far(&mut self, ty: &Ty) -> Option<u64>
         requires open { self.old.met ≡ M.Nothing }
         requires later { (reader_state self.old).before ≢ None }
-        ensures { MayTakeNext (type_of ty.now) (reader_state self.old) result (reader_state self.new) }
+        ensures { MayTakeNext (type_of ty.now) (reader_state self.old) result
+            (reader_state self.new) }
     {
         let size = self.kept.feed_at()?;
         self.take_fed(ty, size)
@@ -180,7 +182,8 @@ impl LineState {
         requires open { self.old.met ≡ M.Nothing }
         requires later { (reader_state self.old).before ≢ None }
         requires feed { IsFirstFeed self.old.kept size }
-        ensures { MayTakeNext (type_of ty.now) (reader_state self.old) result (reader_state self.new) }
+        ensures { MayTakeNext (type_of ty.now) (reader_state self.old) result
+            (reader_state self.new) }
     {
         if self.lines >= MOST_SAMPLES {
             return None;
@@ -356,7 +359,8 @@ fn step_alone(
     }
 }
 
-/// Puts the spare value, where it is new, in place of the value before, which is the spare one then.
+/// Puts the spare value, where it is new, in place of the value before, which is then the spare
+/// one.
 #[inline(always)]
 fn put_behind(before: &mut Option<Sample>, spare: &mut Sample, is_new: bool)
     ensures { (v : Datum) → option_map datum_of before.old ≡ Some v

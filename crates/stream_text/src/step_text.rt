@@ -45,7 +45,8 @@ fn step_value(digits: &[u8]) -> Option<u64>
     if value <= MOST { Some(value) } else { None }
 }
 
-/// Whether the bytes begin with `+`, a step of one digit and a space, behind which the line goes on.
+/// Whether the bytes begin with `+`, a step of one digit and a space, behind which the line goes
+/// on.
 #[inline(always)]
 pub fn has_short_step(bytes: &[u8]) -> bool {
     match bytes {

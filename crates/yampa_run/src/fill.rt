@@ -21,8 +21,8 @@ pub use sample_core::Sample;
 use std::alloc::Global;
 pub use std::cell::Cell;
 
-/// The refusal of a network whose expressions a table doesn't take: status 1 and the line `table full` where it has all
-/// its rows, or `Memory`.
+/// The refusal of a network whose expressions a table doesn't take: status 1 and the line
+/// `table full` where it has all its rows, or `Memory`.
 pub fn table_refusal(alloc: Global, fault: TableFault) -> Refusal
     ensures { RefusesTable fault result }
 {

@@ -43,10 +43,12 @@ impl From<Memory> for Refusal {
     }
 }
 
-/// Reads the words of a command line, of which the first is the program's name, and the files that they name.
-/// Answers the text that is to be printed or the network that is to be run; else the first refusal.
+/// Reads the words of a command line, of which the first is the program's name, and the files that
+/// they name. Answers the text that is to be printed or the network that is to be run; else the
+/// first refusal.
 pub fn prepare<F: Files>(alloc: Global, words: &[&str], files: &F) -> Result<Job, Refusal>
-    // A network is run only where the words ask for a run of a file, and where its bytes are told, it is their typed network.
+    // A network is run only where the words ask for a run of a file, and where its bytes are told,
+    // it is their typed network.
     ensures asked { IfOk result (IsRequested (F.told files.now) (map (λ w. w.now) words.now)) }
     ensures refused { IfErr result (IsRefusal (F.told files.now) (map (λ w. w.now) words.now)) }
 {

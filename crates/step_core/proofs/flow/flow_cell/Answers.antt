@@ -17,5 +17,6 @@ pub returns-in-None : goal.returns-in-None
 returns-in-None g c =
     if_ok c.first_cell.result _ _
     (λ y h form k i. subst (λ q. Flows (g.R.Rows.keys c.args.on.now.rows.now) (rows_in c.args.net.now) (map datum_of c.args.on.now.params.now) q
-    (datum_of c.args.x.now) c.args.cells.now c.first_cell.new.cells (datum_of c.first_cell.new.out)) (sym (ap (λ b. past_in b c.args.on.now.dt) c.in-None.is)) h)
+    (datum_of c.args.x.now) c.args.cells.now c.first_cell.new.cells (datum_of c.first_cell.new.out))
+    (sym (ap (λ b. past_in b c.args.on.now.dt) c.in-None.is)) h)
     c.first_cell.ensures
