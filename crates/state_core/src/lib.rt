@@ -3,7 +3,6 @@
 
 mod cells;
 mod env;
-mod new_states;
 mod params;
 mod part;
 mod place;
@@ -13,7 +12,6 @@ mod static_state;
 
 pub use cells::Cells;
 pub use env::{Env, Frozen, OldList, Olds, freeze, pause, push_old, push_olds, push_param};
-pub use new_states::NewStates;
 pub use params::Params;
 pub use part::{gather, route};
 pub use place::{Around, Turn};

@@ -8,7 +8,6 @@ ghost use Rattle.state_core.specs.State.{no_state, seq_state, first_state, loop_
 ghost use Rattle.state_core.specs.StateView.{state_of, node_of, p_switch_of, scope_of};
 
 use crate::env::Env;
-use crate::new_states::NewStates;
 use crate::state::{
     KSwitchParts, LoopParts, Node, PSwitchParts, SeqParts, State, States, SwitchParts, Whole,
 };
@@ -50,17 +49,12 @@ pub enum Around<'s, 'n> {
 /// A state that is out of use is a place: the state that comes into it takes its memory, as far as
 /// no one else holds that. What is shared stays as it is.
 impl<'n> State<'n> {
-    /// No members yet, with the places of the state's members.
-    pub fn take_members(&mut self, alloc: Global) -> NewStates<'n>
-        ensures { result ≡ no_state }
-    {
-        let Some(node) = self.node_mut() else {
-            return NewStates::none(alloc);
-        };
-        match node {
-            Node::Par(members) => NewStates::over(members.take(alloc)),
-            Node::PSwitch(parts) => NewStates::over(parts.members.take(alloc)),
-            _ => NewStates::none(alloc),
+    /// The places of the state's members; none where it has no members.
+    pub fn take_members(&mut self, alloc: Global) -> Vec<State<'n>> {
+        match self.node_mut() {
+            Some(Node::Par(members)) => members.take(alloc),
+            Some(Node::PSwitch(parts)) => parts.members.take(alloc),
+            _ => Vec::new(alloc),
         }
     }
 

@@ -1,7 +1,10 @@
 -- What one sample does to members, and to the collections round them.
-use Rattle.std.proofs.Common.{◌≡◌, ℕ, zero, suc, ◌+◌, ◌<◌, ◌≤◌, ◌^◌, ◌%◌, pos, List, [], ◌∷◌, ◌++◌, Some, None, refl, sym, ap, ◌∙◌, subst, arith, append_assoc, append-nil}
+use Rattle.std.proofs.Common.{◌≡◌, ℕ, zero, suc, ◌+◌, ◌<◌, ◌≤◌, ◌^◌, ◌%◌, pos, List, [], ◌∷◌, ◌++◌, Some, None, refl, sym, ap, ◌∙◌, subst, arith, append_assoc, append-nil, length, length-append, map, set, take}
+use Rattle.std.proofs.lemmas.List.{map_push}
 use Rattle.std.proofs.Math.Nat.{mod-eq_of_lt}
 use Rattle.sample_core.specs.Datum.{Datum, pair, int, list, list_of}
+use Rattle.sample_core.specs.ValueView.{datum_of}
+use Rattle.sample_core.specs.declared.sample.Sample.{Sample}
 use Rattle.sample_core.specs.TypeTree.{TypeTree, pair_ty, event_ty, list_ty}
 use Rattle.sample_core.specs.HasType.{HasType, TypedParams, pair_has, list_has}
 use Rattle.leaf_core.specs.KeyTree.{KeyTree}
@@ -10,15 +13,17 @@ use Rattle.net_syntax.specs.Typing as N
 use Rattle.net_syntax.specs.Typing.{members}
 use Rattle.state_core.specs.CountedForms.{same_input, route_by}
 use Rattle.state_core.specs.State.{State, States, Scope, Frozen, Frozens, par_state, p_switch_state, no_state, and_state, no_frozen, and_frozen, unstarted, params_of, push_param, push_olds, all_unstarted, all_paused}
-use Rattle.state_core.specs.StateView.{append_states}
+use Rattle.state_core.specs.StateView.{state_of, states_of, append_states}
+use Rattle.state_core.specs.declared.state.State.{State as CodeState}
 use Rattle.step_core.specs.Stepping as G
 use Rattle.step_core.specs.Stepping.{Starts, StartsEach, Resumes, Steps, StepsEach, event_in}
 use Rattle.step_core.specs.StateTyping as T
 use Rattle.step_core.specs.StateTyping.{FrozenTyped, FrozensTyped, row_value}
-use Rattle.step_core.specs.Outcome.{Outcome, ListOutcome, IsRan, IsAdded, IsListed, RunsAll, nothing_yet}
+use Rattle.step_core.specs.Outcome.{Outcome, ListOutcome, IsRan, IsListed, gathered, nothing_yet, outcome}
 use Rattle.step_core.specs.Plans.{IsRouted, RunsMember}
 use Rattle.step_core.specs.Runs as R
 use Rattle.step_core.specs.Runs.{Ran, RunsWhere, ParBy, PSwitchBy, Gathered, RunsEach, RanEach, RunEachWhere, Router, to_all, by_row, handed, HandsOut}
+use Rattle.step_core.proofs.StateLists.{one_put}
 use Rattle.step_core.proofs.StateTypings.{resumes_typed, each_starts_typed, each_steps_typed, route_typed, small_number, event_typed, pushed_param, pushed_olds, unstarted_all, paused_all, params_typed}
 use Rattle.step_core.proofs.CalledRows.{called_value}
 use Rattle.step_core.proofs.RunForms.{started, stepped}
@@ -30,6 +35,22 @@ append_states-assoc (and_state a as') bs cs = ap (and_state a) (append_states-as
 append_states-none : (as' : States ℕ) → as' ≡ append_states as' no_state
 append_states-none no_state = refl
 append_states-none (and_state a as') = ap (and_state a) (append_states-none as')
+
+-- what one member led to was added
+abbrev pub IsAdded : Gathered → Outcome → Gathered → Type 0
+IsAdded before one now = (now.states ≡ append_states before.states (and_state one.state no_state)) × (now.answers ≡ before.answers ++ one.answer ∷ [])
+    × (before.visits + one.visits < 2 ^ 32 → now.visits ≡ before.visits + one.visits)
+
+-- a member's state stands in the place behind those before, its answer behind theirs
+pub one_added : (before mid : List CodeState) (ys zs : List Sample) (a : CodeState) (y : Sample) (m n k i : ℕ) → i ≡ length ys → i < length mid
+    → take i mid ≡ take i before → zs ≡ ys ++ y ∷ [] → (m + n < 2 ^ 32 → k ≡ m + n)
+    → IsAdded (gathered (take (length ys) before) ys m) (outcome (state_of a) (datum_of y) n) (gathered (take (length zs) (set mid i a)) zs k)
+one_added before mid ys zs a y m n k i at l same is_zs counts = (
+  ap (λ j. states_of (take j (set mid i a))) (ap length is_zs ∙ length-append ys (y ∷ []) ∙ ap (λ j. j + 1) (sym at))
+      ∙ one_put mid i a (states_of (take (length ys) before)) l (ap states_of (same ∙ ap (λ j. take j before) at)),
+  ap (map datum_of) is_zs ∙ map_push datum_of ys y,
+  counts,
+)
 
 module _ (keys : List KeyTree) where
   each_started : (fs : Networks ℕ) (s : Scope ℕ) {h : ℕ → Datum → Datum} {x : Datum} {i : ℕ} {as' : States ℕ} {ys : List Datum} {n : ℕ}
@@ -99,11 +120,6 @@ module _ (keys : List KeyTree) where
       → RunEachWhere keys h i ms x before now
   also_run h i j ms p ps x z one before mid now e hr hp ad ej hs = subst (λ fs. RunEachWhere keys h i fs x before now) (sym e)
       (also_at h i j p ps x z one before mid now hr hp ad ej hs)
-
-  -- all members, from none on
-  pub all_from_none : (h : Router) (fs : Frozens ℕ) (x : Datum) (before now : Gathered) (all : ListOutcome) → before ≡ nothing_yet
-      → RunEachWhere keys h 0 fs x before now → IsListed now all → RunsAll keys h fs x all
-  all_from_none h fs x before now all e r l = (now, subst (λ b. RunEachWhere keys h 0 fs x b now) e r, l)
 
   -- what a member ran on, by another name of what routes it
   pub member_ran : (h k : Router) (i : ℕ) (w : Frozen ℕ) (x y : Datum) (one : Outcome) → k ≡ h → IsRouted keys h i x y

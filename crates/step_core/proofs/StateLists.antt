@@ -1,15 +1,17 @@
--- Members' answers and visits, one more.
-use Rattle.std.proofs.Common.{◌≡◌, ℕ, List, [], ◌∷◌, ◌++◌, ◌+◌, ◌<◌, ◌^◌, ap, ap₂, ◌∙◌, map, arith}
-use Rattle.std.proofs.lemmas.List.{map_push}
-use Rattle.sample_core.specs.Datum.{Datum}
-use Rattle.sample_core.specs.ValueView.{datum_of}
-use Rattle.sample_core.specs.declared.sample.Sample.{Sample}
+-- Members' states in their places, and the clean ones.
+use Rattle.std.proofs.Common.{◌≡◌, ℕ, List, [], ◌∷◌, ◌++◌, ◌<◌, ◌+◌, refl, ap, ap₂, ◌∙◌, length, take, set}
+use Rattle.std.proofs.lemmas.List.{take_more_set}
+use Rattle.state_core.specs.State.{State, States, no_state, and_state}
+use Rattle.state_core.specs.StateView.{state_of, states_of, append_states}
+use Rattle.state_core.specs.declared.state.State.{State as CodeState}
 
--- one answer more
-pub added_answers : (now all : List Sample) (a : Sample) (vs : List Datum) (v : Datum) → now ≡ all ++ a ∷ [] → map datum_of all ≡ vs → datum_of a ≡ v
-    → map datum_of now ≡ vs ++ v ∷ []
-added_answers now all a vs v e h k = ap (map datum_of) e ∙ map_push datum_of all a ∙ ap₂ (λ x y. x ++ y ∷ []) h k
+-- states one list after the other
+states_append : (xs ys : List CodeState) → states_of (xs ++ ys) ≡ append_states (states_of xs) (states_of ys)
+states_append [] ys = refl
+states_append (x ∷ xs) ys = ap (and_state (state_of x)) (states_append xs ys)
 
--- and its visits
-pub added_visits : (m n a b r : ℕ) → (m + n < 2 ^ 32 → r ≡ m + n) → m ≡ a → n ≡ b → a + b < 2 ^ 32 → r ≡ a + b
-added_visits m n a b r h e k l = let i : m + n < 2 ^ 32 = omega (arith, e, k, l) in omega (arith, h i, e, k)
+-- one state more, in the place behind those so far
+pub one_put : (all : List CodeState) (used : ℕ) (a : CodeState) (bs : States ℕ) → used < length all → states_of (take used all) ≡ bs
+    → states_of (take (used + 1) (set all used a)) ≡ append_states bs (and_state (state_of a) no_state)
+one_put all used a bs l e = ap states_of (take_more_set all used a l) ∙ states_append (take used all) (a ∷ [])
+    ∙ ap (λ x. append_states x (and_state (state_of a) no_state)) e

@@ -1,11 +1,11 @@
-// What one sample led to in members.
+// What one sample led to in members, and the places of their states.
 
-ghost use Rattle.std.specs.Prelude.{◌≡◌, ◌+◌, ◌++◌, ◌∷◌, [], suc, IfOk, MatchOption, ℕ};
-ghost use Rattle.sample_core.specs.{Datum.list, Datum.list_of, ValueView.datum_of};
+ghost use Rattle.std.specs.Prelude.{◌≡◌, ◌≤◌, ◌<◌, ◌+◌, suc, IfOk, MatchOption, length, take, ℕ};
+ghost use Rattle.sample_core.specs.ValueView.{datum_of};
 ghost use Rattle.state_core.specs.RowsView.{rows_in, row_number};
-ghost use Rattle.state_core.specs.State.{no_state, and_state, no_frozen, and_frozen, par_state, p_switch_state};
-ghost use Rattle.state_core.specs.{Around.first_part, StateView.state_of, StateView.scope_of, StateView.append_states};
-ghost use Rattle.step_core.specs.Outcome.{IsRan, IsListed, IsAdded, outcome};
+ghost use Rattle.state_core.specs.State.{no_frozen, and_frozen, par_state, p_switch_state};
+ghost use Rattle.state_core.specs.{Around.first_part, StateView.state_of, StateView.scope_of};
+ghost use Rattle.step_core.specs.Outcome.{IsRan, IsListed, gathered, outcome};
 ghost use Rattle.step_core.specs.SourceView.{source_of, sources_of};
 
 use crate::count;
@@ -14,36 +14,9 @@ use crate::round::round;
 use leaf_table::LeafId;
 use net_syntax::Net;
 use sample_core::{Memory, Sample};
-use state_core::{Around, Env, NewStates, Node, State, States, gather};
+use state_core::{Around, Env, Node, State, States, gather};
 use std::alloc::Global;
 use std::marker::Model;
-
-/// What a sample led to in the members so far: their states, their answers, and how many nodes
-/// they visited. Contracts see it as a record of clean ones.
-#[derive(Drop)]
-pub(crate) struct Each<'n> {
-    states: NewStates<'n>,
-    answers: Vec<Sample>,
-    visits: u32,
-}
-
-impl<'n> Model for Each<'n> {
-    ghost use Rattle.std.specs.Prelude.{map};
-    ghost use Rattle.step_core.specs.Outcome.{gathered_code};
-    ghost use Rattle.step_core.specs.Runs.{Gathered};
-
-    ghost Value = { Gathered };
-
-    ghost coded = { gathered_code };
-
-    ghost use Rattle.sample_core.specs.ValueView.{datum_of};
-
-    ghost view = { λ a. record {
-      states = a.states;
-      answers = map datum_of a.answers.items;
-      visits = a.visits;
-    } };
-}
 
 /// What a sample led to in all members: their states, the list of their answers, and how many
 /// nodes they visited. Contracts see it as a record of clean ones.
@@ -70,75 +43,54 @@ impl<'n> Model for Listed<'n> {
     } };
 }
 
-impl<'n> Each<'n> {
-    /// No member so far, with room for so many, in the places of other members. `Memory` where a
+/// The places of so many members' states: those of the members that stand in the place, and room
+/// for more. `Memory` where a growth was refused.
+pub(crate) fn member_places<'n>(
+    alloc: Global,
+    room: usize,
+    place: &mut State<'n>,
+) -> Result<Vec<State<'n>>, Memory> {
+    let mut places = place.take_members(alloc);
+    let more = room.saturating_sub(places.len());
+    match places.try_reserve(more) {
+        Ok(()) => Ok(places),
+        Err(_) => {
+            drop(places);
+            Err(Memory)
+        }
+    }
+}
+
+/// Sees to it that there is a place of the next member, behind those of so many before it. `Memory`
+/// where a growth was refused.
+#[inline(always)]
+pub(crate) fn make_place<'n>(places: &mut Vec<State<'n>>, before: usize) -> Result<(), Memory>
+    requires { before ≤ length places.old.items }
+    ensures { IfOk result (λ _. (before < length places.new.items)
+        × (take before places.new.items ≡ take before places.old.items)) }
+{
+    if before < places.len() {
+        return Ok(());
+    }
+    places.push(State::Nothing)?;
+    Ok(())
+}
+
+impl<'n> Listed<'n> {
+    /// What all members led to, by their states, their answers and the visits. `Memory` where a
     /// growth was refused.
-    pub(crate) fn none(
+    pub(crate) fn new(
         alloc: Global,
-        room: usize,
-        place: &mut State<'n>,
-    ) -> Result<Each<'n>, Memory>
-        ensures { IfOk result
-            (λ e. e ≡ record { states = no_state; answers = []; visits = 0 }) }
-    {
-        let answers = Vec::with_capacity(alloc, room)?;
-        let mut states = place.take_members(alloc);
-        match states.reserve(room) {
-            Ok(()) => Ok(Each {
-                states,
-                answers,
-                visits: 0,
-            }),
-            Err(memory) => {
-                drop(states);
-                drop(answers);
-                Err(memory)
-            }
-        }
-    }
-
-    /// The place of the state of the next member, in which nothing is then.
-    pub(crate) fn take_place(&mut self) -> State<'n>
-        ensures { self.new ≡ self.old }
-    {
-        self.states.take_place()
-    }
-
-    /// One member more: its state, its answer and its visits. `Memory` where a growth was refused.
-    pub(crate) fn add(
-        &mut self,
-        state: State<'n>,
-        answer: Sample,
+        states: Vec<State<'n>>,
+        answers: Vec<Sample>,
         visits: u32,
-    ) -> Result<(), Memory>
-        ensures { IfOk result (λ _. IsAdded self.old
-            (outcome (state_of state.entry) (datum_of answer) visits) self.new) }
+    ) -> Result<Listed<'n>, Memory>
+        ensures { IfOk result
+            (λ l. IsListed (gathered states.entry.items answers.items visits) l) }
     {
-        match self.states.push(state) {
-            Ok(()) => {
-                self.answers.push(answer)?;
-                self.visits = count::both(self.visits, visits);
-                Ok(())
-            }
-            Err(memory) => {
-                drop(answer);
-                Err(memory)
-            }
-        }
-    }
-
-    /// All members. `Memory` where a growth was refused.
-    pub(crate) fn listed(self, alloc: Global) -> Result<Listed<'n>, Memory>
-        ensures { IfOk result (λ l. IsListed self.entry l) }
-    {
-        let Each {
-            states,
-            answers,
-            visits,
-        } = self;
         match gather(alloc, answers) {
             Ok(list) => Ok(Listed {
-                states: states.into_states(),
+                states: States::new(states),
                 list,
                 visits,
             }),
@@ -148,9 +100,7 @@ impl<'n> Each<'n> {
             }
         }
     }
-}
 
-impl<'n> Listed<'n> {
     /// The list of the answers.
     pub(crate) fn list(&self) -> &Sample
         ensures { datum_of result.now ≡ self.now.list }

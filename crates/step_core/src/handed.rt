@@ -6,12 +6,22 @@ ghost use Rattle.state_core.specs.RowsView.{row_number};
 ghost use Rattle.step_core.specs.{Called.Called, Plans.IsAsked, Plans.IsFed};
 
 use crate::part::beside;
-use crate::plan::Back;
+use crate::plan::{Back, Route};
 use crate::rows::Rows;
 use leaf_table::LeafId;
 use sample_core::{Memory, Sample};
 use state_core::{Params, route};
 use std::alloc::Global;
+
+/// What all members get: what routes the sample, the sample, and the time since the one before.
+#[derive(Drop)]
+pub(crate) struct Handing<'s, R> {
+    pub(crate) alloc: Global,
+    pub(crate) rows: &'s R,
+    pub(crate) router: Route<'s>,
+    pub(crate) dt: u64,
+    pub(crate) x: &'s Sample,
+}
 
 /// What a row makes of the sample and member i's number. `Memory` where a growth was refused.
 pub(crate) fn routed<R: Rows>(

@@ -1,20 +1,20 @@
 // One sample through a network or a state.
 
-ghost use Rattle.std.specs.Prelude.{◌≡◌, ℕ, List, IfOk};
+ghost use Rattle.std.specs.Prelude.{◌≡◌, ℕ, List, [], IfOk};
 ghost use Rattle.sample_core.specs.{Datum.Datum, Datum.pair, ValueView.datum_of};
 ghost use Rattle.leaf_core.specs.KeyTree.{KeyTree};
 ghost use Rattle.state_core.specs.{RowsView.rows_in, RowsView.row_number, State.Frozen};
 ghost use Rattle.state_core.specs.Around.{first_part, second_part};
 ghost use Rattle.state_core.specs.StateView.{state_of, node_of, scope_of};
-ghost use Rattle.step_core.specs.Outcome.{RunsBy, TakesOver, TakesOverLate, RunsAll, outcome};
+ghost use Rattle.step_core.specs.Outcome.{RunsBy, TakesOver, TakesOverLate, RunsAll, gathered, nothing_yet, outcome};
 ghost use Rattle.step_core.specs.Plans.{IsAsked, IsFed, RunsMember, router_of};
-ghost use Rattle.step_core.specs.Runs.{RunsWhere, RunEachWhere, SeqBy, FirstBy, ParBy, LoopBy, SwitchBy, DSwitchBy, RSwitchBy, KSwitchBy, PSwitchBy, OldBy};
+ghost use Rattle.step_core.specs.Runs.{RunsWhere, RunEachWhere, SeqBy, FirstBy, ParBy, LoopBy, SwitchBy, DSwitchBy, RSwitchBy, KSwitchBy, PSwitchBy};
 ghost use Rattle.step_core.specs.SourceView.{source_of, sources_of};
 
 use crate::count;
-use crate::each::{Each, Listed, count_of, first_of, join_par, keep_p_switch};
+use crate::each::{Listed, count_of, first_of, join_par, keep_p_switch, make_place, member_places};
 use crate::fire::{Stopped, fire, fire_old};
-use crate::handed::{fed, routed};
+use crate::handed::{Handing, fed, routed};
 use crate::part::{beside, first, paired_with, restart_of, second};
 use crate::plan::{Back, Plan, Route, Source, Sources, plan_of};
 use crate::round::{join_loop, keep_first, put_first, round};
@@ -105,13 +105,17 @@ fn run_parts<'n, R: Rows>(
         Plan::PSwitch(r, fs, e, t, env) => run_p_switch(
             alloc, rows, *r, *fs, e, *t, *env, dt, x, place, out,
         ),
-        Plan::Old(frozen, step) => run_old(alloc, rows, frozen, *step, x, place, out),
+        Plan::Old(frozen, step) => {
+            let over = run(alloc, rows, frozen, *step, x, place, out)?;
+            Ok(count::node(over, 0))
+        }
         Plan::Beyond => Err(Memory),
     }
 }
 
 /// The same for a part, in the place of the first part of what stands in that place.
 #[cycle(run)]
+#[inline(always)]
 fn run_part<'n, R: Rows>(
     alloc: Global,
     rows: &R,
@@ -130,6 +134,25 @@ fn run_part<'n, R: Rows>(
             return run_in_first(alloc, rows, from, dt, x, node, out);
         }
     }
+    run_apart(alloc, rows, from, dt, x, place, out)
+}
+
+/// The same where what stands in the place is no node, or someone else's.
+#[cycle(run)]
+#[inline(never)]
+fn run_apart<'n, R: Rows>(
+    alloc: Global,
+    rows: &R,
+    from: &Source<'_, 'n>,
+    dt: u64,
+    x: &Sample,
+    place: &mut State<'n>,
+    out: &mut Sample,
+) -> Result<u32, Memory>
+    ensures { IfOk result (λ n.
+        RunsWhere (R.keys rows.now) (source_of from.now dt) (datum_of x.now)
+        (first_part (state_of place.new)) (datum_of out.new) n) }
+{
     let mut part = State::Nothing;
     match run(alloc, rows, from, dt, x, &mut part, out) {
         Ok(one) => {
@@ -145,6 +168,7 @@ fn run_part<'n, R: Rows>(
 
 /// The same for the part that follows or watches the first, which stays.
 #[cycle(run)]
+#[inline(always)]
 fn run_second<'n, R: Rows>(
     alloc: Global,
     rows: &R,
@@ -169,6 +193,7 @@ fn run_second<'n, R: Rows>(
 
 /// A part's sample, in the place of the first part of a node.
 #[cycle(run)]
+#[inline(always)]
 fn run_in_first<'n, R: Rows>(
     alloc: Global,
     rows: &R,
@@ -191,17 +216,35 @@ fn run_in_first<'n, R: Rows>(
         Node::RSwitch(parts) => run(alloc, rows, from, dt, x, &mut parts.part, out),
         Node::KSwitch(parts) => run(alloc, rows, from, dt, x, &mut parts.part, out),
         Node::PSwitch(parts) => run(alloc, rows, from, dt, x, &mut parts.watch, out),
-        Node::Par(_) => {
-            let mut part = State::Nothing;
-            let one = run(alloc, rows, from, dt, x, &mut part, out);
-            drop(std::mem::replace(node, Node::First(part)));
-            one
-        }
+        Node::Par(_) => run_alone(alloc, rows, from, dt, x, node, out),
     }
+}
+
+/// A part's sample, in the place of a node without a first part.
+#[cycle(run)]
+#[inline(never)]
+fn run_alone<'n, R: Rows>(
+    alloc: Global,
+    rows: &R,
+    from: &Source<'_, 'n>,
+    dt: u64,
+    x: &Sample,
+    node: &mut Node<'n>,
+    out: &mut Sample,
+) -> Result<u32, Memory>
+    ensures { IfOk result (λ n.
+        RunsWhere (R.keys rows.now) (source_of from.now dt) (datum_of x.now)
+        (first_part (node_of node.new)) (datum_of out.new) n) }
+{
+    let mut part = State::Nothing;
+    let one = run(alloc, rows, from, dt, x, &mut part, out);
+    drop(std::mem::replace(node, Node::First(part)));
+    one
 }
 
 /// A part's sample, in the place of the second part of a node, whose first part stays.
 #[cycle(run)]
+#[inline(always)]
 fn run_in_second<'n, R: Rows>(
     alloc: Global,
     rows: &R,
@@ -219,14 +262,32 @@ fn run_in_second<'n, R: Rows>(
     match node {
         Node::Seq(parts) => run(alloc, rows, from, dt, x, &mut parts.second, out),
         Node::KSwitch(parts) => run(alloc, rows, from, dt, x, &mut parts.watch, out),
-        _ => {
-            let first = node.take_first();
-            let mut second = State::Nothing;
-            let two = run(alloc, rows, from, dt, x, &mut second, out);
-            drop(std::mem::replace(node, Node::Seq(SeqParts { first, second })));
-            two
-        }
+        _ => run_beside(alloc, rows, from, dt, x, node, out),
     }
+}
+
+/// A part's sample, in the place of a node without a second part, whose first part stays.
+#[cycle(run)]
+#[inline(never)]
+fn run_beside<'n, R: Rows>(
+    alloc: Global,
+    rows: &R,
+    from: &Source<'_, 'n>,
+    dt: u64,
+    x: &Sample,
+    node: &mut Node<'n>,
+    out: &mut Sample,
+) -> Result<u32, Memory>
+    ensures { IfOk result (λ n.
+        (first_part (node_of node.new) ≡ first_part (node_of node.old))
+        × RunsWhere (R.keys rows.now) (source_of from.now dt) (datum_of x.now)
+        (second_part (node_of node.new)) (datum_of out.new) n) }
+{
+    let first = node.take_first();
+    let mut second = State::Nothing;
+    let two = run(alloc, rows, from, dt, x, &mut second, out);
+    drop(std::mem::replace(node, Node::Seq(SeqParts { first, second })));
+    two
 }
 
 /// `>>>` by its two parts.
@@ -489,8 +550,11 @@ fn run_k_switch<'n, R: Rows>(
         (datum_of x.now) (outcome (state_of place.new) (datum_of out.new) n)) }
 {
     let one = run_part(alloc, rows, f, dt, x, place, out)?;
+    let seen = beside(alloc, x, out)?;
     let mut event = Sample::Int(0);
-    match run_watch(alloc, rows, e, dt, x, out, place, &mut event) {
+    let two = run_second(alloc, rows, e, dt, &seen, place, &mut event);
+    drop(seen);
+    match two {
         Ok(two) => {
             let fired = fire_old(alloc, &event, env, Stopped::One(*f), dt);
             drop(event);
@@ -559,27 +623,6 @@ fn run_p_switch<'n, R: Rows>(
     }
 }
 
-/// `old` by what it resumes, after that one's own step.
-#[cycle(run)]
-#[inline(never)]
-fn run_old<'n, R: Rows>(
-    alloc: Global,
-    rows: &R,
-    frozen: &Source<'_, 'n>,
-    step: u64,
-    x: &Sample,
-    place: &mut State<'n>,
-    out: &mut Sample,
-) -> Result<u32, Memory>
-    ensures { IfOk result (λ n.
-        RunsBy (R.keys rows.now)
-        (λ w. OldBy w (source_of frozen.now step))
-        (datum_of x.now) (outcome (state_of place.new) (datum_of out.new) n)) }
-{
-    let over = run(alloc, rows, frozen, step, x, place, out)?;
-    Ok(count::node(over, 0))
-}
-
 /// The network takes over after so many visits.
 #[cycle(run)]
 #[inline(never)]
@@ -637,29 +680,6 @@ fn run_late<'n, R: Rows>(
     }
 }
 
-/// What watches a part, on the sample and what was answered to it.
-#[cycle(run)]
-fn run_watch<'n, R: Rows>(
-    alloc: Global,
-    rows: &R,
-    e: &Source<'_, 'n>,
-    dt: u64,
-    x: &Sample,
-    y: &Sample,
-    place: &mut State<'n>,
-    out: &mut Sample,
-) -> Result<u32, Memory>
-    ensures { IfOk result (λ n.
-        (first_part (state_of place.new) ≡ first_part (state_of place.old))
-        × RunsWhere (R.keys rows.now) (source_of e.now dt) (pair (datum_of x.now) (datum_of y.now))
-        (second_part (state_of place.new)) (datum_of out.new) n) }
-{
-    let seen = beside(alloc, x, y)?;
-    let two = run_second(alloc, rows, e, dt, &seen, place, out);
-    drop(seen);
-    two
-}
-
 /// What watches members, on the sample and the list of their answers.
 #[cycle(run)]
 fn run_members_watch<'n, R: Rows>(
@@ -697,7 +717,8 @@ fn run_all<'n, R: Rows>(
         RunsAll (R.keys rows.now) (router_of router.entry) (sources_of members.entry dt)
         (datum_of x.now) all) }
 {
-    let mut each = Each::none(alloc, count_of(members), place)?;
+    let mut answers = Vec::with_capacity(alloc, count_of(members))?;
+    let mut places = member_places(alloc, count_of(members), place)?;
     let on = Handing {
         alloc,
         rows,
@@ -705,56 +726,56 @@ fn run_all<'n, R: Rows>(
         dt,
         x,
     };
-    match run_each(&on, members, &mut each) {
-        Ok(()) => each.listed(alloc),
+    match run_each(&on, members, &mut places, &mut answers) {
+        Ok(visits) => Listed::new(alloc, places, answers, visits),
         Err(memory) => {
-            drop(each);
+            drop(places);
+            drop(answers);
             Err(memory)
         }
     }
 }
 
-/// What all members get: what routes the sample, the sample, and the time since the one before.
-#[derive(Drop)]
-struct Handing<'s, R> {
-    alloc: Global,
-    rows: &'s R,
-    router: Route<'s>,
-    dt: u64,
-    x: &'s Sample,
-}
-
-/// The members in order, added to those before.
+/// The members in order: their states come into the places, as many of these as there are members,
+/// and their answers into the list, in which there is none before.
 #[cycle(run)]
 fn run_each<'n, R: Rows>(
     on: &Handing<'_, R>,
     members: Sources<'_, 'n>,
-    each: &mut Each<'n>,
-) -> Result<(), Memory>
-    ensures { IfOk result (λ _.
+    places: &mut Vec<State<'n>>,
+    answers: &mut Vec<Sample>,
+) -> Result<u32, Memory>
+    requires { answers.old.items ≡ [] }
+    ensures { IfOk result (λ n.
         RunEachWhere (R.keys on.now.rows.now) (router_of on.now.router) 0
-        (sources_of members.entry on.now.dt) (datum_of on.now.x.now) each.old each.new) }
+        (sources_of members.entry on.now.dt) (datum_of on.now.x.now) nothing_yet
+        (gathered places.new.items answers.new.items n)) }
 {
     let mut asked = Sample::Unit;
     let mut rest = members;
     let mut i: u32 = 0;
+    let mut visits: u32 = 0;
     'members: loop {
+        let before = answers.len();
         match first_of(rest) {
             Some((f, behind)) => {
-                let mut place = each.take_place();
+                make_place(places, before)?;
                 let mut answer = Sample::Int(0);
-                match run_member(on, i, &f, &mut asked, &mut place, &mut answer) {
-                    Ok(visits) => each.add(place, answer, visits)?,
+                match run_member(on, i, &f, &mut asked, &mut places[before], &mut answer) {
+                    Ok(one) => visits = count::both(visits, one),
                     Err(memory) => {
-                        drop(place);
                         drop(answer);
                         return Err(memory);
                     }
                 }
+                answers.push(answer)?;
                 rest = behind;
                 i = i.wrapping_add(1);
             }
-            None => return Ok(()),
+            None => {
+                places.truncate(before);
+                return Ok(visits);
+            }
         }
     }
 }

@@ -1,4 +1,4 @@
-use Rattle.std.proofs.Common.{◌≡◌, ℕ, rules, arith, sym, ap, subst, ◌∙◌, refl, List}
+use Rattle.std.proofs.Common.{◌≡◌, ℕ, rules, arith, sym, ap, subst, ◌∙◌, refl, List, [], ◌∷◌, length, length-append, length-set, take}
 use Rattle.leaf_core.specs.KeyTree.{KeyTree}
 use Rattle.sample_core.specs.Datum.{Datum, pair}
 use Rattle.sample_core.specs.ValueView.{datum_of}
@@ -10,11 +10,11 @@ use Rattle.step_core.specs.EventView.{restart_found}
 use Rattle.step_core.specs.Plans.{PlanBy, IsFed, router_of}
 use Rattle.step_core.specs.declared.plan.Plan.{Plan}
 use Rattle.step_core.specs.Runs.{RunEachWhere, to_all, by_row, SeqBy, FirstBy, ParBy, LoopBy, SwitchBy, DSwitchBy, RSwitchBy, KSwitchBy, PSwitchBy, OldBy}
-use Rattle.step_core.specs.Outcome.{outcome}
+use Rattle.step_core.specs.Outcome.{gathered, outcome}
 use Rattle.step_core.specs.SourceView.{source_of, sources_of}
 use Rattle.step_core.proofs.Falling.{members_fall, seq_within, first_falls, par_falls, loop_falls, switch_within, d_switch_within, r_switch_within, k_switch_within, p_switch_within, old_falls, over_weighs, over_old_weighs, over_olds_weighs}
 use Rattle.step_core.proofs.RunJoins.{if_ok, fires_by, stays, seq_joined, first_joined, loop_joined, switch_kept, switch_over, d_switch_kept, d_switch_over, r_switch_kept, r_switch_over, k_switch_kept, k_switch_over, old_over}
-use Rattle.step_core.proofs.RunMembers.{none_run, also_run, all_from_none, member_ran, next_number, par_joined, p_switch_kept, p_switch_over}
+use Rattle.step_core.proofs.RunMembers.{none_run, also_run, member_ran, one_added, next_number, par_joined, p_switch_kept, p_switch_over}
 use Rattle.step_core.proofs.run.+run.Goals as goal
 
 -- the plan at an arm
@@ -105,14 +105,18 @@ run_parts-run_p_switch-requires g t c κs within =
 pub run_parts-returns-in-PSwitch : goal.run_parts-returns-in-PSwitch
 run_parts-returns-in-PSwitch g t c = if_ok c.run_p_switch.result _ _ (λ r h. h _ (planned _ (source_of c.args.from.now c.args.dt) c.args.dt _ c.in-PSwitch.is (c.plan_of-plan.ensures c.args.dt))) c.run_p_switch.ensures
 
-pub run_parts-run_old-requires : goal.run_parts-run_old-requires
-run_parts-run_old-requires g t c κs within =
+pub run_parts-run-requires : goal.run_parts-run-requires
+run_parts-run-requires g t c κs within =
     let h : OldBy (source_of c.args.from.now c.args.dt) (source_of c.in-Old.frozen c.in-Old.step) =
     planned _ (source_of c.args.from.now c.args.dt) c.args.dt _ c.in-Old.is (c.plan_of-plan.ensures c.args.dt) in
     (omega (arith, c.decreases, old_falls _ _ h), search rules)
 
-pub run_parts-returns-in-Old : goal.run_parts-returns-in-Old
-run_parts-returns-in-Old g t c = if_ok c.run_old.result _ _ (λ r h. h _ (planned _ (source_of c.args.from.now c.args.dt) c.args.dt _ c.in-Old.is (c.plan_of-plan.ensures c.args.dt))) c.run_old.ensures
+pub run_parts-returns-in_ok-over-in-Old : goal.run_parts-returns-in_ok-over-in-Old
+run_parts-returns-in_ok-over-in-Old g t c =
+    let h : OldBy (source_of c.args.from.now c.args.dt) (source_of c.in-Old.frozen c.in-Old.step) =
+    planned _ (source_of c.args.from.now c.args.dt) c.args.dt _ c.in-Old.is (c.plan_of-plan.ensures c.args.dt) in
+    old_over _ _ _ _ (outcome (state_of c.run.new.place) (datum_of c.run.new.out) c.in_ok-over-in-Old.over)
+    (outcome (state_of c.run.new.place) (datum_of c.run.new.out) c.node.result) h c.in_ok-over-in-Old.ensures (refl, refl, c.node.ensures)
 
 pub run_parts-returns-in-Static : goal.run_parts-returns-in-Static
 run_parts-returns-in-Static g t c = if_ok c.run_static.result _ _ (λ r h. h _ (planned _ (source_of c.args.from.now c.args.dt) c.args.dt _ c.in-Static.is (c.plan_of-plan.ensures c.args.dt))) c.run_static.ensures
@@ -139,12 +143,6 @@ run_par-returns g t c =
     if_ok c.join_par.result _ _
     (λ n j w h. par_joined _ w _ _ _ _ _ (outcome (state_of c.join_par.new.place) (datum_of c.join_par.new.out) n) h refl c.in_ok-all.ensures.1 c.in_ok-all.ensures.2 j)
     c.join_par.ensures
-
-pub run_old-returns : goal.run_old-returns
-run_old-returns g t c =
-    λ w h. old_over _ w _ _ (outcome (state_of c.run.new.place) (datum_of c.run.new.out) c.in_ok-over.over)
-    (outcome (state_of c.run.new.place) (datum_of c.run.new.out) c.node.result) h c.in_ok-over.ensures
-    (refl, refl, c.node.ensures)
 
 pub run_loop-returns-in_ok-join_loop-in-Ok : goal.run_loop-returns-in_ok-join_loop-in-Ok
 run_loop-returns-in_ok-join_loop-in-Ok g t c =
@@ -224,10 +222,10 @@ run_k_switch-returns-in-Some g t c =
     let fires = fires_by _ _ (λ u. push_old (push_param (scope_of c.args.env.now) u) (source_of c.args.f.now c.args.dt)) _ _ refl
     c.in-Some.is c.in_ok-inner-in-Ok.ensures in
     if_ok c.run_over.result _ _
-    (λ n k w h. k_switch_over _ w _ _ _ _ (scope_of c.in-Some.inner) _ _ fires.0 (outcome (first_part (state_of c.run_watch.new.place)) (datum_of c.run_part.new.out) c.in_ok-one.one)
-    (outcome (second_part (state_of c.run_watch.new.place)) (datum_of c.run_watch.new.out) c.in-Ok.two)
+    (λ n k w h. k_switch_over _ w _ _ _ _ (scope_of c.in-Some.inner) _ _ fires.0 (outcome (first_part (state_of c.run_second-two.new.place)) (datum_of c.run_part.new.out) c.in_ok-one.one)
+    (outcome (second_part (state_of c.run_second-two.new.place)) (datum_of c.run_second-two.new.out) c.in-Ok.two)
     k.0 (outcome (state_of c.run_over.new.place) (datum_of c.run_over.new.out) n) _ h (stays _ _ _ _ _ _ _ c.in-Ok.ensures.0 c.in_ok-one.ensures)
-    refl c.in-Ok.ensures.1 fires.1 fires.2 k.1 _ refl _ refl
+    c.in_ok-seen.ensures c.in-Ok.ensures.1 fires.1 fires.2 k.1 _ refl _ refl
     c.node-before.ensures k.2) c.run_over.ensures
 
 pub run_k_switch-returns-in-None : goal.run_k_switch-returns-in-None
@@ -235,9 +233,9 @@ run_k_switch-returns-in-None g t c =
     let fires = fires_by _ _ (λ u. push_old (push_param (scope_of c.args.env.now) u) (source_of c.args.f.now c.args.dt)) _ _ refl
     c.in-None.is c.in_ok-inner-in-Ok.ensures in
     if_ok c.round.result _ _
-    (λ n j w h. k_switch_kept _ w _ _ _ _ _ _ (outcome (first_part (state_of c.run_watch.new.place)) (datum_of c.run_part.new.out) c.in_ok-one.one)
-    (outcome (second_part (state_of c.run_watch.new.place)) (datum_of c.run_watch.new.out) c.in-Ok.two)
-    (outcome (state_of c.round.new.place) (datum_of c.run_part.new.out) n) h (stays _ _ _ _ _ _ _ c.in-Ok.ensures.0 c.in_ok-one.ensures) refl
+    (λ n j w h. k_switch_kept _ w _ _ _ _ _ _ (outcome (first_part (state_of c.run_second-two.new.place)) (datum_of c.run_part.new.out) c.in_ok-one.one)
+    (outcome (second_part (state_of c.run_second-two.new.place)) (datum_of c.run_second-two.new.out) c.in-Ok.two)
+    (outcome (state_of c.round.new.place) (datum_of c.run_part.new.out) n) h (stays _ _ _ _ _ _ _ c.in-Ok.ensures.0 c.in_ok-one.ensures) c.in_ok-seen.ensures
     c.in-Ok.ensures.1 fires (j.0, refl, j.1)) c.round.ensures
 
 pub run_p_switch-run_over-requires : goal.run_p_switch-run_over-requires
@@ -301,20 +299,38 @@ run_each-members-smaller g t c = (members_fall _ _ _ (c.in-Some.ensures c.args.o
 
 pub run_each-members-preserved : goal.run_each-members-preserved
 run_each-members-preserved g t c =
-    let fall = members_fall _ _ _ (c.in-Some.ensures c.args.on.now.dt) in (
+    let fall = members_fall _ _ _ (c.in-Some.ensures c.args.on.now.dt) in
+    let room = c.in_ok-make_place-in-Some.ensures in
+    let at : c.len-before.result ≡ length c.members.answers.items = omega (arith, c.len-before.ensures, c.members.answers.ok) in
+    let added = one_added c.members.places.items c.make_place.new.places.items c.members.answers.items c.push.new.self.items c.run_member.new.place
+    c.run_member.new.out c.members.visits c.in-Ok.one c.both-visits.result c.len-before.result at room.0 room.1
+    c.in_ok-push-in-Some.ensures.items c.both-visits.ensures in (
       omega (arith, fall.1, c.members.invariant.0),
-      (λ all h. c.members.invariant.1 all (subst (λ z. RunEachWhere (g.R.Rows.keys c.args.on.now.rows.now) (router_of c.args.on.now.router) c.members.i
-          (sources_of c.members.rest c.args.on.now.dt) (datum_of c.args.on.now.x.now) z all)
-          c.take_place-place.ensures (also_run _ (router_of c.args.on.now.router) c.members.i _ _ _ _ _ c.in-Ok.ensures.runs.0
-          (outcome (state_of c.run_member.new.place) (datum_of c.run_member.new.out) c.in-Ok.visits) _ _ _ (c.in-Some.ensures c.args.on.now.dt)
-          c.in-Ok.ensures.runs.1 c.in-Ok.ensures.runs.2 c.in_ok-add-in-Ok.ensures (next_number c.members.i) h))),
+      omega (
+        arith,
+        room.0,
+        at,
+        ap length c.in_ok-push-in-Some.ensures.items,
+        length-append c.members.answers.items (c.run_member.new.out ∷ []),
+        length-set c.make_place.new.places.items c.len-before.result c.run_member.new.place,
+      ),
+      (λ all h. c.members.invariant.2 all (also_run _ (router_of c.args.on.now.router) c.members.i _ _ _ _ _ c.in-Ok.ensures.runs.0
+          (outcome (state_of c.run_member.new.place) (datum_of c.run_member.new.out) c.in-Ok.one) _ _ _ (c.in-Some.ensures c.args.on.now.dt)
+          c.in-Ok.ensures.runs.1 c.in-Ok.ensures.runs.2 added (next_number c.members.i) h)),
       c.run_member.ensures.asked,
     )
 
 pub run_each-returns-in-None : goal.run_each-returns-in-None
 run_each-returns-in-None g t c =
-    c.members.invariant.1 _ (none_run _ (router_of c.args.on.now.router) c.members.i _ _ _ (c.in-None.ensures c.args.on.now.dt))
+    let at : c.len-before.result ≡ length c.members.answers.items = omega (arith, c.len-before.ensures, c.members.answers.ok) in
+    let kept = c.truncate.ensures.items ∙ ap (λ j. take j c.members.places.items) at in
+    c.members.invariant.2 _
+    (subst (λ ws. RunEachWhere (g.R.Rows.keys c.args.on.now.rows.now) (router_of c.args.on.now.router) c.members.i
+    (sources_of c.members.rest c.args.on.now.dt) (datum_of c.args.on.now.x.now)
+    (gathered (take (length c.members.answers.items) c.members.places.items) c.members.answers.items c.members.visits)
+    (gathered ws c.members.answers.items c.members.visits)) (sym kept)
+    (none_run _ (router_of c.args.on.now.router) c.members.i _ _ _ (c.in-None.ensures c.args.on.now.dt)))
 
 pub run_all-returns-in-Ok : goal.run_all-returns-in-Ok
 run_all-returns-in-Ok g t c =
-    if_ok c.listed.result _ _ (λ all l. all_from_none _ (router_of c.args.router) _ _ _ _ all c.in_ok-each.ensures c.in-Ok.ensures l) c.listed.ensures
+    if_ok c.new.result _ _ (λ all l. (_, c.in-Ok.ensures, l)) c.new.ensures

@@ -1,4 +1,4 @@
-use Rattle.std.proofs.Common.{◌+◌, ◌*◌, ◌≤◌, ◌++◌, ◌∷◌, [], max}
+use Rattle.std.proofs.Common.{◌+◌, ◌*◌, ◌≤◌, ◌++◌, ◌∷◌, [], length, max, take}
 use Rattle.net_syntax.specs.Weight.{weight, total}
 use Rattle.sample_core.specs.ValueView.{datum_of}
 use Rattle.state_core.specs.RowsView.{rows_in}
@@ -6,6 +6,7 @@ use Rattle.state_core.specs.State.{unstarted}
 use Rattle.state_core.specs.StateView.{scope_of}
 use Rattle.step_core.specs.Rank.{frozen_rank, frozen_ranks, ranks_in}
 use Rattle.step_core.specs.Plans.{IsAsked, router_of}
+use Rattle.step_core.specs.Outcome.{gathered, nothing_yet}
 use Rattle.step_core.specs.Runs.{Gathered, RunEachWhere}
 use Rattle.step_core.specs.SourceView.{source_of, sources_of}
 use Rattle.step_core.proofs.run.+run.Given as goal
@@ -20,16 +21,25 @@ abbrev pub decreases-run_parts : goal.decreases-run_parts
 decreases-run_parts g l = 10 * frozen_rank (source_of l.from.now l.dt)
 
 abbrev pub decreases-run_part : goal.decreases-run_part
-decreases-run_part g l = 10 * frozen_rank (source_of l.from.now l.dt) + 4
+decreases-run_part g l = 10 * frozen_rank (source_of l.from.now l.dt) + 5
+
+abbrev pub decreases-run_apart : goal.decreases-run_apart
+decreases-run_apart g l = 10 * frozen_rank (source_of l.from.now l.dt) + 3
 
 abbrev pub decreases-run_second : goal.decreases-run_second
-decreases-run_second g l = 10 * frozen_rank (source_of l.from.now l.dt) + 4
+decreases-run_second g l = 10 * frozen_rank (source_of l.from.now l.dt) + 5
 
 abbrev pub decreases-run_in_first : goal.decreases-run_in_first
-decreases-run_in_first g l = 10 * frozen_rank (source_of l.from.now l.dt) + 3
+decreases-run_in_first g l = 10 * frozen_rank (source_of l.from.now l.dt) + 4
+
+abbrev pub decreases-run_alone : goal.decreases-run_alone
+decreases-run_alone g l = 10 * frozen_rank (source_of l.from.now l.dt) + 3
 
 abbrev pub decreases-run_in_second : goal.decreases-run_in_second
-decreases-run_in_second g l = 10 * frozen_rank (source_of l.from.now l.dt) + 3
+decreases-run_in_second g l = 10 * frozen_rank (source_of l.from.now l.dt) + 4
+
+abbrev pub decreases-run_beside : goal.decreases-run_beside
+decreases-run_beside g l = 10 * frozen_rank (source_of l.from.now l.dt) + 3
 
 abbrev pub decreases-run_seq : goal.decreases-run_seq
 decreases-run_seq g l = 10 * (frozen_rank (source_of l.f.now l.dt) + frozen_rank (source_of l.g.now l.dt)) + 8
@@ -65,20 +75,14 @@ decreases-run_p_switch g l =
     10 * (total (frozen_ranks (sources_of l.fs l.dt)) + frozen_rank (source_of l.e.now l.dt)
     + weight (rows_in l.t.now) (ranks_in (scope_of l.env.now) ++ frozen_ranks (sources_of l.fs l.dt))) + 8
 
-abbrev pub decreases-run_old : goal.decreases-run_old
-decreases-run_old g l = 10 * frozen_rank (source_of l.frozen.now l.step) + 8
-
 abbrev pub decreases-run_over : goal.decreases-run_over
 decreases-run_over g l = 10 * frozen_rank (unstarted (rows_in l.t.now) (scope_of l.env)) + 3
 
 abbrev pub decreases-run_late : goal.decreases-run_late
 decreases-run_late g l = 10 * frozen_rank (unstarted (rows_in l.t.now) (scope_of l.env)) + 3
 
-abbrev pub decreases-run_watch : goal.decreases-run_watch
-decreases-run_watch g l = 10 * frozen_rank (source_of l.e.now l.dt) + 5
-
 abbrev pub decreases-run_members_watch : goal.decreases-run_members_watch
-decreases-run_members_watch g l = 10 * frozen_rank (source_of l.e.now l.dt) + 5
+decreases-run_members_watch g l = 10 * frozen_rank (source_of l.e.now l.dt) + 6
 
 abbrev pub decreases-run_all : goal.decreases-run_all
 decreases-run_all g l = 10 * total (frozen_ranks (sources_of l.members l.dt)) + 5
@@ -90,8 +94,10 @@ decreases-run_each g l = 10 * total (frozen_ranks (sources_of l.members l.on.now
 abbrev pub invariant-run_each-members : goal.invariant-run_each-members
 invariant-run_each-members g l =
     (total (frozen_ranks (sources_of l.rest l.on.dt)) ≤ total (frozen_ranks (sources_of l.members l.on.dt)))
-    × ((all : Gathered) → RunEachWhere (g.R.Rows.keys l.on.rows.now) (router_of l.on.router) l.i (sources_of l.rest l.on.dt) (datum_of l.on.x.now) l.each all
-    → RunEachWhere (g.R.Rows.keys l.on.rows.now) (router_of l.on.router) 0 (sources_of l.members l.on.dt) (datum_of l.on.x.now) l.initial.each all)
+    × (length l.answers.items ≤ length l.places.items)
+    × ((all : Gathered) → RunEachWhere (g.R.Rows.keys l.on.rows.now) (router_of l.on.router) l.i (sources_of l.rest l.on.dt) (datum_of l.on.x.now)
+    (gathered (take (length l.answers.items) l.places.items) l.answers.items l.visits) all
+    → RunEachWhere (g.R.Rows.keys l.on.rows.now) (router_of l.on.router) 0 (sources_of l.members l.on.dt) (datum_of l.on.x.now) nothing_yet all)
     × IsAsked (datum_of l.on.x.now) (datum_of l.asked)
 
 abbrev pub decreases-run_each-members : goal.decreases-run_each-members
