@@ -144,8 +144,7 @@ pub fault_read : (size : ℕ) (A : TypeTree) (bs : List ℕ) (w : Expectation) (
     → Wrong w rest (size - length rest) f → value_at size A bs ≡ Err f
 unfolding value_at
 fault_read size A bs w rest f at_front x = front_read size A bs f x
-fault_read size A bs w rest f (behind_pair g) x =
-    space_missing size A (codes "pair") (codes "(pair" ++ rest) rest f _ (head_only size (codes "pair") rest refl g) x
+fault_read size A bs w rest f (behind_pair g) x = space_missing size A (codes "pair") (codes "(pair" ++ rest) rest f _ (head_only size _ rest refl g) x
 fault_read size A bs w rest f (in_first {A = B} {bs = cs} l) x =
     part_fails size B (codes "pair") (codes "(pair " ++ cs) cs f _ (head_only size (codes "pair") (32 ∷ cs) refl refl) (fault_read size B cs w rest f l x)
 fault_read size A bs w rest f (behind_first {A = B} {v = v} {bs = cs} s) x =
@@ -159,8 +158,7 @@ fault_read size A bs w rest f (behind_second {A = B} {B = C} {v = v} {x = y} {bs
     let b : behind_byte size 41 rest ≡ Err f = byte_read size 41 rest f x in
     part_read size B (codes "pair") (codes "(pair " ++ cs) cs (32 ∷ ds) v f _ (head_only size (codes "pair") (32 ∷ cs) refl refl)
     (spells_read size B cs v (32 ∷ ds) s) (rw (space_here size ds, j, b) refl)
-fault_read size A bs w rest f (behind_event g) x =
-    space_missing size A (codes "event") (codes "(event" ++ rest) rest f _ (head_only size (codes "event") rest refl g) x
+fault_read size A bs w rest f (behind_event g) x = space_missing size A (codes "event") (codes "(event" ++ rest) rest f _ (head_only size _ rest refl g) x
 fault_read size A bs w rest f (in_event {A = B} {bs = cs} l) x =
     part_fails size B (codes "event") (codes "(event " ++ cs) cs f _ (head_only size (codes "event") (32 ∷ cs) refl refl) (fault_read size B cs w rest f l x)
 fault_read size A bs w rest f (behind_inner {A = B} {v = v} {bs = cs} s) x =

@@ -82,7 +82,8 @@ module _ (x : ℕ × Datum) (c : CountedFunction) (p : TimedList) where
         (d_switch_took s.f t s.is_f p x s.unseen {A = A'} v n (ka s.f p s.first_part) h)
 
     pub d_switch_over_moves : {A A' P : CountedFunction → TimedList → Type 0} (v e y : Datum) (m n : ℕ)
-        → SwitchStands counted_d_switch A t c p → Moves A A' x v m → event_in (right v) ≡ Some e → TakesSample (StandsVia P) (t e) [] x y n → TakesSample (StandsVia P) c p x (left v) (suc m + n)
+        → SwitchStands counted_d_switch A t c p → Moves A A' x v m → event_in (right v) ≡ Some e → TakesSample (StandsVia P) (t e) [] x y n
+        → TakesSample (StandsVia P) c p x (left v) (suc m + n)
     d_switch_over_moves {A} {A'} {P} v e y m n s ka h tt' =
         subst (λ d. TakesSample (StandsVia P) d p x (left v) (suc m + n)) (sym s.same)
         (d_switch_over_took s.f t s.is_f p x s.unseen {A = A'} {P = P} v e y m n (ct e) (ka s.f p s.first_part) h tt')

@@ -125,7 +125,8 @@ module _ (keys : List KeyTree) where
             (sym (now_answered g ps v x a (accumulator_of q.0) q.1 same p))
             (subst (λ rs. Resumes (row_value keys) (unstarted (accum_by g z) s) x (accum_state g rs (accumulator_of q.0))
             (if_event x (accumulator_of q.0)) 1) es
-            (G.resume_unstarted (G.start_accum (subst (λ rs. accumulator_of q.0 ≡ fold_events (row_value keys g rs) (row_value keys z rs unit) (x ∷ [])) (sym es)
+            (G.resume_unstarted (G.start_accum (subst (λ rs. accumulator_of q.0 ≡ fold_events (row_value keys g rs) (row_value keys z rs unit)
+            (x ∷ [])) (sym es)
             held))));
         is_count = λ _. refl;
       }

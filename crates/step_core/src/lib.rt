@@ -12,6 +12,7 @@ mod flow;
 mod handed;
 mod laws;
 mod lowering;
+mod members;
 mod part;
 mod plan;
 mod round;
@@ -19,6 +20,7 @@ mod rows;
 mod run;
 mod runner;
 mod static_run;
+mod switches;
 
 pub use binding::bind;
 pub use bound::Bound;

@@ -1,29 +1,27 @@
 // One sample through a network or a state.
 
-ghost use Rattle.std.specs.Prelude.{◌≡◌, ℕ, List, [], IfOk};
-ghost use Rattle.sample_core.specs.{Datum.Datum, Datum.pair, ValueView.datum_of};
+ghost use Rattle.std.specs.Prelude.{◌≡◌, ℕ, List, IfOk};
+ghost use Rattle.sample_core.specs.{Datum.Datum, ValueView.datum_of};
 ghost use Rattle.leaf_core.specs.KeyTree.{KeyTree};
-ghost use Rattle.state_core.specs.{RowsView.rows_in, RowsView.row_number, State.Frozen};
 ghost use Rattle.state_core.specs.Around.{first_part, second_part};
-ghost use Rattle.state_core.specs.StateView.{state_of, node_of, scope_of};
-ghost use Rattle.step_core.specs.Outcome.{RunsBy, TakesOver, TakesOverLate, RunsAll, gathered, nothing_yet, outcome};
-ghost use Rattle.step_core.specs.Plans.{IsAsked, IsFed, RunsMember, router_of};
-ghost use Rattle.step_core.specs.Runs.{RunsWhere, RunEachWhere, SeqBy, FirstBy, ParBy, LoopBy, SwitchBy, DSwitchBy, RSwitchBy, KSwitchBy, PSwitchBy};
+ghost use Rattle.state_core.specs.StateView.{state_of, node_of};
+ghost use Rattle.step_core.specs.Outcome.{RunsBy, outcome};
+ghost use Rattle.step_core.specs.Plans.{IsFed};
+ghost use Rattle.step_core.specs.Runs.{RunsWhere, SeqBy, FirstBy, ParBy, LoopBy};
 ghost use Rattle.step_core.specs.SourceView.{source_of, sources_of};
 
 use crate::count;
-use crate::each::{Listed, count_of, first_of, join_par, keep_p_switch, make_place, member_places};
-use crate::fire::{Stopped, fire, fire_old};
-use crate::handed::{Handing, fed, routed};
-use crate::part::{beside, first, paired_with, restart_of, second};
+use crate::each::join_par;
+use crate::handed::fed;
+use crate::members::run_all;
+use crate::part::{first, paired_with, second};
 use crate::plan::{Back, Plan, Route, Source, Sources, plan_of};
-use crate::round::{join_loop, keep_first, put_first, round};
+use crate::round::{join_loop, round};
 use crate::rows::Rows;
 use crate::static_run::run_static;
-use leaf_table::LeafId;
-use net_syntax::Net;
+use crate::switches::{run_d_switch, run_k_switch, run_p_switch, run_r_switch, run_switch};
 use sample_core::{Memory, Sample};
-use state_core::{Around, Env, Node, SeqParts, State, Turn, push_param};
+use state_core::{Around, Node, SeqParts, State};
 use std::alloc::Global;
 use std::rc::Rc;
 
@@ -116,7 +114,7 @@ fn run_parts<'n, R: Rows>(
 /// The same for a part, in the place of the first part of what stands in that place.
 #[cycle(run)]
 #[inline(always)]
-fn run_part<'n, R: Rows>(
+pub(crate) fn run_part<'n, R: Rows>(
     alloc: Global,
     rows: &R,
     from: &Source<'_, 'n>,
@@ -169,7 +167,7 @@ fn run_apart<'n, R: Rows>(
 /// The same for the part that follows or watches the first, which stays.
 #[cycle(run)]
 #[inline(always)]
-fn run_second<'n, R: Rows>(
+pub(crate) fn run_second<'n, R: Rows>(
     alloc: Global,
     rows: &R,
     from: &Source<'_, 'n>,
@@ -405,404 +403,6 @@ fn run_loop<'n, R: Rows>(
         Err(memory) => {
             drop(answer);
             Err(memory)
-        }
-    }
-}
-
-/// `switch` by its part, the network that takes over and its scope.
-#[cycle(run)]
-#[inline(never)]
-fn run_switch<'n, R: Rows>(
-    alloc: Global,
-    rows: &R,
-    f: &Source<'_, 'n>,
-    t: &'n Net<LeafId>,
-    env: &Env<'n>,
-    dt: u64,
-    x: &Sample,
-    place: &mut State<'n>,
-    out: &mut Sample,
-) -> Result<u32, Memory>
-    ensures { IfOk result (λ n.
-        RunsBy (R.keys rows.now)
-        (λ w. SwitchBy w (source_of f.now dt) (rows_in t.entry.now) (scope_of env.now))
-        (datum_of x.now) (outcome (state_of place.new) (datum_of out.new) n)) }
-{
-    let mut answer = Sample::Int(0);
-    match run_part(alloc, rows, f, dt, x, place, &mut answer) {
-        Ok(one) => match fire(alloc, second(&answer), env) {
-            Ok(Some(inner)) => {
-                drop(answer);
-                let before = count::node(one, 0);
-                run_over(alloc, rows, before, t, inner, x, place, out)
-            }
-            Ok(None) => {
-                let around = Around::Switch(Turn::AtOnce, t, env);
-                keep_first(alloc, around, answer, place, out)?;
-                Ok(count::node(one, 0))
-            }
-            Err(memory) => {
-                drop(answer);
-                Err(memory)
-            }
-        },
-        Err(memory) => {
-            drop(answer);
-            Err(memory)
-        }
-    }
-}
-
-/// `dSwitch` likewise.
-#[cycle(run)]
-#[inline(never)]
-fn run_d_switch<'n, R: Rows>(
-    alloc: Global,
-    rows: &R,
-    f: &Source<'_, 'n>,
-    t: &'n Net<LeafId>,
-    env: &Env<'n>,
-    dt: u64,
-    x: &Sample,
-    place: &mut State<'n>,
-    out: &mut Sample,
-) -> Result<u32, Memory>
-    ensures { IfOk result (λ n.
-        RunsBy (R.keys rows.now)
-        (λ w. DSwitchBy w (source_of f.now dt) (rows_in t.entry.now) (scope_of env.now))
-        (datum_of x.now) (outcome (state_of place.new) (datum_of out.new) n)) }
-{
-    let mut answer = Sample::Int(0);
-    match run_part(alloc, rows, f, dt, x, place, &mut answer) {
-        Ok(one) => match fire(alloc, second(&answer), env) {
-            Ok(Some(inner)) => run_late(alloc, rows, one, answer, t, inner, x, place, out),
-            Ok(None) => {
-                let around = Around::Switch(Turn::Late, t, env);
-                keep_first(alloc, around, answer, place, out)?;
-                Ok(count::node(one, 0))
-            }
-            Err(memory) => {
-                drop(answer);
-                Err(memory)
-            }
-        },
-        Err(memory) => {
-            drop(answer);
-            Err(memory)
-        }
-    }
-}
-
-/// `rSwitch` likewise.
-#[cycle(run)]
-#[inline(never)]
-fn run_r_switch<'n, R: Rows>(
-    alloc: Global,
-    rows: &R,
-    f: &Source<'_, 'n>,
-    t: &'n Net<LeafId>,
-    env: &Env<'n>,
-    dt: u64,
-    x: &Sample,
-    place: &mut State<'n>,
-    out: &mut Sample,
-) -> Result<u32, Memory>
-    ensures { IfOk result (λ n.
-        RunsBy (R.keys rows.now)
-        (λ w. RSwitchBy w (source_of f.now dt) (rows_in t.entry.now) (scope_of env.now))
-        (datum_of x.now) (outcome (state_of place.new) (datum_of out.new) n)) }
-{
-    match restart_of(x) {
-        Some((u, event)) => {
-            let inner = push_param(alloc, env, event)?;
-            let one = run_part(alloc, rows, &Source::Net(t, &inner), 0, u, place, out);
-            drop(inner);
-            let around = Around::Switch(Turn::Recurring, t, env);
-            round(alloc, around, one?, 0, place)
-        }
-        None => {
-            let one = run_part(alloc, rows, f, dt, first(x), place, out)?;
-            let around = Around::Switch(Turn::Recurring, t, env);
-            round(alloc, around, one, 0, place)
-        }
-    }
-}
-
-/// `kSwitch` likewise, with the part that watches.
-#[cycle(run)]
-#[inline(never)]
-fn run_k_switch<'n, R: Rows>(
-    alloc: Global,
-    rows: &R,
-    f: &Source<'_, 'n>,
-    e: &Source<'_, 'n>,
-    t: &'n Net<LeafId>,
-    env: &Env<'n>,
-    dt: u64,
-    x: &Sample,
-    place: &mut State<'n>,
-    out: &mut Sample,
-) -> Result<u32, Memory>
-    ensures { IfOk result (λ n.
-        RunsBy (R.keys rows.now)
-        (λ w. KSwitchBy w (source_of f.now dt) (source_of e.now dt) (rows_in t.entry.now)
-        (scope_of env.now))
-        (datum_of x.now) (outcome (state_of place.new) (datum_of out.new) n)) }
-{
-    let one = run_part(alloc, rows, f, dt, x, place, out)?;
-    let seen = beside(alloc, x, out)?;
-    let mut event = Sample::Int(0);
-    let two = run_second(alloc, rows, e, dt, &seen, place, &mut event);
-    drop(seen);
-    match two {
-        Ok(two) => {
-            let fired = fire_old(alloc, &event, env, Stopped::One(*f), dt);
-            drop(event);
-            match fired? {
-                Some(inner) => {
-                    let before = count::node(one, two);
-                    run_over(alloc, rows, before, t, inner, x, place, out)
-                }
-                None => round(alloc, Around::KSwitch(t, env), one, two, place),
-            }
-        }
-        Err(memory) => {
-            drop(event);
-            Err(memory)
-        }
-    }
-}
-
-/// `pSwitch` by the row that routes, its members, the part that watches them, the network that
-/// takes over and its scope.
-#[cycle(run)]
-#[inline(never)]
-fn run_p_switch<'n, R: Rows>(
-    alloc: Global,
-    rows: &R,
-    r: LeafId,
-    fs: Sources<'_, 'n>,
-    e: &Source<'_, 'n>,
-    t: &'n Net<LeafId>,
-    env: &Env<'n>,
-    dt: u64,
-    x: &Sample,
-    place: &mut State<'n>,
-    out: &mut Sample,
-) -> Result<u32, Memory>
-    ensures { IfOk result (λ n.
-        RunsBy (R.keys rows.now)
-        (λ w. PSwitchBy w (row_number r) (sources_of fs.entry dt) (source_of e.now dt)
-        (rows_in t.entry.now) (scope_of env.now))
-        (datum_of x.now) (outcome (state_of place.new) (datum_of out.new) n)) }
-{
-    let all = run_all(alloc, rows, Route::ByRow(r, &env.params), fs, dt, x, place)?;
-    let mut event = Sample::Int(0);
-    match run_members_watch(alloc, rows, e, dt, x, all.list(), place, &mut event) {
-        Ok(two) => {
-            let fired = fire_old(alloc, &event, env, Stopped::All(fs), dt);
-            drop(event);
-            match fired {
-                Ok(Some(inner)) => {
-                    let before = count::node(all.visits(), two);
-                    drop(all);
-                    run_over(alloc, rows, before, t, inner, x, place, out)
-                }
-                Ok(None) => keep_p_switch(alloc, r, all, two, t, env, place, out),
-                Err(memory) => {
-                    drop(all);
-                    Err(memory)
-                }
-            }
-        }
-        Err(memory) => {
-            drop(event);
-            drop(all);
-            Err(memory)
-        }
-    }
-}
-
-/// The network takes over after so many visits.
-#[cycle(run)]
-#[inline(never)]
-fn run_over<'n, R: Rows>(
-    alloc: Global,
-    rows: &R,
-    before: u32,
-    t: &'n Net<LeafId>,
-    env: Env<'n>,
-    x: &Sample,
-    place: &mut State<'n>,
-    out: &mut Sample,
-) -> Result<u32, Memory>
-    ensures { IfOk result (λ n.
-        TakesOver (R.keys rows.now) before (rows_in t.entry.now) (scope_of env.entry)
-        (datum_of x.now) (outcome (state_of place.new) (datum_of out.new) n)) }
-{
-    let over = run(alloc, rows, &Source::Net(t, &env), 0, x, place, out);
-    drop(env);
-    Ok(count::both(before, over?))
-}
-
-/// The network takes over from a `dSwitch`, whose part still answers.
-#[cycle(run)]
-#[inline(never)]
-fn run_late<'n, R: Rows>(
-    alloc: Global,
-    rows: &R,
-    one: u32,
-    answer: Sample,
-    t: &'n Net<LeafId>,
-    env: Env<'n>,
-    x: &Sample,
-    place: &mut State<'n>,
-    out: &mut Sample,
-) -> Result<u32, Memory>
-    ensures { IfOk result (λ n.
-        TakesOverLate (R.keys rows.now) (datum_of answer) one
-        (rows_in t.entry.now) (scope_of env.entry) (datum_of x.now)
-        (outcome (state_of place.new) (datum_of out.new) n)) }
-{
-    let mut unseen = Sample::Int(0);
-    let over = run(alloc, rows, &Source::Net(t, &env), 0, x, place, &mut unseen);
-    drop(env);
-    drop(unseen);
-    match over {
-        Ok(over) => {
-            put_first(alloc, answer, out)?;
-            Ok(count::node(one, over))
-        }
-        Err(memory) => {
-            drop(answer);
-            Err(memory)
-        }
-    }
-}
-
-/// What watches members, on the sample and the list of their answers.
-#[cycle(run)]
-fn run_members_watch<'n, R: Rows>(
-    alloc: Global,
-    rows: &R,
-    e: &Source<'_, 'n>,
-    dt: u64,
-    x: &Sample,
-    y: &Sample,
-    place: &mut State<'n>,
-    out: &mut Sample,
-) -> Result<u32, Memory>
-    ensures { IfOk result (λ n.
-        RunsWhere (R.keys rows.now) (source_of e.now dt) (pair (datum_of x.now) (datum_of y.now))
-        (first_part (state_of place.new)) (datum_of out.new) n) }
-{
-    let seen = beside(alloc, x, y)?;
-    let two = run_part(alloc, rows, e, dt, &seen, place, out);
-    drop(seen);
-    two
-}
-
-/// All members, each on what it is handed.
-#[cycle(run)]
-fn run_all<'n, R: Rows>(
-    alloc: Global,
-    rows: &R,
-    router: Route<'_>,
-    members: Sources<'_, 'n>,
-    dt: u64,
-    x: &Sample,
-    place: &mut State<'n>,
-) -> Result<Listed<'n>, Memory>
-    ensures { IfOk result (λ all.
-        RunsAll (R.keys rows.now) (router_of router.entry) (sources_of members.entry dt)
-        (datum_of x.now) all) }
-{
-    let mut answers = Vec::with_capacity(alloc, count_of(members))?;
-    let mut places = member_places(alloc, count_of(members), place)?;
-    let on = Handing {
-        alloc,
-        rows,
-        router,
-        dt,
-        x,
-    };
-    match run_each(&on, members, &mut places, &mut answers) {
-        Ok(visits) => Listed::new(alloc, places, answers, visits),
-        Err(memory) => {
-            drop(places);
-            drop(answers);
-            Err(memory)
-        }
-    }
-}
-
-/// The members in order: their states come into the places, as many of these as there are members,
-/// and their answers into the list, in which there is none before.
-#[cycle(run)]
-fn run_each<'n, R: Rows>(
-    on: &Handing<'_, R>,
-    members: Sources<'_, 'n>,
-    places: &mut Vec<State<'n>>,
-    answers: &mut Vec<Sample>,
-) -> Result<u32, Memory>
-    requires { answers.old.items ≡ [] }
-    ensures { IfOk result (λ n.
-        RunEachWhere (R.keys on.now.rows.now) (router_of on.now.router) 0
-        (sources_of members.entry on.now.dt) (datum_of on.now.x.now) nothing_yet
-        (gathered places.new.items answers.new.items n)) }
-{
-    let mut asked = Sample::Unit;
-    let mut rest = members;
-    let mut i: u32 = 0;
-    let mut visits: u32 = 0;
-    'members: loop {
-        let before = answers.len();
-        match first_of(rest) {
-            Some((f, behind)) => {
-                make_place(places, before)?;
-                let mut answer = Sample::Int(0);
-                match run_member(on, i, &f, &mut asked, &mut places[before], &mut answer) {
-                    Ok(one) => visits = count::both(visits, one),
-                    Err(memory) => {
-                        drop(answer);
-                        return Err(memory);
-                    }
-                }
-                answers.push(answer)?;
-                rest = behind;
-                i = i.wrapping_add(1);
-            }
-            None => {
-                places.truncate(before);
-                return Ok(visits);
-            }
-        }
-    }
-}
-
-/// Member i, on what it is handed. `asked` is the place of what the routing row gets.
-#[cycle(run)]
-fn run_member<'n, R: Rows>(
-    on: &Handing<'_, R>,
-    i: u32,
-    f: &Source<'_, 'n>,
-    asked: &mut Sample,
-    place: &mut State<'n>,
-    out: &mut Sample,
-) -> Result<u32, Memory>
-    requires asked { IsAsked (datum_of on.now.x.now) (datum_of asked.old) }
-    ensures asked { IsAsked (datum_of on.now.x.now) (datum_of asked.new) }
-    ensures runs { IfOk result (λ n.
-        RunsMember (R.keys on.now.rows.now) (router_of on.now.router) i (source_of f.now on.now.dt)
-        (datum_of on.now.x.now) (outcome (state_of place.new) (datum_of out.new) n)) }
-{
-    match on.router {
-        Route::ToAll => run(on.alloc, on.rows, f, on.dt, on.x, place, out),
-        Route::ByRow(r, params) => {
-            let input = routed(on.alloc, on.rows, r, params, i, on.x, asked)?;
-            let one = run(on.alloc, on.rows, f, on.dt, &input, place, out);
-            input.let_go();
-            one
         }
     }
 }

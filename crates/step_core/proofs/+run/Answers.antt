@@ -15,197 +15,226 @@ use Rattle.step_core.specs.SourceView.{source_of, sources_of}
 use Rattle.step_core.proofs.Falling.{members_fall, seq_within, first_falls, par_falls, loop_falls, switch_within, d_switch_within, r_switch_within, k_switch_within, p_switch_within, old_falls, over_weighs, over_old_weighs, over_olds_weighs}
 use Rattle.step_core.proofs.RunJoins.{if_ok, fires_by, stays, seq_joined, first_joined, loop_joined, switch_kept, switch_over, d_switch_kept, d_switch_over, r_switch_kept, r_switch_over, k_switch_kept, k_switch_over, old_over}
 use Rattle.step_core.proofs.RunMembers.{none_run, also_run, member_ran, one_added, next_number, par_joined, p_switch_kept, p_switch_over}
-use Rattle.step_core.proofs.run.+run.Goals as goal
+use Rattle.step_core.proofs.+run.Goals as goal
 
 -- the plan at an arm
 planned : (p : Plan) (w : Frozen ℕ) (d : ℕ) (q : Plan) → p ≡ q → PlanBy w d p → PlanBy w d q
 planned p w d q is h = subst (PlanBy w d) is h
 
-pub run_parts-run_seq-requires : goal.run_parts-run_seq-requires
-run_parts-run_seq-requires g t c κs within =
+pub run::run_parts-run_seq-requires : goal.run::run_parts-run_seq-requires
+run::run_parts-run_seq-requires g t c κs within =
     let h : SeqBy (source_of c.args.from.now c.args.dt) (source_of c.in-Seq.f c.args.dt) (source_of c.in-Seq.g c.args.dt) =
     planned _ (source_of c.args.from.now c.args.dt) c.args.dt _ c.in-Seq.is (c.plan_of-plan.ensures c.args.dt) in
     (omega (arith, c.decreases, seq_within _ _ _ h), search rules)
 
-pub run_parts-returns-in-Seq : goal.run_parts-returns-in-Seq
-run_parts-returns-in-Seq g t c = if_ok c.run_seq.result _ _ (λ r h. h _ (planned _ (source_of c.args.from.now c.args.dt) c.args.dt _ c.in-Seq.is (c.plan_of-plan.ensures c.args.dt))) c.run_seq.ensures
+pub run::run_parts-returns-in-Seq : goal.run::run_parts-returns-in-Seq
+run::run_parts-returns-in-Seq g t c =
+    let h = planned _ (source_of c.args.from.now c.args.dt) c.args.dt _ c.in-Seq.is (c.plan_of-plan.ensures c.args.dt) in
+    if_ok c.run_seq.result _ _ (λ r by. by _ h) c.run_seq.ensures
 
-pub run_parts-run_first-requires : goal.run_parts-run_first-requires
-run_parts-run_first-requires g t c κs within =
+pub run::run_parts-run_first-requires : goal.run::run_parts-run_first-requires
+run::run_parts-run_first-requires g t c κs within =
     let h : FirstBy (source_of c.args.from.now c.args.dt) (source_of c.in-First.f c.args.dt) =
     planned _ (source_of c.args.from.now c.args.dt) c.args.dt _ c.in-First.is (c.plan_of-plan.ensures c.args.dt) in
     (omega (arith, c.decreases, first_falls _ _ h), search rules)
 
-pub run_parts-returns-in-First : goal.run_parts-returns-in-First
-run_parts-returns-in-First g t c = if_ok c.run_first.result _ _ (λ r h. h _ (planned _ (source_of c.args.from.now c.args.dt) c.args.dt _ c.in-First.is (c.plan_of-plan.ensures c.args.dt))) c.run_first.ensures
+pub run::run_parts-returns-in-First : goal.run::run_parts-returns-in-First
+run::run_parts-returns-in-First g t c =
+    let h = planned _ (source_of c.args.from.now c.args.dt) c.args.dt _ c.in-First.is (c.plan_of-plan.ensures c.args.dt) in
+    if_ok c.run_first.result _ _ (λ r by. by _ h) c.run_first.ensures
 
-pub run_parts-run_par-requires : goal.run_parts-run_par-requires
-run_parts-run_par-requires g t c κs within =
+pub run::run_parts-run_par-requires : goal.run::run_parts-run_par-requires
+run::run_parts-run_par-requires g t c κs within =
     let h : ParBy (source_of c.args.from.now c.args.dt) (sources_of c.in-Par.fs c.args.dt) =
     planned _ (source_of c.args.from.now c.args.dt) c.args.dt _ c.in-Par.is (c.plan_of-plan.ensures c.args.dt) in
     (omega (arith, c.decreases, par_falls _ _ h), search rules)
 
-pub run_parts-returns-in-Par : goal.run_parts-returns-in-Par
-run_parts-returns-in-Par g t c = if_ok c.run_par.result _ _ (λ r h. h _ (planned _ (source_of c.args.from.now c.args.dt) c.args.dt _ c.in-Par.is (c.plan_of-plan.ensures c.args.dt))) c.run_par.ensures
+pub run::run_parts-returns-in-Par : goal.run::run_parts-returns-in-Par
+run::run_parts-returns-in-Par g t c =
+    let h = planned _ (source_of c.args.from.now c.args.dt) c.args.dt _ c.in-Par.is (c.plan_of-plan.ensures c.args.dt) in
+    if_ok c.run_par.result _ _ (λ r by. by _ h) c.run_par.ensures
 
-pub run_parts-run_loop-requires : goal.run_parts-run_loop-requires
-run_parts-run_loop-requires g t c κs within =
+pub run::run_parts-run_loop-requires : goal.run::run_parts-run_loop-requires
+run::run_parts-run_loop-requires g t c κs within =
     let h : (keys : List KeyTree) (u : Datum) → IsFed keys c.in-LoopPre.back u
     → LoopBy keys (source_of c.args.from.now c.args.dt) u (source_of c.in-LoopPre.f c.args.dt) =
     planned _ (source_of c.args.from.now c.args.dt) c.args.dt _ c.in-LoopPre.is (c.plan_of-plan.ensures c.args.dt) in
     (omega (arith, c.decreases, loop_falls _ c.in-LoopPre.back _ h), search rules)
 
-pub run_parts-returns-in-LoopPre : goal.run_parts-returns-in-LoopPre
-run_parts-returns-in-LoopPre g t c = if_ok c.run_loop.result _ _ (λ r h. h _ (planned _ (source_of c.args.from.now c.args.dt) c.args.dt _ c.in-LoopPre.is (c.plan_of-plan.ensures c.args.dt))) c.run_loop.ensures
+pub run::run_parts-returns-in-LoopPre : goal.run::run_parts-returns-in-LoopPre
+run::run_parts-returns-in-LoopPre g t c =
+    let h = planned _ (source_of c.args.from.now c.args.dt) c.args.dt _ c.in-LoopPre.is (c.plan_of-plan.ensures c.args.dt) in
+    if_ok c.run_loop.result _ _ (λ r by. by _ h) c.run_loop.ensures
 
-pub run_parts-run_switch-requires : goal.run_parts-run_switch-requires
-run_parts-run_switch-requires g t c κs within =
+pub run::run_parts-run_switch-requires : goal.run::run_parts-run_switch-requires
+run::run_parts-run_switch-requires g t c κs within =
     let h : SwitchBy (source_of c.args.from.now c.args.dt) (source_of c.in-Switch.f c.args.dt) (rows_in c.in-Switch.t.now) (scope_of c.in-Switch.env.now) =
     planned _ (source_of c.args.from.now c.args.dt) c.args.dt _ c.in-Switch.is (c.plan_of-plan.ensures c.args.dt) in
     (omega (arith, c.decreases, switch_within _ _ _ _ h), search rules)
 
-pub run_parts-returns-in-Switch : goal.run_parts-returns-in-Switch
-run_parts-returns-in-Switch g t c = if_ok c.run_switch.result _ _ (λ r h. h _ (planned _ (source_of c.args.from.now c.args.dt) c.args.dt _ c.in-Switch.is (c.plan_of-plan.ensures c.args.dt))) c.run_switch.ensures
+pub run::run_parts-returns-in-Switch : goal.run::run_parts-returns-in-Switch
+run::run_parts-returns-in-Switch g t c =
+    let h = planned _ (source_of c.args.from.now c.args.dt) c.args.dt _ c.in-Switch.is (c.plan_of-plan.ensures c.args.dt) in
+    if_ok c.run_switch.result _ _ (λ r by. by _ h) c.run_switch.ensures
 
-pub run_parts-run_d_switch-requires : goal.run_parts-run_d_switch-requires
-run_parts-run_d_switch-requires g t c κs within =
+pub run::run_parts-run_d_switch-requires : goal.run::run_parts-run_d_switch-requires
+run::run_parts-run_d_switch-requires g t c κs within =
     let h : DSwitchBy (source_of c.args.from.now c.args.dt) (source_of c.in-DSwitch.f c.args.dt) (rows_in c.in-DSwitch.t.now) (scope_of c.in-DSwitch.env.now) =
     planned _ (source_of c.args.from.now c.args.dt) c.args.dt _ c.in-DSwitch.is (c.plan_of-plan.ensures c.args.dt) in
     (omega (arith, c.decreases, d_switch_within _ _ _ _ h), search rules)
 
-pub run_parts-returns-in-DSwitch : goal.run_parts-returns-in-DSwitch
-run_parts-returns-in-DSwitch g t c = if_ok c.run_d_switch.result _ _ (λ r h. h _ (planned _ (source_of c.args.from.now c.args.dt) c.args.dt _ c.in-DSwitch.is (c.plan_of-plan.ensures c.args.dt))) c.run_d_switch.ensures
+pub run::run_parts-returns-in-DSwitch : goal.run::run_parts-returns-in-DSwitch
+run::run_parts-returns-in-DSwitch g t c =
+    let h = planned _ (source_of c.args.from.now c.args.dt) c.args.dt _ c.in-DSwitch.is (c.plan_of-plan.ensures c.args.dt) in
+    if_ok c.run_d_switch.result _ _ (λ r by. by _ h) c.run_d_switch.ensures
 
-pub run_parts-run_r_switch-requires : goal.run_parts-run_r_switch-requires
-run_parts-run_r_switch-requires g t c κs within =
+pub run::run_parts-run_r_switch-requires : goal.run::run_parts-run_r_switch-requires
+run::run_parts-run_r_switch-requires g t c κs within =
     let h : RSwitchBy (source_of c.args.from.now c.args.dt) (source_of c.in-RSwitch.f c.args.dt) (rows_in c.in-RSwitch.t.now) (scope_of c.in-RSwitch.env.now) =
     planned _ (source_of c.args.from.now c.args.dt) c.args.dt _ c.in-RSwitch.is (c.plan_of-plan.ensures c.args.dt) in
     (omega (arith, c.decreases, r_switch_within _ _ _ _ h), search rules)
 
-pub run_parts-returns-in-RSwitch : goal.run_parts-returns-in-RSwitch
-run_parts-returns-in-RSwitch g t c = if_ok c.run_r_switch.result _ _ (λ r h. h _ (planned _ (source_of c.args.from.now c.args.dt) c.args.dt _ c.in-RSwitch.is (c.plan_of-plan.ensures c.args.dt))) c.run_r_switch.ensures
+pub run::run_parts-returns-in-RSwitch : goal.run::run_parts-returns-in-RSwitch
+run::run_parts-returns-in-RSwitch g t c =
+    let h = planned _ (source_of c.args.from.now c.args.dt) c.args.dt _ c.in-RSwitch.is (c.plan_of-plan.ensures c.args.dt) in
+    if_ok c.run_r_switch.result _ _ (λ r by. by _ h) c.run_r_switch.ensures
 
-pub run_parts-run_k_switch-requires : goal.run_parts-run_k_switch-requires
-run_parts-run_k_switch-requires g t c κs within =
-    let h : KSwitchBy (source_of c.args.from.now c.args.dt) (source_of c.in-KSwitch.f c.args.dt) (source_of c.in-KSwitch.e c.args.dt) (rows_in c.in-KSwitch.t.now)
+pub run::run_parts-run_k_switch-requires : goal.run::run_parts-run_k_switch-requires
+run::run_parts-run_k_switch-requires g t c κs within =
+    let h : KSwitchBy (source_of c.args.from.now c.args.dt) (source_of c.in-KSwitch.f c.args.dt) (source_of c.in-KSwitch.e c.args.dt) (rows_in
+    c.in-KSwitch.t.now)
     (scope_of c.in-KSwitch.env.now) =
     planned _ (source_of c.args.from.now c.args.dt) c.args.dt _ c.in-KSwitch.is (c.plan_of-plan.ensures c.args.dt) in
     (omega (arith, c.decreases, k_switch_within _ _ _ _ _ h), search rules)
 
-pub run_parts-returns-in-KSwitch : goal.run_parts-returns-in-KSwitch
-run_parts-returns-in-KSwitch g t c = if_ok c.run_k_switch.result _ _ (λ r h. h _ (planned _ (source_of c.args.from.now c.args.dt) c.args.dt _ c.in-KSwitch.is (c.plan_of-plan.ensures c.args.dt))) c.run_k_switch.ensures
+pub run::run_parts-returns-in-KSwitch : goal.run::run_parts-returns-in-KSwitch
+run::run_parts-returns-in-KSwitch g t c =
+    let h = planned _ (source_of c.args.from.now c.args.dt) c.args.dt _ c.in-KSwitch.is (c.plan_of-plan.ensures c.args.dt) in
+    if_ok c.run_k_switch.result _ _ (λ r by. by _ h) c.run_k_switch.ensures
 
-pub run_parts-run_p_switch-requires : goal.run_parts-run_p_switch-requires
-run_parts-run_p_switch-requires g t c κs within =
-    let h : PSwitchBy (source_of c.args.from.now c.args.dt) (row_number c.in-PSwitch.r) (sources_of c.in-PSwitch.fs c.args.dt) (source_of c.in-PSwitch.e c.args.dt)
+pub run::run_parts-run_p_switch-requires : goal.run::run_parts-run_p_switch-requires
+run::run_parts-run_p_switch-requires g t c κs within =
+    let h : PSwitchBy (source_of c.args.from.now c.args.dt) (row_number c.in-PSwitch.r) (sources_of c.in-PSwitch.fs c.args.dt) (source_of
+    c.in-PSwitch.e c.args.dt)
     (rows_in c.in-PSwitch.t.now) (scope_of c.in-PSwitch.env.now) =
     planned _ (source_of c.args.from.now c.args.dt) c.args.dt _ c.in-PSwitch.is (c.plan_of-plan.ensures c.args.dt) in
     (omega (arith, c.decreases, p_switch_within _ _ _ _ _ _ h), search rules)
 
-pub run_parts-returns-in-PSwitch : goal.run_parts-returns-in-PSwitch
-run_parts-returns-in-PSwitch g t c = if_ok c.run_p_switch.result _ _ (λ r h. h _ (planned _ (source_of c.args.from.now c.args.dt) c.args.dt _ c.in-PSwitch.is (c.plan_of-plan.ensures c.args.dt))) c.run_p_switch.ensures
+pub run::run_parts-returns-in-PSwitch : goal.run::run_parts-returns-in-PSwitch
+run::run_parts-returns-in-PSwitch g t c =
+    let h = planned _ (source_of c.args.from.now c.args.dt) c.args.dt _ c.in-PSwitch.is (c.plan_of-plan.ensures c.args.dt) in
+    if_ok c.run_p_switch.result _ _ (λ r by. by _ h) c.run_p_switch.ensures
 
-pub run_parts-run-requires : goal.run_parts-run-requires
-run_parts-run-requires g t c κs within =
+pub run::run_parts-run-requires : goal.run::run_parts-run-requires
+run::run_parts-run-requires g t c κs within =
     let h : OldBy (source_of c.args.from.now c.args.dt) (source_of c.in-Old.frozen c.in-Old.step) =
     planned _ (source_of c.args.from.now c.args.dt) c.args.dt _ c.in-Old.is (c.plan_of-plan.ensures c.args.dt) in
     (omega (arith, c.decreases, old_falls _ _ h), search rules)
 
-pub run_parts-returns-in_ok-over-in-Old : goal.run_parts-returns-in_ok-over-in-Old
-run_parts-returns-in_ok-over-in-Old g t c =
+pub run::run_parts-returns-in_ok-over-in-Old : goal.run::run_parts-returns-in_ok-over-in-Old
+run::run_parts-returns-in_ok-over-in-Old g t c =
     let h : OldBy (source_of c.args.from.now c.args.dt) (source_of c.in-Old.frozen c.in-Old.step) =
     planned _ (source_of c.args.from.now c.args.dt) c.args.dt _ c.in-Old.is (c.plan_of-plan.ensures c.args.dt) in
     old_over _ _ _ _ (outcome (state_of c.run.new.place) (datum_of c.run.new.out) c.in_ok-over-in-Old.over)
     (outcome (state_of c.run.new.place) (datum_of c.run.new.out) c.node.result) h c.in_ok-over-in-Old.ensures (refl, refl, c.node.ensures)
 
-pub run_parts-returns-in-Static : goal.run_parts-returns-in-Static
-run_parts-returns-in-Static g t c = if_ok c.run_static.result _ _ (λ r h. h _ (planned _ (source_of c.args.from.now c.args.dt) c.args.dt _ c.in-Static.is (c.plan_of-plan.ensures c.args.dt))) c.run_static.ensures
+pub run::run_parts-returns-in-Static : goal.run::run_parts-returns-in-Static
+run::run_parts-returns-in-Static g t c =
+    let h = planned _ (source_of c.args.from.now c.args.dt) c.args.dt _ c.in-Static.is (c.plan_of-plan.ensures c.args.dt) in
+    if_ok c.run_static.result _ _ (λ r by. by _ h) c.run_static.ensures
 
-pub run_in_line-returns-in-Static : goal.run_in_line-returns-in-Static
-run_in_line-returns-in-Static g t c = if_ok c.run_static.result _ _ (λ r h. h _ (c.in-Static.ensures c.args.dt)) c.run_static.ensures
+pub run::run_in_line-returns-in-Static : goal.run::run_in_line-returns-in-Static
+run::run_in_line-returns-in-Static g t c = if_ok c.run_static.result _ _ (λ r h. h _ (c.in-Static.ensures c.args.dt)) c.run_static.ensures
 
-pub run_seq-returns-in_ok-two-in-Ok : goal.run_seq-returns-in_ok-two-in-Ok
-run_seq-returns-in_ok-two-in-Ok g t c =
+pub run::run_seq-returns-in_ok-two-in-Ok : goal.run::run_seq-returns-in_ok-two-in-Ok
+run::run_seq-returns-in_ok-two-in-Ok g t c =
     if_ok c.round.result _ _
     (λ n j w h. seq_joined _ w _ _ _ _ (outcome (first_part (state_of c.run_second-two.new.place)) (datum_of c.run_part.new.out) c.in-Ok.one)
     (outcome (second_part (state_of c.run_second-two.new.place)) (datum_of c.run_second-two.new.out) c.in_ok-two-in-Ok.field-0)
     (outcome (state_of c.round.new.place) (datum_of c.run_second-two.new.out) n) h
     (stays _ _ _ _ _ _ _ c.in_ok-two-in-Ok.ensures.0 c.in-Ok.ensures) refl c.in_ok-two-in-Ok.ensures.1 (j.0, refl, j.1)) c.round.ensures
 
-pub run_first-returns-in_ok-both-in-Ok : goal.run_first-returns-in_ok-both-in-Ok
-run_first-returns-in_ok-both-in-Ok g t c =
+pub run::run_first-returns-in_ok-both-in-Ok : goal.run::run_first-returns-in_ok-both-in-Ok
+run::run_first-returns-in_ok-both-in-Ok g t c =
     if_ok c.round.result _ _
-    (λ n j w h. first_joined _ w _ _ _ _ (outcome (first_part (state_of c.run_part.new.place)) (datum_of c.run_part.new.out) c.in-Ok.one) (outcome (state_of c.round.new.place) (datum_of c.put.new.self) n) h c.first.ensures c.second.ensures c.in-Ok.ensures
+    (λ n j w h. first_joined _ w _ _ _ _ (outcome (first_part (state_of c.run_part.new.place)) (datum_of c.run_part.new.out) c.in-Ok.one)
+    (outcome (state_of c.round.new.place) (datum_of c.put.new.self) n) h c.first.ensures c.second.ensures c.in-Ok.ensures
     (j.0, ap datum_of c.put.ensures ∙ c.in_ok-both-in-Ok.ensures, j.1)) c.round.ensures
 
-pub run_par-returns : goal.run_par-returns
-run_par-returns g t c =
+pub run::run_par-returns : goal.run::run_par-returns
+run::run_par-returns g t c =
     if_ok c.join_par.result _ _
-    (λ n j w h. par_joined _ w _ _ _ _ _ (outcome (state_of c.join_par.new.place) (datum_of c.join_par.new.out) n) h refl c.in_ok-all.ensures.1 c.in_ok-all.ensures.2 j)
+    (λ n j w h. par_joined _ w _ _ _ _ _ (outcome (state_of c.join_par.new.place) (datum_of c.join_par.new.out) n) h refl c.in_ok-all.ensures.1
+    c.in_ok-all.ensures.2 j)
     c.join_par.ensures
 
-pub run_loop-returns-in_ok-join_loop-in-Ok : goal.run_loop-returns-in_ok-join_loop-in-Ok
-run_loop-returns-in_ok-join_loop-in-Ok g t c =
+pub run::run_loop-returns-in_ok-join_loop-in-Ok : goal.run::run_loop-returns-in_ok-join_loop-in-Ok
+run::run_loop-returns-in_ok-join_loop-in-Ok g t c =
     λ w h. loop_joined _ w _ _ _ _ (outcome (first_part (state_of c.run_part-one.new.place)) (datum_of c.run_part-one.new.out) c.in-Ok.one)
     (outcome (state_of c.join_loop.new.place) (datum_of c.join_loop.new.out) c.node.result) (h _ _ c.in_ok-input.ensures.1) c.in_ok-input.ensures.2
     c.in-Ok.ensures (c.in_ok-join_loop-in-Ok.ensures.0, c.in_ok-join_loop-in-Ok.ensures.1, c.node.ensures)
 
-pub run_switch-run_over-requires : goal.run_switch-run_over-requires
-run_switch-run_over-requires g t c κs within =
+pub switches::run_switch-run_over-requires : goal.switches::run_switch-run_over-requires
+switches::run_switch-run_over-requires g t c κs within =
     let fires = fires_by _ _ (push_param (scope_of c.args.env.now)) _ _ c.second.ensures c.in-Ok-Some.field-0-is c.in-Ok-Some.ensures in
     (omega (arith, c.decreases, over_weighs (rows_in c.args.t.now) (scope_of c.args.env.now) (scope_of c.in-Ok-Some.inner) fires.0 fires.2), search rules)
 
-pub run_switch-returns-in-Ok-Some : goal.run_switch-returns-in-Ok-Some
-run_switch-returns-in-Ok-Some g t c =
+pub switches::run_switch-returns-in-Ok-Some : goal.switches::run_switch-returns-in-Ok-Some
+switches::run_switch-returns-in-Ok-Some g t c =
     let fires = fires_by _ _ (push_param (scope_of c.args.env.now)) _ _ c.second.ensures c.in-Ok-Some.field-0-is c.in-Ok-Some.ensures in
     if_ok c.run_over.result _ _
-    (λ n k w h. switch_over _ w _ _ _ (scope_of c.in-Ok-Some.inner) _ fires.0 (outcome (first_part (state_of c.run_part.new.place)) (datum_of c.run_part.new.out) c.in-Ok.one)
-    k.0 (outcome (state_of c.run_over.new.place) (datum_of c.run_over.new.out) n) _ h c.in-Ok.ensures fires.1 fires.2 k.1 _ refl c.node-before.ensures k.2) c.run_over.ensures
+    (λ n k w h. switch_over _ w _ _ _ (scope_of c.in-Ok-Some.inner) _ fires.0
+    (outcome (first_part (state_of c.run_part.new.place)) (datum_of c.run_part.new.out) c.in-Ok.one)
+    k.0 (outcome (state_of c.run_over.new.place) (datum_of c.run_over.new.out) n) _ h
+    c.in-Ok.ensures fires.1 fires.2 k.1 _ refl c.node-before.ensures k.2) c.run_over.ensures
 
-pub run_switch-returns-in_ok-keep_first-in-Ok-None : goal.run_switch-returns-in_ok-keep_first-in-Ok-None
-run_switch-returns-in_ok-keep_first-in-Ok-None g t c =
+pub switches::run_switch-returns-in_ok-keep_first-in-Ok-None : goal.switches::run_switch-returns-in_ok-keep_first-in-Ok-None
+switches::run_switch-returns-in_ok-keep_first-in-Ok-None g t c =
     let fires = fires_by _ _ (push_param (scope_of c.args.env.now)) _ _ c.second.ensures c.in-Ok-None.field-0-is c.in-Ok-None.ensures in
     let kept = c.in_ok-keep_first-in-Ok-None.ensures in
     λ w h. switch_kept _ w _ _ _ _ (outcome (first_part (state_of c.run_part.new.place)) (datum_of c.run_part.new.out) c.in-Ok.one)
     (outcome (state_of c.keep_first.new.place) (datum_of c.keep_first.new.out) c.node.result) h c.in-Ok.ensures fires (kept.0, kept.1, c.node.ensures)
 
-pub run_d_switch-run_late-requires : goal.run_d_switch-run_late-requires
-run_d_switch-run_late-requires g t c κs within =
+pub switches::run_d_switch-run_late-requires : goal.switches::run_d_switch-run_late-requires
+switches::run_d_switch-run_late-requires g t c κs within =
     let fires = fires_by _ _ (push_param (scope_of c.args.env.now)) _ _ c.second.ensures c.in-Ok-Some.field-0-is c.in-Ok-Some.ensures in
     (omega (arith, c.decreases, over_weighs (rows_in c.args.t.now) (scope_of c.args.env.now) (scope_of c.in-Ok-Some.inner) fires.0 fires.2), search rules)
 
-pub run_d_switch-returns-in-Ok-Some : goal.run_d_switch-returns-in-Ok-Some
-run_d_switch-returns-in-Ok-Some g t c =
+pub switches::run_d_switch-returns-in-Ok-Some : goal.switches::run_d_switch-returns-in-Ok-Some
+switches::run_d_switch-returns-in-Ok-Some g t c =
     let fires = fires_by _ _ (push_param (scope_of c.args.env.now)) _ _ c.second.ensures c.in-Ok-Some.field-0-is c.in-Ok-Some.ensures in
     if_ok c.run_late.result _ _
-    (λ n k w h. d_switch_over _ w _ _ _ (scope_of c.in-Ok-Some.inner) _ fires.0 (outcome (first_part (state_of c.run_part.new.place)) (datum_of c.run_part.new.out) c.in-Ok.one)
+    (λ n k w h. d_switch_over _ w _ _ _ (scope_of c.in-Ok-Some.inner) _ fires.0
+    (outcome (first_part (state_of c.run_part.new.place)) (datum_of c.run_part.new.out) c.in-Ok.one)
     k.0 (outcome (state_of c.run_late.new.place) (datum_of c.run_late.new.out) n) h c.in-Ok.ensures fires.1 fires.2 k.1 k.2) c.run_late.ensures
 
-pub run_d_switch-returns-in_ok-keep_first-in-Ok-None : goal.run_d_switch-returns-in_ok-keep_first-in-Ok-None
-run_d_switch-returns-in_ok-keep_first-in-Ok-None g t c =
+pub switches::run_d_switch-returns-in_ok-keep_first-in-Ok-None : goal.switches::run_d_switch-returns-in_ok-keep_first-in-Ok-None
+switches::run_d_switch-returns-in_ok-keep_first-in-Ok-None g t c =
     let fires = fires_by _ _ (push_param (scope_of c.args.env.now)) _ _ c.second.ensures c.in-Ok-None.field-0-is c.in-Ok-None.ensures in
     let kept = c.in_ok-keep_first-in-Ok-None.ensures in
     λ w h. d_switch_kept _ w _ _ _ _ (outcome (first_part (state_of c.run_part.new.place)) (datum_of c.run_part.new.out) c.in-Ok.one)
     (outcome (state_of c.keep_first.new.place) (datum_of c.keep_first.new.out) c.node.result) h c.in-Ok.ensures fires (kept.0, kept.1, c.node.ensures)
 
-pub run_r_switch-returns-in_ok-one-in-Some : goal.run_r_switch-returns-in_ok-one-in-Some
-run_r_switch-returns-in_ok-one-in-Some g t c =
+pub switches::run_r_switch-returns-in_ok-one-in-Some : goal.switches::run_r_switch-returns-in_ok-one-in-Some
+switches::run_r_switch-returns-in_ok-one-in-Some g t c =
     let cut = sym c.restart_of.ensures ∙ ap restart_found c.in-Some.is in
     if_ok c.round.result _ _
     (λ n j w h. r_switch_over _ w _ _ _ (scope_of c.in_ok-inner-in-Some.inner) _ _ _
     (outcome (first_part (state_of c.run_part-one.new.place)) (datum_of c.run_part-one.new.out) c.in_ok-one-in-Some.field-0)
-    (outcome (state_of c.round.new.place) (datum_of c.run_part-one.new.out) n) h cut c.in_ok-inner-in-Some.ensures c.in_ok-one-in-Some.ensures (j.0, refl, j.1)) c.round.ensures
+    (outcome (state_of c.round.new.place) (datum_of c.run_part-one.new.out) n) h cut c.in_ok-inner-in-Some.ensures
+    c.in_ok-one-in-Some.ensures (j.0, refl, j.1)) c.round.ensures
 
-pub run_r_switch-returns-in_ok-one-in-None : goal.run_r_switch-returns-in_ok-one-in-None
-run_r_switch-returns-in_ok-one-in-None g t c =
+pub switches::run_r_switch-returns-in_ok-one-in-None : goal.switches::run_r_switch-returns-in_ok-one-in-None
+switches::run_r_switch-returns-in_ok-one-in-None g t c =
     let cut = sym c.restart_of.ensures ∙ ap restart_found c.in-None.is in
     if_ok c.round-in-None.result _ _
     (λ n j w h. r_switch_kept _ w _ _ _ _ _
     (outcome (first_part (state_of c.run_part.new.place)) (datum_of c.run_part.new.out) c.in_ok-one-in-None.one)
-    (outcome (state_of c.round-in-None.new.place) (datum_of c.run_part.new.out) n) h c.first.ensures cut c.in_ok-one-in-None.ensures (j.0, refl, j.1)) c.round-in-None.ensures
+    (outcome (state_of c.round-in-None.new.place) (datum_of c.run_part.new.out) n) h c.first.ensures cut
+    c.in_ok-one-in-None.ensures (j.0, refl, j.1)) c.round-in-None.ensures
 
-pub run_k_switch-run_over-requires : goal.run_k_switch-run_over-requires
-run_k_switch-run_over-requires g t c κs within =
+pub switches::run_k_switch-run_over-requires : goal.switches::run_k_switch-run_over-requires
+switches::run_k_switch-run_over-requires g t c κs within =
     let fires = fires_by _ _ (λ u. push_old (push_param (scope_of c.args.env.now) u) (source_of c.args.f.now c.args.dt)) _ _ refl
     c.in-Some.is c.in_ok-inner-in-Ok.ensures in (
       omega (
@@ -217,19 +246,20 @@ run_k_switch-run_over-requires g t c κs within =
       search rules,
     )
 
-pub run_k_switch-returns-in-Some : goal.run_k_switch-returns-in-Some
-run_k_switch-returns-in-Some g t c =
+pub switches::run_k_switch-returns-in-Some : goal.switches::run_k_switch-returns-in-Some
+switches::run_k_switch-returns-in-Some g t c =
     let fires = fires_by _ _ (λ u. push_old (push_param (scope_of c.args.env.now) u) (source_of c.args.f.now c.args.dt)) _ _ refl
     c.in-Some.is c.in_ok-inner-in-Ok.ensures in
     if_ok c.run_over.result _ _
-    (λ n k w h. k_switch_over _ w _ _ _ _ (scope_of c.in-Some.inner) _ _ fires.0 (outcome (first_part (state_of c.run_second-two.new.place)) (datum_of c.run_part.new.out) c.in_ok-one.one)
+    (λ n k w h. k_switch_over _ w _ _ _ _ (scope_of c.in-Some.inner) _ _ fires.0
+    (outcome (first_part (state_of c.run_second-two.new.place)) (datum_of c.run_part.new.out) c.in_ok-one.one)
     (outcome (second_part (state_of c.run_second-two.new.place)) (datum_of c.run_second-two.new.out) c.in-Ok.two)
     k.0 (outcome (state_of c.run_over.new.place) (datum_of c.run_over.new.out) n) _ h (stays _ _ _ _ _ _ _ c.in-Ok.ensures.0 c.in_ok-one.ensures)
     c.in_ok-seen.ensures c.in-Ok.ensures.1 fires.1 fires.2 k.1 _ refl _ refl
     c.node-before.ensures k.2) c.run_over.ensures
 
-pub run_k_switch-returns-in-None : goal.run_k_switch-returns-in-None
-run_k_switch-returns-in-None g t c =
+pub switches::run_k_switch-returns-in-None : goal.switches::run_k_switch-returns-in-None
+switches::run_k_switch-returns-in-None g t c =
     let fires = fires_by _ _ (λ u. push_old (push_param (scope_of c.args.env.now) u) (source_of c.args.f.now c.args.dt)) _ _ refl
     c.in-None.is c.in_ok-inner-in-Ok.ensures in
     if_ok c.round.result _ _
@@ -238,8 +268,8 @@ run_k_switch-returns-in-None g t c =
     (outcome (state_of c.round.new.place) (datum_of c.run_part.new.out) n) h (stays _ _ _ _ _ _ _ c.in-Ok.ensures.0 c.in_ok-one.ensures) c.in_ok-seen.ensures
     c.in-Ok.ensures.1 fires (j.0, refl, j.1)) c.round.ensures
 
-pub run_p_switch-run_over-requires : goal.run_p_switch-run_over-requires
-run_p_switch-run_over-requires g t c κs within =
+pub switches::run_p_switch-run_over-requires : goal.switches::run_p_switch-run_over-requires
+switches::run_p_switch-run_over-requires g t c κs within =
     let fires = fires_by _ _ (λ u. push_olds (push_param (scope_of c.args.env.now) u) (sources_of c.args.fs c.args.dt)) _ _ refl
     c.in-Ok-Some.field-0-is c.in-Ok-Some.ensures in (
       omega (
@@ -251,54 +281,58 @@ run_p_switch-run_over-requires g t c κs within =
       search rules,
     )
 
-pub run_p_switch-returns-in-Ok-Some : goal.run_p_switch-returns-in-Ok-Some
-run_p_switch-returns-in-Ok-Some g t c =
+pub switches::run_p_switch-returns-in-Ok-Some : goal.switches::run_p_switch-returns-in-Ok-Some
+switches::run_p_switch-returns-in-Ok-Some g t c =
     let fires = fires_by _ _ (λ u. push_olds (push_param (scope_of c.args.env.now) u) (sources_of c.args.fs c.args.dt)) _ _ refl
     c.in-Ok-Some.field-0-is c.in-Ok-Some.ensures in
     if_ok c.run_over.result _ _
-    (λ n k w h. p_switch_over _ w _ _ _ _ _ _ (scope_of c.in-Ok-Some.inner) _ _ fires.0 _ _ _ (outcome (first_part (state_of c.run_members_watch.new.place)) (datum_of c.run_members_watch.new.out) c.in-Ok.two) k.0
+    (λ n k w h. p_switch_over _ w _ _ _ _ _ _ (scope_of c.in-Ok-Some.inner) _ _ fires.0 _ _ _
+    (outcome (first_part (state_of c.run_members_watch.new.place)) (datum_of c.run_members_watch.new.out) c.in-Ok.two) k.0
     (outcome (state_of c.run_over.new.place) (datum_of c.run_over.new.out) n) _ h refl refl
     c.in_ok-all.ensures.1 c.in_ok-all.ensures.2 (ap (pair (datum_of c.args.x.now)) c.list.ensures) c.in-Ok.ensures fires.1 fires.2 k.1 _ c.visits.ensures _
     refl c.node-before.ensures k.2) c.run_over.ensures
 
-pub run_p_switch-returns-in-Ok-None : goal.run_p_switch-returns-in-Ok-None
-run_p_switch-returns-in-Ok-None g t c =
+pub switches::run_p_switch-returns-in-Ok-None : goal.switches::run_p_switch-returns-in-Ok-None
+switches::run_p_switch-returns-in-Ok-None g t c =
     let fires = fires_by _ _ (λ u. push_olds (push_param (scope_of c.args.env.now) u) (sources_of c.args.fs c.args.dt)) _ _ refl
     c.in-Ok-None.field-0-is c.in-Ok-None.ensures in
     if_ok c.keep_p_switch.result _ _
-    (λ n j w h. p_switch_kept _ w _ _ _ _ _ _ _ _ _ _ _ (outcome (first_part (state_of c.run_members_watch.new.place)) (datum_of c.run_members_watch.new.out) c.in-Ok.two) (outcome (state_of c.keep_p_switch.new.place) (datum_of c.keep_p_switch.new.out) n) h refl refl
+    (λ n j w h. p_switch_kept _ w _ _ _ _ _ _ _ _ _ _ _ (outcome (first_part (state_of c.run_members_watch.new.place))
+    (datum_of c.run_members_watch.new.out) c.in-Ok.two) (outcome (state_of c.keep_p_switch.new.place) (datum_of c.keep_p_switch.new.out) n) h refl refl
     c.in_ok-all.ensures.1 c.in_ok-all.ensures.2 (ap (pair (datum_of c.args.x.now)) c.list.ensures) c.in-Ok.ensures fires j) c.keep_p_switch.ensures
 
-pub run_over-returns : goal.run_over-returns
-run_over-returns g t c = (
+pub switches::run_over-returns : goal.switches::run_over-returns
+switches::run_over-returns g t c = (
   outcome (state_of c.run-over.new.place) (datum_of c.run-over.new.out) c.in_ok-over.field-0,
   c.in_ok-over.ensures,
   (refl, refl, c.both.ensures),
 )
 
-pub run_late-returns-in_ok-put_first-in-Ok : goal.run_late-returns-in_ok-put_first-in-Ok
-run_late-returns-in_ok-put_first-in-Ok g t c = (
+pub switches::run_late-returns-in_ok-put_first-in-Ok : goal.switches::run_late-returns-in_ok-put_first-in-Ok
+switches::run_late-returns-in_ok-put_first-in-Ok g t c = (
   outcome (state_of c.run-over.new.place) (datum_of c.run-over.new.out) c.in-Ok.over,
   c.in-Ok.ensures,
   (refl, c.in_ok-put_first-in-Ok.ensures, c.node.ensures),
 )
 
-pub run_member-returns-in-ToAll-clause-runs : goal.run_member-returns-in-ToAll-clause-runs
-run_member-returns-in-ToAll-clause-runs g t c =
-    if_ok c.run.result _ _ (λ r k. member_ran _ to_all _ c.args.i _ _ _ (outcome (state_of c.run.new.place) (datum_of c.run.new.out) r) (ap router_of c.in-ToAll.is) refl k) c.run.ensures
+pub members::run_member-returns-in-ToAll-clause-runs : goal.members::run_member-returns-in-ToAll-clause-runs
+members::run_member-returns-in-ToAll-clause-runs g t c =
+    if_ok c.run.result _ _ (λ r k. member_ran _ to_all _ c.args.i _ _ _
+    (outcome (state_of c.run.new.place) (datum_of c.run.new.out) r) (ap router_of c.in-ToAll.is) refl k) c.run.ensures
 
-pub run_member-returns-in_ok-input-in-ByRow-clause-runs : goal.run_member-returns-in_ok-input-in-ByRow-clause-runs
-run_member-returns-in_ok-input-in-ByRow-clause-runs g t c =
+pub members::run_member-returns-in_ok-input-in-ByRow-clause-runs : goal.members::run_member-returns-in_ok-input-in-ByRow-clause-runs
+members::run_member-returns-in_ok-input-in-ByRow-clause-runs g t c =
     if_ok c.run-one.result _ _
-    (λ r k. member_ran _ (by_row (row_number c.in-ByRow.r) c.in-ByRow.params.now) _ c.args.i _ _ _ (outcome (state_of c.run-one.new.place) (datum_of c.run-one.new.out) r) (ap router_of c.in-ByRow.is) c.in_ok-input-in-ByRow.ensures.called
+    (λ r k. member_ran _ (by_row (row_number c.in-ByRow.r) c.in-ByRow.params.now) _ c.args.i _ _ _
+    (outcome (state_of c.run-one.new.place) (datum_of c.run-one.new.out) r) (ap router_of c.in-ByRow.is) c.in_ok-input-in-ByRow.ensures.called
     k)
     c.run-one.ensures
 
-pub run_each-members-smaller : goal.run_each-members-smaller
-run_each-members-smaller g t c = (members_fall _ _ _ (c.in-Some.ensures c.args.on.now.dt)).1
+pub members::run_each-members-smaller : goal.members::run_each-members-smaller
+members::run_each-members-smaller g t c = (members_fall _ _ _ (c.in-Some.ensures c.args.on.now.dt)).1
 
-pub run_each-members-preserved : goal.run_each-members-preserved
-run_each-members-preserved g t c =
+pub members::run_each-members-preserved : goal.members::run_each-members-preserved
+members::run_each-members-preserved g t c =
     let fall = members_fall _ _ _ (c.in-Some.ensures c.args.on.now.dt) in
     let room = c.in_ok-make_place-in-Some.ensures in
     let at : c.len-before.result ≡ length c.members.answers.items = omega (arith, c.len-before.ensures, c.members.answers.ok) in
@@ -320,8 +354,8 @@ run_each-members-preserved g t c =
       c.run_member.ensures.asked,
     )
 
-pub run_each-returns-in-None : goal.run_each-returns-in-None
-run_each-returns-in-None g t c =
+pub members::run_each-returns-in-None : goal.members::run_each-returns-in-None
+members::run_each-returns-in-None g t c =
     let at : c.len-before.result ≡ length c.members.answers.items = omega (arith, c.len-before.ensures, c.members.answers.ok) in
     let kept = c.truncate.ensures.items ∙ ap (λ j. take j c.members.places.items) at in
     c.members.invariant.2 _
@@ -331,6 +365,6 @@ run_each-returns-in-None g t c =
     (gathered ws c.members.answers.items c.members.visits)) (sym kept)
     (none_run _ (router_of c.args.on.now.router) c.members.i _ _ _ (c.in-None.ensures c.args.on.now.dt)))
 
-pub run_all-returns-in-Ok : goal.run_all-returns-in-Ok
-run_all-returns-in-Ok g t c =
+pub members::run_all-returns-in-Ok : goal.members::run_all-returns-in-Ok
+members::run_all-returns-in-Ok g t c =
     if_ok c.new.result _ _ (λ all l. (_, c.in-Ok.ensures, l)) c.new.ensures

@@ -1,0 +1,107 @@
+use Rattle.std.proofs.Common.{◌+◌, ◌*◌, ◌≤◌, ◌++◌, ◌∷◌, [], length, max, take}
+use Rattle.net_syntax.specs.Weight.{weight, total}
+use Rattle.sample_core.specs.ValueView.{datum_of}
+use Rattle.state_core.specs.RowsView.{rows_in}
+use Rattle.state_core.specs.State.{unstarted}
+use Rattle.state_core.specs.StateView.{scope_of}
+use Rattle.step_core.specs.Rank.{frozen_rank, frozen_ranks, ranks_in}
+use Rattle.step_core.specs.Plans.{IsAsked, router_of}
+use Rattle.step_core.specs.Outcome.{gathered, nothing_yet}
+use Rattle.step_core.specs.Runs.{Gathered, RunEachWhere}
+use Rattle.step_core.specs.SourceView.{source_of, sources_of}
+use Rattle.step_core.proofs.+run.Given as goal
+
+abbrev pub decreases-run::run : goal.decreases-run::run
+decreases-run::run g l = 10 * frozen_rank (source_of l.from.now l.dt) + 2
+
+abbrev pub decreases-run::run_in_line : goal.decreases-run::run_in_line
+decreases-run::run_in_line g l = 10 * frozen_rank (source_of l.from.now l.dt) + 1
+
+abbrev pub decreases-run::run_parts : goal.decreases-run::run_parts
+decreases-run::run_parts g l = 10 * frozen_rank (source_of l.from.now l.dt)
+
+abbrev pub decreases-run::run_part : goal.decreases-run::run_part
+decreases-run::run_part g l = 10 * frozen_rank (source_of l.from.now l.dt) + 5
+
+abbrev pub decreases-run::run_apart : goal.decreases-run::run_apart
+decreases-run::run_apart g l = 10 * frozen_rank (source_of l.from.now l.dt) + 3
+
+abbrev pub decreases-run::run_second : goal.decreases-run::run_second
+decreases-run::run_second g l = 10 * frozen_rank (source_of l.from.now l.dt) + 5
+
+abbrev pub decreases-run::run_in_first : goal.decreases-run::run_in_first
+decreases-run::run_in_first g l = 10 * frozen_rank (source_of l.from.now l.dt) + 4
+
+abbrev pub decreases-run::run_alone : goal.decreases-run::run_alone
+decreases-run::run_alone g l = 10 * frozen_rank (source_of l.from.now l.dt) + 3
+
+abbrev pub decreases-run::run_in_second : goal.decreases-run::run_in_second
+decreases-run::run_in_second g l = 10 * frozen_rank (source_of l.from.now l.dt) + 4
+
+abbrev pub decreases-run::run_beside : goal.decreases-run::run_beside
+decreases-run::run_beside g l = 10 * frozen_rank (source_of l.from.now l.dt) + 3
+
+abbrev pub decreases-run::run_seq : goal.decreases-run::run_seq
+decreases-run::run_seq g l = 10 * (frozen_rank (source_of l.f.now l.dt) + frozen_rank (source_of l.g.now l.dt)) + 8
+
+abbrev pub decreases-run::run_first : goal.decreases-run::run_first
+decreases-run::run_first g l = 10 * frozen_rank (source_of l.f.now l.dt) + 8
+
+abbrev pub decreases-run::run_par : goal.decreases-run::run_par
+decreases-run::run_par g l = 10 * total (frozen_ranks (sources_of l.fs l.dt)) + 8
+
+abbrev pub decreases-run::run_loop : goal.decreases-run::run_loop
+decreases-run::run_loop g l = 10 * frozen_rank (source_of l.f.now l.dt) + 8
+
+abbrev pub decreases-switches::run_switch : goal.decreases-switches::run_switch
+decreases-switches::run_switch g l =
+    10 * (frozen_rank (source_of l.f.now l.dt) + weight (rows_in l.t.now) (ranks_in (scope_of l.env.now))) + 8
+
+abbrev pub decreases-switches::run_d_switch : goal.decreases-switches::run_d_switch
+decreases-switches::run_d_switch g l =
+    10 * (frozen_rank (source_of l.f.now l.dt) + weight (rows_in l.t.now) (ranks_in (scope_of l.env.now))) + 8
+
+abbrev pub decreases-switches::run_r_switch : goal.decreases-switches::run_r_switch
+decreases-switches::run_r_switch g l =
+    10 * max (frozen_rank (source_of l.f.now l.dt)) (weight (rows_in l.t.now) (ranks_in (scope_of l.env.now))) + 8
+
+abbrev pub decreases-switches::run_k_switch : goal.decreases-switches::run_k_switch
+decreases-switches::run_k_switch g l =
+    10 * (frozen_rank (source_of l.f.now l.dt) + frozen_rank (source_of l.e.now l.dt)
+    + weight (rows_in l.t.now) (ranks_in (scope_of l.env.now) ++ frozen_rank (source_of l.f.now l.dt) ∷ [])) + 8
+
+abbrev pub decreases-switches::run_p_switch : goal.decreases-switches::run_p_switch
+decreases-switches::run_p_switch g l =
+    10 * (total (frozen_ranks (sources_of l.fs l.dt)) + frozen_rank (source_of l.e.now l.dt)
+    + weight (rows_in l.t.now) (ranks_in (scope_of l.env.now) ++ frozen_ranks (sources_of l.fs l.dt))) + 8
+
+abbrev pub decreases-switches::run_over : goal.decreases-switches::run_over
+decreases-switches::run_over g l = 10 * frozen_rank (unstarted (rows_in l.t.now) (scope_of l.env)) + 3
+
+abbrev pub decreases-switches::run_late : goal.decreases-switches::run_late
+decreases-switches::run_late g l = 10 * frozen_rank (unstarted (rows_in l.t.now) (scope_of l.env)) + 3
+
+abbrev pub decreases-members::run_members_watch : goal.decreases-members::run_members_watch
+decreases-members::run_members_watch g l = 10 * frozen_rank (source_of l.e.now l.dt) + 6
+
+abbrev pub decreases-members::run_all : goal.decreases-members::run_all
+decreases-members::run_all g l = 10 * total (frozen_ranks (sources_of l.members l.dt)) + 5
+
+abbrev pub decreases-members::run_each : goal.decreases-members::run_each
+decreases-members::run_each g l = 10 * total (frozen_ranks (sources_of l.members l.on.now.dt)) + 4
+
+-- what the members to come lead to from here is what all lead to from the start
+abbrev pub invariant-members::run_each-members : goal.invariant-members::run_each-members
+invariant-members::run_each-members g l =
+    (total (frozen_ranks (sources_of l.rest l.on.dt)) ≤ total (frozen_ranks (sources_of l.members l.on.dt)))
+    × (length l.answers.items ≤ length l.places.items)
+    × ((all : Gathered) → RunEachWhere (g.R.Rows.keys l.on.rows.now) (router_of l.on.router) l.i (sources_of l.rest l.on.dt) (datum_of l.on.x.now)
+    (gathered (take (length l.answers.items) l.places.items) l.answers.items l.visits) all
+    → RunEachWhere (g.R.Rows.keys l.on.rows.now) (router_of l.on.router) 0 (sources_of l.members l.on.dt) (datum_of l.on.x.now) nothing_yet all)
+    × IsAsked (datum_of l.on.x.now) (datum_of l.asked)
+
+abbrev pub decreases-members::run_each-members : goal.decreases-members::run_each-members
+decreases-members::run_each-members g l = total (frozen_ranks (sources_of l.rest l.on.dt))
+
+abbrev pub decreases-members::run_member : goal.decreases-members::run_member
+decreases-members::run_member g l = 10 * frozen_rank (source_of l.f.now l.on.now.dt) + 3
