@@ -20,7 +20,6 @@ mod rows;
 mod run;
 mod runner;
 mod static_run;
-mod switches;
 
 pub use binding::bind;
 pub use bound::Bound;

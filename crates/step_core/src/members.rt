@@ -19,28 +19,6 @@ use sample_core::{Memory, Sample};
 use state_core::State;
 use std::alloc::Global;
 
-/// What watches members, on the sample and the list of their answers.
-#[cycle(run)]
-pub(crate) fn run_members_watch<'n, R: Rows>(
-    alloc: Global,
-    rows: &R,
-    e: &Source<'_, 'n>,
-    dt: u64,
-    x: &Sample,
-    y: &Sample,
-    place: &mut State<'n>,
-    out: &mut Sample,
-) -> Result<u32, Memory>
-    ensures { IfOk result (λ n.
-        RunsWhere (R.keys rows.now) (source_of e.now dt) (pair (datum_of x.now) (datum_of y.now))
-        (first_part (state_of place.new)) (datum_of out.new) n) }
-{
-    let seen = beside(alloc, x, y)?;
-    let two = run_part(alloc, rows, e, dt, &seen, place, out);
-    drop(seen);
-    two
-}
-
 /// All members, each on what it is handed.
 #[cycle(run)]
 pub(crate) fn run_all<'n, R: Rows>(
@@ -144,4 +122,26 @@ fn run_member<'n, R: Rows>(
             one
         }
     }
+}
+
+/// What watches members, on the sample and the list of their answers.
+#[cycle(run)]
+pub(crate) fn run_members_watch<'n, R: Rows>(
+    alloc: Global,
+    rows: &R,
+    e: &Source<'_, 'n>,
+    dt: u64,
+    x: &Sample,
+    y: &Sample,
+    place: &mut State<'n>,
+    out: &mut Sample,
+) -> Result<u32, Memory>
+    ensures { IfOk result (λ n.
+        RunsWhere (R.keys rows.now) (source_of e.now dt) (pair (datum_of x.now) (datum_of y.now))
+        (first_part (state_of place.new)) (datum_of out.new) n) }
+{
+    let seen = beside(alloc, x, y)?;
+    let two = run_part(alloc, rows, e, dt, &seen, place, out);
+    drop(seen);
+    two
 }

@@ -174,13 +174,13 @@ run::run_loop-returns-in_ok-join_loop-in-Ok g t c =
     (outcome (state_of c.join_loop.new.place) (datum_of c.join_loop.new.out) c.node.result) (h _ _ c.in_ok-input.ensures.1) c.in_ok-input.ensures.2
     c.in-Ok.ensures (c.in_ok-join_loop-in-Ok.ensures.0, c.in_ok-join_loop-in-Ok.ensures.1, c.node.ensures)
 
-pub switches::run_switch-run_over-requires : goal.switches::run_switch-run_over-requires
-switches::run_switch-run_over-requires g t c κs within =
+pub run::run_switch-run_over-requires : goal.run::run_switch-run_over-requires
+run::run_switch-run_over-requires g t c κs within =
     let fires = fires_by _ _ (push_param (scope_of c.args.env.now)) _ _ c.second.ensures c.in-Ok-Some.field-0-is c.in-Ok-Some.ensures in
     (omega (arith, c.decreases, over_weighs (rows_in c.args.t.now) (scope_of c.args.env.now) (scope_of c.in-Ok-Some.inner) fires.0 fires.2), search rules)
 
-pub switches::run_switch-returns-in-Ok-Some : goal.switches::run_switch-returns-in-Ok-Some
-switches::run_switch-returns-in-Ok-Some g t c =
+pub run::run_switch-returns-in-Ok-Some : goal.run::run_switch-returns-in-Ok-Some
+run::run_switch-returns-in-Ok-Some g t c =
     let fires = fires_by _ _ (push_param (scope_of c.args.env.now)) _ _ c.second.ensures c.in-Ok-Some.field-0-is c.in-Ok-Some.ensures in
     if_ok c.run_over.result _ _
     (λ n k w h. switch_over _ w _ _ _ (scope_of c.in-Ok-Some.inner) _ fires.0
@@ -188,35 +188,35 @@ switches::run_switch-returns-in-Ok-Some g t c =
     k.0 (outcome (state_of c.run_over.new.place) (datum_of c.run_over.new.out) n) _ h
     c.in-Ok.ensures fires.1 fires.2 k.1 _ refl c.node-before.ensures k.2) c.run_over.ensures
 
-pub switches::run_switch-returns-in_ok-keep_first-in-Ok-None : goal.switches::run_switch-returns-in_ok-keep_first-in-Ok-None
-switches::run_switch-returns-in_ok-keep_first-in-Ok-None g t c =
+pub run::run_switch-returns-in_ok-keep_first-in-Ok-None : goal.run::run_switch-returns-in_ok-keep_first-in-Ok-None
+run::run_switch-returns-in_ok-keep_first-in-Ok-None g t c =
     let fires = fires_by _ _ (push_param (scope_of c.args.env.now)) _ _ c.second.ensures c.in-Ok-None.field-0-is c.in-Ok-None.ensures in
     let kept = c.in_ok-keep_first-in-Ok-None.ensures in
     λ w h. switch_kept _ w _ _ _ _ (outcome (first_part (state_of c.run_part.new.place)) (datum_of c.run_part.new.out) c.in-Ok.one)
     (outcome (state_of c.keep_first.new.place) (datum_of c.keep_first.new.out) c.node.result) h c.in-Ok.ensures fires (kept.0, kept.1, c.node.ensures)
 
-pub switches::run_d_switch-run_late-requires : goal.switches::run_d_switch-run_late-requires
-switches::run_d_switch-run_late-requires g t c κs within =
+pub run::run_d_switch-run_late-requires : goal.run::run_d_switch-run_late-requires
+run::run_d_switch-run_late-requires g t c κs within =
     let fires = fires_by _ _ (push_param (scope_of c.args.env.now)) _ _ c.second.ensures c.in-Ok-Some.field-0-is c.in-Ok-Some.ensures in
     (omega (arith, c.decreases, over_weighs (rows_in c.args.t.now) (scope_of c.args.env.now) (scope_of c.in-Ok-Some.inner) fires.0 fires.2), search rules)
 
-pub switches::run_d_switch-returns-in-Ok-Some : goal.switches::run_d_switch-returns-in-Ok-Some
-switches::run_d_switch-returns-in-Ok-Some g t c =
+pub run::run_d_switch-returns-in-Ok-Some : goal.run::run_d_switch-returns-in-Ok-Some
+run::run_d_switch-returns-in-Ok-Some g t c =
     let fires = fires_by _ _ (push_param (scope_of c.args.env.now)) _ _ c.second.ensures c.in-Ok-Some.field-0-is c.in-Ok-Some.ensures in
     if_ok c.run_late.result _ _
     (λ n k w h. d_switch_over _ w _ _ _ (scope_of c.in-Ok-Some.inner) _ fires.0
     (outcome (first_part (state_of c.run_part.new.place)) (datum_of c.run_part.new.out) c.in-Ok.one)
     k.0 (outcome (state_of c.run_late.new.place) (datum_of c.run_late.new.out) n) h c.in-Ok.ensures fires.1 fires.2 k.1 k.2) c.run_late.ensures
 
-pub switches::run_d_switch-returns-in_ok-keep_first-in-Ok-None : goal.switches::run_d_switch-returns-in_ok-keep_first-in-Ok-None
-switches::run_d_switch-returns-in_ok-keep_first-in-Ok-None g t c =
+pub run::run_d_switch-returns-in_ok-keep_first-in-Ok-None : goal.run::run_d_switch-returns-in_ok-keep_first-in-Ok-None
+run::run_d_switch-returns-in_ok-keep_first-in-Ok-None g t c =
     let fires = fires_by _ _ (push_param (scope_of c.args.env.now)) _ _ c.second.ensures c.in-Ok-None.field-0-is c.in-Ok-None.ensures in
     let kept = c.in_ok-keep_first-in-Ok-None.ensures in
     λ w h. d_switch_kept _ w _ _ _ _ (outcome (first_part (state_of c.run_part.new.place)) (datum_of c.run_part.new.out) c.in-Ok.one)
     (outcome (state_of c.keep_first.new.place) (datum_of c.keep_first.new.out) c.node.result) h c.in-Ok.ensures fires (kept.0, kept.1, c.node.ensures)
 
-pub switches::run_r_switch-returns-in_ok-one-in-Some : goal.switches::run_r_switch-returns-in_ok-one-in-Some
-switches::run_r_switch-returns-in_ok-one-in-Some g t c =
+pub run::run_r_switch-returns-in_ok-one-in-Some : goal.run::run_r_switch-returns-in_ok-one-in-Some
+run::run_r_switch-returns-in_ok-one-in-Some g t c =
     let cut = sym c.restart_of.ensures ∙ ap restart_found c.in-Some.is in
     if_ok c.round.result _ _
     (λ n j w h. r_switch_over _ w _ _ _ (scope_of c.in_ok-inner-in-Some.inner) _ _ _
@@ -224,8 +224,8 @@ switches::run_r_switch-returns-in_ok-one-in-Some g t c =
     (outcome (state_of c.round.new.place) (datum_of c.run_part-one.new.out) n) h cut c.in_ok-inner-in-Some.ensures
     c.in_ok-one-in-Some.ensures (j.0, refl, j.1)) c.round.ensures
 
-pub switches::run_r_switch-returns-in_ok-one-in-None : goal.switches::run_r_switch-returns-in_ok-one-in-None
-switches::run_r_switch-returns-in_ok-one-in-None g t c =
+pub run::run_r_switch-returns-in_ok-one-in-None : goal.run::run_r_switch-returns-in_ok-one-in-None
+run::run_r_switch-returns-in_ok-one-in-None g t c =
     let cut = sym c.restart_of.ensures ∙ ap restart_found c.in-None.is in
     if_ok c.round-in-None.result _ _
     (λ n j w h. r_switch_kept _ w _ _ _ _ _
@@ -233,8 +233,8 @@ switches::run_r_switch-returns-in_ok-one-in-None g t c =
     (outcome (state_of c.round-in-None.new.place) (datum_of c.run_part.new.out) n) h c.first.ensures cut
     c.in_ok-one-in-None.ensures (j.0, refl, j.1)) c.round-in-None.ensures
 
-pub switches::run_k_switch-run_over-requires : goal.switches::run_k_switch-run_over-requires
-switches::run_k_switch-run_over-requires g t c κs within =
+pub run::run_k_switch-run_over-requires : goal.run::run_k_switch-run_over-requires
+run::run_k_switch-run_over-requires g t c κs within =
     let fires = fires_by _ _ (λ u. push_old (push_param (scope_of c.args.env.now) u) (source_of c.args.f.now c.args.dt)) _ _ refl
     c.in-Some.is c.in_ok-inner-in-Ok.ensures in (
       omega (
@@ -246,8 +246,8 @@ switches::run_k_switch-run_over-requires g t c κs within =
       search rules,
     )
 
-pub switches::run_k_switch-returns-in-Some : goal.switches::run_k_switch-returns-in-Some
-switches::run_k_switch-returns-in-Some g t c =
+pub run::run_k_switch-returns-in-Some : goal.run::run_k_switch-returns-in-Some
+run::run_k_switch-returns-in-Some g t c =
     let fires = fires_by _ _ (λ u. push_old (push_param (scope_of c.args.env.now) u) (source_of c.args.f.now c.args.dt)) _ _ refl
     c.in-Some.is c.in_ok-inner-in-Ok.ensures in
     if_ok c.run_over.result _ _
@@ -258,8 +258,8 @@ switches::run_k_switch-returns-in-Some g t c =
     c.in_ok-seen.ensures c.in-Ok.ensures.1 fires.1 fires.2 k.1 _ refl _ refl
     c.node-before.ensures k.2) c.run_over.ensures
 
-pub switches::run_k_switch-returns-in-None : goal.switches::run_k_switch-returns-in-None
-switches::run_k_switch-returns-in-None g t c =
+pub run::run_k_switch-returns-in-None : goal.run::run_k_switch-returns-in-None
+run::run_k_switch-returns-in-None g t c =
     let fires = fires_by _ _ (λ u. push_old (push_param (scope_of c.args.env.now) u) (source_of c.args.f.now c.args.dt)) _ _ refl
     c.in-None.is c.in_ok-inner-in-Ok.ensures in
     if_ok c.round.result _ _
@@ -268,8 +268,8 @@ switches::run_k_switch-returns-in-None g t c =
     (outcome (state_of c.round.new.place) (datum_of c.run_part.new.out) n) h (stays _ _ _ _ _ _ _ c.in-Ok.ensures.0 c.in_ok-one.ensures) c.in_ok-seen.ensures
     c.in-Ok.ensures.1 fires (j.0, refl, j.1)) c.round.ensures
 
-pub switches::run_p_switch-run_over-requires : goal.switches::run_p_switch-run_over-requires
-switches::run_p_switch-run_over-requires g t c κs within =
+pub run::run_p_switch-run_over-requires : goal.run::run_p_switch-run_over-requires
+run::run_p_switch-run_over-requires g t c κs within =
     let fires = fires_by _ _ (λ u. push_olds (push_param (scope_of c.args.env.now) u) (sources_of c.args.fs c.args.dt)) _ _ refl
     c.in-Ok-Some.field-0-is c.in-Ok-Some.ensures in (
       omega (
@@ -281,8 +281,8 @@ switches::run_p_switch-run_over-requires g t c κs within =
       search rules,
     )
 
-pub switches::run_p_switch-returns-in-Ok-Some : goal.switches::run_p_switch-returns-in-Ok-Some
-switches::run_p_switch-returns-in-Ok-Some g t c =
+pub run::run_p_switch-returns-in-Ok-Some : goal.run::run_p_switch-returns-in-Ok-Some
+run::run_p_switch-returns-in-Ok-Some g t c =
     let fires = fires_by _ _ (λ u. push_olds (push_param (scope_of c.args.env.now) u) (sources_of c.args.fs c.args.dt)) _ _ refl
     c.in-Ok-Some.field-0-is c.in-Ok-Some.ensures in
     if_ok c.run_over.result _ _
@@ -292,8 +292,8 @@ switches::run_p_switch-returns-in-Ok-Some g t c =
     c.in_ok-all.ensures.1 c.in_ok-all.ensures.2 (ap (pair (datum_of c.args.x.now)) c.list.ensures) c.in-Ok.ensures fires.1 fires.2 k.1 _ c.visits.ensures _
     refl c.node-before.ensures k.2) c.run_over.ensures
 
-pub switches::run_p_switch-returns-in-Ok-None : goal.switches::run_p_switch-returns-in-Ok-None
-switches::run_p_switch-returns-in-Ok-None g t c =
+pub run::run_p_switch-returns-in-Ok-None : goal.run::run_p_switch-returns-in-Ok-None
+run::run_p_switch-returns-in-Ok-None g t c =
     let fires = fires_by _ _ (λ u. push_olds (push_param (scope_of c.args.env.now) u) (sources_of c.args.fs c.args.dt)) _ _ refl
     c.in-Ok-None.field-0-is c.in-Ok-None.ensures in
     if_ok c.keep_p_switch.result _ _
@@ -301,15 +301,15 @@ switches::run_p_switch-returns-in-Ok-None g t c =
     (datum_of c.run_members_watch.new.out) c.in-Ok.two) (outcome (state_of c.keep_p_switch.new.place) (datum_of c.keep_p_switch.new.out) n) h refl refl
     c.in_ok-all.ensures.1 c.in_ok-all.ensures.2 (ap (pair (datum_of c.args.x.now)) c.list.ensures) c.in-Ok.ensures fires j) c.keep_p_switch.ensures
 
-pub switches::run_over-returns : goal.switches::run_over-returns
-switches::run_over-returns g t c = (
+pub run::run_over-returns : goal.run::run_over-returns
+run::run_over-returns g t c = (
   outcome (state_of c.run-over.new.place) (datum_of c.run-over.new.out) c.in_ok-over.field-0,
   c.in_ok-over.ensures,
   (refl, refl, c.both.ensures),
 )
 
-pub switches::run_late-returns-in_ok-put_first-in-Ok : goal.switches::run_late-returns-in_ok-put_first-in-Ok
-switches::run_late-returns-in_ok-put_first-in-Ok g t c = (
+pub run::run_late-returns-in_ok-put_first-in-Ok : goal.run::run_late-returns-in_ok-put_first-in-Ok
+run::run_late-returns-in_ok-put_first-in-Ok g t c = (
   outcome (state_of c.run-over.new.place) (datum_of c.run-over.new.out) c.in-Ok.over,
   c.in-Ok.ensures,
   (refl, c.in_ok-put_first-in-Ok.ensures, c.node.ensures),

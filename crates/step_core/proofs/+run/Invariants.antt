@@ -26,11 +26,17 @@ decreases-run::run_part g l = 10 * frozen_rank (source_of l.from.now l.dt) + 5
 abbrev pub decreases-run::run_apart : goal.decreases-run::run_apart
 decreases-run::run_apart g l = 10 * frozen_rank (source_of l.from.now l.dt) + 3
 
+abbrev pub decreases-run::run_seq : goal.decreases-run::run_seq
+decreases-run::run_seq g l = 10 * (frozen_rank (source_of l.f.now l.dt) + frozen_rank (source_of l.g.now l.dt)) + 8
+
 abbrev pub decreases-run::run_second : goal.decreases-run::run_second
 decreases-run::run_second g l = 10 * frozen_rank (source_of l.from.now l.dt) + 5
 
 abbrev pub decreases-run::run_in_first : goal.decreases-run::run_in_first
 decreases-run::run_in_first g l = 10 * frozen_rank (source_of l.from.now l.dt) + 4
+
+abbrev pub decreases-run::run_first : goal.decreases-run::run_first
+decreases-run::run_first g l = 10 * frozen_rank (source_of l.f.now l.dt) + 8
 
 abbrev pub decreases-run::run_alone : goal.decreases-run::run_alone
 decreases-run::run_alone g l = 10 * frozen_rank (source_of l.from.now l.dt) + 3
@@ -38,48 +44,42 @@ decreases-run::run_alone g l = 10 * frozen_rank (source_of l.from.now l.dt) + 3
 abbrev pub decreases-run::run_in_second : goal.decreases-run::run_in_second
 decreases-run::run_in_second g l = 10 * frozen_rank (source_of l.from.now l.dt) + 4
 
-abbrev pub decreases-run::run_beside : goal.decreases-run::run_beside
-decreases-run::run_beside g l = 10 * frozen_rank (source_of l.from.now l.dt) + 3
-
-abbrev pub decreases-run::run_seq : goal.decreases-run::run_seq
-decreases-run::run_seq g l = 10 * (frozen_rank (source_of l.f.now l.dt) + frozen_rank (source_of l.g.now l.dt)) + 8
-
-abbrev pub decreases-run::run_first : goal.decreases-run::run_first
-decreases-run::run_first g l = 10 * frozen_rank (source_of l.f.now l.dt) + 8
-
 abbrev pub decreases-run::run_par : goal.decreases-run::run_par
 decreases-run::run_par g l = 10 * total (frozen_ranks (sources_of l.fs l.dt)) + 8
+
+abbrev pub decreases-run::run_beside : goal.decreases-run::run_beside
+decreases-run::run_beside g l = 10 * frozen_rank (source_of l.from.now l.dt) + 3
 
 abbrev pub decreases-run::run_loop : goal.decreases-run::run_loop
 decreases-run::run_loop g l = 10 * frozen_rank (source_of l.f.now l.dt) + 8
 
-abbrev pub decreases-switches::run_switch : goal.decreases-switches::run_switch
-decreases-switches::run_switch g l =
+abbrev pub decreases-run::run_switch : goal.decreases-run::run_switch
+decreases-run::run_switch g l =
     10 * (frozen_rank (source_of l.f.now l.dt) + weight (rows_in l.t.now) (ranks_in (scope_of l.env.now))) + 8
 
-abbrev pub decreases-switches::run_d_switch : goal.decreases-switches::run_d_switch
-decreases-switches::run_d_switch g l =
+abbrev pub decreases-run::run_d_switch : goal.decreases-run::run_d_switch
+decreases-run::run_d_switch g l =
     10 * (frozen_rank (source_of l.f.now l.dt) + weight (rows_in l.t.now) (ranks_in (scope_of l.env.now))) + 8
 
-abbrev pub decreases-switches::run_r_switch : goal.decreases-switches::run_r_switch
-decreases-switches::run_r_switch g l =
+abbrev pub decreases-run::run_r_switch : goal.decreases-run::run_r_switch
+decreases-run::run_r_switch g l =
     10 * max (frozen_rank (source_of l.f.now l.dt)) (weight (rows_in l.t.now) (ranks_in (scope_of l.env.now))) + 8
 
-abbrev pub decreases-switches::run_k_switch : goal.decreases-switches::run_k_switch
-decreases-switches::run_k_switch g l =
+abbrev pub decreases-run::run_k_switch : goal.decreases-run::run_k_switch
+decreases-run::run_k_switch g l =
     10 * (frozen_rank (source_of l.f.now l.dt) + frozen_rank (source_of l.e.now l.dt)
     + weight (rows_in l.t.now) (ranks_in (scope_of l.env.now) ++ frozen_rank (source_of l.f.now l.dt) ∷ [])) + 8
 
-abbrev pub decreases-switches::run_p_switch : goal.decreases-switches::run_p_switch
-decreases-switches::run_p_switch g l =
+abbrev pub decreases-run::run_p_switch : goal.decreases-run::run_p_switch
+decreases-run::run_p_switch g l =
     10 * (total (frozen_ranks (sources_of l.fs l.dt)) + frozen_rank (source_of l.e.now l.dt)
     + weight (rows_in l.t.now) (ranks_in (scope_of l.env.now) ++ frozen_ranks (sources_of l.fs l.dt))) + 8
 
-abbrev pub decreases-switches::run_over : goal.decreases-switches::run_over
-decreases-switches::run_over g l = 10 * frozen_rank (unstarted (rows_in l.t.now) (scope_of l.env)) + 3
+abbrev pub decreases-run::run_over : goal.decreases-run::run_over
+decreases-run::run_over g l = 10 * frozen_rank (unstarted (rows_in l.t.now) (scope_of l.env)) + 3
 
-abbrev pub decreases-switches::run_late : goal.decreases-switches::run_late
-decreases-switches::run_late g l = 10 * frozen_rank (unstarted (rows_in l.t.now) (scope_of l.env)) + 3
+abbrev pub decreases-run::run_late : goal.decreases-run::run_late
+decreases-run::run_late g l = 10 * frozen_rank (unstarted (rows_in l.t.now) (scope_of l.env)) + 3
 
 abbrev pub decreases-members::run_members_watch : goal.decreases-members::run_members_watch
 decreases-members::run_members_watch g l = 10 * frozen_rank (source_of l.e.now l.dt) + 6
