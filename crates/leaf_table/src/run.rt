@@ -118,8 +118,9 @@ pub fn run_general(
     }
 }
 
-/// The same, where `last` keeps the last answer from call to call: the next one takes no memory for
-/// parts that stand where parts of the last stood, as far as no one else holds these any more.
+/// The same, where `last` keeps the last answer from call to call, unless it is a number: the next
+/// one takes no memory for parts that stand where parts of the last stood, as far as no one else
+/// holds these any more.
 #[inline(always)]
 pub fn run_again(
     alloc: Global,
@@ -133,11 +134,14 @@ pub fn run_again(
 {
     let mut place = last.replace(Sample::Unit);
     match eval_over(alloc, &key.expr, params, x, &mut place) {
-        Ok(()) => {
-            let answer = copied(alloc, &place);
-            drop(last.replace(place));
-            answer
-        }
+        Ok(()) => match place {
+            Sample::Int(n) => Ok(Sample::Int(n)),
+            value => {
+                let answer = copied(alloc, &value);
+                drop(last.replace(value));
+                answer
+            }
+        },
         Err(Memory) => {
             drop(place);
             Err(AllocError)
