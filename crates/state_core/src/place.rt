@@ -49,15 +49,6 @@ pub enum Around<'s, 'n> {
 /// A state that is out of use is a place: the state that comes into it takes its memory, as far as
 /// no one else holds that. What is shared stays as it is.
 impl<'n> State<'n> {
-    /// The places of the state's members; none where it has no members.
-    pub fn take_members(&mut self, alloc: Global) -> Vec<State<'n>> {
-        match self.node_mut() {
-            Some(Node::Par(members)) => members.take(alloc),
-            Some(Node::PSwitch(parts)) => parts.members.take(alloc),
-            _ => Vec::new(alloc),
-        }
-    }
-
     /// The node, in this place. `Memory` where a growth was refused.
     pub fn put(&mut self, alloc: Global, node: Node<'n>) -> Result<(), Memory>
         ensures { OnOk result (state_of self.new ≡ node_of node.entry) }

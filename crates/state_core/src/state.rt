@@ -231,7 +231,7 @@ impl<'n> States<'n> {
     }
 
     /// The states in order, in whose place there are none then.
-    pub(crate) fn take(&mut self, alloc: Global) -> Vec<State<'n>>
+    pub fn take(&mut self, alloc: Global) -> Vec<State<'n>>
         ensures taken { states_of result.items ≡ self.old }
         ensures left { self.new ≡ no_state }
     {
@@ -240,15 +240,6 @@ impl<'n> States<'n> {
 }
 
 impl<'n> State<'n> {
-    /// The node, to write to, where there is one and no one else holds it.
-    #[inline(always)]
-    pub(crate) fn node_mut(&mut self) -> Option<&mut Node<'n>> {
-        match self {
-            State::Whole(whole) => Rc::get_mut(&mut whole.node),
-            _ => None,
-        }
-    }
-
     /// A copy, whose parts are shared with it. It takes no memory; `Memory` only where a count of
     /// references is full.
     pub(crate) fn try_copy(&self) -> Result<State<'n>, Memory>

@@ -17,6 +17,7 @@ use sample_core::{Memory, Sample};
 use state_core::{Around, Env, Node, State, States, gather};
 use std::alloc::Global;
 use std::marker::Model;
+use std::rc::Rc;
 
 /// What a sample led to in all members: their states, the list of their answers, and how many
 /// nodes they visited. Contracts see it as a record of clean ones.
@@ -50,7 +51,7 @@ pub(crate) fn member_places<'n>(
     room: usize,
     place: &mut State<'n>,
 ) -> Result<Vec<State<'n>>, Memory> {
-    let mut places = place.take_members(alloc);
+    let mut places = take_places(alloc, place);
     let more = room.saturating_sub(places.len());
     match places.try_reserve(more) {
         Ok(()) => Ok(places),
@@ -59,6 +60,18 @@ pub(crate) fn member_places<'n>(
             Err(Memory)
         }
     }
+}
+
+/// The states of the members that stand in the place, which no one else holds; else none.
+fn take_places<'n>(alloc: Global, place: &mut State<'n>) -> Vec<State<'n>> {
+    if let State::Whole(whole) = place {
+        return match Rc::get_mut(&mut whole.node) {
+            Some(Node::Par(members)) => members.take(alloc),
+            Some(Node::PSwitch(parts)) => parts.members.take(alloc),
+            _ => Vec::new(alloc),
+        };
+    }
+    Vec::new(alloc)
 }
 
 /// Sees to it that there is a place of the next member, behind those of so many before it. `Memory`
