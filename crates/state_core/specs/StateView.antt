@@ -80,11 +80,6 @@ abbrev pub frozen_from : Network ℕ → Scope ℕ → Option (Bor CodeState) �
 frozen_from net s (Some a) d = paused (state_of a.now) d
 frozen_from net s None d = unstarted net s
 
--- the states of members behind those of others
-abbrev pub append_states : States ℕ → States ℕ → States ℕ
-append_states no_state bs = bs
-append_states (and_state a as') bs = and_state a (append_states as' bs)
-
 -- what a look-up of frozen network k finds
 abbrev pub IsFrozenAt : Frozens ℕ → ℕ → Option (Bor CodeFrozen) → Type 0
 IsFrozenAt fs k (Some f) = frozen_at fs k ≡ Some (frozen_of f.now)

@@ -13,7 +13,7 @@ use Rattle.net_syntax.specs.Typing as N
 use Rattle.net_syntax.specs.Typing.{members}
 use Rattle.state_core.specs.CountedForms.{same_input, route_by}
 use Rattle.state_core.specs.State.{State, States, Scope, Frozen, Frozens, par_state, p_switch_state, no_state, and_state, no_frozen, and_frozen, unstarted, params_of, push_param, push_olds, all_unstarted, all_paused}
-use Rattle.state_core.specs.StateView.{state_of, states_of, append_states}
+use Rattle.state_core.specs.StateView.{state_of, states_of}
 use Rattle.state_core.specs.declared.state.State.{State as CodeState}
 use Rattle.step_core.specs.Stepping as G
 use Rattle.step_core.specs.Stepping.{Starts, StartsEach, Resumes, Steps, StepsEach, event_in}
@@ -22,7 +22,7 @@ use Rattle.step_core.specs.StateTyping.{FrozenTyped, FrozensTyped, row_value}
 use Rattle.step_core.specs.Outcome.{Outcome, ListOutcome, IsRan, IsListed, gathered, nothing_yet, outcome}
 use Rattle.step_core.specs.Plans.{IsRouted, RunsMember}
 use Rattle.step_core.specs.Runs as R
-use Rattle.step_core.specs.Runs.{Ran, RunsWhere, ParBy, PSwitchBy, Gathered, RunsEach, RanEach, RunEachWhere, Router, to_all, by_row, handed, HandsOut}
+use Rattle.step_core.specs.Runs.{Ran, RunsWhere, ParBy, PSwitchBy, Gathered, RunsEach, RanEach, RunEachWhere, Router, to_all, by_row, handed, HandsOut, append_states}
 use Rattle.step_core.proofs.StateLists.{one_put}
 use Rattle.step_core.proofs.StateTypings.{resumes_typed, each_starts_typed, each_steps_typed, route_typed, small_number, event_typed, pushed_param, pushed_olds, unstarted_all, paused_all, params_typed}
 use Rattle.step_core.proofs.CalledRows.{called_value}

@@ -2,8 +2,9 @@
 use Rattle.std.proofs.Common.{◌≡◌, ℕ, List, [], ◌∷◌, ◌++◌, ◌<◌, ◌+◌, refl, ap, ap₂, ◌∙◌, length, take, set}
 use Rattle.std.proofs.lemmas.List.{take_more_set}
 use Rattle.state_core.specs.State.{State, States, no_state, and_state}
-use Rattle.state_core.specs.StateView.{state_of, states_of, append_states}
+use Rattle.state_core.specs.StateView.{state_of, states_of}
 use Rattle.state_core.specs.declared.state.State.{State as CodeState}
+use Rattle.step_core.specs.Runs.{append_states}
 
 -- states one list after the other
 states_append : (xs ys : List CodeState) → states_of (xs ++ ys) ≡ append_states (states_of xs) (states_of ys)

@@ -7,7 +7,6 @@ use Rattle.leaf_core.specs.KeyTree.{KeyTree}
 use Rattle.net_syntax.specs.Network.{Network, Networks, seq, first, par, loop_pre, switch, d_switch, r_switch, k_switch, p_switch, old}
 use Rattle.net_syntax.specs.Typing.{copies, arrow}
 use Rattle.state_core.specs.State.{State, States, Scope, Frozen, Frozens, seq_state, first_state, par_state, loop_state, switch_state, d_switch_state, r_switch_state, k_switch_state, p_switch_state, no_state, and_state, no_frozen, and_frozen, unstarted, paused, params_of, frozens_of, frozen_at, all_unstarted, all_paused}
-use Rattle.state_core.specs.StateView.{append_states}
 use Rattle.step_core.specs.RowTyping.{RowTyped}
 use Rattle.state_core.specs.CountedForms.{same_input, route_by}
 use Rattle.step_core.specs.Called.{Called}
@@ -106,6 +105,11 @@ pub record Gathered : Type 0 where
   pub states : States ℕ
   pub answers : List Datum
   pub visits : ℕ
+
+-- the states of members behind those of others
+abbrev pub append_states : States ℕ → States ℕ → States ℕ
+append_states no_state bs = bs
+append_states (and_state a as') bs = and_state a (append_states as' bs)
 
 -- what the members led to was added
 pub record RanEach (keys : List KeyTree) (h : ℕ → Datum → Datum) (x : Datum) (i : ℕ)
