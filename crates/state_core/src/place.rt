@@ -4,7 +4,7 @@ ghost use Rattle.std.specs.Prelude.{◌≡◌, IfOk, OnOk};
 ghost use Rattle.sample_core.specs.ValueView.{datum_of};
 ghost use Rattle.state_core.specs.Around.{first_part, second_part, switch_round, node_round};
 ghost use Rattle.state_core.specs.RowsView.{rows_in, row_number};
-ghost use Rattle.state_core.specs.State.{no_state, seq_state, first_state, loop_state, k_switch_state, p_switch_state};
+ghost use Rattle.state_core.specs.State.{seq_state, first_state, loop_state, k_switch_state, p_switch_state};
 ghost use Rattle.state_core.specs.StateView.{state_of, node_of, p_switch_of, scope_of};
 
 use crate::env::Env;

@@ -1,5 +1,5 @@
 -- Members' states in their places, and the clean ones.
-use Rattle.std.proofs.Common.{◌≡◌, ℕ, List, [], ◌∷◌, ◌++◌, ◌<◌, ◌+◌, refl, ap, ap₂, ◌∙◌, length, take, set}
+use Rattle.std.proofs.Common.{◌≡◌, ℕ, List, [], ◌∷◌, ◌++◌, ◌<◌, ◌+◌, refl, ap, ◌∙◌, length, take, set}
 use Rattle.std.proofs.lemmas.List.{take_more_set}
 use Rattle.state_core.specs.State.{State, States, no_state, and_state}
 use Rattle.state_core.specs.StateView.{state_of, states_of}

@@ -1,6 +1,6 @@
 // One sample through a network or a state.
 
-ghost use Rattle.std.specs.Prelude.{◌≡◌, ℕ, List, IfOk};
+ghost use Rattle.std.specs.Prelude.{◌≡◌, List, IfOk};
 ghost use Rattle.sample_core.specs.{Datum.Datum, ValueView.datum_of};
 ghost use Rattle.leaf_core.specs.KeyTree.{KeyTree};
 ghost use Rattle.state_core.specs.{RowsView.rows_in, RowsView.row_number};
