@@ -1,17 +1,17 @@
 -- Each part of what runs weighs less than it.
-use Rattle.std.proofs.Common.{◌≡◌, ℕ, ◌+◌, ◌<◌, ◌≤◌, max, List, [], ◌∷◌, ◌++◌, refl, ap, ◌∙◌, arith}
-use Rattle.sample_core.specs.Datum.{Datum, unit}
-use Rattle.sample_core.specs.ValueView.{datum_of}
-use Rattle.leaf_core.specs.KeyTree.{KeyTree}
-use Rattle.net_syntax.specs.Network.{Network, arr, seq, first, par, loop_pre, i_pre, delay, hold, accum_by, after, repeatedly, time, integral, switch, d_switch, r_switch, k_switch, p_switch, old}
+use Rattle.std.proofs.Common.{◌≡◌, ℕ, suc, sym, ◌+◌, ◌<◌, ◌≤◌, max, List, [], ◌∷◌, ◌++◌, refl, ap, ◌∙◌, arith}
+use Rattle.sample_core.specs.Datum.{Datum}
+use Rattle.net_syntax.specs.Network.{Network, arr, seq, first, par, loop_pre, i_pre, delay, hold, accum_by, after, repeatedly, time, integral, switch, d_switch, r_switch, k_switch, p_switch, old, map_network}
+use Rattle.net_syntax.specs.NetworkView.{network_of}
+use Rattle.net_syntax.specs.declared.net.Net.{Net}
+use Rattle.net_syntax.specs.declared.net.Net.TheVariants as V
+use Rattle.leaf_table.specs.declared.table.LeafId.{LeafId}
+use Rattle.state_core.specs.RowsView.{rows_in, row_number}
 use Rattle.net_syntax.specs.Weight.{weight, weights, weight_at, total}
 use Rattle.state_core.specs.State.{State, Scope, Frozen, Frozens, arr_state, seq_state, first_state, par_state, loop_state, cell_state, accum_state, switch_state, d_switch_state, r_switch_state, k_switch_state, p_switch_state, no_frozen, and_frozen, unstarted, paused, push_param, push_old, push_olds, all_unstarted, all_paused}
 use Rattle.step_core.specs.Rank.{rank, ranks, ranks_in, frozen_rank, frozen_ranks}
 use Rattle.step_core.specs.Runs as R
-use Rattle.step_core.specs.Runs.{SeqBy, FirstBy, ParBy, LoopBy, SwitchBy, DSwitchBy, RSwitchBy, KSwitchBy, PSwitchBy, OldBy}
-use Rattle.step_core.specs.Plans.{IsFed}
-use Rattle.step_core.specs.declared.plan.Back.{Back}
-use Rattle.step_core.specs.declared.plan.Back.TheVariants as B
+use Rattle.step_core.specs.Runs.{SeqBy, FirstBy, ParBy, SwitchBy, DSwitchBy, RSwitchBy, KSwitchBy, PSwitchBy, OldBy}
 use Rattle.step_core.proofs.Ranks.{ranks-param, ranks-olds, ranks-unstarted, ranks-paused, rank-in}
 
 weight_positive : (net : Network ℕ) (ws : List ℕ) → 1 ≤ weight net ws
@@ -74,15 +74,10 @@ par_falls w ms (R.par_new {fs = fs} {s = s}) = let e : total (frozen_ranks (all_
 par_falls w ms (R.par_on {as' = as'} {d = d}) = let e : total (frozen_ranks (all_paused as' d))
     ≡ total (ranks as') = ap total (ranks-paused as' d) in omega (arith, e)
 
-loop_by_falls : (keys : List KeyTree) (w : Frozen ℕ) (u : Datum) (p : Frozen ℕ) → LoopBy keys w u p → frozen_rank p < frozen_rank w
-loop_by_falls keys w u p (R.loop_new h) = omega arith
-loop_by_falls keys w u p R.loop_on = omega arith
-
--- whatever a table's rows are: over none, anything may be fed back that a row promises
-pub loop_falls : (w : Frozen ℕ) (b : Back) (p : Frozen ℕ) → ((keys : List KeyTree) (u : Datum) → IsFed keys b u → LoopBy keys w u p)
-    → frozen_rank p < frozen_rank w
-loop_falls w (B.Row c ps) p h = loop_by_falls [] w unit p (h [] unit (λ key e. absurd (cc)))
-loop_falls w (B.Value v) p h = loop_by_falls [] w (datum_of v.now) p (h [] (datum_of v.now) refl)
+pub loop_weighs : (n f : Net LeafId) (F : Network LeafId) (c : LeafId) (s : Scope ℕ) → n ≡ V.LoopPre c F → network_of f ≡ F
+    → frozen_rank (unstarted (rows_in f) s) < frozen_rank (unstarted (rows_in n) s)
+loop_weighs n f F c s e p = let sum : weight (rows_in n) (ranks_in s) ≡ suc (weight (rows_in f) (ranks_in s)) =
+    ap (λ z. weight z (ranks_in s)) (ap rows_in e ∙ (λ i. loop_pre (row_number c) (map_network row_number (sym p i)))) in omega (arith, sum)
 
 pub switch_within : (w p : Frozen ℕ) (t : Network ℕ) (s : Scope ℕ) → SwitchBy w p t s → frozen_rank p + weight t (ranks_in s) < frozen_rank w
 switch_within w p t s R.switch_new = omega arith

@@ -20,7 +20,7 @@ pub mod CalledRows
 pub mod StaticStates
 pub mod Flows
 pub mod RunForms
-pub mod PlanForms
+pub mod PartForms
 pub mod RunCells
 pub mod Lowerings
 pub mod FrozenMembers

@@ -20,7 +20,7 @@ use Rattle.step_core.specs.Stepping.{Starts, StartsEach, Resumes, Steps, StepsEa
 use Rattle.step_core.specs.StateTyping as T
 use Rattle.step_core.specs.StateTyping.{FrozenTyped, FrozensTyped, row_value}
 use Rattle.step_core.specs.Outcome.{Outcome, ListOutcome, IsRan, IsListed, gathered, nothing_yet, outcome}
-use Rattle.step_core.specs.Plans.{IsRouted, RunsMember}
+use Rattle.step_core.specs.Handed.{IsRouted, RunsMember}
 use Rattle.step_core.specs.Runs as R
 use Rattle.step_core.specs.Runs.{Ran, RunsWhere, ParBy, PSwitchBy, Gathered, RunsEach, RanEach, RunEachWhere, Router, to_all, by_row, handed, HandsOut, append_states}
 use Rattle.step_core.proofs.StateLists.{one_put}

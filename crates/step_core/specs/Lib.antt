@@ -11,7 +11,7 @@ pub mod Outcome
 pub mod Flow
 pub mod Joined
 pub mod SourceView
-pub mod Plans
+pub mod Handed
 pub mod EventView
 pub mod Lookup
 pub mod Lowering

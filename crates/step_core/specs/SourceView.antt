@@ -5,10 +5,10 @@ use Rattle.net_syntax.specs.NetworkView.{members_of}
 use Rattle.state_core.specs.RowsView.{rows_in, row_number}
 use Rattle.state_core.specs.State.{Frozen, Frozens, unstarted, paused, all_unstarted, all_paused}
 use Rattle.state_core.specs.StateView.{state_of, states_of, scope_of}
-use Rattle.step_core.specs.declared.plan.Source.{Source}
-use Rattle.step_core.specs.declared.plan.Source.TheVariants as S
-use Rattle.step_core.specs.declared.plan.Sources.{Sources}
-use Rattle.step_core.specs.declared.plan.Sources.TheVariants as M
+use Rattle.step_core.specs.declared.source.Source.{Source}
+use Rattle.step_core.specs.declared.source.Source.TheVariants as S
+use Rattle.step_core.specs.declared.source.Sources.{Sources}
+use Rattle.step_core.specs.declared.source.Sources.TheVariants as M
 
 -- a network that has not started, or a state with the step of its next sample
 abbrev pub source_of : Source → ℕ → Frozen ℕ

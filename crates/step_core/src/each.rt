@@ -9,8 +9,8 @@ ghost use Rattle.step_core.specs.Outcome.{IsRan, IsListed, gathered, outcome};
 ghost use Rattle.step_core.specs.SourceView.{source_of, sources_of};
 
 use crate::count;
-use crate::plan::{Source, Sources};
 use crate::round::round;
+use crate::source::{Source, Sources};
 use leaf_table::LeafId;
 use net_syntax::Net;
 use sample_core::{Memory, Sample};

@@ -9,7 +9,7 @@ ghost use Rattle.state_core.specs.StateView.{scope_of, states_of, frozen_of, fro
 ghost use Rattle.step_core.specs.{Joined.Fires, Joined.with_stopped, SourceView.source_of, SourceView.sources_of};
 
 use crate::part::event_of;
-use crate::plan::{Source, Sources};
+use crate::source::{Source, Sources};
 use leaf_table::LeafId;
 use net_syntax::Net;
 use sample_core::{Memory, Sample};

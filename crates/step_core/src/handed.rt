@@ -3,11 +3,11 @@
 ghost use Rattle.std.specs.Prelude.{◌≡◌, IfOk, pos};
 ghost use Rattle.sample_core.specs.{Datum.Datum, Datum.int, Datum.pair, ValueView.datum_of};
 ghost use Rattle.state_core.specs.RowsView.{row_number};
-ghost use Rattle.step_core.specs.{Called.Called, Plans.IsAsked, Plans.IsFed};
+ghost use Rattle.step_core.specs.{Called.Called, Handed.IsAsked, Handed.IsFed};
 
 use crate::part::beside;
-use crate::plan::{Back, Route};
 use crate::rows::Rows;
+use crate::source::{Back, Route};
 use leaf_table::LeafId;
 use sample_core::{Memory, Sample};
 use state_core::{Params, route};

@@ -14,12 +14,14 @@ mod laws;
 mod lowering;
 mod members;
 mod part;
-mod plan;
 mod round;
 mod rows;
 mod run;
 mod runner;
+mod source;
+mod start;
 mod static_run;
+mod step;
 
 pub use binding::bind;
 pub use bound::Bound;

@@ -7,7 +7,7 @@ ghost use Rattle.state_core.specs.{RowsView.rows_in, RowsView.row_number};
 ghost use Rattle.state_core.specs.Around.{first_part, second_part};
 ghost use Rattle.state_core.specs.StateView.{state_of, node_of, scope_of};
 ghost use Rattle.step_core.specs.Outcome.{RunsBy, TakesOver, TakesOverLate, outcome};
-ghost use Rattle.step_core.specs.Plans.{IsFed};
+ghost use Rattle.step_core.specs.Handed.{IsFed};
 ghost use Rattle.step_core.specs.Runs.{RunsWhere, SeqBy, FirstBy, ParBy, LoopBy, SwitchBy, DSwitchBy, RSwitchBy, KSwitchBy, PSwitchBy};
 ghost use Rattle.step_core.specs.SourceView.{source_of, sources_of};
 
@@ -17,10 +17,11 @@ use crate::fire::{Stopped, fire, fire_old};
 use crate::handed::fed;
 use crate::members::{run_all, run_members_watch};
 use crate::part::{beside, first, paired_with, restart_of, second};
-use crate::plan::{Back, Plan, Route, Source, Sources, plan_of};
 use crate::round::{join_loop, keep_first, put_first, round};
 use crate::rows::Rows;
-use crate::static_run::run_static;
+use crate::source::{Back, Route, Source, Sources};
+use crate::start::start;
+use crate::step::step;
 use leaf_table::LeafId;
 use net_syntax::Net;
 use sample_core::{Memory, Sample};
@@ -48,7 +49,7 @@ pub(crate) fn run<'n, R: Rows>(
     run_in_line(alloc, rows, from, dt, x, place, out)
 }
 
-/// The same, where a network without switches runs in line.
+/// The same, in line.
 #[cycle(run)]
 #[inline(always)]
 pub(crate) fn run_in_line<'n, R: Rows>(
@@ -64,53 +65,9 @@ pub(crate) fn run_in_line<'n, R: Rows>(
         RunsWhere (R.keys rows.now) (source_of from.now dt) (datum_of x.now)
         (state_of place.new) (datum_of out.new) n) }
 {
-    match plan_of(*from) {
-        Plan::Static(net, params, before) => run_static(
-            alloc, rows, net, params, before, dt, x, place, out,
-        ),
-        _ => run_parts(alloc, rows, from, dt, x, place, out),
-    }
-}
-
-/// The same by the parts of what runs.
-#[cycle(run)]
-#[inline(never)]
-fn run_parts<'n, R: Rows>(
-    alloc: Global,
-    rows: &R,
-    from: &Source<'_, 'n>,
-    dt: u64,
-    x: &Sample,
-    place: &mut State<'n>,
-    out: &mut Sample,
-) -> Result<u32, Memory>
-    ensures { IfOk result (λ n.
-        RunsWhere (R.keys rows.now) (source_of from.now dt) (datum_of x.now)
-        (state_of place.new) (datum_of out.new) n) }
-{
-    let plan = plan_of(*from);
-    match &plan {
-        Plan::Static(net, params, before) => run_static(
-            alloc, rows, *net, *params, *before, dt, x, place, out,
-        ),
-        Plan::Seq(f, g) => run_seq(alloc, rows, f, g, dt, x, place, out),
-        Plan::First(f) => run_first(alloc, rows, f, dt, x, place, out),
-        Plan::Par(fs) => run_par(alloc, rows, *fs, dt, x, place, out),
-        Plan::LoopPre(back, f) => run_loop(alloc, rows, *back, f, dt, x, place, out),
-        Plan::Switch(f, t, env) => run_switch(alloc, rows, f, *t, *env, dt, x, place, out),
-        Plan::DSwitch(f, t, env) => run_d_switch(alloc, rows, f, *t, *env, dt, x, place, out),
-        Plan::RSwitch(f, t, env) => run_r_switch(alloc, rows, f, *t, *env, dt, x, place, out),
-        Plan::KSwitch(f, e, t, env) => {
-            run_k_switch(alloc, rows, f, e, *t, *env, dt, x, place, out)
-        }
-        Plan::PSwitch(r, fs, e, t, env) => run_p_switch(
-            alloc, rows, *r, *fs, e, *t, *env, dt, x, place, out,
-        ),
-        Plan::Old(frozen, step) => {
-            let over = run(alloc, rows, frozen, *step, x, place, out)?;
-            Ok(count::node(over, 0))
-        }
-        Plan::Beyond => Err(Memory),
+    match *from {
+        Source::Net(net, env) => start(alloc, rows, net, env, x, place, out),
+        Source::State(state) => step(alloc, rows, state, dt, x, place, out),
     }
 }
 
@@ -293,8 +250,8 @@ fn run_beside<'n, R: Rows>(
 
 /// `>>>` by its two parts.
 #[cycle(run)]
-#[inline(never)]
-fn run_seq<'n, R: Rows>(
+#[inline(always)]
+pub(crate) fn run_seq<'n, R: Rows>(
     alloc: Global,
     rows: &R,
     f: &Source<'_, 'n>,
@@ -326,7 +283,7 @@ fn run_seq<'n, R: Rows>(
 /// `first` by its part.
 #[cycle(run)]
 #[inline(never)]
-fn run_first<'n, R: Rows>(
+pub(crate) fn run_first<'n, R: Rows>(
     alloc: Global,
     rows: &R,
     f: &Source<'_, 'n>,
@@ -357,7 +314,7 @@ fn run_first<'n, R: Rows>(
 /// `parB` by its members.
 #[cycle(run)]
 #[inline(never)]
-fn run_par<'n, R: Rows>(
+pub(crate) fn run_par<'n, R: Rows>(
     alloc: Global,
     rows: &R,
     fs: Sources<'_, 'n>,
@@ -378,7 +335,7 @@ fn run_par<'n, R: Rows>(
 /// `loopPre` by what is fed back and its part.
 #[cycle(run)]
 #[inline(never)]
-fn run_loop<'n, R: Rows>(
+pub(crate) fn run_loop<'n, R: Rows>(
     alloc: Global,
     rows: &R,
     back: Back<'_>,
@@ -412,8 +369,8 @@ fn run_loop<'n, R: Rows>(
 
 /// `switch` by its part, the network that takes over and its scope.
 #[cycle(run)]
-#[inline(never)]
-fn run_switch<'n, R: Rows>(
+#[inline(always)]
+pub(crate) fn run_switch<'n, R: Rows>(
     alloc: Global,
     rows: &R,
     f: &Source<'_, 'n>,
@@ -456,8 +413,8 @@ fn run_switch<'n, R: Rows>(
 
 /// `dSwitch` likewise.
 #[cycle(run)]
-#[inline(never)]
-fn run_d_switch<'n, R: Rows>(
+#[inline(always)]
+pub(crate) fn run_d_switch<'n, R: Rows>(
     alloc: Global,
     rows: &R,
     f: &Source<'_, 'n>,
@@ -496,8 +453,8 @@ fn run_d_switch<'n, R: Rows>(
 
 /// `rSwitch` likewise.
 #[cycle(run)]
-#[inline(never)]
-fn run_r_switch<'n, R: Rows>(
+#[inline(always)]
+pub(crate) fn run_r_switch<'n, R: Rows>(
     alloc: Global,
     rows: &R,
     f: &Source<'_, 'n>,
@@ -531,8 +488,8 @@ fn run_r_switch<'n, R: Rows>(
 
 /// `kSwitch` likewise, with the part that watches.
 #[cycle(run)]
-#[inline(never)]
-fn run_k_switch<'n, R: Rows>(
+#[inline(always)]
+pub(crate) fn run_k_switch<'n, R: Rows>(
     alloc: Global,
     rows: &R,
     f: &Source<'_, 'n>,
@@ -578,7 +535,7 @@ fn run_k_switch<'n, R: Rows>(
 /// takes over and its scope.
 #[cycle(run)]
 #[inline(never)]
-fn run_p_switch<'n, R: Rows>(
+pub(crate) fn run_p_switch<'n, R: Rows>(
     alloc: Global,
     rows: &R,
     r: LeafId,

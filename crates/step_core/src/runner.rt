@@ -6,8 +6,8 @@ ghost use Rattle.leaf_table.specs.Rows.{rows_of};
 ghost use Rattle.step_core.specs.{Binding.FitsTable, RunnerState.HasPast, StateOption.state_in};
 
 use crate::bound::Bound;
-use crate::plan::Source;
 use crate::run::run_in_line;
+use crate::source::Source;
 use leaf_table::LeafTable;
 use sample_core::{Memory, Sample};
 use state_core::{Env, State};

@@ -2,7 +2,9 @@
 
 ghost use Rattle.std.specs.Prelude.{◌≡◌, IfOk, map};
 ghost use Rattle.sample_core.specs.ValueView.{datum_of};
-ghost use Rattle.state_core.specs.{RowsView.rows_in, StateView.state_of};
+ghost use Rattle.state_core.specs.{RowsView.rows_in, State.paused, StateView.state_of};
+ghost use Rattle.state_core.specs.StaticNetwork.{static_state};
+ghost use Rattle.step_core.specs.Runs.{RunsWhere};
 ghost use Rattle.step_core.specs.{Flow.FlowsThrough, Flow.IsFlow, Flow.past_in, Outcome.RunsBy, Outcome.outcome};
 
 use crate::flow::{Context, flow};
@@ -50,6 +52,27 @@ pub(crate) fn run_static<'n, R: Rows>(
             Ok(net.nodes())
         }
     }
+}
+
+/// A further sample of a network without switches.
+#[inline(always)]
+pub(crate) fn step_static<'n, R: Rows>(
+    alloc: Global,
+    rows: &R,
+    net: StaticNet<'n>,
+    kept: &StaticParts,
+    dt: u64,
+    x: &Sample,
+    place: &mut State<'n>,
+    out: &mut Sample,
+) -> Result<u32, Memory>
+    ensures { IfOk result (λ n.
+        RunsWhere (R.keys rows.now)
+        (paused (static_state (rows_in net.entry.net.now) kept.now.params kept.now.cells) dt)
+        (datum_of x.now) (state_of place.new) (datum_of out.new) n) }
+{
+    let before = Some(&kept.cells);
+    run_static(alloc, rows, net, &kept.params, before, dt, x, place, out)
 }
 
 /// Puts out what a network without switches answers, with these parameters in scope. What it keeps

@@ -3,148 +3,21 @@ use Rattle.leaf_core.specs.KeyTree.{KeyTree}
 use Rattle.sample_core.specs.Datum.{Datum, pair}
 use Rattle.sample_core.specs.ValueView.{datum_of}
 use Rattle.state_core.specs.RowsView.{rows_in, row_number}
-use Rattle.state_core.specs.State.{Frozen, push_param, push_old, push_olds}
+use Rattle.state_core.specs.State.{paused, par_state, no_state, push_param, push_old, push_olds}
+use Rattle.state_core.specs.StaticNetwork.{static_state}
 use Rattle.state_core.specs.Around.{first_part, second_part}
-use Rattle.state_core.specs.StateView.{scope_of, state_of}
+use Rattle.state_core.specs.StateView.{scope_of, state_of, node_of, p_switch_of}
 use Rattle.step_core.specs.EventView.{restart_found}
-use Rattle.step_core.specs.Plans.{PlanBy, IsFed, router_of}
-use Rattle.step_core.specs.declared.plan.Plan.{Plan}
-use Rattle.step_core.specs.Runs.{RunEachWhere, to_all, by_row, SeqBy, FirstBy, ParBy, LoopBy, SwitchBy, DSwitchBy, RSwitchBy, KSwitchBy, PSwitchBy, OldBy}
+use Rattle.step_core.specs.Handed.{router_of}
+use Rattle.step_core.specs.Runs as R
+use Rattle.step_core.specs.Runs.{RunEachWhere, to_all, by_row, ParBy}
 use Rattle.step_core.specs.Outcome.{gathered, outcome}
 use Rattle.step_core.specs.SourceView.{source_of, sources_of}
-use Rattle.step_core.proofs.Falling.{members_fall, seq_within, first_falls, par_falls, loop_falls, switch_within, d_switch_within, r_switch_within, k_switch_within, p_switch_within, old_falls, over_weighs, over_old_weighs, over_olds_weighs}
+use Rattle.step_core.proofs.Falling.{members_fall, seq_within, first_falls, par_falls, loop_weighs, switch_within, d_switch_within, r_switch_within, k_switch_within, p_switch_within, old_falls, over_weighs, over_old_weighs, over_olds_weighs}
 use Rattle.step_core.proofs.RunJoins.{if_ok, fires_by, stays, seq_joined, first_joined, loop_joined, switch_kept, switch_over, d_switch_kept, d_switch_over, r_switch_kept, r_switch_over, k_switch_kept, k_switch_over, old_over}
 use Rattle.step_core.proofs.RunMembers.{none_run, also_run, member_ran, one_added, next_number, par_joined, p_switch_kept, p_switch_over}
+use Rattle.step_core.proofs.PartForms.{moved, flow_new_by, seq_new_by, first_new_by, par_new_by, loop_new_by, switch_new_by, d_switch_new_by, r_switch_new_by, k_switch_new_by, p_switch_new_by, par_on_by, loop_on_by, p_switch_on_by, old_by}
 use Rattle.step_core.proofs.+run.Goals as goal
-
--- the plan at an arm
-planned : (p : Plan) (w : Frozen ℕ) (d : ℕ) (q : Plan) → p ≡ q → PlanBy w d p → PlanBy w d q
-planned p w d q is h = subst (PlanBy w d) is h
-
-pub run::run_parts-run_seq-requires : goal.run::run_parts-run_seq-requires
-run::run_parts-run_seq-requires g t c κs within =
-    let h : SeqBy (source_of c.args.from.now c.args.dt) (source_of c.in-Seq.f c.args.dt) (source_of c.in-Seq.g c.args.dt) =
-    planned _ (source_of c.args.from.now c.args.dt) c.args.dt _ c.in-Seq.is (c.plan_of-plan.ensures c.args.dt) in
-    (omega (arith, c.decreases, seq_within _ _ _ h), search rules)
-
-pub run::run_parts-returns-in-Seq : goal.run::run_parts-returns-in-Seq
-run::run_parts-returns-in-Seq g t c =
-    let h = planned _ (source_of c.args.from.now c.args.dt) c.args.dt _ c.in-Seq.is (c.plan_of-plan.ensures c.args.dt) in
-    if_ok c.run_seq.result _ _ (λ r by. by _ h) c.run_seq.ensures
-
-pub run::run_parts-run_first-requires : goal.run::run_parts-run_first-requires
-run::run_parts-run_first-requires g t c κs within =
-    let h : FirstBy (source_of c.args.from.now c.args.dt) (source_of c.in-First.f c.args.dt) =
-    planned _ (source_of c.args.from.now c.args.dt) c.args.dt _ c.in-First.is (c.plan_of-plan.ensures c.args.dt) in
-    (omega (arith, c.decreases, first_falls _ _ h), search rules)
-
-pub run::run_parts-returns-in-First : goal.run::run_parts-returns-in-First
-run::run_parts-returns-in-First g t c =
-    let h = planned _ (source_of c.args.from.now c.args.dt) c.args.dt _ c.in-First.is (c.plan_of-plan.ensures c.args.dt) in
-    if_ok c.run_first.result _ _ (λ r by. by _ h) c.run_first.ensures
-
-pub run::run_parts-run_par-requires : goal.run::run_parts-run_par-requires
-run::run_parts-run_par-requires g t c κs within =
-    let h : ParBy (source_of c.args.from.now c.args.dt) (sources_of c.in-Par.fs c.args.dt) =
-    planned _ (source_of c.args.from.now c.args.dt) c.args.dt _ c.in-Par.is (c.plan_of-plan.ensures c.args.dt) in
-    (omega (arith, c.decreases, par_falls _ _ h), search rules)
-
-pub run::run_parts-returns-in-Par : goal.run::run_parts-returns-in-Par
-run::run_parts-returns-in-Par g t c =
-    let h = planned _ (source_of c.args.from.now c.args.dt) c.args.dt _ c.in-Par.is (c.plan_of-plan.ensures c.args.dt) in
-    if_ok c.run_par.result _ _ (λ r by. by _ h) c.run_par.ensures
-
-pub run::run_parts-run_loop-requires : goal.run::run_parts-run_loop-requires
-run::run_parts-run_loop-requires g t c κs within =
-    let h : (keys : List KeyTree) (u : Datum) → IsFed keys c.in-LoopPre.back u
-    → LoopBy keys (source_of c.args.from.now c.args.dt) u (source_of c.in-LoopPre.f c.args.dt) =
-    planned _ (source_of c.args.from.now c.args.dt) c.args.dt _ c.in-LoopPre.is (c.plan_of-plan.ensures c.args.dt) in
-    (omega (arith, c.decreases, loop_falls _ c.in-LoopPre.back _ h), search rules)
-
-pub run::run_parts-returns-in-LoopPre : goal.run::run_parts-returns-in-LoopPre
-run::run_parts-returns-in-LoopPre g t c =
-    let h = planned _ (source_of c.args.from.now c.args.dt) c.args.dt _ c.in-LoopPre.is (c.plan_of-plan.ensures c.args.dt) in
-    if_ok c.run_loop.result _ _ (λ r by. by _ h) c.run_loop.ensures
-
-pub run::run_parts-run_switch-requires : goal.run::run_parts-run_switch-requires
-run::run_parts-run_switch-requires g t c κs within =
-    let h : SwitchBy (source_of c.args.from.now c.args.dt) (source_of c.in-Switch.f c.args.dt) (rows_in c.in-Switch.t.now) (scope_of c.in-Switch.env.now) =
-    planned _ (source_of c.args.from.now c.args.dt) c.args.dt _ c.in-Switch.is (c.plan_of-plan.ensures c.args.dt) in
-    (omega (arith, c.decreases, switch_within _ _ _ _ h), search rules)
-
-pub run::run_parts-returns-in-Switch : goal.run::run_parts-returns-in-Switch
-run::run_parts-returns-in-Switch g t c =
-    let h = planned _ (source_of c.args.from.now c.args.dt) c.args.dt _ c.in-Switch.is (c.plan_of-plan.ensures c.args.dt) in
-    if_ok c.run_switch.result _ _ (λ r by. by _ h) c.run_switch.ensures
-
-pub run::run_parts-run_d_switch-requires : goal.run::run_parts-run_d_switch-requires
-run::run_parts-run_d_switch-requires g t c κs within =
-    let h : DSwitchBy (source_of c.args.from.now c.args.dt) (source_of c.in-DSwitch.f c.args.dt) (rows_in c.in-DSwitch.t.now) (scope_of c.in-DSwitch.env.now) =
-    planned _ (source_of c.args.from.now c.args.dt) c.args.dt _ c.in-DSwitch.is (c.plan_of-plan.ensures c.args.dt) in
-    (omega (arith, c.decreases, d_switch_within _ _ _ _ h), search rules)
-
-pub run::run_parts-returns-in-DSwitch : goal.run::run_parts-returns-in-DSwitch
-run::run_parts-returns-in-DSwitch g t c =
-    let h = planned _ (source_of c.args.from.now c.args.dt) c.args.dt _ c.in-DSwitch.is (c.plan_of-plan.ensures c.args.dt) in
-    if_ok c.run_d_switch.result _ _ (λ r by. by _ h) c.run_d_switch.ensures
-
-pub run::run_parts-run_r_switch-requires : goal.run::run_parts-run_r_switch-requires
-run::run_parts-run_r_switch-requires g t c κs within =
-    let h : RSwitchBy (source_of c.args.from.now c.args.dt) (source_of c.in-RSwitch.f c.args.dt) (rows_in c.in-RSwitch.t.now) (scope_of c.in-RSwitch.env.now) =
-    planned _ (source_of c.args.from.now c.args.dt) c.args.dt _ c.in-RSwitch.is (c.plan_of-plan.ensures c.args.dt) in
-    (omega (arith, c.decreases, r_switch_within _ _ _ _ h), search rules)
-
-pub run::run_parts-returns-in-RSwitch : goal.run::run_parts-returns-in-RSwitch
-run::run_parts-returns-in-RSwitch g t c =
-    let h = planned _ (source_of c.args.from.now c.args.dt) c.args.dt _ c.in-RSwitch.is (c.plan_of-plan.ensures c.args.dt) in
-    if_ok c.run_r_switch.result _ _ (λ r by. by _ h) c.run_r_switch.ensures
-
-pub run::run_parts-run_k_switch-requires : goal.run::run_parts-run_k_switch-requires
-run::run_parts-run_k_switch-requires g t c κs within =
-    let h : KSwitchBy (source_of c.args.from.now c.args.dt) (source_of c.in-KSwitch.f c.args.dt) (source_of c.in-KSwitch.e c.args.dt) (rows_in
-    c.in-KSwitch.t.now)
-    (scope_of c.in-KSwitch.env.now) =
-    planned _ (source_of c.args.from.now c.args.dt) c.args.dt _ c.in-KSwitch.is (c.plan_of-plan.ensures c.args.dt) in
-    (omega (arith, c.decreases, k_switch_within _ _ _ _ _ h), search rules)
-
-pub run::run_parts-returns-in-KSwitch : goal.run::run_parts-returns-in-KSwitch
-run::run_parts-returns-in-KSwitch g t c =
-    let h = planned _ (source_of c.args.from.now c.args.dt) c.args.dt _ c.in-KSwitch.is (c.plan_of-plan.ensures c.args.dt) in
-    if_ok c.run_k_switch.result _ _ (λ r by. by _ h) c.run_k_switch.ensures
-
-pub run::run_parts-run_p_switch-requires : goal.run::run_parts-run_p_switch-requires
-run::run_parts-run_p_switch-requires g t c κs within =
-    let h : PSwitchBy (source_of c.args.from.now c.args.dt) (row_number c.in-PSwitch.r) (sources_of c.in-PSwitch.fs c.args.dt) (source_of
-    c.in-PSwitch.e c.args.dt)
-    (rows_in c.in-PSwitch.t.now) (scope_of c.in-PSwitch.env.now) =
-    planned _ (source_of c.args.from.now c.args.dt) c.args.dt _ c.in-PSwitch.is (c.plan_of-plan.ensures c.args.dt) in
-    (omega (arith, c.decreases, p_switch_within _ _ _ _ _ _ h), search rules)
-
-pub run::run_parts-returns-in-PSwitch : goal.run::run_parts-returns-in-PSwitch
-run::run_parts-returns-in-PSwitch g t c =
-    let h = planned _ (source_of c.args.from.now c.args.dt) c.args.dt _ c.in-PSwitch.is (c.plan_of-plan.ensures c.args.dt) in
-    if_ok c.run_p_switch.result _ _ (λ r by. by _ h) c.run_p_switch.ensures
-
-pub run::run_parts-run-requires : goal.run::run_parts-run-requires
-run::run_parts-run-requires g t c κs within =
-    let h : OldBy (source_of c.args.from.now c.args.dt) (source_of c.in-Old.frozen c.in-Old.step) =
-    planned _ (source_of c.args.from.now c.args.dt) c.args.dt _ c.in-Old.is (c.plan_of-plan.ensures c.args.dt) in
-    (omega (arith, c.decreases, old_falls _ _ h), search rules)
-
-pub run::run_parts-returns-in_ok-over-in-Old : goal.run::run_parts-returns-in_ok-over-in-Old
-run::run_parts-returns-in_ok-over-in-Old g t c =
-    let h : OldBy (source_of c.args.from.now c.args.dt) (source_of c.in-Old.frozen c.in-Old.step) =
-    planned _ (source_of c.args.from.now c.args.dt) c.args.dt _ c.in-Old.is (c.plan_of-plan.ensures c.args.dt) in
-    old_over _ _ _ _ (outcome (state_of c.run.new.place) (datum_of c.run.new.out) c.in_ok-over-in-Old.over)
-    (outcome (state_of c.run.new.place) (datum_of c.run.new.out) c.node.result) h c.in_ok-over-in-Old.ensures (refl, refl, c.node.ensures)
-
-pub run::run_parts-returns-in-Static : goal.run::run_parts-returns-in-Static
-run::run_parts-returns-in-Static g t c =
-    let h = planned _ (source_of c.args.from.now c.args.dt) c.args.dt _ c.in-Static.is (c.plan_of-plan.ensures c.args.dt) in
-    if_ok c.run_static.result _ _ (λ r by. by _ h) c.run_static.ensures
-
-pub run::run_in_line-returns-in-Static : goal.run::run_in_line-returns-in-Static
-run::run_in_line-returns-in-Static g t c = if_ok c.run_static.result _ _ (λ r h. h _ (c.in-Static.ensures c.args.dt)) c.run_static.ensures
 
 pub run::run_seq-returns-in_ok-two-in-Ok : goal.run::run_seq-returns-in_ok-two-in-Ok
 run::run_seq-returns-in_ok-two-in-Ok g t c =
@@ -368,3 +241,195 @@ members::run_each-returns-in-None g t c =
 pub members::run_all-returns-in-Ok : goal.members::run_all-returns-in-Ok
 members::run_all-returns-in-Ok g t c =
     if_ok c.new.result _ _ (λ all l. (_, c.in-Ok.ensures, l)) c.new.ensures
+
+pub step::step-returns-in-Static : goal.step::step-returns-in-Static
+step::step-returns-in-Static g t c = if_ok c.step_static.result _ _
+    (λ n h. moved _ _ _ _ _ _ _ _
+    (ap (λ k. static_state (rows_in c.in-Static.net.net.now) k.0 k.1) c.get.ensures ∙ sym (ap state_of c.in-Static.is)) h) c.step_static.ensures
+
+pub step::step-returns-in-Whole : goal.step::step-returns-in-Whole
+step::step-returns-in-Whole g t c = if_ok c.step_node.result _ _
+    (λ n h. moved _ _ _ _ _ _ _ _ (c.get-in-Whole.ensures ∙ sym (ap state_of c.in-Whole.is)) h) c.step_node.ensures
+
+pub step::step-returns-in-Nothing : goal.step::step-returns-in-Nothing
+step::step-returns-in-Nothing g t c = if_ok c.run_par.result _ _
+    (λ n by. by _ (subst (λ z. ParBy (paused z c.args.dt) (sources_of c.no_members.result c.args.dt)) (sym (ap state_of c.in-Nothing.is))
+    (subst (ParBy (paused (par_state no_state) c.args.dt)) (sym (c.no_members.ensures c.args.dt)) R.par_on))) c.run_par.ensures
+
+pub step::step_node-returns-in-Seq : goal.step::step_node-returns-in-Seq
+step::step_node-returns-in-Seq g t c = if_ok c.step_seq.result _ _
+    (λ n h. moved _ _ _ _ _ _ _ _ (sym (ap node_of c.in-Seq.is)) h) c.step_seq.ensures
+
+pub step::step_node-returns-in-First : goal.step::step_node-returns-in-First
+step::step_node-returns-in-First g t c = if_ok c.step_first.result _ _
+    (λ n h. moved _ _ _ _ _ _ _ _ (sym (ap node_of c.in-First.is)) h) c.step_first.ensures
+
+pub step::step_node-returns-in-Par : goal.step::step_node-returns-in-Par
+step::step_node-returns-in-Par g t c = if_ok c.step_par.result _ _
+    (λ n h. moved _ _ _ _ _ _ _ _ (sym (ap node_of c.in-Par.is)) h) c.step_par.ensures
+
+pub step::step_node-returns-in-LoopPre : goal.step::step_node-returns-in-LoopPre
+step::step_node-returns-in-LoopPre g t c = if_ok c.step_loop.result _ _
+    (λ n h. moved _ _ _ _ _ _ _ _ (sym (ap node_of c.in-LoopPre.is)) h) c.step_loop.ensures
+
+pub step::step_node-returns-in-Switch : goal.step::step_node-returns-in-Switch
+step::step_node-returns-in-Switch g t c = if_ok c.step_switch.result _ _
+    (λ n h. moved _ _ _ _ _ _ _ _ (sym (ap node_of c.in-Switch.is)) h) c.step_switch.ensures
+
+pub step::step_node-returns-in-DSwitch : goal.step::step_node-returns-in-DSwitch
+step::step_node-returns-in-DSwitch g t c = if_ok c.step_d_switch.result _ _
+    (λ n h. moved _ _ _ _ _ _ _ _ (sym (ap node_of c.in-DSwitch.is)) h) c.step_d_switch.ensures
+
+pub step::step_node-returns-in-RSwitch : goal.step::step_node-returns-in-RSwitch
+step::step_node-returns-in-RSwitch g t c = if_ok c.step_r_switch.result _ _
+    (λ n h. moved _ _ _ _ _ _ _ _ (sym (ap node_of c.in-RSwitch.is)) h) c.step_r_switch.ensures
+
+pub step::step_node-returns-in-KSwitch : goal.step::step_node-returns-in-KSwitch
+step::step_node-returns-in-KSwitch g t c = if_ok c.step_k_switch.result _ _
+    (λ n h. moved _ _ _ _ _ _ _ _ (sym (ap node_of c.in-KSwitch.is)) h) c.step_k_switch.ensures
+
+pub step::step_node-returns-in-PSwitch : goal.step::step_node-returns-in-PSwitch
+step::step_node-returns-in-PSwitch g t c = if_ok c.step_p_switch.result _ _
+    (λ n h. moved _ _ _ _ _ _ _ _ (ap p_switch_of c.deref.ensures ∙ sym (ap node_of c.in-PSwitch.is)) h) c.step_p_switch.ensures
+
+pub step::step_seq-returns : goal.step::step_seq-returns
+step::step_seq-returns g t c = if_ok c.run_seq.result _ _ (λ n by. by _ R.seq_on) c.run_seq.ensures
+
+pub step::step_first-returns : goal.step::step_first-returns
+step::step_first-returns g t c = if_ok c.run_first.result _ _ (λ n by. by _ R.first_on) c.run_first.ensures
+
+pub step::step_par-returns : goal.step::step_par-returns
+step::step_par-returns g t c = if_ok c.run_par.result _ _ (λ n by. by _ (par_on_by _ _ c.args.dt c.as_slice.ensures)) c.run_par.ensures
+
+pub step::step_loop-returns : goal.step::step_loop-returns
+step::step_loop-returns g t c = if_ok c.run_loop.result _ _ (λ n by. by _ (loop_on_by _ _ c.args.dt)) c.run_loop.ensures
+
+pub step::step_switch-returns : goal.step::step_switch-returns
+step::step_switch-returns g t c = if_ok c.run_switch.result _ _ (λ n by. by _ R.switch_on) c.run_switch.ensures
+
+pub step::step_d_switch-returns : goal.step::step_d_switch-returns
+step::step_d_switch-returns g t c = if_ok c.run_d_switch.result _ _ (λ n by. by _ R.d_switch_on) c.run_d_switch.ensures
+
+pub step::step_r_switch-returns : goal.step::step_r_switch-returns
+step::step_r_switch-returns g t c = if_ok c.run_r_switch.result _ _ (λ n by. by _ R.r_switch_on) c.run_r_switch.ensures
+
+pub step::step_k_switch-returns : goal.step::step_k_switch-returns
+step::step_k_switch-returns g t c = if_ok c.run_k_switch.result _ _ (λ n by. by _ R.k_switch_on) c.run_k_switch.ensures
+
+pub step::step_p_switch-returns : goal.step::step_p_switch-returns
+step::step_p_switch-returns g t c = if_ok c.run_p_switch.result _ _ (λ n by. by _ (p_switch_on_by _ _ _ _ _ _ c.args.dt c.as_slice.ensures)) c.run_p_switch.ensures
+
+pub start::start_form-run_seq-requires : goal.start::start_form-run_seq-requires
+start::start_form-run_seq-requires g t c κs within =
+    let h = seq_new_by _ _ _ _ _ (scope_of c.args.env.now) c.in-Seq.is c.get.ensures c.get-in-Seq.ensures in
+    (omega (arith, c.decreases, seq_within _ _ _ h), search rules)
+
+pub start::start_form-returns-in-Seq : goal.start::start_form-returns-in-Seq
+start::start_form-returns-in-Seq g t c = if_ok c.run_seq.result _ _
+    (λ n by. by _ (seq_new_by _ _ _ _ _ (scope_of c.args.env.now) c.in-Seq.is c.get.ensures c.get-in-Seq.ensures))
+    c.run_seq.ensures
+
+pub start::start_form-run_first-requires : goal.start::start_form-run_first-requires
+start::start_form-run_first-requires g t c κs within =
+    let h = first_new_by _ _ _ (scope_of c.args.env.now) c.in-First.is c.get-in-First.ensures in
+    (omega (arith, c.decreases, first_falls _ _ h), search rules)
+
+pub start::start_form-returns-in-First : goal.start::start_form-returns-in-First
+start::start_form-returns-in-First g t c = if_ok c.run_first.result _ _
+    (λ n by. by _ (first_new_by _ _ _ (scope_of c.args.env.now) c.in-First.is c.get-in-First.ensures))
+    c.run_first.ensures
+
+pub start::start_form-run_par-requires : goal.start::start_form-run_par-requires
+start::start_form-run_par-requires g t c κs within =
+    let h = par_new_by _ _ _ (scope_of c.args.env.now) c.in-Par.is c.as_slice.ensures in
+    (omega (arith, c.decreases, par_falls _ _ h), search rules)
+
+pub start::start_form-returns-in-Par : goal.start::start_form-returns-in-Par
+start::start_form-returns-in-Par g t c = if_ok c.run_par.result _ _
+    (λ n by. by _ (par_new_by _ _ _ (scope_of c.args.env.now) c.in-Par.is c.as_slice.ensures))
+    c.run_par.ensures
+
+pub start::start_form-run_loop-requires : goal.start::start_form-run_loop-requires
+start::start_form-run_loop-requires g t c κs within =
+    let h = loop_weighs _ _ _ _ (scope_of c.args.env.now) c.in-LoopPre.is c.get-in-LoopPre.ensures in
+    (omega (arith, c.decreases, h), search rules)
+
+pub start::start_form-returns-in-LoopPre : goal.start::start_form-returns-in-LoopPre
+start::start_form-returns-in-LoopPre g t c = if_ok c.run_loop.result _ _
+    (λ n by. by _ (loop_new_by _ _ _ _ (scope_of c.args.env.now) c.in-LoopPre.is c.get-in-LoopPre.ensures))
+    c.run_loop.ensures
+
+pub start::start_form-run_switch-requires : goal.start::start_form-run_switch-requires
+start::start_form-run_switch-requires g t c κs within =
+    let h = switch_new_by _ _ _ _ _ (scope_of c.args.env.now) c.in-Switch.is c.get-in-Switch.ensures c.get-in-Switch-2.ensures in
+    (omega (arith, c.decreases, switch_within _ _ _ _ h), search rules)
+
+pub start::start_form-returns-in-Switch : goal.start::start_form-returns-in-Switch
+start::start_form-returns-in-Switch g t c = if_ok c.run_switch.result _ _
+    (λ n by. by _ (switch_new_by _ _ _ _ _ (scope_of c.args.env.now) c.in-Switch.is c.get-in-Switch.ensures c.get-in-Switch-2.ensures))
+    c.run_switch.ensures
+
+pub start::start_form-run_d_switch-requires : goal.start::start_form-run_d_switch-requires
+start::start_form-run_d_switch-requires g t c κs within =
+    let h = d_switch_new_by _ _ _ _ _ (scope_of c.args.env.now) c.in-DSwitch.is c.get-in-DSwitch.ensures c.get-in-DSwitch-2.ensures in
+    (omega (arith, c.decreases, d_switch_within _ _ _ _ h), search rules)
+
+pub start::start_form-returns-in-DSwitch : goal.start::start_form-returns-in-DSwitch
+start::start_form-returns-in-DSwitch g t c = if_ok c.run_d_switch.result _ _
+    (λ n by. by _ (d_switch_new_by _ _ _ _ _ (scope_of c.args.env.now) c.in-DSwitch.is c.get-in-DSwitch.ensures c.get-in-DSwitch-2.ensures))
+    c.run_d_switch.ensures
+
+pub start::start_form-run_r_switch-requires : goal.start::start_form-run_r_switch-requires
+start::start_form-run_r_switch-requires g t c κs within =
+    let h = r_switch_new_by _ _ _ _ _ (scope_of c.args.env.now) c.in-RSwitch.is c.get-in-RSwitch.ensures c.get-in-RSwitch-2.ensures in
+    (omega (arith, c.decreases, r_switch_within _ _ _ _ h), search rules)
+
+pub start::start_form-returns-in-RSwitch : goal.start::start_form-returns-in-RSwitch
+start::start_form-returns-in-RSwitch g t c = if_ok c.run_r_switch.result _ _
+    (λ n by. by _ (r_switch_new_by _ _ _ _ _ (scope_of c.args.env.now) c.in-RSwitch.is c.get-in-RSwitch.ensures c.get-in-RSwitch-2.ensures))
+    c.run_r_switch.ensures
+
+pub start::start_form-run_k_switch-requires : goal.start::start_form-run_k_switch-requires
+start::start_form-run_k_switch-requires g t c κs within =
+    let h = k_switch_new_by _ _ _ _ _ _ _ (scope_of c.args.env.now) c.in-KSwitch.is c.get-in-KSwitch.ensures c.get-in-KSwitch-2.ensures c.get-in-KSwitch-3.ensures in
+    (omega (arith, c.decreases, k_switch_within _ _ _ _ _ h), search rules)
+
+pub start::start_form-returns-in-KSwitch : goal.start::start_form-returns-in-KSwitch
+start::start_form-returns-in-KSwitch g t c = if_ok c.run_k_switch.result _ _
+    (λ n by. by _ (k_switch_new_by _ _ _ _ _ _ _ (scope_of c.args.env.now) c.in-KSwitch.is c.get-in-KSwitch.ensures c.get-in-KSwitch-2.ensures c.get-in-KSwitch-3.ensures))
+    c.run_k_switch.ensures
+
+pub start::start_form-run_p_switch-requires : goal.start::start_form-run_p_switch-requires
+start::start_form-run_p_switch-requires g t c κs within =
+    let h = p_switch_new_by _ _ _ _ _ _ _ _ (scope_of c.args.env.now) c.in-PSwitch.is c.as_slice-in-PSwitch.ensures c.get-in-PSwitch.ensures c.get-in-PSwitch-2.ensures in
+    (omega (arith, c.decreases, p_switch_within _ _ _ _ _ _ h), search rules)
+
+pub start::start_form-returns-in-PSwitch : goal.start::start_form-returns-in-PSwitch
+start::start_form-returns-in-PSwitch g t c = if_ok c.run_p_switch.result _ _
+    (λ n by. by _ (p_switch_new_by _ _ _ _ _ _ _ _ (scope_of c.args.env.now) c.in-PSwitch.is c.as_slice-in-PSwitch.ensures c.get-in-PSwitch.ensures c.get-in-PSwitch-2.ensures))
+    c.run_p_switch.ensures
+
+pub start::start_form-run-requires : goal.start::start_form-run-requires
+start::start_form-run-requires g t c κs within =
+    let h = old_by _ _ (scope_of c.args.env.now) _ _ (ap rows_in c.in-Old.is) c.in-Some.ensures c.resumed-dt.ensures in
+    (omega (arith, c.decreases, old_falls _ _ h), search rules)
+
+pub start::start_form-returns-in_ok-over-in-Some : goal.start::start_form-returns-in_ok-over-in-Some
+start::start_form-returns-in_ok-over-in-Some g t c =
+    let h = old_by _ _ (scope_of c.args.env.now) _ _ (ap rows_in c.in-Old.is) c.in-Some.ensures c.resumed-dt.ensures in
+    old_over _ _ _ _ (outcome (state_of c.run.new.place) (datum_of c.run.new.out) c.in_ok-over-in-Some.over)
+    (outcome (state_of c.run.new.place) (datum_of c.run.new.out) c.node.result) h c.in_ok-over-in-Some.ensures (refl, refl, c.node.ensures)
+
+pub start::start-returns-in-Some : goal.start::start-returns-in-Some
+start::start-returns-in-Some g t c = if_ok c.run_static.result _ _
+    (λ n by. by _ (flow_new_by _ _ _ (ap rows_in (sym c.in-Some.ensures.same)))) c.run_static.ensures
+
+pub step::step_par-run_par-requires : goal.step::step_par-run_par-requires
+step::step_par-run_par-requires g t c κs within =
+    (omega (arith, c.decreases, par_falls _ _ (par_on_by _ _ c.args.dt c.as_slice.ensures)), search rules)
+
+pub step::step_p_switch-run_p_switch-requires : goal.step::step_p_switch-run_p_switch-requires
+step::step_p_switch-run_p_switch-requires g t c κs within =
+    let h = p_switch_on_by (row_number c.args.parts.now.router) _ _ (state_of c.args.parts.now.watch) (rows_in c.args.parts.now.net.now)
+    (scope_of c.args.parts.now.env) c.args.dt c.as_slice.ensures in
+    (omega (arith, c.decreases, p_switch_within _ _ _ _ _ _ h), search rules)

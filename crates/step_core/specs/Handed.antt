@@ -1,4 +1,4 @@
--- What a plan says of what runs.
+-- What members and the part of a `loopPre` are handed.
 use Rattle.std.specs.Prelude.{◌≡◌, ℕ, pos, List}
 use Rattle.sample_core.specs.Datum.{Datum, unit, pair, int}
 use Rattle.sample_core.specs.ValueView.{datum_of}
@@ -11,12 +11,10 @@ use Rattle.step_core.specs.Flow.{IsFlow, past_in}
 use Rattle.step_core.specs.SourceView.{source_of, sources_of}
 use Rattle.step_core.specs.Outcome.{Outcome}
 use Rattle.step_core.specs.Runs.{SeqBy, FirstBy, ParBy, LoopBy, SwitchBy, DSwitchBy, RSwitchBy, KSwitchBy, PSwitchBy, OldBy, Router, RunsWhere, to_all, by_row}
-use Rattle.step_core.specs.declared.plan.Plan.{Plan}
-use Rattle.step_core.specs.declared.plan.Plan.TheVariants as P
-use Rattle.step_core.specs.declared.plan.Route.{Route}
-use Rattle.step_core.specs.declared.plan.Route.TheVariants as W
-use Rattle.step_core.specs.declared.plan.Back.{Back}
-use Rattle.step_core.specs.declared.plan.Back.TheVariants as B
+use Rattle.step_core.specs.declared.source.Route.{Route}
+use Rattle.step_core.specs.declared.source.Route.TheVariants as W
+use Rattle.step_core.specs.declared.source.Back.{Back}
+use Rattle.step_core.specs.declared.source.Back.TheVariants as B
 
 -- u is what is fed back
 abbrev pub IsFed : List KeyTree → Back → Datum → Type 0
@@ -41,21 +39,3 @@ IsRouted keys (by_row r ps) i x y = Called keys r ps (pair x (int (pos i))) y
 abbrev pub RunsMember : List KeyTree → Router → ℕ → Frozen ℕ → Datum → Outcome → Type 0
 RunsMember keys h i w x r = (y : Datum) × IsRouted keys h i x y
     × RunsWhere keys w y r.state r.answer r.visits
-
--- w, whose next sample comes after the step d, runs by the plan's parts
-abbrev pub PlanBy : Frozen ℕ → ℕ → Plan → Type 0
-PlanBy w d (P.Static f ps ks) = IsFlow w (rows_in f.net.now) ps.now (past_in ks d)
-PlanBy w d (P.Seq f g) = SeqBy w (source_of f d) (source_of g d)
-PlanBy w d (P.First f) = FirstBy w (source_of f d)
-PlanBy w d (P.Par fs) = ParBy w (sources_of fs d)
-PlanBy w d (P.LoopPre b f) = (keys : List KeyTree) (u : Datum) → IsFed keys b u
-    → LoopBy keys w u (source_of f d)
-PlanBy w d (P.Switch f t s) = SwitchBy w (source_of f d) (rows_in t.now) (scope_of s.now)
-PlanBy w d (P.DSwitch f t s) = DSwitchBy w (source_of f d) (rows_in t.now) (scope_of s.now)
-PlanBy w d (P.RSwitch f t s) = RSwitchBy w (source_of f d) (rows_in t.now) (scope_of s.now)
-PlanBy w d (P.KSwitch f e t s) =
-    KSwitchBy w (source_of f d) (source_of e d) (rows_in t.now) (scope_of s.now)
-PlanBy w d (P.PSwitch r fs e t s) =
-    PSwitchBy w (row_number r) (sources_of fs d) (source_of e d) (rows_in t.now) (scope_of s.now)
-PlanBy w d (P.Old f k) = OldBy w (source_of f k)
-PlanBy w d P.Beyond = Unit {0}
