@@ -4,7 +4,7 @@ ghost use Rattle.std.specs.Prelude.{◌≡◌, List, IfOk};
 ghost use Rattle.sample_core.specs.{Datum.Datum, ValueView.datum_of};
 ghost use Rattle.leaf_core.specs.KeyTree.{KeyTree};
 ghost use Rattle.state_core.specs.{RowsView.rows_in, RowsView.row_number};
-ghost use Rattle.state_core.specs.Around.{first_part, second_part};
+ghost use Rattle.state_core.specs.{State.seq_state, Around.first_part, Around.second_part};
 ghost use Rattle.state_core.specs.StateView.{state_of, node_of, scope_of};
 ghost use Rattle.step_core.specs.Outcome.{RunsBy, TakesOver, TakesOverLate, outcome};
 ghost use Rattle.step_core.specs.Handed.{IsFed};
@@ -266,12 +266,99 @@ pub(crate) fn run_seq<'n, R: Rows>(
         (λ w. SeqBy w (source_of f.now dt) (source_of g.now dt))
         (datum_of x.now) (outcome (state_of place.new) (datum_of out.new) n)) }
 {
+    if let State::Whole(whole) = place {
+        if let Some(node) = Rc::get_mut(&mut whole.node) {
+            return run_seq_in(alloc, rows, f, g, dt, x, node, out);
+        }
+    }
+    let (node, visits) = run_seq_anew(alloc, rows, f, g, dt, x, out)?;
+    place.put(alloc, node)?;
+    Ok(visits)
+}
+
+/// The same in the place of a node.
+#[cycle(run)]
+#[inline(always)]
+fn run_seq_in<'n, R: Rows>(
+    alloc: Global,
+    rows: &R,
+    f: &Source<'_, 'n>,
+    g: &Source<'_, 'n>,
+    dt: u64,
+    x: &Sample,
+    node: &mut Node<'n>,
+    out: &mut Sample,
+) -> Result<u32, Memory>
+    ensures { IfOk result (λ n.
+        RunsBy (R.keys rows.now)
+        (λ w. SeqBy w (source_of f.now dt) (source_of g.now dt))
+        (datum_of x.now) (outcome (node_of node.new) (datum_of out.new) n)) }
+{
+    match node {
+        Node::Seq(parts) => run_both(alloc, rows, f, g, dt, x, parts, out),
+        _ => {
+            let (fresh, visits) = run_seq_anew(alloc, rows, f, g, dt, x, out)?;
+            drop(std::mem::replace(node, fresh));
+            Ok(visits)
+        }
+    }
+}
+
+/// The same as a node of its own, with the visits.
+#[cycle(run)]
+#[inline(never)]
+fn run_seq_anew<'n, R: Rows>(
+    alloc: Global,
+    rows: &R,
+    f: &Source<'_, 'n>,
+    g: &Source<'_, 'n>,
+    dt: u64,
+    x: &Sample,
+    out: &mut Sample,
+) -> Result<(Node<'n>, u32), Memory>
+    ensures { IfOk result (λ r.
+        RunsBy (R.keys rows.now)
+        (λ w. SeqBy w (source_of f.now dt) (source_of g.now dt))
+        (datum_of x.now) (outcome (node_of r.0) (datum_of out.new) r.1)) }
+{
+    let mut parts = SeqParts {
+        first: State::Nothing,
+        second: State::Nothing,
+    };
+    match run_both(alloc, rows, f, g, dt, x, &mut parts, out) {
+        Ok(visits) => Ok((Node::Seq(parts), visits)),
+        Err(memory) => {
+            drop(parts);
+            Err(memory)
+        }
+    }
+}
+
+/// The same in the places of two parts.
+#[cycle(run)]
+#[inline(always)]
+fn run_both<'n, R: Rows>(
+    alloc: Global,
+    rows: &R,
+    f: &Source<'_, 'n>,
+    g: &Source<'_, 'n>,
+    dt: u64,
+    x: &Sample,
+    parts: &mut SeqParts<'n>,
+    out: &mut Sample,
+) -> Result<u32, Memory>
+    ensures { IfOk result (λ n.
+        RunsBy (R.keys rows.now)
+        (λ w. SeqBy w (source_of f.now dt) (source_of g.now dt))
+        (datum_of x.now) (outcome (seq_state (state_of parts.new.first)
+        (state_of parts.new.second)) (datum_of out.new) n)) }
+{
     let mut between = Sample::Int(0);
-    match run_part(alloc, rows, f, dt, x, place, &mut between) {
+    match run(alloc, rows, f, dt, x, &mut parts.first, &mut between) {
         Ok(one) => {
-            let two = run_second(alloc, rows, g, dt, &between, place, out);
+            let two = run(alloc, rows, g, dt, &between, &mut parts.second, out);
             between.let_go();
-            round(alloc, Around::Seq, one, two?, place)
+            Ok(count::node(one, two?))
         }
         Err(memory) => {
             drop(between);

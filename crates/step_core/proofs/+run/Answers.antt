@@ -3,7 +3,7 @@ use Rattle.leaf_core.specs.KeyTree.{KeyTree}
 use Rattle.sample_core.specs.Datum.{Datum, pair}
 use Rattle.sample_core.specs.ValueView.{datum_of}
 use Rattle.state_core.specs.RowsView.{rows_in, row_number}
-use Rattle.state_core.specs.State.{paused, par_state, no_state, push_param, push_old, push_olds}
+use Rattle.state_core.specs.State.{seq_state, paused, par_state, no_state, push_param, push_old, push_olds}
 use Rattle.state_core.specs.StaticNetwork.{static_state}
 use Rattle.state_core.specs.Around.{first_part, second_part}
 use Rattle.state_core.specs.StateView.{scope_of, state_of, node_of, p_switch_of}
@@ -19,13 +19,12 @@ use Rattle.step_core.proofs.RunMembers.{none_run, also_run, member_ran, one_adde
 use Rattle.step_core.proofs.PartForms.{moved, flow_new_by, seq_new_by, first_new_by, par_new_by, loop_new_by, switch_new_by, d_switch_new_by, r_switch_new_by, k_switch_new_by, p_switch_new_by, par_on_by, loop_on_by, p_switch_on_by, old_by}
 use Rattle.step_core.proofs.+run.Goals as goal
 
-pub run::run_seq-returns-in_ok-two-in-Ok : goal.run::run_seq-returns-in_ok-two-in-Ok
-run::run_seq-returns-in_ok-two-in-Ok g t c =
-    if_ok c.round.result _ _
-    (λ n j w h. seq_joined _ w _ _ _ _ (outcome (first_part (state_of c.run_second-two.new.place)) (datum_of c.run_part.new.out) c.in-Ok.one)
-    (outcome (second_part (state_of c.run_second-two.new.place)) (datum_of c.run_second-two.new.out) c.in_ok-two-in-Ok.field-0)
-    (outcome (state_of c.round.new.place) (datum_of c.run_second-two.new.out) n) h
-    (stays _ _ _ _ _ _ _ c.in_ok-two-in-Ok.ensures.0 c.in-Ok.ensures) refl c.in_ok-two-in-Ok.ensures.1 (j.0, refl, j.1)) c.round.ensures
+pub run::run_both-returns-in_ok-two-in-Ok : goal.run::run_both-returns-in_ok-two-in-Ok
+run::run_both-returns-in_ok-two-in-Ok g t c = λ w h.
+    seq_joined _ w _ _ _ _ (outcome (state_of c.run.new.place) (datum_of c.run.new.out) c.in-Ok.one)
+    (outcome (state_of c.run-two.new.place) (datum_of c.run-two.new.out) c.in_ok-two-in-Ok.field-0)
+    (outcome (seq_state (state_of c.run.new.place) (state_of c.run-two.new.place)) (datum_of c.run-two.new.out) c.node.result) h
+    c.in-Ok.ensures refl c.in_ok-two-in-Ok.ensures (refl, refl, c.node.ensures)
 
 pub run::run_first-returns-in_ok-both-in-Ok : goal.run::run_first-returns-in_ok-both-in-Ok
 run::run_first-returns-in_ok-both-in-Ok g t c =
