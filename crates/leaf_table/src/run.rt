@@ -136,15 +136,21 @@ pub fn run_again(
     match eval_over(alloc, &key.expr, params, x, &mut place) {
         Ok(()) => match place {
             Sample::Int(n) => Ok(Sample::Int(n)),
-            value => {
-                let answer = copied(alloc, &value);
-                drop(last.replace(value));
-                answer
-            }
+            value => kept(alloc, last, value),
         },
         Err(Memory) => {
             drop(place);
             Err(AllocError)
         }
     }
+}
+
+/// The value, of which `last` keeps a copy. `AllocError` only where a count of references is full.
+#[inline(never)]
+fn kept(alloc: Global, last: &Cell<Sample>, value: Sample) -> Result<Sample, AllocError>
+    ensures { IfOk result (λ v. datum_of v ≡ datum_of value) }
+{
+    let answer = copied(alloc, &value);
+    drop(last.replace(value));
+    answer
 }

@@ -9,7 +9,7 @@ abbrev pub runner_state : {d : _} {f : _} {m : _} → Runner d f m → RunnerSta
 runner_state r =
     record {
       input = r.bound.now.input;
-      keys = rows_of r.table.now;
+      keys = rows_of r.workspace.table.now;
       rows = r.bound.now.rows;
       state = state_in r.state;
       samples = r.samples;

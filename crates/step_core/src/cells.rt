@@ -9,7 +9,6 @@ ghost use Rattle.state_core.specs.State.{Scope, accum_state, cell_state, params_
 ghost use Rattle.step_core.specs.{Called.IsConstant, Called.IsPutIn, Flow.IsAccumAdded, Flow.IsCell, Flow.number_of};
 ghost use Rattle.step_core.specs.Runs.{RunsWhere};
 
-use crate::part::beside;
 use crate::rows::Rows;
 use cell_core::{Cell, Form};
 use leaf_table::LeafId;
@@ -139,9 +138,9 @@ fn put_event<R: Rows>(
     ensures { IfOk result (λ a. IsPutIn (R.keys rows.now) (row_number g)
         (map datum_of params.now) (datum_of held.now) (event (datum_of value.now)) (datum_of a)) }
 {
-    let input = beside(alloc, held, value)?;
+    let input = rows.pair(alloc, held, value)?;
     let answer = rows.call(g, params, &input);
-    drop(input);
+    rows.give_back(input);
     let event = SampleChild::new(alloc, answer?)?;
     Ok(Sample::Event(event))
 }

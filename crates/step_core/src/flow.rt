@@ -11,7 +11,7 @@ ghost use Rattle.step_core.specs.Called.{Called};
 ghost use Rattle.step_core.specs.Flow.{Flows, AllFlow, IsCell, IsFedBack, IsKept, number_of, past_in};
 
 use crate::cells::{start_accum, start_cell, step_accum};
-use crate::part::{beside, first, paired_with, second};
+use crate::part::{first, paired_with, second};
 use crate::rows::Rows;
 use cell_core::{Cell, Form};
 use leaf_table::LeafId;
@@ -229,7 +229,7 @@ fn flow_loop<R: Rows>(
     let input = feed(on, c, x, cells)?;
     let mut answer = Sample::Int(0);
     let done = flow(on, f, &input, cells, &mut answer);
-    drop(input);
+    on.rows.give_back(input);
     match done {
         Ok(()) => keep_fed(on.alloc, answer, at, cells, out),
         Err(memory) => {
@@ -252,7 +252,7 @@ fn feed<R: Rows>(
         cells.old cells.new (datum_of y)) }
 {
     let value = value_before(on, c, cells.len())?;
-    match beside(on.alloc, x, &value) {
+    match on.rows.pair(on.alloc, x, &value) {
         Ok(input) => hold_place(value, input, cells),
         Err(memory) => {
             drop(value);

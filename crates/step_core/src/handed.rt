@@ -5,7 +5,6 @@ ghost use Rattle.sample_core.specs.{Datum.Datum, Datum.int, Datum.pair, ValueVie
 ghost use Rattle.state_core.specs.RowsView.{row_number};
 ghost use Rattle.step_core.specs.{Called.Called, Handed.IsAsked, Handed.IsFed};
 
-use crate::part::beside;
 use crate::rows::Rows;
 use crate::source::{Back, Route};
 use leaf_table::LeafId;
@@ -75,10 +74,10 @@ pub(crate) fn fed<R: Rows>(
     match back {
         Back::Row(c, params) => {
             let value = rows.call(c, params.as_slice(), &Sample::Unit)?;
-            let input = beside(alloc, x, &value);
+            let input = rows.pair(alloc, x, &value);
             drop(value);
             input
         }
-        Back::Value(value) => beside(alloc, x, value),
+        Back::Value(value) => rows.pair(alloc, x, value),
     }
 }

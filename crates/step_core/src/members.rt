@@ -11,7 +11,6 @@ ghost use Rattle.step_core.specs.SourceView.{source_of, sources_of};
 use crate::count;
 use crate::each::{Listed, count_of, first_of, make_place, member_places};
 use crate::handed::{Handing, routed};
-use crate::part::beside;
 use crate::rows::Rows;
 use crate::run::{run, run_part};
 use crate::source::{Route, Source, Sources};
@@ -140,8 +139,8 @@ pub(crate) fn run_members_watch<'n, R: Rows>(
         RunsWhere (R.keys rows.now) (source_of e.now dt) (pair (datum_of x.now) (datum_of y.now))
         (first_part (state_of place.new)) (datum_of out.new) n) }
 {
-    let seen = beside(alloc, x, y)?;
+    let seen = rows.pair(alloc, x, y)?;
     let two = run_part(alloc, rows, e, dt, &seen, place, out);
-    drop(seen);
+    rows.give_back(seen);
     two
 }

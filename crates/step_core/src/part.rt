@@ -57,6 +57,44 @@ pub(crate) fn beside(alloc: Global, v: &Sample, w: &Sample) -> Result<Sample, Me
     paired_with(alloc, v, w)
 }
 
+/// Puts the pair of copies of two values in the place of another value: in its memory, where that
+/// is a pair that no one else holds. `Memory` where a growth was refused.
+pub(crate) fn put_pair(
+    alloc: Global,
+    v: &Sample,
+    w: &Sample,
+    place: &mut Sample,
+) -> Result<(), Memory>
+    ensures { IfOk result (λ _. datum_of place.new ≡ pair (datum_of v.now) (datum_of w.now)) }
+{
+    if let Sample::Pair(parts) = place {
+        if let Some(first) = parts.first_mut() {
+            copy_over(alloc, v, first)?;
+            if let Some(second) = parts.second_mut() {
+                return copy_over(alloc, w, second);
+            }
+        }
+    }
+    let fresh = beside(alloc, v, w)?;
+    place.put(fresh);
+    Ok(())
+}
+
+/// A copy of the value in the place of another: of a number at once. `Memory` only where a count
+/// of references is full.
+#[inline(always)]
+fn copy_over(alloc: Global, value: &Sample, place: &mut Sample) -> Result<(), Memory>
+    ensures { IfOk result (λ _. datum_of place.new ≡ datum_of value.now) }
+{
+    if let Sample::Int(n) = value {
+        place.put_int(*n);
+        return Ok(());
+    }
+    let copy = value.try_copy(alloc)?;
+    place.put(copy);
+    Ok(())
+}
+
 /// What an event carries; `None` for another value.
 pub(crate) fn event_of(value: &Sample) -> Option<&Sample>
     ensures { event_found result ≡ event_in (datum_of value.now) }

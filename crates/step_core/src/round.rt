@@ -7,7 +7,7 @@ ghost use Rattle.state_core.specs.{Around.first_part, Around.node_round, State.l
 use crate::count;
 use crate::part::{first, second};
 use sample_core::{Memory, Sample};
-use state_core::{Around, State};
+use state_core::{Around, Node, SeqParts, State};
 use std::alloc::Global;
 
 /// The node round the parts that stand in the place. Answers its visits and those of its parts.
@@ -25,6 +25,24 @@ pub(crate) fn round<'n>(
 {
     place.put_round(alloc, around)?;
     Ok(count::node(one, two))
+}
+
+/// The places of two parts, in which nothing stands.
+pub(crate) fn no_parts<'n>() -> SeqParts<'n> {
+    SeqParts {
+        first: State::Nothing,
+        second: State::Nothing,
+    }
+}
+
+/// The parts of a node as the places of two parts; in their places nothing stands then.
+pub(crate) fn take_parts<'n>(node: &mut Node<'n>) -> SeqParts<'n> {
+    let second = match node {
+        Node::KSwitch(parts) => std::mem::replace(&mut parts.watch, State::Nothing),
+        _ => State::Nothing,
+    };
+    let first = node.take_first();
+    SeqParts { first, second }
 }
 
 /// Puts out the first part of a pair, or another value itself. `Memory` only where a count of

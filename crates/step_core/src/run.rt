@@ -6,7 +6,7 @@ ghost use Rattle.leaf_core.specs.KeyTree.{KeyTree};
 ghost use Rattle.state_core.specs.{RowsView.rows_in, RowsView.row_number};
 ghost use Rattle.state_core.specs.{State.seq_state, Around.first_part, Around.second_part};
 ghost use Rattle.state_core.specs.StateView.{state_of, node_of, scope_of};
-ghost use Rattle.step_core.specs.Outcome.{RunsBy, TakesOver, TakesOverLate, outcome};
+ghost use Rattle.step_core.specs.Outcome.{RunsBy, StartsAnew, TakesOver, TakesOverLate, outcome};
 ghost use Rattle.step_core.specs.Handed.{IsFed};
 ghost use Rattle.step_core.specs.Runs.{RunsWhere, SeqBy, FirstBy, ParBy, LoopBy, SwitchBy, DSwitchBy, RSwitchBy, KSwitchBy, PSwitchBy};
 ghost use Rattle.step_core.specs.SourceView.{source_of, sources_of};
@@ -16,8 +16,8 @@ use crate::each::{join_par, keep_p_switch};
 use crate::fire::{Stopped, fire, fire_old};
 use crate::handed::fed;
 use crate::members::{run_all, run_members_watch};
-use crate::part::{beside, first, paired_with, restart_of, second};
-use crate::round::{join_loop, keep_first, put_first, round};
+use crate::part::{first, paired_with, restart_of, second};
+use crate::round::{join_loop, keep_first, no_parts, put_first, round, take_parts};
 use crate::rows::Rows;
 use crate::source::{Back, Route, Source, Sources};
 use crate::start::start;
@@ -271,9 +271,38 @@ pub(crate) fn run_seq<'n, R: Rows>(
             return run_seq_in(alloc, rows, f, g, dt, x, node, out);
         }
     }
-    let (node, visits) = run_seq_anew(alloc, rows, f, g, dt, x, out)?;
-    place.put(alloc, node)?;
-    Ok(visits)
+    run_seq_apart(alloc, rows, f, g, dt, x, place, out)
+}
+
+/// The same where what stands in the place is no node, or someone else's.
+#[cycle(run)]
+#[inline(never)]
+fn run_seq_apart<'n, R: Rows>(
+    alloc: Global,
+    rows: &R,
+    f: &Source<'_, 'n>,
+    g: &Source<'_, 'n>,
+    dt: u64,
+    x: &Sample,
+    place: &mut State<'n>,
+    out: &mut Sample,
+) -> Result<u32, Memory>
+    ensures { IfOk result (λ n.
+        RunsBy (R.keys rows.now)
+        (λ w. SeqBy w (source_of f.now dt) (source_of g.now dt))
+        (datum_of x.now) (outcome (state_of place.new) (datum_of out.new) n)) }
+{
+    let mut node = Node::Seq(no_parts());
+    match run_seq_in(alloc, rows, f, g, dt, x, &mut node, out) {
+        Ok(visits) => {
+            place.put(alloc, node)?;
+            Ok(visits)
+        }
+        Err(memory) => {
+            drop(node);
+            Err(memory)
+        }
+    }
 }
 
 /// The same in the place of a node.
@@ -296,37 +325,34 @@ fn run_seq_in<'n, R: Rows>(
 {
     match node {
         Node::Seq(parts) => run_both(alloc, rows, f, g, dt, x, parts, out),
-        _ => {
-            let (fresh, visits) = run_seq_anew(alloc, rows, f, g, dt, x, out)?;
-            drop(std::mem::replace(node, fresh));
-            Ok(visits)
-        }
+        _ => run_seq_over(alloc, rows, f, g, dt, x, node, out),
     }
 }
 
-/// The same as a node of its own, with the visits.
+/// The same in the place of a node of another form.
 #[cycle(run)]
 #[inline(never)]
-fn run_seq_anew<'n, R: Rows>(
+fn run_seq_over<'n, R: Rows>(
     alloc: Global,
     rows: &R,
     f: &Source<'_, 'n>,
     g: &Source<'_, 'n>,
     dt: u64,
     x: &Sample,
+    node: &mut Node<'n>,
     out: &mut Sample,
-) -> Result<(Node<'n>, u32), Memory>
-    ensures { IfOk result (λ r.
+) -> Result<u32, Memory>
+    ensures { IfOk result (λ n.
         RunsBy (R.keys rows.now)
         (λ w. SeqBy w (source_of f.now dt) (source_of g.now dt))
-        (datum_of x.now) (outcome (node_of r.0) (datum_of out.new) r.1)) }
+        (datum_of x.now) (outcome (node_of node.new) (datum_of out.new) n)) }
 {
-    let mut parts = SeqParts {
-        first: State::Nothing,
-        second: State::Nothing,
-    };
+    let mut parts = take_parts(node);
     match run_both(alloc, rows, f, g, dt, x, &mut parts, out) {
-        Ok(visits) => Ok((Node::Seq(parts), visits)),
+        Ok(visits) => {
+            drop(std::mem::replace(node, Node::Seq(parts)));
+            Ok(visits)
+        }
         Err(memory) => {
             drop(parts);
             Err(memory)
@@ -441,7 +467,7 @@ pub(crate) fn run_loop<'n, R: Rows>(
     let input = fed(alloc, rows, back, x)?;
     let mut answer = Sample::Int(0);
     let one = run_part(alloc, rows, f, dt, &input, place, &mut answer);
-    drop(input);
+    rows.give_back(input);
     match one {
         Ok(one) => {
             join_loop(alloc, answer, place, out)?;
@@ -558,19 +584,37 @@ pub(crate) fn run_r_switch<'n, R: Rows>(
         (datum_of x.now) (outcome (state_of place.new) (datum_of out.new) n)) }
 {
     match restart_of(x) {
-        Some((u, event)) => {
-            let inner = push_param(alloc, env, event)?;
-            let one = run_part(alloc, rows, &Source::Net(t, &inner), 0, u, place, out);
-            drop(inner);
-            let around = Around::Switch(Turn::Recurring, t, env);
-            round(alloc, around, one?, 0, place)
-        }
+        Some((u, event)) => run_restart(alloc, rows, t, env, u, event, place, out),
         None => {
             let one = run_part(alloc, rows, f, dt, first(x), place, out)?;
             let around = Around::Switch(Turn::Recurring, t, env);
             round(alloc, around, one, 0, place)
         }
     }
+}
+
+/// An `rSwitch` at an event, which starts its network anew with what the event carries in scope.
+#[cycle(run)]
+#[inline(never)]
+fn run_restart<'n, R: Rows>(
+    alloc: Global,
+    rows: &R,
+    t: &'n Net<LeafId>,
+    env: &Env<'n>,
+    x: &Sample,
+    event: &Sample,
+    place: &mut State<'n>,
+    out: &mut Sample,
+) -> Result<u32, Memory>
+    ensures { IfOk result (λ n.
+        StartsAnew (R.keys rows.now) (rows_in t.entry.now) (scope_of env.now) (datum_of x.now)
+        (datum_of event.now) (outcome (state_of place.new) (datum_of out.new) n)) }
+{
+    let inner = push_param(alloc, env, event)?;
+    let one = run_part(alloc, rows, &Source::Net(t, &inner), 0, x, place, out);
+    drop(inner);
+    let around = Around::Switch(Turn::Recurring, t, env);
+    round(alloc, around, one?, 0, place)
 }
 
 /// `kSwitch` likewise, with the part that watches.
@@ -595,10 +639,10 @@ pub(crate) fn run_k_switch<'n, R: Rows>(
         (datum_of x.now) (outcome (state_of place.new) (datum_of out.new) n)) }
 {
     let one = run_part(alloc, rows, f, dt, x, place, out)?;
-    let seen = beside(alloc, x, out)?;
+    let seen = rows.pair(alloc, x, out)?;
     let mut event = Sample::Int(0);
     let two = run_second(alloc, rows, e, dt, &seen, place, &mut event);
-    drop(seen);
+    rows.give_back(seen);
     match two {
         Ok(two) => {
             let fired = fire_old(alloc, &event, env, Stopped::One(*f), dt);

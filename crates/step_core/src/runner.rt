@@ -6,12 +6,14 @@ ghost use Rattle.leaf_table.specs.Rows.{rows_of};
 ghost use Rattle.step_core.specs.{Binding.FitsTable, RunnerState.HasPast, StateOption.state_in};
 
 use crate::bound::Bound;
+use crate::rows::Workspace;
 use crate::run::run_in_line;
 use crate::source::Source;
 use leaf_table::LeafTable;
 use sample_core::{Memory, Sample};
 use state_core::{Env, State};
 use std::alloc::Global;
+use std::cell::Cell;
 
 /// A network that runs. It borrows the network and the table, and holds the network's state, once
 /// it has started. What it holds stands for the samples that it got.
@@ -19,7 +21,7 @@ use std::alloc::Global;
 pub struct Runner<'a> {
     alloc: Global,
     bound: &'a Bound,
-    table: &'a LeafTable,
+    workspace: Workspace<'a>,
     state: Option<State<'a>>,
     samples: u64,
     visits: u32,
@@ -27,7 +29,7 @@ pub struct Runner<'a> {
     place: State<'a>,
     ghost past: { HasPast (record {
       input = bound.now.input;
-      keys = rows_of table.now;
+      keys = rows_of workspace.table.now;
       rows = bound.now.rows;
       state = state_in state;
       samples = samples;
@@ -53,7 +55,10 @@ impl<'a> Runner<'a> {
         Runner {
             alloc,
             bound,
-            table,
+            workspace: Workspace {
+                table,
+                spare: Cell::new(Sample::Unit),
+            },
             state: None,
             samples: 0,
             visits: 0,
@@ -84,7 +89,7 @@ impl<'a> Runner<'a> {
         let mut answer = Sample::Int(0);
         match run_in_line(
             self.alloc,
-            self.table,
+            &self.workspace,
             &from,
             step,
             sample,

@@ -3,14 +3,14 @@ use Rattle.leaf_core.specs.KeyTree.{KeyTree}
 use Rattle.sample_core.specs.Datum.{Datum, pair}
 use Rattle.sample_core.specs.ValueView.{datum_of}
 use Rattle.state_core.specs.RowsView.{rows_in, row_number}
-use Rattle.state_core.specs.State.{seq_state, paused, par_state, no_state, push_param, push_old, push_olds}
+use Rattle.state_core.specs.State.{seq_state, paused, unstarted, par_state, no_state, push_param, push_old, push_olds}
 use Rattle.state_core.specs.StaticNetwork.{static_state}
 use Rattle.state_core.specs.Around.{first_part, second_part}
 use Rattle.state_core.specs.StateView.{scope_of, state_of, node_of, p_switch_of}
 use Rattle.step_core.specs.EventView.{restart_found}
 use Rattle.step_core.specs.Handed.{router_of}
 use Rattle.step_core.specs.Runs as R
-use Rattle.step_core.specs.Runs.{RunEachWhere, to_all, by_row, ParBy}
+use Rattle.step_core.specs.Runs.{RunsWhere, RunEachWhere, to_all, by_row, ParBy}
 use Rattle.step_core.specs.Outcome.{gathered, outcome}
 use Rattle.step_core.specs.SourceView.{source_of, sources_of}
 use Rattle.step_core.proofs.Falling.{members_fall, seq_within, first_falls, par_falls, loop_weighs, switch_within, d_switch_within, r_switch_within, k_switch_within, p_switch_within, old_falls, over_weighs, over_old_weighs, over_olds_weighs}
@@ -87,23 +87,35 @@ run::run_d_switch-returns-in_ok-keep_first-in-Ok-None g t c =
     λ w h. d_switch_kept _ w _ _ _ _ (outcome (first_part (state_of c.run_part.new.place)) (datum_of c.run_part.new.out) c.in-Ok.one)
     (outcome (state_of c.keep_first.new.place) (datum_of c.keep_first.new.out) c.node.result) h c.in-Ok.ensures fires (kept.0, kept.1, c.node.ensures)
 
-pub run::run_r_switch-returns-in_ok-one-in-Some : goal.run::run_r_switch-returns-in_ok-one-in-Some
-run::run_r_switch-returns-in_ok-one-in-Some g t c =
-    let cut = sym c.restart_of.ensures ∙ ap restart_found c.in-Some.is in
+pub run::run_restart-run_part-one-requires : goal.run::run_restart-run_part-one-requires
+run::run_restart-run_part-one-requires g t c κs within =
+    (omega (arith, c.decreases, over_weighs (rows_in c.args.t.now) (scope_of c.args.env.now) _ _ c.in_ok-inner.ensures), search rules)
+
+pub run::run_restart-returns : goal.run::run_restart-returns
+run::run_restart-returns g t c =
     if_ok c.round.result _ _
-    (λ n j w h. r_switch_over _ w _ _ _ (scope_of c.in_ok-inner-in-Some.inner) _ _ _
-    (outcome (first_part (state_of c.run_part-one.new.place)) (datum_of c.run_part-one.new.out) c.in_ok-one-in-Some.field-0)
-    (outcome (state_of c.round.new.place) (datum_of c.run_part-one.new.out) n) h cut c.in_ok-inner-in-Some.ensures
-    c.in_ok-one-in-Some.ensures (j.0, refl, j.1)) c.round.ensures
+    (λ n j. (
+      outcome (first_part (state_of c.run_part-one.new.place)) (datum_of c.run_part-one.new.out) c.in_ok-one.field-0,
+      subst (λ z. RunsWhere (g.R.Rows.keys c.args.rows.now) (unstarted (rows_in c.args.t.now) z) (datum_of c.args.x.now)
+          (first_part (state_of c.run_part-one.new.place)) (datum_of c.run_part-one.new.out) c.in_ok-one.field-0) c.in_ok-inner.ensures c.in_ok-one.ensures,
+      (j.0, refl, j.1),
+    )) c.round.ensures
+
+pub run::run_r_switch-returns-in-Some : goal.run::run_r_switch-returns-in-Some
+run::run_r_switch-returns-in-Some g t c =
+    let cut = sym c.restart_of.ensures ∙ ap restart_found c.in-Some.is in
+    if_ok c.run_restart.result _ _
+    (λ n k w h. r_switch_over _ w _ _ _ _ _ _ _ k.0 (outcome (state_of c.run_restart.new.place) (datum_of c.run_restart.new.out) n) h cut refl k.1 k.2)
+    c.run_restart.ensures
 
 pub run::run_r_switch-returns-in_ok-one-in-None : goal.run::run_r_switch-returns-in_ok-one-in-None
 run::run_r_switch-returns-in_ok-one-in-None g t c =
     let cut = sym c.restart_of.ensures ∙ ap restart_found c.in-None.is in
-    if_ok c.round-in-None.result _ _
+    if_ok c.round.result _ _
     (λ n j w h. r_switch_kept _ w _ _ _ _ _
     (outcome (first_part (state_of c.run_part.new.place)) (datum_of c.run_part.new.out) c.in_ok-one-in-None.one)
-    (outcome (state_of c.round-in-None.new.place) (datum_of c.run_part.new.out) n) h c.first.ensures cut
-    c.in_ok-one-in-None.ensures (j.0, refl, j.1)) c.round-in-None.ensures
+    (outcome (state_of c.round.new.place) (datum_of c.run_part.new.out) n) h c.first.ensures cut
+    c.in_ok-one-in-None.ensures (j.0, refl, j.1)) c.round.ensures
 
 pub run::run_k_switch-run_over-requires : goal.run::run_k_switch-run_over-requires
 run::run_k_switch-run_over-requires g t c κs within =

@@ -26,14 +26,17 @@ decreases-run::run_apart g l = 10 * frozen_rank (source_of l.from.now l.dt) + 5
 abbrev pub decreases-run::run_seq : goal.decreases-run::run_seq
 decreases-run::run_seq g l = 10 * (frozen_rank (source_of l.f.now l.dt) + frozen_rank (source_of l.g.now l.dt)) + 9
 
-abbrev pub decreases-run::run_seq_in : goal.decreases-run::run_seq_in
-decreases-run::run_seq_in g l = 10 * (frozen_rank (source_of l.f.now l.dt) + frozen_rank (source_of l.g.now l.dt)) + 8
+abbrev pub decreases-run::run_seq_apart : goal.decreases-run::run_seq_apart
+decreases-run::run_seq_apart g l = 10 * (frozen_rank (source_of l.f.now l.dt) + frozen_rank (source_of l.g.now l.dt)) + 8
 
-abbrev pub decreases-run::run_seq_anew : goal.decreases-run::run_seq_anew
-decreases-run::run_seq_anew g l = 10 * (frozen_rank (source_of l.f.now l.dt) + frozen_rank (source_of l.g.now l.dt)) + 7
+abbrev pub decreases-run::run_seq_in : goal.decreases-run::run_seq_in
+decreases-run::run_seq_in g l = 10 * (frozen_rank (source_of l.f.now l.dt) + frozen_rank (source_of l.g.now l.dt)) + 7
+
+abbrev pub decreases-run::run_seq_over : goal.decreases-run::run_seq_over
+decreases-run::run_seq_over g l = 10 * (frozen_rank (source_of l.f.now l.dt) + frozen_rank (source_of l.g.now l.dt)) + 6
 
 abbrev pub decreases-run::run_both : goal.decreases-run::run_both
-decreases-run::run_both g l = 10 * (frozen_rank (source_of l.f.now l.dt) + frozen_rank (source_of l.g.now l.dt)) + 6
+decreases-run::run_both g l = 10 * (frozen_rank (source_of l.f.now l.dt) + frozen_rank (source_of l.g.now l.dt)) + 5
 
 abbrev pub decreases-run::run_second : goal.decreases-run::run_second
 decreases-run::run_second g l = 10 * frozen_rank (source_of l.from.now l.dt) + 7
@@ -70,6 +73,9 @@ decreases-run::run_d_switch g l =
 abbrev pub decreases-run::run_r_switch : goal.decreases-run::run_r_switch
 decreases-run::run_r_switch g l =
     10 * max (frozen_rank (source_of l.f.now l.dt)) (weight (rows_in l.t.now) (ranks_in (scope_of l.env.now))) + 9
+
+abbrev pub decreases-run::run_restart : goal.decreases-run::run_restart
+decreases-run::run_restart g l = 10 * weight (rows_in l.t.now) (ranks_in (scope_of l.env.now)) + 8
 
 abbrev pub decreases-run::run_k_switch : goal.decreases-run::run_k_switch
 decreases-run::run_k_switch g l =

@@ -16,7 +16,7 @@ after_push : (g : _) (c : After-drop g) → Pushes (runner_state c.args.self.now
     (datum_of c.run_in_line.new.out)
     (record {
       input = c.args.self.now.bound.now.input;
-      keys = rows_of c.args.self.now.table.now;
+      keys = rows_of c.args.self.now.workspace.table.now;
       rows = c.args.self.now.bound.now.rows;
       state = state_in c.replace-before.new.self;
       samples = c.args.self.now.samples + 1;
@@ -27,10 +27,10 @@ after_push g c =
     (add-one c.args.self.now.samples) refl refl
     (elim c.match-self.branch [
       | in-Some w ↦ next_pushed (runner_state c.args.self.now) _ _ _ _ _ (ap state_in w.in-Some.is) c.requires.typed
-          (subst (λ o. RunsWhere (rows_of c.args.self.now.table.now) (source_of o c.args.step) (datum_of c.args.sample.now) (state_of c.run_in_line.new.place)
+          (subst (λ o. RunsWhere (rows_of c.args.self.now.workspace.table.now) (source_of o c.args.step) (datum_of c.args.sample.now) (state_of c.run_in_line.new.place)
           (datum_of c.run_in_line.new.out) c.in-Ok.visits) w.from-is c.in-Ok.ensures)
       | in-None w ↦ first_pushed_from (runner_state c.args.self.now) _ _ _ _ _ _ (ap state_in w.in-None.is) c.requires.typed w.net.ensures c.nothing-env.ensures
-          (subst (λ o. RunsWhere (rows_of c.args.self.now.table.now) (source_of o c.args.step) (datum_of c.args.sample.now) (state_of c.run_in_line.new.place)
+          (subst (λ o. RunsWhere (rows_of c.args.self.now.workspace.table.now) (source_of o c.args.step) (datum_of c.args.sample.now) (state_of c.run_in_line.new.place)
           (datum_of c.run_in_line.new.out) c.in-Ok.visits) w.from-is c.in-Ok.ensures)
     ])
 
