@@ -36,7 +36,6 @@ switch_round T.Recurring = r_switch_state
 
 -- the node round the parts of a state
 abbrev pub node_round : Around → State ℕ → State ℕ
-node_round A.Seq a = seq_state (first_part a) (second_part a)
 node_round A.First a = first_state (first_part a)
 node_round (A.LoopPre u) a = loop_state (datum_of u) (first_part a)
 node_round (A.Switch k t s) a = switch_round k (first_part a) (rows_in t.now) (scope_of s.now)

@@ -4,12 +4,12 @@ ghost use Rattle.std.specs.Prelude.{◌≡◌, IfOk, OnOk};
 ghost use Rattle.sample_core.specs.ValueView.{datum_of};
 ghost use Rattle.state_core.specs.Around.{first_part, second_part, switch_round, node_round};
 ghost use Rattle.state_core.specs.RowsView.{rows_in, row_number};
-ghost use Rattle.state_core.specs.State.{seq_state, first_state, loop_state, k_switch_state, p_switch_state};
+ghost use Rattle.state_core.specs.State.{first_state, loop_state, k_switch_state, p_switch_state};
 ghost use Rattle.state_core.specs.StateView.{state_of, node_of, p_switch_of, scope_of};
 
 use crate::env::Env;
 use crate::state::{
-    KSwitchParts, LoopParts, Node, PSwitchParts, SeqParts, State, States, SwitchParts, Whole,
+    KSwitchParts, LoopParts, Node, PSwitchParts, State, States, SwitchParts, Whole,
 };
 use leaf_table::LeafId;
 use net_syntax::Net;
@@ -32,8 +32,6 @@ pub enum Turn {
 /// A node but for the states of its parts, which stand in the place that it comes into.
 #[derive(Drop)]
 pub enum Around<'s, 'n> {
-    /// `>>>`.
-    Seq,
     /// `first`.
     First,
     /// `loopPre`, with what is fed back next.
@@ -85,30 +83,12 @@ fn put_round<'n>(alloc: Global, node: &mut Node<'n>, around: Around<'_, 'n>) -> 
     ensures { OnOk result (node_of node.new ≡ node_round around.entry (node_of node.old)) }
 {
     match around {
-        Around::Seq => put_seq(node),
         Around::First => put_first(node),
         Around::LoopPre(fed_back) => put_loop(node, fed_back),
         Around::Switch(turn, net, env) => put_switch(node, turn, net, env),
         Around::KSwitch(net, env) => put_k_switch(node, net, env),
         Around::PSwitch(router, members, net, env) => {
             put_p_switch(alloc, node, router, members, net, env)
-        }
-    }
-}
-
-/// `>>>`.
-#[inline(always)]
-fn put_seq<'n>(node: &mut Node<'n>) -> Result<(), Memory>
-    ensures { OnOk result (node_of node.new
-        ≡ seq_state (first_part (node_of node.old)) (second_part (node_of node.old))) }
-{
-    match node {
-        Node::Seq(_) => Ok(()),
-        _ => {
-            let first = node.take_first();
-            let second = node.take_second();
-            drop(std::mem::replace(node, Node::Seq(SeqParts { first, second })));
-            Ok(())
         }
     }
 }

@@ -18,6 +18,7 @@ mod round;
 mod rows;
 mod run;
 mod runner;
+mod seq;
 mod source;
 mod start;
 mod static_run;

@@ -4,11 +4,11 @@ ghost use Rattle.std.specs.Prelude.{◌≡◌, List, IfOk};
 ghost use Rattle.sample_core.specs.{Datum.Datum, ValueView.datum_of};
 ghost use Rattle.leaf_core.specs.KeyTree.{KeyTree};
 ghost use Rattle.state_core.specs.{RowsView.rows_in, RowsView.row_number};
-ghost use Rattle.state_core.specs.{State.seq_state, Around.first_part, Around.second_part};
+ghost use Rattle.state_core.specs.{Around.first_part, Around.second_part};
 ghost use Rattle.state_core.specs.StateView.{state_of, node_of, scope_of};
 ghost use Rattle.step_core.specs.Outcome.{RunsBy, StartsAnew, TakesOver, TakesOverLate, outcome};
 ghost use Rattle.step_core.specs.Handed.{IsFed};
-ghost use Rattle.step_core.specs.Runs.{RunsWhere, SeqBy, FirstBy, ParBy, LoopBy, SwitchBy, DSwitchBy, RSwitchBy, KSwitchBy, PSwitchBy};
+ghost use Rattle.step_core.specs.Runs.{RunsWhere, FirstBy, ParBy, LoopBy, SwitchBy, DSwitchBy, RSwitchBy, KSwitchBy, PSwitchBy};
 ghost use Rattle.step_core.specs.SourceView.{source_of, sources_of};
 
 use crate::count;
@@ -17,7 +17,7 @@ use crate::fire::{Stopped, fire, fire_old};
 use crate::handed::fed;
 use crate::members::{run_all, run_members_watch};
 use crate::part::{first, paired_with, restart_of, second};
-use crate::round::{join_loop, keep_first, no_parts, put_first, round, take_parts};
+use crate::round::{join_loop, keep_first, put_first, round};
 use crate::rows::Rows;
 use crate::source::{Back, Route, Source, Sources};
 use crate::start::start;
@@ -246,151 +246,6 @@ fn run_beside<'n, R: Rows>(
     let two = run(alloc, rows, from, dt, x, &mut second, out);
     drop(std::mem::replace(node, Node::Seq(SeqParts { first, second })));
     two
-}
-
-/// `>>>` by its two parts.
-#[cycle(run)]
-#[inline(always)]
-pub(crate) fn run_seq<'n, R: Rows>(
-    alloc: Global,
-    rows: &R,
-    f: &Source<'_, 'n>,
-    g: &Source<'_, 'n>,
-    dt: u64,
-    x: &Sample,
-    place: &mut State<'n>,
-    out: &mut Sample,
-) -> Result<u32, Memory>
-    ensures { IfOk result (λ n.
-        RunsBy (R.keys rows.now)
-        (λ w. SeqBy w (source_of f.now dt) (source_of g.now dt))
-        (datum_of x.now) (outcome (state_of place.new) (datum_of out.new) n)) }
-{
-    if let State::Whole(whole) = place {
-        if let Some(node) = Rc::get_mut(&mut whole.node) {
-            return run_seq_in(alloc, rows, f, g, dt, x, node, out);
-        }
-    }
-    run_seq_apart(alloc, rows, f, g, dt, x, place, out)
-}
-
-/// The same where what stands in the place is no node, or someone else's.
-#[cycle(run)]
-#[inline(never)]
-fn run_seq_apart<'n, R: Rows>(
-    alloc: Global,
-    rows: &R,
-    f: &Source<'_, 'n>,
-    g: &Source<'_, 'n>,
-    dt: u64,
-    x: &Sample,
-    place: &mut State<'n>,
-    out: &mut Sample,
-) -> Result<u32, Memory>
-    ensures { IfOk result (λ n.
-        RunsBy (R.keys rows.now)
-        (λ w. SeqBy w (source_of f.now dt) (source_of g.now dt))
-        (datum_of x.now) (outcome (state_of place.new) (datum_of out.new) n)) }
-{
-    let mut node = Node::Seq(no_parts());
-    match run_seq_in(alloc, rows, f, g, dt, x, &mut node, out) {
-        Ok(visits) => {
-            place.put(alloc, node)?;
-            Ok(visits)
-        }
-        Err(memory) => {
-            drop(node);
-            Err(memory)
-        }
-    }
-}
-
-/// The same in the place of a node.
-#[cycle(run)]
-#[inline(always)]
-fn run_seq_in<'n, R: Rows>(
-    alloc: Global,
-    rows: &R,
-    f: &Source<'_, 'n>,
-    g: &Source<'_, 'n>,
-    dt: u64,
-    x: &Sample,
-    node: &mut Node<'n>,
-    out: &mut Sample,
-) -> Result<u32, Memory>
-    ensures { IfOk result (λ n.
-        RunsBy (R.keys rows.now)
-        (λ w. SeqBy w (source_of f.now dt) (source_of g.now dt))
-        (datum_of x.now) (outcome (node_of node.new) (datum_of out.new) n)) }
-{
-    match node {
-        Node::Seq(parts) => run_both(alloc, rows, f, g, dt, x, parts, out),
-        _ => run_seq_over(alloc, rows, f, g, dt, x, node, out),
-    }
-}
-
-/// The same in the place of a node of another form.
-#[cycle(run)]
-#[inline(never)]
-fn run_seq_over<'n, R: Rows>(
-    alloc: Global,
-    rows: &R,
-    f: &Source<'_, 'n>,
-    g: &Source<'_, 'n>,
-    dt: u64,
-    x: &Sample,
-    node: &mut Node<'n>,
-    out: &mut Sample,
-) -> Result<u32, Memory>
-    ensures { IfOk result (λ n.
-        RunsBy (R.keys rows.now)
-        (λ w. SeqBy w (source_of f.now dt) (source_of g.now dt))
-        (datum_of x.now) (outcome (node_of node.new) (datum_of out.new) n)) }
-{
-    let mut parts = take_parts(node);
-    match run_both(alloc, rows, f, g, dt, x, &mut parts, out) {
-        Ok(visits) => {
-            drop(std::mem::replace(node, Node::Seq(parts)));
-            Ok(visits)
-        }
-        Err(memory) => {
-            drop(parts);
-            Err(memory)
-        }
-    }
-}
-
-/// The same in the places of two parts.
-#[cycle(run)]
-#[inline(always)]
-fn run_both<'n, R: Rows>(
-    alloc: Global,
-    rows: &R,
-    f: &Source<'_, 'n>,
-    g: &Source<'_, 'n>,
-    dt: u64,
-    x: &Sample,
-    parts: &mut SeqParts<'n>,
-    out: &mut Sample,
-) -> Result<u32, Memory>
-    ensures { IfOk result (λ n.
-        RunsBy (R.keys rows.now)
-        (λ w. SeqBy w (source_of f.now dt) (source_of g.now dt))
-        (datum_of x.now) (outcome (seq_state (state_of parts.new.first)
-        (state_of parts.new.second)) (datum_of out.new) n)) }
-{
-    let mut between = Sample::Int(0);
-    match run(alloc, rows, f, dt, x, &mut parts.first, &mut between) {
-        Ok(one) => {
-            let two = run(alloc, rows, g, dt, &between, &mut parts.second, out);
-            between.let_go();
-            Ok(count::node(one, two?))
-        }
-        Err(memory) => {
-            drop(between);
-            Err(memory)
-        }
-    }
 }
 
 /// `first` by its part.

@@ -10,8 +10,9 @@ use crate::count;
 use crate::rows::Rows;
 use crate::run::{
     run, run_d_switch, run_first, run_k_switch, run_loop, run_p_switch, run_par, run_r_switch,
-    run_seq, run_switch,
+    run_switch,
 };
+use crate::seq::run_seq;
 use crate::source::{Back, Source, Sources, resumed};
 use crate::static_run::run_static;
 use leaf_table::LeafId;

@@ -9,9 +9,10 @@ ghost use Rattle.step_core.specs.Runs.{RunsWhere};
 
 use crate::rows::Rows;
 use crate::run::{
-    run_d_switch, run_first, run_k_switch, run_loop, run_p_switch, run_par, run_r_switch, run_seq,
+    run_d_switch, run_first, run_k_switch, run_loop, run_p_switch, run_par, run_r_switch,
     run_switch,
 };
+use crate::seq::run_seq;
 use crate::source::{Back, Source, Sources, no_members};
 use crate::static_run::step_static;
 use sample_core::{Memory, Sample};

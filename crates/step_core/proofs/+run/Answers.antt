@@ -19,8 +19,8 @@ use Rattle.step_core.proofs.RunMembers.{none_run, also_run, member_ran, one_adde
 use Rattle.step_core.proofs.PartForms.{moved, flow_new_by, seq_new_by, first_new_by, par_new_by, loop_new_by, switch_new_by, d_switch_new_by, r_switch_new_by, k_switch_new_by, p_switch_new_by, par_on_by, loop_on_by, p_switch_on_by, old_by}
 use Rattle.step_core.proofs.+run.Goals as goal
 
-pub run::run_both-returns-in_ok-two-in-Ok : goal.run::run_both-returns-in_ok-two-in-Ok
-run::run_both-returns-in_ok-two-in-Ok g t c = λ w h.
+pub seq::run_both-returns-in_ok-two-in-Ok : goal.seq::run_both-returns-in_ok-two-in-Ok
+seq::run_both-returns-in_ok-two-in-Ok g t c = λ w h.
     seq_joined _ w _ _ _ _ (outcome (state_of c.run.new.place) (datum_of c.run.new.out) c.in-Ok.one)
     (outcome (state_of c.run-two.new.place) (datum_of c.run-two.new.out) c.in_ok-two-in-Ok.field-0)
     (outcome (seq_state (state_of c.run.new.place) (state_of c.run-two.new.place)) (datum_of c.run-two.new.out) c.node.result) h

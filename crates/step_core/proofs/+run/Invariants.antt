@@ -23,20 +23,20 @@ decreases-run::run_part g l = 10 * frozen_rank (source_of l.from.now l.dt) + 7
 abbrev pub decreases-run::run_apart : goal.decreases-run::run_apart
 decreases-run::run_apart g l = 10 * frozen_rank (source_of l.from.now l.dt) + 5
 
-abbrev pub decreases-run::run_seq : goal.decreases-run::run_seq
-decreases-run::run_seq g l = 10 * (frozen_rank (source_of l.f.now l.dt) + frozen_rank (source_of l.g.now l.dt)) + 9
+abbrev pub decreases-seq::run_seq : goal.decreases-seq::run_seq
+decreases-seq::run_seq g l = 10 * (frozen_rank (source_of l.f.now l.dt) + frozen_rank (source_of l.g.now l.dt)) + 9
 
-abbrev pub decreases-run::run_seq_apart : goal.decreases-run::run_seq_apart
-decreases-run::run_seq_apart g l = 10 * (frozen_rank (source_of l.f.now l.dt) + frozen_rank (source_of l.g.now l.dt)) + 8
+abbrev pub decreases-seq::run_seq_apart : goal.decreases-seq::run_seq_apart
+decreases-seq::run_seq_apart g l = 10 * (frozen_rank (source_of l.f.now l.dt) + frozen_rank (source_of l.g.now l.dt)) + 8
 
-abbrev pub decreases-run::run_seq_in : goal.decreases-run::run_seq_in
-decreases-run::run_seq_in g l = 10 * (frozen_rank (source_of l.f.now l.dt) + frozen_rank (source_of l.g.now l.dt)) + 7
+abbrev pub decreases-seq::run_seq_in : goal.decreases-seq::run_seq_in
+decreases-seq::run_seq_in g l = 10 * (frozen_rank (source_of l.f.now l.dt) + frozen_rank (source_of l.g.now l.dt)) + 7
 
-abbrev pub decreases-run::run_seq_over : goal.decreases-run::run_seq_over
-decreases-run::run_seq_over g l = 10 * (frozen_rank (source_of l.f.now l.dt) + frozen_rank (source_of l.g.now l.dt)) + 6
+abbrev pub decreases-seq::run_seq_over : goal.decreases-seq::run_seq_over
+decreases-seq::run_seq_over g l = 10 * (frozen_rank (source_of l.f.now l.dt) + frozen_rank (source_of l.g.now l.dt)) + 6
 
-abbrev pub decreases-run::run_both : goal.decreases-run::run_both
-decreases-run::run_both g l = 10 * (frozen_rank (source_of l.f.now l.dt) + frozen_rank (source_of l.g.now l.dt)) + 5
+abbrev pub decreases-seq::run_both : goal.decreases-seq::run_both
+decreases-seq::run_both g l = 10 * (frozen_rank (source_of l.f.now l.dt) + frozen_rank (source_of l.g.now l.dt)) + 5
 
 abbrev pub decreases-run::run_second : goal.decreases-run::run_second
 decreases-run::run_second g l = 10 * frozen_rank (source_of l.from.now l.dt) + 7
