@@ -135,6 +135,15 @@ impl Cell {
         }
     }
 
+    /// An `iPre` that keeps a copy of the value, in the place of this cell, whose memory it takes
+    /// where that is an `iPre` too. `Memory` only where a count of references is full.
+    #[inline(always)]
+    pub fn put_previous(&mut self, alloc: Global, value: &Sample) -> Result<(), Memory>
+        ensures { OnOk result (cell_of self.new ≡ keeping (datum_of value.now)) }
+    {
+        step::keep(alloc, Keeper::IPre, value, self)
+    }
+
     /// The accumulator of an `accumBy`; nothing for another cell.
     #[inline(always)]
     pub fn accumulator(&self) -> Option<&Sample>

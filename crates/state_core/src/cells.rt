@@ -1,7 +1,7 @@
 // The cells of networks without switches.
 
 ghost use Rattle.std.specs.Prelude.{◌≡◌, ◌≤◌, ◌<◌, ◌++◌, ◌∷◌, [], IfOk, MatchOption, None, Some, length, slice_get, slice_set};
-ghost use Rattle.cell_core.specs.CellView.{cell_of};
+ghost use Rattle.cell_core.specs.{Cell.previous, CellView.cell_of};
 ghost use Rattle.sample_core.specs.ValueView.{datum_of};
 ghost use Rattle.state_core.specs.CellsView.{IsStepAdded};
 
@@ -108,11 +108,30 @@ impl Cells {
         self.push(next)
     }
 
-    /// Another cell in the place of cell i.
-    pub fn put(&mut self, i: usize, cell: Cell)
-        requires { i < length self.old }
-        ensures { self.new ≡ slice_set self.old i (cell_of cell) }
+    /// One cell more: an `iPre` that keeps a copy of the value. `Memory` where a growth was refused.
+    #[inline(always)]
+    pub fn push_previous(&mut self, alloc: Global, value: &Sample) -> Result<(), Memory>
+        ensures { IfOk result
+            (λ _. self.new ≡ self.old ++ previous (datum_of value.now) ∷ []) }
     {
-        drop(std::mem::replace(&mut self.all[i], cell));
+        if self.used < self.all.len() {
+            self.all[self.used].put_previous(alloc, value)?;
+            self.used += 1;
+            return Ok(());
+        }
+        let value = value.try_copy(alloc)?;
+        self.push(Cell::IPre(value))
+    }
+
+    /// An `iPre` that keeps a copy of the value, in the place of cell i. `Memory` only where a count
+    /// of references is full.
+    #[inline(always)]
+    pub fn put_previous(&mut self, alloc: Global, i: usize, value: &Sample) -> Result<(), Memory>
+        requires { i < length self.old }
+        ensures { IfOk result
+            (λ _. self.new ≡ slice_set self.old i (previous (datum_of value.now))) }
+    {
+        self.all[i].put_previous(alloc, value)?;
+        Ok(())
     }
 }

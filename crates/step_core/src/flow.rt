@@ -1,19 +1,19 @@
 // One sample through a network without switches.
 
-ghost use Rattle.std.specs.Prelude.{◌≡◌, ◌<◌, ◌++◌, ◌∷◌, [], None, IfOk, IsTrue, length, map, slice_set};
-ghost use Rattle.sample_core.specs.{Datum.left, Datum.right, ValueView.datum_of};
+ghost use Rattle.std.specs.Prelude.{◌≡◌, ◌<◌, ◌++◌, ◌∷◌, [], None, Some, IfOk, IfSome, IsTrue, length, map, slice_get, slice_set};
+ghost use Rattle.sample_core.specs.{Datum.left, Datum.pair, Datum.right, ValueView.datum_of};
 ghost use Rattle.net_syntax.specs.Network.{map_networks, seq, first, par, loop_pre, accum_by};
 ghost use Rattle.net_syntax.specs.NetworkView.{members_of};
 ghost use Rattle.cell_core.specs.Cell.{previous};
 ghost use Rattle.state_core.specs.RowsView.{rows_in, row_number};
 ghost use Rattle.state_core.specs.StaticNetwork.{is_static, are_static};
 ghost use Rattle.step_core.specs.Called.{Called};
-ghost use Rattle.step_core.specs.Flow.{Flows, AllFlow, IsCell, IsFedBack, IsKept, number_of, past_in};
+ghost use Rattle.step_core.specs.Flow.{Flows, AllFlow, IsCell, IsFedBack, number_of, past_in};
 
 use crate::cells::{start_accum, start_cell, step_accum};
 use crate::part::{first, paired_with, second};
 use crate::rows::Rows;
-use cell_core::{Cell, Form};
+use cell_core::Form;
 use leaf_table::LeafId;
 use net_syntax::Net;
 use sample_core::{Memory, Sample};
@@ -240,7 +240,8 @@ fn flow_loop<R: Rows>(
 }
 
 /// The pair of the sample and what is fed back, which goes into the next cell until the sample has
-/// passed.
+/// passed: what is kept, or at the first sample the constant.
+#[inline(always)]
 fn feed<R: Rows>(
     on: &Context<'_, R>,
     c: LeafId,
@@ -251,45 +252,44 @@ fn feed<R: Rows>(
         (map datum_of on.now.params.now) (past_in on.now.before on.now.dt) (datum_of x.now)
         cells.old cells.new (datum_of y)) }
 {
-    let value = value_before(on, c, cells.len())?;
-    match on.rows.pair(on.alloc, x, &value) {
-        Ok(input) => hold_place(value, input, cells),
-        Err(memory) => {
-            drop(value);
-            Err(memory)
-        }
-    }
-}
-
-/// What is fed back: what is kept, or at the first sample the constant.
-fn value_before<R: Rows>(on: &Context<'_, R>, c: LeafId, at: usize) -> Result<Sample, Memory>
-    ensures { IfOk result (λ v. IsKept (R.keys on.now.rows.now) (row_number c)
-        (map datum_of on.now.params.now) (past_in on.now.before on.now.dt) at (datum_of v)) }
-{
     match on.before {
-        Some(before) => match before.get(at) {
-            Some(cell) => match cell.previous() {
-                Some(value) => value.try_copy(on.alloc),
-                None => Err(Memory),
-            },
+        Some(before) => match kept_at(before, cells.len()) {
+            Some(value) => feed_value(on, x, value, cells),
             None => Err(Memory),
         },
-        None => on.rows.call(c, on.params, &Sample::Unit),
+        None => {
+            let value = on.rows.call(c, on.params, &Sample::Unit)?;
+            let input = feed_value(on, x, &value, cells);
+            drop(value);
+            input
+        }
     }
 }
 
-/// A value as the next cell, beside the input that was made of it.
-fn hold_place(value: Sample, input: Sample, cells: &mut Cells) -> Result<Sample, Memory>
-    ensures { IfOk result (λ y. (y ≡ input)
-        × (cells.new ≡ cells.old ++ previous (datum_of value) ∷ [])) }
+/// What cell i keeps, where it is an `iPre`.
+#[inline(always)]
+fn kept_at(before: &Cells, i: usize) -> Option<&Sample>
+    ensures { IfSome result (λ v. slice_get before.now i ≡ Some (previous (datum_of v.now))) }
 {
-    match cells.push(Cell::IPre(value)) {
-        Ok(()) => Ok(input),
-        Err(memory) => {
-            drop(input);
-            Err(memory)
-        }
+    match before.get(i) {
+        Some(cell) => cell.previous(),
+        None => None,
     }
+}
+
+/// The pair of the sample and a value, which goes into the next cell.
+#[inline(always)]
+fn feed_value<R: Rows>(
+    on: &Context<'_, R>,
+    x: &Sample,
+    value: &Sample,
+    cells: &mut Cells,
+) -> Result<Sample, Memory>
+    ensures { IfOk result (λ y. (datum_of y ≡ pair (datum_of x.now) (datum_of value.now))
+        × (cells.new ≡ cells.old ++ previous (datum_of value.now) ∷ [])) }
+{
+    cells.push_previous(on.alloc, value)?;
+    on.rows.pair(on.alloc, x, value)
 }
 
 /// Puts out the first part of what a `loopPre`'s part answers; the second goes into its cell.
@@ -304,9 +304,8 @@ fn keep_fed(
     ensures { IfOk result (λ _. (datum_of out.new ≡ left (datum_of answer))
         × (cells.new ≡ slice_set cells.old at (previous (right (datum_of answer))))) }
 {
-    match second(&answer).try_copy(alloc) {
-        Ok(next) => {
-            cells.put(at, Cell::IPre(next));
+    match cells.put_previous(alloc, at, second(&answer)) {
+        Ok(()) => {
             let passed = first(&answer).try_copy(alloc);
             drop(answer);
             out.put(passed?);
@@ -314,7 +313,7 @@ fn keep_fed(
         }
         Err(memory) => {
             drop(answer);
-            Err(memory.into())
+            Err(memory)
         }
     }
 }

@@ -3,7 +3,7 @@ use Rattle.std.proofs.Math.Seq.{take-set-lt}
 use Rattle.std.proofs.lemmas.List.{map-set, length-map, length-take-le}
 use Rattle.std.specs.Prelude.{slice_set}
 use Rattle.cell_core.specs.CellView.{cell_of}
-use Rattle.state_core.proofs.cells.Cells.put.Goals as goal
+use Rattle.state_core.proofs.cells.Cells.put_previous.Goals as goal
 
 pub returns : goal.returns
 returns c =
@@ -14,6 +14,6 @@ returns c =
       length-map (take c.self.inside.used c.self.inside.all.items) cell_of,
       length-take-le c.self.inside.used c.self.inside.all.items c.self.invariant,
     ) in
-    ap (map cell_of) (take-set-lt c.self.inside.used c.self.inside.all.items c.args.i c.replace.new.dest is_within)
-    ∙ map-set cell_of (take c.self.inside.used c.self.inside.all.items) c.args.i c.replace.new.dest
-    ∙ (λ i. slice_set (c.self.view_is i) c.args.i (cell_of (c.replace.ensures.after i)))
+    ap (map cell_of) (take-set-lt c.self.inside.used c.self.inside.all.items c.args.i c.put_previous.new.self is_within)
+    ∙ map-set cell_of (take c.self.inside.used c.self.inside.all.items) c.args.i c.put_previous.new.self
+    ∙ (λ i. slice_set (c.self.view_is i) c.args.i (c.in_ok-put_previous.ensures i))
