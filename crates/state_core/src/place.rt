@@ -140,12 +140,24 @@ fn put_switch<'n>(
         (Turn::AtOnce, Node::Switch(parts)) => parts.renew(net, env),
         (Turn::Late, Node::DSwitch(parts)) => parts.renew(net, env),
         (Turn::Recurring, Node::RSwitch(parts)) => parts.renew(net, env),
-        _ => {
-            let parts = new_parts(node, net, env)?;
-            drop(std::mem::replace(node, turn.around(parts)));
-            Ok(())
-        }
+        _ => put_switch_anew(node, turn, net, env),
     }
+}
+
+/// The same where the node was another one.
+#[inline(never)]
+fn put_switch_anew<'n>(
+    node: &mut Node<'n>,
+    turn: Turn,
+    net: &'n Net<LeafId>,
+    env: &Env<'n>,
+) -> Result<(), Memory>
+    ensures { OnOk result (node_of node.new ≡ switch_round turn (first_part (node_of node.old))
+        (rows_in net.entry.now) (scope_of env.now)) }
+{
+    let parts = new_parts(node, net, env)?;
+    drop(std::mem::replace(node, turn.around(parts)));
+    Ok(())
 }
 
 /// `kSwitch`.
@@ -159,20 +171,31 @@ fn put_k_switch<'n>(node: &mut Node<'n>, net: &'n Net<LeafId>, env: &Env<'n>) ->
             parts.net = net;
             parts.env.renew(env)
         }
-        _ => {
-            let env = env.try_copy()?;
-            let part = node.take_first();
-            let watch = node.take_second();
-            let parts = KSwitchParts {
-                part,
-                watch,
-                net,
-                env,
-            };
-            drop(std::mem::replace(node, Node::KSwitch(parts)));
-            Ok(())
-        }
+        _ => put_k_switch_anew(node, net, env),
     }
+}
+
+/// The same where the node was another one.
+#[inline(never)]
+fn put_k_switch_anew<'n>(
+    node: &mut Node<'n>,
+    net: &'n Net<LeafId>,
+    env: &Env<'n>,
+) -> Result<(), Memory>
+    ensures { OnOk result (node_of node.new ≡ k_switch_state (first_part (node_of node.old))
+        (second_part (node_of node.old)) (rows_in net.entry.now) (scope_of env.now)) }
+{
+    let env = env.try_copy()?;
+    let part = node.take_first();
+    let watch = node.take_second();
+    let parts = KSwitchParts {
+        part,
+        watch,
+        net,
+        env,
+    };
+    drop(std::mem::replace(node, Node::KSwitch(parts)));
+    Ok(())
 }
 
 /// `pSwitch`.
