@@ -103,6 +103,22 @@ impl Cells {
             self.used += 1;
             return Ok(());
         }
+        self.push_step_anew(alloc, before, dt, sample, out)
+    }
+
+    /// The same where no cell that is out of use stands behind those in use.
+    #[inline(never)]
+    fn push_step_anew(
+        &mut self,
+        alloc: Global,
+        before: &Cell,
+        dt: u64,
+        sample: &Sample,
+        out: &mut Sample,
+    ) -> Result<(), Memory>
+        ensures { IfOk result (λ _. IsStepAdded self.old (cell_of before.now)
+            (dt, datum_of sample.now) self.new (datum_of out.new)) }
+    {
         let (next, answer) = before.step(alloc, dt, sample)?;
         out.put(answer);
         self.push(next)
