@@ -102,13 +102,13 @@ impl Cell {
         match self {
             Cell::IPre(before) => {
                 step::keep(alloc, Keeper::IPre, sample, place)?;
-                step::copy_over(alloc, before, out)
+                out.put_copy(alloc, before)
             }
             Cell::Delay(front, behind) => queue::step(front, behind, alloc, dt, sample, place, out),
             Cell::Hold(kept) => {
                 let value = step::latest(kept, sample);
                 step::keep(alloc, Keeper::Hold, value, place)?;
-                step::copy_over(alloc, value, out)
+                out.put_copy(alloc, value)
             }
             Cell::AccumBy(accumulator) => step::accum_by(alloc, accumulator, sample, place, out),
             Cell::After(left, value) => step::after(*left, value, dt, place, out),

@@ -85,7 +85,7 @@ impl Entries {
         if self.used < self.all.len() {
             let place = &mut self.all[self.used];
             place.time = time;
-            step::copy_over(alloc, value, &mut place.value)?;
+            place.value.put_copy(alloc, value)?;
         } else {
             let value = value.try_copy(alloc)?;
             self.all.push(Entry { time, value })?;

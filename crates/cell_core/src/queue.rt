@@ -12,7 +12,6 @@ use crate::cell::{Cell, answered};
 use crate::entry::{Entries, Entry};
 use crate::form::Form;
 use crate::front::Front;
-use crate::step::copy_over;
 use sample_core::{Memory, Sample};
 use std::alloc::Global;
 use std::boxed::Box;
@@ -204,7 +203,7 @@ fn joined(
     ensures { OnOk result (IsJoined front.value age at
         ((dt, datum_of sample.now) ∷ back_of before.now) (outcome_of (place.new, out.new))) }
 {
-    if let Err(memory) = copy_over(alloc, &front.entries.as_slice()[at].value, out) {
+    if let Err(memory) = out.put_copy(alloc, &front.entries.as_slice()[at].value) {
         drop(front);
         return Err(memory);
     }

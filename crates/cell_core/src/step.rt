@@ -49,38 +49,14 @@ pub(crate) fn keep(
     ensures { OnOk result (cell_of place.new ≡ kept_by keeper (datum_of value.now)) }
 {
     match (keeper, &mut *place) {
-        (Keeper::IPre, Cell::IPre(there)) => copy_over(alloc, value, there),
-        (Keeper::Hold, Cell::Hold(there)) => copy_over(alloc, value, there),
-        (Keeper::AccumBy, Cell::AccumBy(there)) => copy_over(alloc, value, there),
+        (Keeper::IPre, Cell::IPre(there)) => there.put_copy(alloc, value),
+        (Keeper::Hold, Cell::Hold(there)) => there.put_copy(alloc, value),
+        (Keeper::AccumBy, Cell::AccumBy(there)) => there.put_copy(alloc, value),
         _ => {
             place.put(keeper.cell(value.try_copy(alloc)?));
             Ok(())
         }
     }
-}
-
-/// A copy of the value in the place of another: of a number at once.
-#[inline(always)]
-pub(crate) fn copy_over(alloc: Global, value: &Sample, place: &mut Sample) -> Result<(), Memory>
-    ensures { OnOk result (datum_of place.new ≡ datum_of value.now) }
-{
-    match value {
-        Sample::Int(n) => {
-            place.put_int(*n);
-            Ok(())
-        }
-        _ => copy_any(alloc, value, place),
-    }
-}
-
-/// The same of any value.
-#[inline(never)]
-fn copy_any(alloc: Global, value: &Sample, place: &mut Sample) -> Result<(), Memory>
-    ensures { OnOk result (datum_of place.new ≡ datum_of value.now) }
-{
-    let copy = value.try_copy(alloc)?;
-    place.put(copy);
-    Ok(())
 }
 
 /// The value of the latest event: the sample's, if it is one, else what was kept.
@@ -113,7 +89,7 @@ pub(crate) fn accum_by(
     };
     keep(alloc, Keeper::AccumBy, value, place)?;
     if fires {
-        return copy_any(alloc, sample, out);
+        return out.put_copy(alloc, sample);
     }
     out.put(Sample::NoEvent);
     Ok(())

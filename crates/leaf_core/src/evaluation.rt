@@ -12,8 +12,8 @@ use crate::expr::{Expr, ExprChild, Exprs};
 use crate::literal::Literal;
 use crate::looked::{Looked, path_at, short_path_at};
 use crate::operations::{
-    count, element, equal, literal_value, negated, number, part, put_copy, put_number, put_pair,
-    put_param, put_truth, sum_of, truth,
+    count, element, equal, literal_value, negated, number, part, put_number, put_pair, put_param,
+    put_truth, sum_of, truth,
 };
 use crate::scope::Scope;
 use sample_core::{Memory, Sample, SampleChild, SamplePair, Samples};
@@ -68,7 +68,7 @@ fn eval_into(scope: &Scope<'_>, expr: &Expr, place: &mut Sample) -> Result<(), M
         (datum_of place.new ≡ value_in (expression_of expr.now) scope.now) }
 {
     match expr {
-        Expr::Input => put_copy(scope.alloc, scope.x, place),
+        Expr::Input => place.put_copy(scope.alloc, scope.x),
         Expr::Param(k) => put_param(scope.alloc, scope.params, *k, place),
         Expr::Literal(literal) => {
             place.put(literal_value(*literal));
@@ -172,7 +172,7 @@ fn eval_part(
         (datum_of place.new ≡ part_of (expression_of form.now) (value_in e.now scope.now)) }
 {
     match path_at(scope, e.get()) {
-        Some(pair) => put_copy(scope.alloc, part(form, pair), place),
+        Some(pair) => place.put_copy(scope.alloc, part(form, pair)),
         None => eval_part_off(scope, form, e, place),
     }
 }
@@ -191,7 +191,7 @@ fn eval_part_off(
 {
     let mut pair = Sample::Unit;
     let found = match eval_off(scope, e, &mut pair) {
-        Ok(()) => put_copy(scope.alloc, part(form, &pair), place),
+        Ok(()) => place.put_copy(scope.alloc, part(form, &pair)),
         Err(Memory) => Err(Memory),
     };
     drop(pair);
@@ -431,7 +431,7 @@ fn eval_element(
 {
     let at = eval_number(scope, i)?;
     match element(list, at) {
-        Some(found) => put_copy(scope.alloc, found, place),
+        Some(found) => place.put_copy(scope.alloc, found),
         None => eval_into(scope, d.get(), place),
     }
 }

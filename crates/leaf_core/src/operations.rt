@@ -89,27 +89,12 @@ pub fn put_param(alloc: Global, params: &[Sample], k: u32, place: &mut Sample) -
     ensures { OnOk result (datum_of place.new ≡ param_at (map datum_of params.now) k) }
 {
     match param(params, k) {
-        Some(value) => put_copy(alloc, value, place),
+        Some(value) => place.put_copy(alloc, value),
         None => {
             place.put(Sample::Unit);
             Ok(())
         }
     }
-}
-
-/// Puts a copy of a value in the place of another.
-#[inline(always)]
-pub fn put_copy(alloc: Global, value: &Sample, place: &mut Sample) -> Result<(), Memory>
-    ensures { OnOk result (datum_of place.new ≡ datum_of value.now) }
-{
-    match value {
-        Sample::Int(n) => place.put_int(*n),
-        _ => {
-            let copy = value.try_copy(alloc)?;
-            place.put(copy);
-        }
-    }
-    Ok(())
 }
 
 /// Puts the pair of two values in the place of another value.

@@ -8,6 +8,7 @@ pub mod TypeCode
 pub mod HasType
 pub mod Lending
 pub mod ValueView
+pub mod Taken
 pub mod TypeView
 pub mod Depth
 pub mod Spelling

@@ -1,7 +1,7 @@
 // Values.
 
-ghost use Rattle.std.specs.Prelude.{◌≡◌, IfOk, map};
-ghost use Rattle.sample_core.specs.ValueView.{datum_of};
+ghost use Rattle.std.specs.Prelude.{◌≡◌, IfOk, OnOk, map};
+ghost use Rattle.sample_core.specs.{Datum.list, Datum.list_of, Taken.IsTakenOut, ValueView.datum_of};
 
 use crate::memory::Memory;
 use std::alloc::Global;
@@ -233,6 +233,37 @@ impl Samples {
         let all = self.all.clone()?;
         Ok(Samples { all })
     }
+
+    /// The elements, in whose place there are none then, where no one else holds them; else nothing.
+    #[inline(always)]
+    fn take(&mut self, alloc: Global) -> Vec<Sample>
+        ensures { IsTakenOut (list (list_of self.old)) (map datum_of result.items)
+            (list (list_of self.new)) }
+    {
+        match Rc::get_mut(&mut self.all) {
+            Some(all) => std::mem::replace(all, Vec::new(alloc)),
+            None => Vec::new(alloc),
+        }
+    }
+
+    /// The values in the place of these elements, in order: in its memory, where no one else holds
+    /// that. `Memory` where a growth was refused.
+    #[inline(always)]
+    fn put(&mut self, alloc: Global, all: Vec<Sample>) -> Result<(), Memory>
+        ensures { OnOk result (self.new ≡ map datum_of all.items) }
+    {
+        match Rc::get_mut(&mut self.all) {
+            Some(there) => {
+                drop(std::mem::replace(there, all));
+                Ok(())
+            }
+            None => {
+                let fresh = Samples::new(alloc, all)?;
+                drop(std::mem::replace(self, fresh));
+                Ok(())
+            }
+        }
+    }
 }
 
 impl Sample {
@@ -268,6 +299,59 @@ impl Sample {
         match self {
             Sample::Bool(there) => *there = b,
             _ => self.put(Sample::Bool(b)),
+        }
+    }
+
+    /// Puts a copy of a value in the place of this one: of a number at once. It takes no memory;
+    /// `Memory` only where a count of references is full.
+    #[inline(always)]
+    pub fn put_copy(&mut self, alloc: Global, value: &Sample) -> Result<(), Memory>
+        ensures { OnOk result (datum_of self.new ≡ datum_of value.now) }
+    {
+        match value {
+            Sample::Int(n) => {
+                self.put_int(*n);
+                Ok(())
+            }
+            _ => self.put_any_copy(alloc, value),
+        }
+    }
+
+    /// The same of any value.
+    #[inline(never)]
+    fn put_any_copy(&mut self, alloc: Global, value: &Sample) -> Result<(), Memory>
+        ensures { OnOk result (datum_of self.new ≡ datum_of value.now) }
+    {
+        let copy = value.try_copy(alloc)?;
+        self.put(copy);
+        Ok(())
+    }
+
+    /// The elements of a list that no one else holds, in whose place there are none then; nothing
+    /// of another value, which stays. It takes no memory.
+    #[inline(always)]
+    pub fn take_list(&mut self, alloc: Global) -> Vec<Sample>
+        ensures { IsTakenOut (datum_of self.old) (map datum_of result.items) (datum_of self.new) }
+    {
+        match self {
+            Sample::List(all) => all.take(alloc),
+            _ => Vec::new(alloc),
+        }
+    }
+
+    /// Puts the list of the values in the place of this one: in its memory, where that is a list that
+    /// no one else holds. `Memory` where a growth was refused.
+    #[inline(always)]
+    pub fn put_list(&mut self, alloc: Global, all: Vec<Sample>) -> Result<(), Memory>
+        ensures { OnOk result (datum_of self.new ≡ list (list_of (map datum_of all.items))) }
+    {
+        match self {
+            Sample::List(there) => there.put(alloc, all),
+            _ => {
+                let all = Samples::new(alloc, all)?;
+                self.put(Sample::List(all));
+                Ok(())
+            }
         }
     }
 

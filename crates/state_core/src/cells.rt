@@ -1,6 +1,6 @@
 // The cells of networks without switches.
 
-ghost use Rattle.std.specs.Prelude.{◌≡◌, ◌≤◌, ◌<◌, ◌++◌, ◌∷◌, [], IfOk, MatchOption, None, Some, length, slice_get, slice_set};
+ghost use Rattle.std.specs.Prelude.{◌≡◌, ◌≤◌, ◌<◌, ◌++◌, ◌∷◌, [], IfOk, MatchOption, None, Some, length, slice_get, slice_set, take};
 ghost use Rattle.cell_core.specs.{Cell.previous, CellView.cell_of};
 ghost use Rattle.sample_core.specs.ValueView.{datum_of};
 ghost use Rattle.state_core.specs.CellsView.{IsStepAdded};
@@ -98,30 +98,12 @@ impl Cells {
         ensures { IfOk result (λ _. IsStepAdded self.old (cell_of before.now)
             (dt, datum_of sample.now) self.new (datum_of out.new)) }
     {
-        if self.used < self.all.len() {
-            before.step_into(alloc, dt, sample, &mut self.all[self.used], out)?;
-            self.used += 1;
-            return Ok(());
+        if self.used == self.all.len() {
+            add_place(&mut self.all)?;
         }
-        self.push_step_anew(alloc, before, dt, sample, out)
-    }
-
-    /// The same where no cell that is out of use stands behind those in use.
-    #[inline(never)]
-    fn push_step_anew(
-        &mut self,
-        alloc: Global,
-        before: &Cell,
-        dt: u64,
-        sample: &Sample,
-        out: &mut Sample,
-    ) -> Result<(), Memory>
-        ensures { IfOk result (λ _. IsStepAdded self.old (cell_of before.now)
-            (dt, datum_of sample.now) self.new (datum_of out.new)) }
-    {
-        let (next, answer) = before.step(alloc, dt, sample)?;
-        out.put(answer);
-        self.push(next)
+        before.step_into(alloc, dt, sample, &mut self.all[self.used], out)?;
+        self.used += 1;
+        Ok(())
     }
 
     /// One cell more: an `iPre` that keeps a copy of the value. `Memory` where a growth was refused.
@@ -130,13 +112,12 @@ impl Cells {
         ensures { IfOk result
             (λ _. self.new ≡ self.old ++ previous (datum_of value.now) ∷ []) }
     {
-        if self.used < self.all.len() {
-            self.all[self.used].put_previous(alloc, value)?;
-            self.used += 1;
-            return Ok(());
+        if self.used == self.all.len() {
+            add_place(&mut self.all)?;
         }
-        let value = value.try_copy(alloc)?;
-        self.push(Cell::IPre(value))
+        self.all[self.used].put_previous(alloc, value)?;
+        self.used += 1;
+        Ok(())
     }
 
     /// An `iPre` that keeps a copy of the value, in the place of cell i. `Memory` only where a count
@@ -150,4 +131,14 @@ impl Cells {
         self.all[i].put_previous(alloc, value)?;
         Ok(())
     }
+}
+
+/// One place of a cell more. `Memory` where a growth was refused.
+#[inline(never)]
+fn add_place(places: &mut Vec<Cell>) -> Result<(), Memory>
+    ensures room { IfOk result (λ _. length places.old.items < length places.new.items) }
+    ensures stay { take (length places.old.items) places.new.items ≡ places.old.items }
+{
+    places.push(Cell::Time(0))?;
+    Ok(())
 }

@@ -176,13 +176,13 @@ module _ (keys : List KeyTree) where
     visits_added = λ _. refl;
   }
 
-  pub none_flow : (fs : Networks ℕ) (ps : List Datum) (p : Past) (x : Datum) (before : List Cell) (ys : List Datum) → fs ≡ no_members
-      → AllFlow keys fs ps p x before before ys ys
-  none_flow fs ps p x before ys e = subst (λ gs. AllFlow keys gs ps p x before before ys ys) (sym e) (record {
+  pub none_flow : (fs : Networks ℕ) (ps : List Datum) (p : Past) (x : Datum) (before : List Cell) (ys zs : List Datum) → fs ≡ no_members → zs ≡ ys
+      → AllFlow keys fs ps p x before before ys zs
+  none_flow fs ps p x before ys zs e same = subst (λ gs. AllFlow keys gs ps p x before before ys zs) (sym e) (record {
     cells = [];
     answers = [];
     added = sym (append-nil before);
-    answered = sym (append-nil ys);
+    answered = same ∙ sym (append-nil ys);
     is_count = refl;
     runs = λ ws i h. none_runs ps x ws i (behind (length before) p) h;
   })

@@ -1,6 +1,5 @@
 -- What one sample does to members, and to the collections round them.
-use Rattle.std.proofs.Common.{◌≡◌, ℕ, zero, suc, ◌+◌, ◌<◌, ◌≤◌, ◌^◌, ◌%◌, pos, List, [], ◌∷◌, ◌++◌, Some, None, refl, sym, ap, ◌∙◌, subst, arith, append_assoc, append-nil, length, length-append, map, set, take}
-use Rattle.std.proofs.lemmas.List.{map_push}
+use Rattle.std.proofs.Common.{◌≡◌, ℕ, zero, suc, ◌+◌, ◌<◌, ◌≤◌, ◌^◌, ◌%◌, pos, List, [], ◌∷◌, ◌++◌, Some, None, refl, sym, ap, ◌∙◌, subst, arith, append_assoc, append-nil, length, set, take}
 use Rattle.std.proofs.Math.Nat.{mod-eq_of_lt}
 use Rattle.sample_core.specs.Datum.{Datum, pair, int, list, list_of}
 use Rattle.sample_core.specs.ValueView.{datum_of}
@@ -23,7 +22,7 @@ use Rattle.step_core.specs.Outcome.{Outcome, ListOutcome, IsRan, IsListed, gathe
 use Rattle.step_core.specs.Handed.{IsRouted, RunsMember}
 use Rattle.step_core.specs.Runs as R
 use Rattle.step_core.specs.Runs.{Ran, RunsWhere, ParBy, PSwitchBy, Gathered, RunsEach, RanEach, RunEachWhere, Router, to_all, by_row, handed, HandsOut, append_states}
-use Rattle.step_core.proofs.StateLists.{one_put}
+use Rattle.step_core.proofs.StateLists.{one_put, one_answered}
 use Rattle.step_core.proofs.StateTypings.{resumes_typed, each_starts_typed, each_steps_typed, route_typed, small_number, event_typed, pushed_param, pushed_olds, unstarted_all, paused_all, params_typed}
 use Rattle.step_core.proofs.CalledRows.{called_value}
 use Rattle.step_core.proofs.RunForms.{started, stepped}
@@ -41,14 +40,14 @@ abbrev pub IsAdded : Gathered → Outcome → Gathered → Type 0
 IsAdded before one now = (now.states ≡ append_states before.states (and_state one.state no_state)) × (now.answers ≡ before.answers ++ one.answer ∷ [])
     × (before.visits + one.visits < 2 ^ 32 → now.visits ≡ before.visits + one.visits)
 
--- a member's state stands in the place behind those before, its answer behind theirs
-pub one_added : (before mid : List CodeState) (ys zs : List Sample) (a : CodeState) (y : Sample) (m n k i : ℕ) → i ≡ length ys → i < length mid
-    → take i mid ≡ take i before → zs ≡ ys ++ y ∷ [] → (m + n < 2 ^ 32 → k ≡ m + n)
-    → IsAdded (gathered (take (length ys) before) ys m) (outcome (state_of a) (datum_of y) n) (gathered (take (length zs) (set mid i a)) zs k)
-one_added before mid ys zs a y m n k i at l same is_zs counts = (
-  ap (λ j. states_of (take j (set mid i a))) (ap length is_zs ∙ length-append ys (y ∷ []) ∙ ap (λ j. j + 1) (sym at))
-      ∙ one_put mid i a (states_of (take (length ys) before)) l (ap states_of (same ∙ ap (λ j. take j before) at)),
-  ap (map datum_of) is_zs ∙ map_push datum_of ys y,
+-- a member's state and its answer stand in the places behind those before
+pub one_added : (before mid : List CodeState) (ys zs : List Sample) (a : CodeState) (y : Sample) (m n k i : ℕ) → i < length mid
+    → take i mid ≡ take i before → i < length zs → take i zs ≡ take i ys → (m + n < 2 ^ 32 → k ≡ m + n)
+    → IsAdded (gathered (take i before) (take i ys) m) (outcome (state_of a) (datum_of y) n)
+    (gathered (take (i + 1) (set mid i a)) (take (i + 1) (set zs i y)) k)
+one_added before mid ys zs a y m n k i ls same_states ly same_answers counts = (
+  one_put mid i a (states_of (take i before)) ls (ap states_of same_states),
+  one_answered ys zs i y ly same_answers,
   counts,
 )
 

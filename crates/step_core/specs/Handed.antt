@@ -4,13 +4,10 @@ use Rattle.sample_core.specs.Datum.{Datum, unit, pair, int}
 use Rattle.sample_core.specs.ValueView.{datum_of}
 use Rattle.leaf_core.specs.KeyTree.{KeyTree}
 use Rattle.state_core.specs.State.{Frozen}
-use Rattle.state_core.specs.RowsView.{rows_in, row_number}
-use Rattle.state_core.specs.StateView.{scope_of}
+use Rattle.state_core.specs.RowsView.{row_number}
 use Rattle.step_core.specs.Called.{Called}
-use Rattle.step_core.specs.Flow.{IsFlow, past_in}
-use Rattle.step_core.specs.SourceView.{source_of, sources_of}
 use Rattle.step_core.specs.Outcome.{Outcome}
-use Rattle.step_core.specs.Runs.{SeqBy, FirstBy, ParBy, LoopBy, SwitchBy, DSwitchBy, RSwitchBy, KSwitchBy, PSwitchBy, OldBy, Router, RunsWhere, to_all, by_row}
+use Rattle.step_core.specs.Runs.{Router, RunsWhere, to_all, by_row}
 use Rattle.step_core.specs.declared.source.Route.{Route}
 use Rattle.step_core.specs.declared.source.Route.TheVariants as W
 use Rattle.step_core.specs.declared.source.Back.{Back}

@@ -1,6 +1,6 @@
-// What one sample led to in members, and the places of their states.
+// What one sample led to in members.
 
-ghost use Rattle.std.specs.Prelude.{◌≡◌, ◌≤◌, ◌<◌, ◌+◌, suc, IfOk, MatchOption, length, take, ℕ};
+ghost use Rattle.std.specs.Prelude.{◌≡◌, ◌+◌, suc, IfOk, MatchOption, ℕ};
 ghost use Rattle.sample_core.specs.ValueView.{datum_of};
 ghost use Rattle.state_core.specs.RowsView.{rows_in, row_number};
 ghost use Rattle.state_core.specs.State.{no_frozen, and_frozen, par_state, p_switch_state};
@@ -14,10 +14,9 @@ use crate::source::{Source, Sources};
 use leaf_table::LeafId;
 use net_syntax::Net;
 use sample_core::{Memory, Sample};
-use state_core::{Around, Env, Node, State, States, gather};
+use state_core::{Around, Env, Node, State, States};
 use std::alloc::Global;
 use std::marker::Model;
-use std::rc::Rc;
 
 /// What a sample led to in all members: their states, the list of their answers, and how many
 /// nodes they visited. Contracts see it as a record of clean ones.
@@ -44,71 +43,28 @@ impl<'n> Model for Listed<'n> {
     } };
 }
 
-/// The places of so many members' states: those of the members that stand in the place, and room
-/// for more. `Memory` where a growth was refused.
-pub(crate) fn member_places<'n>(
-    alloc: Global,
-    room: usize,
-    place: &mut State<'n>,
-) -> Result<Vec<State<'n>>, Memory> {
-    let mut places = take_places(alloc, place);
-    let more = room.saturating_sub(places.len());
-    match places.try_reserve(more) {
-        Ok(()) => Ok(places),
-        Err(_) => {
-            drop(places);
-            Err(Memory)
-        }
-    }
-}
-
-/// The states of the members that stand in the place, which no one else holds; else none.
-fn take_places<'n>(alloc: Global, place: &mut State<'n>) -> Vec<State<'n>> {
-    if let State::Whole(whole) = place {
-        return match Rc::get_mut(&mut whole.node) {
-            Some(Node::Par(members)) => members.take(alloc),
-            Some(Node::PSwitch(parts)) => parts.members.take(alloc),
-            _ => Vec::new(alloc),
-        };
-    }
-    Vec::new(alloc)
-}
-
-/// Sees to it that there is a place of the next member, behind those of so many before it. `Memory`
-/// where a growth was refused.
-#[inline(always)]
-pub(crate) fn make_place<'n>(places: &mut Vec<State<'n>>, before: usize) -> Result<(), Memory>
-    requires { before ≤ length places.old.items }
-    ensures { IfOk result (λ _. (before < length places.new.items)
-        × (take before places.new.items ≡ take before places.old.items)) }
-{
-    if before < places.len() {
-        return Ok(());
-    }
-    places.push(State::Nothing)?;
-    Ok(())
-}
-
 impl<'n> Listed<'n> {
-    /// What all members led to, by their states, their answers and the visits. `Memory` where a
-    /// growth was refused.
+    /// What all members led to, by their states, their answers and the visits. The list comes into
+    /// the place of a value. `Memory` where a growth was refused.
     pub(crate) fn new(
         alloc: Global,
         states: Vec<State<'n>>,
         answers: Vec<Sample>,
         visits: u32,
+        mut list: Sample,
     ) -> Result<Listed<'n>, Memory>
         ensures { IfOk result
             (λ l. IsListed (gathered states.entry.items answers.items visits) l) }
     {
-        match gather(alloc, answers) {
-            Ok(list) => Ok(Listed {
+        match list.put_list(alloc, answers) {
+            Ok(()) => Ok(Listed {
                 states: States::new(states),
                 list,
                 visits,
             }),
             Err(memory) => {
                 drop(states);
+                drop(list);
                 Err(memory)
             }
         }

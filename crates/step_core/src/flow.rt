@@ -1,6 +1,6 @@
 // One sample through a network without switches.
 
-ghost use Rattle.std.specs.Prelude.{◌≡◌, ◌<◌, ◌++◌, ◌∷◌, [], None, Some, IfOk, IfSome, IsTrue, length, map, slice_get, slice_set};
+ghost use Rattle.std.specs.Prelude.{◌≡◌, ◌≤◌, ◌<◌, ◌++◌, ◌∷◌, [], None, Some, IfOk, IfSome, IsTrue, length, map, slice_get, slice_set, take};
 ghost use Rattle.sample_core.specs.{Datum.left, Datum.pair, Datum.right, ValueView.datum_of};
 ghost use Rattle.net_syntax.specs.Network.{map_networks, seq, first, par, loop_pre, accum_by};
 ghost use Rattle.net_syntax.specs.NetworkView.{members_of};
@@ -12,12 +12,14 @@ ghost use Rattle.step_core.specs.Flow.{Flows, AllFlow, IsCell, IsFedBack, number
 
 use crate::cells::{start_accum, start_cell, step_accum};
 use crate::part::{first, paired_with, second};
+use crate::places::{answer_places, make_place};
+use crate::round::put_first;
 use crate::rows::Rows;
 use cell_core::Form;
 use leaf_table::LeafId;
 use net_syntax::Net;
 use sample_core::{Memory, Sample};
-use state_core::{Cells, gather};
+use state_core::Cells;
 use std::alloc::Global;
 
 /// What a sample flows through beside the network: the rows of its expressions, the parameters in
@@ -75,6 +77,9 @@ fn call_into<R: Rows>(
     ensures { IfOk result (λ _. Called (R.keys on.now.rows.now) (row_number e)
         (map datum_of on.now.params.now) (datum_of x.now) (datum_of out.new)) }
 {
+    // A row keeps a copy of its last answer, in whose memory the next one comes where no one else
+    // holds it.
+    out.put_int(0);
     match on.rows.call(e, on.params, x) {
         Ok(Sample::Int(n)) => out.put_int(n),
         Ok(answer) => out.put(answer),
@@ -159,13 +164,9 @@ fn flow_par<R: Rows>(
         (map datum_of on.now.params.now) (past_in on.now.before on.now.dt) (datum_of x.now)
         cells.old cells.new (datum_of out.new)) }
 {
-    let mut answers = Vec::with_capacity(on.alloc, members.len())?;
-    match flow_each(on, members, x, cells, &mut answers) {
-        Ok(()) => {
-            let list = gather(on.alloc, answers)?;
-            out.put(list);
-            Ok(())
-        }
+    let mut answers = answer_places(on.alloc, members.len(), out)?;
+    match flow_each(on, members, x, cells, &mut answers, 0) {
+        Ok(()) => out.put_list(on.alloc, answers),
         Err(memory) => {
             drop(answers);
             Err(memory)
@@ -173,7 +174,7 @@ fn flow_par<R: Rows>(
     }
 }
 
-/// Adds to `answers` what the members answer, in order.
+/// Puts what the members answer, in order, in the place of the answers behind so many others.
 #[cycle(flow)]
 #[inline(never)]
 fn flow_each<R: Rows>(
@@ -182,28 +183,26 @@ fn flow_each<R: Rows>(
     x: &Sample,
     cells: &mut Cells,
     answers: &mut Vec<Sample>,
+    before: usize,
 ) -> Result<(), Memory>
-    requires { IsTrue (are_static (map_networks row_number (members_of members.now))) }
+    requires fixed { IsTrue (are_static (map_networks row_number (members_of members.now))) }
+    requires room { before ≤ length answers.old.items }
     ensures { IfOk result (λ _. AllFlow (R.keys on.now.rows.now)
         (map_networks row_number (members_of members.now))
         (map datum_of on.now.params.now) (past_in on.now.before on.now.dt) (datum_of x.now)
-        cells.old cells.new (map datum_of answers.old.items) (map datum_of answers.new.items)) }
+        cells.old cells.new (map datum_of (take before answers.old.items))
+        (map datum_of answers.new.items)) }
 {
     match members.split_first() {
         Some((f, rest)) => {
-            let mut answer = Sample::Int(0);
-            match flow(on, f, x, cells, &mut answer) {
-                Ok(()) => {
-                    answers.push(answer)?;
-                    flow_each(on, rest, x, cells, answers)
-                }
-                Err(memory) => {
-                    drop(answer);
-                    Err(memory)
-                }
-            }
+            make_place(answers, before, Sample::Int(0))?;
+            flow(on, f, x, cells, &mut answers[before])?;
+            flow_each(on, rest, x, cells, answers, before + 1)
         }
-        None => Ok(()),
+        None => {
+            answers.truncate(before);
+            Ok(())
+        }
     }
 }
 
@@ -305,12 +304,7 @@ fn keep_fed(
         × (cells.new ≡ slice_set cells.old at (previous (right (datum_of answer))))) }
 {
     match cells.put_previous(alloc, at, second(&answer)) {
-        Ok(()) => {
-            let passed = first(&answer).try_copy(alloc);
-            drop(answer);
-            out.put(passed?);
-            Ok(())
-        }
+        Ok(()) => put_first(alloc, answer, out),
         Err(memory) => {
             drop(answer);
             Err(memory)

@@ -14,6 +14,7 @@ mod laws;
 mod lowering;
 mod members;
 mod part;
+mod places;
 mod round;
 mod rows;
 mod run;

@@ -69,9 +69,9 @@ pub(crate) fn put_pair(
 {
     if let Sample::Pair(parts) = place {
         if let Some(first) = parts.first_mut() {
-            copy_over(alloc, v, first)?;
+            first.put_copy(alloc, v)?;
             if let Some(second) = parts.second_mut() {
-                return copy_over(alloc, w, second);
+                return second.put_copy(alloc, w);
             }
         }
     }
@@ -80,19 +80,14 @@ pub(crate) fn put_pair(
     Ok(())
 }
 
-/// A copy of the value in the place of another: of a number at once. `Memory` only where a count
-/// of references is full.
-#[inline(always)]
-fn copy_over(alloc: Global, value: &Sample, place: &mut Sample) -> Result<(), Memory>
-    ensures { IfOk result (λ _. datum_of place.new ≡ datum_of value.now) }
-{
-    if let Sample::Int(n) = value {
-        place.put_int(*n);
-        return Ok(());
+/// Puts a number in the place of a pair's second part, where no one else holds the pair: so it holds
+/// that part no longer.
+pub(crate) fn let_second_go(pair: &mut Sample) {
+    if let Sample::Pair(parts) = pair {
+        if let Some(second) = parts.second_mut() {
+            second.put_int(0);
+        }
     }
-    let copy = value.try_copy(alloc)?;
-    place.put(copy);
-    Ok(())
 }
 
 /// What an event carries; `None` for another value.

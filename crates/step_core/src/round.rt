@@ -50,10 +50,9 @@ pub(crate) fn take_parts<'n>(node: &mut Node<'n>) -> SeqParts<'n> {
 pub(crate) fn put_first(alloc: Global, answer: Sample, out: &mut Sample) -> Result<(), Memory>
     ensures { IfOk result (λ _. datum_of out.new ≡ left (datum_of answer)) }
 {
-    let kept = first(&answer).try_copy(alloc);
+    let done = out.put_copy(alloc, first(&answer));
     drop(answer);
-    out.put(kept?);
-    Ok(())
+    done
 }
 
 /// The node round a part that stands in the place, whose answer's first part goes out.

@@ -296,7 +296,7 @@ pub(crate) fn run_par<'n, R: Rows>(
         (λ w. ParBy w (sources_of fs.entry dt))
         (datum_of x.now) (outcome (state_of place.new) (datum_of out.new) n)) }
 {
-    let all = run_all(alloc, rows, Route::ToAll, fs, dt, x, place)?;
+    let all = run_all(alloc, rows, Route::ToAll, fs, dt, x, place, out)?;
     join_par(alloc, all, place, out)
 }
 
@@ -540,7 +540,8 @@ pub(crate) fn run_p_switch<'n, R: Rows>(
         (rows_in t.entry.now) (scope_of env.now))
         (datum_of x.now) (outcome (state_of place.new) (datum_of out.new) n)) }
 {
-    let all = run_all(alloc, rows, Route::ByRow(r, &env.params), fs, dt, x, place)?;
+    let route = Route::ByRow(r, &env.params);
+    let all = run_all(alloc, rows, route, fs, dt, x, place, out)?;
     let mut event = Sample::Int(0);
     match run_members_watch(alloc, rows, e, dt, x, all.list(), place, &mut event) {
         Ok(two) => {

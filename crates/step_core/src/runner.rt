@@ -3,10 +3,11 @@
 ghost use Rattle.std.specs.Prelude.{◌≡◌, ◌<◌, ◌≤◌, ◌+◌, ◌^◌, [], IfOk, OnErr};
 ghost use Rattle.sample_core.specs.{HasType.HasType, ValueView.datum_of};
 ghost use Rattle.leaf_table.specs.Rows.{rows_of};
-ghost use Rattle.step_core.specs.{Binding.FitsTable, RunnerState.HasPast, StateOption.state_in};
+ghost use Rattle.state_core.specs.StateView.{state_of};
+ghost use Rattle.step_core.specs.{Binding.FitsTable, RunnerState.HasPast, Runs.RunsWhere, SourceView.source_of, StateOption.state_in};
 
 use crate::bound::Bound;
-use crate::rows::Workspace;
+use crate::rows::{Rows, Workspace};
 use crate::run::run_in_line;
 use crate::source::Source;
 use leaf_table::LeafTable;
@@ -27,6 +28,8 @@ pub struct Runner<'a> {
     visits: u32,
     // The state before the last: the next one comes into its place.
     place: State<'a>,
+    // The last answer: the next one comes into its place.
+    answer: Sample,
     ghost past: { HasPast (record {
       input = bound.now.input;
       keys = rows_of workspace.table.now;
@@ -63,6 +66,7 @@ impl<'a> Runner<'a> {
             samples: 0,
             visits: 0,
             place: State::Nothing,
+            answer: Sample::Int(0),
         }
     }
 
@@ -86,14 +90,16 @@ impl<'a> Runner<'a> {
             Some(state) => Source::State(state),
             None => Source::Net(self.bound.net(), &env),
         };
+        let last = &mut self.answer;
         let mut answer = Sample::Int(0);
-        match run_in_line(
+        match run_kept(
             self.alloc,
             &self.workspace,
             &from,
             step,
             sample,
             &mut place,
+            last,
             &mut answer,
         ) {
             Ok(visits) => {
@@ -125,6 +131,27 @@ impl<'a> Runner<'a> {
     {
         self.visits
     }
+}
+
+/// A start or a step, whose answer stays in the place of the last one and is put out as a copy.
+#[inline(always)]
+fn run_kept<'n, R: Rows>(
+    alloc: Global,
+    rows: &R,
+    from: &Source<'_, 'n>,
+    dt: u64,
+    x: &Sample,
+    place: &mut State<'n>,
+    last: &mut Sample,
+    out: &mut Sample,
+) -> Result<u32, Memory>
+    ensures { IfOk result (λ n.
+        RunsWhere (R.keys rows.now) (source_of from.now dt) (datum_of x.now)
+        (state_of place.new) (datum_of out.new) n) }
+{
+    let visits = run_in_line(alloc, rows, from, dt, x, place, last)?;
+    out.put_copy(alloc, last)?;
+    Ok(visits)
 }
 
 /// The state before as a place, if there was one.

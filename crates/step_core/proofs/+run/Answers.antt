@@ -1,6 +1,5 @@
-use Rattle.std.proofs.Common.{◌≡◌, ℕ, rules, arith, sym, ap, subst, ◌∙◌, refl, List, [], ◌∷◌, length, length-append, length-set, take}
-use Rattle.leaf_core.specs.KeyTree.{KeyTree}
-use Rattle.sample_core.specs.Datum.{Datum, pair}
+use Rattle.std.proofs.Common.{rules, arith, sym, ap, subst, ◌∙◌, refl, length-set, take}
+use Rattle.sample_core.specs.Datum.{pair}
 use Rattle.sample_core.specs.ValueView.{datum_of}
 use Rattle.state_core.specs.RowsView.{rows_in, row_number}
 use Rattle.state_core.specs.State.{seq_state, paused, unstarted, par_state, no_state, push_param, push_old, push_olds}
@@ -218,40 +217,33 @@ members::run_each-members-smaller g t c = (members_fall _ _ _ (c.in-Some.ensures
 pub members::run_each-members-preserved : goal.members::run_each-members-preserved
 members::run_each-members-preserved g t c =
     let fall = members_fall _ _ _ (c.in-Some.ensures c.args.on.now.dt) in
-    let room = c.in_ok-make_place-in-Some.ensures in
-    let at : c.len-before.result ≡ length c.members.answers.items = omega (arith, c.len-before.ensures, c.members.answers.ok) in
-    let added = one_added c.members.places.items c.make_place.new.places.items c.members.answers.items c.push.new.self.items c.run_member.new.place
-    c.run_member.new.out c.members.visits c.in-Ok.one c.both-visits.result c.len-before.result at room.0 room.1
-    c.in_ok-push-in-Some.ensures.items c.both-visits.ensures in (
+    let states = c.in_ok-make_place-in-Some.ensures in
+    let answers = c.in_ok-make_place-in-Some-2.ensures in
+    let added = one_added c.members.places.items c.make_place.new.places.items c.members.answers.items c.make_place-in-Some.new.places.items
+    c.run_member.new.place c.run_member.new.out c.members.visits c.in_ok-one-in-Some.one c.both-visits.result c.members.before states.0 states.1 answers.0
+    answers.1 c.both-visits.ensures in (
       omega (arith, fall.1, c.members.invariant.0),
-      omega (
-        arith,
-        room.0,
-        at,
-        ap length c.in_ok-push-in-Some.ensures.items,
-        length-append c.members.answers.items (c.run_member.new.out ∷ []),
-        length-set c.make_place.new.places.items c.len-before.result c.run_member.new.place,
-      ),
-      (λ all h. c.members.invariant.2 all (also_run _ (router_of c.args.on.now.router) c.members.i _ _ _ _ _ c.in-Ok.ensures.runs.0
-          (outcome (state_of c.run_member.new.place) (datum_of c.run_member.new.out) c.in-Ok.one) _ _ _ (c.in-Some.ensures c.args.on.now.dt)
-          c.in-Ok.ensures.runs.1 c.in-Ok.ensures.runs.2 added (next_number c.members.i) h)),
+      omega (arith, states.0, length-set c.make_place.new.places.items c.members.before c.run_member.new.place),
+      omega (arith, answers.0, length-set c.make_place-in-Some.new.places.items c.members.before c.run_member.new.out),
+      (λ all h. c.members.invariant.3 all (also_run _ (router_of c.args.on.now.router) c.members.i _ _ _ _ _ c.in_ok-one-in-Some.ensures.runs.0
+          (outcome (state_of c.run_member.new.place) (datum_of c.run_member.new.out) c.in_ok-one-in-Some.one) _ _ _ (c.in-Some.ensures c.args.on.now.dt)
+          c.in_ok-one-in-Some.ensures.runs.1 c.in_ok-one-in-Some.ensures.runs.2 added (next_number c.members.i) h)),
       c.run_member.ensures.asked,
     )
 
 pub members::run_each-returns-in-None : goal.members::run_each-returns-in-None
 members::run_each-returns-in-None g t c =
-    let at : c.len-before.result ≡ length c.members.answers.items = omega (arith, c.len-before.ensures, c.members.answers.ok) in
-    let kept = c.truncate.ensures.items ∙ ap (λ j. take j c.members.places.items) at in
-    c.members.invariant.2 _
-    (subst (λ ws. RunEachWhere (g.R.Rows.keys c.args.on.now.rows.now) (router_of c.args.on.now.router) c.members.i
-    (sources_of c.members.rest c.args.on.now.dt) (datum_of c.args.on.now.x.now)
-    (gathered (take (length c.members.answers.items) c.members.places.items) c.members.answers.items c.members.visits)
-    (gathered ws c.members.answers.items c.members.visits)) (sym kept)
+    let states = take c.members.before c.members.places.items in
+    let answers = take c.members.before c.members.answers.items in
+    c.members.invariant.3 _
+    (subst (λ all. RunEachWhere (g.R.Rows.keys c.args.on.now.rows.now) (router_of c.args.on.now.router) c.members.i
+    (sources_of c.members.rest c.args.on.now.dt) (datum_of c.args.on.now.x.now) (gathered states answers c.members.visits) all)
+    (λ i. gathered (sym c.truncate.ensures.items i) (sym c.truncate-in-None.ensures.items i) c.members.visits)
     (none_run _ (router_of c.args.on.now.router) c.members.i _ _ _ (c.in-None.ensures c.args.on.now.dt)))
 
-pub members::run_all-returns-in-Ok : goal.members::run_all-returns-in-Ok
-members::run_all-returns-in-Ok g t c =
-    if_ok c.new.result _ _ (λ all l. (_, c.in-Ok.ensures, l)) c.new.ensures
+pub members::run_all-returns-in-Ok-run_each : goal.members::run_all-returns-in-Ok-run_each
+members::run_all-returns-in-Ok-run_each g t c =
+    if_ok c.new.result _ _ (λ all l. (_, c.in-Ok-run_each.ensures, l)) c.new.ensures
 
 pub step::step-returns-in-Static : goal.step::step-returns-in-Static
 step::step-returns-in-Static g t c = if_ok c.step_static.result _ _

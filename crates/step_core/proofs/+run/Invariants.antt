@@ -106,9 +106,9 @@ decreases-members::run_each g l = 10 * total (frozen_ranks (sources_of l.members
 abbrev pub invariant-members::run_each-members : goal.invariant-members::run_each-members
 invariant-members::run_each-members g l =
     (total (frozen_ranks (sources_of l.rest l.on.dt)) ≤ total (frozen_ranks (sources_of l.members l.on.dt)))
-    × (length l.answers.items ≤ length l.places.items)
+    × (l.before ≤ length l.places.items) × (l.before ≤ length l.answers.items)
     × ((all : Gathered) → RunEachWhere (g.R.Rows.keys l.on.rows.now) (router_of l.on.router) l.i (sources_of l.rest l.on.dt) (datum_of l.on.x.now)
-    (gathered (take (length l.answers.items) l.places.items) l.answers.items l.visits) all
+    (gathered (take l.before l.places.items) (take l.before l.answers.items) l.visits) all
     → RunEachWhere (g.R.Rows.keys l.on.rows.now) (router_of l.on.router) 0 (sources_of l.members l.on.dt) (datum_of l.on.x.now) nothing_yet all)
     × IsAsked (datum_of l.on.x.now) (datum_of l.asked)
 

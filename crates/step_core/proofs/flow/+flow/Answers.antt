@@ -1,6 +1,4 @@
-use Rattle.std.proofs.Common.{◌≡◌, ◌++◌, ◌∷◌, [], map, ap, ◌∙◌, arith, inl, inr}
-use Rattle.std.proofs.lemmas.Grind.{common_steps}
-use Rattle.std.proofs.lemmas.List.{map_push}
+use Rattle.std.proofs.Common.{map, ap, ◌∙◌, refl, inl, inr}
 use Rattle.std.specs.Prelude.{slice_set}
 use Rattle.sample_core.specs.Datum.{right}
 use Rattle.sample_core.specs.ValueView.{datum_of}
@@ -10,6 +8,7 @@ use Rattle.cell_core.specs.Cell.{previous}
 use Rattle.state_core.specs.RowsView.{rows_in, row_number}
 use Rattle.step_core.specs.Flow as F
 use Rattle.step_core.proofs.Flows.{arr_where, cell_by, seq_flows, first_flows, loop_flows, par_flows, also_flow, none_flow, no_items}
+use Rattle.step_core.proofs.StateLists.{one_answered}
 use Rattle.step_core.proofs.RunJoins.{if_ok}
 use Rattle.step_core.proofs.flow.+flow.Goals as goal
 
@@ -54,18 +53,17 @@ flow_loop-returns-in-Ok g t c =
     (h.1 ∙ ap (λ n. slice_set c.flow-done.new.cells n (previous (right (datum_of c.flow-done.new.out)))) c.len-at.ensures))
     c.keep_fed.ensures
 
-pub flow_par-returns-in_ok-list-in-Ok : goal.flow_par-returns-in_ok-list-in-Ok
-flow_par-returns-in_ok-list-in-Ok g t c =
-    par_flows _ _ _ _ _ _ _ _ _ _ c.in-Ok.ensures (ap (map datum_of) c.in_ok-answers.ensures.items)
-    (ap datum_of c.put.ensures ∙ c.in_ok-list-in-Ok.ensures)
+pub flow_par-returns-in-Ok : goal.flow_par-returns-in-Ok
+flow_par-returns-in-Ok g t c = if_ok c.put_list.result _ _ (λ y h. par_flows _ _ _ _ _ _ _ _ _ _ c.in-Ok.ensures refl h) c.put_list.ensures
 
-pub flow_each-returns-in_ok-push-in-Ok : goal.flow_each-returns-in_ok-push-in-Ok
-flow_each-returns-in_ok-push-in-Ok g t c =
+pub flow_each-returns-in_ok-flow-in-Some : goal.flow_each-returns-in_ok-flow-in-Some
+flow_each-returns-in_ok-flow-in-Some g t c =
     let form = ap (λ fs. map_networks row_number (members_of fs)) c.in-Some.ensures.cases.0 in
-    let pushed : map datum_of c.push.new.self.items ≡ map datum_of c.args.answers.now.items ++ datum_of c.flow.new.out ∷ [] = grind
-    (arith, common_steps, map_push datum_of) in
-    if_ok c.flow_each.result _ _ (λ u rest. also_flow _ _ _ _ _ _ _ _ _ _ _ _ _ _ form c.in-Ok.ensures pushed rest) c.flow_each.ensures
+    let room = c.in_ok-make_place-in-Some.ensures in
+    let answered = one_answered c.args.answers.now.items c.make_place.new.places.items c.args.before c.flow.new.out room.0 room.1 in
+    if_ok c.flow_each.result _ _ (λ u rest. also_flow _ _ _ _ _ _ _ _ _ _ _ _ _ _ form c.in_ok-flow-in-Some.ensures answered rest) c.flow_each.ensures
 
 pub flow_each-returns-in-None : goal.flow_each-returns-in-None
 flow_each-returns-in-None g t c =
-    none_flow _ _ _ _ _ _ _ (ap (λ fs. map_networks row_number (members_of fs)) (no_items _ c.in-None.ensures.cases))
+    none_flow _ _ _ _ _ _ _ _ (ap (λ fs. map_networks row_number (members_of fs)) (no_items _ c.in-None.ensures.cases))
+    (ap (map datum_of) c.truncate.ensures.items)

@@ -13,7 +13,7 @@ use Rattle.step_core.proofs.runner.Runner.push.Goals as goal
 
 -- the next output, whether or not this is the first sample
 after_push : (g : _) (c : After-drop g) → Pushes (runner_state c.args.self.now) (c.args.step, datum_of c.args.sample.now)
-    (datum_of c.run_in_line.new.out)
+    (datum_of c.run_kept.new.out)
     (record {
       input = c.args.self.now.bound.now.input;
       keys = rows_of c.args.self.now.workspace.table.now;
@@ -27,11 +27,11 @@ after_push g c =
     (add-one c.args.self.now.samples) refl refl
     (elim c.match-self.branch [
       | in-Some w ↦ next_pushed (runner_state c.args.self.now) _ _ _ _ _ (ap state_in w.in-Some.is) c.requires.typed
-          (subst (λ o. RunsWhere (rows_of c.args.self.now.workspace.table.now) (source_of o c.args.step) (datum_of c.args.sample.now) (state_of c.run_in_line.new.place)
-          (datum_of c.run_in_line.new.out) c.in-Ok.visits) w.from-is c.in-Ok.ensures)
+          (subst (λ o. RunsWhere (rows_of c.args.self.now.workspace.table.now) (source_of o c.args.step) (datum_of c.args.sample.now) (state_of c.run_kept.new.place)
+          (datum_of c.run_kept.new.out) c.in-Ok.visits) w.from-is c.in-Ok.ensures)
       | in-None w ↦ first_pushed_from (runner_state c.args.self.now) _ _ _ _ _ _ (ap state_in w.in-None.is) c.requires.typed w.net.ensures c.nothing-env.ensures
-          (subst (λ o. RunsWhere (rows_of c.args.self.now.workspace.table.now) (source_of o c.args.step) (datum_of c.args.sample.now) (state_of c.run_in_line.new.place)
-          (datum_of c.run_in_line.new.out) c.in-Ok.visits) w.from-is c.in-Ok.ensures)
+          (subst (λ o. RunsWhere (rows_of c.args.self.now.workspace.table.now) (source_of o c.args.step) (datum_of c.args.sample.now) (state_of c.run_kept.new.place)
+          (datum_of c.run_kept.new.out) c.in-Ok.visits) w.from-is c.in-Ok.ensures)
     ])
 
 pub returns-in-Ok-clause-pushed : goal.returns-in-Ok-clause-pushed
