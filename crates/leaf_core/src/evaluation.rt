@@ -12,8 +12,8 @@ use crate::expr::{Expr, ExprChild, Exprs};
 use crate::literal::Literal;
 use crate::looked::{Looked, path_at, short_path_at};
 use crate::operations::{
-    count, element, equal, literal_value, negated, number, part, put_number, put_pair, put_param,
-    put_truth, sum_of, truth,
+    count, element, equal, literal_value, negated, number, param_number, part, put_number,
+    put_pair, put_param, put_truth, sum_of, truth,
 };
 use crate::scope::Scope;
 use sample_core::{Memory, Sample, SampleChild, SamplePair, Samples};
@@ -483,6 +483,7 @@ fn far_number(scope: &Scope<'_>, child: &ExprChild) -> Result<i64, Memory>
         Expr::Neg(a) => eval_neg(scope, a),
         Expr::Add(a, b) | Expr::Sub(a, b) | Expr::Mul(a, b) => eval_sum(scope, form, a, b),
         Expr::Len(e) => eval_len(scope, e),
+        Expr::Param(k) => Ok(param_number(scope.params, *k)),
         Expr::Fst(e) | Expr::Snd(e) => match short_path_at(scope.x, e.get()) {
             Some(value) => Ok(number(part(form, value))),
             None => look_number(scope, child),

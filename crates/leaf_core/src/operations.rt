@@ -84,6 +84,16 @@ pub fn param(params: &[Sample], k: u32) -> Option<&Sample>
     }
 }
 
+/// The number of parameter k, from 0; 0 where there is none, or where it is no number.
+pub fn param_number(params: &[Sample], k: u32) -> i64
+    ensures { result ≡ int_of (param_at (map datum_of params.now) k) }
+{
+    match param(params, k) {
+        Some(value) => number(value),
+        None => 0,
+    }
+}
+
 /// Puts a copy of parameter k, from 0, in the place of another value; `unit` where there is none.
 pub fn put_param(alloc: Global, params: &[Sample], k: u32, place: &mut Sample) -> Result<(), Memory>
     ensures { OnOk result (datum_of place.new ≡ param_at (map datum_of params.now) k) }

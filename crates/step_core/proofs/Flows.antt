@@ -1,6 +1,7 @@
 -- What a sample does to networks without switches, form by form, by what it does to the parts.
-use Rattle.std.proofs.Common.{◌≡◌, ℕ, zero, suc, ◌+◌, List, [], ◌∷◌, ◌++◌, Option, Some, None, IsTrue, length, drop, refl, sym, ap, ◌∙◌, subst, arith, append_assoc, append-nil}
+use Rattle.std.proofs.Common.{◌≡◌, ℕ, zero, suc, ◌+◌, List, [], ◌∷◌, ◌++◌, Option, Some, None, Bool, true, false, ◌&&◌, IsTrue, length, drop, refl, sym, ap, ◌∙◌, subst, arith, append_assoc, append-nil}
 use Rattle.std.specs.Prelude.{slice_get, slice_set}
+use Rattle.std.proofs.lemmas.Bool.{false≢true}
 use Rattle.std.proofs.lemmas.List.{length-append}
 use Rattle.std.proofs.Math.Seq.{set-append_seam}
 use Rattle.sample_core.specs.Datum.{Datum, left, right, pair, list, list_of}
@@ -64,6 +65,14 @@ cell_by net m form c e h = subst (λ z. IsCell z form c) (sym e) h
 
 -- the forms of cells
 pub ruleset cell_forms = (F.is_i_pre, F.is_delay, F.is_hold, F.is_after, F.is_repeatedly, F.is_time, F.is_integral)
+
+second_true : (a b : Bool) → IsTrue (a && b) → IsTrue b
+second_true true b h = h
+second_true false b h = absurd (false≢true h)
+
+-- where a `>>>` has no switches, its second part has none
+pub second_static : (net f g : Network ℕ) → net ≡ seq f g → IsTrue (is_static net) → IsTrue (is_static g)
+second_static net f g e h = second_true (is_static f) (is_static g) (subst (λ m. IsTrue (is_static m)) e h)
 
 from_start : (p : Past) → p ≡ behind 0 p
 from_start None = refl
@@ -136,6 +145,12 @@ module _ (keys : List KeyTree) where
         seq_runs keys parts.0 parts.1 x v y (static_state f ps one.cells) (static_state g ps two.cells) _ (weight f []) (weight g []) _ state
         (one.runs _ parts.2) (two.runs _ (at (cell_count f) (length before) (length mid) p from parts.3)) (λ _. refl) w parts.4;
   }
+
+  -- a `>>>`, by an equation, where what goes between stands in another place
+  pub chain_flows : (net f g : Network ℕ) (ps : List Datum) (p : Past) (x v u y : Datum) (before mid now : List Cell) → net ≡ seq f g → u ≡ v
+      → Flows keys f ps p x before mid v → Flows keys g ps p u mid now y → Flows keys net ps p x before now y
+  chain_flows net f g ps p x v u y before mid now e same one two = subst (λ m. Flows keys m ps p x before now y) (sym e)
+      (seq_flows f g ps p x v y before mid now one (subst (λ z. Flows keys g ps p z mid now y) same two))
 
   pub first_flows : (f : Network ℕ) (ps : List Datum) (p : Past) (x l v u y : Datum) (before now : List Cell) → l ≡ left x → u ≡ right x → y ≡ pair v u
       → Flows keys f ps p l before now v → Flows keys (first f) ps p x before now y

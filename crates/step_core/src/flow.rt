@@ -11,7 +11,7 @@ ghost use Rattle.step_core.specs.Called.{Called};
 ghost use Rattle.step_core.specs.Flow.{Flows, AllFlow, IsCell, IsFedBack, number_of, past_in};
 
 use crate::cells::{start_accum, start_cell, step_accum};
-use crate::part::{first, paired_with, second};
+use crate::part::{first, let_parts_go, put_pair, second};
 use crate::places::{answer_places, make_place};
 use crate::round::put_first;
 use crate::rows::Rows;
@@ -77,9 +77,6 @@ fn call_into<R: Rows>(
     ensures { IfOk result (λ _. Called (R.keys on.now.rows.now) (row_number e)
         (map datum_of on.now.params.now) (datum_of x.now) (datum_of out.new)) }
 {
-    // A row keeps a copy of its last answer, in whose memory the next one comes where no one else
-    // holds it.
-    out.put_int(0);
     match on.rows.call(e, on.params, x) {
         Ok(Sample::Int(n)) => out.put_int(n),
         Ok(answer) => out.put(answer),
@@ -106,17 +103,41 @@ fn flow_seq<R: Rows>(
         cells.old cells.new (datum_of out.new)) }
 {
     let mut between = Sample::Int(0);
-    match flow(on, f, x, cells, &mut between) {
-        Ok(()) => {
-            let done = flow(on, g, &between, cells, out);
-            between.let_go();
-            done
-        }
-        Err(memory) => {
-            drop(between);
-            Err(memory)
-        }
+    let mut place = Sample::Int(0);
+    let done = flow_chain(on, f, g, x, cells, &mut between, &mut place, out);
+    between.let_go();
+    place.let_go();
+    done
+}
+
+/// The same, where the second part may be a `>>>` in turn, and so on: what goes from one to the next
+/// stands in one place, and the next answer comes into the other.
+#[cycle(flow)]
+#[inline(always)]
+fn flow_chain<R: Rows>(
+    on: &Context<'_, R>,
+    f: &Net<LeafId>,
+    g: &Net<LeafId>,
+    x: &Sample,
+    cells: &mut Cells,
+    between: &mut Sample,
+    place: &mut Sample,
+    out: &mut Sample,
+) -> Result<(), Memory>
+    requires { IsTrue (is_static (seq (rows_in f.now) (rows_in g.now))) }
+    ensures { IfOk result (λ _. Flows (R.keys on.now.rows.now)
+        (seq (rows_in f.now) (rows_in g.now))
+        (map datum_of on.now.params.now) (past_in on.now.before on.now.dt) (datum_of x.now)
+        cells.old cells.new (datum_of out.new)) }
+{
+    flow(on, f, x, cells, between)?;
+    let mut rest = g;
+    'chain: while let Net::Seq(f, g) = rest {
+        flow(on, f.get(), between, cells, place)?;
+        std::mem::swap(between, place);
+        rest = g.get();
     }
+    flow(on, rest, between, cells, out)
 }
 
 /// `first`: the second component passes along.
@@ -137,9 +158,9 @@ fn flow_first<R: Rows>(
     let mut answer = Sample::Int(0);
     match flow(on, f, first(x), cells, &mut answer) {
         Ok(()) => {
-            let both = paired_with(on.alloc, answer, second(x))?;
-            out.put(both);
-            Ok(())
+            let done = put_pair(on.alloc, &answer, second(x), out);
+            answer.let_go();
+            done
         }
         Err(memory) => {
             drop(answer);
@@ -196,7 +217,7 @@ fn flow_each<R: Rows>(
     match members.split_first() {
         Some((f, rest)) => {
             make_place(answers, before, Sample::Int(0))?;
-            flow(on, f, x, cells, &mut answers[before])?;
+            flow_member(on, f, x, cells, &mut answers[before])?;
             flow_each(on, rest, x, cells, answers, before + 1)
         }
         None => {
@@ -204,6 +225,25 @@ fn flow_each<R: Rows>(
             Ok(())
         }
     }
+}
+
+/// One member, in the place of an answer before.
+#[cycle(flow)]
+#[inline(always)]
+fn flow_member<R: Rows>(
+    on: &Context<'_, R>,
+    f: &Net<LeafId>,
+    x: &Sample,
+    cells: &mut Cells,
+    out: &mut Sample,
+) -> Result<(), Memory>
+    requires { IsTrue (is_static (rows_in f.now)) }
+    ensures { IfOk result (λ _. Flows (R.keys on.now.rows.now) (rows_in f.now)
+        (map datum_of on.now.params.now) (past_in on.now.before on.now.dt) (datum_of x.now)
+        cells.old cells.new (datum_of out.new)) }
+{
+    let_parts_go(out);
+    flow(on, f, x, cells, out)
 }
 
 /// `loopPre`: its part gets the sample and what is fed back. What is fed back next stands in the

@@ -11,7 +11,7 @@ ghost use Rattle.step_core.specs.SourceView.{source_of, sources_of};
 use crate::count;
 use crate::each::{Listed, count_of, first_of};
 use crate::handed::{Handing, routed};
-use crate::part::let_second_go;
+use crate::part::{let_parts_go, let_second_go};
 use crate::places::{answer_places, make_place, member_places};
 use crate::rows::Rows;
 use crate::run::{run, run_part};
@@ -123,6 +123,7 @@ fn run_member<'n, R: Rows>(
         RunsMember (R.keys on.now.rows.now) (router_of on.now.router) i (source_of f.now on.now.dt)
         (datum_of on.now.x.now) (outcome (state_of place.new) (datum_of out.new) n)) }
 {
+    let_parts_go(out);
     match on.router {
         Route::ToAll => run(on.alloc, on.rows, f, on.dt, on.x, place, out),
         Route::ByRow(r, params) => {

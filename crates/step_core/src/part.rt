@@ -80,6 +80,15 @@ pub(crate) fn put_pair(
     Ok(())
 }
 
+/// Puts a number in the place of an answer that is a pair or an event: a row keeps a copy of its last
+/// answer, and the next one comes into its memory where no one else holds it.
+#[inline(always)]
+pub(crate) fn let_parts_go(answer: &mut Sample) {
+    if let Sample::Pair(_) | Sample::Event(_) = answer {
+        answer.put_int(0);
+    }
+}
+
 /// Puts a number in the place of a pair's second part, where no one else holds the pair: so it holds
 /// that part no longer.
 pub(crate) fn let_second_go(pair: &mut Sample) {

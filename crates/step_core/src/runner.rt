@@ -28,7 +28,7 @@ pub struct Runner<'a> {
     visits: u32,
     // The state before the last: the next one comes into its place.
     place: State<'a>,
-    // The last answer: the next one comes into its place.
+    // The last list that was answered: the next one comes into its place.
     answer: Sample,
     ghost past: { HasPast (record {
       input = bound.now.input;
@@ -133,7 +133,8 @@ impl<'a> Runner<'a> {
     }
 }
 
-/// A start or a step, whose answer stays in the place of the last one and is put out as a copy.
+/// A start or a step. A list that it answers stays in the place of the last one, and a copy is put
+/// out; another value is put out itself.
 #[inline(always)]
 fn run_kept<'n, R: Rows>(
     alloc: Global,
@@ -150,7 +151,10 @@ fn run_kept<'n, R: Rows>(
         (state_of place.new) (datum_of out.new) n) }
 {
     let visits = run_in_line(alloc, rows, from, dt, x, place, last)?;
-    out.put_copy(alloc, last)?;
+    match last {
+        Sample::List(_) => out.put_copy(alloc, last)?,
+        _ => std::mem::swap(last, out),
+    }
     Ok(visits)
 }
 
