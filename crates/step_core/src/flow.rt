@@ -102,6 +102,40 @@ fn flow_seq<R: Rows>(
         (map datum_of on.now.params.now) (past_in on.now.before on.now.dt) (datum_of x.now)
         cells.old cells.new (datum_of out.new)) }
 {
+    if let Net::Seq(_, _) = g {
+        return flow_long(on, f, g, x, cells, out);
+    }
+    let mut between = Sample::Int(0);
+    match flow(on, f, x, cells, &mut between) {
+        Ok(()) => {
+            let done = flow(on, g, &between, cells, out);
+            between.let_go();
+            done
+        }
+        Err(memory) => {
+            drop(between);
+            Err(memory)
+        }
+    }
+}
+
+/// The same, where the second part is a `>>>` in turn.
+#[cycle(flow)]
+#[inline(never)]
+fn flow_long<R: Rows>(
+    on: &Context<'_, R>,
+    f: &Net<LeafId>,
+    g: &Net<LeafId>,
+    x: &Sample,
+    cells: &mut Cells,
+    out: &mut Sample,
+) -> Result<(), Memory>
+    requires { IsTrue (is_static (seq (rows_in f.now) (rows_in g.now))) }
+    ensures { IfOk result (λ _. Flows (R.keys on.now.rows.now)
+        (seq (rows_in f.now) (rows_in g.now))
+        (map datum_of on.now.params.now) (past_in on.now.before on.now.dt) (datum_of x.now)
+        cells.old cells.new (datum_of out.new)) }
+{
     let mut between = Sample::Int(0);
     let mut place = Sample::Int(0);
     let done = flow_chain(on, f, g, x, cells, &mut between, &mut place, out);
@@ -110,8 +144,8 @@ fn flow_seq<R: Rows>(
     done
 }
 
-/// The same, where the second part may be a `>>>` in turn, and so on: what goes from one to the next
-/// stands in one place, and the next answer comes into the other.
+/// The same with places for what goes from one part to the next: it stands in one, and the next
+/// answer comes into the other.
 #[cycle(flow)]
 #[inline(always)]
 fn flow_chain<R: Rows>(

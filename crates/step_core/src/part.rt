@@ -84,6 +84,15 @@ pub(crate) fn put_pair(
 /// answer, and the next one comes into its memory where no one else holds it.
 #[inline(always)]
 pub(crate) fn let_parts_go(answer: &mut Sample) {
+    match answer {
+        Sample::Int(_) => {}
+        other => let_other_parts_go(other),
+    }
+}
+
+/// The same of an answer that is no number.
+#[inline(never)]
+fn let_other_parts_go(answer: &mut Sample) {
     if let Sample::Pair(_) | Sample::Event(_) = answer {
         answer.put_int(0);
     }

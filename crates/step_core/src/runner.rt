@@ -152,7 +152,7 @@ fn run_kept<'n, R: Rows>(
 {
     let visits = run_in_line(alloc, rows, from, dt, x, place, last)?;
     match last {
-        Sample::List(_) => out.put_copy(alloc, last)?,
+        Sample::List(_) | Sample::Int(_) => out.put_copy(alloc, last)?,
         _ => std::mem::swap(last, out),
     }
     Ok(visits)

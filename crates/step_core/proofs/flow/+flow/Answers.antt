@@ -38,6 +38,10 @@ flow-returns-in-IPre g t c = if_ok c.flow_cell.result _ _ (λ y h. elim c.in-IPr
   ]
 ]) c.flow_cell.ensures
 
+pub flow_seq-returns-in-Ok : goal.flow_seq-returns-in-Ok
+flow_seq-returns-in-Ok g t c =
+    if_ok c.flow-done.result _ _ (λ y two. seq_flows _ _ _ _ _ _ _ _ _ _ _ c.in-Ok.ensures two) c.flow-done.ensures
+
 pub flow_chain-chain-preserved : goal.flow_chain-chain-preserved
 flow_chain-chain-preserved g t c =
     let form : rows_in c.chain.rest.now ≡ seq (rows_in c.get.result.now) (rows_in c.get-rest.result.now) = ap rows_in c.in-Seq.is ∙ (λ i. seq

@@ -10,28 +10,31 @@ use Rattle.step_core.specs.Flow.{Flows, past_in}
 use Rattle.step_core.proofs.flow.+flow.Given as goal
 
 abbrev pub decreases-flow : goal.decreases-flow
-decreases-flow g l = 3 * net_size l.net.now + 1
+decreases-flow g l = 4 * net_size l.net.now + 1
 
 abbrev pub decreases-flow_first : goal.decreases-flow_first
-decreases-flow_first g l = 3 * net_size l.f.now + 2
+decreases-flow_first g l = 4 * net_size l.f.now + 2
 
 abbrev pub decreases-flow_par : goal.decreases-flow_par
-decreases-flow_par g l = 3 * nets_size l.members.now + 2
+decreases-flow_par g l = 4 * nets_size l.members.now + 2
 
 abbrev pub decreases-flow_each : goal.decreases-flow_each
-decreases-flow_each g l = 3 * nets_size l.members.now + 1
+decreases-flow_each g l = 4 * nets_size l.members.now + 1
 
 abbrev pub decreases-flow_member : goal.decreases-flow_member
-decreases-flow_member g l = 3 * net_size l.f.now + 2
+decreases-flow_member g l = 4 * net_size l.f.now + 2
 
 abbrev pub decreases-flow_loop : goal.decreases-flow_loop
-decreases-flow_loop g l = 3 * net_size l.f.now + 2
+decreases-flow_loop g l = 4 * net_size l.f.now + 2
 
 abbrev pub decreases-flow_seq : goal.decreases-flow_seq
-decreases-flow_seq g l = 3 * (net_size l.f.now + net_size l.g.now) + 3
+decreases-flow_seq g l = 4 * (net_size l.f.now + net_size l.g.now) + 4
+
+abbrev pub decreases-flow_long : goal.decreases-flow_long
+decreases-flow_long g l = 4 * (net_size l.f.now + net_size l.g.now) + 3
 
 abbrev pub decreases-flow_chain : goal.decreases-flow_chain
-decreases-flow_chain g l = 3 * (net_size l.f.now + net_size l.g.now) + 2
+decreases-flow_chain g l = 4 * (net_size l.f.now + net_size l.g.now) + 2
 
 -- what is to come makes the whole `>>>` of what has passed
 abbrev pub invariant-flow_chain-chain : goal.invariant-flow_chain-chain
