@@ -58,7 +58,13 @@ pub fn eval_over(
         (datum_of place.new ≡ value_of (expression_of expr.now) (map datum_of params.now)
         (datum_of x.now)) }
 {
-    eval_into(&Scope { alloc, params, x }, expr, place)
+    let scope = Scope { alloc, params, x };
+    match expr {
+        Expr::Add(a, b) | Expr::Sub(a, b) | Expr::Mul(a, b) => {
+            put_number(eval_sum(&scope, expr, a, b), place)
+        }
+        _ => eval_into(&scope, expr, place),
+    }
 }
 
 /// Puts the value of the expression over a scope in the place of another value.
@@ -463,13 +469,19 @@ fn eval_elements(scope: &Scope<'_>, elements: &Exprs, place: &mut Sample) -> Res
 /// The number that a part has as its value; 0 where that is no number.
 #[cycle(eval)]
 #[inline(always)]
-fn eval_number(scope: &Scope<'_>, part: &ExprChild) -> Result<i64, Memory>
-    ensures { IfOk result (λ n. n ≡ int_of (value_in part.now scope.now)) }
+fn eval_number(scope: &Scope<'_>, child: &ExprChild) -> Result<i64, Memory>
+    ensures { IfOk result (λ n. n ≡ int_of (value_in child.now scope.now)) }
 {
-    match part.get() {
+    let form = child.get();
+    match form {
         Expr::Literal(Literal::Int(n)) => Ok(*n),
         Expr::Input => Ok(number(scope.x)),
-        _ => far_number(scope, part),
+        Expr::Param(k) => Ok(param_number(scope.params, *k)),
+        Expr::Fst(e) | Expr::Snd(e) => match e.get() {
+            Expr::Input => Ok(number(part(form, scope.x))),
+            _ => far_number(scope, child),
+        },
+        _ => far_number(scope, child),
     }
 }
 
@@ -483,7 +495,6 @@ fn far_number(scope: &Scope<'_>, child: &ExprChild) -> Result<i64, Memory>
         Expr::Neg(a) => eval_neg(scope, a),
         Expr::Add(a, b) | Expr::Sub(a, b) | Expr::Mul(a, b) => eval_sum(scope, form, a, b),
         Expr::Len(e) => eval_len(scope, e),
-        Expr::Param(k) => Ok(param_number(scope.params, *k)),
         Expr::Fst(e) | Expr::Snd(e) => match short_path_at(scope.x, e.get()) {
             Some(value) => Ok(number(part(form, value))),
             None => look_number(scope, child),

@@ -11,6 +11,8 @@ use crate::env::Env;
 use crate::state::{
     KSwitchParts, LoopParts, Node, PSwitchParts, State, States, SwitchParts, Whole,
 };
+use crate::static_net::StaticNet;
+use crate::static_state::StaticState;
 use leaf_table::LeafId;
 use net_syntax::Net;
 use sample_core::{Memory, Sample};
@@ -303,8 +305,14 @@ fn new_parts<'n>(
         × (r.net.now ≡ net.entry.now) × (scope_of r.env ≡ scope_of env.now)) }
 {
     let env = env.try_copy()?;
+    let spare = node.take_watch();
     let part = node.take_first();
-    Ok(SwitchParts { part, net, env })
+    Ok(SwitchParts {
+        part,
+        net,
+        env,
+        spare,
+    })
 }
 
 impl<'n> Node<'n> {
@@ -327,6 +335,38 @@ impl<'n> Node<'n> {
         }
     }
 
+    /// The state of a part without switches that watched the first, if there is one; in its place
+    /// nothing stands then.
+    fn take_watch(&mut self) -> Option<(StaticNet<'n>, StaticState)>
+        ensures { first_part (node_of self.new) ≡ first_part (node_of self.old) }
+    {
+        match self {
+            Node::KSwitch(parts) => static_parts(std::mem::replace(
+                &mut parts.watch,
+                State::Nothing,
+            )),
+            _ => None,
+        }
+    }
+
+    /// A place for a second part: that of one that is there, or one that is out of use.
+    #[inline(never)]
+    pub fn take_place(&mut self) -> State<'n>
+        ensures { first_part (node_of self.new) ≡ first_part (node_of self.old) }
+    {
+        let spare = match self {
+            Node::KSwitch(parts) => return std::mem::replace(&mut parts.watch, State::Nothing),
+            Node::Switch(parts) => parts.spare.take(),
+            Node::DSwitch(parts) => parts.spare.take(),
+            Node::RSwitch(parts) => parts.spare.take(),
+            _ => None,
+        };
+        match spare {
+            Some((net, kept)) => State::Static(net, kept),
+            None => State::Nothing,
+        }
+    }
+
     /// The second part, in whose place nothing stands then.
     #[inline(never)]
     fn take_second(&mut self) -> State<'n>
@@ -336,6 +376,17 @@ impl<'n> Node<'n> {
             Node::Seq(parts) => std::mem::replace(&mut parts.second, State::Nothing),
             Node::KSwitch(parts) => std::mem::replace(&mut parts.watch, State::Nothing),
             _ => State::Nothing,
+        }
+    }
+}
+
+/// What a network without switches keeps; nothing of another state.
+fn static_parts<'n>(state: State<'n>) -> Option<(StaticNet<'n>, StaticState)> {
+    match state {
+        State::Static(net, kept) => Some((net, kept)),
+        other => {
+            drop(other);
+            None
         }
     }
 }

@@ -87,6 +87,8 @@ pub struct SwitchParts<'n> {
     pub net: &'n Net<LeafId>,
     /// Its scope.
     pub env: Env<'n>,
+    // A state that is out of use: a second part comes into its place.
+    pub(crate) spare: Option<(StaticNet<'n>, StaticState)>,
 }
 
 /// The parts of a `kSwitch` before its first event.

@@ -37,10 +37,7 @@ pub(crate) fn no_parts<'n>() -> SeqParts<'n> {
 
 /// The parts of a node as the places of two parts; in their places nothing stands then.
 pub(crate) fn take_parts<'n>(node: &mut Node<'n>) -> SeqParts<'n> {
-    let second = match node {
-        Node::KSwitch(parts) => std::mem::replace(&mut parts.watch, State::Nothing),
-        _ => State::Nothing,
-    };
+    let second = node.take_place();
     let first = node.take_first();
     SeqParts { first, second }
 }

@@ -358,8 +358,8 @@ pub(crate) fn run_switch<'n, R: Rows>(
     match run_part(alloc, rows, f, dt, x, place, &mut answer) {
         Ok(one) => match fire(alloc, second(&answer), env) {
             Ok(Some(inner)) => {
-                drop(answer);
                 let before = count::node(one, 0);
+                drop(answer);
                 run_over(alloc, rows, before, t, inner, x, place, out)
             }
             Ok(None) => {

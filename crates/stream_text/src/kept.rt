@@ -24,7 +24,7 @@ const ROOM: usize = MOST_BYTES + PIECE;
 const LINE_FEED: u8 = b'\n';
 
 /// So many bytes are looked at one by one for the end of a short line.
-const SHORT: usize = 16;
+const SHORT: usize = 24;
 
 /// What a read of a piece gave.
 #[derive(Clone, Copy)]

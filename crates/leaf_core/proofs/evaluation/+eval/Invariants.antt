@@ -85,7 +85,7 @@ abbrev pub decreases-eval_elements : goal.decreases-eval_elements
 decreases-eval_elements l = 16 * exprs_nodes l.elements.now + 2
 
 abbrev pub decreases-eval_number : goal.decreases-eval_number
-decreases-eval_number l = 16 * nodes_in l.part.now + 6
+decreases-eval_number l = 16 * nodes_in l.child.now + 6
 
 abbrev pub decreases-far_number : goal.decreases-far_number
 decreases-far_number l = 16 * nodes_in l.child.now + 5
