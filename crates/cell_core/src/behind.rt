@@ -141,7 +141,7 @@ fn copies(alloc: Global, from: &[Entry]) -> Result<Entries, Memory>
     ensures { IfOk result (λ es. es ≡ entries_of from.now) }
 {
     let mut entries = Entries::with_room(alloc, from.len())?;
-    match entries.renew(alloc, from) {
+    match entries.push_all(alloc, from) {
         Ok(()) => Ok(entries),
         Err(memory) => {
             drop(entries);

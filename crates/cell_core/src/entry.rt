@@ -1,8 +1,8 @@
 // Values with times, as they wait in a `delay`.
 
-ghost use Rattle.std.specs.Prelude.{◌≡◌, ◌++◌, ◌∷◌, [], IfOk, OnOk};
+ghost use Rattle.std.specs.Prelude.{◌≡◌, ◌≤◌, ◌++◌, ◌∷◌, [], IfOk, OnOk, length, take};
 ghost use Rattle.sample_core.specs.ValueView.{datum_of};
-ghost use Rattle.cell_core.specs.Entries.{entries_of};
+ghost use Rattle.cell_core.specs.Entries.{entry_of, entries_of};
 
 use crate::step;
 use sample_core::{Memory, Sample};
@@ -15,6 +15,27 @@ use std::marker::Model;
 pub(crate) struct Entry {
     pub(crate) time: u64,
     pub(crate) value: Sample,
+}
+
+impl Entry {
+    /// An entry with that time and a copy of the value. `Memory` where a growth was refused.
+    #[inline(always)]
+    fn copied(alloc: Global, time: u64, value: &Sample) -> Result<Entry, Memory>
+        ensures { IfOk result (λ e. entry_of e ≡ (time, datum_of value.now)) }
+    {
+        let value = value.try_copy(alloc)?;
+        Ok(Entry { time, value })
+    }
+
+    /// Becomes the entry with that time and a copy of the value. `Memory` where a growth was
+    /// refused.
+    #[inline(always)]
+    fn renew(&mut self, alloc: Global, time: u64, value: &Sample) -> Result<(), Memory>
+        ensures { OnOk result (entry_of self.new ≡ (time, datum_of value.now)) }
+    {
+        self.time = time;
+        self.value.put_copy(alloc, value)
+    }
 }
 
 /// Entries in order. Behind them stand entries that are out of use, whose places are taken first.
@@ -83,14 +104,22 @@ impl Entries {
         ensures { OnOk result (self.new ≡ self.old ++ (time, datum_of value.now) ∷ []) }
     {
         if self.used < self.all.len() {
-            let place = &mut self.all[self.used];
-            place.time = time;
-            place.value.put_copy(alloc, value)?;
+            self.all[self.used].renew(alloc, time, value)?;
         } else {
-            let value = value.try_copy(alloc)?;
-            self.all.push(Entry { time, value })?;
+            self.all.push(Entry::copied(alloc, time, value)?)?;
         }
         self.used += 1;
+        Ok(())
+    }
+
+    /// Copies of these entries behind those that are there. `Memory` where a growth was refused.
+    #[inline(always)]
+    pub(crate) fn push_all(&mut self, alloc: Global, from: &[Entry]) -> Result<(), Memory>
+        ensures { OnOk result (self.new ≡ self.old ++ entries_of from.now) }
+    {
+        for entry in from {
+            self.push(alloc, entry.time, &entry.value)?;
+        }
         Ok(())
     }
 
@@ -99,10 +128,25 @@ impl Entries {
     pub(crate) fn renew(&mut self, alloc: Global, from: &[Entry]) -> Result<(), Memory>
         ensures { OnOk result (self.new ≡ entries_of from.now) }
     {
-        self.clear();
-        for entry in from {
-            self.push(alloc, entry.time, &entry.value)?;
-        }
-        Ok(())
+        self.used = 0;
+        let there = usize::min(from.len(), self.all.len());
+        put_copies(alloc, &mut self.all, &from[..there])?;
+        self.used = there;
+        self.push_all(alloc, &from[there..])
     }
+}
+
+/// Copies of these entries in the first places, whose entries go. `Memory` where a growth was
+/// refused.
+#[inline(always)]
+fn put_copies(alloc: Global, places: &mut [Entry], from: &[Entry]) -> Result<(), Memory>
+    requires { length from.now ≤ length places.old }
+    ensures copied { OnOk result
+        (take (length from.now) (entries_of places.new) ≡ entries_of from.now) }
+    ensures room { length places.new ≡ length places.old }
+{
+    for i in 0..from.len() {
+        places[i].renew(alloc, from[i].time, &from[i].value)?;
+    }
+    Ok(())
 }

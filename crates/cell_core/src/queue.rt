@@ -148,17 +148,18 @@ fn gather_run(
     ensures { IfOk result (λ rest. Gathers dt left (reverse (entries_of samples.now))
         entries.old rest entries.new) }
 {
-    match samples.split_last() {
-        None => Ok(Some(left)),
-        Some((newest, rest)) => {
-            if left <= dt {
-                entries.push(alloc, 0, &newest.value)?;
-                return Ok(None);
-            }
-            entries.push(alloc, left - dt, &newest.value)?;
-            gather_run(alloc, rest, dt, left.saturating_sub(newest.time), entries)
+    let mut time = left;
+    let mut rest = samples;
+    'each: while let Some((newest, before)) = rest.split_last() {
+        if time <= dt {
+            entries.push(alloc, 0, &newest.value)?;
+            return Ok(None);
         }
+        entries.push(alloc, time - dt, &newest.value)?;
+        time = time.saturating_sub(newest.time);
+        rest = before;
     }
+    Ok(Some(time))
 }
 
 /// The queue with this front, of which the last is out, and the sample behind. Its answer is

@@ -7,7 +7,7 @@ ghost use Rattle.leaf_core.specs.declared.shape.Shape.TheVariants as S;
 ghost use Rattle.leaf_table.specs.Computes.{Computes, OfShape};
 
 use crate::part::{child, copied, first, number, paired, product, second, sum};
-use leaf_core::{LeafKey, Literal, eval, eval_over};
+use leaf_core::{Expr, LeafKey, Literal, eval, eval_over};
 use sample_core::{Memory, Sample};
 use std::alloc::{AllocError, Global};
 use std::cell::Cell;
@@ -120,9 +120,27 @@ pub fn run_general(
 
 /// The same, where `last` keeps the last answer from call to call, unless it is a number: the next
 /// one takes no memory for parts that stand where parts of the last stood, as far as no one else
-/// holds these any more.
+/// holds these any more. A sum, a difference or a product is a number, and doesn't ask for it.
 #[inline(always)]
 pub fn run_again(
+    alloc: Global,
+    key: &LeafKey,
+    last: &Cell<Sample>,
+    params: &[Sample],
+    x: &Sample,
+) -> Result<Sample, AllocError>
+    ensures { IfOk result
+        (λ v. Computes key.now (map datum_of params.now) (datum_of x.now) (datum_of v)) }
+{
+    match &key.expr {
+        Expr::Add(..) | Expr::Sub(..) | Expr::Mul(..) => run_general(alloc, key, params, x),
+        _ => run_over(alloc, key, last, params, x),
+    }
+}
+
+/// The same, where the last answer is asked for whatever the expression is.
+#[inline(never)]
+fn run_over(
     alloc: Global,
     key: &LeafKey,
     last: &Cell<Sample>,

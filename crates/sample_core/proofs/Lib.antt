@@ -4,6 +4,7 @@ pub mod HasTypeCases
 pub mod Numbers
 mod FrontNumber
 mod NumberParse
+mod ShortNumbers
 mod ReadSteps
 pub mod WordLemmas
 pub mod Behind

@@ -1,7 +1,7 @@
 // The one spelling of values and of types.
 
-ghost use Rattle.std.specs.Prelude.{◌≡◌, ◌++◌, IfOk, codes, string_bytes};
-ghost use Rattle.std.specs.Fmt.{signed_decimal};
+ghost use Rattle.std.specs.Prelude.{◌≡◌, ◌++◌, [], ◌∷◌, ◌<◌, ◌+◌, ◌/◌, ◌%◌, IfOk, codes, string_bytes};
+ghost use Rattle.std.specs.Fmt.{decimal, signed_decimal};
 ghost use Rattle.sample_core.specs.{Adding.Adds, Datum.list, Datum.list_of, ValueView.datum_of, TypeView.type_of};
 ghost use Rattle.sample_core.specs.Spelling.{spelling, type_spelling};
 
@@ -61,9 +61,70 @@ fn push_word(text: &mut String, word: &str) -> Result<(), Memory>
     Ok(())
 }
 
-/// Adds a number to the end of the text. Its digits have room in this frame alone.
-#[inline(never)]
+/// Adds a number to the end of the text: one below 100, as most are, without a call for its digits.
+#[inline(always)]
 fn push_number(text: &mut String, n: i64) -> Result<(), Memory>
+    ensures { Adds result (string_bytes text.old) (string_bytes text.new) (signed_decimal n) }
+{
+    if 0 <= n && n < 100 {
+        push_short_number(text, n as u64)
+    } else {
+        push_longer_number(text, n)
+    }
+}
+
+/// Adds any number to the end of the text: one of three or four digits, two by two.
+#[inline(never)]
+#[tactic(auto, using(std::proofs::lemmas::Grind::common_steps, crate::proofs::ShortNumbers::decimal_pair))]
+fn push_longer_number(text: &mut String, n: i64) -> Result<(), Memory>
+    ensures { Adds result (string_bytes text.old) (string_bytes text.new) (signed_decimal n) }
+{
+    if 100 <= n && n < 10_000 {
+        push_short_number(text, n as u64 / 100)?;
+        push_digits(text, n as u64 % 100)
+    } else {
+        push_long_number(text, n)
+    }
+}
+
+/// Adds a number below 100 to the end of the text.
+#[inline(never)]
+#[tactic(auto, using(std::proofs::lemmas::Grind::common_steps, std::proofs::lemmas::Fmt::decimal_digit, crate::proofs::ShortNumbers::decimal_two))]
+fn push_short_number(text: &mut String, n: u64) -> Result<(), Memory>
+    requires { n < 100 }
+    ensures { Adds result (string_bytes text.old) (string_bytes text.new) (decimal n) }
+{
+    if n < 10 {
+        push_digit(text, n)
+    } else {
+        push_digits(text, n)
+    }
+}
+
+/// Adds the two digits of a number below 100 to the end of the text.
+#[inline(always)]
+fn push_digits(text: &mut String, n: u64) -> Result<(), Memory>
+    requires { n < 100 }
+    ensures { Adds result (string_bytes text.old) (string_bytes text.new)
+        ((48 + n / 10) ∷ (48 + n % 10) ∷ []) }
+{
+    push_digit(text, n / 10)?;
+    push_digit(text, n % 10)
+}
+
+/// Adds a digit to the end of the text.
+#[inline(always)]
+fn push_digit(text: &mut String, n: u64) -> Result<(), Memory>
+    requires { n < 10 }
+    ensures { Adds result (string_bytes text.old) (string_bytes text.new) ((48 + n) ∷ []) }
+{
+    text.push(char::from(b'0' + n as u8))?;
+    Ok(())
+}
+
+/// Adds any number to the end of the text. Its digits have room in this frame alone.
+#[inline(never)]
+fn push_long_number(text: &mut String, n: i64) -> Result<(), Memory>
     ensures { Adds result (string_bytes text.old) (string_bytes text.new) (signed_decimal n) }
 {
     push_word(text, Buffer::new().format(n))
