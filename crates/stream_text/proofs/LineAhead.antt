@@ -2,6 +2,7 @@
 use Rattle.std.proofs.Common.{◌≡◌, ◌≤◌, ◌<◌, ◌+◌, ℕ, suc, List, [], ◌∷◌, ◌++◌, length, length-append, take, get_or, Option, Some, None, refl, sym, ap, ◌∙◌, subst, arith, append_assoc, inl, inr}
 use Rattle.std.specs.Prelude.{◌⊎◌, codes}
 use Rattle.std.specs.Fmt.{decimal}
+use Rattle.std.proofs.Math.Seq.{take-append_seam}
 use Rattle.std.proofs.lemmas.Grind.{common_steps}
 use Rattle.sample_core.specs.Datum.{Datum}
 use Rattle.sample_core.specs.HasType.{HasType}
@@ -32,24 +33,15 @@ feed_behind (b ∷ bs) more f =
       none_before = cons_free b (take (length bs) (bs ++ (10 ∷ more))) (f 0 (omega arith)) i.none_before;
     }
 
-line_in_front : (line more : List ℕ) → take (length line) (line ++ more) ≡ line
-line_in_front [] more = refl
-line_in_front (b ∷ bs) more = ap (λ r. b ∷ r) (line_in_front bs more)
-
 behind_free : (value : Option Sample) → IsFeedFree (behind_step value)
 behind_free None = equals_free
 behind_free (Some v) = spelling_free (datum_of v)
 
 -- the line with the step and what stands behind it
-line_of : ℕ → Option Sample → List ℕ
+abbrev line_of : ℕ → Option Sample → List ℕ
 line_of d value = codes "+" ++ (decimal d ++ (codes " " ++ behind_step value))
 
-line_parts : (d : ℕ) (value : Option Sample) → line_of d value ≡ codes "+" ++ (decimal d ++ (codes " " ++ behind_step value))
-unfolding line_of
-line_parts d value = refl
-
 line_free : (d : ℕ) (value : Option Sample) → IsFeedFree (line_of d value)
-unfolding line_of
 line_free d value = free_append (codes "+") (decimal d ++ (codes " " ++ behind_step value)) plus_free
     (free_append (decimal d) (codes " " ++ behind_step value) (decimal_free d)
     (free_append (codes " ") (behind_step value) space_free (behind_free value)))
@@ -57,7 +49,6 @@ line_free d value = free_append (codes "+") (decimal d ++ (codes " " ++ behind_s
 -- what follows the line is what follows its value
 line_then : (d : ℕ) (value : Option Sample) (more : List ℕ)
     → codes "+" ++ (decimal d ++ (codes " " ++ (behind_step value ++ more))) ≡ line_of d value ++ more
-unfolding line_of
 line_then d value more = ap (λ r. 43 ∷ r) (sym (append_assoc (decimal d) (codes " " ++ behind_step value) more))
 
 -- it holds the value, or the one before
@@ -84,7 +75,7 @@ is_ahead law A n bytes rest d size taken value few e h same short = record {
       (subst (λ bs. IsFirstFeed bs (length line)) (sym bytes_are) (feed_behind line h.more (line_free d value)));
   reads = λ before. ap (line_read A n (Some before)) line_is
       ∙ (line_law (whole_values law) step_law A n (Some before) line (d, value_behind before value)).1
-      (few, omega (arith, length_is, short), (behind_step value, (s.0, s.1, line_parts d value), line_holds A value before rest taken h));
+      (few, omega (arith, length_is, short), (behind_step value, (s.0, s.1, refl), line_holds A value before rest taken h));
 }
   where
     line : List ℕ
@@ -107,7 +98,7 @@ is_ahead law A n bytes rest d size taken value few e h same short = record {
         omega (arith, length_is, m, t, same)
 
     line_is : take size bytes ≡ line
-    line_is = ap (λ k. take k bytes) size_is ∙ ap (take (length line)) bytes_are ∙ line_in_front line (10 ∷ h.more)
+    line_is = ap (λ k. take k bytes) size_is ∙ ap (take (length line)) bytes_are ∙ take-append_seam line (10 ∷ h.more)
 
 -- what the first bytes begin with, all begin with
 pub ahead_of_all : (A : TypeTree) (n : ℕ) (bytes : List ℕ) (most d size : ℕ) (value : Option Sample) → IsAhead A n (take most bytes) d size value

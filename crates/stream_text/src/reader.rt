@@ -166,8 +166,8 @@ impl LineState {
         }
     }
 
-    /// The same for a short line, for whose line feed it doesn't look first. A list is often too
-    /// long for that, and would be read twice.
+    /// The same for a short line, which is read before its line feed is looked for. A list's line is
+    /// often longer, and would be read twice, so `None` for a list.
     #[inline(always)]
     fn take_short(&mut self, ty: &Ty) -> Option<u64>
         requires open { self.old.met ≡ M.Nothing }
