@@ -67,13 +67,12 @@ behind_within bytes rest d e =
     omega (arith, k, m)
 
 -- a step, and behind it the end of a line, are the line
-pub is_ahead : ReadingLaw → (A : TypeTree) (n : ℕ) (bytes rest : List ℕ) (d size taken : ℕ) (value : Option Sample) → n ≤ 1000000
-    → step_in bytes ≡ Some (d, rest) → EndsLine A rest taken value → size + length rest ≡ length bytes + taken → length bytes ≤ 65537
-    → IsAhead A n bytes d size value
-is_ahead law A n bytes rest d size taken value few e h same short = record {
+pub is_ahead : ReadingLaw → (A : TypeTree) (bytes rest : List ℕ) (d size taken : ℕ) (value : Option Sample) → step_in bytes ≡ Some (d, rest)
+    → EndsLine A rest taken value → size + length rest ≡ length bytes + taken → length bytes ≤ 65537 → IsAhead A bytes d size value
+is_ahead law A bytes rest d size taken value e h same short = record {
   feed = subst (λ k. IsFirstFeed bytes k) (sym size_is)
       (subst (λ bs. IsFirstFeed bs (length line)) (sym bytes_are) (feed_behind line h.more (line_free d value)));
-  reads = λ before. ap (line_read A n (Some before)) line_is
+  reads = λ n before few. ap (line_read A n (Some before)) line_is
       ∙ (line_law (whole_values law) step_law A n (Some before) line (d, value_behind before value)).1
       (few, omega (arith, length_is, short), (behind_step value, (s.0, s.1, refl), line_holds A value before rest taken h));
 }
@@ -101,9 +100,9 @@ is_ahead law A n bytes rest d size taken value few e h same short = record {
     line_is = ap (λ k. take k bytes) size_is ∙ ap (take (length line)) bytes_are ∙ take-append_seam line (10 ∷ h.more)
 
 -- what the first bytes begin with, all begin with
-pub ahead_of_all : (A : TypeTree) (n : ℕ) (bytes : List ℕ) (most d size : ℕ) (value : Option Sample) → IsAhead A n (take most bytes) d size value
-    → IsAhead A n bytes d size value
-ahead_of_all A n bytes most d size value h =
+pub ahead_of_all : (A : TypeTree) (bytes : List ℕ) (most d size : ℕ) (value : Option Sample) → IsAhead A (take most bytes) d size value
+    → IsAhead A bytes d size value
+ahead_of_all A bytes most d size value h =
     let l : size < length (take most bytes) = h.feed.within in
     let same : take size (take most bytes) ≡ take size bytes = grind (arith, common_steps) in
     record {
@@ -112,5 +111,5 @@ ahead_of_all A n bytes most d size value h =
         feed = (let f : get_or (take most bytes) size 0 ≡ 10 = h.feed.feed in grind (arith, common_steps));
         none_before = subst IsFeedFree same h.feed.none_before;
       };
-      reads = λ before. ap (line_read A n (Some before)) (sym same) ∙ h.reads before;
+      reads = λ n before few. ap (line_read A n (Some before)) (sym same) ∙ h.reads n before few;
     }

@@ -1,5 +1,5 @@
 -- A later line that is read before its line feed is looked for.
-use Rattle.std.specs.Prelude.{◌≡◌, ℕ, List, ◌∷◌, ◌++◌, length, take, Option, Some, None, Ok, IfSome, codes}
+use Rattle.std.specs.Prelude.{◌≡◌, ◌≤◌, ℕ, List, ◌∷◌, ◌++◌, length, take, Option, Some, None, Ok, IfSome, codes}
 use Rattle.sample_core.specs.Datum.{Datum}
 use Rattle.sample_core.specs.HasType.{HasType}
 use Rattle.sample_core.specs.Spelling.{spelling}
@@ -23,10 +23,11 @@ pub record EndsLine (A : TypeTree) (bytes : List ℕ) (size : ℕ) (value : Opti
     pub more : List ℕ
     pub begins : bytes ≡ behind_step value ++ (10 ∷ more)
 
--- Bytes begin with line n, so many bytes, and its line feed; the line holds a sample with the step
--- d, and its own value or, where it writes none, the one before, whichever that is.
-pub record IsAhead (A : TypeTree) (n : ℕ) (bytes : List ℕ) (d size : ℕ) (value : Option Sample)
-    : Type 0 where
-  pub feed : IsFirstFeed bytes size
-  pub reads : (before : Datum) → line_read A n (Some before) (take size bytes)
-      ≡ Ok (d, value_behind before value)
+-- Bytes begin with a line, so many bytes, and its line feed; as each later line up to 1,000,000 it
+-- holds a sample with the step d, and its own value or, where it writes none, the one before,
+-- whichever that is.
+pub record IsAhead (A : TypeTree) (bytes : List ℕ) (d size : ℕ) (value : Option Sample) : Type 0
+  where
+    pub feed : IsFirstFeed bytes size
+    pub reads : (n : ℕ) (before : Datum) → n ≤ 1000000
+        → line_read A n (Some before) (take size bytes) ≡ Ok (d, value_behind before value)

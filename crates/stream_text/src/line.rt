@@ -119,13 +119,11 @@ fn read_whole(alloc: Global, ty: &Ty, number: u64, bytes: &[u8]) -> Result<Sampl
 pub fn read_ahead(
     alloc: Global,
     ty: &Ty,
-    number: u64,
     bytes: &[u8],
     spare: &mut Sample,
 ) -> Option<(u64, bool, usize)>
-    requires few { number ≤ 1000000 }
-    requires short { length bytes.now ≤ 65537 }
-    ensures { IfSome result (λ x. IsAhead (type_of ty.now) number bytes.now x.0 x.2
+    requires { length bytes.now ≤ 65537 }
+    ensures { IfSome result (λ x. IsAhead (type_of ty.now) bytes.now x.0 x.2
         (if x.1 then Some spare.new else None)) }
 {
     // By these laws the value is read alike without what follows it.

@@ -211,7 +211,6 @@ impl LineState {
         let (step, is_new, size) = read_ahead(
             self.alloc,
             ty,
-            self.lines + 1,
             self.kept.near(most),
             &mut self.spare,
         )?;

@@ -9,5 +9,5 @@ overflow_sub-size c = behind_within c.args.bytes.now c.in_ok-step.rest.now c.in_
 pub returns : goal.returns
 returns c =
     let within = behind_within c.args.bytes.now c.in_ok-step.rest.now c.in_ok-step.step (sym c.in_ok-step.ensures) in
-    is_ahead c.reading_laws.ensures.found (type_of c.args.ty.now) c.args.number c.args.bytes.now c.in_ok-step.rest.now c.in_ok-step.step _
-    c.in_ok-is_new.taken _ c.requires.few (sym c.in_ok-step.ensures) c.in_ok-is_new.ensures.ends (omega (arith, within)) c.requires.short
+    is_ahead c.reading_laws.ensures.found (type_of c.args.ty.now) c.args.bytes.now c.in_ok-step.rest.now c.in_ok-step.step _
+    c.in_ok-is_new.taken _ (sym c.in_ok-step.ensures) c.in_ok-is_new.ensures.ends (omega (arith, within)) c.requires
