@@ -13,11 +13,12 @@ use Rattle.sample_core.specs.ValueView.{datum_of}
 use Rattle.sample_core.specs.declared.sample.Sample.{Sample}
 use Rattle.stream_text.specs.Calls.{MayTakeNext, step_of}
 use Rattle.stream_text.specs.Answers.{ReaderState, SameLast, TakesLine, TakesSample, TakesNext, KnownLine, ended, shown, last, Unfinished, HasFault, IsAnswer, GivesAnswer, GivesStep}
+use Rattle.stream_text.specs.LineAhead.{IsAhead}
 use Rattle.stream_text.specs.LineTaken.{TakesKept, TakesLast}
 use Rattle.stream_text.specs.Settling.{AsksAsNeeded, IsSettled, SettlesLine, Settles}
 use Rattle.stream_text.specs.StreamText.{IsBefore, line_read}
 use Rattle.stream_text.specs.StreamView.{before_view, sample_view, value_behind}
-use Rattle.stream_text.specs.TextLines.{HasLine, IsFirstFeed, front_lines, shows_fault}
+use Rattle.stream_text.specs.TextLines.{HasLine, front_lines, shows_fault}
 use Rattle.stream_text.specs.declared.fault.StreamFault.{StreamFault}
 use Rattle.stream_text.specs.declared.fault.StreamFault.TheVariants as S
 use Rattle.stream_text.specs.declared.reader.Met.{Met}
@@ -201,11 +202,10 @@ before_kept law A s s' has has' (Ok None) b h = same_before A s s' h.gives.same 
 before_kept law A s s' has has' (Err fault) b h = same_before A s s' h.gives.same b
 
 -- a line that is kept whole and holds a sample is taken
-pub next_taken : (A : TypeTree) (s s' : ReaderState) (d n size : ℕ) (value : Option Sample) → n ≡ suc s.lines → s.met ≡ M.Nothing → s.before ≢ None
-    → IsFirstFeed s.kept size → ((b : Datum) → line_read A n (Some b) (take size s.kept) ≡ Ok (d, value_behind b value))
-    → s'.kept ≡ drop (size + 1) s.kept → s'.lines ≡ suc s.lines → ((v : Datum) → s.before ≡ Some v → s'.before ≡ Some (value_behind v value))
-    → s'.met ≡ s.met → TakesNext A s d s'
-next_taken A s s' d n size value e m some feed reads kept lines keeps met = go s.before refl
+pub next_taken : (A : TypeTree) (s s' : ReaderState) (d size : ℕ) (value : Option Sample) → s.lines < 1000000 → s.met ≡ M.Nothing → s.before ≢ None
+    → IsAhead A s.kept d size value → s'.kept ≡ drop (size + 1) s.kept → s'.lines ≡ suc s.lines
+    → ((v : Datum) → s.before ≡ Some v → s'.before ≡ Some (value_behind v value)) → s'.met ≡ s.met → TakesNext A s d s'
+next_taken A s s' d size value few m some ahead kept lines keeps met = go s.before refl
   where
     go : (o : Option Datum) → s.before ≡ o → TakesNext A s d s'
     go None q = absurd (some q)
@@ -214,9 +214,10 @@ next_taken A s s' d n size value e m some feed reads kept lines keeps met = go s
       takes = record {
         goes_on = m;
         line = take size s.kept;
-        takes = taken ⊥ s.kept (take size s.kept) (drop (size + 1) s.kept) s'.kept M.Nothing s'.met kept (met ∙ m) (has_line s.kept size feed);
+        takes = taken ⊥ s.kept (take size s.kept) (drop (size + 1) s.kept) s'.kept M.Nothing s'.met kept (met ∙ m)
+            (has_line s.kept size ahead.feed);
         reads = subst (λ b. line_read A (suc s.lines) b (take size s.kept) ≡ Ok (d, value_behind v value)) (sym q)
-            (subst (λ k. line_read A k (Some v) (take size s.kept) ≡ Ok (d, value_behind v value)) e (reads v));
+            (ahead.reads (suc s.lines) v (omega (arith, few)));
         counts = lines;
         keeps = keeps v q;
       };

@@ -89,3 +89,6 @@ plus_free = cons_free 43 [] (λ e. absurd (omega (arith, e))) none_free
 
 pub space_free : IsFeedFree (codes " ")
 space_free = cons_free 32 [] (λ e. absurd (omega (arith, e))) none_free
+
+pub equals_free : IsFeedFree (codes "=")
+equals_free = cons_free 61 [] (λ e. absurd (omega (arith, e))) none_free

@@ -10,4 +10,5 @@ pub mod StepLaws
 pub mod LineLaws
 pub mod LineFaults
 pub mod FeedFree
+pub mod LineAhead
 pub mod WrittenStreams

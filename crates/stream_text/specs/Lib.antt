@@ -14,5 +14,6 @@ pub mod ReaderState
 pub mod LineReaderView
 pub mod Hearing
 pub mod LineLaws
+pub mod LineAhead
 pub mod LineFaults
 pub mod WrittenStreams

@@ -5,7 +5,6 @@ ghost use Rattle.stream_text.specs.TextLines.{IsFeedFree, IsFirstFeed};
 ghost use Rattle.std.specs.Io.KnownBytes.{Consumes, IsAtEnd, Keeps};
 ghost use Rattle.stream_text.specs.Pieces.{KeepsPiece};
 
-use crate::step_text::has_short_step;
 use memchr::memchr;
 use sample_core::Memory;
 use std::alloc::Global;
@@ -22,9 +21,6 @@ const PIECE: usize = 4_096;
 const ROOM: usize = MOST_BYTES + PIECE;
 
 const LINE_FEED: u8 = b'\n';
-
-/// So many bytes are looked at one by one for the end of a short line.
-const SHORT: usize = 24;
 
 /// What a read of a piece gave.
 #[derive(Clone, Copy)]
@@ -88,13 +84,12 @@ impl Kept {
         &self.bytes[self.start..self.start + size]
     }
 
-    /// The place of the first line feed, where it ends a short line with a step of one digit. With
-    /// `None` it may stand anywhere.
+    /// The first bytes, so many where there are as many, else all.
     #[inline(always)]
-    pub fn near_feed_at(&self) -> Option<usize>
-        ensures { IfSome result (IsFirstFeed self.now) }
+    pub fn near(&self, most: usize) -> &[u8]
+        ensures { result.now ≡ take most self.now }
     {
-        near_feed(&self.bytes[self.start..])
+        self.front(usize::min(most, self.len()))
     }
 
     /// The place of the first line feed. It is looked for behind what was searched before alone.
@@ -103,7 +98,7 @@ impl Kept {
         ensures found { IfSome result (IsFirstFeed self.old) }
         ensures none { IfNone result (IsFeedFree self.old) }
     {
-        match far_feed(&self.bytes[self.start + self.searched..]) {
+        match first_feed(&self.bytes[self.start + self.searched..]) {
             Some(at) => {
                 self.searched += at;
                 Some(self.searched)
@@ -151,26 +146,9 @@ impl Kept {
     }
 }
 
-/// The place of the first line feed of a short line with a step of one digit. A short line's end is
-/// found faster by a look at each byte; those of the step needn't be looked at again.
-#[inline(always)]
-fn near_feed(bytes: &[u8]) -> Option<usize>
-    ensures { IfSome result (IsFirstFeed bytes.now) }
-{
-    if bytes.len() < SHORT || !has_short_step(bytes) {
-        return None;
-    }
-    for at in 0..SHORT {
-        if bytes[at] == LINE_FEED {
-            return Some(at);
-        }
-    }
-    None
-}
-
-/// The place of the first line feed of any line.
+/// The place of the first line feed.
 #[inline(never)]
-fn far_feed(bytes: &[u8]) -> Option<usize>
+fn first_feed(bytes: &[u8]) -> Option<usize>
     ensures found { IfSome result (IsFirstFeed bytes.now) }
     ensures none { IfNone result (IsFeedFree bytes.now) }
 {

@@ -1,14 +1,15 @@
 // Samples of the lines of a stream's text.
 
-ghost use Rattle.std.specs.Prelude.{◌≡◌, ◌≤◌, IfSome, None, Ok, Some, if◌then◌else◌};
-ghost use Rattle.sample_core.specs.{Datum.Datum, ValueView.datum_of, TypeView.type_of};
+ghost use Rattle.std.specs.Prelude.{◌≤◌, IfSome, None, Some, length, if◌then◌else◌};
+ghost use Rattle.sample_core.specs.{ValueView.datum_of, TypeView.type_of};
+ghost use Rattle.stream_text.specs.LineAhead.{EndsLine, IsAhead};
 ghost use Rattle.stream_text.specs.StepText.{step_in};
-ghost use Rattle.stream_text.specs.StreamView.{before_view, sample_view, value_behind};
+ghost use Rattle.stream_text.specs.StreamView.{before_view, sample_view};
 ghost use Rattle.stream_text.specs.StreamText.{Gives, first_line, later_line, line_read, whole_value};
 
 use crate::fault::StreamFault;
 use crate::step_text::{split_step, strip};
-use sample_core::{Sample, Ty, ValueFault, read_value, read_value_over};
+use sample_core::{Sample, Ty, ValueFault, read_value, read_value_over, reading_laws};
 use std::alloc::Global;
 
 /// The most samples of a run.
@@ -16,6 +17,8 @@ const MOST_SAMPLES: u64 = 1_000_000;
 
 /// The most bytes of a line, without its line feed.
 const MOST_BYTES: usize = 65_536;
+
+const LINE_FEED: u8 = b'\n';
 
 /// The sample of a line, which has a value of the type, with the step that precedes it. Lines are
 /// numbered from 1, and `before` is the value of the line before; it is `None` for line 1, whose
@@ -108,40 +111,50 @@ fn read_whole(alloc: Global, ty: &Ty, number: u64, bytes: &[u8]) -> Result<Sampl
     }
 }
 
-/// The step of a later line that holds a sample, and whether it writes a value, which stands in
-/// `spare` then; else it repeats the value before. `None` tells nothing of the line.
+/// Where the bytes begin with a later line that holds a sample, and its line feed: the sample's
+/// step, whether the line writes a value, which stands in `spare` then, else it repeats the value
+/// before, and how many bytes the line has without its line feed. `None` tells nothing of the line.
+/// There are at most the bytes of the longest line, with its line feed.
 #[inline(always)]
-pub fn read_next(
+pub fn read_ahead(
     alloc: Global,
     ty: &Ty,
-    number: u64,
-    line: &[u8],
+    bytes: &[u8],
     spare: &mut Sample,
-) -> Option<(u64, bool)>
-    requires { number ≤ 1000000 }
-    ensures { IfSome result (λ x. (before : Datum) → line_read (type_of ty.now) number
-        (Some before) line.now ≡ Ok (
-          x.0,
-          value_behind before
-              (if x.1 then Some spare.new else None),
-        )) }
+) -> Option<(u64, bool, usize)>
+    requires { length bytes.now ≤ 65537 }
+    ensures { IfSome result (λ x. IsAhead (type_of ty.now) bytes.now x.0 x.2
+        (if x.1 then Some spare.new else None)) }
 {
-    if line.len() > MOST_BYTES {
-        return None;
-    }
-    let (step, rest) = split_step(line)?;
+    // By these laws the value is read alike without what follows it.
+    reading_laws();
+    let (step, rest) = split_step(bytes)?;
+    let (is_new, taken) = read_end(alloc, ty, rest, spare)?;
+    let size = bytes.len() - rest.len() + taken;
+    Some((step, is_new, size))
+}
+
+/// Where the bytes begin with what stands behind a later line's step, and the line feed: whether it
+/// is a value, which stands in `spare` then, else it is `=`, and how many bytes it has without the
+/// line feed.
+#[inline(always)]
+fn read_end(alloc: Global, ty: &Ty, bytes: &[u8], spare: &mut Sample) -> Option<(bool, usize)>
+    ensures ends { IfSome result (λ x. EndsLine (type_of ty.now) bytes.now x.1
+        (if x.0 then Some spare.new else None)) }
+    ensures within { IfSome result (λ x. x.1 ≤ length bytes.now) }
+{
     // No value begins so.
-    if let [b'=', ..] = rest {
-        return if rest == b"=".as_slice() {
-            Some((step, false))
+    if let [b'=', behind @ ..] = bytes {
+        return if let [LINE_FEED, ..] = behind {
+            Some((false, 1))
         } else {
             None
         };
     }
-    match read_value_over(alloc, rest, ty, spare) {
+    match read_value_over(alloc, bytes, ty, spare) {
         Ok(taken) => {
-            if taken == rest.len() {
-                Some((step, true))
+            if taken < bytes.len() && bytes[taken] == LINE_FEED {
+                Some((true, taken))
             } else {
                 None
             }

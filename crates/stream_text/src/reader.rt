@@ -7,13 +7,16 @@ ghost use Rattle.stream_text.specs.{Calls.FailsBySource, Calls.LastFits, Calls.s
 
 use crate::device::Device;
 use crate::fault::StreamFault;
-use crate::kept::Kept;
-use crate::line::{read_line, read_next};
+use crate::kept::{Kept, MOST_BYTES};
+use crate::line::{read_ahead, read_line};
 use crate::settle::{MOST_SAMPLES, Settled, settle};
 use sample_core::{Memory, Sample, Ty, reading_laws};
 use std::alloc::Global;
 use std::io::Read;
 use std::mem;
+
+/// The most bytes of a short line, with its line feed.
+const SHORT: usize = 256;
 
 /// What has ended a stream, if anything.
 #[derive(Clone, Copy)]
@@ -50,7 +53,6 @@ impl LineState {
     ghost use Rattle.stream_text.specs.ReaderState.{reader_state};
     ghost use Rattle.stream_text.specs.StreamText.{line_read};
     ghost use Rattle.stream_text.specs.StreamView.{before_view};
-    ghost use Rattle.stream_text.specs.TextLines.{IsFirstFeed};
     ghost use Rattle.stream_text.specs.declared.reader.Met.TheVariants as M;
 
     /// A stream of which nothing was read. `Memory`: there is no room for a line and a piece.
@@ -158,41 +160,58 @@ impl LineState {
         ensures { MayTakeNext (type_of ty.now) (reader_state self.old) result
             (reader_state self.new) }
     {
-        match self.kept.near_feed_at() {
-            Some(size) => self.take_fed(ty, size),
-            None => self.take_far(ty),
+        match self.take_short(ty) {
+            Some(step) => Some(step),
+            None => self.take_long(ty),
         }
+    }
+
+    /// The same for a short line, which is read before its line feed is looked for. A list's line is
+    /// often longer, and would be read twice, so `None` for a list.
+    #[inline(always)]
+    fn take_short(&mut self, ty: &Ty) -> Option<u64>
+        requires open { self.old.met ≡ M.Nothing }
+        requires later { (reader_state self.old).before ≢ None }
+        ensures { MayTakeNext (type_of ty.now) (reader_state self.old) result
+            (reader_state self.new) }
+    {
+        if matches!(ty, Ty::List(_)) {
+            return None;
+        }
+        self.take_within(ty, SHORT)
     }
 
     /// The same for a line of any length.
     #[inline(never)]
-    fn take_far(&mut self, ty: &Ty) -> Option<u64>
+    fn take_long(&mut self, ty: &Ty) -> Option<u64>
         requires open { self.old.met ≡ M.Nothing }
         requires later { (reader_state self.old).before ≢ None }
         ensures { MayTakeNext (type_of ty.now) (reader_state self.old) result
             (reader_state self.new) }
     {
         let size = self.kept.feed_at()?;
-        self.take_fed(ty, size)
+        if size > MOST_BYTES {
+            return None;
+        }
+        self.take_within(ty, size + 1)
     }
 
-    /// The same where the line has so many bytes.
+    /// The same for a line that has, with its line feed, at most so many bytes.
     #[inline(always)]
-    fn take_fed(&mut self, ty: &Ty, size: usize) -> Option<u64>
+    fn take_within(&mut self, ty: &Ty, most: usize) -> Option<u64>
         requires open { self.old.met ≡ M.Nothing }
         requires later { (reader_state self.old).before ≢ None }
-        requires feed { IsFirstFeed self.old.kept size }
+        requires short { most ≤ 65537 }
         ensures { MayTakeNext (type_of ty.now) (reader_state self.old) result
             (reader_state self.new) }
     {
         if self.lines >= MOST_SAMPLES {
             return None;
         }
-        let (step, is_new) = read_next(
+        let (step, is_new, size) = read_ahead(
             self.alloc,
             ty,
-            self.lines + 1,
-            self.kept.front(size),
+            self.kept.near(most),
             &mut self.spare,
         )?;
         put_behind(&mut self.before, &mut self.spare, is_new);

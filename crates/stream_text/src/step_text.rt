@@ -45,16 +45,6 @@ fn step_value(digits: &[u8]) -> Option<u64>
     if value <= MOST { Some(value) } else { None }
 }
 
-/// Whether the bytes begin with `+`, a step of one digit and a space, behind which the line goes
-/// on.
-#[inline(always)]
-pub fn has_short_step(bytes: &[u8]) -> bool {
-    match bytes {
-        [b'+', digit, b' ', first, ..] => b'1' <= *digit && *digit <= b'9' && *first != b'\n',
-        _ => false,
-    }
-}
-
 /// The step of a line that begins with `+`, a step and a space, and what stands behind these;
 /// `None` where it doesn't.
 #[inline(always)]
