@@ -101,9 +101,9 @@ impl Cells {
         if self.used == self.all.len() {
             add_place(&mut self.all)?;
         }
-        before.step_into(alloc, dt, sample, &mut self.all[self.used], out)?;
+        let at = self.used;
         self.used += 1;
-        Ok(())
+        before.step_into(alloc, dt, sample, &mut self.all[at], out)
     }
 
     /// One cell more: an `iPre` that keeps a copy of the value. `Memory` where a growth was refused.
@@ -115,9 +115,9 @@ impl Cells {
         if self.used == self.all.len() {
             add_place(&mut self.all)?;
         }
-        self.all[self.used].put_previous(alloc, value)?;
+        let at = self.used;
         self.used += 1;
-        Ok(())
+        self.all[at].put_previous(alloc, value)
     }
 
     /// An `iPre` that keeps a copy of the value, in the place of cell i. `Memory` only where a count

@@ -2,7 +2,7 @@
 
 ghost use Rattle.std.specs.Prelude.{◌≡◌, ℕ, IfOk, IsTrue, map};
 ghost use Rattle.sample_core.specs.{Datum.event, ValueView.datum_of};
-ghost use Rattle.cell_core.specs.{Cell.accumulator_of, CellView.cell_of, Start.IsWithin};
+ghost use Rattle.cell_core.specs.{Cell.accumulating, Cell.accumulator_of, CellView.cell_of, Start.IsWithin};
 ghost use Rattle.net_syntax.specs.Network.{Network, accum_by};
 ghost use Rattle.state_core.specs.RowsView.{row_number};
 ghost use Rattle.state_core.specs.State.{Scope, accum_state, cell_state, params_of, unstarted};
@@ -98,6 +98,7 @@ pub(crate) fn start_accum<R: Rows>(
 
 /// Puts the answer of an `accumBy` to a further sample in the place of another value; its cell
 /// after it is one cell more.
+#[inline(always)]
 pub(crate) fn step_accum<R: Rows>(
     alloc: Global,
     rows: &R,
@@ -115,15 +116,36 @@ pub(crate) fn step_accum<R: Rows>(
     match cell.accumulator() {
         Some(held) => match x {
             Sample::Event(value) => {
-                let input = put_event(alloc, rows, g, params, held, value.get())?;
-                let done = cells.push_step(alloc, cell, 0, &input, out);
-                drop(input);
-                done
+                step_event(alloc, rows, g, params, cell, held, value.get(), cells, out)
             }
             _ => cells.push_step(alloc, cell, 0, x, out),
         },
         None => Err(Memory),
     }
+}
+
+/// The same of an event with that value, where the accumulator is `held`.
+#[inline(never)]
+fn step_event<R: Rows>(
+    alloc: Global,
+    rows: &R,
+    g: LeafId,
+    params: &[Sample],
+    cell: &Cell,
+    held: &Sample,
+    value: &Sample,
+    cells: &mut Cells,
+    out: &mut Sample,
+) -> Result<(), Memory>
+    requires { cell_of cell.now ≡ accumulating (datum_of held.now) }
+    ensures { IfOk result (λ _. IsAccumAdded (R.keys rows.now) (row_number g)
+        (map datum_of params.now) (accumulator_of (cell_of cell.now))
+        (event (datum_of value.now)) cells.old cells.new (datum_of out.new)) }
+{
+    let input = put_event(alloc, rows, g, params, held, value)?;
+    let done = cells.push_step(alloc, cell, 0, &input, out);
+    drop(input);
+    done
 }
 
 /// The event of what the row answers to the pair of the accumulator and an event's value.

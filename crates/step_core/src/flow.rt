@@ -50,11 +50,11 @@ pub(crate) fn flow<R: Rows>(
 {
     match net {
         Net::Arr(e) => call_into(on, *e, x, out),
-        Net::Seq(f, g) => flow_seq(on, f.get(), g.get(), x, cells, out),
+        Net::Seq(f, g) => flow_seq(on, f.get(), x, cells, out, g.get()),
         Net::First(f) => flow_first(on, f.get(), x, cells, out),
         Net::Par(fs) => flow_par(on, fs.as_slice(), x, cells, out),
-        Net::LoopPre(c, f) => flow_loop(on, *c, f.get(), x, cells, out),
-        Net::AccumBy(g, z) => flow_accum(on, *g, *z, x, cells, out),
+        Net::LoopPre(c, f) => flow_loop(on, f.get(), x, cells, out, *c),
+        Net::AccumBy(g, z) => flow_accum(on, *g, x, cells, out, *z),
         Net::IPre(_)
         | Net::Delay(..)
         | Net::Hold(_)
@@ -87,14 +87,14 @@ fn call_into<R: Rows>(
 
 /// `>>>`: what the first part answers goes to the second.
 #[cycle(flow)]
-#[inline(never)]
+#[inline(always)]
 fn flow_seq<R: Rows>(
     on: &Context<'_, R>,
     f: &Net<LeafId>,
-    g: &Net<LeafId>,
     x: &Sample,
     cells: &mut Cells,
     out: &mut Sample,
+    g: &Net<LeafId>,
 ) -> Result<(), Memory>
     requires { IsTrue (is_static (seq (rows_in f.now) (rows_in g.now))) }
     ensures { IfOk result (λ _. Flows (R.keys on.now.rows.now)
@@ -102,9 +102,29 @@ fn flow_seq<R: Rows>(
         (map datum_of on.now.params.now) (past_in on.now.before on.now.dt) (datum_of x.now)
         cells.old cells.new (datum_of out.new)) }
 {
-    if let Net::Seq(_, _) = g {
-        return flow_long(on, f, g, x, cells, out);
+    match g {
+        Net::Seq(..) => flow_long(on, f, x, cells, out, g),
+        _ => flow_two(on, f, x, cells, out, g),
     }
+}
+
+/// The same, where the second part is no `>>>`.
+#[cycle(flow)]
+#[inline(never)]
+fn flow_two<R: Rows>(
+    on: &Context<'_, R>,
+    f: &Net<LeafId>,
+    x: &Sample,
+    cells: &mut Cells,
+    out: &mut Sample,
+    g: &Net<LeafId>,
+) -> Result<(), Memory>
+    requires { IsTrue (is_static (seq (rows_in f.now) (rows_in g.now))) }
+    ensures { IfOk result (λ _. Flows (R.keys on.now.rows.now)
+        (seq (rows_in f.now) (rows_in g.now))
+        (map datum_of on.now.params.now) (past_in on.now.before on.now.dt) (datum_of x.now)
+        cells.old cells.new (datum_of out.new)) }
+{
     let mut between = Sample::Int(0);
     match flow(on, f, x, cells, &mut between) {
         Ok(()) => {
@@ -125,10 +145,10 @@ fn flow_seq<R: Rows>(
 fn flow_long<R: Rows>(
     on: &Context<'_, R>,
     f: &Net<LeafId>,
-    g: &Net<LeafId>,
     x: &Sample,
     cells: &mut Cells,
     out: &mut Sample,
+    g: &Net<LeafId>,
 ) -> Result<(), Memory>
     requires { IsTrue (is_static (seq (rows_in f.now) (rows_in g.now))) }
     ensures { IfOk result (λ _. Flows (R.keys on.now.rows.now)
@@ -138,7 +158,7 @@ fn flow_long<R: Rows>(
 {
     let mut between = Sample::Int(0);
     let mut place = Sample::Int(0);
-    let done = flow_chain(on, f, g, x, cells, &mut between, &mut place, out);
+    let done = flow_chain(on, f, x, cells, out, g, &mut between, &mut place);
     between.let_go();
     place.let_go();
     done
@@ -151,12 +171,12 @@ fn flow_long<R: Rows>(
 fn flow_chain<R: Rows>(
     on: &Context<'_, R>,
     f: &Net<LeafId>,
-    g: &Net<LeafId>,
     x: &Sample,
     cells: &mut Cells,
+    out: &mut Sample,
+    g: &Net<LeafId>,
     between: &mut Sample,
     place: &mut Sample,
-    out: &mut Sample,
 ) -> Result<(), Memory>
     requires { IsTrue (is_static (seq (rows_in f.now) (rows_in g.now))) }
     ensures { IfOk result (λ _. Flows (R.keys on.now.rows.now)
@@ -286,11 +306,11 @@ fn flow_member<R: Rows>(
 #[inline(never)]
 fn flow_loop<R: Rows>(
     on: &Context<'_, R>,
-    c: LeafId,
     f: &Net<LeafId>,
     x: &Sample,
     cells: &mut Cells,
     out: &mut Sample,
+    c: LeafId,
 ) -> Result<(), Memory>
     requires { IsTrue (is_static (rows_in f.now)) }
     ensures { IfOk result (λ _. Flows (R.keys on.now.rows.now)
@@ -451,10 +471,10 @@ fn form_of(net: &Net<LeafId>) -> Result<(Form, Option<LeafId>), Memory>
 fn flow_accum<R: Rows>(
     on: &Context<'_, R>,
     g: LeafId,
-    z: LeafId,
     x: &Sample,
     cells: &mut Cells,
     out: &mut Sample,
+    z: LeafId,
 ) -> Result<(), Memory>
     ensures { IfOk result (λ _. Flows (R.keys on.now.rows.now)
         (accum_by (row_number g) (row_number z))

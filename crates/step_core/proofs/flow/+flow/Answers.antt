@@ -38,8 +38,8 @@ flow-returns-in-IPre g t c = if_ok c.flow_cell.result _ _ (λ y h. elim c.in-IPr
   ]
 ]) c.flow_cell.ensures
 
-pub flow_seq-returns-in-Ok : goal.flow_seq-returns-in-Ok
-flow_seq-returns-in-Ok g t c =
+pub flow_two-returns-in-Ok : goal.flow_two-returns-in-Ok
+flow_two-returns-in-Ok g t c =
     if_ok c.flow-done.result _ _ (λ y two. seq_flows _ _ _ _ _ _ _ _ _ _ _ c.in-Ok.ensures two) c.flow-done.ensures
 
 pub flow_chain-chain-preserved : goal.flow_chain-chain-preserved

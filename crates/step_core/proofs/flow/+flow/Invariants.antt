@@ -30,6 +30,9 @@ decreases-flow_loop g l = 4 * net_size l.f.now + 2
 abbrev pub decreases-flow_seq : goal.decreases-flow_seq
 decreases-flow_seq g l = 4 * (net_size l.f.now + net_size l.g.now) + 4
 
+abbrev pub decreases-flow_two : goal.decreases-flow_two
+decreases-flow_two g l = 4 * (net_size l.f.now + net_size l.g.now) + 3
+
 abbrev pub decreases-flow_long : goal.decreases-flow_long
 decreases-flow_long g l = 4 * (net_size l.f.now + net_size l.g.now) + 3
 
