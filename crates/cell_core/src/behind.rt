@@ -185,10 +185,28 @@ impl Behind {
             drop(std::mem::replace(&mut self.earlier, earlier));
             self.recent.renew(alloc, recent)?;
         } else {
-            let earlier = before.earlier.and(alloc, recent)?;
-            drop(std::mem::replace(&mut self.earlier, earlier));
-            self.recent.clear();
+            self.begin_block(alloc, &before.earlier, recent)?;
         }
         self.recent.push(alloc, dt, sample)
+    }
+
+    /// No newest samples yet: these come into a block, of copies, behind the earlier ones. `Memory`
+    /// where a growth was refused.
+    #[inline(never)]
+    fn begin_block(
+        &mut self,
+        alloc: Global,
+        earlier: &Earlier,
+        samples: &[Entry],
+    ) -> Result<(), Memory>
+        ensures recent { OnOk result (self.new.recent ≡ []) }
+        ensures earlier { OnOk result (self.new.earlier ≡ entries_of samples.now ∷ earlier.now) }
+        ensures age { self.new.age ≡ self.old.age }
+        ensures at { self.new.at ≡ self.old.at }
+    {
+        let earlier = earlier.and(alloc, samples)?;
+        drop(std::mem::replace(&mut self.earlier, earlier));
+        self.recent.clear();
+        Ok(())
     }
 }

@@ -212,6 +212,25 @@ fn joined(
         drop(std::mem::replace(ahead, front));
         return there.follow(alloc, before, age, at, dt, sample);
     }
+    put_joined(alloc, front, before, age, at, dt, sample, place)
+}
+
+/// The queue with the sample behind, as above, where the place is of another form.
+#[inline(never)]
+fn put_joined(
+    alloc: Global,
+    front: Rc<Front>,
+    before: &Behind,
+    age: u64,
+    at: usize,
+    dt: u64,
+    sample: &Sample,
+    place: &mut Cell,
+) -> Result<(), Memory>
+    requires { at < length front.value.entries }
+    ensures { OnOk result (cell_of place.new
+        ≡ queue_of front.value age at ((dt, datum_of sample.now) ∷ back_of before.now)) }
+{
     let mut fresh = Behind::none(alloc);
     match fresh.follow(alloc, before, age, at, dt, sample) {
         Ok(()) => put_new(alloc, front, fresh, place),

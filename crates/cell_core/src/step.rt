@@ -2,7 +2,7 @@
 
 ghost use Rattle.std.specs.Prelude.{◌≡◌, ◌∷◌, [], pos, ◌+ℤ◌, ◌*ℤ◌, OnOk};
 ghost use Rattle.std.specs.Int.{int_wrap, w64};
-ghost use Rattle.sample_core.specs.{Datum.unit, ValueView.datum_of};
+ghost use Rattle.sample_core.specs.{Datum.no_event, Datum.unit, ValueView.datum_of};
 ghost use Rattle.net_syntax.specs.SignalFunction.{latest_event};
 ghost use Rattle.cell_core.specs.CellView.{cell_of, kept_by, outcome_of};
 ghost use Rattle.cell_core.specs.Parts.{after_of, recurring_of};
@@ -91,8 +91,19 @@ pub(crate) fn accum_by(
     if fires {
         return out.put_copy(alloc, sample);
     }
-    out.put(Sample::NoEvent);
+    put_no_event(out);
     Ok(())
+}
+
+/// No event in the place of a value: mostly there was none before.
+#[inline(always)]
+fn put_no_event(out: &mut Sample)
+    ensures { datum_of out.new ≡ no_event }
+{
+    match out {
+        Sample::NoEvent => {}
+        _ => out.put(Sample::NoEvent),
+    }
 }
 
 /// An `after`: its event comes where it isn't past, and no more than dt is left.
@@ -112,7 +123,7 @@ pub(crate) fn after(
     if fires {
         out.put(Sample::Event(value.try_copy()?));
     } else {
-        out.put(Sample::NoEvent);
+        put_no_event(out);
     }
     Ok(())
 }
@@ -151,7 +162,7 @@ pub(crate) fn repeatedly(
         out.put(Sample::Event(recurring.value.try_copy()?));
     } else {
         put_repeatedly(left - dt, recurring, place)?;
-        out.put(Sample::NoEvent);
+        put_no_event(out);
     }
     Ok(())
 }

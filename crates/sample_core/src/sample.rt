@@ -355,11 +355,11 @@ impl Sample {
         }
     }
 
-    /// Lets the value go. Mostly it is a number, which holds nothing.
+    /// Lets the value go. Mostly it holds nothing.
     #[inline(always)]
     pub fn let_go(self) {
         match self {
-            Sample::Int(_) => {}
+            Sample::Unit | Sample::Bool(_) | Sample::Int(_) | Sample::NoEvent => {}
             value => value.let_go_on(),
         }
     }

@@ -1,4 +1,4 @@
-use Rattle.std.proofs.Common.{◌∙◌, ◌++◌, ◌-◌, ◌≡◌, List, length, take, drop, ap, arith}
+use Rattle.std.proofs.Common.{◌∙◌, ◌++◌, ◌-◌, List, length, take, drop, ap, arith}
 use Rattle.std.proofs.lemmas.List.{with_items_is}
 use Rattle.std.proofs.lemmas.Result.{on_ok_weaker}
 use Rattle.cell_core.specs.declared.entry.Entry.{Entry}
