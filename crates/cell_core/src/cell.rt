@@ -100,16 +100,9 @@ impl Cell {
             ≡ cell_step (cell_of self.now) (dt, datum_of sample.now)) }
     {
         match self {
-            Cell::IPre(before) => {
-                step::keep(alloc, Keeper::IPre, sample, place)?;
-                out.put_copy(alloc, before)
-            }
+            Cell::IPre(before) => step::i_pre(alloc, before, sample, place, out),
             Cell::Delay(front, behind) => queue::step(front, behind, alloc, dt, sample, place, out),
-            Cell::Hold(kept) => {
-                let value = step::latest(kept, sample);
-                step::keep(alloc, Keeper::Hold, value, place)?;
-                out.put_copy(alloc, value)
-            }
+            Cell::Hold(kept) => step::hold(alloc, kept, sample, place, out),
             Cell::AccumBy(accumulator) => step::accum_by(alloc, accumulator, sample, place, out),
             Cell::After(left, value) => step::after(*left, value, dt, place, out),
             Cell::Repeatedly(left, recurring) => step::repeatedly(*left, recurring, dt, place, out),

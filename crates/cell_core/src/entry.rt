@@ -1,6 +1,6 @@
 // Values with times, as they wait in a `delay`.
 
-ghost use Rattle.std.specs.Prelude.{◌≡◌, ◌≤◌, ◌+◌, ◌++◌, ◌∷◌, [], IfOk, OnOk, length, take};
+ghost use Rattle.std.specs.Prelude.{◌≡◌, ◌≤◌, ◌++◌, ◌∷◌, [], IfOk, OnOk, length, take};
 ghost use Rattle.sample_core.specs.ValueView.{datum_of};
 ghost use Rattle.cell_core.specs.Entries.{entry_of, entries_of};
 
@@ -106,7 +106,7 @@ impl Entries {
         if self.used < self.all.len() {
             self.all[self.used].renew(alloc, time, value)?;
         } else {
-            push_copy(alloc, &mut self.all, time, value)?;
+            self.all.push(Entry::copied(alloc, time, value)?)?;
         }
         self.used += 1;
         Ok(())
@@ -134,18 +134,6 @@ impl Entries {
         self.used = there;
         self.push_all(alloc, &from[there..])
     }
-}
-
-/// An entry at the end, with that time and a copy of the value. `Memory` where a growth was refused.
-#[inline(never)]
-fn push_copy(alloc: Global, all: &mut Vec<Entry>, time: u64, value: &Sample) -> Result<(), Memory>
-    ensures kept { length all.old.items ≤ length all.new.items }
-    ensures room { OnOk result (length all.new.items ≡ length all.old.items + 1) }
-    ensures copied { OnOk result (entries_of all.new.items
-        ≡ entries_of all.old.items ++ (time, datum_of value.now) ∷ []) }
-{
-    all.push(Entry::copied(alloc, time, value)?)?;
-    Ok(())
 }
 
 /// Copies of these entries in the first places, whose entries go. `Memory` where a growth was

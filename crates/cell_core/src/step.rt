@@ -6,7 +6,7 @@ ghost use Rattle.sample_core.specs.{Datum.no_event, Datum.unit, ValueView.datum_
 ghost use Rattle.net_syntax.specs.SignalFunction.{latest_event};
 ghost use Rattle.cell_core.specs.CellView.{cell_of, kept_by, outcome_of};
 ghost use Rattle.cell_core.specs.Parts.{after_of, recurring_of};
-ghost use Rattle.cell_core.specs.Cell.{cell_step, accumulating, ticking, summing};
+ghost use Rattle.cell_core.specs.Cell.{cell_step, previous, latest as holding, accumulating, ticking, summing};
 
 use crate::cell::Cell;
 use crate::recurring::Recurring;
@@ -69,6 +69,39 @@ pub(crate) fn latest<'s>(kept: &'s Sample, sample: &'s Sample) -> &'s Sample
         Sample::Event(value) => value.get(),
         _ => kept,
     }
+}
+
+/// An `iPre` keeps the sample and answers the one before.
+#[inline(never)]
+pub(crate) fn i_pre(
+    alloc: Global,
+    before: &Sample,
+    sample: &Sample,
+    place: &mut Cell,
+    out: &mut Sample,
+) -> Result<(), Memory>
+    ensures { OnOk result (outcome_of (place.new, out.new)
+        ≡ cell_step (previous (datum_of before.now)) (0, datum_of sample.now)) }
+{
+    keep(alloc, Keeper::IPre, sample, place)?;
+    out.put_copy(alloc, before)
+}
+
+/// A `hold` keeps the value of the latest event and answers it.
+#[inline(never)]
+pub(crate) fn hold(
+    alloc: Global,
+    kept: &Sample,
+    sample: &Sample,
+    place: &mut Cell,
+    out: &mut Sample,
+) -> Result<(), Memory>
+    ensures { OnOk result (outcome_of (place.new, out.new)
+        ≡ cell_step (holding (datum_of kept.now)) (0, datum_of sample.now)) }
+{
+    let value = latest(kept, sample);
+    keep(alloc, Keeper::Hold, value, place)?;
+    out.put_copy(alloc, value)
 }
 
 /// An `accumBy` keeps an event's value and answers the event.

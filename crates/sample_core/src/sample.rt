@@ -355,11 +355,11 @@ impl Sample {
         }
     }
 
-    /// Lets the value go. Mostly it holds nothing.
+    /// Lets the value go. Mostly it is a number, which holds nothing.
     #[inline(always)]
     pub fn let_go(self) {
         match self {
-            Sample::Unit | Sample::Bool(_) | Sample::Int(_) | Sample::NoEvent => {}
+            Sample::Int(_) => {}
             value => value.let_go_on(),
         }
     }

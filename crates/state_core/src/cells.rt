@@ -99,11 +99,34 @@ impl Cells {
             (dt, datum_of sample.now) self.new (datum_of out.new)) }
     {
         if self.used == self.all.len() {
-            add_place(&mut self.all)?;
+            return self.push_step_anew(alloc, before, dt, sample, out);
         }
         let at = self.used;
         self.used += 1;
         before.step_into(alloc, dt, sample, &mut self.all[at], out)
+    }
+
+    /// The same, where there is no place for the cell yet.
+    #[inline(never)]
+    fn push_step_anew(
+        &mut self,
+        alloc: Global,
+        before: &Cell,
+        dt: u64,
+        sample: &Sample,
+        out: &mut Sample,
+    ) -> Result<(), Memory>
+        ensures { IfOk result (λ _. IsStepAdded self.old (cell_of before.now)
+            (dt, datum_of sample.now) self.new (datum_of out.new)) }
+    {
+        let mut cell = Cell::Time(0);
+        match before.step_into(alloc, dt, sample, &mut cell, out) {
+            Ok(()) => self.push(cell),
+            Err(memory) => {
+                drop(cell);
+                Err(memory)
+            }
+        }
     }
 
     /// One cell more: an `iPre` that keeps a copy of the value. `Memory` where a growth was refused.
