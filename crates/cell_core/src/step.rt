@@ -71,9 +71,32 @@ pub(crate) fn latest<'s>(kept: &'s Sample, sample: &'s Sample) -> &'s Sample
     }
 }
 
-/// An `iPre` keeps the sample and answers the one before.
-#[inline(never)]
+/// An `iPre` keeps the sample and answers the one before. Where numbers come into the places of
+/// numbers, they are written at once.
+#[inline(always)]
 pub(crate) fn i_pre(
+    alloc: Global,
+    before: &Sample,
+    sample: &Sample,
+    place: &mut Cell,
+    out: &mut Sample,
+) -> Result<(), Memory>
+    ensures { OnOk result (outcome_of (place.new, out.new)
+        ≡ cell_step (previous (datum_of before.now)) (0, datum_of sample.now)) }
+{
+    if let (Sample::Int(next), Sample::Int(last)) = (sample, before) {
+        if let (Cell::IPre(Sample::Int(kept)), Sample::Int(answer)) = (&mut *place, &mut *out) {
+            *kept = *next;
+            *answer = *last;
+            return Ok(());
+        }
+    }
+    i_pre_of_any(alloc, before, sample, place, out)
+}
+
+/// The same of any values.
+#[inline(never)]
+fn i_pre_of_any(
     alloc: Global,
     before: &Sample,
     sample: &Sample,
@@ -217,7 +240,7 @@ fn put_repeatedly(left: u64, recurring: &Rc<Recurring>, place: &mut Cell) -> Res
 }
 
 /// A `time` is dt more.
-#[inline(always)]
+#[inline(never)]
 pub(crate) fn time(before: i64, dt: u64, place: &mut Cell, out: &mut Sample)
     ensures { outcome_of (place.new, out.new) ≡ cell_step (ticking before) (dt, unit) }
 {
@@ -227,7 +250,7 @@ pub(crate) fn time(before: i64, dt: u64, place: &mut Cell, out: &mut Sample)
 }
 
 /// An `integral` is dt times the sample before more.
-#[inline(always)]
+#[inline(never)]
 pub(crate) fn integral(
     sum: i64,
     before: i64,
