@@ -1,6 +1,6 @@
 // Running a bound network, sample by sample.
 
-ghost use Rattle.std.specs.Prelude.{◌≡◌, ◌<◌, ◌≤◌, ◌+◌, ◌^◌, [], IfOk, OnErr};
+ghost use Rattle.std.specs.Prelude.{◌≡◌, ◌<◌, ◌≤◌, ◌+◌, ◌^◌, [], Some, IfOk, OnErr};
 ghost use Rattle.sample_core.specs.{HasType.HasType, ValueView.datum_of};
 ghost use Rattle.leaf_table.specs.Rows.{rows_of};
 ghost use Rattle.state_core.specs.StateView.{state_of};
@@ -84,12 +84,12 @@ impl<'a> Runner<'a> {
             (runner_state self.new)) }
         ensures unchanged { OnErr result (runner_state self.new ≡ runner_state self.old) }
     {
-        let mut place = std::mem::replace(&mut self.place, State::Nothing);
         let env = Env::nothing();
         let from = match &self.state {
             Some(state) => Source::State(state),
             None => Source::Net(self.bound.net(), &env),
         };
+        let place = &mut self.place;
         let last = &mut self.answer;
         let mut answer = Sample::Int(0);
         match run_kept(
@@ -98,19 +98,17 @@ impl<'a> Runner<'a> {
             &from,
             step,
             sample,
-            &mut place,
+            place,
             last,
             &mut answer,
         ) {
             Ok(visits) => {
-                let before = self.state.replace(place);
-                drop(std::mem::replace(&mut self.place, place_of(before)));
+                keep(&mut self.state, &mut self.place);
                 self.samples += 1;
                 self.visits = visits;
                 Ok(answer)
             }
             Err(memory) => {
-                drop(place);
                 drop(answer);
                 Err(memory)
             }
@@ -158,11 +156,13 @@ fn run_kept<'n, R: Rows>(
     Ok(visits)
 }
 
-/// The state before as a place, if there was one.
+/// Keeps the state that stands in the place; the one that was kept, if any, is the place then.
 #[inline(always)]
-fn place_of<'n>(before: Option<State<'n>>) -> State<'n> {
-    match before {
-        Some(state) => state,
-        None => State::Nothing,
+fn keep<'n>(state: &mut Option<State<'n>>, place: &mut State<'n>)
+    ensures { state_in state.new ≡ Some (state_of place.old) }
+{
+    match state {
+        Some(before) => std::mem::swap(before, place),
+        None => *state = Some(std::mem::replace(place, State::Nothing)),
     }
 }

@@ -1,4 +1,4 @@
-use Rattle.std.proofs.Common.{◌≡◌, map, ap, ◌∙◌, sym, refl, arith, rules, inl, inr}
+use Rattle.std.proofs.Common.{◌≡◌, map, ap, ◌∙◌, sym, refl, arith, inl, inr}
 use Rattle.std.specs.Prelude.{slice_set}
 use Rattle.sample_core.specs.Datum.{right}
 use Rattle.sample_core.specs.ValueView.{datum_of}

@@ -1,4 +1,4 @@
-use Rattle.std.proofs.Common.{◌≡◌, ◌≤◌, ◌+◌, ◌*◌, List, IsTrue, map}
+use Rattle.std.proofs.Common.{◌≤◌, ◌+◌, ◌*◌, List, IsTrue, map}
 use Rattle.sample_core.specs.Datum.{Datum}
 use Rattle.sample_core.specs.ValueView.{datum_of}
 use Rattle.net_syntax.specs.Network.{seq}

@@ -8,22 +8,22 @@ use Rattle.step_core.specs.Runs.{RunsWhere}
 use Rattle.step_core.specs.SourceView.{source_of}
 use Rattle.step_core.specs.StateOption.{state_in}
 use Rattle.step_core.proofs.Pushing.{first_pushed_from, next_pushed, past_later, pushed_as}
-use Rattle.step_core.proofs.runner.Runner.push.Goals.{After-drop, in-Some, in-None}
+use Rattle.step_core.proofs.runner.Runner.push.Goals.{After-keep, in-Some, in-None}
 use Rattle.step_core.proofs.runner.Runner.push.Goals as goal
 
 -- the next output, whether or not this is the first sample
-after_push : (g : _) (c : After-drop g) → Pushes (runner_state c.args.self.now) (c.args.step, datum_of c.args.sample.now)
+after_push : (g : _) (c : After-keep g) → Pushes (runner_state c.args.self.now) (c.args.step, datum_of c.args.sample.now)
     (datum_of c.run_kept.new.out)
     (record {
       input = c.args.self.now.bound.now.input;
       keys = rows_of c.args.self.now.workspace.table.now;
       rows = c.args.self.now.bound.now.rows;
-      state = state_in c.replace-before.new.self;
+      state = state_in c.keep.new.state;
       samples = c.args.self.now.samples + 1;
       visits = c.in-Ok.visits;
     })
 after_push g c =
-    pushed_as (runner_state c.args.self.now) _ _ _ _ _ _ _ _ (ap state_in c.replace-before.ensures.after)
+    pushed_as (runner_state c.args.self.now) _ _ _ _ _ _ _ _ c.keep.ensures
     (add-one c.args.self.now.samples) refl refl
     (elim c.match-self.branch [
       | in-Some w ↦ next_pushed (runner_state c.args.self.now) _ _ _ _ _ (ap state_in w.in-Some.is) c.requires.typed
@@ -35,7 +35,7 @@ after_push g c =
     ])
 
 pub returns-in-Ok-clause-pushed : goal.returns-in-Ok-clause-pushed
-returns-in-Ok-clause-pushed g c = after_push g (goal.at.returns-in-Ok-clause-pushed g c).After-drop
+returns-in-Ok-clause-pushed g c = after_push g (goal.at.returns-in-Ok-clause-pushed g c).After-keep
 
 pub invariant_of-self : goal.invariant_of-self
 invariant_of-self g c = record { past = past_later (runner_state c.args.self.now) _ _ _ c.args.self.now.past (after_push g c) }
