@@ -1,0 +1,2 @@
+//! The laws of networks: their rows, that both sides of each do the same, and how one is applied.
+#![tactic(auto)]
