@@ -1,0 +1,3 @@
+pub mod RowsExact
+pub mod RowValues
+pub mod RowTypes

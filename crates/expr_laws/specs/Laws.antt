@@ -1,0 +1,30 @@
+-- What is to hold of the rows.
+use Rattle.std.specs.Prelude.{ℕ, ◌≡◌, ◌↔◌, ◌≤◌, List}
+use Rattle.sample_core.specs.Datum.{Datum}
+use Rattle.sample_core.specs.TypeTree.{TypeTree}
+use Rattle.sample_core.specs.HasType.{HasType, TypedParams}
+use Rattle.leaf_core.specs.Expression.{Expression}
+use Rattle.leaf_core.specs.ExpressionValue.{value_of}
+use Rattle.leaf_core.specs.ExpressionTyping.{ExpressionTyped}
+use Rattle.expr_laws.specs.Rows.{ExpressionRow}
+
+-- where a row's left side is typed, both sides have one value at all parameters and inputs of those
+-- types
+abbrev pub RowValueLaw : Type 0
+RowValueLaw = (n : ℕ) (l r : Expression) → ExpressionRow n l r → (Ps : List TypeTree) (A B : TypeTree)
+    → ExpressionTyped l Ps A B → (ps : List Datum) (x : Datum) → TypedParams Ps ps → HasType x A
+    → value_of l ps x ≡ value_of r ps x
+
+-- where a row's left side is typed, its right side has the same type
+abbrev pub RowTypeLaw : Type 0
+RowTypeLaw = (n : ℕ) (l r : Expression) → ExpressionRow n l r → (Ps : List TypeTree) (A B : TypeTree)
+    → ExpressionTyped l Ps A B → ExpressionTyped r Ps A B
+
+-- a law's left side determines its right side
+abbrev pub OneRightSideLaw : Type 0
+OneRightSideLaw = (n : ℕ) (l r s : Expression) → ExpressionRow n l r → ExpressionRow n l s → r ≡ s
+
+-- there is a row of a number exactly from 1 to 18
+abbrev pub RowNumbersLaw : Type 0
+RowNumbersLaw = (n : ℕ)
+    → ((l : Expression) × (r : Expression) × ExpressionRow n l r) ↔ ((1 ≤ n) × (n ≤ 18))

@@ -1,0 +1,106 @@
+-- The laws of expressions: each row's left and right side, over letters that stand for any
+-- expressions, types, parameters and numbers, typed or not.
+use Rattle.std.specs.Prelude.{ℕ, zero, suc, ℤ, pos, negsuc, Bool, true, false, []}
+use Rattle.sample_core.specs.TypeTree.{TypeTree}
+use Rattle.sample_core.specs.Datum.{Datum, unit, bool, int}
+use Rattle.leaf_core.specs.Expression.{Expression, Expressions, input, param, unit_expr, bool_expr, int_expr, pair_expr, fst, snd, then_expr, neg, add, sub, mul, less, equal, not_expr, and_expr, or_expr, if_expr, no_event_expr, event_expr, on, list_expr, nth, len, no_more, and_then}
+use Rattle.leaf_core.specs.ExpressionValue.{value_of}
+
+-- each of a list's elements behind f
+abbrev pub each_then : Expression → Expressions → Expressions
+each_then f no_more = no_more
+each_then f (and_then e es) = and_then (then_expr f e) (each_then f es)
+
+-- an operator, and the operator with each of its parts behind f
+pub data Spread (f : Expression) : Expression → Expression → Type 0 where
+  pair_spread : {a b : Expression}
+      → Spread f (pair_expr a b) (pair_expr (then_expr f a) (then_expr f b))
+  fst_spread : {e : Expression} → Spread f (fst e) (fst (then_expr f e))
+  snd_spread : {e : Expression} → Spread f (snd e) (snd (then_expr f e))
+  neg_spread : {a : Expression} → Spread f (neg a) (neg (then_expr f a))
+  add_spread : {a b : Expression} → Spread f (add a b) (add (then_expr f a) (then_expr f b))
+  sub_spread : {a b : Expression} → Spread f (sub a b) (sub (then_expr f a) (then_expr f b))
+  mul_spread : {a b : Expression} → Spread f (mul a b) (mul (then_expr f a) (then_expr f b))
+  less_spread : {a b : Expression} → Spread f (less a b) (less (then_expr f a) (then_expr f b))
+  equal_spread : {a b : Expression} → Spread f (equal a b) (equal (then_expr f a) (then_expr f b))
+  not_spread : {a : Expression} → Spread f (not_expr a) (not_expr (then_expr f a))
+  and_spread : {a b : Expression}
+      → Spread f (and_expr a b) (and_expr (then_expr f a) (then_expr f b))
+  or_spread : {a b : Expression} → Spread f (or_expr a b) (or_expr (then_expr f a) (then_expr f b))
+  if_spread : {c a b : Expression}
+      → Spread f (if_expr c a b) (if_expr (then_expr f c) (then_expr f a) (then_expr f b))
+  event_spread : {e : Expression} → Spread f (event_expr e) (event_expr (then_expr f e))
+  nth_spread : {e i d : Expression}
+      → Spread f (nth e i d) (nth (then_expr f e) (then_expr f i) (then_expr f d))
+  len_spread : {e : Expression} → Spread f (len e) (len (then_expr f e))
+  list_spread : {T : TypeTree} {e : Expression} {es : Expressions}
+      → Spread f (list_expr T (and_then e es)) (list_expr T (each_then f (and_then e es)))
+
+-- a literal, a parameter, no event or the empty list: what has no part and isn't the input
+pub data IsConstant : Expression → Type 0 where
+  param_constant : {k : ℕ} → IsConstant (param k)
+  unit_constant : IsConstant unit_expr
+  bool_constant : {b : Bool} → IsConstant (bool_expr b)
+  int_constant : {n : ℤ} → IsConstant (int_expr n)
+  no_event_constant : {T : TypeTree} → IsConstant (no_event_expr T)
+  list_constant : {T : TypeTree} → IsConstant (list_expr T no_more)
+
+-- an operator on literals of the types that it takes
+pub data OnLiterals : Expression → Type 0 where
+  neg_literal : {m : ℤ} → OnLiterals (neg (int_expr m))
+  add_literals : {m n : ℤ} → OnLiterals (add (int_expr m) (int_expr n))
+  sub_literals : {m n : ℤ} → OnLiterals (sub (int_expr m) (int_expr n))
+  mul_literals : {m n : ℤ} → OnLiterals (mul (int_expr m) (int_expr n))
+  less_literals : {m n : ℤ} → OnLiterals (less (int_expr m) (int_expr n))
+  equal_units : OnLiterals (equal unit_expr unit_expr)
+  equal_bools : {b c : Bool} → OnLiterals (equal (bool_expr b) (bool_expr c))
+  equal_ints : {m n : ℤ} → OnLiterals (equal (int_expr m) (int_expr n))
+  not_literal : {b : Bool} → OnLiterals (not_expr (bool_expr b))
+  and_literals : {b c : Bool} → OnLiterals (and_expr (bool_expr b) (bool_expr c))
+  or_literals : {b c : Bool} → OnLiterals (or_expr (bool_expr b) (bool_expr c))
+
+-- the literal of a value; `unit` where no literal has it
+abbrev pub literal_for : Datum → Expression
+literal_for (bool b) = bool_expr b
+literal_for (int n) = int_expr n
+literal_for _ = unit_expr
+
+-- the element at a place, from 0; d outside
+abbrev pub element_or : Expressions → ℕ → Expression → Expression
+element_or no_more n d = d
+element_or (and_then e es) zero d = e
+element_or (and_then e es) (suc n) d = element_or es n d
+
+-- the same at a signed place
+abbrev pub picked : Expressions → ℤ → Expression → Expression
+picked es (pos n) d = element_or es n d
+picked es (negsuc n) d = d
+
+-- a law's number, its left side and its right side; a letter that comes twice on the left stands
+-- for one expression
+pub data ExpressionRow : ℕ → Expression → Expression → Type 0 where
+  row_e1 : {f : Expression} → ExpressionRow 1 (then_expr input f) f
+  row_e2 : {f : Expression} → ExpressionRow 2 (then_expr f input) f
+  row_e3 : {f g h : Expression}
+      → ExpressionRow 3 (then_expr (then_expr f g) h) (then_expr f (then_expr g h))
+  row_e4 : {f o r : Expression} → Spread f o r → ExpressionRow 4 (then_expr f o) r
+  row_e5 : {f g d b : Expression}
+      → ExpressionRow 5 (then_expr f (on g d b))
+      (on (then_expr f g) (then_expr f d)
+      (then_expr (pair_expr (then_expr (fst input) f) (snd input)) b))
+  row_e6 : {f k : Expression} → IsConstant k → ExpressionRow 6 (then_expr f k) k
+  row_e7 : {e f : Expression} → ExpressionRow 7 (fst (pair_expr e f)) e
+  row_e8 : {e f : Expression} → ExpressionRow 8 (snd (pair_expr e f)) f
+  row_e9 : {e : Expression} → ExpressionRow 9 (pair_expr (fst e) (snd e)) e
+  row_e10 : {e f : Expression} → ExpressionRow 10 (if_expr (bool_expr true) e f) e
+  row_e11 : {e f : Expression} → ExpressionRow 11 (if_expr (bool_expr false) e f) f
+  row_e12 : {c e : Expression} → ExpressionRow 12 (if_expr c e e) e
+  row_e13 : {T : TypeTree} {d b : Expression} → ExpressionRow 13 (on (no_event_expr T) d b) d
+  row_e14 : {v d b : Expression}
+      → ExpressionRow 14 (on (event_expr v) d b) (then_expr (pair_expr input v) b)
+  row_e15 : {o : Expression} → OnLiterals o → ExpressionRow 15 o (literal_for (value_of o [] unit))
+  row_e16 : {a b : Expression} → ExpressionRow 16 (add a b) (add b a)
+  row_e17 : {a b c : Expression} → ExpressionRow 17 (add (add a b) c) (add a (add b c))
+  row_e18 : {T : TypeTree} {e : Expression} {es : Expressions} {i : ℤ} {d : Expression}
+      → ExpressionRow 18 (nth (list_expr T (and_then e es)) (int_expr i) d)
+      (picked (and_then e es) i d)
