@@ -89,7 +89,7 @@ module _ {A D : TypeTree} (r r' : Datum → Datum) (hr : SameRoute A D r r') whe
   route-same : (i : ℕ) → i < 64 → (xs : TimedList) → TypedSamples A xs → route r i xs ≡ route r' i xs
   route-same i l xs k = each_value-same _ _ (λ v j. (hr (pair v (int (pos i))) (pair_has j (typed_number i l))).0) xs k
 
-  typed_route : (i : ℕ) → i < 64 → (xs : TimedList) → TypedSamples A xs → TypedSamples D (route r i xs)
+  pub typed_route : (i : ℕ) → i < 64 → (xs : TimedList) → TypedSamples A xs → TypedSamples D (route r i xs)
   typed_route i l xs k = typed_each_value _ xs (λ v j. (hr (pair v (int (pos i))) (pair_has j (typed_number i l))).1) k
 
   SameAt-route : {B : TypeTree} (i : ℕ) → i < 64 → (f g : SignalFunction) → SameAt D B f g → SameAt A B (λ xs. f (route r i xs)) (λ xs. g (route r' i xs))
@@ -98,7 +98,7 @@ module _ {A D : TypeTree} (r r' : Datum → Datum) (hr : SameRoute A D r r') whe
     typed = λ xs k. h.typed (route r i xs) (typed_route i l xs k);
   }
 
-  AllSameAt-routes : {B : TypeTree} (i : ℕ) (fs gs : List SignalFunction) → i + length fs ≤ 64 → AllSameAt D B fs gs
+  pub AllSameAt-routes : {B : TypeTree} (i : ℕ) (fs gs : List SignalFunction) → i + length fs ≤ 64 → AllSameAt D B fs gs
       → AllSameAt A B (route_each r i fs) (route_each r' i gs)
   AllSameAt-routes i fs gs l no_twin = no_twin
   AllSameAt-routes i fs gs l (and_twin {f = f} {g = g} {fs = fs'} {gs = gs'} sf sg h a) =
@@ -106,7 +106,7 @@ module _ {A D : TypeTree} (r r' : Datum → Datum) (hr : SameRoute A D r r') whe
       let l'' : suc i + length fs' ≤ 64 = omega arith in
       and_twin (IsSignal-before _ f sf) (IsSignal-before _ g sg) (SameAt-route i l' f g h) (AllSameAt-routes (suc i) fs' gs' l'' a)
 
-  AllOlds-frozen_all : {B : TypeTree} (i : ℕ) (fs gs : List SignalFunction) → i + length fs ≤ 64 → AllSameAt D B fs gs → (p : TimedList) (d : ℕ)
+  pub AllOlds-frozen_all : {B : TypeTree} (i : ℕ) (fs gs : List SignalFunction) → i + length fs ≤ 64 → AllSameAt D B fs gs → (p : TimedList) (d : ℕ)
       → TypedSamples A p → AllOlds (copies (length fs) (record { input = D; output = B })) (freeze_all r i fs p d) (freeze_all r' i gs p d)
   AllOlds-frozen_all i fs gs l no_twin p d j = no_olds
   AllOlds-frozen_all {B = B} i fs gs l (and_twin {f = f} {g = g} {fs = fs'} {gs = gs'} sf sg h a) p d j =

@@ -24,7 +24,7 @@ restart_outputs f t E xs = refl
 pub freeze_outputs : FreezeLaw
 freeze_outputs f e t E xs = refl
 
-frozen_in : (E : Environment Expression) (r : Expression) (i : ℕ) (fs : Networks Expression) (p : TimedList) (d : ℕ) (F : Environment Expression)
+pub frozen_in : (E : Environment Expression) (r : Expression) (i : ℕ) (fs : Networks Expression) (p : TimedList) (d : ℕ) (F : Environment Expression)
     → context_of value_of (freeze_members E r i fs p d F)
     ≡ with_olds (context_of value_of F) (freeze_all (route_in E r) i (meanings value_of fs (context_of value_of E)) p d)
 frozen_in E r i no_members p d F = ap (λ os. record (context_of value_of F) { olds = os }) (sym (append-nil (context_of value_of F).olds))
