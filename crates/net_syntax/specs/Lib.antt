@@ -26,3 +26,4 @@ pub mod ArrowView
 pub mod Left
 pub mod LeafWalk
 pub mod FormView
+pub mod LawStep
