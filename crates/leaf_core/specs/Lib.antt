@@ -17,3 +17,4 @@ pub mod TypingLaws
 pub mod CheckAnswer
 pub mod LookedView
 pub mod ScopeView
+pub mod Parts

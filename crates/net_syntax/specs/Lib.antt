@@ -27,3 +27,6 @@ pub mod Left
 pub mod LeafWalk
 pub mod FormView
 pub mod LawStep
+pub mod Placed
+pub mod Standing
+pub mod Rewriting
