@@ -1,0 +1,11 @@
+pub mod SomeLaws
+pub mod ArrowLaws
+pub mod CellLaws
+pub mod LoopLaws
+pub mod ParallelLaws
+pub mod SwitchLaws
+pub mod Scopes
+pub mod NetworkLaws
+pub mod SameSides
+pub mod RowsExact
+pub mod Numbers

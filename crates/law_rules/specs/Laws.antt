@@ -1,5 +1,5 @@
 -- What holds of the rows of laws.
-use Rattle.std.specs.Prelude.{◌≡◌, ℕ, List, length}
+use Rattle.std.specs.Prelude.{◌≡◌, ◌↔◌, ◌≤◌, ℕ, List, length}
 use Rattle.sample_core.specs.TypeTree.{TypeTree}
 use Rattle.leaf_core.specs.Expression.{Expression}
 use Rattle.leaf_core.specs.ExpressionValue.{value_of}
@@ -31,3 +31,9 @@ SameSidesLaw = OfTypedSides (λ Ps Os A B l r. SameNet value_of Ps Os A B l r)
 abbrev pub OneRightSideLaw : Type 0
 OneRightSideLaw = (law olds : ℕ) (l r s : Network Expression)
     → NetworkRow law olds l r → NetworkRow law olds l s → r ≡ s
+
+-- there is a row of a law exactly of each number from 1 to 42
+abbrev pub RowNumbersLaw : Type 0
+RowNumbersLaw = (n olds : ℕ)
+    → ((l : Network Expression) × (r : Network Expression) × NetworkRow n olds l r)
+    ↔ ((1 ≤ n) × (n ≤ 42))

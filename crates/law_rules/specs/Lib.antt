@@ -1,3 +1,4 @@
 -- The laws of networks, a file a line.
 pub mod NetworkRow
+pub mod Forward
 pub mod Laws

@@ -1,0 +1,149 @@
+-- Each row's two sides have one meaning: most in every context, the rest where both are typed.
+use Rattle.std.proofs.Common.{Some, [], ap, ap₂, pos, refl, suc, sym, ℕ, ◌∙◌, ◌∷◌, ◌≡◌}
+use Rattle.law_rules.specs.NetworkRow.{SeesSteps, after_sees, assoc, behind_routes, each_after, each_arr, event_by, event_last, left_by, repeatedly_sees, right_by, time_sees, unassoc}
+use Rattle.leaf_core.specs.Expression.{Expression, Expressions, event_expr, fst, input, int_expr, list_expr, no_event_expr, nth, pair_expr, then_expr, unit_expr}
+use Rattle.leaf_core.specs.ExpressionValue.{value_of}
+use Rattle.net_syntax.specs.Meaning.{Context, meaning, meanings, with_olds, with_param}
+use Rattle.net_syntax.specs.Network.{Network, Networks, accum_by, after, and_member, arr, d_switch, delay, first, hold, i_pre, k_switch, loop_pre, no_members, p_switch, par, r_switch, repeatedly, seq, switch}
+use Rattle.net_syntax.specs.Place.{member}
+use Rattle.net_syntax.specs.SignalFunction.{IsSignalFunction, SignalFunction, TimedList, par_function, route_each}
+use Rattle.sample_core.specs.Datum.{Datum, int, pair, unit}
+use Rattle.sample_core.specs.TypeTree.{TypeTree}
+use Rattle.law_rules.proofs.ArrowLaws
+use Rattle.law_rules.proofs.CellLaws
+use Rattle.law_rules.proofs.LoopLaws
+use Rattle.law_rules.proofs.ParallelLaws
+use Rattle.law_rules.proofs.SomeLaws.{seq_function_assoc, sequence-feedback}
+use Rattle.law_rules.proofs.SwitchLaws.{on_left-switching, on_left-switching_late, pointwise-before, restarting-quiet, switching-quiet, switching_all-quiet, switching_late-quiet, switching_on-quiet}
+use Rattle.net_syntax.proofs.Meanings.{IsSignal-meaning}
+use Rattle.net_syntax.proofs.Plain.{AllSignals, IsSignal-on_left}
+
+-- one meaning in every context
+abbrev pub AlikeNets : Network Expression → Network Expression → Type 0
+AlikeNets f g = (E : Context) → AllSignals E.olds → (xs : TimedList) → meaning value_of f E xs ≡ meaning value_of g E xs
+
+signal : (f : Network Expression) (E : Context) → AllSignals E.olds → IsSignalFunction (meaning value_of f E)
+signal f E s = IsSignal-meaning value_of f E s
+
+-- equal functions at an argument
+pub at : {f g : SignalFunction} (xs : TimedList) → f ≡ g → f xs ≡ g xs
+at xs e = ap (λ h. h xs) e
+
+-- a continuation is entered with one parameter more
+abbrev pub into : Network Expression → Context → Datum → SignalFunction
+into t E c = meaning value_of t (with_param E c)
+
+pub law_1 : (f : Network Expression) → AlikeNets (seq (arr input) f) f
+law_1 f E s xs = ArrowLaws.sample-sequence (meaning value_of f E) xs
+
+pub law_2 : (f : Network Expression) → AlikeNets (seq f (arr input)) f
+law_2 f E s xs = ArrowLaws.sequence-sample (meaning value_of f E) (signal f E s) xs
+
+pub law_3 : (f g h : Network Expression) → AlikeNets (seq (seq f g) h) (seq f (seq g h))
+law_3 f g h E s xs = seq_function_assoc (meaning value_of f E) (meaning value_of g E) (meaning value_of h E) (signal f E s) xs
+
+pub law_4 : (f g : Expression) → AlikeNets (seq (arr f) (arr g)) (arr (then_expr f g))
+law_4 f g E s xs = ArrowLaws.applied-applied (value_of f E.params) (value_of g E.params) xs
+
+pub law_5 : (f : Expression) → AlikeNets (first (arr f)) (arr (left_by f))
+law_5 f E s xs = ArrowLaws.on_left-applied (value_of f E.params) xs
+
+pub law_6 : (f g : Network Expression) → AlikeNets (first (seq f g)) (seq (first f) (first g))
+law_6 f g E s xs = ArrowLaws.on_left-sequence (meaning value_of f E) (meaning value_of g E) (signal f E s) xs
+
+pub law_7 : (f : Network Expression) (g : Expression) → AlikeNets (seq (first f) (arr (right_by g))) (seq (arr (right_by g)) (first f))
+law_7 f g E s xs = ArrowLaws.on_left-right (value_of g E.params) (meaning value_of f E) (signal f E s) xs
+
+pub law_8 : (f : Network Expression) → AlikeNets (seq (first f) (arr (fst input))) (seq (arr (fst input)) f)
+law_8 f E s xs = ArrowLaws.on_left-left (meaning value_of f E) (signal f E s) xs
+
+pub law_9 : (f : Network Expression) → AlikeNets (seq (first (first f)) (arr assoc)) (seq (arr assoc) (first f))
+law_9 f E s xs = ArrowLaws.on_left-on_left (meaning value_of f E) (signal f E s) (IsSignal-on_left (meaning value_of f E) (signal f E s)) xs
+
+pub law_10 : (f g : Expression) (h : Network Expression) → AlikeNets (seq (arr f) (seq (arr g) h)) (seq (arr (then_expr f g)) h)
+law_10 f g h E s xs = ArrowLaws.applied-applied-sequence (value_of f E.params) (value_of g E.params) (meaning value_of h E) xs
+
+pub law_11 : (c f : Expression) → AlikeNets (seq (i_pre c) (arr f)) (seq (arr f) (i_pre (then_expr c f)))
+law_11 c f E s xs = CellLaws.previous_of-applied (value_of f E.params) (value_of c E.params unit) xs
+
+pub law_13 : (c : Expression) (f h : Network Expression) → AlikeNets (seq h (loop_pre c f)) (loop_pre c (seq (first h) f))
+law_13 c f h E s xs = sequence-feedback (value_of c E.params unit) (meaning value_of h E) (meaning value_of f E) (signal h E s) (signal f E s) xs
+
+pub law_14 : (c : Expression) (f h : Network Expression) → AlikeNets (seq (loop_pre c f) h) (loop_pre c (seq f (first h)))
+law_14 c f h E s xs = LoopLaws.feedback-sequence (value_of c E.params unit) (meaning value_of f E) (meaning value_of h E) (signal f E s) (signal h E s) xs
+
+pub law_15 : (d g : Expression) (f : Network Expression) → AlikeNets (loop_pre d (seq (arr (right_by g)) f)) (loop_pre (then_expr d g) (seq f (arr (right_by g))))
+law_15 d g f E s xs = LoopLaws.feedback-slide (value_of d E.params unit) (value_of g E.params) (meaning value_of f E) (signal f E s) xs
+
+pub law_16 : (c d : Expression) (f : Network Expression) → AlikeNets (loop_pre c (loop_pre d f)) (loop_pre (pair_expr c d) (seq (arr unassoc) (seq f (arr assoc))))
+law_16 c d f E s xs = LoopLaws.feedback-feedback (value_of c E.params unit) (value_of d E.params unit) (meaning value_of f E) (signal f E s) xs
+
+pub law_17 : (c : Expression) (f : Network Expression) → AlikeNets (loop_pre c (first f)) f
+law_17 c f E s xs = LoopLaws.feedback-on_left (value_of c E.params unit) (meaning value_of f E) (signal f E s) xs
+
+pub law_18 : (c e : Expression) → AlikeNets (seq (arr (event_expr e)) (hold c)) (arr e)
+law_18 c e E s xs = CellLaws.held-event (value_of e E.params) (value_of c E.params unit) xs
+
+pub law_19 : (t : TypeTree) (c : Expression) → AlikeNets (seq (arr (no_event_expr t)) (hold c)) (arr (then_expr unit_expr c))
+law_19 t c E s xs = CellLaws.held-no_event (value_of c E.params unit) xs
+
+pub law_20 : (f s : Network Expression) → SeesSteps s → AlikeNets (seq f s) s
+law_20 f s (after_sees {q = q} {c = c}) E k xs = CellLaws.sequence-reached q (value_of c E.params unit) (meaning value_of f E) (signal f E k) xs
+law_20 f s (repeatedly_sees {q = q} {c = c}) E k xs = CellLaws.sequence-repeated q (value_of c E.params unit) (meaning value_of f E) (signal f E k) xs
+law_20 f s time_sees E k xs = CellLaws.sequence-clock (meaning value_of f E) (signal f E k) xs
+
+pub law_21 : (q : ℕ) (t : TypeTree) (c g : Expression) → AlikeNets (seq (after q c) (arr (event_by t g))) (after q (then_expr c g))
+law_21 q t c g E s xs = CellLaws.reached-carrying (value_of g E.params) q (value_of c E.params unit) xs
+
+pub law_22 : (q : ℕ) (t : TypeTree) (c g : Expression) → AlikeNets (seq (repeatedly q c) (arr (event_by t g))) (repeatedly q (then_expr c g))
+law_22 q t c g E s xs = CellLaws.repeated-carrying (value_of g E.params) q (value_of c E.params unit) xs
+
+pub law_23 : (t : TypeTree) (c g : Expression) → AlikeNets (seq (arr (event_by t g)) (hold (then_expr c g))) (seq (hold c) (arr g))
+law_23 t c g E s xs = CellLaws.carrying-held (value_of g E.params) (value_of c E.params unit) xs
+
+pub law_24 : (t : TypeTree) (g h z : Expression) → AlikeNets (seq (arr (event_by t g)) (accum_by h z)) (accum_by (then_expr (right_by g) h) z)
+law_24 t g h z E s xs = CellLaws.carrying-accumulation (value_of g E.params) (value_of h E.params) (value_of z E.params unit) xs
+
+pub law_25 : (e : Expression) (f : Network Expression) → AlikeNets (seq f (arr (then_expr unit_expr e))) (arr (then_expr unit_expr e))
+law_25 e f E s xs = ArrowLaws.sequence-constant (value_of e E.params unit) (meaning value_of f E) (signal f E s) xs
+
+pub law_26 : (q : ℕ) (c f : Expression) → AlikeNets (seq (delay q c) (arr f)) (seq (arr f) (delay q (then_expr c f)))
+law_26 q c f E s xs = CellLaws.delayed-applied (value_of f E.params) q (value_of c E.params unit) xs
+
+pub law_31 : (C : TypeTree) (f t : Network Expression) → AlikeNets (switch (seq f (arr (pair_expr input (no_event_expr C)))) t) f
+law_31 C f t E s xs = at xs (switching-quiet (meaning value_of f E) (into t E) (signal f E s))
+
+pub law_32 : (C : TypeTree) (f t : Network Expression) → AlikeNets (d_switch (seq f (arr (pair_expr input (no_event_expr C)))) t) f
+law_32 C f t E s xs = at xs (switching_late-quiet (meaning value_of f E) (into t E) (signal f E s))
+
+pub law_33 : (f t : Network Expression) → AlikeNets (first (switch f t)) (switch (seq (first f) (arr event_last)) (first t))
+law_33 f t E s xs = at xs (on_left-switching (meaning value_of f E) (into t E) (signal f E s))
+
+pub law_34 : (f t : Network Expression) → AlikeNets (first (d_switch f t)) (d_switch (seq (first f) (arr event_last)) (first t))
+law_34 f t E s xs = at xs (on_left-switching_late (meaning value_of f E) (into t E) (signal f E s))
+
+pub law_35 : (C : TypeTree) (e : Expression) (f t : Network Expression) → AlikeNets (seq (arr (pair_expr e (no_event_expr C))) (r_switch f t)) (seq (arr e) f)
+law_35 C e f t E s xs = at xs (restarting-quiet (value_of e E.params) (meaning value_of f E) (into t E))
+
+pub law_37 : (C : TypeTree) (f t : Network Expression) → AlikeNets (k_switch f (arr (no_event_expr C)) t) f
+law_37 C f t E s xs = at xs (switching_on-quiet (meaning value_of f E) (λ c o. meaning value_of t (with_olds (with_param E c) (o ∷ []))))
+
+-- the members of `parB` behind their routes are the routed members
+meanings-behind_routes : (r : Expression) (i : ℕ) (fs : Networks Expression) (E : Context) → meanings value_of (behind_routes r i fs) E ≡ route_each (value_of r E.params) i (meanings value_of fs E)
+meanings-behind_routes r i no_members E = refl
+meanings-behind_routes r i (and_member f fs) E =
+    ap₂ (λ g gs. g ∷ gs) (pointwise-before (λ a. value_of r E.params (pair a (int (pos i)))) (meaning value_of f E)) (meanings-behind_routes r (suc i) fs E)
+
+pub law_39 : (C : TypeTree) (r : Expression) (fs : Networks Expression) (t : Network Expression) → AlikeNets (p_switch r fs (arr (no_event_expr C)) t) (par (behind_routes r 0 fs))
+law_39 C r fs t E s xs = at xs
+    (switching_all-quiet (value_of r E.params) (meanings value_of fs E) (λ c os. meaning value_of t (with_olds (with_param E c) os))
+    ∙ ap par_function (sym (meanings-behind_routes r 0 fs E)))
+
+pub law_40 : (i : ℕ) (d : Expression) (fs : Networks Expression) (f : Network Expression) → member fs i ≡ Some f → AlikeNets (seq (par fs) (arr (nth input (int_expr (pos i)) d))) f
+law_40 i d fs f h E s xs = ParallelLaws.member_alone fs i f E (value_of d E.params) (signal f E s) h xs
+
+pub law_41 : (h : Network Expression) (fs : Networks Expression) → AlikeNets (seq h (par fs)) (par (each_after h fs))
+law_41 h fs E s xs = ParallelLaws.sequence-in_parallel h fs E (signal h E s) xs
+
+pub law_42 : (t : TypeTree) (es : Expressions) → AlikeNets (arr (list_expr t es)) (par (each_arr es))
+law_42 t es E s xs = ParallelLaws.applied-list es E xs

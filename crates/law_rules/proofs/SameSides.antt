@@ -1,0 +1,147 @@
+-- Both sides of each row do the same where they are typed alike in one scope.
+use Rattle.std.proofs.Common.{◌≡◌, ℕ, suc, List, [], ◌∷◌, ◌++◌, length, refl, sym, ap, ◌∙◌}
+use mathlib.Core.Path.{fun_ext}
+use Rattle.sample_core.specs.Datum.{Datum, unit}
+use Rattle.sample_core.specs.TypeTree.{TypeTree, unit_ty}
+use Rattle.sample_core.specs.HasType.{HasType, unit_has, TypedParams}
+use Rattle.leaf_core.specs.Expression.{Expression, pair_expr}
+use Rattle.leaf_core.specs.ExpressionValue.{value_of}
+use Rattle.leaf_core.specs.ExpressionTyping.{ExpressionTyped, pair_typed}
+use Rattle.leaf_core.proofs.Soundness.{typed_value}
+use Rattle.net_syntax.specs.SignalFunction.{SignalFunction, TimedList, IsSignalFunction, seq_function, switch_function, d_switch_function, r_switch_function}
+use Rattle.net_syntax.specs.Network.{Network, arr, seq, first, i_pre, switch, d_switch, r_switch, k_switch, old}
+use Rattle.net_syntax.specs.Meaning.{Context, meaning, with_param}
+use Rattle.net_syntax.specs.Typing.{Arrow, TypedSamples, arr_typed, seq_typed, i_pre_typed}
+use Rattle.net_syntax.specs.TypedNetwork.{NetTyped}
+use Rattle.net_syntax.specs.Sameness.{AllOlds, no_olds, and_old, SameNet, context}
+use Rattle.net_syntax.specs.AlikeEnvironments.{SameOutputs}
+use Rattle.net_syntax.proofs.Cells.{IsSignal-previous_of}
+use Rattle.net_syntax.proofs.Plain.{AllSignals}
+use Rattle.net_syntax.proofs.Meanings.{IsSignal-meaning}
+use Rattle.net_syntax.proofs.SameNets.{signals_right, same-from_law}
+use Rattle.net_syntax.proofs.StreamLaws.{same-outputs}
+use Rattle.law_rules.specs.NetworkRow.{NetworkRow, swap, left_by, row_l1, row_l2, row_l3, row_l4, row_l5, row_l6, row_l7, row_l8, row_l9, row_l10, row_l11, row_l12, row_l13, row_l14, row_l15, row_l16, row_l17, row_l18, row_l19, row_l20, row_l21, row_l22, row_l23, row_l24, row_l25, row_l26, row_l27, row_l28, row_l29, row_l30, row_l31, row_l32, row_l33, row_l34, row_l35, row_l36, row_l37, row_l38, row_l39, row_l40, row_l41, row_l42}
+use Rattle.law_rules.proofs.Scopes.{value-stays}
+use Rattle.law_rules.proofs.SomeLaws.{switching_on-old}
+use Rattle.law_rules.proofs.CellLaws.{previous_of-pair}
+use Rattle.law_rules.proofs.SwitchLaws.{pointwise, sequence-switching, sequence-switching_late, switching-pointwise, switching_late-pointwise, restarting-pointwise}
+use Rattle.law_rules.proofs.NetworkLaws.{AlikeNets, at, into, law_1, law_2, law_3, law_4, law_5, law_6, law_7, law_8, law_9, law_10, law_11, law_13, law_14, law_15, law_16, law_17, law_18, law_19, law_20, law_21, law_22, law_23, law_24, law_25, law_26, law_31, law_32, law_33, law_34, law_35, law_37, law_39, law_40, law_41, law_42}
+
+-- the two networks mean the same in each scope that these types describe
+abbrev SameIn : List TypeTree → List Arrow → TypeTree → Network Expression → Network Expression → Type 0
+SameIn Ps Os A l r = (ps : List Datum) (os : List SignalFunction) → TypedParams Ps ps → AllOlds Os os os → (xs : TimedList) → TypedSamples A xs
+    → meaning value_of l (context ps os) xs ≡ meaning value_of r (context ps os) xs
+
+-- what holds in every context holds in these
+everywhere : (Ps : List TypeTree) (Os : List Arrow) (A : TypeTree) (l r : Network Expression) → AlikeNets l r → SameIn Ps Os A l r
+everywhere Ps Os A l r law ps os k a xs j = law (context ps os) (signals_right os os a) xs
+
+-- an expression that is typed here has the same values in a continuation
+abbrev Steady : Expression → Context → Type 0
+Steady h E = (c : Datum) → value_of h (E.params ++ c ∷ []) ≡ value_of h E.params
+
+steady : (h : Expression) (Ps : List TypeTree) (A B : TypeTree) → ExpressionTyped h Ps A B → (ps : List Datum) (os : List SignalFunction) → TypedParams Ps ps → Steady h (context ps os)
+steady h Ps A B d ps os k = λ c. value-stays ps (c ∷ []) h Ps A B d k
+
+signal : (f : Network Expression) (E : Context) → AllSignals E.olds → IsSignalFunction (meaning value_of f E)
+signal f E s = IsSignal-meaning value_of f E s
+
+continues : (t : Network Expression) (E : Context) → AllSignals E.olds → (c : Datum) → IsSignalFunction (into t E c)
+continues t E s c = IsSignal-meaning value_of t (with_param E c) s
+
+-- `arr h` before or after a continuation
+before-into : (h : Expression) (t : Network Expression) (E : Context) → Steady h E → ◌≡◌ {A = Datum → SignalFunction} (λ c. seq_function (pointwise (value_of h E.params)) (into t E c)) (λ c. into (seq (arr h) t) E c)
+before-into h t E k = fun_ext λ c. ap (λ g. seq_function (pointwise g) (into t E c)) (sym (k c))
+
+after-into : (h : Expression) (t : Network Expression) (E : Context) → Steady h E → ◌≡◌ {A = Datum → SignalFunction} (λ c. seq_function (into t E c) (pointwise (value_of h E.params))) (λ c. into (seq t (arr h)) E c)
+after-into h t E k = fun_ext λ c. ap (λ g. seq_function (into t E c) (pointwise g)) (sym (k c))
+
+law_27 : (h : Expression) (f t : Network Expression) (E : Context) → Steady h E → meaning value_of (seq (arr h) (switch f t)) E ≡ meaning value_of (switch (seq (arr h) f) (seq (arr h) t)) E
+law_27 h f t E k = sequence-switching (value_of h E.params) (meaning value_of f E) (into t E) ∙ ap (switch_function (meaning value_of (seq (arr h) f) E)) (before-into h t E k)
+
+law_28 : (h : Expression) (f t : Network Expression) (E : Context) → Steady h E → meaning value_of (seq (arr h) (d_switch f t)) E ≡ meaning value_of (d_switch (seq (arr h) f) (seq (arr h) t)) E
+law_28 h f t E k = sequence-switching_late (value_of h E.params) (meaning value_of f E) (into t E) ∙ ap (d_switch_function (meaning value_of (seq (arr h) f) E)) (before-into h t E k)
+
+law_29 : (h : Expression) (f t : Network Expression) (E : Context) → AllSignals E.olds → Steady h E → meaning value_of (seq (switch f t) (arr h)) E ≡ meaning value_of (switch (seq f (arr (left_by h))) (seq t (arr h))) E
+law_29 h f t E s k =
+    switching-pointwise (value_of h E.params) (meaning value_of f E) (into t E) (signal f E s) (continues t E s)
+    ∙ ap (switch_function (meaning value_of (seq f (arr (left_by h))) E)) (after-into h t E k)
+
+law_30 : (h : Expression) (f t : Network Expression) (E : Context) → AllSignals E.olds → Steady h E → meaning value_of (seq (d_switch f t) (arr h)) E ≡ meaning value_of (d_switch (seq f (arr (left_by h))) (seq t (arr h))) E
+law_30 h f t E s k =
+    switching_late-pointwise (value_of h E.params) (meaning value_of f E) (into t E) (signal f E s) (continues t E s)
+    ∙ ap (d_switch_function (meaning value_of (seq f (arr (left_by h))) E)) (after-into h t E k)
+
+law_36 : (h : Expression) (f t : Network Expression) (E : Context) → AllSignals E.olds → Steady h E → meaning value_of (seq (r_switch f t) (arr h)) E ≡ meaning value_of (r_switch (seq f (arr h)) (seq t (arr h))) E
+law_36 h f t E s k =
+    restarting-pointwise (value_of h E.params) (meaning value_of f E) (into t E) (signal f E s) (continues t E s)
+    ∙ ap (r_switch_function (meaning value_of (seq f (arr h)) E)) (after-into h t E k)
+
+-- the network that is frozen is the one of number n where n are in scope before
+law_38 : (n : ℕ) (f e : Network Expression) (E : Context) → AllSignals E.olds → length E.olds ≡ n → (xs : TimedList) → meaning value_of (k_switch f e (old n)) E xs ≡ meaning value_of f E xs
+law_38 n f e E s h xs =
+    ap (λ m. meaning value_of (k_switch f e (old m)) E xs) (sym h)
+    ∙ switching_on-old E.olds (meaning value_of f E) (meaning value_of e E) (signal f E s) (signal e E s) xs
+
+how-many : {Os : List Arrow} (os qs : List SignalFunction) → AllOlds Os os qs → length os ≡ length Os
+how-many os qs no_olds = refl
+how-many os qs (and_old {fs = fs} {gs = gs} sf sg h a) = ap suc (how-many fs gs a)
+
+-- L12: the sample before may be no pair but for its type
+law_12 : (Ps : List TypeTree) (Os : List Arrow) (A B : TypeTree) (c d : Expression) → NetTyped Ps Os (i_pre (pair_expr c d)) A B
+    → SameIn Ps Os A (i_pre (pair_expr c d)) (seq (first (i_pre c)) (seq (arr swap) (seq (first (i_pre d)) (arr swap))))
+law_12 Ps Os A B c d (i_pre_typed (pair_typed {B = C} {C = D} hc hd)) ps os k a xs j =
+    previous_of-pair {A = C} {B = D} (value_of c ps unit) (value_of d ps unit) xs (IsSignal-previous_of (value_of c ps unit)) (IsSignal-previous_of (value_of d ps unit))
+    (typed_value (pair_expr c d) Ps unit_ty A (pair_typed hc hd) ps unit k unit_has) j
+
+same-in : (law olds : ℕ) (Ps : List TypeTree) (Os : List Arrow) (A B : TypeTree) (l r : Network Expression) → NetworkRow law olds l r → length Os ≡ olds → NetTyped Ps Os l A B → SameIn Ps Os A l r
+same-in law olds Ps Os A B l r row_l1 n d = everywhere Ps Os A l r (law_1 r)
+same-in law olds Ps Os A B l r row_l2 n d = everywhere Ps Os A l r (law_2 r)
+same-in law olds Ps Os A B l r (row_l3 {f = f} {g = g} {h = h}) n d = everywhere Ps Os A l r (law_3 f g h)
+same-in law olds Ps Os A B l r (row_l4 {f = f} {g = g}) n d = everywhere Ps Os A l r (law_4 f g)
+same-in law olds Ps Os A B l r (row_l5 {f = f}) n d = everywhere Ps Os A l r (law_5 f)
+same-in law olds Ps Os A B l r (row_l6 {f = f} {g = g}) n d = everywhere Ps Os A l r (law_6 f g)
+same-in law olds Ps Os A B l r (row_l7 {f = f} {g = g}) n d = everywhere Ps Os A l r (law_7 f g)
+same-in law olds Ps Os A B l r (row_l8 {f = f}) n d = everywhere Ps Os A l r (law_8 f)
+same-in law olds Ps Os A B l r (row_l9 {f = f}) n d = everywhere Ps Os A l r (law_9 f)
+same-in law olds Ps Os A B l r (row_l10 {f = f} {g = g} {h = h}) n d = everywhere Ps Os A l r (law_10 f g h)
+same-in law olds Ps Os A B l r (row_l11 {c = c} {f = f}) n d = everywhere Ps Os A l r (law_11 c f)
+same-in law olds Ps Os A B l r (row_l12 {c = c} {d = e}) n d = law_12 Ps Os A B c e d
+same-in law olds Ps Os A B l r (row_l13 {c = c} {f = f} {h = h}) n d = everywhere Ps Os A l r (law_13 c f h)
+same-in law olds Ps Os A B l r (row_l14 {c = c} {f = f} {h = h}) n d = everywhere Ps Os A l r (law_14 c f h)
+same-in law olds Ps Os A B l r (row_l15 {d = e} {g = g} {f = f}) n d = everywhere Ps Os A l r (law_15 e g f)
+same-in law olds Ps Os A B l r (row_l16 {c = c} {d = e} {f = f}) n d = everywhere Ps Os A l r (law_16 c e f)
+same-in law olds Ps Os A B l r (row_l17 {c = c}) n d = everywhere Ps Os A l r (law_17 c r)
+same-in law olds Ps Os A B l r (row_l18 {c = c} {e = e}) n d = everywhere Ps Os A l r (law_18 c e)
+same-in law olds Ps Os A B l r (row_l19 {T = T} {c = c}) n d = everywhere Ps Os A l r (law_19 T c)
+same-in law olds Ps Os A B l r (row_l20 {f = f} h) n d = everywhere Ps Os A l r (law_20 f r h)
+same-in law olds Ps Os A B l r (row_l21 {q = q} {T = T} {c = c} {g = g}) n d = everywhere Ps Os A l r (law_21 q T c g)
+same-in law olds Ps Os A B l r (row_l22 {q = q} {T = T} {c = c} {g = g}) n d = everywhere Ps Os A l r (law_22 q T c g)
+same-in law olds Ps Os A B l r (row_l23 {T = T} {c = c} {g = g}) n d = everywhere Ps Os A l r (law_23 T c g)
+same-in law olds Ps Os A B l r (row_l24 {T = T} {g = g} {h = h} {z = z}) n d = everywhere Ps Os A l r (law_24 T g h z)
+same-in law olds Ps Os A B l r (row_l25 {e = e} {f = f}) n d = everywhere Ps Os A l r (law_25 e f)
+same-in law olds Ps Os A B l r (row_l26 {q = q} {c = c} {f = f}) n d = everywhere Ps Os A l r (law_26 q c f)
+same-in law olds Ps Os A B l r (row_l27 {h = h} {f = f} {t = t}) n (seq_typed (arr_typed {B = C} e) d) = λ ps os k a xs j. at xs (law_27 h f t (context ps os) (steady h Ps A C e ps os k))
+same-in law olds Ps Os A B l r (row_l28 {h = h} {f = f} {t = t}) n (seq_typed (arr_typed {B = C} e) d) = λ ps os k a xs j. at xs (law_28 h f t (context ps os) (steady h Ps A C e ps os k))
+same-in law olds Ps Os A B l r (row_l29 {h = h} {f = f} {t = t}) n (seq_typed d (arr_typed {A = C} e)) = λ ps os k a xs j. at xs (law_29 h f t (context ps os) (signals_right os os a) (steady h Ps C B e ps os k))
+same-in law olds Ps Os A B l r (row_l30 {h = h} {f = f} {t = t}) n (seq_typed d (arr_typed {A = C} e)) = λ ps os k a xs j. at xs (law_30 h f t (context ps os) (signals_right os os a) (steady h Ps C B e ps os k))
+same-in law olds Ps Os A B l r (row_l31 {C = C} {t = t}) n d = everywhere Ps Os A l r (law_31 C r t)
+same-in law olds Ps Os A B l r (row_l32 {C = C} {t = t}) n d = everywhere Ps Os A l r (law_32 C r t)
+same-in law olds Ps Os A B l r (row_l33 {f = f} {t = t}) n d = everywhere Ps Os A l r (law_33 f t)
+same-in law olds Ps Os A B l r (row_l34 {f = f} {t = t}) n d = everywhere Ps Os A l r (law_34 f t)
+same-in law olds Ps Os A B l r (row_l35 {C = C} {e = e} {f = f} {t = t}) n d = everywhere Ps Os A l r (law_35 C e f t)
+same-in law olds Ps Os A B l r (row_l36 {h = h} {f = f} {t = t}) n (seq_typed d (arr_typed {A = C} e)) = λ ps os k a xs j. at xs (law_36 h f t (context ps os) (signals_right os os a) (steady h Ps C B e ps os k))
+same-in law olds Ps Os A B l r (row_l37 {C = C} {t = t}) n d = everywhere Ps Os A l r (law_37 C r t)
+same-in law olds Ps Os A B l r (row_l38 {e = e}) n d = λ ps os k a xs j. law_38 olds r e (context ps os) (signals_right os os a) (how-many os os a ∙ n) xs
+same-in law olds Ps Os A B l r (row_l39 {C = C} {r = c} {fs = fs} {t = t} some few) n d = everywhere Ps Os A l r (law_39 C c fs t)
+same-in law olds Ps Os A B l r (row_l40 {i = i} {d = e} {fs = fs} few h) n d = everywhere Ps Os A l r (law_40 i e fs r h)
+same-in law olds Ps Os A B l r (row_l41 {h = h} {fs = fs} some few) n d = everywhere Ps Os A l r (law_41 h fs)
+same-in law olds Ps Os A B l r (row_l42 {T = T} {es = es} some few) n d = everywhere Ps Os A l r (law_42 T es)
+
+pub same-sides : (law olds : ℕ) (Ps : List TypeTree) (Os : List Arrow) (A B : TypeTree) (l r : Network Expression) → NetworkRow law olds l r → length Os ≡ olds → NetTyped Ps Os l A B → NetTyped Ps Os r A B
+    → SameNet value_of Ps Os A B l r
+same-sides law olds Ps Os A B l r row n dl dr = same-from_law value_of ExpressionTyped typed_value Ps Os A B l r dl dr (same-in law olds Ps Os A B l r row n dl)
+
+pub same-side_outputs : (law olds : ℕ) (Ps : List TypeTree) (Os : List Arrow) (A B : TypeTree) (l r : Network Expression) → NetworkRow law olds l r → length Os ≡ olds → NetTyped Ps Os l A B → NetTyped Ps Os r A B
+    → SameOutputs Ps Os A l r
+same-side_outputs law olds Ps Os A B l r row n dl dr = same-outputs Ps Os l r A B (same-sides law olds Ps Os A B l r row n dl dr)
