@@ -1,3 +1,4 @@
 pub mod RowsExact
 pub mod RowValues
 pub mod RowTypes
+pub mod Elements

@@ -1,13 +1,13 @@
 -- What a law makes of an expression is the right side of its row, exactly where the expression is a left side.
-use Rattle.std.proofs.Common.{◌≡◌, ℕ, zero, suc, ◌+◌, ◌≤◌, Bool, true, false, cond, pos, List, [], ◌∷◌, Option, Some, None, get_or, refl, sym, ap, ◌∙◌, subst, arith, ◌↔◌}
+use Rattle.std.proofs.Common.{◌≡◌, ℕ, ℤ, zero, suc, ◌+◌, ◌≤◌, Bool, true, false, cond, pos, List, [], ◌∷◌, Option, Some, None, get_or, refl, sym, ap, ◌∙◌, subst, arith, ◌↔◌}
 use Rattle.sample_core.specs.Datum.{unit}
-use Rattle.sample_core.specs.TypeTree.{unit_ty}
-use Rattle.leaf_core.specs.Expression.{Expression, input, param, unit_expr, bool_expr, int_expr, pair_expr, fst, snd, then_expr, neg, add, sub, mul, less, equal, not_expr, and_expr, or_expr, if_expr, no_event_expr, event_expr, on, list_expr, nth, len, no_more, and_then}
+use Rattle.sample_core.specs.TypeTree.{TypeTree, unit_ty}
+use Rattle.leaf_core.specs.Expression.{Expression, Expressions, input, param, unit_expr, bool_expr, int_expr, pair_expr, fst, snd, then_expr, neg, add, sub, mul, less, equal, not_expr, and_expr, or_expr, if_expr, no_event_expr, event_expr, on, list_expr, nth, len, no_more, and_then}
 use Rattle.leaf_core.specs.ExpressionValue.{value_of}
 use Rattle.leaf_core.specs.ExpressionCode.{expression_code}
 use Rattle.leaf_core.specs.EqualityByCode.{same_by, same_by_decides}
 use Rattle.expr_laws.specs.Rows.{literal_for, Spread, pair_spread, fst_spread, snd_spread, neg_spread, add_spread, sub_spread, mul_spread, less_spread, equal_spread, not_spread, and_spread, or_spread, if_spread, event_spread, nth_spread, len_spread, list_spread, IsConstant, param_constant, unit_constant, bool_constant, int_constant, no_event_constant, list_constant, OnLiterals, neg_literal, add_literals, sub_literals, mul_literals, less_literals, equal_units, equal_bools, equal_ints, not_literal, and_literals, or_literals, ExpressionRow, row_e1, row_e2, row_e3, row_e4, row_e5, row_e6, row_e7, row_e8, row_e9, row_e10, row_e11, row_e12, row_e13, row_e14, row_e15, row_e16, row_e17, row_e18}
-use Rattle.expr_laws.specs.Forward.{no_law, law1, law2, law3, spread, law4, law5, constant, law6, law7, law8, where_same, law9, law10, law11, law12, law13, law14, on_literals, law15, law16, law17, law18, laws, forward}
+use Rattle.expr_laws.specs.Forward.{no_law, law1, law2, law3, spread, law4, law5, constant, law6, law7, law8, where_same, law9, law10, law11, law12, law13, law14, on_literals, law15, law16, law17, picked_in, law18, laws, forward}
 
 -- an answer, if there is one, is a right side
 abbrev Gives : ℕ → Expression → Option Expression → Type 0
@@ -132,8 +132,12 @@ law17-gives : (e : Expression) → Gives 17 e (law17 e)
 law17-gives (add (add a b) c) = row_e17
 law17-gives _ = tt
 
+picked-gives : (T : TypeTree) (es : Expressions) (i : ℤ) (d : Expression) → Gives 18 (nth (list_expr T es) (int_expr i) d) (picked_in es i d)
+picked-gives T no_more i d = tt
+picked-gives T (and_then e es) i d = row_e18
+
 law18-gives : (e : Expression) → Gives 18 e (law18 e)
-law18-gives (nth (list_expr T (and_then e es)) (int_expr i) d) = row_e18
+law18-gives (nth (list_expr T es) (int_expr i) d) = picked-gives T es i d
 law18-gives _ = tt
 
 -- the laws of a list, numbered from k

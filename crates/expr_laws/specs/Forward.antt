@@ -1,8 +1,8 @@
 -- What a law makes of an expression, read from left to right: the right side where the expression
 -- is a left side, else nothing.
-use Rattle.std.specs.Prelude.{ℕ, Bool, true, false, cond, List, [], ◌∷◌, Option, Some, None, get_or}
+use Rattle.std.specs.Prelude.{ℕ, ℤ, Bool, true, false, ◌&&◌, cond, List, [], ◌∷◌, Option, Some, None, get_or}
 use Rattle.sample_core.specs.Datum.{unit}
-use Rattle.leaf_core.specs.Expression.{Expression, input, param, unit_expr, bool_expr, int_expr, pair_expr, fst, snd, then_expr, neg, add, sub, mul, less, equal, not_expr, and_expr, or_expr, if_expr, no_event_expr, event_expr, on, list_expr, nth, len, no_more, and_then}
+use Rattle.leaf_core.specs.Expression.{Expression, Expressions, input, param, unit_expr, bool_expr, int_expr, pair_expr, fst, snd, then_expr, neg, add, sub, mul, less, equal, not_expr, and_expr, or_expr, if_expr, no_event_expr, event_expr, on, list_expr, nth, len, no_more, and_then}
 use Rattle.leaf_core.specs.ExpressionCode.{expression_code}
 use Rattle.leaf_core.specs.ExpressionValue.{value_of}
 use Rattle.leaf_core.specs.EqualityByCode.{same_by}
@@ -101,19 +101,34 @@ abbrev pub law14 : Expression → Option Expression
 law14 (on (event_expr v) d b) = Some (then_expr (pair_expr input v) b)
 law14 _ = None
 
+-- whether an expression is a number literal
+abbrev pub is_int : Expression → Bool
+is_int (int_expr n) = true
+is_int _ = false
+
+-- whether an expression is `true` or `false`
+abbrev pub is_bool : Expression → Bool
+is_bool (bool_expr b) = true
+is_bool _ = false
+
+-- whether two expressions are literals of one type
+abbrev pub are_alike : Expression → Expression → Bool
+are_alike unit_expr unit_expr = true
+are_alike (bool_expr b) (bool_expr c) = true
+are_alike (int_expr m) (int_expr n) = true
+are_alike _ _ = false
+
 -- whether an expression is an operator on literals of the types that it takes
 abbrev pub on_literals : Expression → Bool
-on_literals (neg (int_expr m)) = true
-on_literals (add (int_expr m) (int_expr n)) = true
-on_literals (sub (int_expr m) (int_expr n)) = true
-on_literals (mul (int_expr m) (int_expr n)) = true
-on_literals (less (int_expr m) (int_expr n)) = true
-on_literals (equal unit_expr unit_expr) = true
-on_literals (equal (bool_expr b) (bool_expr c)) = true
-on_literals (equal (int_expr m) (int_expr n)) = true
-on_literals (not_expr (bool_expr b)) = true
-on_literals (and_expr (bool_expr b) (bool_expr c)) = true
-on_literals (or_expr (bool_expr b) (bool_expr c)) = true
+on_literals (neg a) = is_int a
+on_literals (add a b) = is_int a && is_int b
+on_literals (sub a b) = is_int a && is_int b
+on_literals (mul a b) = is_int a && is_int b
+on_literals (less a b) = is_int a && is_int b
+on_literals (equal a b) = are_alike a b
+on_literals (not_expr a) = is_bool a
+on_literals (and_expr a b) = is_bool a && is_bool b
+on_literals (or_expr a b) = is_bool a && is_bool b
 on_literals _ = false
 
 abbrev pub law15 : Expression → Option Expression
@@ -127,8 +142,18 @@ abbrev pub law17 : Expression → Option Expression
 law17 (add (add a b) c) = Some (add a (add b c))
 law17 _ = None
 
+-- the element at a place; nothing where there are no elements
+abbrev pub picked_in : Expressions → ℤ → Expression → Option Expression
+picked_in no_more i d = None
+picked_in es i d = Some (picked es i d)
+
+-- an element of a list, at a number literal
+abbrev pub picked_from : Expression → Expression → Expression → Option Expression
+picked_from (list_expr T es) (int_expr i) d = picked_in es i d
+picked_from _ _ d = None
+
 abbrev pub law18 : Expression → Option Expression
-law18 (nth (list_expr T (and_then e es)) (int_expr i) d) = Some (picked (and_then e es) i d)
+law18 (nth e i d) = picked_from e i d
 law18 _ = None
 
 -- a number that no law has
