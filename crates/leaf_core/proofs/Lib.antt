@@ -7,3 +7,4 @@ mod Typed
 pub mod Uniqueness
 pub mod ShapeValue
 pub mod Sizes
+pub mod SameParts
