@@ -1,10 +1,10 @@
 -- A part of a typed expression, at any path, may be replaced by one of its type and its value.
-use Rattle.std.proofs.Common.{◌≡◌, ℕ, zero, suc, true, false, int_lt, neg_ℤ, ◌+ℤ◌, ◌-ℤ◌, ◌*ℤ◌, pos, not, ◌&&◌, ◌||◌, List, [], ◌∷◌, Option, Some, None, option_map, option_and_then, refl, sym, ap, ap₂, ◌∙◌, subst}
+use Rattle.std.proofs.Common.{◌≡◌, ℕ, zero, suc, true, false, int_lt, neg_ℤ, ◌+ℤ◌, ◌-ℤ◌, ◌*ℤ◌, pos, not, ◌&&◌, ◌||◌, List, [], ◌∷◌, Option, Some, option_map, option_and_then, refl, sym, ap, ◌∙◌, subst}
 use Rattle.std.proofs.lemmas.Option.{none-some, same_Some}
 use Rattle.sample_core.specs.Datum.{Datum, pair, bool, event, list, left, right, int_of, list_of}
 use Rattle.sample_core.specs.TypeTree.{TypeTree, bool_ty, int_ty, pair_ty, event_ty, list_ty}
 use Rattle.sample_core.specs.HasType.{HasType, pair_has, no_event_has, event_has, TypedParams}
-use Rattle.leaf_core.specs.Expression.{Expression, Expressions, pair_expr, fst, snd, then_expr, neg, add, sub, mul, less, equal, not_expr, and_expr, or_expr, if_expr, event_expr, on, list_expr, nth, len, no_more, and_then}
+use Rattle.leaf_core.specs.Expression.{Expression, Expressions, pair_expr, fst, snd, then_expr, neg, add, sub, mul, less, equal, not_expr, and_expr, or_expr, if_expr, event_expr, on, list_expr, nth, len, and_then}
 use Rattle.leaf_core.specs.ExpressionValue.{value_of, values_of, wrap, same_datum, is_true, choose, on_event, element_at, count_of}
 use Rattle.leaf_core.specs.ExpressionTyping.{ExpressionTyped, ExpressionsTyped, input_typed, param_typed, unit_typed, bool_typed, int_typed, pair_typed, fst_typed, snd_typed, then_typed, neg_typed, add_typed, sub_typed, mul_typed, less_typed, equal_typed, not_typed, and_typed, or_typed, if_typed, no_event_typed, event_typed, on_typed, list_typed, nth_typed, len_typed, no_more_typed, and_then_typed}
 use Rattle.leaf_core.specs.Inside.{row}

@@ -18,3 +18,5 @@ pub mod CheckAnswer
 pub mod LookedView
 pub mod ScopeView
 pub mod Parts
+pub mod SameValue
+pub mod PartLaws

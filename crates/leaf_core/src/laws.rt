@@ -1,6 +1,7 @@
 // What holds of every expression.
 
 ghost use Rattle.leaf_core.specs.TypingLaws.{EqualityLaw, ExactnessLaw, OneTypeLaw, SoundnessLaw};
+ghost use Rattle.leaf_core.specs.PartLaws.{SamePartLaw};
 
 /// A typed expression has values of its type, and one type; the checking walk answers it exactly
 /// where the expression has it within the limits; the test that `equal` makes is equality.
@@ -9,4 +10,10 @@ pub fn typing_laws()
     ensures one_type { OneTypeLaw }
     ensures exact { ExactnessLaw }
     ensures equality { EqualityLaw }
+{}
+
+/// Where a part of a typed expression, however deep, is replaced by one of its type and its value,
+/// the whole keeps its type and its value.
+pub fn part_laws()
+    ensures same { SamePartLaw }
 {}

@@ -21,7 +21,7 @@ pub use equal::same_expr;
 pub use evaluation::{eval, eval_over};
 pub use expr::{Expr, ExprChild, Exprs};
 pub use key::LeafKey;
-pub use laws::typing_laws;
+pub use laws::{part_laws, typing_laws};
 pub use limits::{expr_fits, type_fits};
 pub use literal::Literal;
 pub use shape::{Shape, shape_laws, shape_of};

@@ -15,8 +15,8 @@ mod word;
 
 pub use expr_reader::{MAX_LENGTH, read_expr, read_expr_at, read_type_at};
 pub use leaf_core::{
-    Expr, ExprChild, ExprFault, Exprs, LeafKey, Literal, Shape, eval, expr_fits, same_expr,
-    shape_laws, shape_of, type_fits, type_of_expr, typing_laws,
+    Expr, ExprChild, ExprFault, Exprs, LeafKey, Literal, Shape, eval, expr_fits, part_laws,
+    same_expr, shape_laws, shape_of, type_fits, type_of_expr, typing_laws,
 };
 pub use number_reader::{read_index, read_natural};
 pub use print::{print_expr, push_expr};
