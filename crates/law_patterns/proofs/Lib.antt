@@ -1,0 +1,4 @@
+-- Lemmas, a file a line.
+pub mod Steps
+pub mod Fits
+pub mod Rows

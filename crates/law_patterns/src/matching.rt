@@ -1,0 +1,74 @@
+// Matching an expression against a pattern.
+
+ghost use Rattle.std.specs.Prelude.{◌≡◌, IfOk, MatchOption, ◌∷◌, [], Some, None};
+ghost use Rattle.leaf_core.specs.ExpressionView.{expression_of};
+ghost use Rattle.law_patterns.specs.Matching.{going, matching, met, step, fitted, found_of};
+
+use crate::letters::Letters;
+use crate::sym::Sym;
+use crate::todo::Todo;
+use leaf_core::{Expr, Literal};
+use sample_core::Memory;
+use std::alloc::Global;
+
+/// Whether the pattern fits the expression; its letters then stand for what they are at. `Memory`
+/// where a growth was refused.
+pub fn fit<'t>(
+    alloc: Global,
+    pattern: &[Sym],
+    expr: &'t Expr,
+    mut letters: Letters<'t>,
+) -> Result<Option<Letters<'t>>, Memory>
+    ensures { IfOk result (λ o. MatchOption o
+        (fitted pattern.now (expression_of expr.now ∷ []) (found_of letters.entry) ≡ None)
+        (λ s. fitted pattern.now (expression_of expr.now ∷ []) (found_of letters.entry) ≡ Some (found_of s))) }
+{
+    let mut todo = Todo::new(alloc);
+    todo.push(expr)?;
+    for sym in pattern {
+        if !meet(*sym, &mut todo, &mut letters)? {
+            return Ok(None);
+        }
+    }
+    match todo.pop() {
+        None => Ok(Some(letters)),
+        Some(_) => Ok(None),
+    }
+}
+
+/// Matches the next expression against the symbol: whether they agree.
+fn meet<'t>(sym: Sym, todo: &mut Todo<'t>, letters: &mut Letters<'t>) -> Result<bool, Memory>
+    ensures { IfOk result (λ b. going b todo.new (found_of letters.new) ≡ step sym (matching todo.old (found_of letters.old))) }
+{
+    match todo.pop() {
+        None => Ok(false),
+        Some(expr) => meet_expr(sym, expr, todo, letters),
+    }
+}
+
+/// Matches this expression against the symbol: whether they agree.
+fn meet_expr<'t>(
+    sym: Sym,
+    expr: &'t Expr,
+    todo: &mut Todo<'t>,
+    letters: &mut Letters<'t>,
+) -> Result<bool, Memory>
+    ensures { IfOk result (λ b. going b todo.new (found_of letters.new) ≡ met sym (expression_of expr.now) todo.old (found_of letters.old)) }
+{
+    match (sym, expr) {
+        (Sym::Letter(k), _) => Ok(letters.bind(k, expr)),
+        (Sym::Input, Expr::Input) => Ok(true),
+        (Sym::Unit, Expr::Literal(Literal::Unit)) => Ok(true),
+        (Sym::Truth(b), Expr::Literal(Literal::Bool(c))) => Ok(b == *c),
+        (Sym::NoEvent, Expr::NoEvent(t)) => Ok(letters.bind_type(t)),
+        (Sym::Fst, Expr::Fst(a)) => todo.put_one(a),
+        (Sym::Snd, Expr::Snd(a)) => todo.put_one(a),
+        (Sym::Event, Expr::Event(a)) => todo.put_one(a),
+        (Sym::Pair, Expr::Pair(a, b)) => todo.put_two(a, b),
+        (Sym::Then, Expr::Then(a, b)) => todo.put_two(a, b),
+        (Sym::Add, Expr::Add(a, b)) => todo.put_two(a, b),
+        (Sym::If, Expr::If(a, b, c)) => todo.put_three(a, b, c),
+        (Sym::On, Expr::On(a, b, c)) => todo.put_three(a, b, c),
+        _ => Ok(false),
+    }
+}

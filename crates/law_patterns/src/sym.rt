@@ -1,0 +1,80 @@
+// What patterns of expressions are written in.
+
+/// A letter that stands for an expression, the same one at each place.
+#[derive(Clone, Copy)]
+pub enum Letter {
+    /// `f`.
+    F,
+    /// `g`.
+    G,
+    /// `h`.
+    H,
+    /// `i`.
+    I,
+}
+
+/// A symbol of a pattern of expressions, which is written with each form before its parts.
+#[derive(Clone, Copy)]
+pub enum Sym {
+    /// A letter.
+    Letter(Letter),
+    /// `x`.
+    Input,
+    /// `unit`.
+    Unit,
+    /// `true` or `false`.
+    Truth(bool),
+    /// `(none T)`, where T is a letter: any type, the same one at each place.
+    NoEvent,
+    /// `(fst e)`.
+    Fst,
+    /// `(snd e)`.
+    Snd,
+    /// `(event e)`.
+    Event,
+    /// `(pair a b)`.
+    Pair,
+    /// `(then f g)`.
+    Then,
+    /// `(add a b)`.
+    Add,
+    /// `(if c a b)`.
+    If,
+    /// `(on e d b)`.
+    On,
+}
+
+/// `f`.
+pub const F: Sym = Sym::Letter(Letter::F);
+/// `g`.
+pub const G: Sym = Sym::Letter(Letter::G);
+/// `h`.
+pub const H: Sym = Sym::Letter(Letter::H);
+/// `i`.
+pub const I: Sym = Sym::Letter(Letter::I);
+/// `x`.
+pub const X: Sym = Sym::Input;
+/// `unit`.
+pub const UNIT: Sym = Sym::Unit;
+/// `true`.
+pub const TRUE: Sym = Sym::Truth(true);
+/// `false`.
+pub const FALSE: Sym = Sym::Truth(false);
+/// `(none T)`.
+pub const NONE: Sym = Sym::NoEvent;
+/// `(fst e)`.
+pub const FST: Sym = Sym::Fst;
+/// `(snd e)`.
+pub const SND: Sym = Sym::Snd;
+/// `(event e)`.
+pub const EVENT: Sym = Sym::Event;
+/// `(pair a b)`.
+pub const PAIR: Sym = Sym::Pair;
+/// `(then f g)`.
+pub const THEN: Sym = Sym::Then;
+/// `(add a b)`.
+pub const ADD: Sym = Sym::Add;
+/// `(if c a b)`.
+pub const IF: Sym = Sym::If;
+/// `(on e d b)`.
+pub const ON: Sym = Sym::On;
