@@ -2,3 +2,4 @@
 pub mod Pattern
 pub mod Matching
 pub mod Building
+pub mod Rule
