@@ -30,3 +30,4 @@ pub mod LawStep
 pub mod Placed
 pub mod Standing
 pub mod Rewriting
+pub mod SamePlace

@@ -1,5 +1,6 @@
 // Laws of what networks denote: each function is a law, and does nothing.
 
+ghost use Rattle.net_syntax.specs.SamePlace.{SamePlaceLaw};
 ghost use Rattle.net_syntax.specs.Laws.{
   LengthLaw,
   CausalLaw,
@@ -111,4 +112,11 @@ pub fn weight_examples()
     ensures heaviest_within { HeaviestWithin }
     ensures just_too_heavy { JustTooHeavy }
     ensures too_heavy { TooHeavy }
+{}
+
+/// Where what stands at a position of a typed network, in continuations and in networks that will
+/// be frozen too, or inside its expressions, is replaced by what has its type there and does the
+/// same there, the whole keeps its type and outputs the same.
+pub fn replacing_laws()
+    ensures same { SamePlaceLaw }
 {}

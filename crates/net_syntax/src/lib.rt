@@ -16,7 +16,9 @@ mod typed_net;
 pub use arrow::Arrow;
 pub use forms::{LeafForm, PairForm};
 pub use law_step::{Direction, Law, LawStep, Tree};
-pub use laws::{output_examples, stream_laws, switching_laws, typing_laws, weight_examples};
+pub use laws::{
+    output_examples, replacing_laws, stream_laws, switching_laws, typing_laws, weight_examples,
+};
 pub use measure::{MOST_HEIGHT, MOST_WEIGHT, height, is_oversized, weight};
 pub use need::LeafNeed;
 pub use needs::leaves;
