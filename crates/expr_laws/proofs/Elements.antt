@@ -1,11 +1,11 @@
 -- The elements of list expressions.
-use Rattle.std.proofs.Common.{◌≡◌, ℕ, zero, suc, ◌<◌, ◌≤◌, ℤ, pos, List, [], ◌∷◌, map, Some, length, get_or, refl, sym, ap, ap₂, ◌∙◌, arith}
+use Rattle.std.proofs.Common.{◌≡◌, ℕ, zero, suc, ◌<◌, ◌≤◌, nat_eq, ℤ, pos, List, [], ◌∷◌, map, Some, length, get_or, refl, sym, ap, ap₂, ◌∙◌, arith}
 use Rattle.leaf_core.specs.Expression.{Expression, then_expr, list_expr, and_then, expressions_of}
 use Rattle.leaf_core.specs.ExpressionView.{expression_of}
 use Rattle.leaf_core.specs.declared.expr.Expr.{Expr}
 use Rattle.sample_core.specs.TypeTree.{TypeTree}
 use Rattle.expr_laws.specs.Rows.{each_then, element_or, picked}
-use Rattle.expr_laws.specs.Forward.{spread, picked_in}
+use Rattle.expr_laws.specs.Direct.{is_constant, spread, picked_in}
 
 each_then-is : (f : Expression) (es : List Expression) → each_then f (expressions_of es) ≡ expressions_of (map (then_expr f) es)
 each_then-is f [] = refl
@@ -49,3 +49,8 @@ picked-found all i n d s e h = ap (λ t. picked (expressions_of (map expression_
 -- a place outside
 pub picked-missing : (all : List Expr) (i : ℤ) (n : ℕ) (d : Expression) → i ≡ pos n → length all ≤ n → picked (expressions_of (map expression_of all)) i d ≡ d
 picked-missing all i n d e h = ap (λ t. picked (expressions_of (map expression_of all)) t d) e ∙ element_missing all n d h
+
+-- the list of no elements is constant, and no other
+pub constant-list : (T : TypeTree) (xs : List Expr) → nat_eq (length xs) 0 ≡ is_constant (list_expr T (expressions_of (map expression_of xs)))
+constant-list T [] = refl
+constant-list T (x ∷ xs) = grind arith

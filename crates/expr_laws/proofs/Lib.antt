@@ -1,4 +1,6 @@
-pub mod RowsExact
+pub mod Numbers
 pub mod RowValues
 pub mod RowTypes
 pub mod Elements
+pub mod RulesExact
+pub mod Answered

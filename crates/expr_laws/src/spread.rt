@@ -5,7 +5,7 @@ ghost use Rattle.sample_core.specs.TypeView.{type_of};
 ghost use Rattle.leaf_core.specs.Expression.{expressions_of, then_expr, list_expr};
 ghost use Rattle.leaf_core.specs.ExpressionView.{expression_of};
 ghost use Rattle.leaf_core.specs.Inside.{with_one, with_two, with_three};
-ghost use Rattle.expr_laws.specs.Forward.{law4, spread};
+ghost use Rattle.expr_laws.specs.Direct.{law4, spread};
 
 use leaf_core::{Expr, ExprChild, Exprs};
 use sample_core::{Memory, Ty};

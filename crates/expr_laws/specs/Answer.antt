@@ -1,0 +1,44 @@
+-- What a law answers at an expression.
+use Rattle.std.specs.Prelude.{ℕ, ◌≡◌, Option, Some, None, MatchOption}
+use Rattle.std.proofs.Common.{Bor}
+use Rattle.leaf_core.specs.Expression.{Expression}
+use Rattle.leaf_core.specs.ExpressionView.{expression_of}
+use Rattle.leaf_core.specs.declared.expr.Expr.{Expr}
+use Rattle.net_syntax.specs.declared.law_step.Law.{Law}
+use Rattle.net_syntax.specs.declared.law_step.Law.TheVariants as L
+use Rattle.net_syntax.specs.declared.law_step.Direction.{Direction}
+use Rattle.net_syntax.specs.declared.law_step.Direction.TheVariants.{Forward, Backward}
+use Rattle.expr_laws.specs.Rows.{ExpressionRow}
+
+-- a law, its direction, the expression at hand, the one that is given, and the answer: forward,
+-- with none given, the right side of the row whose left side is at hand; backward the one that is
+-- given, where the row leads from it to exactly the one at hand
+pub data ExpressionAnswer : Law → Direction → Expression → Option Expression → Expression → Type 0 where
+  forward_answer : {n : ℕ} {e r : Expression} → ExpressionRow n e r
+      → ExpressionAnswer (L.E n) Forward e None r
+  backward_answer : {n : ℕ} {e g : Expression} → ExpressionRow n g e
+      → ExpressionAnswer (L.E n) Backward e (Some g) g
+
+-- the expression that is given, if one is
+abbrev pub given_of : Option (Bor Expr) → Option Expression
+given_of None = None
+given_of (Some e) = Some (expression_of e.now)
+
+-- an answer, or none where there is none
+abbrev pub IsExpressionAnswer : Law → Direction → Expression → Option Expression → Option Expr → Type 0
+IsExpressionAnswer law direction e given answer =
+    MatchOption answer
+    ((r : Expression) → ExpressionAnswer law direction e given r → ⊥)
+    (λ r. ExpressionAnswer law direction e given (expression_of r))
+
+-- the right side of law n's row whose left side is e, or none where e is no left side of it
+abbrev pub IsRightSide : ℕ → Expression → Option Expr → Type 0
+IsRightSide n e answer =
+    MatchOption answer ((r : Expression) → ExpressionRow n e r → ⊥)
+    (λ r. ExpressionRow n e (expression_of r))
+
+-- there is at most one answer
+abbrev pub OneAnswerLaw : Type 0
+OneAnswerLaw = (law : Law) (direction : Direction) (e : Expression) (given : Option Expression)
+    (r s : Expression) → ExpressionAnswer law direction e given r
+    → ExpressionAnswer law direction e given s → r ≡ s

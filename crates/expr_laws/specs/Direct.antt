@@ -1,0 +1,97 @@
+-- What the laws that aren't two patterns make of an expression, read from left to right: the right
+-- side where the expression is a left side, else nothing.
+use Rattle.std.specs.Prelude.{ℤ, Bool, true, false, ◌&&◌, cond, [], Option, Some, None}
+use Rattle.sample_core.specs.Datum.{unit}
+use Rattle.leaf_core.specs.Expression.{Expression, Expressions, param, unit_expr, bool_expr, int_expr, pair_expr, fst, snd, then_expr, neg, add, sub, mul, less, equal, not_expr, and_expr, or_expr, if_expr, no_event_expr, event_expr, list_expr, nth, len, no_more, and_then}
+use Rattle.leaf_core.specs.ExpressionValue.{value_of}
+use Rattle.expr_laws.specs.Rows.{each_then, literal_for, picked}
+
+-- an operator with each of its parts behind f
+abbrev pub spread : Expression → Expression → Option Expression
+spread f (pair_expr a b) = Some (pair_expr (then_expr f a) (then_expr f b))
+spread f (fst e) = Some (fst (then_expr f e))
+spread f (snd e) = Some (snd (then_expr f e))
+spread f (neg a) = Some (neg (then_expr f a))
+spread f (add a b) = Some (add (then_expr f a) (then_expr f b))
+spread f (sub a b) = Some (sub (then_expr f a) (then_expr f b))
+spread f (mul a b) = Some (mul (then_expr f a) (then_expr f b))
+spread f (less a b) = Some (less (then_expr f a) (then_expr f b))
+spread f (equal a b) = Some (equal (then_expr f a) (then_expr f b))
+spread f (not_expr a) = Some (not_expr (then_expr f a))
+spread f (and_expr a b) = Some (and_expr (then_expr f a) (then_expr f b))
+spread f (or_expr a b) = Some (or_expr (then_expr f a) (then_expr f b))
+spread f (if_expr c a b) = Some (if_expr (then_expr f c) (then_expr f a) (then_expr f b))
+spread f (event_expr e) = Some (event_expr (then_expr f e))
+spread f (nth e i d) = Some (nth (then_expr f e) (then_expr f i) (then_expr f d))
+spread f (len e) = Some (len (then_expr f e))
+spread f (list_expr T (and_then e es)) = Some (list_expr T (each_then f (and_then e es)))
+spread f _ = None
+
+-- an operator behind an expression
+abbrev pub law4 : Expression → Option Expression
+law4 (then_expr f o) = spread f o
+law4 _ = None
+
+-- whether an expression has no part and isn't the input
+abbrev pub is_constant : Expression → Bool
+is_constant (param k) = true
+is_constant unit_expr = true
+is_constant (bool_expr b) = true
+is_constant (int_expr n) = true
+is_constant (no_event_expr T) = true
+is_constant (list_expr T no_more) = true
+is_constant _ = false
+
+-- what doesn't see the input, behind an expression
+abbrev pub law6 : Expression → Option Expression
+law6 (then_expr f k) = cond (is_constant k) (Some k) None
+law6 _ = None
+
+-- whether an expression is a number literal
+abbrev pub is_int : Expression → Bool
+is_int (int_expr n) = true
+is_int _ = false
+
+-- whether an expression is `true` or `false`
+abbrev pub is_bool : Expression → Bool
+is_bool (bool_expr b) = true
+is_bool _ = false
+
+-- whether two expressions are literals of one type
+abbrev pub are_alike : Expression → Expression → Bool
+are_alike unit_expr unit_expr = true
+are_alike (bool_expr b) (bool_expr c) = true
+are_alike (int_expr m) (int_expr n) = true
+are_alike _ _ = false
+
+-- whether an expression is an operator on literals of the types that it takes
+abbrev pub on_literals : Expression → Bool
+on_literals (neg a) = is_int a
+on_literals (add a b) = is_int a && is_int b
+on_literals (sub a b) = is_int a && is_int b
+on_literals (mul a b) = is_int a && is_int b
+on_literals (less a b) = is_int a && is_int b
+on_literals (equal a b) = are_alike a b
+on_literals (not_expr a) = is_bool a
+on_literals (and_expr a b) = is_bool a && is_bool b
+on_literals (or_expr a b) = is_bool a && is_bool b
+on_literals _ = false
+
+-- an operator on literals
+abbrev pub law15 : Expression → Option Expression
+law15 e = cond (on_literals e) (Some (literal_for (value_of e [] unit))) None
+
+-- the element at a place; nothing where there are no elements
+abbrev pub picked_in : Expressions → ℤ → Expression → Option Expression
+picked_in no_more i d = None
+picked_in es i d = Some (picked es i d)
+
+-- an element of a list, at a number literal
+abbrev pub picked_from : Expression → Expression → Expression → Option Expression
+picked_from (list_expr T es) (int_expr i) d = picked_in es i d
+picked_from _ _ d = None
+
+-- the same of `nth`
+abbrev pub law18 : Expression → Option Expression
+law18 (nth e i d) = picked_from e i d
+law18 _ = None
