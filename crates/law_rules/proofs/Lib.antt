@@ -9,3 +9,5 @@ pub mod NetworkLaws
 pub mod SameSides
 pub mod RowsExact
 pub mod Numbers
+pub mod AnsweredParts
+pub mod Gathered

@@ -199,7 +199,9 @@ module _ (olds : ℕ) where
   law38-gives _ = tt
 
   law39-gives : (net : Network Expression) → Gives 39 olds net (law39 net)
-  law39-gives (p_switch r fs (arr (no_event_expr C)) t) = gives-where 39 olds (p_switch r fs (arr (no_event_expr C)) t) (one_to_64 (members fs)) (Some (par (behind_routes r 0 fs))) (λ e. row_l39 (from_1 (members fs) e) (to_64 (members fs) e))
+  law39-gives (p_switch r fs (arr (no_event_expr C)) t) =
+      gives-where 39 olds (p_switch r fs (arr (no_event_expr C)) t) (one_to_64 (members fs)) (Some (par (behind_routes r 0 fs)))
+      (λ e. row_l39 (from_1 (members fs) e) (to_64 (members fs) e))
   law39-gives _ = tt
 
   member-gives : (fs : Networks Expression) (i : ℕ) (d : Expression) → members fs ≤ 64 → (o : Option (Network Expression)) → member fs i ≡ o → Gives 40 olds (seq (par fs) (arr (nth input (int_expr (pos i)) d))) o

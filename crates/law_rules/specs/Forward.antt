@@ -1,13 +1,13 @@
 -- What a law makes of a network, read from left to right: the right side where the network is a left
 -- side, else nothing.
-use Rattle.std.specs.Prelude.{ℕ, pos, Bool, cond, nat_le, nat_eq, ◌&&◌, List, [], ◌∷◌, Option, Some, None, get_or}
+use Rattle.std.specs.Prelude.{ℕ, suc, pos, Bool, true, false, cond, nat_le, nat_eq, ◌&&◌, List, [], ◌∷◌, Option, Some, None, get_or}
 use Rattle.leaf_core.specs.Expression.{Expression, input, unit_expr, int_expr, pair_expr, fst, snd, then_expr, no_event_expr, event_expr, on, list_expr, nth}
 use Rattle.leaf_core.specs.ExpressionCode.{expression_code}
 use Rattle.leaf_core.specs.EqualityByCode.{same_by}
-use Rattle.net_syntax.specs.Network.{Network, arr, seq, first, par, loop_pre, i_pre, delay, hold, accum_by, after, repeatedly, time, switch, d_switch, r_switch, k_switch, p_switch, old}
+use Rattle.net_syntax.specs.Network.{Network, Networks, arr, seq, first, par, loop_pre, i_pre, delay, hold, accum_by, after, repeatedly, time, switch, d_switch, r_switch, k_switch, p_switch, old}
 use Rattle.net_syntax.specs.Typing.{members}
 use Rattle.net_syntax.specs.Place.{member}
-use Rattle.law_rules.specs.NetworkRow.{swap, assoc, unassoc, event_last, left_by, right_by, behind_routes, each_after, each_arr, count}
+use Rattle.law_rules.specs.NetworkRow.{swap, assoc, unassoc, event_last, left_by, right_by, route_to, behind_routes, each_after, each_arr, count}
 
 -- whether there are from 1 to 64
 abbrev pub one_to_64 : ℕ → Bool
@@ -182,14 +182,31 @@ abbrev pub law38 : ℕ → Network Expression → Option (Network Expression)
 law38 olds (k_switch f e (old k)) = cond (nat_eq k olds) (Some f) None
 law38 _ _ = None
 
+-- whether a network never outputs an event, being `arr` of `none`
+abbrev pub is_eventless : Network Expression → Bool
+is_eventless (arr (no_event_expr C)) = true
+is_eventless _ = false
+
+-- the members, each behind its route, where there are from 1 to 64
+abbrev pub routed_apart : Expression → Networks Expression → Option (Network Expression)
+routed_apart r fs = cond (one_to_64 (members fs)) (Some (par (behind_routes r 0 fs))) None
+
 abbrev pub law39 : Network Expression → Option (Network Expression)
-law39 (p_switch r fs (arr (no_event_expr C)) t) =
-    cond (one_to_64 (members fs)) (Some (par (behind_routes r 0 fs))) None
+law39 (p_switch r fs e t) = cond (is_eventless e) (routed_apart r fs) None
 law39 _ = None
 
+-- the place that is read off a list of the members' outputs, where it is a number literal from 0
+abbrev pub place_in : Expression → Option ℕ
+place_in (nth input (int_expr (pos i)) d) = Some i
+place_in _ = None
+
+-- the member at that place, of no more than 64
+abbrev pub member_by : Networks Expression → Option ℕ → Option (Network Expression)
+member_by fs None = None
+member_by fs (Some i) = cond (nat_le (members fs) 64) (member fs i) None
+
 abbrev pub law40 : Network Expression → Option (Network Expression)
-law40 (seq (par fs) (arr (nth input (int_expr (pos i)) d))) =
-    cond (nat_le (members fs) 64) (member fs i) None
+law40 (seq (par fs) (arr e)) = member_by fs (place_in e)
 law40 _ = None
 
 abbrev pub law41 : Network Expression → Option (Network Expression)
@@ -255,3 +272,8 @@ laws olds =
 -- what law n makes of a network where so many frozen networks are in scope
 abbrev pub forward : ℕ → ℕ → Network Expression → Option (Network Expression)
 forward n olds net = get_or (laws olds) n no_law net
+
+-- the networks from number i on, each behind its route
+abbrev pub routed_each : Expression → ℕ → List (Network Expression) → List (Network Expression)
+routed_each r i [] = []
+routed_each r i (f ∷ fs) = seq (arr (route_to r i)) f ∷ routed_each r (suc i) fs
