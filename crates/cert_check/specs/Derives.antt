@@ -1,0 +1,36 @@
+-- What a step makes of a typed network, and what steps derive.
+use Rattle.std.specs.Prelude.{◌≡◌, ◌≤◌, List, [], ◌∷◌, length, Some}
+use Rattle.leaf_core.specs.Expression.{Expression}
+use Rattle.net_syntax.specs.Place.{Tree, a_network}
+use Rattle.net_syntax.specs.Placed.{Placed, placed_at}
+use Rattle.net_syntax.specs.Rewriting.{Rewrites}
+use Rattle.net_syntax.specs.LawStep.{Step}
+use Rattle.net_syntax.specs.TypedNetwork.{TypedNetwork}
+use Rattle.cert_check.specs.TreeAnswer.{TreeAnswer}
+
+-- the step's law answers `new` at the step's position in t
+pub record Answered (t : TypedNetwork) (s : Step) (new : Tree Expression) : Type 0 where
+  pub place : Placed
+  pub found : placed_at 0 0 (a_network t.net) s.position ≡ Some place
+  pub answered : TreeAnswer place.olds s.law s.direction place.tree s.given new
+
+-- the step leads from t to t': the tree at the position is replaced by the law's answer, the result
+-- is typed and within the limits, and the output type at the position is kept
+pub record Next (t : TypedNetwork) (s : Step) (t' : TypedNetwork) : Type 0 where
+  pub new : Tree Expression
+  pub answered : Answered t s new
+  pub rewritten : Rewrites t s.position new t'
+
+-- the steps lead from one network to another, one after the other
+pub data Steps : TypedNetwork → List Step → TypedNetwork → Type 0 where
+  no_step : {t : TypedNetwork} → Steps t [] t
+  step_then : {t u v : TypedNetwork} {s : Step} {ss : List Step} → Next t s u → Steps u ss v
+      → Steps t (s ∷ ss) v
+
+-- at most 10,000 steps lead from the source to exactly the target's network, of the same input type
+pub record Derives (source target : TypedNetwork) (steps : List Step) : Type 0 where
+  pub same_input : source.input ≡ target.input
+  pub few : length steps ≤ 10000
+  pub last : TypedNetwork
+  pub leads : Steps source steps last
+  pub ends : last.net ≡ target.net

@@ -1,0 +1,40 @@
+-- What is to hold of certificates.
+use Rattle.std.specs.Prelude.{◌≡◌, List, [], Result, Err}
+use Rattle.net_syntax.specs.SignalFunction.{TimedList}
+use Rattle.net_syntax.specs.Typing.{TypedSamples}
+use Rattle.net_syntax.specs.TypedNetwork.{TypedNetwork, HasItsTypes, stream_of}
+use Rattle.net_syntax.specs.AlikeEnvironments.{SameOutputs}
+use Rattle.net_syntax.specs.LawStep.{Step}
+use Rattle.cert_check.specs.declared.answer.Accepted.{Accepted}
+use Rattle.cert_check.specs.declared.answer.CheckFault.{CheckFault}
+use Rattle.cert_check.specs.declared.answer.CheckFault.TheVariants.{Memory}
+use Rattle.cert_check.specs.Derives.{Next, Derives}
+use Rattle.cert_check.specs.CheckAnswer.{CheckAnswer}
+
+-- a network that is derived from another outputs the same in alike environments
+abbrev pub SameLaw : Type 0
+SameLaw = (source target : TypedNetwork) (steps : List Step)
+    → HasItsTypes source → Derives source target steps
+    → SameOutputs [] [] source.input source.net target.net
+
+-- so it outputs the same on every stream of typed samples
+abbrev pub SameStreamLaw : Type 0
+SameStreamLaw = (source target : TypedNetwork) (steps : List Step) (xs : TimedList)
+    → HasItsTypes source → Derives source target steps → TypedSamples source.input xs
+    → stream_of source.net xs ≡ stream_of target.net xs
+
+-- and where both have their types, these are the same
+abbrev pub KeptTypesLaw : Type 0
+KeptTypesLaw = (source target : TypedNetwork) (steps : List Step)
+    → HasItsTypes source → HasItsTypes target → Derives source target steps
+    → (source.input ≡ target.input) × (source.output ≡ target.output)
+
+-- a step leads from a network to at most one other
+abbrev pub OneNextLaw : Type 0
+OneNextLaw = (t u v : TypedNetwork) (s : Step) → Next t s u → Next t s v → u ≡ v
+
+-- two answers are one, but for want of memory
+abbrev pub OneAnswerLaw : Type 0
+OneAnswerLaw = (source target : TypedNetwork) (steps : List Step) (a b : Result Accepted CheckFault)
+    → CheckAnswer source target steps a → CheckAnswer source target steps b
+    → (a ≡ Err Memory → ⊥) → (b ≡ Err Memory → ⊥) → a ≡ b

@@ -1,0 +1,25 @@
+// Laws of certificates: each function is a law, and does nothing.
+
+ghost use Rattle.cert_check.specs.Laws.{
+  SameLaw,
+  SameStreamLaw,
+  KeptTypesLaw,
+  OneNextLaw,
+  OneAnswerLaw,
+};
+
+/// What is derived from a network has its types and outputs the same: in alike environments, and
+/// so on every stream of typed samples.
+pub fn derivation_laws()
+    ensures same { SameLaw }
+    ensures same_stream { SameStreamLaw }
+    ensures kept_types { KeptTypesLaw }
+{}
+
+/// A step leads from a network to at most one other, and a check has at most one answer but for
+/// want of memory: so it accepts exactly where the steps derive the target, and else it tells the
+/// first fault.
+pub fn one_answer_laws()
+    ensures one_next { OneNextLaw }
+    ensures one_answer { OneAnswerLaw }
+{}
