@@ -31,3 +31,4 @@ pub mod Placed
 pub mod Standing
 pub mod Rewriting
 pub mod SamePlace
+pub mod FormParts

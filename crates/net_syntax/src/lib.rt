@@ -2,6 +2,7 @@
 #![tactic(auto)]
 
 mod arrow;
+mod equal;
 mod forms;
 mod law_step;
 mod laws;
@@ -14,6 +15,7 @@ mod position;
 mod typed_net;
 
 pub use arrow::Arrow;
+pub use equal::same_net;
 pub use forms::{LeafForm, PairForm};
 pub use law_step::{Direction, Law, LawStep, Tree};
 pub use laws::{
