@@ -1,9 +1,8 @@
 -- A network is the number of its form and what stands inside it.
-use Rattle.std.proofs.Common.{◌≡◌, ◌↔◌, ◌<◌, ◌≤◌, ◌+◌, ℕ, zero, suc, true, false, nat_eq, if◌then◌else◌, List, [], ◌∷◌, length, get_or, drop, refl, ap, subst, sym, ◌∙◌, arith}
+use Rattle.std.proofs.Common.{◌≡◌, ◌↔◌, ◌<◌, ℕ, zero, suc, nat_eq, if◌then◌else◌, List, [], ◌∷◌, length, get_or, refl, ap, subst, sym, ◌∙◌, arith}
 use Rattle.leaf_core.specs.Expression.{Expression}
-use Rattle.leaf_core.specs.ExpressionView.{expression_of}
 use Rattle.leaf_core.specs.declared.expr.Expr.{Expr}
-use Rattle.net_syntax.specs.Network.{Network, Networks, arr, seq, first, par, loop_pre, i_pre, delay, hold, accum_by, after, repeatedly, time, integral, switch, d_switch, r_switch, k_switch, p_switch, old, no_members, and_member, network_size, networks_size, map_networks}
+use Rattle.net_syntax.specs.Network.{Network, Networks, arr, seq, first, par, loop_pre, i_pre, delay, hold, accum_by, after, repeatedly, time, integral, switch, d_switch, r_switch, k_switch, p_switch, old, no_members, and_member, network_size, networks_size}
 use Rattle.net_syntax.specs.NetworkView.{tree_of, trees, members_of}
 use Rattle.net_syntax.specs.FormParts.{FormParts, nothing, index, leaf, timed, leaves, one, fed, two, three, row, routed, form_number, parts_of, parts_size}
 use Rattle.net_syntax.specs.declared.net.Net.{Net}
