@@ -8,3 +8,4 @@ pub mod Uniqueness
 pub mod ShapeValue
 pub mod Sizes
 pub mod SameParts
+pub mod PartNumbers

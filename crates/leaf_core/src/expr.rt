@@ -177,7 +177,7 @@ fn copy_of_three(form: &Expr, a: &ExprChild, b: &ExprChild, c: &ExprChild) -> Re
 }
 
 /// The expression's form, with this part.
-fn with_one(form: &Expr, a: ExprChild) -> Expr
+pub(crate) fn with_one(form: &Expr, a: ExprChild) -> Expr
     ensures { result ≡ with_one form.now a }
 {
     match form {
@@ -191,7 +191,7 @@ fn with_one(form: &Expr, a: ExprChild) -> Expr
 }
 
 /// The expression's form, with these two parts.
-fn with_two(form: &Expr, a: ExprChild, b: ExprChild) -> Expr
+pub(crate) fn with_two(form: &Expr, a: ExprChild, b: ExprChild) -> Expr
     ensures { result ≡ with_two form.now a b }
 {
     match form {
@@ -208,7 +208,7 @@ fn with_two(form: &Expr, a: ExprChild, b: ExprChild) -> Expr
 }
 
 /// The expression's form, with these three parts.
-fn with_three(form: &Expr, a: ExprChild, b: ExprChild, c: ExprChild) -> Expr
+pub(crate) fn with_three(form: &Expr, a: ExprChild, b: ExprChild, c: ExprChild) -> Expr
     ensures { result ≡ with_three form.now a b c }
 {
     match form {
