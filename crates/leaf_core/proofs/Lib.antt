@@ -9,3 +9,4 @@ pub mod ShapeValue
 pub mod Sizes
 pub mod SameParts
 pub mod PartNumbers
+pub mod PartTypes

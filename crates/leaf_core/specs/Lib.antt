@@ -20,3 +20,4 @@ pub mod ScopeView
 pub mod Parts
 pub mod SameValue
 pub mod PartLaws
+pub mod PartWalk

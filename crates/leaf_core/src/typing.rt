@@ -80,7 +80,7 @@ fn whole_type(alloc: Global, params: &[Ty], input: &Ty, expr: &Expr) -> Result<T
 
 /// The type of an expression, whose height and size are not tested.
 #[cycle(walk)]
-fn walk(scope: &TypeScope<'_>, expr: &Expr) -> Result<Ty, ExprFault>
+pub(crate) fn walk(scope: &TypeScope<'_>, expr: &Expr) -> Result<Ty, ExprFault>
     ensures { Gives result (type_in (expression_of expr.now) scope.now) }
 {
     match expr {
