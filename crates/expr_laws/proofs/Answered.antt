@@ -1,6 +1,11 @@
 -- A law answers exactly what its rows allow.
-use Rattle.std.proofs.Common.{◌≡◌, ℕ, Option, Some, None, Result, Ok, Err, IfOk, MatchOption, option_map, refl, sym, ◌∙◌, subst}
+use Rattle.std.proofs.Common.{◌≡◌, ℕ, List, Option, Some, None, Result, Ok, Err, IfOk, MatchOption, option_map, refl, sym, ◌∙◌, subst}
+use Rattle.sample_core.specs.Datum.{Datum}
+use Rattle.sample_core.specs.TypeTree.{TypeTree}
+use Rattle.sample_core.specs.HasType.{HasType, TypedParams}
 use Rattle.leaf_core.specs.Expression.{Expression}
+use Rattle.leaf_core.specs.ExpressionValue.{value_of}
+use Rattle.leaf_core.specs.ExpressionTyping.{ExpressionTyped}
 use Rattle.leaf_core.specs.ExpressionView.{expression_of}
 use Rattle.leaf_core.specs.declared.expr.Expr.{Expr}
 use Rattle.net_syntax.specs.declared.law_step.Law.{Law}
@@ -11,6 +16,7 @@ use Rattle.expr_laws.specs.Rows.{ExpressionRow}
 use Rattle.expr_laws.specs.Table.{LawRule, no_rule, Becomes, rule_at}
 use Rattle.expr_laws.specs.Answer.{ExpressionAnswer, forward_answer, backward_answer, IsExpressionAnswer, IsRightSide}
 use Rattle.expr_laws.proofs.RulesExact.{rule-sound, rule-complete}
+use Rattle.expr_laws.proofs.RowValues.{row_value}
 use Rattle.expr_laws.proofs.Numbers.{one_right_side}
 
 -- what an expression becomes by a rule, or nothing
@@ -85,3 +91,9 @@ found-row n e o r h q = subst (IsRightSide n e) q h
 -- a right side that isn't e is the only one
 pub other-side : (n : ℕ) (g e r : Expression) → ExpressionRow n g r → (r ≡ e → ⊥) → ExpressionRow n g e → ⊥
 other-side n g e r h q k = q (one_right_side n g r e h k)
+
+-- the expression at hand and the answer have one value
+pub answer_value : (l : Law) (d : Direction) (e : Expression) (g : Option Expression) (r : Expression) → ExpressionAnswer l d e g r → (Ps : List TypeTree) (A B : TypeTree)
+    → ExpressionTyped e Ps A B → ExpressionTyped r Ps A B → (ps : List Datum) (x : Datum) → TypedParams Ps ps → HasType x A → value_of e ps x ≡ value_of r ps x
+answer_value l d e g r (forward_answer {n = n} h) Ps A B i j ps x k m = row_value n e r h Ps A B i ps x k m
+answer_value l d e g r (backward_answer {n = n} h) Ps A B i j ps x k m = sym (row_value n r e h Ps A B j ps x k m)

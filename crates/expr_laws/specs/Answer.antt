@@ -1,7 +1,12 @@
 -- What a law answers at an expression.
-use Rattle.std.specs.Prelude.{ℕ, ◌≡◌, Option, Some, None, MatchOption}
+use Rattle.std.specs.Prelude.{ℕ, ◌≡◌, List, Option, Some, None, MatchOption}
 use Rattle.std.proofs.Common.{Bor}
+use Rattle.sample_core.specs.Datum.{Datum}
+use Rattle.sample_core.specs.TypeTree.{TypeTree}
+use Rattle.sample_core.specs.HasType.{HasType, TypedParams}
 use Rattle.leaf_core.specs.Expression.{Expression}
+use Rattle.leaf_core.specs.ExpressionValue.{value_of}
+use Rattle.leaf_core.specs.ExpressionTyping.{ExpressionTyped}
 use Rattle.leaf_core.specs.ExpressionView.{expression_of}
 use Rattle.leaf_core.specs.declared.expr.Expr.{Expr}
 use Rattle.net_syntax.specs.declared.law_step.Law.{Law}
@@ -42,3 +47,11 @@ abbrev pub OneAnswerLaw : Type 0
 OneAnswerLaw = (law : Law) (direction : Direction) (e : Expression) (given : Option Expression)
     (r s : Expression) → ExpressionAnswer law direction e given r
     → ExpressionAnswer law direction e given s → r ≡ s
+
+-- where both are typed alike, the expression at hand and the answer have one value at all
+-- parameters and inputs of those types
+abbrev pub AnswerValueLaw : Type 0
+AnswerValueLaw = (law : Law) (direction : Direction) (e : Expression) (given : Option Expression)
+    (r : Expression) → ExpressionAnswer law direction e given r → (Ps : List TypeTree)
+    (A B : TypeTree) → ExpressionTyped e Ps A B → ExpressionTyped r Ps A B → (ps : List Datum)
+    (x : Datum) → TypedParams Ps ps → HasType x A → value_of e ps x ≡ value_of r ps x

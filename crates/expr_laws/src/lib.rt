@@ -11,4 +11,4 @@ mod spread;
 mod table;
 
 pub use apply::apply_expr;
-pub use laws::row_laws;
+pub use laws::{answer_laws, row_laws};

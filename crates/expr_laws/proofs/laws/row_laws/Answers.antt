@@ -1,4 +1,3 @@
-use Rattle.expr_laws.proofs.Answered.{one_answer}
 use Rattle.expr_laws.proofs.Numbers.{one_right_side, row_numbers}
 use Rattle.expr_laws.proofs.RowValues.{row_value}
 use Rattle.expr_laws.proofs.RowTypes.{row_type}
@@ -15,6 +14,3 @@ returns-clause-one_right_side c = one_right_side
 
 pub returns-clause-numbers : goal.returns-clause-numbers
 returns-clause-numbers c = row_numbers
-
-pub returns-clause-one_answer : goal.returns-clause-one_answer
-returns-clause-one_answer c = one_answer
