@@ -126,7 +126,7 @@ going-sound false es xs s r p = never-failed xs r p
 abbrev Before : Assignment → Letter → Expression → Found → Type 0
 Before a k e s = (chosen a k ≡ e) × Agrees a s
 
-agrees-none : {A : Type 0} (o : Option A) (x : A) → o ≡ None → AgreesAt o x
+pub agrees-none : {A : Type 0} (o : Option A) (x : A) → o ≡ None → AgreesAt o x
 agrees-none o x p = subst (λ o. AgreesAt o x) (sym p) tt
 
 agrees-before : (k : Letter) (a : Assignment) (e : Expression) (s : Found) → found_at s k ≡ None → Agrees a (found_with s k e) → Before a k e s

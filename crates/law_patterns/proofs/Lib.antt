@@ -3,3 +3,7 @@ pub mod Steps
 pub mod Fits
 pub mod Rows
 pub mod Rules
+pub mod NetSteps
+pub mod NetFits
+pub mod NetRows
+pub mod NetRules

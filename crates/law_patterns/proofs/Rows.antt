@@ -11,13 +11,13 @@ use Rattle.law_patterns.specs.Matching.{Found, nothing_found, fitted, or_input, 
 use Rattle.law_patterns.proofs.Fits.{AgreesAt, Agrees, fits-written, written-fitted}
 
 -- lists of one length
-abbrev SameLength : List Expression → List Expression → Type 0
+abbrev pub SameLength : {A : Type 0} → List A → List A → Type 0
 SameLength [] [] = Unit {0}
 SameLength (x ∷ xs) (y ∷ ys) = SameLength xs ys
 SameLength _ _ = ⊥
 
 -- lists of one length, or two that aren't there
-abbrev SameLengths : Option (List Expression) → Option (List Expression) → Type 0
+abbrev pub SameLengths : {A : Type 0} → Option (List A) → Option (List A) → Type 0
 SameLengths None None = Unit {0}
 SameLengths (Some xs) (Some ys) = SameLength xs ys
 SameLengths _ _ = ⊥
@@ -50,7 +50,7 @@ written-alike : (ss : List Sym) (a b : Assignment) → SameLengths (written a ss
 written-alike [] a b = tt
 written-alike (y ∷ ys) a b = put-some-alike y a b (written a ys) (written b ys) (written-alike ys a b)
 
-only-alike : (v w : Option (List Expression)) → SameLengths v w → only v ≡ None → only w ≡ None
+pub only-alike : {A : Type 0} (v w : Option (List A)) → SameLengths v w → only v ≡ None → only w ≡ None
 only-alike None None h p = refl
 only-alike (Some []) (Some []) h p = refl
 only-alike (Some (x ∷ [])) (Some (y ∷ [])) h p = absurd (cc)
@@ -58,10 +58,10 @@ only-alike (Some (x ∷ x' ∷ xs)) (Some (y ∷ y' ∷ ys)) h p = refl
 only-alike _ _ h p = absurd h
 
 -- whether a pattern is one expression doesn't depend on its letters' trees
-filled-alike : (ss : List Sym) (a b : Assignment) → filled a ss ≡ None → filled b ss ≡ None
+pub filled-alike : (ss : List Sym) (a b : Assignment) → filled a ss ≡ None → filled b ss ≡ None
 filled-alike ss a b p = only-alike (written a ss) (written b ss) (written-alike ss a b) p
 
-only-is : (w : Option (List Expression)) (e : Expression) → only w ≡ Some e → w ≡ Some (e ∷ [])
+pub only-is : {A : Type 0} (w : Option (List A)) (e : A) → only w ≡ Some e → w ≡ Some (e ∷ [])
 only-is None e p = absurd (cc)
 only-is (Some []) e p = absurd (cc)
 only-is (Some (x ∷ [])) e p = cc
@@ -75,7 +75,7 @@ or_unit-agrees : (o : Option TypeTree) → AgreesAt o (or_unit o)
 or_unit-agrees None = tt
 or_unit-agrees (Some t) = refl
 
-completed-agrees : (s : Found) → Agrees (completed s) s
+pub completed-agrees : (s : Found) → Agrees (completed s) s
 completed-agrees s = record {
   f = or_input-agrees s.f;
   g = or_input-agrees s.g;
@@ -84,7 +84,7 @@ completed-agrees s = record {
   t = or_unit-agrees s.t;
 }
 
-nothing-agrees : (a : Assignment) → Agrees a nothing_found
+pub nothing-agrees : (a : Assignment) → Agrees a nothing_found
 nothing-agrees a = record { f = tt; g = tt; h = tt; i = tt; t = tt }
 
 some-row : (left right : List Sym) (e r : Expression) (o : Option Found) → fitted left (e ∷ []) nothing_found ≡ o → built right o ≡ Some r → Row left right e r

@@ -4,8 +4,8 @@ use Rattle.leaf_core.specs.Expression.{Expression, fst, snd, event_expr, pair_ex
 use Rattle.law_patterns.specs.declared.sym.Sym.{Sym}
 use Rattle.law_patterns.specs.declared.sym.Sym.TheVariants as S
 
--- the expressions that are there, or None where some were missing
-abbrev pub there : Bool → List Expression → Option (List Expression)
+-- the trees that are there, or None where some were missing
+abbrev pub there : {A : Type 0} → Bool → List A → Option (List A)
 there true es = Some es
 there false es = None
 

@@ -3,3 +3,7 @@ pub mod Pattern
 pub mod Matching
 pub mod Building
 pub mod Rule
+pub mod NetPattern
+pub mod NetMatching
+pub mod NetBuilding
+pub mod NetRule

@@ -22,18 +22,18 @@ chosen a L.G = a.g
 chosen a L.H = a.h
 chosen a L.I = a.i
 
--- a form of one part, around the first of some expressions; None where there is none
-abbrev pub around_one : (Expression → Expression) → List Expression → Option (List Expression)
+-- a form of one part, around the first of some trees; None where there is none
+abbrev pub around_one : {A : Type 0} → (A → A) → List A → Option (List A)
 around_one form (d ∷ es) = Some (form d ∷ es)
 around_one form _ = None
 
 -- a form of two parts, around the first two
-abbrev pub around_two : (Expression → Expression → Expression) → List Expression → Option (List Expression)
+abbrev pub around_two : {A : Type 0} → (A → A → A) → List A → Option (List A)
 around_two form (c ∷ d ∷ es) = Some (form c d ∷ es)
 around_two form _ = None
 
 -- a form of three parts, around the first three
-abbrev pub around_three : (Expression → Expression → Expression → Expression) → List Expression → Option (List Expression)
+abbrev pub around_three : {A : Type 0} → (A → A → A → A) → List A → Option (List A)
 around_three form (b ∷ c ∷ d ∷ es) = Some (form b c d ∷ es)
 around_three form _ = None
 
@@ -64,8 +64,8 @@ abbrev pub written : Assignment → List Sym → Option (List Expression)
 written a [] = Some []
 written a (s ∷ ss) = put_before_some a s (written a ss)
 
--- the expression of a list that has one alone
-abbrev pub only : Option (List Expression) → Option Expression
+-- the tree of a list that has one alone
+abbrev pub only : {A : Type 0} → Option (List A) → Option A
 only (Some (e ∷ [])) = Some e
 only _ = None
 

@@ -4,6 +4,12 @@
 mod building;
 mod letters;
 mod matching;
+mod net_building;
+mod net_letters;
+mod net_matching;
+mod net_stack;
+mod net_sym;
+mod net_todo;
 mod rewrite;
 mod stack;
 mod sym;
@@ -12,7 +18,13 @@ mod todo;
 pub use building::build;
 pub use letters::Letters;
 pub use matching::fit;
-pub use rewrite::rewrite_expr;
+pub use net_building::build_net;
+pub use net_letters::NetLetters;
+pub use net_matching::fit_net;
+pub use net_sym::{
+    D_SWITCH, FIRST, K_SWITCH, NET_F, NET_G, NET_H, NetLetter, NetSym, R_SWITCH, SEQ, SWITCH,
+};
+pub use rewrite::{rewrite_expr, rewrite_net};
 pub use sym::{
     ADD, EVENT, F, FALSE, FST, G, H, I, IF, Letter, NONE, ON, PAIR, SND, Sym, THEN, TRUE, UNIT, X,
 };

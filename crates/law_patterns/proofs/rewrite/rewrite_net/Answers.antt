@@ -1,0 +1,7 @@
+use Rattle.net_syntax.specs.NetworkView.{tree_of}
+use Rattle.law_patterns.proofs.NetRows.{net_rewritten-answers}
+use Rattle.law_patterns.proofs.rewrite.rewrite_net.Goals as goal
+
+pub returns : goal.returns
+returns c =
+    net_rewritten-answers c.args.left.now c.args.right.now (tree_of c.args.net.now) c.net_rewritten.result c.net_rewritten.ensures

@@ -1,0 +1,22 @@
+-- Building networks symbol by symbol.
+use Rattle.std.specs.Prelude.{ℕ}
+use Rattle.leaf_core.specs.Expression.{Expression}
+use Rattle.net_syntax.specs.Network.{Network, arr, seq, i_pre, delay, hold, after, repeatedly, switch, d_switch, r_switch}
+use Rattle.law_patterns.specs.declared.net_sym.NetSym.{NetSym}
+use Rattle.law_patterns.specs.declared.net_sym.NetSym.TheVariants as S
+
+-- the form of one expression that a symbol is, with this number where it has one
+abbrev pub leaf_form : NetSym → ℕ → Expression → Network Expression
+leaf_form (S.IPre p) q e = i_pre e
+leaf_form (S.Hold p) q e = hold e
+leaf_form (S.Delay p) q e = delay q e
+leaf_form (S.After p) q e = after q e
+leaf_form (S.Repeatedly p) q e = repeatedly q e
+leaf_form _ q e = arr e
+
+-- the form of two networks
+abbrev pub pair_form : NetSym → Network Expression → Network Expression → Network Expression
+pair_form S.Switch f g = switch f g
+pair_form S.DSwitch f g = d_switch f g
+pair_form S.RSwitch f g = r_switch f g
+pair_form _ f g = seq f g

@@ -1,0 +1,186 @@
+// The trees that letters of patterns of networks stand for.
+
+ghost use Rattle.std.specs.Prelude.{◌≡◌, IfOk};
+ghost use Rattle.leaf_core.specs.ExpressionView.{expression_of};
+ghost use Rattle.net_syntax.specs.NetworkView.{tree_of};
+ghost use Rattle.law_patterns.specs.NetPattern.{net_chosen};
+ghost use Rattle.law_patterns.specs.NetMatching.{no_nets_found, nets_found_of, net_found_at, net_found_with, network_in, net_going, net_matching, net_bound, number_bound, leaf_step, net_completed, or_time, or_zero};
+
+use crate::letters::Letters;
+use crate::matching::fit;
+use crate::net_sym::NetLetter;
+use crate::sym::Sym;
+use leaf_core::Expr;
+use net_syntax::{Net, same_net};
+use sample_core::Memory;
+use std::alloc::Global;
+
+/// The trees that the letters of a pattern of networks have by now.
+#[derive(Clone, Copy)]
+pub struct NetLetters<'t> {
+    pub f: Option<&'t Net<Expr>>,
+    pub g: Option<&'t Net<Expr>>,
+    pub h: Option<&'t Net<Expr>>,
+    pub q: Option<u64>,
+    pub exprs: Letters<'t>,
+}
+
+impl<'t> NetLetters<'t> {
+    /// No letter has a tree.
+    pub fn new() -> NetLetters<'t>
+        ensures { nets_found_of result ≡ no_nets_found }
+    {
+        NetLetters {
+            f: None,
+            g: None,
+            h: None,
+            q: None,
+            exprs: Letters::new(),
+        }
+    }
+
+    /// The network of the letter, if it has one.
+    pub fn get(&self, letter: NetLetter) -> Option<&'t Net<Expr>>
+        ensures { network_in result ≡ net_found_at (nets_found_of self.now) letter }
+    {
+        match letter {
+            NetLetter::F => self.f,
+            NetLetter::G => self.g,
+            NetLetter::H => self.h,
+        }
+    }
+
+    /// Lets the letter stand for the network.
+    fn set(&mut self, letter: NetLetter, net: &'t Net<Expr>)
+        ensures { nets_found_of self.new
+            ≡ net_found_with (nets_found_of self.old) letter (tree_of net.now) }
+    {
+        match letter {
+            NetLetter::F => self.f = Some(net),
+            NetLetter::G => self.g = Some(net),
+            NetLetter::H => self.h = Some(net),
+        }
+    }
+
+    /// Lets the letter stand for the network, where it stands for no other: whether it does.
+    pub fn bind(&mut self, letter: NetLetter, net: &'t Net<Expr>) -> bool
+        ensures { (fs : _) → net_going result fs (nets_found_of self.new)
+            ≡ net_bound (net_found_at (nets_found_of self.old) letter) letter (tree_of net.now) fs
+            (nets_found_of self.old) }
+    {
+        match self.get(letter) {
+            Some(earlier) => same_net(earlier, net),
+            None => {
+                self.set(letter, net);
+                true
+            }
+        }
+    }
+
+    /// Lets the number letter stand for the number, where it stands for no other: whether it does.
+    fn bind_number(&mut self, q: u64) -> bool
+        ensures { (fs : _) → net_going result fs (nets_found_of self.new)
+            ≡ number_bound (nets_found_of self.old).q q fs (nets_found_of self.old) }
+    {
+        match self.q {
+            Some(earlier) => earlier == q,
+            None => {
+                self.q = Some(q);
+                true
+            }
+        }
+    }
+
+    /// Whether the pattern fits the expression; its letters then stand for what they are at.
+    /// `Memory` where a growth was refused.
+    pub fn meet_leaf(
+        &mut self,
+        alloc: Global,
+        pattern: &[Sym],
+        expr: &'t Expr,
+    ) -> Result<bool, Memory>
+        ensures { IfOk result (λ b. (fs : _) → net_going b fs (nets_found_of self.new)
+            ≡ leaf_step pattern.now (expression_of expr.now)
+            (net_matching fs (nets_found_of self.old))) }
+    {
+        match fit(alloc, pattern, expr, self.exprs)? {
+            None => Ok(false),
+            Some(exprs) => {
+                self.exprs = exprs;
+                Ok(true)
+            }
+        }
+    }
+
+    /// The same of a form with a number, for which the number letter stands.
+    pub fn meet_timed(
+        &mut self,
+        alloc: Global,
+        pattern: &[Sym],
+        q: u64,
+        expr: &'t Expr,
+    ) -> Result<bool, Memory>
+        ensures { IfOk result (λ b. (fs : _) → net_going b fs (nets_found_of self.new)
+            ≡ leaf_step pattern.now (expression_of expr.now)
+            (number_bound (nets_found_of self.old).q q fs (nets_found_of self.old))) }
+    {
+        if self.bind_number(q) {
+            self.meet_leaf(alloc, pattern, expr)
+        } else {
+            Ok(false)
+        }
+    }
+
+    /// Whether two patterns fit two expressions.
+    pub fn meet_leaves(
+        &mut self,
+        alloc: Global,
+        first: &[Sym],
+        second: &[Sym],
+        d: &'t Expr,
+        e: &'t Expr,
+    ) -> Result<bool, Memory>
+        ensures { IfOk result (λ b. (fs : _) → net_going b fs (nets_found_of self.new)
+            ≡ leaf_step second.now (expression_of e.now)
+            (leaf_step first.now (expression_of d.now) (net_matching fs (nets_found_of self.old)))) }
+    {
+        if self.meet_leaf(alloc, first, d)? {
+            self.meet_leaf(alloc, second, e)
+        } else {
+            Ok(false)
+        }
+    }
+
+    /// A copy of what the letter stands for; `time` where it stands for nothing. `Memory` where a
+    /// count of references is full.
+    pub fn copy_of(&self, alloc: Global, letter: NetLetter) -> Result<Net<Expr>, Memory>
+        ensures { IfOk result
+            (λ n. tree_of n ≡ net_chosen (net_completed (nets_found_of self.now)) letter) }
+    {
+        match letter {
+            NetLetter::F => copy_or_time(alloc, self.f),
+            NetLetter::G => copy_or_time(alloc, self.g),
+            NetLetter::H => copy_or_time(alloc, self.h),
+        }
+    }
+
+    /// What the number letter stands for; 0 where it stands for nothing.
+    pub fn number(&self) -> u64
+        ensures { result ≡ or_zero (nets_found_of self.now).q }
+    {
+        match self.q {
+            Some(q) => q,
+            None => 0,
+        }
+    }
+}
+
+/// A copy of the network; `time` where there is none.
+fn copy_or_time(alloc: Global, net: Option<&Net<Expr>>) -> Result<Net<Expr>, Memory>
+    ensures { IfOk result (λ n. tree_of n ≡ or_time (network_in net.entry)) }
+{
+    match net {
+        Some(net) => net.try_copy(alloc),
+        None => Ok(Net::Time),
+    }
+}
