@@ -1,3 +1,4 @@
 pub mod Counted
 pub mod Sound
 pub mod OneAnswer
+pub mod FewBound

@@ -12,7 +12,7 @@ use Rattle.net_syntax.specs.Rewriting.{Rewrites}
 use Rattle.net_syntax.specs.LawStep.{Step}
 use Rattle.net_syntax.specs.declared.law_step.Law.{Law}
 use Rattle.net_syntax.specs.declared.law_step.Direction.{Direction}
-use Rattle.expr_laws.proofs.RowsExact.{one_right_side}
+use Rattle.expr_laws.proofs.Numbers.{one_right_side}
 use Rattle.law_rules.proofs.RowsExact.{one-right_side}
 use Rattle.cert_check.specs.TreeAnswer.{TreeAnswer, expression_forward, expression_backward, network_forward, network_backward}
 use Rattle.cert_check.specs.Derives.{Answered, Next, Steps, no_step, step_then, Derives}
