@@ -18,7 +18,7 @@ pub use leaf_core::{
     Expr, ExprChild, ExprFault, Exprs, LeafKey, Literal, Shape, eval, expr_fits, part_laws,
     same_expr, shape_laws, shape_of, type_fits, type_of_expr, typing_laws,
 };
-pub use number_reader::{read_index, read_natural};
+pub use number_reader::{natural_named, read_index, read_natural};
 pub use print::{print_expr, push_expr};
 pub use text_fault::ExprTextFault;
 pub use text_laws::{

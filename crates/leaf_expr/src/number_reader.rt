@@ -1,8 +1,8 @@
 // Reading numbers that forms take.
 
-ghost use Rattle.std.specs.Prelude.{◌<◌, ◌≤◌, ◌^◌, IfOk};
+ghost use Rattle.std.specs.Prelude.{◌≡◌, ◌<◌, ◌≤◌, ◌^◌, IfOk, IfSome};
 ghost use Rattle.leaf_expr.specs.{Grammar.index_sort, ReadText.Gives, ReadText.tree_at, ReadText.natural_read};
-ghost use Rattle.leaf_expr.specs.Token.{tokens_from};
+ghost use Rattle.leaf_expr.specs.{Language.read_word, Token.tokens_from, WordReading.natural_at};
 
 use crate::text_fault::ExprTextFault;
 use crate::tree_front::{Read, form_head};
@@ -28,6 +28,18 @@ pub fn read_natural(text: &[u8], at: usize, room: usize, low: u64, high: u64) ->
         Ok(k) => Ok((k, end)),
         Err(WordFault::Misspelt) => Err(ExprTextFault::Number { at: start }),
         Err(WordFault::Unfit) => Err(ExprTextFault::Syntax { at: start }),
+    }
+}
+
+/// The natural number from `low` to `high`, below 2^63, that the word spells, where it spells one.
+pub fn natural_named(word: &[u8], low: u64, high: u64) -> Option<u64>
+    requires { high < 2 ^ 63 }
+    ensures number { result ≡ read_word (natural_at low high word.now) }
+    ensures within { IfSome result (λ k. (low ≤ k) × (k ≤ high)) }
+{
+    match natural_word(word, low, high) {
+        Ok(k) => Some(k),
+        Err(_) => None,
     }
 }
 

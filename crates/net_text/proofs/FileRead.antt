@@ -1,7 +1,6 @@
 -- The reader of network files answers exactly the files, and why bytes are none.
-use Rattle.std.proofs.Common.{◌≡◌, ◌≢◌, ℕ, ◌≤◌, ◌<◌, Bool, true, false, if◌then◌else◌, nat_lt, List, [], ◌∷◌, length, refl, sym, ap, ◌∙◌, subst, Option, Some, None, Result, Ok, Err, IfOk}
+use Rattle.std.proofs.Common.{◌≡◌, ◌≢◌, ℕ, ◌≤◌, Bool, true, false, if◌then◌else◌, List, [], ◌∷◌, length, refl, sym, ap, ◌∙◌, subst, Option, Some, None, Result, Ok, Err, IfOk}
 use Rattle.std.specs.Prelude.{codes, bytes_eq, option_and_then, IfErr}
-use Rattle.std.proofs.lemmas.Bool.{ltb-false, ltb-true, le-ltb, lt-ltb}
 use Rattle.std.proofs.lemmas.Slice.Eq.{bytes_eq-Decides}
 use Rattle.sample_core.specs.TypeTree.{TypeTree}
 use Rattle.sample_core.specs.TypeView.{type_of}
@@ -21,12 +20,13 @@ use Rattle.net_syntax.specs.Network.{Network}
 use Rattle.net_syntax.specs.NetworkView.{tree_of}
 use Rattle.net_syntax.specs.declared.net.Net.{Net}
 use Rattle.net_text.specs.Grammar.{networks, network_sort}
-use Rattle.net_text.specs.File.{in_file, behind_word, behind_header, at_end, read_network, read_body, body_fault, read_behind, read_file}
+use Rattle.net_text.specs.File.{behind_word, behind_header, at_end, read_network, read_body, read_file}
 use Rattle.net_text.specs.FileLaws.{header_tokens, HasHeader, IsFile, NoFile, no_type, no_network, follows, IsFileFault, ReadFileLaw, OneFileLaw, FileFaultLaw}
 use Rattle.net_text.specs.ReadNet.{GivesFile}
 use Rattle.net_text.specs.declared.fault.NetTextFault.{NetTextFault}
 use Rattle.net_text.specs.declared.fault.NetTextFault.TheVariants as V
 use Rattle.net_text.proofs.NetProper.{networks_proper}
+use Rattle.net_text.proofs.HeadedText.{Behind, headed_found, headed_read, headed_fault, headed_refuses, headed_told, one_reading}
 use Rattle.sample_core.specs.Answer.{◌>>=◌}
 use Rattle.leaf_expr.specs.declared.text_fault.ExprTextFault.{ExprTextFault}
 use Rattle.leaf_expr.specs.declared.text_fault.ExprTextFault.TheVariants as E
@@ -37,59 +37,19 @@ some_is p = cc
 err_is : {A : Type 0} {x y : ExprTextFault} → ◌≡◌ {A = Result A ExprTextFault} (Err x) (Err y) → x ≡ y
 err_is p = cc
 
-file_is : {A : Type 0} {x y : A} → ◌≡◌ {A = Result A NetTextFault} (Ok x) (Ok y) → x ≡ y
-file_is p = cc
-
 ok_same : {A : Type 0} {x y : A} → ◌≡◌ {A = Result A ExprTextFault} (Ok x) (Ok y) → x ≡ y
 ok_same p = cc
-
-fault_is : {A : Type 0} {x y : NetTextFault} → ◌≡◌ {A = Result A NetTextFault} (Err x) (Err y) → x ≡ y
-fault_is p = cc
-
-no_header : (e : ExprTextFault) → V.Header ≢ in_file e
-no_header (E.Syntax n) p = cc
-no_header (E.Number n) p = cc
-no_header (E.TooDeep n) p = cc
-no_header E.TooLong p = cc
-no_header E.Memory p = cc
 
 not_long : {bs : List ℕ} → NoFile bs E.TooLong → ⊥
 not_long {bs = bs} (no_type ts h s) = stops_not_long leaf (length bs) 600 type_sort ts s
 not_long {bs = bs} (no_network ts h A n us b s) = stops_not_long networks (length bs) 600 network_sort us s
 not_long (follows ts h A n us b f m x after c e) = cc
 
-body_ok : {A : Type 0} (r : Result A ExprTextFault) (x : A) → body_fault r ≡ Ok x → r ≡ Ok x
-body_ok (Ok y) x e = ap Ok (file_is e)
-body_ok (Err f) x e = absurd (cc)
-
--- a fault of a tree is told by that of the file
-of_tree : NetTextFault → ExprTextFault
-of_tree (V.Syntax n) = E.Syntax n
-of_tree (V.Number n) = E.Number n
-of_tree (V.TooDeep n) = E.TooDeep n
-of_tree V.TooLong = E.TooLong
-of_tree _ = E.Memory
-
-of_tree-in_file : (e : ExprTextFault) → of_tree (in_file e) ≡ e
-unfolding of_tree
-of_tree-in_file (E.Syntax n) = refl
-of_tree-in_file (E.Number n) = refl
-of_tree-in_file (E.TooDeep n) = refl
-of_tree-in_file E.TooLong = refl
-of_tree-in_file E.Memory = refl
-
-at_is : {A : Type 0} {x y : ExprTextFault} → ◌≡◌ {A = Result A NetTextFault} (Err (in_file x)) (Err (in_file y)) → x ≡ y
-at_is {x = x} {y = y} p = let i : in_file x ≡ in_file y = cc in sym (of_tree-in_file x) ∙ ap of_tree i ∙ of_tree-in_file y
-
-body_err : {A : Type 0} (r : Result A ExprTextFault) (f : ExprTextFault) → body_fault r ≡ Err (in_file f) → r ≡ Err f
-body_err (Ok y) f e = absurd (cc)
-body_err (Err g) f e = ap Err (at_is e)
-
 at_end_ok : {T : Type 0} (x y : T) (ts : List PlacedToken) → at_end x ts ≡ Ok y → (x ≡ y) × (ts ≡ [])
 at_end_ok x y [] e = (ok_same e, refl)
 at_end_ok x y (z ∷ ts) e = absurd (cc)
 
-word_found : (u : List ℕ) (ts us : List PlacedToken) → behind_word u ts ≡ Some us → (n : ℕ) × (ts ≡ (n, word u) ∷ us)
+pub word_found : (u : List ℕ) (ts us : List PlacedToken) → behind_word u ts ≡ Some us → (n : ℕ) × (ts ≡ (n, word u) ∷ us)
 word_found u [] us e = absurd (cc)
 word_found u ((n, opening) ∷ ts) us e = absurd (cc)
 word_found u ((n, closing) ∷ ts) us e = absurd (cc)
@@ -115,24 +75,24 @@ header_behind : (bs : List ℕ) (ts : List PlacedToken) → HasHeader bs ts → 
 header_behind bs ts h = ap behind_header h.starts
 
 module _ (bs : List ℕ) where
-  -- what is read of bytes with a header, where they are no more than files have
-  past_header : (ts : List PlacedToken) → length bs ≤ 1048576 → HasHeader bs ts → read_file bs ≡ body_fault (read_body (length bs) ts)
-  past_header ts l h =
-      ap (λ c. if c then Err V.TooLong else read_behind (length bs) (behind_header (tokens bs))) (le-ltb 1048576 (length bs) l)
-      ∙ ap (read_behind (length bs)) (header_behind bs ts h)
-
   -- a type that stands behind the header is read
   read_type : (ts : List PlacedToken) (A : TypeTree) (n : ℕ) (us : List PlacedToken) → Begins leaf 600 type_sort A ts n us
       → read leaf (length bs) 600 type_sort ts ≡ Ok (A, n, us)
   read_type ts A n us b = only leaf leaf_proper (length bs) 600 type_sort b.part ts n us A b.spells b.means b.within
 
-  pub file_read : (A : TypeTree) (f : Network Expression) → IsFile bs A f → read_file bs ≡ Ok (A, f)
-  file_read A f h =
+  file_behind : (A : TypeTree) (f : Network Expression) → IsFile bs A f → Behind behind_header read_body bs (Ok (A, f))
+  file_behind A f h =
       let c : Begins networks 600 network_sort f h.network h.network_end [] = h.body in
       let q : read networks (length bs) 600 network_sort h.network ≡ Ok (f, h.network_end, []) =
       only networks networks_proper (length bs) 600 network_sort c.part h.network h.network_end [] f c.spells c.means c.within in
-      past_header h.behind h.short h.headed ∙ ap (λ r. body_fault (r >>= read_network (length bs))) (read_type h.behind A h.type_end h.network h.input)
-      ∙ ap (λ r. body_fault (r >>= (λ g. at_end (A, g.0) g.2))) q
+      record {
+        short = h.short;
+        behind = h.behind;
+        headed = header_behind bs h.behind h.headed;
+        reads =
+            ap (λ r. r >>= read_network (length bs)) (read_type h.behind A h.type_end h.network h.input)
+            ∙ ap (λ r. r >>= (λ g. at_end (A, g.0) g.2)) q;
+      }
 
   body_found : (ts : List PlacedToken) → HasHeader bs ts → length bs ≤ 1048576 → (A : TypeTree) (f : Network Expression) → read_body (length bs) ts ≡ Ok (A, f)
       → IsFile bs A f
@@ -179,91 +139,54 @@ module _ (bs : List ℕ) where
       go (Err f) i q = no_type ts h (stops leaf leaf_proper (length bs) 600 type_sort ts e (i ∙ ap Err (err_is q)))
       go (Ok (A, n, us)) i q = then_network A n us i (read networks (length bs) 600 network_sort us) refl q
 
-  short_file : (r : Result (TypeTree × Network Expression) NetTextFault) → r ≢ Err V.TooLong → read_file bs ≡ r
-      → (length bs ≤ 1048576) × (read_behind (length bs) (behind_header (tokens bs)) ≡ r)
-  short_file r d e = go (nat_lt 1048576 (length bs)) refl e
-    where
-      go : (b : Bool) → nat_lt 1048576 (length bs) ≡ b → (if b then Err V.TooLong else read_behind (length bs) (behind_header (tokens bs))) ≡ r
-          → (length bs ≤ 1048576) × (read_behind (length bs) (behind_header (tokens bs)) ≡ r)
-      go true q e' = absurd (d (sym e'))
-      go false q e' = (ltb-false 1048576 (length bs) q, e')
-
   headed_by : (ts : List PlacedToken) → behind_header (tokens bs) ≡ Some ts → HasHeader bs ts
   headed_by ts e = let i : (a : ℕ) × (b : ℕ) × (c : ℕ) × (tokens bs ≡ header_tokens a b c ts) = header_found (tokens bs) ts e in
       record { yampa = i.0; one = i.1; input = i.2; starts = i.3 }
 
-  pub file_found : (A : TypeTree) (f : Network Expression) → read_file bs ≡ Ok (A, f) → IsFile bs A f
-  file_found A f e = let i : (length bs ≤ 1048576) × (read_behind (length bs) (behind_header (tokens bs)) ≡ Ok (A, f)) = short_file (Ok (A, f)) (λ q. cc) e in
-      go i.0 (behind_header (tokens bs)) refl i.1
-    where
-      go : length bs ≤ 1048576 → (o : Option (List PlacedToken)) → behind_header (tokens bs) ≡ o → read_behind (length bs) o ≡ Ok (A, f) → IsFile bs A f
-      go l None p q = absurd (cc)
-      go l (Some ts) p q = body_found ts (headed_by ts p) l A f (body_ok (read_body (length bs) ts) (A, f) q)
-
-  -- what is wrong behind the header, where the fault is not the header's
-  behind_refused : (e : ExprTextFault) → ◌≢◌ {A = Result (TypeTree × Network Expression) NetTextFault} (Err V.Header) (Err (in_file e)) →
-      read_behind (length bs) (behind_header (tokens bs)) ≡ Err (in_file e) → NoFile bs e
-  behind_refused e d p = go (behind_header (tokens bs)) refl p
-    where
-      go : (o : Option (List PlacedToken)) → behind_header (tokens bs) ≡ o → read_behind (length bs) o ≡ Err (in_file e) → NoFile bs e
-      go None h q = absurd (d q)
-      go (Some ts) h q = body_refused ts (headed_by ts h) e (body_err (read_body (length bs) ts) e q)
-
-  pub file_refused : (e : ExprTextFault) → in_file e ≢ V.TooLong → read_file bs ≡ Err (in_file e) → (length bs ≤ 1048576) × NoFile bs e
-  file_refused e d p =
-      let i : (length bs ≤ 1048576)
-      × (read_behind (length bs) (behind_header (tokens bs)) ≡ Err (in_file e)) = short_file (Err (in_file e)) (λ q. d (fault_is q)) p in
-      (i.0, behind_refused e (λ q. no_header e (fault_is q)) i.1)
-
-  pub headless : read_file bs ≡ Err V.Header → (length bs ≤ 1048576) × ((ts : List PlacedToken) → HasHeader bs ts → ⊥)
-  headless p = let i : (length bs ≤ 1048576) × (read_behind (length bs) (behind_header (tokens bs)) ≡ Err V.Header) = short_file (Err V.Header) (λ q. cc) p in
-      (i.0, λ ts h. not_header (read_body (length bs) ts) (sym (ap (read_behind (length bs)) (header_behind bs ts h)) ∙ i.1))
-    where
-      not_header : (r : Result (TypeTree × Network Expression) ExprTextFault) → body_fault r ≡ Err V.Header → ⊥
-      not_header (Ok x) q = cc
-      not_header (Err f) q = no_header f (fault_is (sym q))
-
-  pub longer : read_file bs ≡ Err V.TooLong → 1048576 < length bs
-  longer p = go (nat_lt 1048576 (length bs)) refl p
-    where
-      go : (b : Bool) → nat_lt 1048576 (length bs) ≡ b → (if b then Err V.TooLong else read_behind (length bs) (behind_header (tokens bs))) ≡ Err V.TooLong
-          → 1048576 < length bs
-      go true q e = ltb-true 1048576 (length bs) q
-      go false q e = absurd (not_long (behind_refused E.TooLong (λ r. cc) e))
-
-  pub file_fault : (e : NetTextFault) → e ≢ V.Memory → read_file bs ≡ Err e → IsFileFault bs e
-  file_fault V.Header d p = headless p
-  file_fault (V.Syntax n) d p = file_refused (E.Syntax n) (λ q. cc) p
-  file_fault (V.Number n) d p = file_refused (E.Number n) (λ q. cc) p
-  file_fault (V.TooDeep n) d p = file_refused (E.TooDeep n) (λ q. cc) p
-  file_fault V.TooLong d p = longer p
-  file_fault V.Memory d p = absurd (d refl)
+  wrong : (e : ExprTextFault) → Behind behind_header read_body bs (Err e) → NoFile bs e
+  wrong e b = body_refused b.behind (headed_by b.behind b.headed) e b.reads
 
   -- where no file is, the fault is answered
-  refuses_body : (e : ExprTextFault) → length bs ≤ 1048576 → NoFile bs e → read_file bs ≡ Err (in_file e)
-  refuses_body e l (no_type ts h s) =
-      past_header ts l h ∙ ap (λ r. body_fault (r >>= read_network (length bs))) (refuses leaf leaf_proper (length bs) 600 type_sort ts e s)
-  refuses_body e l (no_network ts h A n us a s) =
-      past_header ts l h ∙ ap (λ r. body_fault (r >>= read_network (length bs))) (read_type ts A n us a)
-      ∙ ap (λ r. body_fault (r >>= (λ g. at_end (A, g.0) g.2))) (refuses networks networks_proper (length bs) 600 network_sort us e s)
-  refuses_body e l (follows ts h A n us a f m x after b q) =
-      past_header ts l h ∙ ap (λ r. body_fault (r >>= read_network (length bs))) (read_type ts A n us a)
-      ∙ ap (λ r. body_fault (r >>= (λ g. at_end (A, g.0) g.2)))
-      (only networks networks_proper (length bs) 600 network_sort b.part us m (x ∷ after) f b.spells b.means b.within) ∙ ap (λ d. Err (in_file d)) (sym q)
+  refuse : (e : ExprTextFault) → length bs ≤ 1048576 → NoFile bs e → Behind behind_header read_body bs (Err e)
+  refuse e l (no_type ts h s) =
+      record {
+        short = l;
+        behind = ts;
+        headed = header_behind bs ts h;
+        reads = ap (λ r. r >>= read_network (length bs)) (refuses leaf leaf_proper (length bs) 600 type_sort ts e s);
+      }
+  refuse e l (no_network ts h A n us a s) =
+      record {
+        short = l;
+        behind = ts;
+        headed = header_behind bs ts h;
+        reads =
+            ap (λ r. r >>= read_network (length bs)) (read_type ts A n us a)
+            ∙ ap (λ r. r >>= (λ g. at_end (A, g.0) g.2)) (refuses networks networks_proper (length bs) 600 network_sort us e s);
+      }
+  refuse e l (follows ts h A n us a f m x after b q) =
+      record {
+        short = l;
+        behind = ts;
+        headed = header_behind bs ts h;
+        reads =
+            ap (λ r. r >>= read_network (length bs)) (read_type ts A n us a)
+            ∙ ap (λ r. r >>= (λ g. at_end (A, g.0) g.2))
+            (only networks networks_proper (length bs) 600 network_sort b.part us m (x ∷ after) f b.spells b.means b.within) ∙ ap Err (sym q);
+      }
 
-  refuses_file : (e : NetTextFault) → e ≢ V.Memory → IsFileFault bs e → read_file bs ≡ Err e
-  refuses_file V.Header d h =
-      ap (λ c. if c then Err V.TooLong else read_behind (length bs) (behind_header (tokens bs))) (le-ltb 1048576 (length bs) h.0)
-      ∙ go (behind_header (tokens bs)) refl
-    where
-      go : (o : Option (List PlacedToken)) → behind_header (tokens bs) ≡ o → read_behind (length bs) (behind_header (tokens bs)) ≡ Err V.Header
-      go None p = ap (read_behind (length bs)) p
-      go (Some ts) p = absurd (h.1 ts (headed_by ts p))
-  refuses_file (V.Syntax n) d h = refuses_body (E.Syntax n) h.0 h.1
-  refuses_file (V.Number n) d h = refuses_body (E.Number n) h.0 h.1
-  refuses_file (V.TooDeep n) d h = refuses_body (E.TooDeep n) h.0 h.1
-  refuses_file V.TooLong d h = ap (λ c. if c then Err V.TooLong else read_behind (length bs) (behind_header (tokens bs))) (lt-ltb 1048576 (length bs) h)
-  refuses_file V.Memory d h = absurd (d refl)
+  pub file_read : (A : TypeTree) (f : Network Expression) → IsFile bs A f → read_file bs ≡ Ok (A, f)
+  file_read A f h = headed_read behind_header read_body bs (A, f) (file_behind A f h)
+
+  pub file_found : (A : TypeTree) (f : Network Expression) → read_file bs ≡ Ok (A, f) → IsFile bs A f
+  file_found A f e = let b = headed_found behind_header read_body bs (A, f) e in
+      body_found b.behind (headed_by b.behind b.headed) b.short A f b.reads
+
+  pub file_fault : (e : NetTextFault) → e ≢ V.Memory → read_file bs ≡ Err e → IsFileFault bs e
+  file_fault e d p = headed_fault behind_header read_body bs (HasHeader bs) (NoFile bs) (header_behind bs) headed_by wrong not_long e d p
+
+  pub refuses_file : (e : NetTextFault) → e ≢ V.Memory → IsFileFault bs e → read_file bs ≡ Err e
+  refuses_file e d h = headed_refuses behind_header read_body bs (HasHeader bs) (NoFile bs) (header_behind bs) headed_by wrong not_long refuse e d h
 
   -- what the call returned, said by the grammar alone
   pub net_found : (r : Result (Ty × Net Expr) NetTextFault) → GivesFile r (read_file bs) → IfOk r (λ x. IsFile bs (type_of x.0) (tree_of x.1))
@@ -275,13 +198,7 @@ module _ (bs : List ℕ) where
   net_only r h A f i = subst (λ z. GivesFile r z) (file_read A f i) h
 
   pub net_refused : (r : Result (Ty × Net Expr) NetTextFault) → GivesFile r (read_file bs) → IfErr r (IsFileFault bs)
-  net_refused (Ok x) h = tt
-  net_refused (Err V.Header) h = file_fault V.Header (λ q. cc) (h (λ q. cc))
-  net_refused (Err (V.Syntax n)) h = file_fault (V.Syntax n) (λ q. cc) (h (λ q. cc))
-  net_refused (Err (V.Number n)) h = file_fault (V.Number n) (λ q. cc) (h (λ q. cc))
-  net_refused (Err (V.TooDeep n)) h = file_fault (V.TooDeep n) (λ q. cc) (h (λ q. cc))
-  net_refused (Err V.TooLong) h = file_fault V.TooLong (λ q. cc) (h (λ q. cc))
-  net_refused (Err V.Memory) h = tt
+  net_refused r h = headed_told behind_header read_body bs (HasHeader bs) (NoFile bs) (header_behind bs) headed_by wrong not_long _ r h
 
 pub read_file_law : ReadFileLaw
 read_file_law bs A f = (file_found bs A f, file_read bs A f)
@@ -290,4 +207,6 @@ pub file_fault_law : FileFaultLaw
 file_fault_law bs e d = (file_fault bs e d, refuses_file bs e d)
 
 pub one_file : OneFileLaw
-one_file bs A B f g h i = let p : (A, f) ≡ (B, g) = file_is (sym (file_read bs A f h) ∙ file_read bs B g i) in (ap (λ x. x.0) p, ap (λ x. x.1) p)
+one_file bs A B f g h i =
+    let p : (A, f) ≡ (B, g) = one_reading behind_header read_body bs (A, f) (B, g) (file_behind bs A f h) (file_behind bs B g i) in
+    (ap (λ x. x.0) p, ap (λ x. x.1) p)

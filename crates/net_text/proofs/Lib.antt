@@ -1,8 +1,15 @@
 pub mod Carried
 pub mod ReadSteps
+pub mod Completed
 pub mod NetProper
+pub mod StepProper
+pub mod HeadedText
 pub mod FileRead
+pub mod StepRead
+pub mod CertificateRead
+pub mod CertificateSteps
 pub mod NetRows
 pub mod PrintedFile
 pub mod PrintSteps
 pub mod Forms
+pub mod CertificateRowsRead

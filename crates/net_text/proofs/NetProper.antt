@@ -1,17 +1,17 @@
 -- The language of networks is proper.
-use Rattle.std.proofs.Common.{◌≡◌, ℕ, true, false, ◌&&◌, List, [], ◌∷◌, refl, ap, ◌∙◌, ◌+◌, Some, None, length}
+use Rattle.std.proofs.Common.{◌≡◌, ℕ, true, false, ◌&&◌, List, [], ◌∷◌, refl, ap, ◌∙◌, None}
 use Rattle.std.specs.Prelude.{codes, option_map}
 use Rattle.sample_core.specs.Number.{is_number_word}
 use Rattle.leaf_expr.specs.WordReading.{reads, misspelt, unfit, natural_at}
-use Rattle.leaf_expr.specs.Token.{opening, closing, word, PlacedToken}
-use Rattle.leaf_expr.specs.Sexpr.{atom, form, last, atom_spells, form_spells, last_spells}
-use Rattle.leaf_expr.specs.Language.{read_word, meaning}
+use Rattle.leaf_expr.specs.Token.{opening, PlacedToken}
+use Rattle.leaf_expr.specs.Language.{read_word}
 use Rattle.leaf_expr.specs.Grammar.{leaf, Sort}
 use Rattle.leaf_expr.specs.ReadLaws.{Completes}
 use Rattle.leaf_expr.proofs.Proper.{Proper}
 use Rattle.leaf_expr.proofs.LeafProper.{leaf_proper, among_unread, chosen_misspelt, chosen_unfit}
-use Rattle.net_text.specs.Grammar.{networks, NetSort, NetTree, leaf_sort, network_sort, members_sort, time_sort, Timer, delay_timer, after_timer, repeatedly_timer, least, greatest, net_words, net_word_at, net_rows, net_row_at, col_rows, net_has_form, net_takes_number, leaf_row}
+use Rattle.net_text.specs.Grammar.{networks, NetSort, leaf_sort, network_sort, members_sort, time_sort, Timer, delay_timer, after_timer, repeatedly_timer, least, greatest, net_words, net_word_at, net_rows, net_row_at, col_rows, net_has_form, net_takes_number, leaf_row}
 use Rattle.net_text.proofs.Carried.{meaning_same}
+use Rattle.net_text.proofs.Completed.{by_word, by_form, with_opening}
 
 formless : (s : NetSort) (w : List ℕ) → net_has_form s ≡ false → net_row_at s w ≡ None
 unfolding net_row_at
@@ -44,32 +44,19 @@ one_fits delay_timer = refl
 one_fits after_timer = refl
 one_fits repeatedly_timer = refl
 
--- a word that is a tree completes it
-by_word : (s : NetSort) (w : List ℕ) {a : NetTree s} → meaning networks s (atom w) ≡ Some a → Completes networks s []
-by_word s w {a = a} m = record { end = (0, word w) ∷ []; stop = 0 + length w; part = atom w; tree = a; spells = λ ts. atom_spells; means = m }
-
--- the word of a form without parts, and its end, complete what the form's parenthesis opens
-by_form : (s : NetSort) (n : ℕ) (w : List ℕ) {a : NetTree s} → meaning networks s (form w last) ≡ Some a → Completes networks s ((n, opening) ∷ [])
-by_form s n w {a = a} m =
-    record { end = (0, word w) ∷ (0, closing) ∷ []; stop = 1; part = form w last; tree = a; spells = λ ts. form_spells last_spells; means = m }
-
--- what completes a parenthesis completes a tree together with it
-with_opening : (s : NetSort) → Completes networks s ((0, opening) ∷ []) → Completes networks s []
-with_opening s c = record { end = (0, opening) ∷ c.end; stop = c.stop; part = c.part; tree = c.tree; spells = c.spells; means = c.means }
-
 opener : (s : NetSort) (n : ℕ) → net_has_form s ≡ true → Completes networks s ((n, opening) ∷ [])
 unfolding net_word_at net_words net_row_at net_rows col_rows
 opener (leaf_sort s) n h = carry s ((n, opening) ∷ []) (leaf_proper.opener s n h)
-opener network_sort n h = by_form network_sort n (codes "parB") refl
-opener members_sort n h = by_form members_sort n (codes "col") refl
+opener network_sort n h = by_form networks network_sort n (codes "parB") refl
+opener members_sort n h = by_form networks members_sort n (codes "col") refl
 opener (time_sort g) n h = absurd (cc)
 
 filler : (s : NetSort) → Completes networks s []
 unfolding net_word_at net_words
 filler (leaf_sort s) = carry s [] (leaf_proper.filler s)
-filler network_sort = by_word network_sort (codes "time") refl
-filler members_sort = with_opening members_sort (opener members_sort 0 refl)
-filler (time_sort g) = by_word (time_sort g) (codes "1") (ap read_word (one_fits g))
+filler network_sort = by_word networks network_sort (codes "time") refl
+filler members_sort = with_opening networks members_sort (opener members_sort 0 refl)
+filler (time_sort g) = by_word networks (time_sort g) (codes "1") (ap read_word (one_fits g))
 
 pub networks_proper : Proper networks
 networks_proper = record { formless = formless; spoilt = spoilt; foreign = foreign; filler = filler; opener = opener }

@@ -50,13 +50,19 @@ abbrev pub body_fault : {T : Type 0} → Result T ExprTextFault → Result T Net
 body_fault (Ok x) = Ok x
 body_fault (Err e) = Err (in_file e)
 
--- the type and the network behind the header, where there is one
-abbrev pub read_behind : ℕ → Option (List PlacedToken)
-    → Result (TypeTree × Network Expression) NetTextFault
-read_behind size None = Err V.Header
-read_behind size (Some ts) = body_fault (read_body size ts)
+-- what is read behind the header, where there is one
+abbrev pub read_behind : {T : Type 0} → (List PlacedToken → Result T ExprTextFault)
+    → Option (List PlacedToken) → Result T NetTextFault
+read_behind body None = Err V.Header
+read_behind body (Some ts) = body_fault (body ts)
+
+-- what is read of bytes by what is behind the header and by what is read there, in a text of so
+-- many bytes
+abbrev pub read_headed : {T : Type 0} → (List PlacedToken → Option (List PlacedToken))
+    → (ℕ → List PlacedToken → Result T ExprTextFault) → List ℕ → Result T NetTextFault
+read_headed header body bs = if nat_lt 1048576 (length bs) then Err V.TooLong
+    else read_behind (body (length bs)) (header (tokens bs))
 
 -- the input's type and the network of the file that the bytes are, or the first fault
 abbrev pub read_file : List ℕ → Result (TypeTree × Network Expression) NetTextFault
-read_file bs = if nat_lt 1048576 (length bs) then Err V.TooLong
-    else read_behind (length bs) (behind_header (tokens bs))
+read_file bs = read_headed behind_header read_body bs

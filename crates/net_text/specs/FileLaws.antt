@@ -56,14 +56,20 @@ pub data NoFile (bs : List ℕ) (e : ExprTextFault) : Type 0 where
       → (f : Network Expression) (m : ℕ) (x : PlacedToken) (after : List PlacedToken)
       → Begins networks 600 network_sort f us m (x ∷ after) → e ≡ E.Syntax x.0 → NoFile bs e
 
+-- why bytes are no file: they are too many, or have no header, or what stands behind it is wrong
+abbrev pub FaultOf : (bs : List ℕ) → (List PlacedToken → Type 0) → (ExprTextFault → Type 0)
+    → NetTextFault → Type 0
+FaultOf bs Headed Wrong V.Header =
+    (length bs ≤ 1048576) × ((ts : List PlacedToken) → Headed ts → ⊥)
+FaultOf bs Headed Wrong (V.Syntax n) = (length bs ≤ 1048576) × Wrong (E.Syntax n)
+FaultOf bs Headed Wrong (V.Number n) = (length bs ≤ 1048576) × Wrong (E.Number n)
+FaultOf bs Headed Wrong (V.TooDeep n) = (length bs ≤ 1048576) × Wrong (E.TooDeep n)
+FaultOf bs Headed Wrong V.TooLong = 1048576 < length bs
+FaultOf bs Headed Wrong V.Memory = Unit {0}
+
 -- why the bytes are no network file
 abbrev pub IsFileFault : List ℕ → NetTextFault → Type 0
-IsFileFault bs V.Header = (length bs ≤ 1048576) × ((ts : List PlacedToken) → HasHeader bs ts → ⊥)
-IsFileFault bs (V.Syntax n) = (length bs ≤ 1048576) × NoFile bs (E.Syntax n)
-IsFileFault bs (V.Number n) = (length bs ≤ 1048576) × NoFile bs (E.Number n)
-IsFileFault bs (V.TooDeep n) = (length bs ≤ 1048576) × NoFile bs (E.TooDeep n)
-IsFileFault bs V.TooLong = 1048576 < length bs
-IsFileFault bs V.Memory = Unit {0}
+IsFileFault bs = FaultOf bs (HasHeader bs) (NoFile bs)
 
 -- the reader of files answers exactly the files
 abbrev pub ReadFileLaw : Type 0

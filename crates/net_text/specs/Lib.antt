@@ -7,3 +7,8 @@ pub mod ReadNet
 pub mod Printing
 pub mod FileLaws
 pub mod FileRows
+pub mod StepGrammar
+pub mod Certificate
+pub mod CertificateLaws
+pub mod ReadCertificate
+pub mod CertificateRows

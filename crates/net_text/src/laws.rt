@@ -3,6 +3,8 @@
 ghost use Rattle.leaf_expr.specs.ReadLaws.{FoundLaw, OnlyLaw, OneReadingLaw, FaultLaw, OneFaultLaw};
 ghost use Rattle.net_text.specs.Grammar.{networks};
 ghost use Rattle.net_text.specs.FileLaws.{ReadFileLaw, OneFileLaw, FileFaultLaw, LeafMeaningLaw, PrintedFileLaw};
+ghost use Rattle.net_text.specs.CertificateLaws.{ReadCertificateLaw, OneCertificateLaw, CertificateFaultLaw};
+ghost use Rattle.net_text.specs.CertificateRows.{CertificateRows, LawRows, CertificateFaultRows};
 ghost use Rattle.net_text.specs.FileRows.{CellRows, NetworkRows, SugarRows, IdentityIs, ConstantIs, SecondIs, BesideIs, FanOutIs, NeverIs, NowIs, EdgeIs, AccumHoldByIs, FileFaultRows, NumberFaultRows, MembersFaultRows};
 
 /// Reading a network, or what stands inside one, at the front of tokens: what is read is in the
@@ -52,4 +54,20 @@ pub fn sugar_laws()
     ensures now { NowIs }
     ensures edge { EdgeIs }
     ensures accum_hold_by { AccumHoldByIs }
+{}
+
+/// Reading a whole certificate: what is read is a certificate file, a certificate file is read, it
+/// has one reading, and a fault is answered exactly where it tells why the bytes are no such file.
+pub fn certificate_laws()
+    ensures certificates { ReadCertificateLaw }
+    ensures one_certificate { OneCertificateLaw }
+    ensures fault { CertificateFaultLaw }
+{}
+
+/// Certificates that are read, the first and the last law of each kind, and refusals by place and
+/// kind.
+pub fn certificate_rows()
+    ensures certificates { CertificateRows }
+    ensures laws { LawRows }
+    ensures faults { CertificateFaultRows }
 {}

@@ -119,7 +119,7 @@ pub(crate) fn type_at(alloc: Global, text: &[u8], at: usize, room: usize) -> Rea
 }
 
 /// The last expression of a form, and the form's end.
-fn last_expr_at(alloc: Global, text: &[u8], at: usize, room: usize) -> Read<Expr>
+pub(crate) fn last_expr_at(alloc: Global, text: &[u8], at: usize, room: usize) -> Read<Expr>
     requires { room ≤ 600 }
     ensures { Gives (expression_left text.now) result
         (parts_read (e no_place) (λ c. c) text.now room at) }

@@ -57,7 +57,7 @@ fn file(alloc: Global, text: &[u8]) -> Result<(Ty, Net<Expr>), NetTextFault>
 
 /// A header, and a type and a network behind it, in a text of whatever length.
 fn headed(alloc: Global, text: &[u8]) -> Result<(Ty, Net<Expr>), NetTextFault>
-    ensures { GivesFile result (read_behind (length text.now) (behind_header (tokens text.now))) }
+    ensures { GivesFile result (read_behind (read_body (length text.now)) (behind_header (tokens text.now))) }
 {
     match header_end(text) {
         Some(at) => Ok(body_at(alloc, text, at)?),
@@ -99,7 +99,7 @@ fn header_end(text: &[u8]) -> Option<usize>
 }
 
 /// The byte behind the word, where it is the first token at or after `at`.
-fn word_end(text: &[u8], at: usize, word: &str) -> Option<usize>
+pub(crate) fn word_end(text: &[u8], at: usize, word: &str) -> Option<usize>
     ensures { option_map (λ end. tokens_from end text.now) result
         ≡ behind_word word.now (tokens_from at text.now) }
 {

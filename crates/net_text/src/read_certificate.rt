@@ -1,0 +1,74 @@
+// Reading certificate files.
+
+ghost use Rattle.std.specs.Prelude.{◌≡◌, ◌<◌, Err, List, Ok, length, map, option_map, IfOk, IfErr};
+ghost use Rattle.leaf_expr.specs.Token.{tokens, tokens_from};
+ghost use Rattle.net_syntax.specs.LawStep.{Step, step_of};
+ghost use Rattle.net_text.specs.File.{read_behind};
+ghost use Rattle.net_text.specs.Certificate.{behind_laws, read_all_steps, read_certificate};
+ghost use Rattle.net_text.specs.{CertificateLaws.IsCertificate, CertificateLaws.IsCertificateFault, ReadCertificate.GivesSteps};
+ghost use Rattle.net_text.specs.declared.fault.NetTextFault.TheVariants as Fault;
+
+use crate::certificate_reader::steps_at;
+use crate::fault::NetTextFault;
+use crate::read::word_end;
+use leaf_expr::MAX_LENGTH;
+use net_syntax::LawStep;
+use std::alloc::Global;
+
+/// Reads a certificate file: `laws 1` and then any number of steps, `(step LAW DIRECTION POSITION)`
+/// or `(step LAW DIRECTION POSITION TREE)`. LAW is `E1` to `E18` or `L1` to `L42`, DIRECTION is
+/// `forward` or `backward`, POSITION is `(at N1 .. Nk)` with child numbers, and TREE is an
+/// expression for an E law and a network for an L law, with sugar expanded.
+///
+/// `TooLong`: the text has more than 1,048,576 bytes, whatever they are. Else a refusal is the
+/// first token that doesn't fit, by its first byte, counted from 0. `Header`: it is one of the
+/// first two, or they aren't both there. `TooDeep`: a parenthesis that would be the 601st open at
+/// once, also where none fits. `Number`: where a number may stand, a number word that is badly
+/// spelt or out of range: a child number is from 0 to 65,535, those in a tree are as for
+/// `read_net`. `Syntax`: any other, or the text's length where it ends too early. `Memory`: a
+/// growth was refused.
+pub fn read_cert(alloc: Global, text: &[u8]) -> Result<Vec<LawStep>, NetTextFault>
+    // What is read is what the file says.
+    ensures found { IfOk result (λ steps. IsCertificate text.now (map step_of steps.items)) }
+    // A certificate file is read, unless memory runs out.
+    ensures only { (ss : List Step) → IsCertificate text.now ss → GivesSteps (λ steps. map step_of steps.items) result (Ok ss) }
+    // A text that is too long is refused as such, whatever its bytes are.
+    ensures long { 1048576 < length text.now → result ≡ Err Fault.TooLong }
+    // What is refused is so at the first token that doesn't fit, or for its length.
+    ensures refused { IfErr result (IsCertificateFault text.now) }
+{
+    certificate(alloc, text)
+}
+
+/// What `read_cert` answers. It stands apart, since the clauses of that contract follow from its
+/// own.
+fn certificate(alloc: Global, text: &[u8]) -> Result<Vec<LawStep>, NetTextFault>
+    ensures long { 1048576 < length text.now → result ≡ Err Fault.TooLong }
+    ensures exact { GivesSteps (λ steps. map step_of steps.items) result
+        (read_certificate text.now) }
+{
+    if text.len() > MAX_LENGTH {
+        return Err(NetTextFault::TooLong);
+    }
+    headed(alloc, text)
+}
+
+/// A header, and the steps behind it, in a text of whatever length.
+fn headed(alloc: Global, text: &[u8]) -> Result<Vec<LawStep>, NetTextFault>
+    ensures { GivesSteps (λ steps. map step_of steps.items) result
+        (read_behind (read_all_steps (length text.now)) (behind_laws (tokens text.now))) }
+{
+    match laws_end(text) {
+        Some(at) => Ok(steps_at(alloc, text, at)?),
+        None => Err(NetTextFault::Header),
+    }
+}
+
+/// The byte behind the words `laws 1`, where these are the first tokens.
+fn laws_end(text: &[u8]) -> Option<usize>
+    ensures { option_map (λ end. tokens_from end text.now) result
+        ≡ behind_laws (tokens text.now) }
+{
+    let at = word_end(text, 0, "laws")?;
+    word_end(text, at, "1")
+}
