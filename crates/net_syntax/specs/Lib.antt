@@ -30,5 +30,6 @@ pub mod LawStep
 pub mod Placed
 pub mod Standing
 pub mod Rewriting
+pub mod ChildParts
 pub mod SamePlace
 pub mod FormParts

@@ -63,7 +63,7 @@ fn form_number(net: &Net<Expr>) -> u8
 }
 
 /// What stands inside the network.
-fn parts_inside(net: &Net<Expr>) -> Parts<'_>
+pub(crate) fn parts_inside(net: &Net<Expr>) -> Parts<'_>
     ensures { parts_in result ≡ parts_of (tree_of net.now) }
 {
     match net {

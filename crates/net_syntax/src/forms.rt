@@ -189,7 +189,7 @@ fn copied_freeze_all(
 }
 
 /// Copies of two networks.
-fn copied_children(
+pub(crate) fn copied_children(
     e: &NetChild<Expr>,
     t: &NetChild<Expr>,
 ) -> Result<(NetChild<Expr>, NetChild<Expr>), Memory>

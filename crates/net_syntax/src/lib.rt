@@ -11,7 +11,9 @@ mod need;
 mod needs;
 mod net;
 mod part_types;
+mod place;
 mod position;
+mod replacing;
 mod typed_net;
 
 pub use arrow::Arrow;
@@ -25,5 +27,7 @@ pub use measure::{MOST_HEIGHT, MOST_WEIGHT, height, is_oversized, weight};
 pub use need::LeafNeed;
 pub use needs::leaves;
 pub use net::{Members, Net, NetChild};
+pub use place::{Place, TreeRef, at};
 pub use position::{Position, print_position, push_position};
+pub use replacing::replace;
 pub use typed_net::TypedNet;

@@ -1,0 +1,195 @@
+// What stands at a position.
+
+ghost use Rattle.std.specs.Prelude.{◌≡◌, option_map};
+ghost use Rattle.leaf_core.specs.{Expression.Expression, ExpressionView.expression_of};
+ghost use Rattle.net_syntax.specs.Network.{Network, p_switch};
+ghost use Rattle.net_syntax.specs.NetworkView.{tree, tree_of, trees};
+ghost use Rattle.net_syntax.specs.Place.{a_network, child, child_network, member, p_switch_child};
+ghost use Rattle.net_syntax.specs.{ChildParts.seen, ChildParts.seen_place, Placed.bound, Placed.bound_in, Placed.placed_at, Placed.FewBound};
+
+use crate::equal::{Parts, parts_inside};
+use crate::net::{Members, Net, NetChild};
+use crate::position::Position;
+use leaf_core::{Expr, part_at};
+
+/// A network or an expression that stands in a network.
+#[derive(Clone, Copy)]
+pub enum TreeRef<'n> {
+    /// A network.
+    Net(&'n Net<Expr>),
+    /// An expression.
+    Expr(&'n Expr),
+}
+
+/// What stands at a position.
+#[derive(Clone, Copy)]
+pub struct Place<'n> {
+    /// The network or the expression.
+    pub tree: TreeRef<'n>,
+    /// How many parameters are in scope there.
+    pub params: u32,
+    /// How many frozen networks are in scope there.
+    pub olds: u32,
+}
+
+/// What stands at the position in the network, with nothing in scope; `None` where the position
+/// isn't there. Along the position, as far as it leads, fewer than 2^32 parameters and fewer than
+/// 2^32 frozen networks must be in scope. It takes no memory.
+pub fn at<'n>(net: &'n Net<Expr>, position: &Position) -> Option<Place<'n>>
+    requires { FewBound 0 0 (a_network (tree_of net.now)) position.now }
+    ensures { option_map seen_place result
+        ≡ placed_at 0 0 (a_network (tree_of net.now)) position.now }
+{
+    let whole = Place {
+        tree: TreeRef::Net(net),
+        params: 0,
+        olds: 0,
+    };
+    place_below(whole, position.path())
+}
+
+/// What stands at the path below a place.
+fn place_below<'n>(place: Place<'n>, path: &[u32]) -> Option<Place<'n>>
+    requires { FewBound place.params place.olds (seen place.tree) path.now }
+    ensures { option_map seen_place result
+        ≡ placed_at place.entry.params place.entry.olds (seen place.entry.tree) path.now }
+{
+    match place.tree {
+        TreeRef::Net(net) => {
+            let Some((k, rest)) = path.split_first() else {
+                return Some(place);
+            };
+            let tree = child(net, *k)?;
+            let bound = bound_in(net, *k);
+            let inner = Place {
+                tree,
+                params: place.params + bound.params,
+                olds: place.olds + bound.olds,
+            };
+            place_below(inner, rest)
+        }
+        TreeRef::Expr(expr) => {
+            let part = part_at(expr, path)?;
+            Some(Place {
+                tree: TreeRef::Expr(part),
+                params: place.params,
+                olds: place.olds,
+            })
+        }
+    }
+}
+
+/// Child k of the network, from 0.
+#[tactic(auto, using(std::proofs::lemmas::Grind::common_steps, crate::proofs::ChildNumbers::child_is))]
+pub(crate) fn child(net: &Net<Expr>, k: u32) -> Option<TreeRef<'_>>
+    ensures { option_map seen result ≡ child (tree_of net.now) k }
+{
+    match parts_inside(net) {
+        Parts::Leaf(e) | Parts::Timed(_, e) => match k {
+            0 => Some(TreeRef::Expr(e)),
+            _ => None,
+        },
+        Parts::Leaves(g, z) => match k {
+            0 => Some(TreeRef::Expr(g)),
+            1 => Some(TreeRef::Expr(z)),
+            _ => None,
+        },
+        Parts::One(f) => match k {
+            0 => Some(TreeRef::Net(f.get())),
+            _ => None,
+        },
+        Parts::Fed(c, f) => match k {
+            0 => Some(TreeRef::Expr(c)),
+            1 => Some(TreeRef::Net(f.get())),
+            _ => None,
+        },
+        Parts::Two(f, g) => match k {
+            0 => Some(TreeRef::Net(f.get())),
+            1 => Some(TreeRef::Net(g.get())),
+            _ => None,
+        },
+        Parts::Three(f, g, h) => match k {
+            0 => Some(TreeRef::Net(f.get())),
+            1 => Some(TreeRef::Net(g.get())),
+            2 => Some(TreeRef::Net(h.get())),
+            _ => None,
+        },
+        Parts::Row(fs) => Some(TreeRef::Net(member(fs, k)?)),
+        Parts::Routed(r, fs, e, t) => match k {
+            0 => Some(TreeRef::Expr(r)),
+            _ => Some(TreeRef::Net(behind_route(fs, e, t, k - 1)?)),
+        },
+        Parts::Nothing | Parts::Index(_) => None,
+    }
+}
+
+/// Member k, from 0.
+fn member(fs: &Members<Expr>, k: u32) -> Option<&Net<Expr>>
+    ensures { option_map (λ f. tree_of f.now) result ≡ member (trees fs.now) k }
+{
+    fs.as_slice().get(k as usize)
+}
+
+/// What stands at number k behind the route of a `pSwitch`: the members, then its event, then its
+/// continuation.
+fn behind_route<'n>(
+    fs: &'n Members<Expr>,
+    e: &'n NetChild<Expr>,
+    t: &'n NetChild<Expr>,
+    k: u32,
+) -> Option<&'n Net<Expr>>
+    ensures { option_map (λ f. tree_of f.now) result
+        ≡ child_network (p_switch_child (trees fs.now) k) (trees fs.now) (tree e.now) (tree t.now)
+        k }
+{
+    let members = fs.as_slice();
+    let k = k as usize;
+    if k < members.len() {
+        return Some(&members[k]);
+    }
+    match k - members.len() {
+        0 => Some(e.get()),
+        1 => Some(t.get()),
+        _ => None,
+    }
+}
+
+/// How many parameters and frozen networks a network binds in a child.
+#[derive(Clone, Copy)]
+pub(crate) struct Bound {
+    pub(crate) params: u32,
+    pub(crate) olds: u32,
+}
+
+/// How many the network binds in its child k.
+fn bound_in(net: &Net<Expr>, k: u32) -> Bound
+    ensures { bound_in (tree_of net.now) k ≡ bound result.params result.olds }
+{
+    match net {
+        Net::Switch(..) | Net::DSwitch(..) | Net::RSwitch(..) => match k {
+            1 => Bound { params: 1, olds: 0 },
+            _ => Bound { params: 0, olds: 0 },
+        },
+        Net::KSwitch(..) => match k {
+            2 => Bound { params: 1, olds: 1 },
+            _ => Bound { params: 0, olds: 0 },
+        },
+        Net::PSwitch(_, fs, _, _) => bound_in_p_switch(fs, k),
+        _ => Bound { params: 0, olds: 0 },
+    }
+}
+
+/// How many a `pSwitch` of these members binds in its child k.
+fn bound_in_p_switch(fs: &Members<Expr>, k: u32) -> Bound
+    ensures { (r : Expression) (e t : Network Expression)
+        → bound_in (p_switch r (trees fs.now) e t) k ≡ bound result.params result.olds }
+{
+    let count = fs.as_slice().len();
+    if k as usize == count + 2 {
+        return Bound {
+            params: 1,
+            olds: k - 2,
+        };
+    }
+    Bound { params: 0, olds: 0 }
+}
