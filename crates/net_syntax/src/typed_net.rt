@@ -1,13 +1,14 @@
 // Networks with their types, weight and height.
 
-ghost use Rattle.std.specs.Prelude.{◌≡◌};
+ghost use Rattle.std.specs.Prelude.{◌≡◌, IfOk};
 ghost use Rattle.sample_core.specs.TypeView.{type_of};
 ghost use Rattle.net_syntax.specs.{NetworkView.tree_of, TypedNetwork.HasItsTypes, NetworkLimits.WithinLimits};
 ghost use Rattle.net_syntax.specs.TypedNetworkView.{typed_network_of};
 
 use crate::net::Net;
 use leaf_core::Expr;
-use sample_core::Ty;
+use sample_core::{Memory, Ty};
+use std::alloc::Global;
 use std::marker::Model;
 
 /// A network within the limits that has an input type and an output type, with no parameters and
@@ -52,6 +53,17 @@ impl TypedNet {
             weight,
             height,
         }
+    }
+
+    /// A copy, whose parts are shared with it. `Memory` where a growth was refused; nothing is kept
+    /// then.
+    pub fn try_copy(&self, alloc: Global) -> Result<TypedNet, Memory>
+        ensures { IfOk result (λ t. t ≡ self.now) }
+    {
+        let input = self.input.try_copy(alloc)?;
+        let output = self.output.try_copy(alloc)?;
+        let net = self.net.try_copy(alloc)?;
+        Ok(TypedNet::new(input, output, net, self.weight, self.height))
     }
 
     /// The type of each sample that the network gets.
