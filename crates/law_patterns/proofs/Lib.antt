@@ -7,3 +7,4 @@ pub mod NetSteps
 pub mod NetFits
 pub mod NetRows
 pub mod NetRules
+pub mod OneRightSide

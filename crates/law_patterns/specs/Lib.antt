@@ -7,3 +7,4 @@ pub mod NetPattern
 pub mod NetMatching
 pub mod NetBuilding
 pub mod NetRule
+pub mod PatternLaws

@@ -2,6 +2,7 @@
 #![tactic(auto)]
 
 mod building;
+mod laws;
 mod letters;
 mod matching;
 mod net_building;
@@ -16,6 +17,7 @@ mod sym;
 mod todo;
 
 pub use building::build;
+pub use laws::pattern_laws;
 pub use letters::Letters;
 pub use matching::fit;
 pub use net_building::build_net;

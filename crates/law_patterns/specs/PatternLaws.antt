@@ -1,0 +1,61 @@
+-- Where a left side determines its right side.
+use Rattle.std.specs.Prelude.{◌≡◌, List, [], ◌∷◌, ◌++◌}
+use Rattle.std.specs.List.{All, Contains}
+use Rattle.leaf_core.specs.Expression.{Expression}
+use Rattle.net_syntax.specs.Network.{Network}
+use Rattle.law_patterns.specs.declared.sym.Letter.{Letter}
+use Rattle.law_patterns.specs.declared.sym.Sym.{Sym}
+use Rattle.law_patterns.specs.declared.sym.Sym.TheVariants as S
+use Rattle.law_patterns.specs.declared.net_sym.NetLetter.{NetLetter}
+use Rattle.law_patterns.specs.declared.net_sym.NetSym.{NetSym}
+use Rattle.law_patterns.specs.declared.net_sym.NetSym.TheVariants as N
+use Rattle.law_patterns.specs.Pattern.{Row}
+use Rattle.law_patterns.specs.NetPattern.{NetRow}
+
+-- a letter of any kind
+pub data AnyLetter : Type 0 where
+  of_expression : Letter → AnyLetter
+  of_type : AnyLetter
+  of_network : NetLetter → AnyLetter
+  of_number : AnyLetter
+
+-- the letters of a symbol
+abbrev pub letters_in : Sym → List AnyLetter
+letters_in (S.Letter k) = of_expression k ∷ []
+letters_in S.NoEvent = of_type ∷ []
+letters_in _ = []
+
+-- the letters that stand in a pattern
+abbrev pub letters_of : List Sym → List AnyLetter
+letters_of [] = []
+letters_of (s ∷ ss) = letters_in s ++ letters_of ss
+
+-- the letters of a symbol of networks
+abbrev pub net_letters_in : NetSym → List AnyLetter
+net_letters_in (N.Letter k) = of_network k ∷ []
+net_letters_in (N.Arr p) = letters_of p.now
+net_letters_in (N.IPre p) = letters_of p.now
+net_letters_in (N.Hold p) = letters_of p.now
+net_letters_in (N.Delay p) = of_number ∷ letters_of p.now
+net_letters_in (N.After p) = of_number ∷ letters_of p.now
+net_letters_in (N.Repeatedly p) = of_number ∷ letters_of p.now
+net_letters_in (N.AccumBy p r) = letters_of p.now ++ letters_of r.now
+net_letters_in (N.LoopPre p) = letters_of p.now
+net_letters_in _ = []
+
+-- the letters that stand in a pattern of networks
+abbrev pub net_letters_of : List NetSym → List AnyLetter
+net_letters_of [] = []
+net_letters_of (s ∷ ss) = net_letters_in s ++ net_letters_of ss
+
+-- where each letter of the right side stands in the left one, a law has one right side
+abbrev pub OneRightSideLaw : Type 0
+OneRightSideLaw = (left right : List Sym) (l r s : Expression)
+    → All (Contains (letters_of left)) (letters_of right)
+    → Row left right l r → Row left right l s → r ≡ s
+
+-- the same of networks
+abbrev pub NetOneRightSideLaw : Type 0
+NetOneRightSideLaw = (left right : List NetSym) (l r s : Network Expression)
+    → All (Contains (net_letters_of left)) (net_letters_of right)
+    → NetRow left right l r → NetRow left right l s → r ≡ s
