@@ -5,9 +5,9 @@ use Rattle.std.specs.List.{HoldsAt}
 use denote.Bor.{Bor}
 use Rattle.leaf_core.specs.Expression.{Expression}
 use Rattle.leaf_core.specs.declared.expr.Expr.{Expr}
-use Rattle.net_syntax.specs.Network.{Network, Networks, arr, seq, first, par, loop_pre, i_pre, delay, hold, accum_by, after, repeatedly, time, integral, switch, d_switch, r_switch, k_switch, p_switch, old, no_members}
+use Rattle.net_syntax.specs.Network.{Network, Networks, arr, seq, first, par, loop_pre, i_pre, delay, hold, accum_by, after, repeatedly, time, integral, switch, d_switch, r_switch, k_switch, p_switch, old, no_members, and_member}
 use Rattle.net_syntax.specs.NetworkView.{members_of, tree_of, trees}
-use Rattle.net_syntax.specs.Place.{child, member, member_child, p_switch_child, child_network}
+use Rattle.net_syntax.specs.Place.{child, member, member_child, event_child, continuation_child, no_child, p_switch_child, child_network}
 use Rattle.net_syntax.specs.Placed.{bound, bound_behind, bound_in}
 use Rattle.net_syntax.specs.Typing.{members}
 use Rattle.net_syntax.specs.FormParts.{parts_of}
@@ -129,3 +129,11 @@ binds_all all fs r e t zero n p h q = absurd (omega arith)
 binds_all all fs r e t (suc k) n p h q =
     ap (λ c. bound_behind c (trees fs)) (ap (λ z. p_switch_child (trees z) k) (sym p) ∙ past all k 1 (omega arith))
     ∙ ap (bound 1) (ap (λ z. members (trees z)) (sym p) ∙ (counted all ∙ sym q))
+
+-- the continuation of a pSwitch stands behind all members and the event
+pub continuation_at : (fs : Networks Expression) (k : ℕ) → p_switch_child fs k ≡ continuation_child → k ≡ suc (members fs)
+continuation_at no_members zero e = absurd (cc)
+continuation_at no_members (suc zero) e = refl
+continuation_at no_members (suc (suc k)) e = absurd (cc)
+continuation_at (and_member f fs) zero e = absurd (cc)
+continuation_at (and_member f fs) (suc k) e = ap suc (continuation_at fs k e)

@@ -31,5 +31,8 @@ pub mod Placed
 pub mod Standing
 pub mod Rewriting
 pub mod ChildParts
+pub mod StandingWalk
+pub mod FoundType
+pub mod BehindRoute
 pub mod SamePlace
 pub mod FormParts

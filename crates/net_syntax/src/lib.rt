@@ -10,10 +10,12 @@ mod measure;
 mod need;
 mod needs;
 mod net;
+mod output;
 mod part_types;
 mod place;
 mod position;
 mod replacing;
+mod standing;
 mod typed_net;
 
 pub use arrow::Arrow;
@@ -30,4 +32,5 @@ pub use net::{Members, Net, NetChild};
 pub use place::{Place, TreeRef, at};
 pub use position::{Position, print_position, push_position};
 pub use replacing::replace;
+pub use standing::type_at;
 pub use typed_net::TypedNet;
