@@ -1,12 +1,12 @@
 -- Answers that are a `parB`.
-use Rattle.std.proofs.Common.{◌≡◌, ℕ, zero, suc, ◌<◌, ◌≤◌, ◌+◌, pos, Bool, true, false, cond, List, [], ◌∷◌, ◌++◌, map, length, get_or, drop, append_assoc, Option, Some, None, refl, sym, ap, ap₂, ◌∙◌, arith, drop-cons}
+use Rattle.std.proofs.Common.{◌≡◌, ℕ, suc, true, false, cond, List, [], ◌∷◌, map, length, Some, None, refl, sym, ap, ◌∙◌}
 use Rattle.std.proofs.lemmas.List.{length-map}
 use Rattle.sample_core.specs.TypeTree.{TypeTree}
-use Rattle.leaf_core.specs.Expression.{Expression, Expressions, list_expr, expressions_of}
+use Rattle.leaf_core.specs.Expression.{Expression, list_expr, expressions_of}
 use Rattle.leaf_core.specs.ExpressionView.{expression_of}
 use Rattle.leaf_core.specs.declared.expr.Expr.{Expr}
-use Rattle.net_syntax.specs.Network.{Network, Networks, arr, seq, par, networks_of, no_members, and_member}
-use Rattle.net_syntax.specs.NetworkView.{network_of, members_of, tree_of, tree, trees}
+use Rattle.net_syntax.specs.Network.{Network, Networks, arr, seq, par, networks_of, and_member}
+use Rattle.net_syntax.specs.NetworkView.{members_of, tree_of, trees}
 use Rattle.net_syntax.specs.declared.net.Net.{Net}
 use Rattle.net_syntax.specs.Typing.{members}
 use Rattle.law_rules.specs.NetworkRow.{each_after, each_arr, count, route_to, behind_routes}

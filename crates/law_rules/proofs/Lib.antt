@@ -11,3 +11,5 @@ pub mod RowsExact
 pub mod Numbers
 pub mod AnsweredParts
 pub mod Gathered
+pub mod TableRows
+pub mod Answered

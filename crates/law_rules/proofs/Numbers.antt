@@ -1,6 +1,5 @@
 -- There is a row of a law exactly of each number from 1 to 42.
-use Rattle.std.proofs.Common.{◌≡◌, ℕ, zero, suc, ◌+◌, ◌≤◌, pos, refl, ◌∙◌, subst, arith, ◌↔◌}
-use Rattle.std.proofs.lemmas.Bool.{leb-true}
+use Rattle.std.proofs.Common.{◌≡◌, ℕ, zero, suc, ◌+◌, ◌≤◌, refl, ◌∙◌, subst, arith, ◌↔◌}
 use Rattle.sample_core.specs.TypeTree.{unit_ty}
 use Rattle.leaf_core.specs.Expression.{input, no_more, and_then}
 use Rattle.leaf_core.specs.Expression.{Expression}
@@ -78,3 +77,11 @@ module _ (olds : ℕ) where
   pub row-numbers : (n : ℕ) → SomeRow olds n ↔ ((1 ≤ n) × (n ≤ 42))
   row-numbers zero = (λ s. numbered s.2, λ h. absurd (omega (arith, h.0)))
   row-numbers (suc n) = (λ s. numbered s.2, λ h. subst (SomeRow olds) (shifted-is 1 n ∙ omega arith) (row-from olds 1 42 n all-rows (omega (arith, h.1))))
+
+-- numbers from 43 on have no row
+pub no-row : (n olds : ℕ) (l r : Network Expression) → 43 ≤ n → NetworkRow n olds l r → ⊥
+no-row n olds l r h row = let k : (1 ≤ n) × (n ≤ 42) = numbered row in absurd (omega (arith, h, k.1))
+
+-- nor has 0
+pub no-row_0 : (n olds : ℕ) (l r : Network Expression) → n ≡ 0 → NetworkRow n olds l r → ⊥
+no-row_0 n olds l r q row = let k : (1 ≤ n) × (n ≤ 42) = numbered row in absurd (omega (arith, q, k.0))

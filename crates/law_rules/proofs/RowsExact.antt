@@ -1,14 +1,13 @@
 -- What a law makes of a network is the right side of its row, exactly where the network is a left side.
-use Rattle.std.proofs.Common.{◌≡◌, ℕ, zero, suc, ◌+◌, ◌≤◌, Bool, true, false, cond, nat_le, nat_eq, ◌&&◌, pos, List, [], ◌∷◌, Option, Some, None, get_or, refl, sym, ap, ap₂, ◌∙◌, subst, arith, ◌↔◌}
+use Rattle.std.proofs.Common.{◌≡◌, ℕ, zero, suc, ◌+◌, ◌≤◌, Bool, true, false, cond, nat_le, nat_eq, ◌&&◌, pos, List, [], ◌∷◌, Option, Some, None, get_or, refl, sym, ap, ap₂, ◌∙◌, subst, arith}
 use Rattle.std.proofs.lemmas.Bool.{leb-true, le-leb}
-use Rattle.sample_core.specs.TypeTree.{TypeTree, unit_ty}
-use Rattle.leaf_core.specs.Expression.{Expression, Expressions, input, unit_expr, int_expr, pair_expr, fst, snd, then_expr, no_event_expr, event_expr, on, list_expr, nth, no_more, and_then}
+use Rattle.leaf_core.specs.Expression.{Expression, input, unit_expr, int_expr, pair_expr, fst, snd, then_expr, no_event_expr, event_expr, on, list_expr, nth}
 use Rattle.leaf_core.specs.ExpressionCode.{expression_code}
 use Rattle.leaf_core.specs.EqualityByCode.{same_by, same_by_decides}
-use Rattle.net_syntax.specs.Network.{Network, Networks, arr, seq, first, par, loop_pre, i_pre, delay, hold, accum_by, after, repeatedly, time, switch, d_switch, r_switch, k_switch, p_switch, old, no_members, and_member}
+use Rattle.net_syntax.specs.Network.{Network, Networks, arr, seq, first, par, loop_pre, i_pre, delay, hold, accum_by, after, repeatedly, time, switch, d_switch, r_switch, k_switch, p_switch, old}
 use Rattle.net_syntax.specs.Typing.{members}
 use Rattle.net_syntax.specs.Place.{member}
-use Rattle.law_rules.specs.NetworkRow.{SeesSteps, after_sees, repeatedly_sees, time_sees, event_by, behind_routes, each_after, each_arr, count, NetworkRow, row_l1, row_l2, row_l3, row_l4, row_l5, row_l6, row_l7, row_l8, row_l9, row_l10, row_l11, row_l12, row_l13, row_l14, row_l15, row_l16, row_l17, row_l18, row_l19, row_l20, row_l21, row_l22, row_l23, row_l24, row_l25, row_l26, row_l27, row_l28, row_l29, row_l30, row_l31, row_l32, row_l33, row_l34, row_l35, row_l36, row_l37, row_l38, row_l39, row_l40, row_l41, row_l42}
+use Rattle.law_rules.specs.NetworkRow.{after_sees, repeatedly_sees, time_sees, event_by, behind_routes, each_after, each_arr, count, NetworkRow, row_l1, row_l2, row_l3, row_l4, row_l5, row_l6, row_l7, row_l8, row_l9, row_l10, row_l11, row_l12, row_l13, row_l14, row_l15, row_l16, row_l17, row_l18, row_l19, row_l20, row_l21, row_l22, row_l23, row_l24, row_l25, row_l26, row_l27, row_l28, row_l29, row_l30, row_l31, row_l32, row_l33, row_l34, row_l35, row_l36, row_l37, row_l38, row_l39, row_l40, row_l41, row_l42}
 use Rattle.law_rules.specs.Forward.{one_to_64, no_law, law1, law2, law3, law4, law5, law6, law7, law8, law9, law10, law11, law12, law13, law14, law15, law16, law17, law18, law19, law20, law21, law22, law23, law24, law25, law26, law27, law28, law29, law30, law31, law32, law33, law34, law35, law36, law37, law38, law39, law40, law41, law42, laws, forward}
 
 -- an answer, if there is one, is a right side

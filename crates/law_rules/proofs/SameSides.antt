@@ -3,7 +3,7 @@ use Rattle.std.proofs.Common.{◌≡◌, ℕ, suc, List, [], ◌∷◌, ◌++◌
 use mathlib.Core.Path.{fun_ext}
 use Rattle.sample_core.specs.Datum.{Datum, unit}
 use Rattle.sample_core.specs.TypeTree.{TypeTree, unit_ty}
-use Rattle.sample_core.specs.HasType.{HasType, unit_has, TypedParams}
+use Rattle.sample_core.specs.HasType.{unit_has, TypedParams}
 use Rattle.leaf_core.specs.Expression.{Expression, pair_expr}
 use Rattle.leaf_core.specs.ExpressionValue.{value_of}
 use Rattle.leaf_core.specs.ExpressionTyping.{ExpressionTyped, pair_typed}
@@ -145,3 +145,10 @@ same-sides law olds Ps Os A B l r row n dl dr = same-from_law value_of Expressio
 pub same-side_outputs : (law olds : ℕ) (Ps : List TypeTree) (Os : List Arrow) (A B : TypeTree) (l r : Network Expression) → NetworkRow law olds l r → length Os ≡ olds → NetTyped Ps Os l A B → NetTyped Ps Os r A B
     → SameOutputs Ps Os A l r
 same-side_outputs law olds Ps Os A B l r row n dl dr = same-outputs Ps Os l r A B (same-sides law olds Ps Os A B l r row n dl dr)
+
+-- the right side does the same as the left one
+pub same-sides_back : (law olds : ℕ) (Ps : List TypeTree) (Os : List Arrow) (A B : TypeTree) (l r : Network Expression) → NetworkRow law olds l r → length Os ≡ olds → NetTyped Ps Os l A B
+    → NetTyped Ps Os r A B → SameNet value_of Ps Os A B r l
+same-sides_back law olds Ps Os A B l r row n dl dr =
+    let there : SameIn Ps Os A l r = same-in law olds Ps Os A B l r row n dl in
+    same-from_law value_of ExpressionTyped typed_value Ps Os A B r l dr dl (λ ps os k a xs j. sym (there ps os k a xs j))

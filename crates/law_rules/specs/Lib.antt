@@ -2,3 +2,5 @@
 pub mod NetworkRow
 pub mod Forward
 pub mod Laws
+pub mod Table
+pub mod Answer

@@ -1,5 +1,6 @@
-// Laws of the rows: a function whose contract is a law, and which does nothing.
+// Laws of the rows and of answers: each function is a law, and does nothing.
 
+ghost use Rattle.law_rules.specs.Answer.{OneAnswerLaw, SameAnswerLaw};
 ghost use Rattle.law_rules.specs.Laws.{
   SameOutputsLaw,
   SameSidesLaw,
@@ -14,4 +15,11 @@ pub fn row_laws()
     ensures same_sides { SameSidesLaw }
     ensures one_right_side { OneRightSideLaw }
     ensures numbers { RowNumbersLaw }
+{}
+
+/// A law has at most one answer, which does the same as the network at hand where both are typed
+/// alike.
+pub fn answer_laws()
+    ensures one_answer { OneAnswerLaw }
+    ensures same { SameAnswerLaw }
 {}

@@ -1,8 +1,11 @@
 //! The laws of networks: their rows, that both sides of each do the same, and how one is applied.
 #![tactic(auto)]
 
+mod apply;
 mod collections;
 mod laws;
 mod parts;
+mod table;
 
-pub use laws::row_laws;
+pub use apply::apply_law;
+pub use laws::{answer_laws, row_laws};

@@ -1,0 +1,63 @@
+-- What a law answers at a network.
+use Rattle.std.specs.Prelude.{◌≡◌, ℕ, List, length, Option, Some, None, MatchOption}
+use Rattle.std.proofs.Common.{Bor}
+use Rattle.sample_core.specs.TypeTree.{TypeTree}
+use Rattle.leaf_core.specs.Expression.{Expression}
+use Rattle.leaf_core.specs.ExpressionValue.{value_of}
+use Rattle.leaf_core.specs.declared.expr.Expr.{Expr}
+use Rattle.net_syntax.specs.Network.{Network}
+use Rattle.net_syntax.specs.NetworkView.{tree_of}
+use Rattle.net_syntax.specs.Typing.{Arrow}
+use Rattle.net_syntax.specs.TypedNetwork.{NetTyped}
+use Rattle.net_syntax.specs.Sameness.{SameNet}
+use Rattle.net_syntax.specs.declared.net.Net.{Net}
+use Rattle.net_syntax.specs.declared.law_step.Law.{Law}
+use Rattle.net_syntax.specs.declared.law_step.Law.TheVariants as L
+use Rattle.net_syntax.specs.declared.law_step.Direction.{Direction}
+use Rattle.net_syntax.specs.declared.law_step.Direction.TheVariants.{Forward, Backward}
+use Rattle.law_rules.specs.NetworkRow.{NetworkRow}
+
+-- a law, its direction, the network at hand, the one that is given, how many frozen networks are in
+-- scope, and the answer: forward, with none given, the right side of the row whose left side is at
+-- hand; backward the one that is given, where the row leads from it to exactly the one at hand
+pub data NetworkAnswer : Law → Direction → Network Expression → Option (Network Expression) → ℕ
+    → Network Expression → Type 0 where
+  forward_answer : {n olds : ℕ} {net r : Network Expression} → NetworkRow n olds net r
+      → NetworkAnswer (L.L n) Forward net None olds r
+  backward_answer : {n olds : ℕ} {net g : Network Expression} → NetworkRow n olds g net
+      → NetworkAnswer (L.L n) Backward net (Some g) olds g
+
+-- the network that is given, if one is
+abbrev pub given_net : Option (Bor (Net Expr)) → Option (Network Expression)
+given_net None = None
+given_net (Some net) = Some (tree_of net.now)
+
+-- an answer, or none where there is none
+abbrev pub IsNetworkAnswer : Law → Direction → Network Expression → Option (Network Expression) → ℕ
+    → Option (Net Expr) → Type 0
+IsNetworkAnswer law direction net given olds answer =
+    MatchOption answer
+    ((r : Network Expression) → NetworkAnswer law direction net given olds r → ⊥)
+    (λ r. NetworkAnswer law direction net given olds (tree_of r))
+
+-- the right side of law n's row whose left side is the network, or none where it is no left side
+abbrev pub IsRightSide : ℕ → ℕ → Network Expression → Option (Net Expr) → Type 0
+IsRightSide n olds net answer =
+    MatchOption answer ((r : Network Expression) → NetworkRow n olds net r → ⊥)
+    (λ r. NetworkRow n olds net (tree_of r))
+
+-- there is at most one answer
+abbrev pub OneAnswerLaw : Type 0
+OneAnswerLaw = (law : Law) (direction : Direction) (net : Network Expression)
+    (given : Option (Network Expression)) (olds : ℕ) (r s : Network Expression)
+    → NetworkAnswer law direction net given olds r
+    → NetworkAnswer law direction net given olds s → r ≡ s
+
+-- where both are typed alike in one scope, with so many frozen networks, the network at hand and
+-- the answer do the same, whatever they are put into
+abbrev pub SameAnswerLaw : Type 0
+SameAnswerLaw = (law : Law) (direction : Direction) (net : Network Expression)
+    (given : Option (Network Expression)) (olds : ℕ) (r : Network Expression)
+    → NetworkAnswer law direction net given olds r → (Ps : List TypeTree) (Os : List Arrow)
+    (A B : TypeTree) → length Os ≡ olds → NetTyped Ps Os net A B → NetTyped Ps Os r A B
+    → SameNet value_of Ps Os A B net r
