@@ -10,6 +10,8 @@ pub mod CertificateRead
 pub mod CertificateSteps
 pub mod NetRows
 pub mod PrintedFile
+pub mod PrintedCertificate
+pub mod CertificateLines
 pub mod PrintSteps
 pub mod Forms
 pub mod CertificateRowsRead

@@ -51,7 +51,7 @@ listed_are (and_member f fs) = ap (and_member f) (listed_are fs)
 mutual
   unfolding net_word_at net_words net_row_at net_rows col_rows listed
 
-  printed : (f : Network Expression) → Writable f → (meaning networks network_sort (network_sexpr f) ≡ Some f) × (plain (network_sexpr f) ≡ true)
+  pub printed : (f : Network Expression) → Writable f → (meaning networks network_sort (network_sexpr f) ≡ Some f) × (plain (network_sexpr f) ≡ true)
   printed (arr e) r = (rw (leaf_means e r) refl, rw (expression_plain e r) refl)
   printed (i_pre e) r = (rw (leaf_means e r) refl, rw (expression_plain e r) refl)
   printed (hold e) r = (rw (leaf_means e r) refl, rw (expression_plain e r) refl)

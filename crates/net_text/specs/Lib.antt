@@ -11,4 +11,5 @@ pub mod StepGrammar
 pub mod Certificate
 pub mod CertificateLaws
 pub mod ReadCertificate
+pub mod CertificatePrinting
 pub mod CertificateRows

@@ -3,6 +3,7 @@
 ghost use Rattle.leaf_expr.specs.ReadLaws.{FoundLaw, OnlyLaw, OneReadingLaw, FaultLaw, OneFaultLaw};
 ghost use Rattle.net_text.specs.Grammar.{networks};
 ghost use Rattle.net_text.specs.FileLaws.{ReadFileLaw, OneFileLaw, FileFaultLaw, LeafMeaningLaw, PrintedFileLaw};
+ghost use Rattle.net_text.specs.CertificatePrinting.{PrintedCertificateLaw};
 ghost use Rattle.net_text.specs.CertificateLaws.{ReadCertificateLaw, OneCertificateLaw, CertificateFaultLaw};
 ghost use Rattle.net_text.specs.CertificateRows.{CertificateRows, LawRows, CertificateFaultRows};
 ghost use Rattle.net_text.specs.FileRows.{CellRows, NetworkRows, SugarRows, IdentityIs, ConstantIs, SecondIs, BesideIs, FanOutIs, NeverIs, NowIs, EdgeIs, AccumHoldByIs, FileFaultRows, NumberFaultRows, MembersFaultRows};
@@ -30,7 +31,8 @@ pub fn file_laws()
 
 /// What is printed is read back, within the limits of files.
 pub fn printing_laws()
-    ensures { PrintedFileLaw }
+    ensures networks { PrintedFileLaw }
+    ensures certificates { PrintedCertificateLaw }
 {}
 
 /// Each form of networks, read once, and refusals by place and kind.

@@ -7,6 +7,7 @@ mod form;
 mod laws;
 mod network_reader;
 mod print;
+mod print_certificate;
 mod read;
 mod read_certificate;
 mod sugar;
@@ -17,5 +18,6 @@ pub use laws::{
     sugar_laws,
 };
 pub use print::{print_net, push_net};
+pub use print_certificate::print_cert;
 pub use read::read_net;
 pub use read_certificate::read_cert;

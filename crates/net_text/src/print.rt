@@ -63,7 +63,7 @@ pub fn push_net(text: &mut String, net: &Net<Expr>) -> Result<(), Memory>
 }
 
 /// Adds a word to the end of the text.
-fn push_word(text: &mut String, word: &str) -> Result<(), Memory>
+pub(crate) fn push_word(text: &mut String, word: &str) -> Result<(), Memory>
     ensures { Adds result (string_bytes text.old) (string_bytes text.new) word.now }
 {
     text.push_str(word)?;
@@ -79,7 +79,7 @@ fn push_open(text: &mut String, name: &str) -> Result<(), Memory>
 }
 
 /// An expression as the next part of a form.
-fn push_next_expr(text: &mut String, expr: &Expr) -> Result<(), Memory>
+pub(crate) fn push_next_expr(text: &mut String, expr: &Expr) -> Result<(), Memory>
     ensures { Adds result (string_bytes text.old) (string_bytes text.new)
         (32 ∷ spelling (expression_sexpr (expression_of expr.now))) }
 {
@@ -148,7 +148,7 @@ fn push_old(text: &mut String, k: u32) -> Result<(), Memory>
 
 /// A network as the next part of a form.
 #[cycle(push_net)]
-fn push_next(text: &mut String, net: &Net<Expr>) -> Result<(), Memory>
+pub(crate) fn push_next(text: &mut String, net: &Net<Expr>) -> Result<(), Memory>
     ensures { Adds result (string_bytes text.old) (string_bytes text.new)
         (32 ∷ spelling (network_sexpr (tree_of net.now))) }
 {

@@ -1,0 +1,151 @@
+-- A printed certificate is read back.
+use Rattle.std.proofs.Common.{◌≡◌, ℕ, suc, ◌+◌, ◌^◌, ◌≤◌, ◌<◌, true, false, ◌&&◌, List, [], ◌∷◌, ◌++◌, length, refl, ap, ◌∙◌, arith, Option, Some, None}
+use Rattle.std.specs.Prelude.{codes, option_map}
+use Rattle.std.specs.Fmt.{decimal}
+use Rattle.leaf_core.specs.Expression.{Expression}
+use Rattle.leaf_expr.specs.Token.{closing, PlacedToken, tokens, tokens_in}
+use Rattle.leaf_expr.specs.Sexpr.{Sexpr, Sexprs, atom, form, last, more, Spells, SpellAll, form_spells, last_spells, more_spells, plain, all_plain, is_word, all_word_bytes, depth, depths, spelling}
+use Rattle.leaf_expr.specs.Language.{meaning, make_tree, read_word, places}
+use Rattle.leaf_expr.specs.WordReading.{natural_at}
+use Rattle.leaf_expr.specs.ReadText.{fit}
+use Rattle.leaf_expr.specs.Grammar.{expression_sort}
+use Rattle.leaf_expr.specs.Printing.{expression_sexpr}
+use Rattle.leaf_expr.proofs.Numbers.{natural_spelled, decimal_is_word}
+use Rattle.leaf_expr.proofs.PrintedMeans.{expression_means, expression_plain}
+use Rattle.leaf_expr.proofs.TokenLaws.{spells_printed}
+use Rattle.net_syntax.specs.Place.{Tree, a_network, a_leaf}
+use Rattle.net_syntax.specs.LawStep.{Step}
+use Rattle.net_syntax.specs.declared.law_step.Law.{Law}
+use Rattle.net_syntax.specs.declared.law_step.Law.TheVariants as Law
+use Rattle.net_syntax.specs.declared.law_step.Direction.{Direction}
+use Rattle.net_syntax.specs.declared.law_step.Direction.TheVariants as Direction
+use Rattle.net_text.specs.StepGrammar.{step_parts, law_sort, direction_sort, position_sort, child_sort, step_word_at, step_row_at, directions, position_rows, law_named}
+use Rattle.net_text.specs.CertificateLaws.{laws_tokens, IsGiven, no_tree, one_tree, IsStep, AreSteps, no_step, a_step}
+use Rattle.net_text.specs.CertificatePrinting.{law_spelling, direction_spelling, child_sexprs, tree_sexpr, given_sexprs, step_sexpr, step_lines, IsLaw, ChildrenFit, GivenFits, StepFits, StepsFit, PrintedCertificateLaw}
+use Rattle.net_text.proofs.Carried.{meaning_same}
+use Rattle.net_text.proofs.PrintedFile.{printed}
+
+-- a word's bytes may all stand in words
+word_bytes : (w : List ℕ) → is_word w ≡ true → all_word_bytes w ≡ true
+word_bytes [] e = absurd (cc)
+word_bytes (b ∷ w) e = e
+
+-- the number of a law
+law_number : (most n : ℕ) → most ≤ 42 → 1 ≤ n → n ≤ most → read_word (natural_at 1 most (decimal n)) ≡ Some n
+law_number most n m l h = ap read_word (natural_spelled 1 most n l h (omega arith))
+
+number_plain : (n : ℕ) → n ≤ 65535 → all_word_bytes (decimal n) ≡ true
+number_plain n h = word_bytes (decimal n) (decimal_is_word n (omega arith))
+
+-- a printed law is that law
+law_means : (law : Law) → IsLaw law → meaning step_parts law_sort (atom (law_spelling law)) ≡ Some law
+unfolding step_word_at
+law_means (Law.E n) h = ap (λ o. read_word (fit (option_map Law.E o))) (law_number 18 n (omega arith) h.0 h.1)
+law_means (Law.L n) h = ap (λ o. read_word (fit (option_map Law.L o))) (law_number 42 n (omega arith) h.0 h.1)
+
+law_plain : (law : Law) → IsLaw law → is_word (law_spelling law) ≡ true
+law_plain (Law.E n) h = number_plain n (omega (arith, h.1))
+law_plain (Law.L n) h = number_plain n (omega (arith, h.1))
+
+direction_means : (d : Direction) → meaning step_parts direction_sort (atom (direction_spelling d)) ≡ Some d
+unfolding step_word_at directions
+direction_means Direction.Forward = refl
+direction_means Direction.Backward = refl
+
+direction_plain : (d : Direction) → is_word (direction_spelling d) ≡ true
+direction_plain Direction.Forward = refl
+direction_plain Direction.Backward = refl
+
+child_means : (k : ℕ) → k ≤ 65535 → meaning step_parts child_sort (atom (decimal k)) ≡ Some k
+unfolding step_word_at
+child_means k h = ap read_word (natural_spelled 0 65535 k (omega arith) h (omega arith))
+
+children_mean : (ks : List ℕ) → ChildrenFit ks → (make : List ℕ → List ℕ)
+    → make_tree step_parts position_sort (places child_sort) make (child_sexprs ks) ≡ Some (make ks)
+children_mean [] h make = refl
+children_mean (k ∷ ks) h make = let i : meaning step_parts child_sort (atom (decimal k)) ≡ Some k = child_means k h.0 in
+    rw i (children_mean ks h.1 (λ xs. make (k ∷ xs)))
+
+position_means : (ks : List ℕ) → ChildrenFit ks → meaning step_parts position_sort (form (codes "at") (child_sexprs ks)) ≡ Some ks
+unfolding step_row_at position_rows
+position_means ks h = children_mean ks h (λ xs. xs)
+
+children_plain : (ks : List ℕ) → ChildrenFit ks → all_plain (child_sexprs ks) ≡ true
+children_plain [] h = refl
+children_plain (k ∷ ks) h = let i : is_word (decimal k) ≡ true = decimal_is_word k (omega (arith, h.0)) in
+    rw i (children_plain ks h.1)
+
+given_plain : (law : Law) (o : Option (Tree Expression)) → GivenFits law o → all_plain (given_sexprs o) ≡ true
+given_plain law None h = refl
+given_plain (Law.E n) (Some (a_leaf e)) h = rw (expression_plain e h) refl
+given_plain (Law.L n) (Some (a_network f)) h = rw ((printed f h).1) refl
+given_plain (Law.E n) (Some (a_network f)) h = absurd h
+given_plain (Law.L n) (Some (a_leaf e)) h = absurd h
+
+step_plain : (s : Step) → StepFits s → plain (step_sexpr s) ≡ true
+step_plain s h = rw (law_plain s.law h.law, direction_plain s.direction, children_plain s.position h.position, given_plain s.law s.given h.given) refl
+
+-- what is printed behind the position ends the step
+given_stands : (law : Law) (o : Option (Tree Expression)) (ts : List PlacedToken) (k : ℕ) (rest : List PlacedToken) → GivenFits law o
+    → depths (given_sexprs o) ≤ 599 → SpellAll (given_sexprs o) ts ((k, closing) ∷ rest) → IsGiven law o ts rest
+given_stands law None ts k rest h d last_spells = no_tree k rest
+given_stands (Law.E n) (Some (a_leaf e)) ts k rest h d (more_spells {n = m} a last_spells) =
+    one_tree e m k ts rest
+    (record { part = expression_sexpr e; spells = a; means = meaning_same expression_sort (expression_sexpr e) ∙ expression_means e h; within = omega arith })
+given_stands (Law.L n) (Some (a_network f)) ts k rest h d (more_spells {n = m} a last_spells) =
+    one_tree f m k ts rest (record { part = tree_sexpr (a_network f); spells = a; means = (printed f h).0; within = omega arith })
+given_stands (Law.E n) (Some (a_network f)) ts k rest h d a = absurd h
+given_stands (Law.L n) (Some (a_leaf e)) ts k rest h d a = absurd h
+
+-- the tokens of a printed step are the step
+step_stands : (s : Step) (ts : List PlacedToken) (end : ℕ) (rest : List PlacedToken) → StepFits s → Spells (step_sexpr s) ts end rest → IsStep s ts rest
+step_stands s ts end rest h (form_spells {n = opened} {m = named} {k = close} {ts = us}
+    (more_spells {n = law_end} {mid = vs} a (more_spells {n = direction_end} {mid = ws} b (more_spells {n = position_end} {mid = xs} c d)))) =
+    let deep : depth (step_sexpr s) ≤ 600 = h.within in
+    record {
+      behind = xs;
+      front =
+          record {
+            opened = opened;
+            named = named;
+            law_end = law_end;
+            direction_end = direction_end;
+            position_end = position_end;
+            behind_name = us;
+            behind_law = vs;
+            behind_direction = ws;
+            starts = refl;
+            is_law = record { part = atom (law_spelling s.law); spells = a; means = law_means s.law h.law; within = omega arith };
+            is_direction = record { part = atom (direction_spelling s.direction); spells = b; means = direction_means s.direction; within = omega arith };
+            is_position =
+                record {
+                  part = form (codes "at") (child_sexprs s.position);
+                  spells = c;
+                  means = position_means s.position h.position;
+                  within = omega arith;
+                };
+          };
+      ends = given_stands s.law s.given xs close rest h.given (omega arith) d;
+    }
+
+steps_stand : (ss : List Step) (n : ℕ) → StepsFit ss → AreSteps ss (tokens_in false n (step_lines ss)) []
+steps_stand [] n h = no_step []
+steps_stand (s ∷ ss) n h =
+    let end : ℕ = n + length (spelling (step_sexpr s)) in
+    let spelt : Spells (step_sexpr s) (tokens_in false n (step_lines (s ∷ ss))) end (tokens_in false (suc end) (step_lines ss)) =
+    spells_printed (step_sexpr s) n (10 ∷ step_lines ss) (step_plain s h.0) refl in
+    a_step s ss (tokens_in false n (step_lines (s ∷ ss))) (tokens_in false (suc end) (step_lines ss)) []
+    (step_stands s (tokens_in false n (step_lines (s ∷ ss))) end (tokens_in false (suc end) (step_lines ss)) h.0 spelt)
+    (steps_stand ss (suc end) h.1)
+
+laws_stand : (bs : List ℕ) → tokens (codes "laws 1\n" ++ bs) ≡ laws_tokens 0 5 (tokens_in false 7 bs)
+laws_stand bs = refl
+
+pub printed_certificate : PrintedCertificateLaw
+printed_certificate ss h l =
+    record {
+      short = l;
+      behind = tokens_in false 7 (step_lines ss);
+      headed = record { laws = 0; one = 5; starts = laws_stand (step_lines ss) };
+      steps = steps_stand ss 7 h;
+    }
