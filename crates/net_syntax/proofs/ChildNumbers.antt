@@ -7,7 +7,7 @@ use Rattle.leaf_core.specs.Expression.{Expression}
 use Rattle.leaf_core.specs.declared.expr.Expr.{Expr}
 use Rattle.net_syntax.specs.Network.{Network, Networks, arr, seq, first, par, loop_pre, i_pre, delay, hold, accum_by, after, repeatedly, time, integral, switch, d_switch, r_switch, k_switch, p_switch, old, no_members, and_member}
 use Rattle.net_syntax.specs.NetworkView.{members_of, tree_of, trees}
-use Rattle.net_syntax.specs.Place.{child, member, member_child, event_child, continuation_child, no_child, p_switch_child, child_network}
+use Rattle.net_syntax.specs.Place.{child, member, member_child, continuation_child, p_switch_child, child_network}
 use Rattle.net_syntax.specs.Placed.{bound, bound_behind, bound_in}
 use Rattle.net_syntax.specs.Typing.{members}
 use Rattle.net_syntax.specs.FormParts.{parts_of}

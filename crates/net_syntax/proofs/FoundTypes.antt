@@ -7,11 +7,9 @@ use Rattle.sample_core.specs.TypeView.{type_of}
 use Rattle.sample_core.specs.declared.ty.Ty.{Ty}
 use Rattle.leaf_core.specs.Expression.{Expression}
 use Rattle.leaf_core.specs.declared.expr.Expr.{Expr}
-use Rattle.leaf_core.specs.ExpressionTyping.{ExpressionTyped}
 use Rattle.leaf_core.specs.TypeLimits.{TypeFits}
 use Rattle.leaf_core.specs.ExpressionLimits.{ExpressionTypedWithin}
 use Rattle.leaf_core.specs.Parts.{part_at}
-use Rattle.leaf_core.specs.PartWalk.{part_type_at}
 use Rattle.leaf_core.proofs.Exactness.{type_answer-exact}
 use Rattle.leaf_core.proofs.PartTypes.{TypedThere, there_typed, nothing_there}
 use Rattle.net_syntax.specs.Network.{Network, Networks, seq, par, loop_pre, accum_by, switch, d_switch, k_switch, p_switch, no_members, and_member}
@@ -23,8 +21,8 @@ use Rattle.net_syntax.specs.Typing.{Arrow, arrow, copies, members, OldAt, old_he
 use Rattle.net_syntax.specs.TypedNetwork.{TypedNetwork, NetTyped}
 use Rattle.net_syntax.specs.NetworkLimits.{NetTypedWithin, WithinLimits}
 use Rattle.net_syntax.specs.Place.{◌>>=◌, Tree, a_network, a_leaf, member, child, child_network, PSwitchChild, p_switch_child, member_child, event_child, continuation_child, no_child}
-use Rattle.net_syntax.specs.Placed.{Placed, placed, placed_at, bound_in}
-use Rattle.net_syntax.specs.Standing.{Standing, standing, alone, MembersTyped, ChildStands, in_arr, first_in_seq, second_in_seq, in_first, in_par, constant_in_loop, network_in_loop, in_i_pre, in_delay, in_hold, step_in_accum, start_in_accum, in_after, in_repeatedly, network_in_switch, continuation_in_switch, network_in_d_switch, continuation_in_d_switch, network_in_r_switch, continuation_in_r_switch, network_in_k_switch, event_in_k_switch, continuation_in_k_switch, route_in_p_switch, member_in_p_switch, event_in_p_switch, continuation_in_p_switch, StandsAt, at_network, inside_network, inside_expression, TypeAt}
+use Rattle.net_syntax.specs.Placed.{placed, placed_at, bound_in}
+use Rattle.net_syntax.specs.Standing.{Standing, standing, alone, MembersTyped, ChildStands, in_arr, first_in_seq, second_in_seq, in_first, in_par, constant_in_loop, network_in_loop, in_i_pre, in_delay, in_hold, step_in_accum, start_in_accum, in_after, in_repeatedly, network_in_switch, continuation_in_switch, network_in_d_switch, continuation_in_d_switch, network_in_r_switch, continuation_in_r_switch, network_in_k_switch, event_in_k_switch, continuation_in_k_switch, route_in_p_switch, member_in_p_switch, event_in_p_switch, continuation_in_p_switch, at_network, inside_network, inside_expression, TypeAt}
 use Rattle.net_syntax.specs.StandingWalk.{taking, under, freezing, left_of, carried_of, right_carried_of, old_output, leaf_type, output_in, first_output, routed, p_switch_input, child_input, frozen, p_switch_scope, child_scope, inside, type_walk_at}
 use Rattle.net_syntax.proofs.TypingMap.{map_typed, map_all_typed}
 

@@ -1,6 +1,5 @@
-use Rattle.std.proofs.Common.{◌≡◌, suc, ◌-◌, ap, sym, ◌∙◌, subst, arith}
+use Rattle.std.proofs.Common.{◌≡◌, ◌-◌, ap, sym, ◌∙◌, subst, arith}
 use Rattle.sample_core.specs.TypeView.{type_of}
-use Rattle.leaf_core.specs.ExpressionView.{expression_of}
 use Rattle.net_syntax.specs.ArrowView.{arrow_of}
 use Rattle.net_syntax.specs.FoundType.{Finds}
 use Rattle.net_syntax.specs.NetworkView.{tree, trees}

@@ -1,6 +1,5 @@
-use Rattle.std.proofs.Common.{Some, map, sym, subst}
+use Rattle.std.proofs.Common.{Some, map, subst}
 use Rattle.sample_core.specs.TypeView.{type_of}
-use Rattle.net_syntax.specs.ArrowView.{arrow_of}
 use Rattle.net_syntax.specs.FoundType.{Finds}
 use Rattle.net_syntax.specs.Standing.{standing}
 use Rattle.net_syntax.specs.StandingWalk.{standing_of, under}
