@@ -29,7 +29,7 @@ pub use measure::{MOST_HEIGHT, MOST_WEIGHT, height, is_oversized, weight};
 pub use need::LeafNeed;
 pub use needs::leaves;
 pub use net::{Members, Net, NetChild};
-pub use place::{Place, TreeRef, at};
+pub use place::{Place, TreeRef, at, child};
 pub use position::{Position, print_position, push_position};
 pub use replacing::replace;
 pub use standing::type_at;

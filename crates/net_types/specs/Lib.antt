@@ -6,3 +6,6 @@ pub mod WalkParts
 pub mod Sites
 pub mod FaultPlaces
 pub mod TypingLaws
+pub mod Contexts
+pub mod ContextView
+pub mod Answered

@@ -3,9 +3,11 @@
 #![tactic(auto)]
 
 mod check;
+mod contexts;
 mod fault;
 mod laws;
 mod nodes;
+mod rewriting;
 mod scope;
 mod site;
 mod types;
@@ -14,3 +16,4 @@ mod walk;
 pub use check::check_types;
 pub use fault::TypeFault;
 pub use laws::typing_laws;
+pub use rewriting::{Rewritten, rewrite};

@@ -1,0 +1,231 @@
+// A typed network with another tree at a position.
+
+ghost use Rattle.std.specs.Prelude.{◌≡◌, [], IfOk, MatchOption, Some, option_map};
+ghost use Rattle.sample_core.specs.TypeView.{type_of};
+ghost use Rattle.leaf_core.specs.{ExpressionView.expression_of, TypeLimits.same_tree};
+ghost use Rattle.net_syntax.specs.NetworkView.{tree_of};
+ghost use Rattle.net_syntax.specs.{LawStep.part_of, NetworkLimits.WithinLimits, Place.a_leaf, Place.a_network, Placed.replaced, Rewriting.Rewrites, Standing.alone};
+ghost use Rattle.net_types.specs.Answered.{Answers, NoRewriting};
+ghost use Rattle.net_types.specs.ContextView.{standing_of};
+ghost use Rattle.net_types.specs.Contexts.{kept_in_leaf, same_type, type_kept};
+
+use crate::contexts::{Context, child_context, leaf_in, output_in};
+use crate::scope::Scope;
+use leaf_core::{Expr, part_type, with_part_at};
+use net_syntax::{
+    MOST_HEIGHT, MOST_WEIGHT, Net, Position, Tree, TreeRef, TypedNet, child, height, is_oversized,
+    replace, weight,
+};
+use sample_core::{Memory, Ty, same_type};
+use std::alloc::Global;
+
+/// What a rewriting comes to.
+#[derive(Clone, Copy, PartialEq, Eq, Debug)]
+pub enum Rewritten {
+    /// The tree stands at the position.
+    Done,
+    /// The position isn't there, or what stands there is of another kind than the tree.
+    NoPosition,
+    /// The network with the tree has no types, or isn't within the limits, or the output type at
+    /// the position, that of an expression its type, isn't the one of before.
+    IllTyped,
+}
+
+/// Puts the tree at the position of the typed network, in place of what stands there. After each
+/// answer but `Done` the network is as before. `Memory` where a growth was refused.
+///
+/// Types are found of the tree, where it stands, and of what it replaces; inside an expression, of
+/// the whole expression. To know what is in scope there and the input's type, parts beside the way
+/// to the position are typed too, as the first of two networks where the position is in the second.
+/// What stands elsewhere isn't typed again. The weight and the height are taken of the whole.
+pub fn rewrite(
+    alloc: Global,
+    net: &mut TypedNet,
+    position: &Position,
+    tree: Tree,
+) -> Result<Rewritten, Memory>
+    ensures { Answers result net.old position.now (part_of tree) net.new }
+{
+    let found = replace(alloc, net.net(), position, &tree);
+    let changed = match found {
+        Ok(Some(changed)) => changed,
+        Ok(None) => {
+            drop(tree);
+            return Ok(Rewritten::NoPosition);
+        }
+        Err(refused) => {
+            drop(tree);
+            return Err(refused);
+        }
+    };
+    let found = retyped(alloc, net, position.path(), &tree, changed);
+    drop(tree);
+    match found {
+        Ok(Some(changed)) => {
+            *net = changed;
+            Ok(Rewritten::Done)
+        }
+        Ok(None) => Ok(Rewritten::IllTyped),
+        Err(refused) => Err(refused),
+    }
+}
+
+/// The changed network with its types, its weight and its height, where it has them within the
+/// limits and the type at the path is kept.
+fn retyped(
+    alloc: Global,
+    net: &TypedNet,
+    path: &[u32],
+    tree: &Tree,
+    changed: Net<Expr>,
+) -> Result<Option<TypedNet>, Memory>
+    requires { replaced (a_network net.now.net) path.now (part_of tree.now)
+        ≡ Some (a_network (tree_of changed)) }
+    ensures { IfOk result (λ found. MatchOption found
+        (NoRewriting net.now path.now (part_of tree.now))
+        (λ t. Rewrites net.now path.now (part_of tree.now) t)) }
+{
+    if is_oversized(&changed) {
+        drop(changed);
+        return Ok(None);
+    }
+    if !keeps_type(alloc, net, path, tree)? {
+        drop(changed);
+        return Ok(None);
+    }
+    let height = height(alloc, &changed)?;
+    let weight = weight(alloc, &changed)?;
+    if height > MOST_HEIGHT || weight > MOST_WEIGHT {
+        drop(changed);
+        return Ok(None);
+    }
+    let input = net.input().try_copy(alloc)?;
+    let output = net.output().try_copy(alloc)?;
+    Ok(Some(TypedNet::new(input, output, changed, weight, height)))
+}
+
+/// Whether the tree has, at the path of the network, the type of what stands there.
+fn keeps_type(alloc: Global, net: &TypedNet, path: &[u32], tree: &Tree) -> Result<bool, Memory>
+    ensures limits { WithinLimits net.now }
+    ensures answer { IfOk result (λ kept. kept
+        ≡ type_kept (alone net.now.input) (a_network net.now.net) path.now
+        (part_of tree.now)) }
+{
+    let before = net.net();
+    let input = net.input().try_copy(alloc)?;
+    let context = Context {
+        scope: Scope::new(alloc),
+        input,
+    };
+    type_kept(alloc, context, before, path, tree)
+}
+
+/// Whether the tree has, at the path of a network that stands in the context, the type of what
+/// stands there; an expression that it becomes a part of must have a type within the limits too.
+fn type_kept(
+    alloc: Global,
+    context: Context,
+    net: &Net<Expr>,
+    path: &[u32],
+    other: &Tree,
+) -> Result<bool, Memory>
+    ensures { IfOk result (λ kept. kept
+        ≡ type_kept (standing_of context) (a_network (tree_of net.now)) path.now
+        (part_of other.now)) }
+{
+    let Some((k, rest)) = path.split_first() else {
+        return kept_here(alloc, context, net, other);
+    };
+    let Some(inner) = child(net, *k) else {
+        drop(context);
+        return Ok(false);
+    };
+    match child_context(alloc, context, net, *k)? {
+        Some(context) => match inner {
+            TreeRef::Net(inner) => type_kept(alloc, context, inner, rest, other),
+            TreeRef::Expr(inner) => kept_inside(alloc, context, inner, rest, other),
+        },
+        None => Ok(false),
+    }
+}
+
+/// Whether the tree is a network of the other one's output type.
+fn kept_here(alloc: Global, context: Context, net: &Net<Expr>, other: &Tree) -> Result<bool, Memory>
+    ensures { IfOk result (λ kept. kept
+        ≡ type_kept (standing_of context) (a_network (tree_of net.now)) []
+        (part_of other.now)) }
+{
+    let Tree::Net(other) = other else {
+        drop(context);
+        return Ok(false);
+    };
+    let before = output_in(alloc, &context, net)?;
+    let after = output_in(alloc, &context, other)?;
+    drop(context);
+    Ok(are_same(before, after))
+}
+
+/// Whether there are two types, and they are the same.
+fn are_same(before: Option<Ty>, after: Option<Ty>) -> bool
+    ensures { result ≡ same_type (option_map type_of before) (option_map type_of after) }
+{
+    match (&before, &after) {
+        (Some(before), Some(after)) => same(before, after),
+        _ => false,
+    }
+}
+
+/// Whether the types are the same.
+fn same(before: &Ty, after: &Ty) -> bool
+    ensures { result ≡ same_tree (type_of before.now) (type_of after.now) }
+{
+    same_type(before, after)
+}
+
+/// The same in an expression of a network.
+fn kept_inside(
+    alloc: Global,
+    context: Context,
+    expr: &Expr,
+    path: &[u32],
+    other: &Tree,
+) -> Result<bool, Memory>
+    ensures { IfOk result (λ kept. kept
+        ≡ type_kept (standing_of context) (a_leaf (expression_of expr.now)) path.now
+        (part_of other.now)) }
+{
+    let Tree::Expr(other) = other else {
+        drop(context);
+        return Ok(false);
+    };
+    let Some(changed) = with_part_at(alloc, expr, path, other)? else {
+        drop(context);
+        return Ok(false);
+    };
+    let kept = kept_in_leaf(alloc, &context, expr, path, &changed);
+    drop(changed);
+    drop(context);
+    kept
+}
+
+/// Whether the changed expression has a type, and at the path the one that the other has there.
+fn kept_in_leaf(
+    alloc: Global,
+    context: &Context,
+    expr: &Expr,
+    path: &[u32],
+    changed: &Expr,
+) -> Result<bool, Memory>
+    ensures { IfOk result (λ kept. kept
+        ≡ kept_in_leaf (standing_of context.now) (expression_of expr.now) path.now
+        (Some (expression_of changed.now))) }
+{
+    let Some(whole) = leaf_in(alloc, context, changed)? else {
+        return Ok(false);
+    };
+    drop(whole);
+    let params = context.scope.params();
+    let before = part_type(alloc, params, &context.input, expr, path)?;
+    let after = part_type(alloc, params, &context.input, changed, path)?;
+    Ok(are_same(before, after))
+}
