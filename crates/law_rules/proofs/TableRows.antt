@@ -23,7 +23,7 @@ shapes =
     sides (λ a. seq a.f (arr input)) (λ a. a.f) ∷
     sides (λ a. seq (seq a.f a.g) a.h) (λ a. seq a.f (seq a.g a.h)) ∷
     sides (λ a. seq (arr a.exprs.f) (arr a.exprs.g)) (λ a. arr (then_expr a.exprs.f a.exprs.g)) ∷
-    sides (λ a. first (arr a.exprs.f)) (λ a. arr (left_by a.exprs.f)) ∷
+    sides (λ a. first (arr a.exprs.h)) (λ a. arr (left_by a.exprs.h)) ∷
     sides (λ a. first (seq a.f a.g)) (λ a. seq (first a.f) (first a.g)) ∷
     sides (λ a. seq (first a.f) (arr (right_by a.exprs.g))) (λ a. seq (arr (right_by a.exprs.g)) (first a.f)) ∷
     sides (λ a. seq (first a.f) (arr (fst input))) (λ a. seq (arr (fst input)) a.f) ∷
@@ -85,7 +85,7 @@ makes (row_l1 {f = f}) = (letters f time time 0 (exprs input input input unit_ty
 makes (row_l2 {f = f}) = (letters f time time 0 (exprs input input input unit_ty), refl, refl)
 makes (row_l3 {f = f} {g = g} {h = h}) = (letters f g h 0 (exprs input input input unit_ty), refl, refl)
 makes (row_l4 {f = f} {g = g}) = (letters time time time 0 (exprs f g input unit_ty), refl, refl)
-makes (row_l5 {f = f}) = (letters time time time 0 (exprs f input input unit_ty), refl, refl)
+makes (row_l5 {f = f}) = (letters time time time 0 (exprs input input f unit_ty), refl, refl)
 makes (row_l6 {f = f} {g = g}) = (letters f g time 0 (exprs input input input unit_ty), refl, refl)
 makes (row_l7 {f = f} {g = g}) = (letters f time time 0 (exprs input g input unit_ty), refl, refl)
 makes (row_l8 {f = f}) = (letters f time time 0 (exprs input input input unit_ty), refl, refl)

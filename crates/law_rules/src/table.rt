@@ -31,116 +31,122 @@ pub enum Rule {
     ElementsApart,
 }
 
+/// `(arr x)`.
+const ARR_X: NetSym = Arr(&[X]);
+/// `(arr f)`.
+const ARR_F: NetSym = Arr(&[F]);
+/// `(arr g)`.
+const ARR_G: NetSym = Arr(&[G]);
+/// `(arr h)`.
+const ARR_H: NetSym = Arr(&[H]);
+/// `(arr (fst x))`.
+const ARR_FST: NetSym = Arr(&[FST, X]);
+/// `(arr (then f g))`.
+const ARR_FG: NetSym = Arr(&[THEN, F, G]);
+/// `arr` of h on the left part of a pair.
+const ARR_LEFT: NetSym = Arr(&[PAIR, THEN, FST, X, H, SND, X]);
+/// `arr` of g on the right part of a pair.
+const ARR_RIGHT: NetSym = Arr(&[PAIR, FST, X, THEN, SND, X, G]);
+/// `arr` of g on what an event carries.
+const ARR_MAP: NetSym = Arr(&[ON, X, NONE, EVENT, THEN, SND, X, G]);
+/// `arr` of (a, b) to (b, a).
+const ARR_SWAP: NetSym = Arr(&[PAIR, SND, X, FST, X]);
+/// `arr` of ((a, b), c) to (a, (b, c)).
+const ARR_ASSOC: NetSym = Arr(&[PAIR, FST, FST, X, PAIR, SND, FST, X, SND, X]);
+/// `arr` of (a, (b, c)) to ((a, b), c).
+const ARR_UNASSOC: NetSym = Arr(&[PAIR, PAIR, FST, X, FST, SND, X, SND, SND, X]);
+/// `arr` of ((output, event), other) to ((output, other), event).
+const ARR_LAST: NetSym = Arr(&[PAIR, PAIR, FST, FST, X, SND, X, SND, FST, X]);
+/// `arr` of the input, with no event.
+const ARR_NEVER: NetSym = Arr(&[PAIR, X, NONE]);
+/// `arr` of f at `unit`, whatever the input.
+const ARR_CONST: NetSym = Arr(&[THEN, UNIT, F]);
+/// `(iPre f)`.
+const PRE_F: NetSym = IPre(&[F]);
+/// `(iPre g)`.
+const PRE_G: NetSym = IPre(&[G]);
+/// `loopPre` from f.
+const LOOP_F: NetSym = LoopPre(&[F]);
+
 /// The law of this number: a side is written with each form before its parts.
 pub fn law_rule(number: u8) -> Rule
     ensures { IsRule number result }
 {
     match number {
         0 => Rule::Nothing,
-        1 => Sides(&[SEQ, Arr(&[X]), NET_F], &[NET_F]),
-        2 => Sides(&[SEQ, NET_F, Arr(&[X])], &[NET_F]),
+        1 => Sides(&[SEQ, ARR_X, NET_F], &[NET_F]),
+        2 => Sides(&[SEQ, NET_F, ARR_X], &[NET_F]),
         3 => Sides(
             &[SEQ, SEQ, NET_F, NET_G, NET_H],
             &[SEQ, NET_F, SEQ, NET_G, NET_H],
         ),
-        4 => Sides(&[SEQ, Arr(&[F]), Arr(&[G])], &[Arr(&[THEN, F, G])]),
-        5 => Sides(
-            &[FIRST, Arr(&[F])],
-            &[Arr(&[PAIR, THEN, FST, X, F, SND, X])],
-        ),
+        4 => Sides(&[SEQ, ARR_F, ARR_G], &[ARR_FG]),
+        5 => Sides(&[FIRST, ARR_H], &[ARR_LEFT]),
         6 => Sides(
             &[FIRST, SEQ, NET_F, NET_G],
             &[SEQ, FIRST, NET_F, FIRST, NET_G],
         ),
         7 => Sides(
-            &[SEQ, FIRST, NET_F, Arr(&[PAIR, FST, X, THEN, SND, X, G])],
-            &[SEQ, Arr(&[PAIR, FST, X, THEN, SND, X, G]), FIRST, NET_F],
+            &[SEQ, FIRST, NET_F, ARR_RIGHT],
+            &[SEQ, ARR_RIGHT, FIRST, NET_F],
         ),
-        8 => Sides(
-            &[SEQ, FIRST, NET_F, Arr(&[FST, X])],
-            &[SEQ, Arr(&[FST, X]), NET_F],
-        ),
+        8 => Sides(&[SEQ, FIRST, NET_F, ARR_FST], &[SEQ, ARR_FST, NET_F]),
+        _ => arrow_rule(number),
+    }
+}
+
+/// The law of this number, from 9 on.
+fn arrow_rule(number: u8) -> Rule
+    requires { 9 ≤ number }
+    ensures { IsRule number result }
+{
+    match number {
         9 => Sides(
-            &[
-                SEQ,
-                FIRST,
-                FIRST,
-                NET_F,
-                Arr(&[PAIR, FST, FST, X, PAIR, SND, FST, X, SND, X]),
-            ],
-            &[
-                SEQ,
-                Arr(&[PAIR, FST, FST, X, PAIR, SND, FST, X, SND, X]),
-                FIRST,
-                NET_F,
-            ],
+            &[SEQ, FIRST, FIRST, NET_F, ARR_ASSOC],
+            &[SEQ, ARR_ASSOC, FIRST, NET_F],
         ),
-        10 => Sides(
-            &[SEQ, Arr(&[F]), SEQ, Arr(&[G]), NET_H],
-            &[SEQ, Arr(&[THEN, F, G]), NET_H],
+        10 => Sides(&[SEQ, ARR_F, SEQ, ARR_G, NET_H], &[SEQ, ARR_FG, NET_H]),
+        11 => Sides(&[SEQ, PRE_F, ARR_G], &[SEQ, ARR_G, IPre(&[THEN, F, G])]),
+        12 => Sides(
+            &[IPre(&[PAIR, F, G])],
+            &[
+                SEQ, FIRST, PRE_F, SEQ, ARR_SWAP, SEQ, FIRST, PRE_G, ARR_SWAP,
+            ],
         ),
         _ => loop_rule(number),
     }
 }
 
-/// The law of this number, from 11 on.
+/// The law of this number, from 13 on.
 fn loop_rule(number: u8) -> Rule
-    requires { 11 ≤ number }
+    requires { 13 ≤ number }
     ensures { IsRule number result }
 {
     match number {
-        11 => Sides(
-            &[SEQ, IPre(&[F]), Arr(&[G])],
-            &[SEQ, Arr(&[G]), IPre(&[THEN, F, G])],
-        ),
-        12 => Sides(
-            &[IPre(&[PAIR, F, G])],
-            &[
-                SEQ,
-                FIRST,
-                IPre(&[F]),
-                SEQ,
-                Arr(&[PAIR, SND, X, FST, X]),
-                SEQ,
-                FIRST,
-                IPre(&[G]),
-                Arr(&[PAIR, SND, X, FST, X]),
-            ],
-        ),
         13 => Sides(
-            &[SEQ, NET_H, LoopPre(&[F]), NET_F],
-            &[LoopPre(&[F]), SEQ, FIRST, NET_H, NET_F],
+            &[SEQ, NET_H, LOOP_F, NET_F],
+            &[LOOP_F, SEQ, FIRST, NET_H, NET_F],
         ),
         14 => Sides(
-            &[SEQ, LoopPre(&[F]), NET_F, NET_H],
-            &[LoopPre(&[F]), SEQ, NET_F, FIRST, NET_H],
+            &[SEQ, LOOP_F, NET_F, NET_H],
+            &[LOOP_F, SEQ, NET_F, FIRST, NET_H],
         ),
         15 => Sides(
-            &[
-                LoopPre(&[F]),
-                SEQ,
-                Arr(&[PAIR, FST, X, THEN, SND, X, G]),
-                NET_F,
-            ],
-            &[
-                LoopPre(&[THEN, F, G]),
-                SEQ,
-                NET_F,
-                Arr(&[PAIR, FST, X, THEN, SND, X, G]),
-            ],
+            &[LOOP_F, SEQ, ARR_RIGHT, NET_F],
+            &[LoopPre(&[THEN, F, G]), SEQ, NET_F, ARR_RIGHT],
         ),
         16 => Sides(
-            &[LoopPre(&[F]), LoopPre(&[G]), NET_F],
+            &[LOOP_F, LoopPre(&[G]), NET_F],
             &[
                 LoopPre(&[PAIR, F, G]),
                 SEQ,
-                Arr(&[PAIR, PAIR, FST, X, FST, SND, X, SND, SND, X]),
+                ARR_UNASSOC,
                 SEQ,
                 NET_F,
-                Arr(&[PAIR, FST, FST, X, PAIR, SND, FST, X, SND, X]),
+                ARR_ASSOC,
             ],
         ),
-        17 => Sides(&[LoopPre(&[F]), FIRST, NET_F], &[NET_F]),
+        17 => Sides(&[LOOP_F, FIRST, NET_F], &[NET_F]),
         _ => event_rule(number),
     }
 }
@@ -151,48 +157,26 @@ fn event_rule(number: u8) -> Rule
     ensures { IsRule number result }
 {
     match number {
-        18 => Sides(&[SEQ, Arr(&[EVENT, F]), Hold(&[G])], &[Arr(&[F])]),
-        19 => Sides(&[SEQ, Arr(&[NONE]), Hold(&[F])], &[Arr(&[THEN, UNIT, F])]),
+        18 => Sides(&[SEQ, Arr(&[EVENT, F]), Hold(&[G])], &[ARR_F]),
+        19 => Sides(&[SEQ, Arr(&[NONE]), Hold(&[F])], &[ARR_CONST]),
         20 => Rule::WithoutInput,
-        21 => Sides(
-            &[
-                SEQ,
-                After(&[F]),
-                Arr(&[ON, X, NONE, EVENT, THEN, SND, X, G]),
-            ],
-            &[After(&[THEN, F, G])],
-        ),
+        21 => Sides(&[SEQ, After(&[F]), ARR_MAP], &[After(&[THEN, F, G])]),
         22 => Sides(
-            &[
-                SEQ,
-                Repeatedly(&[F]),
-                Arr(&[ON, X, NONE, EVENT, THEN, SND, X, G]),
-            ],
+            &[SEQ, Repeatedly(&[F]), ARR_MAP],
             &[Repeatedly(&[THEN, F, G])],
         ),
         23 => Sides(
-            &[
-                SEQ,
-                Arr(&[ON, X, NONE, EVENT, THEN, SND, X, G]),
-                Hold(&[THEN, F, G]),
-            ],
-            &[SEQ, Hold(&[F]), Arr(&[G])],
+            &[SEQ, ARR_MAP, Hold(&[THEN, F, G])],
+            &[SEQ, Hold(&[F]), ARR_G],
         ),
         24 => Sides(
-            &[
-                SEQ,
-                Arr(&[ON, X, NONE, EVENT, THEN, SND, X, G]),
-                AccumBy(&[F], &[H]),
-            ],
+            &[SEQ, ARR_MAP, AccumBy(&[F], &[H])],
             &[AccumBy(&[THEN, PAIR, FST, X, THEN, SND, X, G, F], &[H])],
         ),
-        25 => Sides(
-            &[SEQ, NET_F, Arr(&[THEN, UNIT, F])],
-            &[Arr(&[THEN, UNIT, F])],
-        ),
+        25 => Sides(&[SEQ, NET_F, ARR_CONST], &[ARR_CONST]),
         26 => Sides(
-            &[SEQ, Delay(&[F]), Arr(&[G])],
-            &[SEQ, Arr(&[G]), Delay(&[THEN, F, G])],
+            &[SEQ, Delay(&[F]), ARR_G],
+            &[SEQ, ARR_G, Delay(&[THEN, F, G])],
         ),
         _ => switch_rule(number),
     }
@@ -205,68 +189,30 @@ fn switch_rule(number: u8) -> Rule
 {
     match number {
         27 => Sides(
-            &[SEQ, Arr(&[H]), SWITCH, NET_F, NET_G],
-            &[SWITCH, SEQ, Arr(&[H]), NET_F, SEQ, Arr(&[H]), NET_G],
+            &[SEQ, ARR_H, SWITCH, NET_F, NET_G],
+            &[SWITCH, SEQ, ARR_H, NET_F, SEQ, ARR_H, NET_G],
         ),
         28 => Sides(
-            &[SEQ, Arr(&[H]), D_SWITCH, NET_F, NET_G],
-            &[D_SWITCH, SEQ, Arr(&[H]), NET_F, SEQ, Arr(&[H]), NET_G],
+            &[SEQ, ARR_H, D_SWITCH, NET_F, NET_G],
+            &[D_SWITCH, SEQ, ARR_H, NET_F, SEQ, ARR_H, NET_G],
         ),
         29 => Sides(
-            &[SEQ, SWITCH, NET_F, NET_G, Arr(&[H])],
-            &[
-                SWITCH,
-                SEQ,
-                NET_F,
-                Arr(&[PAIR, THEN, FST, X, H, SND, X]),
-                SEQ,
-                NET_G,
-                Arr(&[H]),
-            ],
+            &[SEQ, SWITCH, NET_F, NET_G, ARR_H],
+            &[SWITCH, SEQ, NET_F, ARR_LEFT, SEQ, NET_G, ARR_H],
         ),
         30 => Sides(
-            &[SEQ, D_SWITCH, NET_F, NET_G, Arr(&[H])],
-            &[
-                D_SWITCH,
-                SEQ,
-                NET_F,
-                Arr(&[PAIR, THEN, FST, X, H, SND, X]),
-                SEQ,
-                NET_G,
-                Arr(&[H]),
-            ],
+            &[SEQ, D_SWITCH, NET_F, NET_G, ARR_H],
+            &[D_SWITCH, SEQ, NET_F, ARR_LEFT, SEQ, NET_G, ARR_H],
         ),
-        31 => Sides(
-            &[SWITCH, SEQ, NET_F, Arr(&[PAIR, X, NONE]), NET_G],
-            &[NET_F],
-        ),
-        32 => Sides(
-            &[D_SWITCH, SEQ, NET_F, Arr(&[PAIR, X, NONE]), NET_G],
-            &[NET_F],
-        ),
+        31 => Sides(&[SWITCH, SEQ, NET_F, ARR_NEVER, NET_G], &[NET_F]),
+        32 => Sides(&[D_SWITCH, SEQ, NET_F, ARR_NEVER, NET_G], &[NET_F]),
         33 => Sides(
             &[FIRST, SWITCH, NET_F, NET_G],
-            &[
-                SWITCH,
-                SEQ,
-                FIRST,
-                NET_F,
-                Arr(&[PAIR, PAIR, FST, FST, X, SND, X, SND, FST, X]),
-                FIRST,
-                NET_G,
-            ],
+            &[SWITCH, SEQ, FIRST, NET_F, ARR_LAST, FIRST, NET_G],
         ),
         34 => Sides(
             &[FIRST, D_SWITCH, NET_F, NET_G],
-            &[
-                D_SWITCH,
-                SEQ,
-                FIRST,
-                NET_F,
-                Arr(&[PAIR, PAIR, FST, FST, X, SND, X, SND, FST, X]),
-                FIRST,
-                NET_G,
-            ],
+            &[D_SWITCH, SEQ, FIRST, NET_F, ARR_LAST, FIRST, NET_G],
         ),
         _ => last_rule(number),
     }
@@ -280,11 +226,11 @@ fn last_rule(number: u8) -> Rule
     match number {
         35 => Sides(
             &[SEQ, Arr(&[PAIR, F, NONE]), R_SWITCH, NET_F, NET_G],
-            &[SEQ, Arr(&[F]), NET_F],
+            &[SEQ, ARR_F, NET_F],
         ),
         36 => Sides(
-            &[SEQ, R_SWITCH, NET_F, NET_G, Arr(&[H])],
-            &[R_SWITCH, SEQ, NET_F, Arr(&[H]), SEQ, NET_G, Arr(&[H])],
+            &[SEQ, R_SWITCH, NET_F, NET_G, ARR_H],
+            &[R_SWITCH, SEQ, NET_F, ARR_H, SEQ, NET_G, ARR_H],
         ),
         37 => Sides(&[K_SWITCH, NET_F, Arr(&[NONE]), NET_G], &[NET_F]),
         38 => Rule::Resumed,

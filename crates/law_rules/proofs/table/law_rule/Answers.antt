@@ -1,5 +1,5 @@
 use Rattle.std.proofs.Common.{refl}
-use Rattle.law_rules.specs.NetworkRow.{row_l1, row_l2, row_l3, row_l4, row_l5, row_l6, row_l7, row_l8, row_l9, row_l10}
+use Rattle.law_rules.specs.NetworkRow.{row_l1, row_l2, row_l3, row_l4, row_l5, row_l6, row_l7, row_l8}
 use Rattle.law_rules.proofs.TableRows.{by-sides}
 use Rattle.law_rules.proofs.table.law_rule.Goals as goal
 
@@ -26,9 +26,3 @@ returns-in-7 c = by-sides c.args.number 7 _ _ _ _ c.in-7.is refl (λ a. refl) (�
 
 pub returns-in-8 : goal.returns-in-8
 returns-in-8 c = by-sides c.args.number 8 _ _ _ _ c.in-8.is refl (λ a. refl) (λ a. refl) (λ olds a. row_l8)
-
-pub returns-in-9 : goal.returns-in-9
-returns-in-9 c = by-sides c.args.number 9 _ _ _ _ c.in-9.is refl (λ a. refl) (λ a. refl) (λ olds a. row_l9)
-
-pub returns-in-10 : goal.returns-in-10
-returns-in-10 c = by-sides c.args.number 10 _ _ _ _ c.in-10.is refl (λ a. refl) (λ a. refl) (λ olds a. row_l10)

@@ -1,13 +1,7 @@
 use Rattle.std.proofs.Common.{refl}
-use Rattle.law_rules.specs.NetworkRow.{row_l11, row_l12, row_l13, row_l14, row_l15, row_l16, row_l17}
+use Rattle.law_rules.specs.NetworkRow.{row_l13, row_l14, row_l15, row_l16, row_l17}
 use Rattle.law_rules.proofs.TableRows.{by-sides}
 use Rattle.law_rules.proofs.table.loop_rule.Goals as goal
-
-pub returns-in-11 : goal.returns-in-11
-returns-in-11 c = by-sides c.args.number 11 _ _ _ _ c.in-11.is refl (λ a. refl) (λ a. refl) (λ olds a. row_l11)
-
-pub returns-in-12 : goal.returns-in-12
-returns-in-12 c = by-sides c.args.number 12 _ _ _ _ c.in-12.is refl (λ a. refl) (λ a. refl) (λ olds a. row_l12)
 
 pub returns-in-13 : goal.returns-in-13
 returns-in-13 c = by-sides c.args.number 13 _ _ _ _ c.in-13.is refl (λ a. refl) (λ a. refl) (λ olds a. row_l13)
