@@ -85,12 +85,12 @@ TreeWithin S (a_network f) B = NetTypedWithin S.params S.olds f S.input B
 TreeWithin S (a_leaf e) B = ExpressionTypedWithin e S.params S.input B
 
 -- child c of a network at k: where it stands, as it is found, and its type
-record ChildThere (S : Standing) (f : Network Expression) (k : ℕ) (c : Tree Expression) : Type 0 where
-  place : Standing
-  stands : ChildStands S.params S.olds S.input f k place
-  found : inside S f k ≡ Some place
-  output : TypeTree
-  typed : TreeWithin place c output
+pub record ChildThere (S : Standing) (f : Network Expression) (k : ℕ) (c : Tree Expression) : Type 0 where
+  pub place : Standing
+  pub stands : ChildStands S.params S.olds S.input f k place
+  pub found : inside S f k ≡ Some place
+  pub output : TypeTree
+  pub typed : TreeWithin place c output
 
 there : {S R : Standing} {f : Network Expression} {k : ℕ} {c : Tree Expression} (B : TypeTree) → ChildStands S.params S.olds S.input f k R → inside S f k ≡ Some R
     → TreeWithin R c B → ChildThere S f k c
@@ -177,7 +177,8 @@ module _ {Ps : List TypeTree} {Os : List Arrow} {r : Expression} {fs : Networks 
       go j (is_continuation p) = seen (suc (members fs)) continuation_child p (continuation_there p)
       go j (is_none p) = seen j no_child p tt
 
-child_there : {Ps : List TypeTree} {Os : List Arrow} {f : Network Expression} {A B : TypeTree} → NetTypedWithin Ps Os f A B → (k : ℕ)
+-- each child is there
+pub child_there : {Ps : List TypeTree} {Os : List Arrow} {f : Network Expression} {A B : TypeTree} → NetTypedWithin Ps Os f A B → (k : ℕ)
     → IfSome (child f k) (ChildThere (standing Ps Os A) f k)
 child_there (arr_typed h) zero = there _ in_arr refl h
 child_there (seq_typed f g) zero = there _ first_in_seq refl f

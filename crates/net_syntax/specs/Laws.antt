@@ -8,7 +8,8 @@ use Rattle.net_syntax.specs.Network.{Network}
 use Rattle.net_syntax.specs.Environment.{Environment}
 use Rattle.net_syntax.specs.Typing.{Arrow, TypedValues, TypedSamples}
 use Rattle.net_syntax.specs.TypedNetwork.{TypedNetwork, outputs_of, NetTyped}
-use Rattle.net_syntax.specs.NetworkLimits.{NetTypedWithin}
+use Rattle.net_syntax.specs.NetworkLimits.{NetTypedWithin, WithinLimits}
+use Rattle.net_syntax.specs.Standing.{alone, TypeAt}
 use Rattle.net_syntax.specs.Leaves.{Need, LeavesOf, leaves_by}
 use Rattle.net_syntax.specs.Place.{a_leaf, a_network, at}
 use Rattle.net_syntax.specs.Sameness.{SameNet}
@@ -67,3 +68,9 @@ WithinLaw = (Ps : List TypeTree) (Os : List Arrow) (net : Network Expression) (A
 abbrev pub PositionLaw : Type 0
 PositionLaw = (t : TypedNetwork) (ns : List Need) → LeavesOf t ns
     → All (λ n. at (a_network t.net) n.position ≡ Some (a_leaf n.key.expr, [])) ns
+
+-- what stands at a position of a network within the limits has one type there
+abbrev pub OneTypeAtLaw : Type 0
+OneTypeAtLaw = (t : TypedNetwork) (p : List ℕ) (B C : TypeTree) → WithinLimits t
+    → TypeAt (alone t.input) (a_network t.net) p B → TypeAt (alone t.input) (a_network t.net) p C
+    → B ≡ C

@@ -12,6 +12,7 @@ ghost use Rattle.net_syntax.specs.Laws.{
   OneListLaw,
   PositionLaw,
   WithinLaw,
+  OneTypeAtLaw,
 };
 ghost use Rattle.net_syntax.specs.SwitchLaws.{
   SwitchLaw,
@@ -59,7 +60,8 @@ pub fn stream_laws()
 {}
 
 /// A typed network outputs typed values, the same ones in alike environments, and it has one
-/// output type and one list of expressions, each of which stands at its position.
+/// output type and one list of expressions, each of which stands at its position. What stands at a
+/// position has one type there.
 pub fn typing_laws()
     ensures typed { TypedOutputsLaw }
     ensures alike { AlikeLaw }
@@ -68,6 +70,7 @@ pub fn typing_laws()
     ensures one_list { OneListLaw }
     ensures positions { PositionLaw }
     ensures within { WithinLaw }
+    ensures one_type_at { OneTypeAtLaw }
 {}
 
 /// What the switches and resumed networks output, by the environments that their parts run in.

@@ -1,6 +1,7 @@
 use Rattle.net_syntax.proofs.StreamLaws.{outputs-typed, alike-outputs, same-outputs, one-output-type, within-typed}
 use Rattle.net_syntax.proofs.NeedPlaces.{stands-at}
 use Rattle.net_syntax.proofs.OneList.{one-list}
+use Rattle.net_syntax.proofs.OneTypeAt.{one_type_at}
 use Rattle.net_syntax.proofs.laws.typing_laws.Goals as goal
 
 pub returns : goal.returns
@@ -12,4 +13,5 @@ returns c = record {
   one_list = one-list;
   positions = stands-at;
   within = within-typed;
+  one_type_at = one_type_at;
 }
