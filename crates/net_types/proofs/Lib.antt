@@ -7,7 +7,6 @@ pub mod FaultsSited
 pub mod ScopeLists
 pub mod WalkParts
 pub mod Holes
-pub mod OnePlace
 pub mod ChangedPlaces
 pub mod Rewritings
 pub mod RouteNumbers

@@ -30,7 +30,7 @@ use Rattle.net_types.proofs.Sizes.{size_law}
 use Rattle.net_types.proofs.Checks.{walk_exact}
 use Rattle.net_types.proofs.Holes.{TreeWithin, Filler, filled, plain, output_found, leaf_found, Hole, hole}
 use Rattle.net_types.proofs.ChangedPlaces.{kept}
-use Rattle.net_types.proofs.OnePlace.{populated, one_place}
+use Rattle.net_syntax.proofs.OnePlace.{populated, one_place}
 
 -- what goes on from what was found
 record Onward (X Y : Type 0) (o : Option X) (f : X → Option Y) (y : Y) : Type 0 where
