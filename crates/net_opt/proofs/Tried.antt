@@ -1,0 +1,125 @@
+-- A law that was tried at a place and a step that was taken there.
+use Rattle.std.proofs.Common.{◌≡◌, ℕ, ◌<◌, List, length, Option, Some, None, Contains, refl, sym, ap, ◌∙◌, subst, get_or}
+use Rattle.std.proofs.lemmas.List.{get_or_default}
+use Rattle.std.proofs.lemmas.Option.{none-some}
+use Rattle.leaf_core.specs.Expression.{Expression}
+use Rattle.net_syntax.specs.Network.{Network}
+use Rattle.net_syntax.specs.Place.{Tree, a_network, a_leaf}
+use Rattle.net_syntax.specs.Placed.{Placed, placed, placed_at}
+use Rattle.net_syntax.specs.Rewriting.{Rewrites}
+use Rattle.net_syntax.specs.TypedNetwork.{TypedNetwork}
+use Rattle.net_syntax.specs.LawStep.{Step}
+use Rattle.net_syntax.specs.declared.law_step.Law.{Law}
+use Rattle.net_syntax.specs.declared.law_step.Law.TheVariants as L
+use Rattle.net_syntax.specs.declared.law_step.Direction.TheVariants.{Forward}
+use Rattle.expr_laws.specs.Rows.{ExpressionRow}
+use Rattle.expr_laws.proofs.Numbers.{one_right_side}
+use Rattle.law_rules.specs.NetworkRow.{NetworkRow}
+use Rattle.law_rules.proofs.RowsExact.{one-right_side}
+use Rattle.cert_check.specs.TreeAnswer.{TreeAnswer, expression_forward, network_forward}
+use Rattle.cert_check.specs.Derives.{Next}
+use Rattle.net_opt.specs.Optimising.{MayTake, NoneLeft, network_laws, expression_laws}
+use Rattle.net_opt.specs.Search.{StandsThere, ExpressionThere, forward_step, NoStepBy, NoStepAt, Takes}
+
+-- what is answered forward at a network by a law of networks, and that nothing else is
+record NetAnswer (n olds : ℕ) (f : Network Expression) (new : Tree Expression) : Type 0 where
+  right : Network Expression
+  row : NetworkRow n olds f right
+  is : new ≡ a_network right
+
+net_answer : (n olds : ℕ) (f : Network Expression) (new : Tree Expression) → TreeAnswer olds (L.L n) Forward (a_network f) None new → NetAnswer n olds f new
+net_answer n olds f new (network_forward {r = r} row) = record { right = r; row = row; is = refl }
+
+-- the same at an expression
+record LeafAnswer (n : ℕ) (e : Expression) (new : Tree Expression) : Type 0 where
+  right : Expression
+  row : ExpressionRow n e right
+  is : new ≡ a_leaf right
+
+leaf_answer : (n olds : ℕ) (e : Expression) (new : Tree Expression) → TreeAnswer olds (L.E n) Forward (a_leaf e) None new → LeafAnswer n e new
+leaf_answer n olds e new (expression_forward {r = r} row) = record { right = r; row = row; is = refl }
+
+-- what a step at a place where u stands has for an answer
+answer_there : (t v : TypedNetwork) (p : List ℕ) (k n : ℕ) (u : Tree Expression) (law : Law) → placed_at 0 0 (a_network t.net) p ≡ Some (placed k n u)
+    → (next : Next t (forward_step law p) v) → TreeAnswer n law Forward u None next.new
+answer_there t v p k n u law there next =
+    let same : next.answered.place ≡ placed k n u = let found : placed_at 0 0 (a_network t.net) p ≡ Some next.answered.place = next.answered.found in cc in
+    subst (λ (c : Placed). TreeAnswer c.olds law Forward c.tree None next.new) same next.answered.answered
+
+-- no step by a law without a row there
+pub no_row_net : (t : TypedNetwork) (p : List ℕ) (n j : ℕ) (f : Network Expression) → StandsThere t p n (a_network f)
+    → ((r : Network Expression) → NetworkRow j n f r → ⊥) → NoStepBy t p (L.L j)
+no_row_net t p n j f s none = λ v next. let a = net_answer j n f next.new (answer_there t v p s.params n (a_network f) (L.L j) s.there next) in none a.right a.row
+
+pub no_row_leaf : (t : TypedNetwork) (p : List ℕ) (j : ℕ) (e : Expression) → ExpressionThere t p e
+    → ((r : Expression) → ExpressionRow j e r → ⊥) → NoStepBy t p (L.E j)
+no_row_leaf t p j e s none = λ v next. let a = leaf_answer j s.0 e next.new (answer_there t v p s.1.params s.0 (a_leaf e) (L.E j) s.1.there next) in none a.right a.row
+
+-- no step by a law whose right side can't stand there
+pub refused_net : (t : TypedNetwork) (p : List ℕ) (n j : ℕ) (f r : Network Expression) → StandsThere t p n (a_network f) → NetworkRow j n f r
+    → ((u : TypedNetwork) → Rewrites t p (a_network r) u → ⊥) → NoStepBy t p (L.L j)
+refused_net t p n j f r s row refused = λ v next.
+    let a = net_answer j n f next.new (answer_there t v p s.params n (a_network f) (L.L j) s.there next) in
+    let same : next.new ≡ a_network r = a.is ∙ ap a_network (one-right_side j n f a.right r a.row row) in
+    refused v (subst (λ w. Rewrites t p w v) same next.rewritten)
+
+pub refused_leaf : (t : TypedNetwork) (p : List ℕ) (j : ℕ) (e r : Expression) → ExpressionThere t p e → ExpressionRow j e r
+    → ((u : TypedNetwork) → Rewrites t p (a_leaf r) u → ⊥) → NoStepBy t p (L.E j)
+refused_leaf t p j e r s row refused = λ v next.
+    let a = leaf_answer j s.0 e next.new (answer_there t v p s.1.params s.0 (a_leaf e) (L.E j) s.1.there next) in
+    let same : next.new ≡ a_leaf r = a.is ∙ ap a_leaf (one_right_side j e a.right r a.row row) in
+    refused v (subst (λ w. Rewrites t p w v) same next.rewritten)
+
+-- a step is taken where the right side stands now
+pub taken_net : (t v : TypedNetwork) (p : List ℕ) (n j : ℕ) (f r : Network Expression) (s : Step) → StandsThere t p n (a_network f) → NetworkRow j n f r
+    → Contains network_laws j → s ≡ forward_step (L.L j) p → Rewrites t p (a_network r) v → Takes t s v
+taken_net t v p n j f r s stands row tried is w = subst (λ s. Takes t s v) (sym is) (record {
+  may = record { tried = tried; forward = refl; none_given = refl };
+  next = record {
+    new = a_network r;
+    answered = record { place = placed stands.params n (a_network f); found = stands.there; answered = network_forward row };
+    rewritten = w;
+  };
+})
+
+pub taken_leaf : (t v : TypedNetwork) (p : List ℕ) (j : ℕ) (e r : Expression) (s : Step) → ExpressionThere t p e → ExpressionRow j e r
+    → Contains expression_laws j → s ≡ forward_step (L.E j) p → Rewrites t p (a_leaf r) v → Takes t s v
+taken_leaf t v p j e r s stands row tried is w = subst (λ s. Takes t s v) (sym is) (record {
+  may = record { tried = tried; forward = refl; none_given = refl };
+  next = record {
+    new = a_leaf r;
+    answered = record { place = placed stands.1.params stands.0 (a_leaf e); found = stands.1.there; answered = expression_forward row };
+    rewritten = w;
+  };
+})
+
+-- at a network no law of expressions matches, at an expression none of networks
+no_kind_net : (olds n : ℕ) (f : Network Expression) (new : Tree Expression) → TreeAnswer olds (L.E n) Forward (a_network f) None new → ⊥
+no_kind_net olds n f new a = elim a [ ]
+
+no_kind_leaf : (olds n : ℕ) (e : Expression) (new : Tree Expression) → TreeAnswer olds (L.L n) Forward (a_leaf e) None new → ⊥
+no_kind_leaf olds n e new a = elim a [ ]
+
+-- where no law of networks that is tried leads on at a network, none does
+pub none_at_net : (t : TypedNetwork) (p : List ℕ) (n : ℕ) (f : Network Expression) → StandsThere t p n (a_network f)
+    → ((k : ℕ) → k < length network_laws → NoStepBy t p (L.L (get_or network_laws k 0))) → NoStepAt t p
+none_at_net t p n f s none (L.L j) tried = subst (λ i. NoStepBy t p (L.L i)) (get_or_default network_laws tried.0 0 j tried.1 ∙ tried.2) (none tried.0 tried.1)
+none_at_net t p n f s none (L.E j) tried = λ v next. no_kind_net n j f next.new (answer_there t v p s.params n (a_network f) (L.E j) s.there next)
+
+pub none_at_leaf : (t : TypedNetwork) (p : List ℕ) (e : Expression) → ExpressionThere t p e
+    → ((k : ℕ) → k < length expression_laws → NoStepBy t p (L.E (get_or expression_laws k 0))) → NoStepAt t p
+none_at_leaf t p e s none (L.E j) tried = subst (λ i. NoStepBy t p (L.E i)) (get_or_default expression_laws tried.0 0 j tried.1 ∙ tried.2) (none tried.0 tried.1)
+none_at_leaf t p e s none (L.L j) tried = λ v next. no_kind_leaf s.0 j e next.new (answer_there t v p s.1.params s.0 (a_leaf e) (L.L j) s.1.there next)
+
+-- a step that may be taken is the one by its law at its position
+step_is : (t : TypedNetwork) (s : Step) (may : MayTake s) (u : TypedNetwork) → Next t s u → Next t (forward_step s.law s.position) u
+step_is t s may u next = subst (λ (g : Option (Tree Expression)). Next t (record { law = s.law; direction = Forward; position = s.position; given = g }) u) may.none_given
+    (subst (λ d. Next t (record { law = s.law; direction = d; position = s.position; given = s.given }) u) may.forward next)
+
+-- where no step leads on at any position, none is left
+pub none_anywhere : (t : TypedNetwork) → ((p : List ℕ) → NoStepAt t p) → NoneLeft t
+none_anywhere t none = λ s may u next. none s.position s.law may.tried u (step_is t s may u next)
+
+-- where nothing stands no step leads on
+pub none_there : (t : TypedNetwork) (p : List ℕ) → placed_at 0 0 (a_network t.net) p ≡ None → NoStepAt t p
+none_there t p is = λ law tried u next. none-some next.answered.place (sym is ∙ next.answered.found)

@@ -1,0 +1,3 @@
+-- What an optimised network is.
+pub mod Optimising
+pub mod Search

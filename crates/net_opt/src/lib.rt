@@ -1,0 +1,2 @@
+//! The optimiser: a network made faster by laws alone, with the steps that lead to it.
+#![tactic(auto)]
