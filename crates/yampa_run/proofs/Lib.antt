@@ -2,3 +2,4 @@ pub mod Written
 pub mod Runs
 mod Networks
 mod Refusals
+mod Headline

@@ -5,3 +5,4 @@ pub mod Runs
 pub mod KnownFiles
 pub mod RefusalLines
 pub mod Preparation
+pub mod Headline
