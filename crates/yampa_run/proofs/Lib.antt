@@ -3,3 +3,4 @@ pub mod Runs
 mod Networks
 mod Refusals
 mod Headline
+mod CheckedRun

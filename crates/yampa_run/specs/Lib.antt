@@ -6,3 +6,4 @@ pub mod KnownFiles
 pub mod RefusalLines
 pub mod Preparation
 pub mod Headline
+pub mod CheckedRun

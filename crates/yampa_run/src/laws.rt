@@ -2,9 +2,11 @@
 // same.
 
 ghost use Rattle.yampa_run.specs.Preparation.{OneRefusalLaw, NoNetworkLaw};
+ghost use Rattle.yampa_run.specs.CheckedRun.{CheckedRunLaw};
 ghost use Rattle.yampa_run.specs.Headline.{SameOutputLaw, SameFrontLaw, WritesOutputLaw, HeadlineLaw};
 
 use cert_check::derivation_laws;
+use net_syntax::typing_laws;
 use sample_core::reading_laws;
 
 /// The bytes of a file are refused with one line, and bytes that have a network with none.
@@ -25,4 +27,14 @@ pub fn headline_laws()
 {
     reading_laws();
     derivation_laws();
+}
+
+/// Where the bytes of three files are those of a source, a target and a certificate that leads from
+/// one to the other, an unhindered run of the target writes exactly the output of the source.
+pub fn checked_run_laws()
+    ensures checked { CheckedRunLaw }
+{
+    reading_laws();
+    derivation_laws();
+    typing_laws();
 }

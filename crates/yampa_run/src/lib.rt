@@ -15,7 +15,7 @@ pub use command_line::command_rows;
 pub use fault::{RunFault, RunReport};
 pub use files::{FileFault, Files};
 pub use fill::table_refusal;
-pub use laws::{headline_laws, refusal_laws};
+pub use laws::{checked_run_laws, headline_laws, refusal_laws};
 pub use preparation::{Job, Refusal, prepare};
 pub use printed::fault_line;
 pub use stream_run::run;
