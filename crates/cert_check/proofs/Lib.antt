@@ -2,3 +2,4 @@ pub mod Counted
 pub mod Sound
 pub mod OneAnswer
 pub mod FewBound
+pub mod Taken

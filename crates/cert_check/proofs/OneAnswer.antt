@@ -1,5 +1,5 @@
 -- A step leads to at most one network, and a check has one answer.
-use Rattle.std.proofs.Common.{◌≡◌, ℕ, suc, ◌≤◌, ◌<◌, List, [], ◌∷◌, ◌++◌, length, Option, Result, Ok, Err, refl, sym, ap, ◌∙◌, arith, subst}
+use Rattle.std.proofs.Common.{◌≡◌, ℕ, suc, ◌≤◌, ◌<◌, List, [], ◌∷◌, ◌++◌, length, Option, Result, Ok, Err, refl, sym, ap, ◌∙◌, arith, subst, Some, None}
 use Rattle.std.proofs.lemmas.Option.{none-some, same_Some}
 use Rattle.leaf_core.specs.Expression.{Expression}
 use Rattle.net_syntax.specs.Network.{Network}
@@ -14,7 +14,11 @@ use Rattle.net_syntax.specs.declared.law_step.Law.{Law}
 use Rattle.net_syntax.specs.declared.law_step.Direction.{Direction}
 use Rattle.expr_laws.proofs.Numbers.{one_right_side}
 use Rattle.law_rules.proofs.RowsExact.{one-right_side}
-use Rattle.cert_check.specs.TreeAnswer.{TreeAnswer, expression_forward, expression_backward, network_forward, network_backward}
+use Rattle.expr_laws.specs.Answer as E
+use Rattle.expr_laws.specs.Answer.{ExpressionAnswer}
+use Rattle.law_rules.specs.Answer as N
+use Rattle.law_rules.specs.Answer.{NetworkAnswer}
+use Rattle.cert_check.specs.TreeAnswer.{TreeAnswer}
 use Rattle.cert_check.specs.Derives.{Answered, Next, Steps, no_step, step_then, Derives}
 use Rattle.cert_check.specs.declared.answer.Accepted.{Accepted}
 use Rattle.cert_check.specs.declared.answer.CheckFault.{CheckFault}
@@ -22,14 +26,33 @@ use Rattle.cert_check.specs.declared.answer.CheckFault.TheVariants.{InputsDiffer
 use Rattle.cert_check.specs.CheckAnswer.{NowhereIn, Unmatched, Untyped, FirstFails, LeadsElsewhere, CheckAnswer}
 use Rattle.cert_check.specs.Laws.{OneNextLaw, OneAnswerLaw}
 
+one_expression : (law : Law) (direction : Direction) (e : Expression) (given : Option Expression) (r s : Expression)
+    → ExpressionAnswer law direction e given r → ExpressionAnswer law direction e given s → r ≡ s
+one_expression law direction e given r s (E.forward_answer {n = n} row) (E.forward_answer row') = one_right_side n e r s row row'
+one_expression law direction e given r s (E.backward_answer row) (E.backward_answer row') = refl
+
+one_network : (olds : ℕ) (law : Law) (direction : Direction) (f : Network Expression) (given : Option (Network Expression)) (r s : Network Expression)
+    → NetworkAnswer law direction f given olds r → NetworkAnswer law direction f given olds s → r ≡ s
+one_network olds law direction f given r s (N.forward_answer {n = n} row) (N.forward_answer row') = one-right_side n olds f r s row row'
+one_network olds law direction f given r s (N.backward_answer row) (N.backward_answer row') = refl
+
 answer_unique : (olds : ℕ) (law : Law) (direction : Direction) (tree : Tree Expression) (given : Option (Tree Expression)) (r s : Tree Expression)
     → TreeAnswer olds law direction tree given r → TreeAnswer olds law direction tree given s → r ≡ s
-answer_unique olds law direction tree given r s (expression_forward {n = n} {e = e} {r = a} row) (expression_forward {r = b} row') =
-    ap a_leaf (one_right_side n e a b row row')
-answer_unique olds law direction tree given r s (expression_backward row) (expression_backward row') = refl
-answer_unique olds law direction tree given r s (network_forward {n = n} {f = f} {r = a} row) (network_forward {r = b} row') =
-    ap a_network (one-right_side n olds f a b row row')
-answer_unique olds law direction tree given r s (network_backward row) (network_backward row') = refl
+answer_unique olds law direction (a_leaf e) None (a_leaf r) (a_leaf s) x y = ap a_leaf (one_expression law direction e None r s x y)
+answer_unique olds law direction (a_leaf e) (Some (a_leaf g)) (a_leaf r) (a_leaf s) x y = ap a_leaf (one_expression law direction e (Some g) r s x y)
+answer_unique olds law direction (a_network f) None (a_network r) (a_network s) x y = ap a_network (one_network olds law direction f None r s x y)
+answer_unique olds law direction (a_network f) (Some (a_network g)) (a_network r) (a_network s) x y =
+    ap a_network (one_network olds law direction f (Some g) r s x y)
+answer_unique olds law direction (a_leaf e) None (a_network r) s x y = absurd x
+answer_unique olds law direction (a_leaf e) None (a_leaf r) (a_network s) x y = absurd y
+answer_unique olds law direction (a_leaf e) (Some (a_leaf g)) (a_network r) s x y = absurd x
+answer_unique olds law direction (a_leaf e) (Some (a_leaf g)) (a_leaf r) (a_network s) x y = absurd y
+answer_unique olds law direction (a_leaf e) (Some (a_network g)) r s x y = absurd x
+answer_unique olds law direction (a_network f) None (a_leaf r) s x y = absurd x
+answer_unique olds law direction (a_network f) None (a_network r) (a_leaf s) x y = absurd y
+answer_unique olds law direction (a_network f) (Some (a_network g)) (a_leaf r) s x y = absurd x
+answer_unique olds law direction (a_network f) (Some (a_network g)) (a_network r) (a_leaf s) x y = absurd y
+answer_unique olds law direction (a_network f) (Some (a_leaf g)) r s x y = absurd x
 
 -- what a law answers at a step's position is one tree
 answered_unique : (t : TypedNetwork) (s : Step) (new other : Tree Expression) → Answered t s new → Answered t s other → new ≡ other

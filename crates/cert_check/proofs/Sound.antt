@@ -1,12 +1,15 @@
 -- What is derived from a typed network has its types and outputs the same.
-use Rattle.std.proofs.Common.{◌≡◌, ℕ, List, [], length, Option, refl, sym, ◌∙◌, subst}
+use Rattle.std.proofs.Common.{◌≡◌, ℕ, List, [], length, Option, Some, None, refl, sym, ◌∙◌, subst}
 use Rattle.std.proofs.lemmas.Option.{same_Some}
 use Rattle.sample_core.specs.TypeTree.{TypeTree}
 use Rattle.leaf_core.specs.Expression.{Expression}
+use Rattle.leaf_core.specs.ExpressionTyping.{ExpressionTyped}
+use Rattle.leaf_core.specs.SameValue.{SameValue}
+use Rattle.net_syntax.specs.Network.{Network}
 use Rattle.net_syntax.specs.Environment.{closed, closed_typed}
 use Rattle.net_syntax.specs.TypedNetwork.{TypedNetwork, NetTyped, HasItsTypes}
 use Rattle.net_syntax.specs.AlikeEnvironments.{SameOutputs}
-use Rattle.net_syntax.specs.Place.{Tree, a_network}
+use Rattle.net_syntax.specs.Place.{Tree, a_network, a_leaf}
 use Rattle.net_syntax.specs.Placed.{placed}
 use Rattle.net_syntax.specs.Standing.{Standing, alone, TreeTyped}
 use Rattle.net_syntax.specs.Rewriting.{Rewrites, KeepsType}
@@ -20,23 +23,36 @@ use Rattle.net_syntax.proofs.StreamLaws.{alike-outputs, one-output-type}
 use Rattle.net_syntax.proofs.HoldsTypes.{holds_types}
 use Rattle.expr_laws.proofs.RowValues.{row_value}
 use Rattle.law_rules.proofs.SameSides.{same-side_outputs}
-use Rattle.cert_check.specs.TreeAnswer.{TreeAnswer, expression_forward, expression_backward, network_forward, network_backward}
+use Rattle.expr_laws.specs.Answer as E
+use Rattle.expr_laws.specs.Answer.{ExpressionAnswer}
+use Rattle.law_rules.specs.Answer as N
+use Rattle.law_rules.specs.Answer.{NetworkAnswer}
+use Rattle.cert_check.specs.TreeAnswer.{TreeAnswer}
 use Rattle.cert_check.specs.Derives.{Answered, Next, Steps, no_step, step_then, Derives}
 use Rattle.cert_check.specs.Laws.{SameLaw, SameStreamLaw, KeptTypesLaw}
 use Rattle.cert_check.proofs.Counted.{placed-stands}
 
 -- a law's answer does the same as the tree at hand, where both have one type
+expression_same : (Q : Standing) (C : TypeTree) (law : Law) (direction : Direction) (e : Expression) (given : Option Expression) (r : Expression)
+    → ExpressionAnswer law direction e given r → ExpressionTyped e Q.params Q.input C → ExpressionTyped r Q.params Q.input C → SameValue Q.params Q.input e r
+expression_same Q C law direction e given r (E.forward_answer {n = n} row) d k = λ ps x hp hx. row_value n e r row Q.params Q.input C d ps x hp hx
+expression_same Q C law direction e given r (E.backward_answer {n = n} row) d k = λ ps x hp hx. sym (row_value n r e row Q.params Q.input C k ps x hp hx)
+
+network_same : (Q : Standing) (C : TypeTree) (olds : ℕ) (law : Law) (direction : Direction) (f : Network Expression) (given : Option (Network Expression))
+    (r : Network Expression) → NetworkAnswer law direction f given olds r → length Q.olds ≡ olds → NetTyped Q.params Q.olds f Q.input C
+    → NetTyped Q.params Q.olds r Q.input C → SameOutputs Q.params Q.olds Q.input f r
+network_same Q C olds law direction f given r (N.forward_answer {n = n} row) l d k = same-side_outputs n olds Q.params Q.olds Q.input C f r row l d k
+network_same Q C olds law direction f given r (N.backward_answer {n = n} row) l d k =
+    same-sym Q.params Q.olds Q.input r f (same-side_outputs n olds Q.params Q.olds Q.input C r f row l k d)
+
 answer_same : (Q : Standing) (C : TypeTree) (olds : ℕ) (law : Law) (direction : Direction) (tree : Tree Expression) (given : Option (Tree Expression))
     (new : Tree Expression) → TreeAnswer olds law direction tree given new → length Q.olds ≡ olds → TreeTyped Q tree C → TreeTyped Q new C
     → SameThere Q tree new
-answer_same Q C olds law direction tree given new (expression_forward {n = n} {e = e} {r = r} row) l d k =
-    λ ps x hp hx. row_value n e r row Q.params Q.input C d ps x hp hx
-answer_same Q C olds law direction tree given new (expression_backward {n = n} {e = e} {g = g} row) l d k =
-    λ ps x hp hx. sym (row_value n g e row Q.params Q.input C k ps x hp hx)
-answer_same Q C olds law direction tree given new (network_forward {n = n} {f = f} {r = r} row) l d k =
-    same-side_outputs n olds Q.params Q.olds Q.input C f r row l d k
-answer_same Q C olds law direction tree given new (network_backward {n = n} {f = f} {g = g} row) l d k =
-    same-sym Q.params Q.olds Q.input g f (same-side_outputs n olds Q.params Q.olds Q.input C g f row l k d)
+answer_same Q C olds law direction (a_leaf e) None (a_leaf r) x l d k = expression_same Q C law direction e None r x d k
+answer_same Q C olds law direction (a_leaf e) (Some (a_leaf g)) (a_leaf r) x l d k = expression_same Q C law direction e (Some g) r x d k
+answer_same Q C olds law direction (a_network f) None (a_network r) x l d k = network_same Q C olds law direction f None r x l d k
+answer_same Q C olds law direction (a_network f) (Some (a_network g)) (a_network r) x l d k = network_same Q C olds law direction f (Some g) r x l d k
+answer_same Q C olds law direction tree given new x l d k = absurd x
 
 -- a step keeps the types, and what is output
 pub record Kin (t u : TypedNetwork) : Type 0 where

@@ -54,8 +54,8 @@ pub record LeadsElsewhere (source target : TypedNetwork) (steps : List Step) : T
   pub leads : Steps source steps last
   pub elsewhere : last.net ≡ target.net → ⊥
 
--- that this is the answer; want of memory, which comes only where a growth was refused, says
--- nothing
+-- that this is the answer; want of memory comes only where a growth was refused, so never before
+-- the steps begin
 abbrev pub CheckAnswer : TypedNetwork → TypedNetwork → List Step → Result Accepted CheckFault
     → Type 0
 CheckAnswer source target steps (Ok accepted) =
@@ -71,4 +71,4 @@ CheckAnswer source target steps (Err (IllTyped n)) =
     Begins source target steps × FirstFails Untyped source steps n
 CheckAnswer source target steps (Err EndsElsewhere) =
     Begins source target steps × LeadsElsewhere source target steps
-CheckAnswer source target steps (Err Memory) = Unit {0}
+CheckAnswer source target steps (Err Memory) = Begins source target steps

@@ -3,3 +3,4 @@ pub mod TreeAnswer
 pub mod Derives
 pub mod CheckAnswer
 pub mod Laws
+pub mod StepAnswers

@@ -3,7 +3,10 @@
 #![tactic(auto)]
 
 mod answer;
+mod derivation;
 mod laws;
+mod step;
 
 pub use answer::{Accepted, CheckFault};
+pub use derivation::{MOST_STEPS, check};
 pub use laws::{derivation_laws, one_answer_laws};

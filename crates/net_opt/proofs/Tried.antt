@@ -13,10 +13,12 @@ use Rattle.net_syntax.specs.declared.law_step.Law.{Law}
 use Rattle.net_syntax.specs.declared.law_step.Law.TheVariants as L
 use Rattle.net_syntax.specs.declared.law_step.Direction.TheVariants.{Forward}
 use Rattle.expr_laws.specs.Rows.{ExpressionRow}
+use Rattle.expr_laws.specs.Answer as E
 use Rattle.expr_laws.proofs.Numbers.{one_right_side}
 use Rattle.law_rules.specs.NetworkRow.{NetworkRow}
+use Rattle.law_rules.specs.Answer as N
 use Rattle.law_rules.proofs.RowsExact.{one-right_side}
-use Rattle.cert_check.specs.TreeAnswer.{TreeAnswer, expression_forward, network_forward}
+use Rattle.cert_check.specs.TreeAnswer.{TreeAnswer}
 use Rattle.cert_check.specs.Derives.{Next}
 use Rattle.net_opt.specs.Optimising.{MayTake, NoneLeft, network_laws, expression_laws}
 use Rattle.net_opt.specs.Search.{StandsThere, ExpressionThere, forward_step, NoStepBy, NoStepAt, Takes}
@@ -28,7 +30,8 @@ record NetAnswer (n olds : ℕ) (f : Network Expression) (new : Tree Expression)
   is : new ≡ a_network right
 
 net_answer : (n olds : ℕ) (f : Network Expression) (new : Tree Expression) → TreeAnswer olds (L.L n) Forward (a_network f) None new → NetAnswer n olds f new
-net_answer n olds f new (network_forward {r = r} row) = record { right = r; row = row; is = refl }
+net_answer n olds f (a_network r) (N.forward_answer row) = record { right = r; row = row; is = refl }
+net_answer n olds f (a_leaf r) a = absurd a
 
 -- the same at an expression
 record LeafAnswer (n : ℕ) (e : Expression) (new : Tree Expression) : Type 0 where
@@ -37,7 +40,8 @@ record LeafAnswer (n : ℕ) (e : Expression) (new : Tree Expression) : Type 0 wh
   is : new ≡ a_leaf right
 
 leaf_answer : (n olds : ℕ) (e : Expression) (new : Tree Expression) → TreeAnswer olds (L.E n) Forward (a_leaf e) None new → LeafAnswer n e new
-leaf_answer n olds e new (expression_forward {r = r} row) = record { right = r; row = row; is = refl }
+leaf_answer n olds e (a_leaf r) (E.forward_answer row) = record { right = r; row = row; is = refl }
+leaf_answer n olds e (a_network r) a = absurd a
 
 -- what a step at a place where u stands has for an answer
 answer_there : (t v : TypedNetwork) (p : List ℕ) (k n : ℕ) (u : Tree Expression) (law : Law) → placed_at 0 0 (a_network t.net) p ≡ Some (placed k n u)
@@ -77,7 +81,7 @@ taken_net t v p n j f r s stands row tried is w = subst (λ s. Takes t s v) (sym
   may = record { tried = tried; forward = refl; none_given = refl };
   next = record {
     new = a_network r;
-    answered = record { place = placed stands.params n (a_network f); found = stands.there; answered = network_forward row };
+    answered = record { place = placed stands.params n (a_network f); found = stands.there; answered = N.forward_answer row };
     rewritten = w;
   };
 })
@@ -88,17 +92,19 @@ taken_leaf t v p j e r s stands row tried is w = subst (λ s. Takes t s v) (sym 
   may = record { tried = tried; forward = refl; none_given = refl };
   next = record {
     new = a_leaf r;
-    answered = record { place = placed stands.1.params stands.0 (a_leaf e); found = stands.1.there; answered = expression_forward row };
+    answered = record { place = placed stands.1.params stands.0 (a_leaf e); found = stands.1.there; answered = E.forward_answer row };
     rewritten = w;
   };
 })
 
 -- at a network no law of expressions matches, at an expression none of networks
 no_kind_net : (olds n : ℕ) (f : Network Expression) (new : Tree Expression) → TreeAnswer olds (L.E n) Forward (a_network f) None new → ⊥
-no_kind_net olds n f new a = elim a [ ]
+no_kind_net olds n f (a_network r) a = elim a [ ]
+no_kind_net olds n f (a_leaf r) a = absurd a
 
 no_kind_leaf : (olds n : ℕ) (e : Expression) (new : Tree Expression) → TreeAnswer olds (L.L n) Forward (a_leaf e) None new → ⊥
-no_kind_leaf olds n e new a = elim a [ ]
+no_kind_leaf olds n e (a_leaf r) a = elim a [ ]
+no_kind_leaf olds n e (a_network r) a = absurd a
 
 -- where no law of networks that is tried leads on at a network, none does
 pub none_at_net : (t : TypedNetwork) (p : List ℕ) (n : ℕ) (f : Network Expression) → StandsThere t p n (a_network f)
