@@ -1,46 +1,81 @@
 -- The program's command line, and what its words ask for.
-use Rattle.std.specs.Prelude.{◌≡◌, ◌≢◌, ℕ, List, [], ◌∷◌, true, Option, Some, None, Result, Ok, Err, bytes_eq, codes, if◌then◌else◌, ⊤}
+use Rattle.std.specs.Prelude.{◌≡◌, ◌≢◌, ℕ, List, [], ◌∷◌, true, Option, Some, None, option_and_then, option_map, Result, Ok, Err, bytes_eq, codes, if◌then◌else◌, ⊤}
 use Rattle.clap.specs.Simple.{on_top}
 use Rattle.clap.specs.Words.{App, IsAmong, Kinds, Row, Rule, Shape, fault_of, first_of, new_app, new_rule, subcommand_of, with_rule, with_subcommand}
 use Rattle.clap.specs.declared.builder.action.ArgAction.TheVariants.{Set}
 use Rattle.clap.specs.declared.error.kind.ErrorKind.{ErrorKind}
 use Rattle.clap.specs.declared.error.kind.ErrorKind.TheVariants as kind
+use Rattle.command_line.specs.declared.command.Derivation.{Derivation}
 use Rattle.command_line.specs.declared.command.Request.{Request}
 use Rattle.command_line.specs.declared.command.Request.TheVariants as Q
 use Rattle.command_line.specs.declared.command.Reply.{Reply}
 use Rattle.command_line.specs.declared.command.Reply.TheVariants as R
 
--- the name of a network file, which must be there
-abbrev pub net_name : Rule
-net_name = record (new_rule (codes "NET")) { action = Some Set; required = true }
+-- the name of a file, which must be there
+abbrev pub file_name : List ℕ → Rule
+file_name id = record (new_rule id) { action = Some Set; required = true }
 
 -- a subcommand that takes the name of a network file
 abbrev pub file_command : List ℕ → Shape
-file_command name = (with_rule (new_app name) net_name).top
+file_command name = (with_rule (new_app name) (file_name (codes "NET"))).top
 
--- the program's command line: `types NET` or `run NET`, of which one must be there
+-- a subcommand that takes the names of a source, a target and a certificate
+abbrev pub derivation_command : List ℕ → Shape
+derivation_command name =
+    (with_rule
+    (with_rule (with_rule (new_app name) (file_name (codes "SRC"))) (file_name (codes "TGT")))
+    (file_name (codes "CERT"))).top
+
+-- the program's name, behind which a subcommand must be there
+abbrev pub program : App
+program = on_top (λ s. record s { subcommand_required = true }) (new_app (codes "yampa"))
+
+-- the program's command line: `types NET`, `run NET`, `check SRC TGT CERT` or
+-- `run-checked SRC TGT CERT`
 abbrev pub command_line : App
 command_line =
     with_subcommand
     (with_subcommand
-    (on_top (λ s. record s { subcommand_required = true }) (new_app (codes "yampa")))
-    (file_command (codes "types"))) (file_command (codes "run"))
+    (with_subcommand (with_subcommand program (file_command (codes "types")))
+    (file_command (codes "run"))) (derivation_command (codes "check")))
+    (derivation_command (codes "run-checked"))
 
--- what a command line asks for: the types of the network in the file of that name, or a run of it
+-- the names of the files of a derivation
+pub record DerivationNames : Type 0 where
+  pub source : List ℕ
+  pub target : List ℕ
+  pub certificate : List ℕ
+
+-- what a command line asks for: the types of the network in the file of that name, or a run of it;
+-- whether a certificate leads from its source to its target, or that and a run of the target
 pub data RequestTree : Type 0 where
   types : List ℕ → RequestTree
   run : List ℕ → RequestTree
+  check : DerivationNames → RequestTree
+  run_checked : DerivationNames → RequestTree
 
--- what a subcommand asks for on a file
-abbrev pub request_on : List ℕ → Option (List ℕ) → Option RequestTree
-request_on command None = None
-request_on command (Some net) = if bytes_eq command (codes "types") then Some (types net)
-    else (if bytes_eq command (codes "run") then Some (run net) else None)
+-- the names of a derivation's files among a subcommand's matches, where all three are there
+abbrev pub derivation_in : List Row → Option DerivationNames
+derivation_in rows = option_and_then (λ source.
+    option_and_then (λ target. option_map (λ certificate. record {
+      source = source;
+      target = target;
+      certificate = certificate;
+    }) (first_of (codes "CERT") rows)) (first_of (codes "TGT") rows)) (first_of (codes "SRC") rows)
+
+-- what a subcommand asks for, by its matches
+abbrev pub request_on : List ℕ → List Row → Option RequestTree
+request_on command rows =
+    if bytes_eq command (codes "types") then option_map types (first_of (codes "NET") rows)
+    else (if bytes_eq command (codes "run") then option_map run (first_of (codes "NET") rows)
+    else (if bytes_eq command (codes "check") then option_map check (derivation_in rows)
+    else (if bytes_eq command (codes "run-checked") then option_map run_checked (derivation_in rows)
+    else None)))
 
 -- what the subcommand and its matches ask for
 abbrev pub request_by : Option (List ℕ × List Row) → Option RequestTree
 request_by None = None
-request_by (Some s) = request_on s.0 (first_of (codes "NET") s.1)
+request_by (Some s) = request_on s.0 s.1
 
 -- what is asked for, where nothing is wrong with the words
 abbrev pub unless_faulty : Kinds → Option RequestTree → Option RequestTree
@@ -61,10 +96,20 @@ unfoldable pub AsksNothing : List (List ℕ) → Type 0
 AsksNothing words = (request_in words ≡ None)
     × (fault_of command_line words ≢ (kind.DisplayHelp ∷ []))
 
+-- the code's names of a derivation's files as such
+abbrev pub derivation_view : Derivation → DerivationNames
+derivation_view d = record {
+  source = d.source.now;
+  target = d.target.now;
+  certificate = d.certificate.now;
+}
+
 -- the code's request as one
 abbrev pub request_view : Request → RequestTree
 request_view (Q.Types net) = types net.now
 request_view (Q.Run net) = run net.now
+request_view (Q.Check d) = check (derivation_view d)
+request_view (Q.RunChecked d) = run_checked (derivation_view d)
 
 -- the reply fits an error of that kind
 abbrev pub RepliesTo : ErrorKind → Reply → Type 0

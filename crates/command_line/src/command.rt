@@ -1,15 +1,26 @@
 // The command line.
 
-ghost use Rattle.std.specs.Prelude.{◌≡◌, IfOk, map, option_map, false};
-ghost use Rattle.clap.specs.Words.{app_of, kind_of, shape_of, subcommand_rows_of, with_subcommand};
+ghost use Rattle.std.specs.Prelude.{◌≡◌, IfOk, codes, map, option_map, false};
+ghost use Rattle.clap.specs.Words.{app_of, first_of, found_of, kind_of, rows_of, rule_of, shape_of, subcommand_rows_of, with_subcommand};
 ghost use Rattle.clap.specs.declared.builder.command.Command.TheViews.{out-Command};
-ghost use Rattle.command_line.specs.CommandRows.{RequestRows, HelpRows, NothingRows};
-ghost use Rattle.command_line.specs.CommandLine.{IsNothing, ReadsWords, RepliesTo, request_by, command_line, file_command, request_view};
+ghost use Rattle.command_line.specs.CommandRows.{RequestRows, DerivationRows, HelpRows, NothingRows};
+ghost use Rattle.command_line.specs.CommandLine.{IsNothing, ReadsWords, RepliesTo, request_by, request_on, command_line, derivation_command, derivation_in, derivation_view, file_command, file_name, request_view, types, run, check, run_checked};
 
 use crate::help;
 use clap::error::{Error, ErrorKind};
 use clap::{Arg, ArgAction, ArgMatches, Command};
 use std::alloc::{AllocError, Global};
+
+/// The names of the files of a derivation.
+#[derive(Clone, Copy)]
+pub struct Derivation<'a> {
+    /// The network that it begins with.
+    pub source: &'a str,
+    /// The network that it leads to.
+    pub target: &'a str,
+    /// Its steps.
+    pub certificate: &'a str,
+}
 
 /// What the command line asks for.
 #[derive(Clone, Copy)]
@@ -18,6 +29,10 @@ pub enum Request<'a> {
     Types { net: &'a str },
     /// A run of the network in a file.
     Run { net: &'a str },
+    /// Whether a certificate leads from its source to its target.
+    Check(Derivation<'a>),
+    /// The same, and then a run of the target.
+    RunChecked(Derivation<'a>),
 }
 
 /// Why the command line is no request.
@@ -41,6 +56,17 @@ impl From<AllocError> for Reply {
     }
 }
 
+/// The name of a file, which must be there, and what help tells of it.
+fn named_file<'a>(alloc: Global, id: &'a str, tells: &'a str) -> Arg<'a>
+    ensures rule { rule_of result ≡ file_name id.entry.now }
+    ensures local { result.global ≡ false }
+{
+    Arg::new(alloc, id)
+        .required(true)
+        .action(ArgAction::Set)
+        .help(tells)
+}
+
 /// A subcommand of that name that takes a network file, and what help tells of it.
 fn on_network<'a>(
     alloc: Global,
@@ -51,12 +77,24 @@ fn on_network<'a>(
     ensures shape { IfOk result (λ c. shape_of c ≡ file_command name.entry.now) }
     ensures local { IfOk result (λ c. (out-Command c).has_globals ≡ false) }
 {
-    let net = Arg::new(alloc, "NET")
-        .required(true)
-        .action(ArgAction::Set)
-        .help(help::NET);
     let command = Command::new(alloc, name).about(does).after_help(more);
-    command.arg(net)
+    command.arg(named_file(alloc, "NET", help::NET))
+}
+
+/// A subcommand of that name that takes the files of a derivation, and what help tells of it.
+fn on_derivation<'a>(
+    alloc: Global,
+    name: &'a str,
+    does: &'a str,
+    more: &'a str,
+) -> Result<Command<'a>, AllocError>
+    ensures shape { IfOk result (λ c. shape_of c ≡ derivation_command name.entry.now) }
+    ensures local { IfOk result (λ c. (out-Command c).has_globals ≡ false) }
+{
+    let command = Command::new(alloc, name).about(does).after_help(more);
+    let command = command.arg(named_file(alloc, "SRC", help::SRC))?;
+    let command = command.arg(named_file(alloc, "TGT", help::TGT))?;
+    command.arg(named_file(alloc, "CERT", help::CERT))
 }
 
 /// The command with one more subcommand, which has that name and takes a network file.
@@ -79,6 +117,27 @@ fn with_network<'a>(
     }
 }
 
+/// The command with one more subcommand, which has that name and takes the files of a derivation.
+fn with_derivation<'a>(
+    alloc: Global,
+    command: Command<'a>,
+    name: &'a str,
+    does: &'a str,
+    more: &'a str,
+) -> Result<Command<'a>, AllocError>
+    ensures app { IfOk result
+        (λ c. app_of c ≡ with_subcommand (app_of command.entry)
+        (derivation_command name.entry.now)) }
+{
+    match on_derivation(alloc, name, does, more) {
+        Ok(subcommand) => command.subcommand(subcommand),
+        Err(refused) => {
+            drop(command);
+            Err(refused)
+        }
+    }
+}
+
 /// The program's command line.
 fn make_command<'a>(alloc: Global) -> Result<Command<'a>, AllocError>
     ensures { IfOk result (λ c. app_of c ≡ command_line) }
@@ -88,7 +147,15 @@ fn make_command<'a>(alloc: Global) -> Result<Command<'a>, AllocError>
         .about(help::PROGRAM)
         .after_help(help::PROGRAM_MORE);
     let command = with_network(alloc, command, "types", help::TYPES, help::TYPES_MORE)?;
-    with_network(alloc, command, "run", help::RUN, help::RUN_MORE)
+    let command = with_network(alloc, command, "run", help::RUN, help::RUN_MORE)?;
+    let command = with_derivation(alloc, command, "check", help::CHECK, help::CHECK_MORE)?;
+    with_derivation(
+        alloc,
+        command,
+        "run-checked",
+        help::RUN_CHECKED,
+        help::RUN_CHECKED_MORE,
+    )
 }
 
 /// What the matches ask for.
@@ -96,12 +163,73 @@ fn request_of<'a>(matches: &ArgMatches<'a>) -> Option<Request<'a>>
     ensures { option_map request_view result ≡ request_by (subcommand_rows_of matches.now) }
 {
     let (name, inner) = matches.subcommand()?;
-    let net = inner.get_str("NET")?;
+    request_named(name, inner)
+}
+
+/// What a subcommand of that name asks for by its matches.
+fn request_named<'a>(name: &str, matches: &ArgMatches<'a>) -> Option<Request<'a>>
+    ensures { option_map request_view result ≡ request_on name.now (rows_of (found_of matches.now)) }
+{
     match name {
-        "types" => Some(Request::Types { net }),
-        "run" => Some(Request::Run { net }),
+        "types" => types_of(matches),
+        "run" => run_of(matches),
+        "check" => check_of(matches),
+        "run-checked" => run_checked_of(matches),
         _ => None,
     }
+}
+
+fn types_of<'a>(matches: &ArgMatches<'a>) -> Option<Request<'a>>
+    ensures { option_map request_view result
+        ≡ option_map types (first_of (codes "NET") (rows_of (found_of matches.now))) }
+{
+    let net = value_of(matches, "NET")?;
+    Some(Request::Types { net })
+}
+
+fn run_of<'a>(matches: &ArgMatches<'a>) -> Option<Request<'a>>
+    ensures { option_map request_view result
+        ≡ option_map run (first_of (codes "NET") (rows_of (found_of matches.now))) }
+{
+    let net = value_of(matches, "NET")?;
+    Some(Request::Run { net })
+}
+
+fn check_of<'a>(matches: &ArgMatches<'a>) -> Option<Request<'a>>
+    ensures { option_map request_view result
+        ≡ option_map check (derivation_in (rows_of (found_of matches.now))) }
+{
+    let derivation = derivation_of(matches)?;
+    Some(Request::Check(derivation))
+}
+
+fn run_checked_of<'a>(matches: &ArgMatches<'a>) -> Option<Request<'a>>
+    ensures { option_map request_view result
+        ≡ option_map run_checked (derivation_in (rows_of (found_of matches.now))) }
+{
+    let derivation = derivation_of(matches)?;
+    Some(Request::RunChecked(derivation))
+}
+
+/// The files of a derivation that the matches name.
+fn derivation_of<'a>(matches: &ArgMatches<'a>) -> Option<Derivation<'a>>
+    ensures { option_map derivation_view result ≡ derivation_in (rows_of (found_of matches.now)) }
+{
+    let source = value_of(matches, "SRC")?;
+    let target = value_of(matches, "TGT")?;
+    let certificate = value_of(matches, "CERT")?;
+    Some(Derivation {
+        source,
+        target,
+        certificate,
+    })
+}
+
+/// The value of that argument.
+fn value_of<'a>(matches: &ArgMatches<'a>, id: &str) -> Option<&'a str>
+    ensures { option_map (λ s. s.now) result ≡ first_of id.now (rows_of (found_of matches.now)) }
+{
+    matches.get_str(id)
 }
 
 /// What is answered to words that are refused.
@@ -157,10 +285,11 @@ fn no_such_command(alloc: Global) -> Reply
     }
 }
 
-/// Command lines, word for word, and what they ask for: a file's types or its run, help, or nothing
-/// that is there.
+/// Command lines, word for word, and what they ask for: a file's types or its run, a derivation,
+/// help, or nothing that is there.
 pub fn command_rows()
     ensures asked { RequestRows }
+    ensures derivations { DerivationRows }
     ensures help { HelpRows }
     ensures nothing { NothingRows }
 {}

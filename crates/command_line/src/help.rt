@@ -6,7 +6,8 @@ pub const PROGRAM: &str = "Checks and runs networks of signal functions.";
 /// What help on the program ends with.
 pub const PROGRAM_MORE: &str = "\
 A network is a text file: its input's type, and how each sample of a timed stream leads to an
-output. `yampa types NET` tells what goes in and what comes out, `yampa run NET < STREAM` runs it.
+output. `yampa types NET` tells what goes in and what comes out, `yampa run NET < STREAM` runs it,
+`yampa check SRC TGT CERT` checks that two networks output the same, by a certificate that says why.
 docs/LANGUAGE.md teaches the language. A small file NET, which outputs 0, and then each number
 plus one, a sample late:
 
@@ -16,7 +17,7 @@ plus one, a sample late:
 
 Exit status:
   0  all is done
-  1  the file or the stream is refused, or the network has over 4,096 different expressions
+  1  a file or the stream is refused, or the network has over 4,096 different expressions
   2  the words of the command line are wrong
   3  something can't be read or written, or memory is short
 Where it isn't 0, standard error says why.";
@@ -64,3 +65,53 @@ Exit status: 0 where the whole stream is run, 1 where the file or the stream is 
 network has over 4,096 different expressions, 2 where the words of the command line are wrong, 3
 where something can't be read or written, or memory is short. Where it isn't 0, standard error
 says why.";
+
+/// What the file of a certificate's source is.
+pub const SRC: &str = "The file of the network that the certificate begins with";
+
+/// What the file of a certificate's target is.
+pub const TGT: &str = "The file of the network that the certificate leads to";
+
+/// What the file of a certificate is.
+pub const CERT: &str =
+    "The certificate's file: `laws 1`, and its steps, as `(step L4 forward (at))`";
+
+/// What `check` does.
+pub const CHECK: &str = "Checks that a certificate leads from one network to another";
+
+/// What help on `check` ends with.
+pub const CHECK_MORE: &str = "\
+A certificate is a text file of steps. A step names a law, its direction and a place in the network,
+and, where the direction is `backward`, the tree that then stands there. Where the steps lead from
+the network of SRC to that of TGT, both output the same on every stream, and one line is printed,
+with the number of steps. No stream is read.
+
+Example: where the file `source` holds `yampa 1 input Int (>>> (arr (add x 1)) (arr (mul x 2)))`,
+the file `target` holds `yampa 1 input Int (arr (then (add x 1) (mul x 2)))`, and the file `steps`
+holds `laws 1 (step L4 forward (at))`,
+
+  $ yampa check source target steps
+  accepted 1
+
+Exit status: 0 where the certificate is accepted, 1 where it or a file is refused, 2 where the words
+of the command line are wrong, 3 where a file can't be read, the line can't be written, or memory is
+short. Where it isn't 0, standard error says why.";
+
+/// What `run-checked` does.
+pub const RUN_CHECKED: &str = "Checks a certificate, and runs the network that it leads to";
+
+/// What help on `run-checked` ends with.
+pub const RUN_CHECKED_MORE: &str = "\
+It checks as `yampa check SRC TGT CERT` does, but prints nothing of that. Where the certificate is
+accepted, it runs the network of TGT on standard input, as `yampa run TGT` does.
+
+Example: with the three files of the example that `yampa check --help` has,
+
+  $ printf '5\\n+1 6\\n' | yampa run-checked source target steps
+  12
+  14
+
+Exit status: 0 where the whole stream is run, 1 where a file, the certificate or the stream is
+refused or the network has over 4,096 different expressions, 2 where the words of the command line
+are wrong, 3 where something can't be read or written, or memory is short. Where it isn't 0,
+standard error says why.";

@@ -80,6 +80,8 @@ yampa help types | ‹increment› => help on yampa types <NET>
 yampa run --help | ‹increment› => help on yampa run <NET>
 yampa types net -h | ‹increment› => help on yampa types <NET>
 yampa run -h other | ‹increment› => help on yampa run <NET>
+yampa check --help | ‹increment› => help on yampa check <SRC> <TGT> <CERT>
+yampa run-checked -h | ‹increment› => help on yampa run-checked <SRC> <TGT> <CERT>
  | ‹increment› => wrong words
 yampa | ‹increment› => wrong words
 yampa  | ‹increment› => wrong words
@@ -92,8 +94,15 @@ yampa --version | ‹increment› => wrong words
 yampa Run net | ‹increment› => wrong words
 yampa optimise net | ‹increment› => wrong words
 yampa optimise --certificate net | ‹increment› => wrong words
-yampa check net net net | ‹increment› => wrong words
-yampa run-checked net net net | ‹increment› => wrong words
+yampa check net net | ‹increment› => wrong words
+yampa run-checked net net net net | ‹increment› => wrong words
+§ Files of a derivation, in the order in which they are named.
+yampa check other other other | ‹increment› => status 3 source: cannot be read
+yampa check net other other | ‹increment› => status 3 target: cannot be read
+yampa run-checked net net other | ‹increment› => status 3 certificate: cannot be read
+yampa check net other other | yampa 1 input Int (hold 0) => status 1 source: no event at (at)
+yampa check net net net | ‹increment› => status 1 certificate: header
+yampa run-checked net net net | ‹increment› => status 1 certificate: header
 § Files that are run, and why they are refused.
 yampa run net | yampa 3 input Int time => status 1 network: header
 yampa run net |  => status 1 network: header

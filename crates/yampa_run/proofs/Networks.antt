@@ -11,7 +11,12 @@ use Rattle.net_types.specs.Check.{check}
 use Rattle.net_types.specs.declared.fault.TypeFault.{TypeFault}
 use Rattle.net_types.specs.declared.fault.TypeFault.TheVariants as T
 use Rattle.command_line.specs.CommandLine.{RequestTree, request_in}
-use Rattle.yampa_run.specs.Preparation.{HasNoNetwork, IsNetworkIn, IsRefusal, RefusesText, RefusesTypes, KnownFiles, by_text, by_types, file_of}
+use Rattle.net_text.specs.CertificateLaws.{IsCertificateFault}
+use Rattle.yampa_run.specs.Preparation.{Fails, HasNoNetwork, HasNoSteps, IsNetworkIn, IsRefusal, IsRequested, Meets, RefusesText, RefusesTypes, KnownFiles, by_text, by_types}
+use Rattle.yampa_run.specs.declared.refused.Role.{Role}
+use Rattle.yampa_run.specs.declared.refused.Role.TheVariants as R
+use Rattle.yampa_run.specs.declared.preparation.Job.{Job}
+use Rattle.yampa_run.specs.declared.preparation.Job.TheVariants as J
 use Rattle.yampa_run.specs.declared.preparation.Refusal.{Refusal}
 use Rattle.yampa_run.specs.declared.preparation.Refusal.TheVariants as Refused
 
@@ -21,17 +26,30 @@ network_in bytes A net t f e =
     let h = (check_exact A net t).0 e in
     record { file = rw (h.0, h.1) f; typed = h.2 }
 
-pub text_refused : (bytes : List ℕ) (f : NetTextFault) → IsFileFault bytes f → (r : Refusal) → RefusesText f r → HasNoNetwork (Some bytes) r
-text_refused bytes f wrong (Refused.Line status line) h = inr (h.1, by_text f h.0 wrong h.2)
-text_refused bytes f wrong Refused.Memory h = tt
+pub text_refused : (role : Role) (bytes : List ℕ) (f : NetTextFault) → IsFileFault bytes f → (r : Refusal) → RefusesText role f r
+    → HasNoNetwork role (Some bytes) r
+text_refused role bytes f wrong (Refused.Line status line) h = inr (h.1, by_text f h.0 wrong h.2)
+text_refused role bytes f wrong Refused.Memory h = tt
 
-pub types_refused : (bytes : List ℕ) (A : TypeTree) (net : Network Expression) (f : TypeFault) → IsFile bytes A net → (f ≢ T.Memory → check A net ≡ Err f)
-    → (r : Refusal) → RefusesTypes f r → HasNoNetwork (Some bytes) r
-types_refused bytes A net f file e (Refused.Line status line) h = inr (h.1, by_types A net f file (e h.0) h.2)
-types_refused bytes A net f file e Refused.Memory h = tt
+pub types_refused : (role : Role) (bytes : List ℕ) (A : TypeTree) (net : Network Expression) (f : TypeFault) → IsFile bytes A net
+    → (f ≢ T.Memory → check A net ≡ Err f) → (r : Refusal) → RefusesTypes role f r → HasNoNetwork role (Some bytes) r
+types_refused role bytes A net f file e (Refused.Line status line) h = inr (h.1, by_types A net f file (e h.0) h.2)
+types_refused role bytes A net f file e Refused.Memory h = tt
 
--- what is asked of a file that has no network is refused
-pub lacking : (told : KnownFiles) (words : List (List ℕ)) (what : RequestTree) → request_in words ≡ Some what → (r : Refusal)
-    → HasNoNetwork (told (file_of what)) r → IsRefusal told words r
-lacking told words what e (Refused.Line status line) h = inr (record { what = what; asks = e; lacks = h })
-lacking told words what e Refused.Memory h = tt
+-- a text that is refused has no steps
+pub steps_refused : (bytes : List ℕ) (f : NetTextFault) → IsCertificateFault bytes f → (r : Refusal) → RefusesText R.Certificate f r
+    → HasNoSteps (Some bytes) r
+steps_refused bytes f wrong (Refused.Line status line) h = inr (h.1, (f, h.0, wrong, h.2))
+steps_refused bytes f wrong Refused.Memory h = tt
+
+-- what meets a request is what the words ask for
+pub met : (told : KnownFiles) (words : List (List ℕ)) (what : RequestTree) → request_in words ≡ Some what → (job : Job) → Meets told what job
+    → IsRequested told words job
+met told words what e (J.Run t) h = record { what = what; asks = e; meets = h }
+met told words what e (J.Print text) h = inr (record { what = what; asks = e; meets = h })
+
+-- where a request fails, so do the words that ask for it
+pub failed : (told : KnownFiles) (words : List (List ℕ)) (what : RequestTree) → request_in words ≡ Some what → (r : Refusal) → Fails told what r
+    → IsRefusal told words r
+failed told words what e (Refused.Line status line) h = inr (record { what = what; asks = e; fails = h })
+failed told words what e Refused.Memory h = tt

@@ -23,17 +23,17 @@ no_fault : (bytes : List ℕ) (f : NetTextFault) (A : TypeTree) (net : Network E
 no_fault bytes f A net d h i = not_ok (sym ((file_fault_law bytes f d).1 h) ∙ (read_file_law bytes A net).1 i)
 
 pub one_refusal : OneRefusalLaw
-one_refusal bytes line other (by_text f d h e) (by_text g c i j) =
-    e ∙ ap text_words (err_is (sym ((file_fault_law bytes f d).1 h) ∙ (file_fault_law bytes g c).1 i)) ∙ sym j
-one_refusal bytes line other (by_text f d h e) (by_types A net g i c j) = absurd (no_fault bytes f A net d h i)
-one_refusal bytes line other (by_types A net g i c j) (by_text f d h e) = absurd (no_fault bytes f A net d h i)
-one_refusal bytes line other (by_types A net f h c e) (by_types B body g i d j) =
+one_refusal r bytes line other (by_text f d h e) (by_text g c i j) =
+    e ∙ ap (text_words r) (err_is (sym ((file_fault_law bytes f d).1 h) ∙ (file_fault_law bytes g c).1 i)) ∙ sym j
+one_refusal r bytes line other (by_text f d h e) (by_types A net g i c j) = absurd (no_fault bytes f A net d h i)
+one_refusal r bytes line other (by_types A net g i c j) (by_text f d h e) = absurd (no_fault bytes f A net d h i)
+one_refusal r bytes line other (by_types A net f h c e) (by_types B body g i d j) =
     let same : (A ≡ B) × (net ≡ body) = one_file bytes A B net body h i in
     let checks : check A net ≡ check B body = λ k. check (same.0 k) (same.1 k) in
-    e ∙ ap type_words (err_is (sym c ∙ checks ∙ d)) ∙ sym j
+    e ∙ ap (type_words r) (err_is (sym c ∙ checks ∙ d)) ∙ sym j
 
 pub no_network : NoNetworkLaw
-no_network bytes line t (by_text f d h e) n = no_fault bytes f t.input t.net d h n.file
-no_network bytes line t (by_types A net f h c e) n =
+no_network r bytes line t (by_text f d h e) n = no_fault bytes f t.input t.net d h n.file
+no_network r bytes line t (by_types A net f h c e) n =
     let same = one_file bytes t.input A t.net net n.file h in
     not_ok (sym c ∙ (check_exact A net t).1 (same.0, same.1, n.typed))

@@ -1,5 +1,5 @@
 -- What a command line leads to, by its words and by what is told of files.
-use Rattle.std.specs.Prelude.{◌≡◌, ◌≢◌, ◌⊎◌, ℕ, List, ◌++◌, Option, Some, None, Err, codes, string_bytes, ⊤}
+use Rattle.std.specs.Prelude.{◌≡◌, ◌≢◌, ◌⊎◌, ℕ, List, ◌++◌, length, Option, Some, None, Err, codes, string_bytes, ⊤}
 use Rattle.std.specs.Fmt.{decimal}
 use Rattle.sample_core.specs.TypeTree.{TypeTree}
 use Rattle.sample_core.specs.Spelling.{type_spelling}
@@ -7,16 +7,24 @@ use Rattle.leaf_core.specs.Expression.{Expression}
 use Rattle.net_syntax.specs.Network.{Network}
 use Rattle.net_syntax.specs.TypedNetwork.{TypedNetwork}
 use Rattle.net_syntax.specs.NetworkLimits.{WithinLimits}
+use Rattle.net_syntax.specs.LawStep.{Step}
+use Rattle.net_text.specs.CertificateLaws.{IsCertificate, IsCertificateFault}
 use Rattle.net_text.specs.FileLaws.{IsFile, IsFileFault}
 use Rattle.net_text.specs.declared.fault.NetTextFault.{NetTextFault}
 use Rattle.net_text.specs.declared.fault.NetTextFault.TheVariants as V
 use Rattle.net_types.specs.Check.{check}
 use Rattle.net_types.specs.declared.fault.TypeFault.{TypeFault}
 use Rattle.net_types.specs.declared.fault.TypeFault.TheVariants as T
+use Rattle.cert_check.specs.Derives.{Derives}
+use Rattle.cert_check.specs.CheckAnswer.{CheckAnswer}
+use Rattle.cert_check.specs.declared.answer.CheckFault.{CheckFault}
+use Rattle.cert_check.specs.declared.answer.CheckFault.TheVariants as C
 use Rattle.leaf_table.specs.declared.fault.TableFault.{TableFault}
 use Rattle.leaf_table.specs.declared.fault.TableFault.TheVariants as A
-use Rattle.command_line.specs.CommandLine.{RequestTree, types, run, request_in, AsksHelp, AsksNothing}
-use Rattle.yampa_run.specs.RefusalLines.{text_words, type_words, unread_words}
+use Rattle.command_line.specs.CommandLine.{DerivationNames, RequestTree, types, run, check as checks, run_checked, request_in, AsksHelp, AsksNothing}
+use Rattle.yampa_run.specs.RefusalLines.{check_words, text_words, type_words, unread_words}
+use Rattle.yampa_run.specs.declared.refused.Role.{Role}
+use Rattle.yampa_run.specs.declared.refused.Role.TheVariants as R
 use Rattle.yampa_run.specs.declared.preparation.Job.{Job}
 use Rattle.yampa_run.specs.declared.preparation.Job.TheVariants as J
 use Rattle.yampa_run.specs.declared.preparation.Refusal.{Refusal}
@@ -38,47 +46,105 @@ IsNetworkOf None t = ⊤
 IsNetworkOf (Some bytes) t = IsNetworkIn bytes t
 
 -- the bytes are no network file, or one whose network has no types within the limits, and the line
--- says why
-pub data IsRefusedWith (bytes line : List ℕ) : Type 0 where
-  by_text : (f : NetTextFault) → f ≢ V.Memory → IsFileFault bytes f → line ≡ text_words f
-      → IsRefusedWith bytes line
+-- says why, of a file of that role
+pub data IsRefusedWith (r : Role) (bytes line : List ℕ) : Type 0 where
+  by_text : (f : NetTextFault) → f ≢ V.Memory → IsFileFault bytes f → line ≡ text_words r f
+      → IsRefusedWith r bytes line
   by_types : (A : TypeTree) (net : Network Expression) (f : TypeFault) → IsFile bytes A net
-      → check A net ≡ Err f → line ≡ type_words f → IsRefusedWith bytes line
+      → check A net ≡ Err f → line ≡ type_words r f → IsRefusedWith r bytes line
 
 -- bytes are refused with one line
 abbrev pub OneRefusalLaw : Type 0
-OneRefusalLaw = (bytes line other : List ℕ) → IsRefusedWith bytes line → IsRefusedWith bytes other
-    → line ≡ other
+OneRefusalLaw = (r : Role) (bytes line other : List ℕ) → IsRefusedWith r bytes line
+    → IsRefusedWith r bytes other → line ≡ other
 
 -- bytes that are refused have no network
 abbrev pub NoNetworkLaw : Type 0
-NoNetworkLaw = (bytes line : List ℕ) (t : TypedNetwork) → IsRefusedWith bytes line
+NoNetworkLaw = (r : Role) (bytes line : List ℕ) (t : TypedNetwork) → IsRefusedWith r bytes line
     → IsNetworkIn bytes t → ⊥
 
 -- a file is refused with that line, where its bytes are told
-abbrev pub IsRefusedOf : Option (List ℕ) → List ℕ → Type 0
-IsRefusedOf None line = ⊤
-IsRefusedOf (Some bytes) line = IsRefusedWith bytes line
+abbrev pub IsRefusedOf : Role → Option (List ℕ) → List ℕ → Type 0
+IsRefusedOf r None line = ⊤
+IsRefusedOf r (Some bytes) line = IsRefusedWith r bytes line
 
 -- why there is no network of a file: it wasn't read, with status 3, and nothing is told of it; or
 -- it is refused, with status 1; or memory was short
-abbrev pub HasNoNetwork : Option (List ℕ) → Refusal → Type 0
-HasNoNetwork told (Refused.Line status line) =
-    ((status ≡ 3) × (told ≡ None) × (string_bytes line ≡ unread_words))
-    ⊎ ((status ≡ 1) × IsRefusedOf told (string_bytes line))
-HasNoNetwork told Refused.Memory = ⊤
+abbrev pub HasNoNetwork : Role → Option (List ℕ) → Refusal → Type 0
+HasNoNetwork r told (Refused.Line status line) =
+    ((status ≡ 3) × (told ≡ None) × (string_bytes line ≡ unread_words r))
+    ⊎ ((status ≡ 1) × IsRefusedOf r told (string_bytes line))
+HasNoNetwork r told Refused.Memory = ⊤
 
 -- a refusal for that fault of a text: its line with status 1, or memory was short
-abbrev pub RefusesText : NetTextFault → Refusal → Type 0
-RefusesText f (Refused.Line status line) = (f ≢ V.Memory) × (status ≡ 1)
-    × (string_bytes line ≡ text_words f)
-RefusesText f Refused.Memory = ⊤
+abbrev pub RefusesText : Role → NetTextFault → Refusal → Type 0
+RefusesText r f (Refused.Line status line) = (f ≢ V.Memory) × (status ≡ 1)
+    × (string_bytes line ≡ text_words r f)
+RefusesText r f Refused.Memory = ⊤
 
 -- a refusal for that fault of types: its line with status 1, or memory was short
-abbrev pub RefusesTypes : TypeFault → Refusal → Type 0
-RefusesTypes f (Refused.Line status line) = (f ≢ T.Memory) × (status ≡ 1)
-    × (string_bytes line ≡ type_words f)
-RefusesTypes f Refused.Memory = ⊤
+abbrev pub RefusesTypes : Role → TypeFault → Refusal → Type 0
+RefusesTypes r f (Refused.Line status line) = (f ≢ T.Memory) × (status ≡ 1)
+    × (string_bytes line ≡ type_words r f)
+RefusesTypes r f Refused.Memory = ⊤
+
+-- the steps are those of a certificate file, where its bytes are told
+abbrev pub AreStepsOf : Option (List ℕ) → List Step → Type 0
+AreStepsOf None steps = ⊤
+AreStepsOf (Some bytes) steps = IsCertificate bytes steps
+
+-- a file is no certificate file, where its bytes are told, and the line says why
+abbrev pub IsNoCertificate : Option (List ℕ) → List ℕ → Type 0
+IsNoCertificate None line = ⊤
+IsNoCertificate (Some bytes) line = (f : NetTextFault) × (f ≢ V.Memory)
+    × IsCertificateFault bytes f × (line ≡ text_words R.Certificate f)
+
+-- why there are no steps of a file: it wasn't read, with status 3, and nothing is told of it; or
+-- it is refused, with status 1; or memory was short
+abbrev pub HasNoSteps : Option (List ℕ) → Refusal → Type 0
+HasNoSteps told (Refused.Line status line) =
+    ((status ≡ 3) × (told ≡ None) × (string_bytes line ≡ unread_words R.Certificate))
+    ⊎ ((status ≡ 1) × IsNoCertificate told (string_bytes line))
+HasNoSteps told Refused.Memory = ⊤
+
+-- a refusal for that fault of a check: its line with status 1, or memory was short
+abbrev pub RefusesCheck : CheckFault → Refusal → Type 0
+RefusesCheck f (Refused.Line status line) = (f ≢ C.Memory) × (status ≡ 1)
+    × (string_bytes line ≡ check_words f)
+RefusesCheck f Refused.Memory = ⊤
+
+-- source, target and steps of three files, where their bytes are told
+pub record AreOf (told : KnownFiles) (names : DerivationNames) (source target : TypedNetwork)
+    (steps : List Step) : Type 0 where
+  pub is_source : IsNetworkOf (told names.source) source
+  pub is_target : IsNetworkOf (told names.target) target
+  pub are_steps : AreStepsOf (told names.certificate) steps
+
+-- t is the typed network of the target's file, and the steps of the certificate's, so many, derive
+-- it from that of the source's
+pub record IsDerivedIn (told : KnownFiles) (names : DerivationNames) (t : TypedNetwork) (count : ℕ)
+    : Type 0 where
+  pub source : TypedNetwork
+  pub steps : List Step
+  pub files : AreOf told names source t steps
+  pub derives : Derives source t steps
+  pub counted : count ≡ length steps
+
+-- why there is no derivation: the first of the three files, in this order, that is no network or
+-- has no steps; or the steps don't derive the target from the source
+pub data HasNoDerivation (told : KnownFiles) (names : DerivationNames) (refusal : Refusal) : Type 0
+  where
+    no_source : HasNoNetwork R.Source (told names.source) refusal
+        → HasNoDerivation told names refusal
+    no_target : (source : TypedNetwork) → IsNetworkOf (told names.source) source
+        → HasNoNetwork R.Target (told names.target) refusal → HasNoDerivation told names refusal
+    no_steps : (source target : TypedNetwork) → IsNetworkOf (told names.source) source
+        → IsNetworkOf (told names.target) target → HasNoSteps (told names.certificate) refusal
+        → HasNoDerivation told names refusal
+    not_accepted : (source target : TypedNetwork) (steps : List Step)
+        → AreOf told names source target steps → (f : CheckFault)
+        → CheckAnswer source target steps (Err f) → RefusesCheck f refusal
+        → HasNoDerivation told names refusal
 
 -- a network's types in one line
 abbrev pub arrow_line : TypedNetwork → List ℕ
@@ -99,42 +165,65 @@ pub record TellsTypes (told : Option (List ℕ)) (text : List ℕ) : Type 0 wher
   pub network : IsNetworkOf told net
   pub lines : text ≡ types_lines net
 
--- the words ask for a run of a file, and t is its typed network
-pub record RunsNetwork (told : KnownFiles) (words : List (List ℕ)) (t : TypedNetwork) : Type 0 where
-  pub name : List ℕ
-  pub asks : request_in words ≡ Some (run name)
-  pub network : IsNetworkOf (told name) t
+-- the line of the command `check`
+abbrev pub accepted_line : ℕ → List ℕ
+accepted_line count = codes "accepted " ++ (decimal count ++ codes "\n")
 
--- the words ask for the types of a file, and these are the lines on its typed network
-pub record PrintsTypes (told : KnownFiles) (words : List (List ℕ)) (text : List ℕ) : Type 0 where
-  pub name : List ℕ
-  pub asks : request_in words ≡ Some (types name)
-  pub net : TypedNetwork
-  pub network : IsNetworkOf (told name) net
-  pub lines : text ≡ types_lines net
+-- the line is that on a derivation of the target's network
+pub record TellsAccepted (told : KnownFiles) (names : DerivationNames) (text : List ℕ) : Type 0
+  where
+    pub target : TypedNetwork
+    pub count : ℕ
+    pub derived : IsDerivedIn told names target count
+    pub line : text ≡ accepted_line count
 
--- what is to be done is what the words ask for: a run, or a text that is help or the lines on types
+-- t is the target's network of a derivation
+pub record IsChecked (told : KnownFiles) (names : DerivationNames) (t : TypedNetwork) : Type 0 where
+  pub count : ℕ
+  pub derived : IsDerivedIn told names t count
+
+-- the job is what is asked for: the lines on a file's types, a run of its network, the line on a
+-- derivation, or a run of a target that is derived
+abbrev pub Meets : KnownFiles → RequestTree → Job → Type 0
+Meets told (types name) (J.Print text) = TellsTypes (told name) (string_bytes text)
+Meets told (types name) (J.Run t) = ⊥
+Meets told (run name) (J.Print text) = ⊥
+Meets told (run name) (J.Run t) = IsNetworkOf (told name) t
+Meets told (checks names) (J.Print text) = TellsAccepted told names (string_bytes text)
+Meets told (checks names) (J.Run t) = ⊥
+Meets told (run_checked names) (J.Print text) = ⊥
+Meets told (run_checked names) (J.Run t) = IsChecked told names t
+
+-- why what is asked for isn't done
+abbrev pub Fails : KnownFiles → RequestTree → Refusal → Type 0
+Fails told (types name) refusal = HasNoNetwork R.Network (told name) refusal
+Fails told (run name) refusal = HasNoNetwork R.Network (told name) refusal
+Fails told (checks names) refusal = HasNoDerivation told names refusal
+Fails told (run_checked names) refusal = HasNoDerivation told names refusal
+
+-- the words ask for something that the job is
+pub record MeetsWords (told : KnownFiles) (words : List (List ℕ)) (job : Job) : Type 0 where
+  pub what : RequestTree
+  pub asks : request_in words ≡ Some what
+  pub meets : Meets told what job
+
+-- what is to be done is what the words ask for: a run, or a text, which may be help
 abbrev pub IsRequested : KnownFiles → List (List ℕ) → Job → Type 0
-IsRequested told words (J.Run t) = RunsNetwork told words t
-IsRequested told words (J.Print text) = AsksHelp words ⊎ PrintsTypes told words (string_bytes text)
+IsRequested told words (J.Run t) = MeetsWords told words (J.Run t)
+IsRequested told words (J.Print text) = AsksHelp words ⊎ MeetsWords told words (J.Print text)
 
--- the file that is asked of
-abbrev pub file_of : RequestTree → List ℕ
-file_of (types name) = name
-file_of (run name) = name
-
--- the words ask something of a file that has no network
-pub record LacksNetwork (told : KnownFiles) (words : List (List ℕ)) (refusal : Refusal) : Type 0
+-- the words ask for something that isn't done
+pub record FailsWords (told : KnownFiles) (words : List (List ℕ)) (refusal : Refusal) : Type 0
   where
     pub what : RequestTree
     pub asks : request_in words ≡ Some what
-    pub lacks : HasNoNetwork (told (file_of what)) refusal
+    pub fails : Fails told what refusal
 
--- why nothing is done: the words ask for nothing that is there, with status 2; or their file has no
--- network; or memory was short
+-- why nothing is done: the words ask for nothing that is there, with status 2; or what they ask for
+-- fails by its files; or memory was short
 abbrev pub IsRefusal : KnownFiles → List (List ℕ) → Refusal → Type 0
 IsRefusal told words (Refused.Line status line) = ((status ≡ 2) × AsksNothing words)
-    ⊎ LacksNetwork told words (Refused.Line status line)
+    ⊎ FailsWords told words (Refused.Line status line)
 IsRefusal told words Refused.Memory = ⊤
 
 -- a refusal for a table that takes no more: its line with status 1 where it is full, or memory was

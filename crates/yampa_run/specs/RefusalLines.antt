@@ -8,48 +8,73 @@ use Rattle.net_text.specs.declared.fault.NetTextFault.{NetTextFault}
 use Rattle.net_text.specs.declared.fault.NetTextFault.TheVariants as V
 use Rattle.net_types.specs.declared.fault.TypeFault.{TypeFault}
 use Rattle.net_types.specs.declared.fault.TypeFault.TheVariants as T
+use Rattle.cert_check.specs.declared.answer.CheckFault.{CheckFault}
+use Rattle.cert_check.specs.declared.answer.CheckFault.TheVariants as C
+use Rattle.yampa_run.specs.declared.refused.Role.{Role}
+use Rattle.yampa_run.specs.declared.refused.Role.TheVariants as R
 
--- a line on the network's file
-abbrev pub line_on : List ℕ → List ℕ
-line_on what = codes "network: " ++ what
+-- what a line on a file of that role begins with
+abbrev pub role_words : Role → List ℕ
+role_words R.Network = codes "network: "
+role_words R.Source = codes "source: "
+role_words R.Target = codes "target: "
+role_words R.Certificate = codes "certificate: "
+
+-- a line on a file of that role
+abbrev pub line_on : Role → List ℕ → List ℕ
+line_on r what = role_words r ++ what
 
 -- the line on a file that can't be read
-abbrev pub unread_words : List ℕ
-unread_words = line_on (codes "cannot be read")
+abbrev pub unread_words : Role → List ℕ
+unread_words r = line_on r (codes "cannot be read")
 
 -- what is wrong at a byte
-abbrev pub byte_words : List ℕ → ℕ → List ℕ
-byte_words what at = line_on (what ++ (codes " at byte " ++ decimal at))
+abbrev pub byte_words : Role → List ℕ → ℕ → List ℕ
+byte_words r what at = line_on r (what ++ (codes " at byte " ++ decimal at))
 
 -- the line on a file whose text is refused
-abbrev pub text_words : NetTextFault → List ℕ
-text_words V.Header = line_on (codes "header")
-text_words (V.Syntax at) = byte_words (codes "syntax") at
-text_words (V.Number at) = byte_words (codes "number") at
-text_words (V.TooDeep at) = byte_words (codes "nesting") at
-text_words V.TooLong = line_on (codes "too long")
-text_words V.Memory = codes "memory"
+abbrev pub text_words : Role → NetTextFault → List ℕ
+text_words r V.Header = line_on r (codes "header")
+text_words r (V.Syntax at) = byte_words r (codes "syntax") at
+text_words r (V.Number at) = byte_words r (codes "number") at
+text_words r (V.TooDeep at) = byte_words r (codes "nesting") at
+text_words r V.TooLong = line_on r (codes "too long")
+text_words r V.Memory = codes "memory"
 
 -- what is wrong at a place in the network
-abbrev pub place_words : List ℕ → List ℕ → List ℕ
-place_words what P = line_on what ++ position_spelling P
+abbrev pub place_words : Role → List ℕ → List ℕ → List ℕ
+place_words r what P = line_on r what ++ position_spelling P
 
 -- the line on an expression that is refused
-abbrev pub expression_words : List ℕ → ExprFault → List ℕ
-expression_words P X.Mismatch = place_words (codes "mismatch in ") P
-expression_words P X.NoParam = place_words (codes "no parameter in ") P
-expression_words P X.TooDeep = place_words (codes "expression too deep in ") P
-expression_words P X.Memory = codes "memory"
+abbrev pub expression_words : Role → List ℕ → ExprFault → List ℕ
+expression_words r P X.Mismatch = place_words r (codes "mismatch in ") P
+expression_words r P X.NoParam = place_words r (codes "no parameter in ") P
+expression_words r P X.TooDeep = place_words r (codes "expression too deep in ") P
+expression_words r P X.Memory = codes "memory"
 
 -- the line on a network that has no types within the limits
-abbrev pub type_words : TypeFault → List ℕ
-type_words (T.Expr P fault) = expression_words P fault
-type_words (T.Joint P) = place_words (codes "types differ at ") P
-type_words (T.NoOld P) = place_words (codes "no old at ") P
-type_words (T.NotEvent P) = place_words (codes "no event at ") P
-type_words (T.NotPair P) = place_words (codes "no pair at ") P
-type_words (T.Members P) = place_words (codes "members at ") P
-type_words (T.Number P) = place_words (codes "number at ") P
-type_words T.TooDeep = line_on (codes "too deep")
-type_words T.TooHeavy = line_on (codes "too heavy")
-type_words T.Memory = codes "memory"
+abbrev pub type_words : Role → TypeFault → List ℕ
+type_words r (T.Expr P fault) = expression_words r P fault
+type_words r (T.Joint P) = place_words r (codes "types differ at ") P
+type_words r (T.NoOld P) = place_words r (codes "no old at ") P
+type_words r (T.NotEvent P) = place_words r (codes "no event at ") P
+type_words r (T.NotPair P) = place_words r (codes "no pair at ") P
+type_words r (T.Members P) = place_words r (codes "members at ") P
+type_words r (T.Number P) = place_words r (codes "number at ") P
+type_words r T.TooDeep = line_on r (codes "too deep")
+type_words r T.TooHeavy = line_on r (codes "too heavy")
+type_words r T.Memory = codes "memory"
+
+-- what is wrong at a step of a certificate, counted from 1
+abbrev pub step_words : List ℕ → ℕ → List ℕ
+step_words what n = line_on R.Certificate (what ++ (codes " at step " ++ decimal n))
+
+-- the line on a certificate that doesn't lead from its source to its target
+abbrev pub check_words : CheckFault → List ℕ
+check_words C.InputsDiffer = line_on R.Certificate (codes "inputs differ")
+check_words C.TooManySteps = line_on R.Certificate (codes "too many steps")
+check_words (C.NoPosition n) = step_words (codes "no position") n
+check_words (C.NoMatch n) = step_words (codes "no match") n
+check_words (C.IllTyped n) = step_words (codes "ill typed") n
+check_words C.EndsElsewhere = line_on R.Certificate (codes "ends elsewhere")
+check_words C.Memory = codes "memory"

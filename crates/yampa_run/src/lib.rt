@@ -2,6 +2,7 @@
 //! prints.
 #![tactic(auto)]
 
+mod certificate;
 mod fault;
 mod files;
 pub mod fill;

@@ -1,12 +1,13 @@
 // From the words of a command line to what is to be done.
 
 ghost use Rattle.std.specs.Prelude.{◌≡◌, ◌++◌, ℕ, List, Err, IfErr, IfOk, OnOk, Some, map, string_bytes};
-ghost use Rattle.command_line.specs.CommandLine.{ReadsWords, request_in, request_view};
-ghost use Rattle.yampa_run.specs.Preparation.{HasNoNetwork, IsRequested, IsNetworkIn, IsNetworkOf, IsRefusal, RefusesText, RefusesTypes, TellsTypes, KnownFiles, arrow_line, size_lines, types_lines};
+ghost use Rattle.command_line.specs.CommandLine.{ReadsWords, request_view};
+ghost use Rattle.yampa_run.specs.Preparation.{Fails, HasNoNetwork, IsRequested, IsNetworkIn, IsNetworkOf, IsRefusal, Meets, RefusesText, RefusesTypes, TellsTypes, KnownFiles, arrow_line, size_lines, types_lines};
 
+use crate::certificate::{accepted, derived};
 use crate::files::{FileFault, Files};
 use crate::printed::{push_number, push_words};
-use crate::refused::{text_line, type_line, unread_line};
+use crate::refused::{Role, text_line, type_line, unread_line};
 use command_line::{Reply, Request, parse};
 use net_syntax::TypedNet;
 use net_text::{NetTextFault, read_net};
@@ -47,8 +48,9 @@ impl From<Memory> for Refusal {
 /// they name. Answers the text that is to be printed or the network that is to be run; else the
 /// first refusal.
 pub fn prepare<F: Files>(alloc: Global, words: &[&str], files: &F) -> Result<Job, Refusal>
-    // A network is run only where the words ask for a run of a file, and where its bytes are told,
-    // it is their typed network.
+    // A network is run only where the words ask for it, and is the typed network of its file's
+    // bytes, where these are told: that of a run, or the target of a certificate that derives it.
+    // What is printed is help that is asked for, or lines on such networks.
     ensures asked { IfOk result (IsRequested (F.told files.now) (map (λ w. w.now) words.now)) }
     ensures refused { IfErr result (IsRefusal (F.told files.now) (map (λ w. w.now) words.now)) }
 {
@@ -60,20 +62,24 @@ pub fn prepare<F: Files>(alloc: Global, words: &[&str], files: &F) -> Result<Job
 
 /// What a request asks for.
 fn job_of<F: Files>(alloc: Global, request: Request<'_>, files: &F) -> Result<Job, Refusal>
-    ensures asked { IfOk result (λ job. (words : List (List ℕ))
-        → request_in words ≡ Some (request_view request.entry)
-        → IsRequested (F.told files.now) words job) }
-    ensures refused { IfErr result (λ e. (words : List (List ℕ))
-        → request_in words ≡ Some (request_view request.entry)
-        → IsRefusal (F.told files.now) words e) }
+    ensures asked { IfOk result (Meets (F.told files.now) (request_view request.entry)) }
+    ensures refused { IfErr result (Fails (F.told files.now) (request_view request.entry)) }
 {
     match request {
         Request::Types { net } => match types_of(alloc, net, files) {
             Ok(text) => Ok(Job::Print(text)),
             Err(refusal) => Err(refusal),
         },
-        Request::Run { net } => match load(alloc, net, files) {
+        Request::Run { net } => match load(alloc, Role::Network, net, files) {
             Ok(net) => Ok(Job::Run(net)),
+            Err(refusal) => Err(refusal),
+        },
+        Request::Check(names) => match accepted(alloc, names, files) {
+            Ok(text) => Ok(Job::Print(text)),
+            Err(refusal) => Err(refusal),
+        },
+        Request::RunChecked(names) => match derived(alloc, names, files) {
+            Ok((target, _)) => Ok(Job::Run(target)),
             Err(refusal) => Err(refusal),
         },
     }
@@ -97,9 +103,9 @@ fn told_by(reply: Reply) -> Result<Job, Refusal>
 fn types_of<F: Files>(alloc: Global, name: &str, files: &F) -> Result<String, Refusal>
     ensures lines { IfOk result
         (λ text. TellsTypes (F.told files.now name.now) (string_bytes text)) }
-    ensures refused { IfErr result (HasNoNetwork (F.told files.now name.now)) }
+    ensures refused { IfErr result (HasNoNetwork Role.Network (F.told files.now name.now)) }
 {
-    match load(alloc, name, files) {
+    match load(alloc, Role::Network, name, files) {
         Ok(net) => {
             let text = types(alloc, &net);
             drop(net);
@@ -110,33 +116,33 @@ fn types_of<F: Files>(alloc: Global, name: &str, files: &F) -> Result<String, Re
 }
 
 /// The network of the file of that name, with its types.
-fn load<F: Files>(alloc: Global, name: &str, files: &F) -> Result<TypedNet, Refusal>
+pub fn load<F: Files>(alloc: Global, role: Role, name: &str, files: &F) -> Result<TypedNet, Refusal>
     ensures network { IfOk result (IsNetworkOf (F.told files.now name.now)) }
-    ensures refused { IfErr result (HasNoNetwork (F.told files.now name.now)) }
+    ensures refused { IfErr result (HasNoNetwork role (F.told files.now name.now)) }
 {
     match files.read(alloc, name) {
-        Ok(bytes) => network_of(alloc, &bytes),
+        Ok(bytes) => network_of(alloc, role, &bytes),
         Err(FileFault::Memory) => Err(Refusal::Memory),
         Err(FileFault::Unread) => Err(Refusal::Line {
             status: 3,
-            line: unread_line(alloc)?,
+            line: unread_line(alloc, role)?,
         }),
     }
 }
 
 /// The network of a file with those bytes, with its types.
-fn network_of(alloc: Global, bytes: &[u8]) -> Result<TypedNet, Refusal>
+fn network_of(alloc: Global, role: Role, bytes: &[u8]) -> Result<TypedNet, Refusal>
     ensures network { IfOk result (IsNetworkIn bytes.now) }
-    ensures refused { IfErr result (HasNoNetwork (Some bytes.now)) }
+    ensures refused { IfErr result (HasNoNetwork role (Some bytes.now)) }
 {
     let (input, net) = match read_net(alloc, bytes) {
         Ok(read) => read,
-        Err(fault) => return Err(text_refusal(alloc, &fault)?),
+        Err(fault) => return Err(text_refusal(alloc, role, &fault)?),
     };
     match check_types(alloc, input, net) {
         Ok(typed) => Ok(typed),
         Err(fault) => {
-            let refusal = type_refusal(alloc, &fault);
+            let refusal = type_refusal(alloc, role, &fault);
             drop(fault);
             Err(refusal?)
         }
@@ -144,27 +150,27 @@ fn network_of(alloc: Global, bytes: &[u8]) -> Result<TypedNet, Refusal>
 }
 
 /// The refusal of a file for its text.
-fn text_refusal(alloc: Global, fault: &NetTextFault) -> Result<Refusal, Memory>
-    ensures { IfOk result (RefusesText fault.now) }
+pub fn text_refusal(alloc: Global, role: Role, fault: &NetTextFault) -> Result<Refusal, Memory>
+    ensures { IfOk result (RefusesText role fault.now) }
 {
     match fault {
         NetTextFault::Memory => Ok(Refusal::Memory),
         fault => Ok(Refusal::Line {
             status: 1,
-            line: text_line(alloc, fault)?,
+            line: text_line(alloc, role, fault)?,
         }),
     }
 }
 
 /// The refusal of a file for its network's types.
-fn type_refusal(alloc: Global, fault: &TypeFault) -> Result<Refusal, Memory>
-    ensures { IfOk result (RefusesTypes fault.now) }
+fn type_refusal(alloc: Global, role: Role, fault: &TypeFault) -> Result<Refusal, Memory>
+    ensures { IfOk result (RefusesTypes role fault.now) }
 {
     match fault {
         TypeFault::Memory => Ok(Refusal::Memory),
         fault => Ok(Refusal::Line {
             status: 1,
-            line: type_line(alloc, fault)?,
+            line: type_line(alloc, role, fault)?,
         }),
     }
 }

@@ -7,10 +7,14 @@ pub returns-clause-asked : goal.returns-clause-asked
 unfolding clap_on_literals request_in
 returns-clause-asked c = (refl, refl, refl)
 
+pub returns-clause-derivations : goal.returns-clause-derivations
+unfolding clap_on_literals request_in
+returns-clause-derivations c = (refl, refl)
+
 pub returns-clause-help : goal.returns-clause-help
 unfolding clap_on_literals AsksHelp
 returns-clause-help c = (inl refl, inl refl)
 
 pub returns-clause-nothing : goal.returns-clause-nothing
 unfolding clap_on_literals request_in AsksNothing
-returns-clause-nothing c = ((refl, λ e. cc), (refl, λ e. cc), (refl, λ e. cc), (refl, λ e. cc))
+returns-clause-nothing c = ((refl, λ e. cc), (refl, λ e. cc), (refl, λ e. cc), (refl, λ e. cc), (refl, λ e. cc), (refl, λ e. cc))
