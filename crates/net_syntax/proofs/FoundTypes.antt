@@ -22,7 +22,7 @@ use Rattle.net_syntax.specs.TypedNetwork.{TypedNetwork, NetTyped}
 use Rattle.net_syntax.specs.NetworkLimits.{NetTypedWithin, WithinLimits}
 use Rattle.net_syntax.specs.Place.{◌>>=◌, Tree, a_network, a_leaf, member, child, child_network, PSwitchChild, p_switch_child, member_child, event_child, continuation_child, no_child}
 use Rattle.net_syntax.specs.Placed.{placed, placed_at, bound_in}
-use Rattle.net_syntax.specs.Standing.{Standing, standing, alone, MembersTyped, ChildStands, in_arr, first_in_seq, second_in_seq, in_first, in_par, constant_in_loop, network_in_loop, in_i_pre, in_delay, in_hold, step_in_accum, start_in_accum, in_after, in_repeatedly, network_in_switch, continuation_in_switch, network_in_d_switch, continuation_in_d_switch, network_in_r_switch, continuation_in_r_switch, network_in_k_switch, event_in_k_switch, continuation_in_k_switch, route_in_p_switch, member_in_p_switch, event_in_p_switch, continuation_in_p_switch, at_network, inside_network, inside_expression, TypeAt}
+use Rattle.net_syntax.specs.Standing.{Standing, standing, alone, MembersTyped, ChildStands, ChildFound, in_arr, first_in_seq, second_in_seq, in_first, in_par, constant_in_loop, network_in_loop, in_i_pre, in_delay, in_hold, step_in_accum, start_in_accum, in_after, in_repeatedly, network_in_switch, continuation_in_switch, network_in_d_switch, continuation_in_d_switch, network_in_r_switch, continuation_in_r_switch, network_in_k_switch, event_in_k_switch, continuation_in_k_switch, route_in_p_switch, member_in_p_switch, event_in_p_switch, continuation_in_p_switch, at_network, inside_network, inside_expression, TypeAt}
 use Rattle.net_syntax.specs.StandingWalk.{taking, under, freezing, left_of, carried_of, right_carried_of, old_output, leaf_type, output_in, first_output, routed, p_switch_input, child_input, frozen, p_switch_scope, child_scope, inside, type_walk_at}
 use Rattle.net_syntax.proofs.TypingMap.{map_typed, map_all_typed}
 
@@ -37,7 +37,8 @@ old_found : (Os : List Arrow) (k : ℕ) (A B : TypeTree) → OldAt Os k (arrow A
 old_found Os k A B old_here = refl
 old_found Os k A B (old_after o) = old_found _ _ A B o
 
-abbrev MembersWithin : List TypeTree → List Arrow → Networks Expression → TypeTree → TypeTree → Type 0
+-- all members have these types within the limits
+abbrev pub MembersWithin : List TypeTree → List Arrow → Networks Expression → TypeTree → TypeTree → Type 0
 MembersWithin = AllTyped (λ e Ps A B. ExpressionTypedWithin e Ps A B) TypeFits
 
 -- the output type of a typed network is found
@@ -73,10 +74,10 @@ mutual
   first_found l (and_member_typed f fs) = output_found f
 
 -- without its limits
-forget : {Ps : List TypeTree} {Os : List Arrow} {f : Network Expression} {A B : TypeTree} → NetTypedWithin Ps Os f A B → NetTyped Ps Os f A B
+pub forget : {Ps : List TypeTree} {Os : List Arrow} {f : Network Expression} {A B : TypeTree} → NetTypedWithin Ps Os f A B → NetTyped Ps Os f A B
 forget d = map_typed (λ e Ps A B h. h.checked.given) (λ A m. tt) d
 
-forget_all : {Ps : List TypeTree} {Os : List Arrow} {fs : Networks Expression} {A B : TypeTree} → MembersWithin Ps Os fs A B → MembersTyped Ps Os fs A B
+pub forget_all : {Ps : List TypeTree} {Os : List Arrow} {fs : Networks Expression} {A B : TypeTree} → MembersWithin Ps Os fs A B → MembersTyped Ps Os fs A B
 forget_all ds = map_all_typed (λ e Ps A B h. h.checked.given) (λ A m. tt) ds
 
 -- a tree that stands there has this output type, or type, within the limits
@@ -225,6 +226,14 @@ child_there (k_switch_typed {Ps = Ps} {Os = Os} {f = f} {e = e} {t = t} {A = A} 
 child_there (p_switch_typed l u m h ds n e t) zero = there _ route_in_p_switch refl h
 child_there (p_switch_typed l u m h ds n e t) (suc k) = behind_there l h ds e t k
 child_there _ k = tt
+
+-- so where a child stands is found
+pub child_found : (S : Standing) (f : Network Expression) (k : ℕ) (found : Option Standing) → found ≡ inside S f k → ChildFound S f k found
+child_found S f k found is B d = go (child f k) (child_there d k)
+  where
+    go : (o : Option (Tree Expression)) → IfSome o (ChildThere S f k) → IfSome o (λ _. MatchOption found ⊥ (ChildStands S.params S.olds S.input f k))
+    go None t = tt
+    go (Some c) t = subst (λ z. MatchOption z ⊥ (ChildStands S.params S.olds S.input f k)) (sym t.found ∙ sym is) t.stands
 
 -- what the walk finds at a position is the type of what stands there, and it finds nothing only where nothing stands there
 abbrev Finds : Standing → Tree Expression → List ℕ → ℕ → ℕ → Type 0

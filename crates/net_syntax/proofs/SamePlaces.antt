@@ -27,11 +27,11 @@ use Rattle.net_syntax.proofs.Unique.{all_unique}
 use Rattle.net_syntax.proofs.StreamLaws.{same-outputs, alike-outputs, one-output-type}
 
 -- what may fill the place of a tree: another of its kind
-abbrev Filler : Tree Expression → Type 0
+abbrev pub Filler : Tree Expression → Type 0
 Filler (a_network f) = Network Expression
 Filler (a_leaf e) = Expression
 
-abbrev filled : (c : Tree Expression) → Filler c → Tree Expression
+abbrev pub filled : (c : Tree Expression) → Filler c → Tree Expression
 filled (a_network f) n = a_network n
 filled (a_leaf e) n = a_leaf n
 

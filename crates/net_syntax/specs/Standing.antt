@@ -1,5 +1,5 @@
 -- Where the parts of a network stand: the types of what is in scope and of the input there.
-use Rattle.std.specs.Prelude.{◌≡◌, ℕ, suc, ◌<◌, List, [], ◌∷◌, ◌++◌, Some}
+use Rattle.std.specs.Prelude.{◌≡◌, ℕ, suc, ◌<◌, List, [], ◌∷◌, ◌++◌, Option, Some, IfSome, MatchOption}
 use Rattle.sample_core.specs.TypeTree.{TypeTree, unit_ty, int_ty, pair_ty, event_ty, list_ty}
 use Rattle.leaf_core.specs.Expression.{Expression}
 use Rattle.leaf_core.specs.ExpressionTyping.{ExpressionTyped}
@@ -7,6 +7,7 @@ use Rattle.leaf_core.specs.Parts.{part_at, InputAt}
 use Rattle.net_syntax.specs.Network.{Network, Networks, arr, seq, first, par, loop_pre, i_pre, delay, hold, accum_by, after, repeatedly, switch, d_switch, r_switch, k_switch, p_switch}
 use Rattle.net_syntax.specs.Typing.{Arrow, arrow, copies, members, AllTyped, AnyType}
 use Rattle.net_syntax.specs.TypedNetwork.{NetTyped}
+use Rattle.net_syntax.specs.NetworkLimits.{NetTypedWithin}
 use Rattle.net_syntax.specs.Place.{Tree, a_network, a_leaf, child}
 
 -- the types of the parameters and of the frozen networks in scope, and of the input
@@ -105,6 +106,13 @@ pub data ChildStands (Ps : List TypeTree) (Os : List Arrow)
       → NetTyped Ps Os e (pair_ty A (list_ty B)) (event_ty C)
       → ChildStands Ps Os A (p_switch r fs e t) (suc (suc (members fs)))
       (standing (Ps ++ C ∷ []) (Os ++ copies (members fs) (arrow D B)) A)
+
+-- where the network is typed within the limits as it stands, and has a child k, this is found, and
+-- is where the child stands
+abbrev pub ChildFound : Standing → Network Expression → ℕ → Option Standing → Type 0
+ChildFound S f k found =
+    (B : TypeTree) → NetTypedWithin S.params S.olds f S.input B
+    → IfSome (child f k) (λ _. MatchOption found ⊥ (ChildStands S.params S.olds S.input f k))
 
 -- what stands at a position in a tree that stands somewhere, and where that stands
 pub data StandsAt : Standing → Tree Expression → List ℕ → Tree Expression → Standing → Type 0 where

@@ -32,5 +32,5 @@ pub use net::{Members, Net, NetChild};
 pub use place::{Place, TreeRef, at, child};
 pub use position::{Position, print_position, push_position};
 pub use replacing::replace;
-pub use standing::type_at;
+pub use standing::{Standing, child_standing, type_at};
 pub use typed_net::TypedNet;

@@ -1,12 +1,12 @@
 // Where the parts of a typed network stand, and their types.
 
-ghost use Rattle.std.specs.Prelude.{◌≡◌, ◌++◌, ◌∷◌, [], IfOk, MatchOption, None, OnOk, Some};
+ghost use Rattle.std.specs.Prelude.{◌≡◌, ◌++◌, ◌∷◌, [], IfOk, MatchOption, None, OnOk, Some, option_map};
 ghost use Rattle.sample_core.specs.TypeView.{type_of};
 ghost use Rattle.leaf_core.specs.ExpressionView.{expression_of};
 ghost use Rattle.net_syntax.specs.{ArrowView.arrow_of, BehindRoute.behind_of, ChildParts.seen, FoundType.Finds};
 ghost use Rattle.net_syntax.specs.NetworkView.{tree, tree_of, trees};
 ghost use Rattle.net_syntax.specs.Place.{a_leaf, a_network, continuation_child, p_switch_child};
-ghost use Rattle.net_syntax.specs.{Placed.placed_at, Standing.TypeAt, Standing.alone};
+ghost use Rattle.net_syntax.specs.{Placed.placed_at, Standing.ChildFound, Standing.TypeAt, Standing.alone};
 ghost use Rattle.net_syntax.specs.StandingWalk.{child_input, child_scope, fed_input, freezing, frozen, frozen_members, frozen_of, frozen_types, inside, k_switch_scope, members_scope, r_switch_scope, routed_input, standing_of, step_input, switch_event, switch_scope, taking, type_walk_at, under, watched_event, watched_input};
 
 use crate::arrow::Arrow;
@@ -26,13 +26,13 @@ use std::mem::replace;
 
 /// The types of what is in scope, and of the input, where a part of a network stands.
 #[derive(Drop)]
-pub(crate) struct Standing {
+pub struct Standing {
     /// The types of the parameters.
-    pub(crate) params: Vec<Ty>,
+    pub params: Vec<Ty>,
     /// The types of the frozen networks.
-    pub(crate) olds: Vec<Arrow>,
+    pub olds: Vec<Arrow>,
     /// The type of the input.
-    pub(crate) input: Ty,
+    pub input: Ty,
 }
 
 /// The output type of the network, or the type of the expression, that stands at the position, where
@@ -48,6 +48,27 @@ pub fn type_at(alloc: Global, net: &TypedNet, position: &Position) -> Result<Opt
         input: net.input().try_copy(alloc)?,
     };
     match type_below(alloc, at, TreeRef::Net(net.net()), position.path()) {
+        Ok(found) => Ok(Some(found)),
+        Err(Untyped::NoType) => Ok(None),
+        Err(Untyped::Memory(refused)) => Err(refused),
+    }
+}
+
+/// Where child k stands of a network that stands there, typed within the limits. It goes by the parts
+/// before the child that say what is in scope there and what it gets; `None` where one of these has
+/// no type. `Memory` where a growth was refused.
+pub fn child_standing(
+    alloc: Global,
+    at: Standing,
+    net: &Net<Expr>,
+    k: u32,
+) -> Result<Option<Standing>, Memory>
+    ensures found { IfOk result (λ found. option_map standing_of found
+        ≡ inside (standing_of at) (tree_of net.now) k) }
+    ensures stands { IfOk result (λ found.
+        ChildFound (standing_of at) (tree_of net.now) k (option_map standing_of found)) }
+{
+    match inside(alloc, at, net, k) {
         Ok(found) => Ok(Some(found)),
         Err(Untyped::NoType) => Ok(None),
         Err(Untyped::Memory(refused)) => Err(refused),
@@ -95,7 +116,7 @@ fn part_type_in(alloc: Global, at: &Standing, e: &Expr, path: &[u32]) -> Result<
     }
 }
 
-/// Where child k of a network stands that stands there.
+/// The same, with why nothing is found.
 fn inside(alloc: Global, at: Standing, net: &Net<Expr>, k: u32) -> Result<Standing, Untyped>
     ensures { Finds (λ s. standing_of s) result (inside (standing_of at) (tree_of net.now) k) }
 {
