@@ -15,6 +15,7 @@ use Rattle.net_syntax.specs.Typing.{Arrow, arrow, OldAt, old_here, old_after, co
 use Rattle.net_syntax.specs.TypedNetwork.{outputs_of, NetTyped}
 use Rattle.net_syntax.specs.Sameness.{SameAt, AllSameAt, no_twin, and_twin, AllOlds, no_olds, and_old}
 use Rattle.net_syntax.specs.AlikeEnvironments.{EnvironmentTyped, AlikeEnvironments, SameOutputs}
+use Rattle.net_syntax.specs.Congruence.{TwinMembers, no_twins, and_twins}
 use Rattle.net_syntax.specs.SwitchLaws.{route_in, freeze_members}
 use Rattle.net_syntax.proofs.Meanings.{IsSignal-meaning, AllSignals-context_of}
 use Rattle.net_syntax.proofs.Resumed.{IsSignal-resume}
@@ -137,12 +138,6 @@ k_switch_same Ps Os A B C f f' e e' t t' df df' de dt sf se st E F a xs j =
     (λ c p d h k. same_at (Ps ++ C ∷ []) (Os ++ arrow A B ∷ []) A B t t' (frozen (param E c) f E p d) (frozen (param F c) f' F p d) dt st
     (alike_frozen (Ps ++ C ∷ []) Ps Os Os (param E c) (param F c) E F A B f f' p d (alike_param Ps Os E F C c a h) a df df' sf k))).same xs j
 
--- members and their twins, one by one: typed alike, and the same in alike environments
-pub data TwinMembers (Ps : List TypeTree) (Os : List Arrow) (A B : TypeTree) : Networks Expression → Networks Expression → Type 0 where
-  no_twins : TwinMembers Ps Os A B no_members no_members
-  and_twins : {f g : Network Expression} {fs gs : Networks Expression} → NetTyped Ps Os f A B → NetTyped Ps Os g A B → SameOutputs Ps Os A f g
-      → TwinMembers Ps Os A B fs gs → TwinMembers Ps Os A B (and_member f fs) (and_member g gs)
-
 twins_at : (Ps : List TypeTree) (Os : List Arrow) (A B : TypeTree) (fs gs : Networks Expression) (E F : Environment Expression) → TwinMembers Ps Os A B fs gs
     → AlikeEnvironments Ps Os E F → AllSameAt A B (meanings value_of fs (scope E)) (meanings value_of gs (scope F))
 twins_at Ps Os A B fs gs E F no_twins a = no_twin
@@ -158,7 +153,7 @@ count_meanings : (fs : Networks Expression) (E : Context) → length (meanings v
 count_meanings no_members E = refl
 count_meanings (and_member f fs) E = ap suc (count_meanings fs E)
 
-twins_left : (Ps : List TypeTree) (Os : List Arrow) (A B : TypeTree) (fs gs : Networks Expression) → TwinMembers Ps Os A B fs gs
+pub twins_left : (Ps : List TypeTree) (Os : List Arrow) (A B : TypeTree) (fs gs : Networks Expression) → TwinMembers Ps Os A B fs gs
     → AllTyped ExpressionTyped AnyType Ps Os fs A B
 twins_left Ps Os A B fs gs no_twins = no_members_typed
 twins_left Ps Os A B fs gs (and_twins {fs = fs'} {gs = gs'} df dg s h) = and_member_typed df (twins_left Ps Os A B fs' gs' h)

@@ -19,10 +19,11 @@ use Rattle.net_syntax.specs.Place as P
 use Rattle.net_syntax.specs.Place.{Tree, a_network, a_leaf, member, child, child_network, PSwitchChild, p_switch_child, member_child, event_child, continuation_child}
 use Rattle.net_syntax.specs.Placed.{with_member, with_child, with_p_switch_child, replaced}
 use Rattle.net_syntax.specs.Standing.{Standing, standing, TreeTyped, MembersTyped, ChildStands, in_arr, first_in_seq, second_in_seq, in_first, in_par, constant_in_loop, network_in_loop, in_i_pre, in_delay, in_hold, step_in_accum, start_in_accum, in_after, in_repeatedly, network_in_switch, continuation_in_switch, network_in_d_switch, continuation_in_d_switch, network_in_r_switch, continuation_in_r_switch, network_in_k_switch, event_in_k_switch, continuation_in_k_switch, route_in_p_switch, member_in_p_switch, event_in_p_switch, continuation_in_p_switch, at_network, inside_network, inside_expression}
+use Rattle.net_syntax.specs.Congruence.{TwinMembers, no_twins, and_twins}
 use Rattle.net_syntax.specs.SamePlace.{SameThere, SamePlaceLaw}
 use Rattle.net_syntax.proofs.Children.{event_is, continuation_is}
 use Rattle.net_syntax.proofs.SameNets.{same-arr, same-loop_pre, same-i_pre, same-delay, same-hold, same-accum_by, same-after, same-repeatedly, same-p_switch, same-typed, same-all_typed}
-use Rattle.net_syntax.proofs.SameForms.{TwinMembers, no_twins, and_twins, seq_same, first_same, loop_same, switch_same, d_switch_same, r_switch_same, k_switch_same, par_same, p_switch_same}
+use Rattle.net_syntax.proofs.SameForms.{seq_same, first_same, loop_same, switch_same, d_switch_same, r_switch_same, k_switch_same, par_same, p_switch_same}
 use Rattle.net_syntax.proofs.Unique.{all_unique}
 use Rattle.net_syntax.proofs.StreamLaws.{same-outputs, alike-outputs, one-output-type}
 
@@ -101,7 +102,7 @@ event_in (pair_ty A (event_ty B)) = B
 event_in (event_ty B) = B
 event_in A = A
 
-leaf_same : (Ps : List TypeTree) (A B : TypeTree) (e s : Expression) → ExpressionTyped e Ps A B → SameValue Ps A e s → SameLeaf value_of Ps A B e s
+pub leaf_same : (Ps : List TypeTree) (A B : TypeTree) (e s : Expression) → ExpressionTyped e Ps A B → SameValue Ps A e s → SameLeaf value_of Ps A B e s
 leaf_same Ps A B e s d q = record { leaf_same = q; leaf_typed = typed_value e Ps A B d }
 
 module _ (Ps : List TypeTree) (Os : List Arrow) where

@@ -35,4 +35,5 @@ pub mod StandingWalk
 pub mod FoundType
 pub mod BehindRoute
 pub mod SamePlace
+pub mod Congruence
 pub mod FormParts

@@ -1,5 +1,6 @@
 // Laws of what networks denote: each function is a law, and does nothing.
 
+ghost use Rattle.net_syntax.specs.Congruence as Same;
 ghost use Rattle.net_syntax.specs.SamePlace.{SamePlaceLaw};
 ghost use Rattle.net_syntax.specs.Laws.{
   LengthLaw,
@@ -115,6 +116,26 @@ pub fn weight_examples()
     ensures heaviest_within { HeaviestWithin }
     ensures just_too_heavy { JustTooHeavy }
     ensures too_heavy { TooHeavy }
+{}
+
+/// Each form outputs the same in alike environments where its parts do: one law a form.
+pub fn congruence_laws()
+    ensures arr { Same.ArrLaw }
+    ensures sequence { Same.SequenceLaw }
+    ensures first { Same.FirstLaw }
+    ensures parallel { Same.ParallelLaw }
+    ensures loop_pre { Same.LoopLaw }
+    ensures previous { Same.PreviousLaw }
+    ensures delay { Same.DelayLaw }
+    ensures hold { Same.HoldLaw }
+    ensures accumulate { Same.AccumulateLaw }
+    ensures after { Same.AfterLaw }
+    ensures repeatedly { Same.RepeatedlyLaw }
+    ensures switch { Same.SwitchLaw }
+    ensures late_switch { Same.LateSwitchLaw }
+    ensures restart { Same.RestartLaw }
+    ensures freeze { Same.FreezeLaw }
+    ensures freeze_members { Same.FreezeMembersLaw }
 {}
 
 /// Where what stands at a position of a typed network, in continuations and in networks that will

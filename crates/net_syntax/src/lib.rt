@@ -23,7 +23,8 @@ pub use equal::same_net;
 pub use forms::{LeafForm, PairForm};
 pub use law_step::{Direction, Law, LawStep, Tree};
 pub use laws::{
-    output_examples, replacing_laws, stream_laws, switching_laws, typing_laws, weight_examples,
+    congruence_laws, output_examples, replacing_laws, stream_laws, switching_laws, typing_laws,
+    weight_examples,
 };
 pub use measure::{MOST_HEIGHT, MOST_WEIGHT, height, is_oversized, weight};
 pub use need::LeafNeed;

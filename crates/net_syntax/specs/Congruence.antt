@@ -1,0 +1,114 @@
+-- Each form does the same where its parts do, one law a form: a typed part may be replaced by a twin,
+-- an expression of the same value or a network that outputs the same in alike environments. In
+-- continuations the environments are larger: with the event's value, and with what is frozen, which
+-- are twins too.
+use Rattle.std.specs.Prelude.{ℕ, ◌≤◌, List, [], ◌∷◌, ◌++◌}
+use Rattle.sample_core.specs.TypeTree.{TypeTree, unit_ty, int_ty, pair_ty, event_ty, list_ty}
+use Rattle.leaf_core.specs.Expression.{Expression}
+use Rattle.leaf_core.specs.ExpressionTyping.{ExpressionTyped}
+use Rattle.leaf_core.specs.SameValue.{SameValue}
+use Rattle.net_syntax.specs.Network.{Network, Networks, arr, seq, first, par, loop_pre, i_pre, delay, hold, accum_by, after, repeatedly, switch, d_switch, r_switch, k_switch, p_switch, no_members, and_member}
+use Rattle.net_syntax.specs.Typing.{Arrow, arrow, copies, members}
+use Rattle.net_syntax.specs.TypedNetwork.{NetTyped}
+use Rattle.net_syntax.specs.AlikeEnvironments.{SameOutputs}
+
+-- both expressions have type B under parameters of types Ps and at inputs of type A, and one value
+pub record TwinLeaf (Ps : List TypeTree) (A B : TypeTree) (e s : Expression) : Type 0 where
+  pub one_typed : ExpressionTyped e Ps A B
+  pub other_typed : ExpressionTyped s Ps A B
+  pub same : SameValue Ps A e s
+
+-- both networks have these types, and output the same in alike environments
+pub record Twin (Ps : List TypeTree) (Os : List Arrow) (A B : TypeTree) (f g : Network Expression)
+    : Type 0 where
+  pub one_typed : NetTyped Ps Os f A B
+  pub other_typed : NetTyped Ps Os g A B
+  pub same : SameOutputs Ps Os A f g
+
+-- members and their twins, one by one
+pub data TwinMembers (Ps : List TypeTree) (Os : List Arrow) (A B : TypeTree)
+    : Networks Expression → Networks Expression → Type 0 where
+  no_twins : TwinMembers Ps Os A B no_members no_members
+  and_twins : {f g : Network Expression} {fs gs : Networks Expression} → NetTyped Ps Os f A B
+      → NetTyped Ps Os g A B → SameOutputs Ps Os A f g → TwinMembers Ps Os A B fs gs
+      → TwinMembers Ps Os A B (and_member f fs) (and_member g gs)
+
+abbrev pub ArrLaw : Type 0
+ArrLaw = (Ps : List TypeTree) (Os : List Arrow) (A B : TypeTree) (e s : Expression)
+    → TwinLeaf Ps A B e s → SameOutputs Ps Os A (arr e) (arr s)
+
+abbrev pub SequenceLaw : Type 0
+SequenceLaw = (Ps : List TypeTree) (Os : List Arrow) (A B C : TypeTree)
+    (f f' g g' : Network Expression) → Twin Ps Os A B f f' → Twin Ps Os B C g g'
+    → SameOutputs Ps Os A (seq f g) (seq f' g')
+
+abbrev pub FirstLaw : Type 0
+FirstLaw = (Ps : List TypeTree) (Os : List Arrow) (A B C : TypeTree) (f f' : Network Expression)
+    → Twin Ps Os A B f f' → SameOutputs Ps Os (pair_ty A C) (first f) (first f')
+
+abbrev pub ParallelLaw : Type 0
+ParallelLaw = (Ps : List TypeTree) (Os : List Arrow) (A B : TypeTree) (fs gs : Networks Expression)
+    → TwinMembers Ps Os A B fs gs → SameOutputs Ps Os A (par fs) (par gs)
+
+abbrev pub LoopLaw : Type 0
+LoopLaw = (Ps : List TypeTree) (Os : List Arrow) (A B C : TypeTree) (c d : Expression)
+    (f f' : Network Expression) → TwinLeaf Ps unit_ty C c d
+    → Twin Ps Os (pair_ty A C) (pair_ty B C) f f'
+    → SameOutputs Ps Os A (loop_pre c f) (loop_pre d f')
+
+abbrev pub PreviousLaw : Type 0
+PreviousLaw = (Ps : List TypeTree) (Os : List Arrow) (A : TypeTree) (c d : Expression)
+    → TwinLeaf Ps unit_ty A c d → SameOutputs Ps Os A (i_pre c) (i_pre d)
+
+abbrev pub DelayLaw : Type 0
+DelayLaw = (Ps : List TypeTree) (Os : List Arrow) (A : TypeTree) (q : ℕ) (c d : Expression)
+    → TwinLeaf Ps unit_ty A c d → SameOutputs Ps Os A (delay q c) (delay q d)
+
+abbrev pub HoldLaw : Type 0
+HoldLaw = (Ps : List TypeTree) (Os : List Arrow) (A : TypeTree) (c d : Expression)
+    → TwinLeaf Ps unit_ty A c d → SameOutputs Ps Os (event_ty A) (hold c) (hold d)
+
+abbrev pub AccumulateLaw : Type 0
+AccumulateLaw = (Ps : List TypeTree) (Os : List Arrow) (V Z : TypeTree) (g h z y : Expression)
+    → TwinLeaf Ps (pair_ty Z V) Z g h → TwinLeaf Ps unit_ty Z z y
+    → SameOutputs Ps Os (event_ty V) (accum_by g z) (accum_by h y)
+
+abbrev pub AfterLaw : Type 0
+AfterLaw = (Ps : List TypeTree) (Os : List Arrow) (A C : TypeTree) (q : ℕ) (c d : Expression)
+    → TwinLeaf Ps unit_ty C c d → SameOutputs Ps Os A (after q c) (after q d)
+
+abbrev pub RepeatedlyLaw : Type 0
+RepeatedlyLaw = (Ps : List TypeTree) (Os : List Arrow) (A C : TypeTree) (q : ℕ) (c d : Expression)
+    → TwinLeaf Ps unit_ty C c d → SameOutputs Ps Os A (repeatedly q c) (repeatedly q d)
+
+abbrev pub SwitchLaw : Type 0
+SwitchLaw = (Ps : List TypeTree) (Os : List Arrow) (A B C : TypeTree) (f f' t t' : Network Expression)
+    → Twin Ps Os A (pair_ty B (event_ty C)) f f' → Twin (Ps ++ C ∷ []) Os A B t t'
+    → SameOutputs Ps Os A (switch f t) (switch f' t')
+
+abbrev pub LateSwitchLaw : Type 0
+LateSwitchLaw = (Ps : List TypeTree) (Os : List Arrow) (A B C : TypeTree)
+    (f f' t t' : Network Expression)
+    → Twin Ps Os A (pair_ty B (event_ty C)) f f' → Twin (Ps ++ C ∷ []) Os A B t t'
+    → SameOutputs Ps Os A (d_switch f t) (d_switch f' t')
+
+abbrev pub RestartLaw : Type 0
+RestartLaw = (Ps : List TypeTree) (Os : List Arrow) (D B C : TypeTree)
+    (f f' t t' : Network Expression)
+    → Twin Ps Os D B f f' → Twin (Ps ++ C ∷ []) Os D B t t'
+    → SameOutputs Ps Os (pair_ty D (event_ty C)) (r_switch f t) (r_switch f' t')
+
+abbrev pub FreezeLaw : Type 0
+FreezeLaw = (Ps : List TypeTree) (Os : List Arrow) (A B C : TypeTree)
+    (f f' e e' t t' : Network Expression) → Twin Ps Os A B f f'
+    → Twin Ps Os (pair_ty A B) (event_ty C) e e'
+    → Twin (Ps ++ C ∷ []) (Os ++ arrow A B ∷ []) A B t t'
+    → SameOutputs Ps Os A (k_switch f e t) (k_switch f' e' t')
+
+abbrev pub FreezeMembersLaw : Type 0
+FreezeMembersLaw = (Ps : List TypeTree) (Os : List Arrow) (A B C D : TypeTree) (r s : Expression)
+    (fs gs : Networks Expression) (e e' t t' : Network Expression)
+    → members fs ≤ 64 → TwinLeaf Ps (pair_ty A int_ty) D r s → TwinMembers Ps Os D B fs gs
+    → Twin Ps Os (pair_ty A (list_ty B)) (event_ty C) e e'
+    → Twin (Ps ++ C ∷ []) (Os ++ copies (members fs) (arrow D B)) A (list_ty B) t t'
+    → SameOutputs Ps Os A (p_switch r fs e t) (p_switch s gs e' t')
