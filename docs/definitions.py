@@ -14,6 +14,8 @@ CRATES = [
     ("expr_laws", "Laws of expressions"),
     ("law_rules", "Laws of networks"),
     ("net_types", "The type checker"),
+    ("cert_check", "Certificates"),
+    ("net_opt", "The optimiser"),
     ("net_text", "Texts of networks"),
     ("cell_core", "Cells"),
     ("state_core", "States"),
