@@ -1,8 +1,10 @@
 // Command lines, and what they lead to.
 
-use crate::files::OneFile;
-use crate::found::{Probe, all_are_found};
+use crate::files::{OneFile, ThreeFiles};
+use crate::found::{LawProbe, Probe, all_are_found};
 use crate::texts::{bytes_in, parted, say, say_at};
+use net_syntax::TypedNet;
+use net_text::push_net;
 use std::alloc::Global;
 use yampa_run::{Job, Refusal, prepare};
 
@@ -19,6 +21,40 @@ pub fn command_told(alloc: Global, given: &str, out: &mut String) {
         Err(refusal) => refusal_told(refusal, out),
     }
     drop(asked);
+}
+
+/// Tells what the command line leads to, on three files called `src`, `tgt` and `cert`: `WORDS |
+/// SOURCE | TARGET | CERTIFICATE`. Of a run it tells the network that is run.
+pub fn derivation_told(alloc: Global, given: &str, out: &mut String) {
+    let (line, files) = parted(given);
+    let (source, behind) = parted(files);
+    let (target, certificate) = parted(behind);
+    let source = bytes_in(alloc, source);
+    let target = bytes_in(alloc, target);
+    let certificate = bytes_in(alloc, certificate);
+    let files = ThreeFiles {
+        source: &source,
+        target: &target,
+        certificate: &certificate,
+    };
+    asked_told(alloc, line, &files, out);
+}
+
+fn asked_told(alloc: Global, line: &str, files: &ThreeFiles<'_>, out: &mut String) {
+    let words = words_of(alloc, line);
+    let asked = prepare(alloc, &words, files);
+    match &asked {
+        Ok(Job::Run(net)) => run_told(net, out),
+        Ok(job) => job_told(job, out),
+        Err(refusal) => refusal_told(refusal, out),
+    }
+    drop(asked);
+}
+
+/// Tells the network that is to be run.
+fn run_told(net: &TypedNet, out: &mut String) {
+    say(out, "run ");
+    drop(push_net(out, net.net()));
 }
 
 /// The words of the line; none where it is empty.
@@ -142,6 +178,42 @@ yampa run net | {1048552* }yampa 1 input Int (arr x) => status 1 network: too lo
 yampa types net | yampa 1 input Int ‹forms› => Int -> (List Int)␤weight 56␤height 6␤
 yampa types net | ‹tallest› => Int -> Int␤weight 511␤height 256␤
 ";
+
+/// Command lines on the three files of a derivation, and what they lead to.
+static DERIVATIONS: &str = "
+§ Derivations that are accepted.
+yampa check src tgt cert | ‹sum doubled› | ‹sum doubled at once› | laws 1 (step L4 forward (at)) => accepted 1␤
+yampa check src src cert | ‹same› |  | laws 1 => accepted 0␤
+yampa run-checked src tgt cert | ‹sum doubled› | ‹sum doubled at once› | laws 1 (step L4 forward (at)) => run (arr (then (add x 1) (mul x 2)))
+yampa run-checked tgt src cert | ‹sum doubled› | ‹sum doubled at once› | laws 1 (step L4 backward (at) (>>> (arr (add x 1)) (arr (mul x 2)))) => run (>>> (arr (add x 1)) (arr (mul x 2)))
+§ Files that are refused, the first that is named before the next, and its text before its types.
+yampa check src tgt cert | yampa 3 input Int time | yampa 3 input Int time | laws 2 => status 1 source: header
+yampa check src other cert | yampa 1 input Int (arr | ‹same› | laws 2 => status 1 source: syntax at byte 22
+yampa check src tgt cert | yampa 1 input Int (hold 0) | yampa 3 input Int time | laws 2 => status 1 source: no event at (at)
+yampa check src other cert | ‹same› | ‹same› | laws 2 => status 3 target: cannot be read
+yampa check src tgt other | ‹same› | yampa 1 input Int (arr 01) | laws 2 => status 1 target: number at byte 23
+yampa check src tgt other | ‹same› | ‹parameter› | laws 2 => status 1 target: no parameter in (at 0)
+yampa run-checked src tgt other | ‹same› | ‹same› | laws 2 => status 3 certificate: cannot be read
+yampa check src tgt cert | ‹same› | ‹same› | laws 2 => status 1 certificate: header
+yampa check src tgt cert | ‹same› | ‹same› | laws 1 (step => status 1 certificate: syntax at byte 12
+yampa check src tgt cert | ‹same› | ‹same› | laws 1 (step L4 forward (at 65536)) => status 1 certificate: number at byte 28
+yampa check src tgt cert | ‹same› | ‹same› | laws 1 (step L1 backward (at) {600*(>>> } => status 1 certificate: nesting at byte 3025
+yampa run-checked src tgt cert | ‹same› | ‹same› | {1048577*~} => status 1 certificate: too long
+§ Certificates that don't lead from the source to the target.
+yampa check src tgt cert | ‹same› | yampa 1 input Bool (arr x) | laws 1 => status 1 certificate: inputs differ
+yampa check src tgt cert | ‹same› | ‹same› | laws 1{10001* (step E16 forward (at 0))} => status 1 certificate: too many steps
+yampa check src tgt cert | ‹sum doubled› | ‹sum doubled at once› | laws 1 (step L4 forward (at 65535)) => status 1 certificate: no position at step 1
+yampa check src tgt cert | ‹late switch› | ‹late switch› | laws 1 (step L27 forward (at)) => status 1 certificate: no match at step 1
+yampa check src tgt cert | ‹successor› | ‹successor› | laws 1 (step E16 forward (at 0)) (step E7 backward (at 0) (fst (pair (add 1 x) (p 0)))) => status 1 certificate: ill typed at step 2
+yampa check src tgt cert | ‹sum doubled› | ‹sum doubled at once› | laws 1 => status 1 certificate: ends elsewhere
+yampa run-checked src tgt cert | ‹sum doubled› | ‹sum doubled at once› | laws 1 (step L4 forward (at 5)) => status 1 certificate: no position at step 1
+yampa run-checked src tgt cert | ‹successor› | ‹successor› | laws 1{9999* (step E16 forward (at 0))} => status 1 certificate: ends elsewhere
+";
+
+#[test]
+fn derivations_are_checked(rt: HostRuntime) {
+    all_are_found(&rt, rt.alloc(), Probe::Law(LawProbe::Command), DERIVATIONS);
+}
 
 #[test]
 fn command_lines_lead_where_they_should(rt: HostRuntime) {

@@ -1,13 +1,17 @@
 // Worked rows, and the one way to ask of each whether it goes as it was worked out.
 
 use crate::built::{built_told, doubled_told, part_told};
-use crate::commands::command_told;
+use crate::certificates::certificate_told;
+use crate::checks::{check_told, checked_runs_told, scant_check_told};
+use crate::commands::{command_told, derivation_told};
 use crate::forms::form_told;
 use crate::keys::key_told;
+use crate::laws::{expr_law_told, net_law_told};
 use crate::needs::need_told;
-use crate::network_types::{frozen_told, network_told};
+use crate::network_types::network_told;
 use crate::networks::file_told;
 use crate::piecewise::failing_told;
+use crate::places::{place_told, replaced_told, rewritten_told};
 use crate::reading::{expr_at_told, expr_told, type_at_told};
 use crate::runs::{missing_told, run_told, scantly_told, visited_told};
 use crate::scant_memory::scant_told;
@@ -56,8 +60,6 @@ pub enum Probe {
     File,
     /// A network's types, weight and height, or why it has none.
     Network,
-    /// The same, of so many `kSwitch` that freeze more and more: `COUNT | NETWORK`.
-    Frozen,
     /// A network's types, weight and height, and how it is printed.
     Form,
     /// A network's expression of that number, with where it stands and its types: `FILE | NUMBER`.
@@ -96,6 +98,35 @@ pub enum Probe {
     Calls,
     /// The same with no memory left.
     ScantCalls,
+    /// What is asked of laws, positions and certificates.
+    Law(LawProbe),
+}
+
+/// What is asked of laws, of positions and of certificates.
+#[derive(Clone, Copy)]
+pub enum LawProbe {
+    /// What a law makes of an expression: `LAW DIRECTION | EXPR`, or `LAW DIRECTION | EXPR | GIVEN`.
+    Expr,
+    /// The same of a network: `LAW DIRECTION | NET`, or `LAW DIRECTION | NET | GIVEN`; behind the
+    /// direction, how many frozen networks are in scope.
+    Net,
+    /// What stands at a position: `FILE | E POSITION`.
+    Place,
+    /// A network with another tree at a position: `FILE | LETTER POSITION TREE`.
+    Replacing,
+    /// The same of the typed network.
+    Rewriting,
+    /// How a certificate file is printed.
+    File,
+    /// What the check of a certificate answers: `SOURCE | TARGET | CERTIFICATE`.
+    Check,
+    /// The same where growths are refused in turn.
+    ScantCheck,
+    /// The same, and what both networks write: `STREAM | SOURCE | TARGET | CERTIFICATE`.
+    CheckedRuns,
+    /// What a command line leads to, on files called `src`, `tgt` and `cert`: `WORDS | SOURCE |
+    /// TARGET | CERTIFICATE`.
+    Command,
 }
 
 /// Adds to the text what the probe finds.
@@ -115,7 +146,6 @@ fn tell(alloc: Global, probe: Probe, given: &str, out: &mut String) {
         Probe::Tree => tree_told(alloc, given, out),
         Probe::File => file_told(alloc, given, out),
         Probe::Network => network_told(alloc, given, out),
-        Probe::Frozen => frozen_told(alloc, given, out),
         Probe::Form => form_told(alloc, given, out),
         Probe::Need => need_told(alloc, given, out),
         Probe::Doubled => doubled_told(alloc, given, out),
@@ -135,6 +165,23 @@ fn tell(alloc: Global, probe: Probe, given: &str, out: &mut String) {
         Probe::ScantStream => scantly_told(alloc, given, out),
         Probe::Calls => calls_told(alloc, given, out),
         Probe::ScantCalls => scant_calls_told(alloc, given, out),
+        Probe::Law(probe) => law_told(alloc, probe, given, out),
+    }
+}
+
+/// The same of a probe of laws.
+fn law_told(alloc: Global, probe: LawProbe, given: &str, out: &mut String) {
+    match probe {
+        LawProbe::Expr => expr_law_told(alloc, given, out),
+        LawProbe::Net => net_law_told(alloc, given, out),
+        LawProbe::Place => place_told(alloc, given, out),
+        LawProbe::Replacing => replaced_told(alloc, given, out),
+        LawProbe::Rewriting => rewritten_told(alloc, given, out),
+        LawProbe::File => certificate_told(alloc, given, out),
+        LawProbe::Check => check_told(alloc, given, out),
+        LawProbe::ScantCheck => scant_check_told(alloc, given, out),
+        LawProbe::CheckedRuns => checked_runs_told(alloc, given, out),
+        LawProbe::Command => derivation_told(alloc, given, out),
     }
 }
 

@@ -6,6 +6,10 @@ mod ballast;
 #[cfg(test)]
 mod built;
 #[cfg(test)]
+mod certificates;
+#[cfg(test)]
+mod checks;
+#[cfg(test)]
 mod commands;
 #[cfg(test)]
 mod devices;
@@ -20,6 +24,8 @@ mod freezing;
 #[cfg(test)]
 mod keys;
 #[cfg(test)]
+mod laws;
+#[cfg(test)]
 mod named;
 #[cfg(test)]
 mod needs;
@@ -29,6 +35,8 @@ mod network_types;
 mod networks;
 #[cfg(test)]
 mod piecewise;
+#[cfg(test)]
+mod places;
 #[cfg(test)]
 mod reading;
 #[cfg(test)]

@@ -1,6 +1,6 @@
-// Files and networks that several tables try, by their names.
+// Files, networks and parts of networks that several tables try, by their names.
 
-/// The file or the network of that name, in short form; nothing where neither has it.
+/// The file, the network or the part of that name, in short form; nothing where none has it.
 pub fn network_named(name: &str) -> &'static str {
     for line in NAMED.lines() {
         if let Some((first, text)) = line.split_once(" = ") {
@@ -12,11 +12,15 @@ pub fn network_named(name: &str) -> &'static str {
     ""
 }
 
-/// Names, and the file or the network of each. `forms` is a network in which each of the nineteen
-/// forms stands, on numbers.
+/// Names, and the file, the network or the part of each. `forms` is a network in which each of the
+/// nineteen forms stands, on numbers.
 static NAMED: &str = "
 increment = yampa 1 input Int (>>> (arr (add x 1)) (iPre 0))
 same = yampa 1 input Int (arr x)
+sum doubled = yampa 1 input Int (>>> (arr (add x 1)) (arr (mul x 2)))
+sum doubled at once = yampa 1 input Int (arr (then (add x 1) (mul x 2)))
+late switch = yampa 1 input Int (>>> (iPre 0) \
+    (switch (arr (pair x (if (less 9 x) (event x) (none Int)))) (arr (add x (p 0)))))
 successor = yampa 1 input Int (arr (add x 1))
 below six = yampa 1 input Int (arr (less x 6))
 wrap = yampa 1 input Int (arr (event x))
@@ -25,7 +29,13 @@ parameter = yampa 1 input Int (arr (p 0))
 late truth = yampa 1 input Int (>>> (arr (less x 1)) (iPre 0))
 tallest = yampa 1 input Int {255*(>>> (arr x) }(arr x){255*)}
 too tall = yampa 1 input Int {256*(>>> (arr x) }(arr x){256*)}
+heaviest = yampa 1 input Int (kSwitch (arr x) (arr (none Unit)) \
+    {16*(kSwitch (>>> (old #) (old #)) (arr (none Unit)) }\
+    (>>> (old 16) (>>> (old 15) (>>> (old 14) (>>> (old 12) (>>> (old 7) (>>> (old 4) (>>> (old 2) \
+    (>>> (old 1) (>>> (arr x) (>>> (arr x) (arr x))))))))))){17*)}
 deep event = yampa 1 input {31*(Event }Int{31*)} (arr (event x))
+first frozen = (kSwitch (arr x) (arr (none Unit))
+next frozen = (kSwitch (>>> (old #) (old #)) (arr (none Unit))
 event above nine = (arr (pair x (if (less 9 x) (event x) (none Int))))
 event always = (arr (pair x (event x)))
 plus event = (arr (add x (p 0)))
@@ -38,6 +48,10 @@ resumed = (kSwitch time (arr (if (equal (fst x) 1) (event unit) (none Unit))) \
     (switch (arr (pair -1 (if (equal x 2) (event unit) (none Unit)))) (old 0)))
 routed = (pSwitch (fst x) (col time integral) \
     (arr (if (equal (fst x) 7) (event unit) (none Unit))) (parB (old 1) (old 0)))
+not of event = (on x (none Bool) (event (then (snd x) (not x))))
+swap = (pair (snd x) (fst x))
+assoc = (pair (fst (fst x)) (pair (snd (fst x)) (snd x)))
+unassoc = (pair (pair (fst x) (fst (snd x))) (snd (snd x)))
 forms = (parB (arr (add x 1)) (iPre 0) (delay 3 0) time integral \
     (>>> (arr (event x)) (hold 0)) \
     (>>> (arr (event x)) (>>> (accumBy (add (fst x) (snd x)) 0) (hold 0))) \

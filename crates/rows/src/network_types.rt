@@ -2,7 +2,7 @@
 
 use crate::found::{Probe, all_are_found};
 use crate::networks::text_fault_told;
-use crate::texts::{number_in, parted, say, say_at};
+use crate::texts::{say, say_at};
 use leaf_expr::{Expr, ExprFault};
 use net_syntax::{Net, Position, TypedNet, push_position};
 use net_text::read_net;
@@ -79,34 +79,6 @@ fn at_told(alloc: Global, words: &str, position: &Position, out: &mut String) {
     }
 }
 
-/// Tells the types, the weight and the height of so many `kSwitch`, each the continuation of the
-/// one before and with twice the network frozen that is frozen there, and of a network as the
-/// continuation of the last: `COUNT | NETWORK`.
-pub fn frozen_told(alloc: Global, given: &str, out: &mut String) {
-    let (count, last) = parted(given);
-    let mut text = String::new(alloc);
-    push_frozen(&mut text, number_in(count), last);
-    network_told(alloc, text.as_str(), out);
-}
-
-/// Adds the file of that network to the text.
-fn push_frozen(text: &mut String, count: usize, last: &str) {
-    say(
-        text,
-        "yampa 1 input Int (kSwitch (arr x) (arr (none Unit)) ",
-    );
-    for k in 0..count.saturating_sub(1) {
-        drop(write!(
-            text,
-            "(kSwitch (>>> (old {k}) (old {k})) (arr (none Unit)) "
-        ));
-    }
-    say(text, last);
-    for _ in 0..count {
-        say(text, ")");
-    }
-}
-
 /// Networks and their types, weights and heights, or why they have none, and where.
 static TYPINGS: &str = "
 § At the limits and over them.
@@ -118,6 +90,12 @@ yampa 1 input {31*(Event }Int{31*)} time => {31*(Event }Int{31*)} -> Int weight 
 yampa 1 input {32*(Event }Int{32*)} (arr (p 0)) => too deep
 yampa 1 input {32*(Event }Int{32*)} time => too deep
 ‹deep event› => expression too deep (at 0)
+§ Weights at the limit and over it: frozen networks count each time that they are resumed.
+‹heaviest› => Int -> Int weight 1000000 height 52
+yampa 1 input Int ‹first frozen› {16*‹next frozen› }(>>> (old 16) (>>> (old 15) (>>> (old 14) (>>> (old 12) (>>> (old 7) (>>> (old 4) (>>> (old 2) (>>> (old 1) (>>> (arr x) (>>> (arr x) (>>> (arr x) (arr x))))))))))){17*)} => too heavy
+yampa 1 input Int ‹first frozen› {19*‹next frozen› }(old 19){20*)} => too heavy
+yampa 1 input Int ‹first frozen› {79*‹next frozen› }(old 79){80*)} => too heavy
+yampa 1 input Int ‹first frozen› {19*‹next frozen› }{256*(>>> (old 19) }(arr x){256*)}{20*)} => too deep
 § Each fault at the root or one level deep.
 yampa 1 input Int (hold 0) => no event (at)
 ‹late truth› => types differ (at 1)
@@ -194,17 +172,7 @@ yampa 1 input Int (>>> (arr x) (pSwitch x (col (arr (none {28*(Event }Int{28*)})
 yampa 1 input Int (>>> (arr x) (pSwitch x (col (arr (none {29*(Event }Int{29*)}))) (arr (p 0)) time)) => too deep
 ";
 
-/// How many networks are frozen, and what stands behind them.
-static FROZEN: &str = "
-§ Weights at the limit and over it: frozen networks count each time that they are resumed.
-20 | (old 19) => too heavy
-20 | {256*(>>> (old 19) }(arr x){256*)} => too deep
-17 | (>>> (old 16) (>>> (old 15) (>>> (old 14) (>>> (old 12) (>>> (old 7) (>>> (old 4) (>>> (old 2) (>>> (old 1) (>>> (arr x) (>>> (arr x) (arr x))))))))))) => Int -> Int weight 1000000 height 52
-17 | (>>> (old 16) (>>> (old 15) (>>> (old 14) (>>> (old 12) (>>> (old 7) (>>> (old 4) (>>> (old 2) (>>> (old 1) (>>> (arr x) (>>> (arr x) (>>> (arr x) (arr x)))))))))))) => too heavy
-";
-
 #[test]
 fn networks_are_typed(rt: HostRuntime) {
     all_are_found(&rt, rt.alloc(), Probe::Network, TYPINGS);
-    all_are_found(&rt, rt.alloc(), Probe::Frozen, FROZEN);
 }

@@ -2,6 +2,8 @@
 
 use crate::named::network_named;
 use leaf_expr::{Expr, read_expr, read_type_at};
+use net_syntax::Net;
+use net_text::read_net;
 use sample_core::{Sample, Ty, read_value};
 use std::alloc::Global;
 
@@ -22,8 +24,9 @@ pub fn say_signed(out: &mut String, words: &str, number: i64) {
 }
 
 /// Adds the text that its short form stands for: `‹increment›` for the file of the network of that
-/// name; `{3*ab}` for `ababab`, and inside such a part `[3*ab]`; `␤` for a line feed, and likewise
-/// `␍`, `␉`, `␋`, `␌` and `␀` for what they show.
+/// name; `{3*ab}` for `ababab`, and inside such a part `[3*ab]`; in either `#` for the number of the
+/// repetition, from 0; `␤` for a line feed, and likewise `␍`, `␉`, `␋`, `␌` and `␀` for what they
+/// show.
 pub fn write_short(alloc: Global, short: &str, out: &mut String) {
     let mut named = String::new(alloc);
     let mut outer = String::new(alloc);
@@ -77,8 +80,18 @@ fn push_repeated(out: &mut String, short: &str, open: char, close: char) {
 /// Adds the part `3*ab` as `ababab`.
 fn push_times(out: &mut String, part: &str) {
     let (times, repeated) = part.split_once('*').unwrap_or(("", ""));
-    for _ in 0..number_in(times) {
-        say(out, repeated);
+    for number in 0..number_in(times) {
+        push_counted(out, repeated, number);
+    }
+}
+
+/// Adds the part with the number in place of each `#`.
+fn push_counted(out: &mut String, part: &str, number: usize) {
+    for character in part.chars() {
+        match character {
+            '#' => drop(write!(out, "{number}")),
+            other => drop(out.push(other)),
+        }
     }
 }
 
@@ -129,6 +142,20 @@ pub fn value_in(alloc: Global, ty: &Ty, text: &str) -> Option<Box<Sample>> {
 pub fn expr_in(alloc: Global, text: &str) -> Option<Box<Expr>> {
     match read_expr(alloc, text.as_bytes()) {
         Ok(expr) => Box::new(alloc, expr).ok(),
+        Err(_fault) => None,
+    }
+}
+
+/// The network that the text spells, whatever its types.
+pub fn net_in(alloc: Global, text: &str) -> Option<Box<Net<Expr>>> {
+    let mut file = String::new(alloc);
+    say(&mut file, "yampa 1 input Int ");
+    say(&mut file, text);
+    match read_net(alloc, file.as_bytes()) {
+        Ok((input, net)) => {
+            drop(input);
+            Box::new(alloc, net).ok()
+        }
         Err(_fault) => None,
     }
 }

@@ -1,0 +1,269 @@
+// Certificates, and what their check answers.
+
+use crate::ballast::{Ballast, take_all};
+use crate::certificates::steps_in;
+use crate::found::{LawProbe, Probe, all_are_found};
+use crate::networks::{printed_told, text_fault_told};
+use crate::runs::{Trial, network, trial_told};
+use crate::texts::{parted, say, say_at};
+use cert_check::{Accepted, CheckFault, check};
+use net_syntax::{LawStep, TypedNet};
+use net_text::print_net;
+use std::alloc::Global;
+
+/// What is tried of a certificate.
+#[derive(Clone, Copy)]
+enum Asked<'a> {
+    /// What its check answers.
+    Check,
+    /// The same where growths are refused in turn.
+    ScantCheck,
+    /// The same, and what both networks write on this stream.
+    Runs(&'a str),
+}
+
+/// A certificate with its source and its target.
+#[derive(Clone, Copy)]
+struct Derivation<'a> {
+    source: &'a TypedNet,
+    target: &'a TypedNet,
+    steps: &'a [LawStep],
+}
+
+/// Tells what the check of a certificate answers: `SOURCE | TARGET | CERTIFICATE`.
+pub fn check_told(alloc: Global, given: &str, out: &mut String) {
+    source_told(alloc, given, Asked::Check, out);
+}
+
+/// Tells what the check answers where growths are refused in turn, and whether any was.
+pub fn scant_check_told(alloc: Global, given: &str, out: &mut String) {
+    source_told(alloc, given, Asked::ScantCheck, out);
+}
+
+/// Tells what the check answers, and what both networks write on a stream: `STREAM | SOURCE | TARGET
+/// | CERTIFICATE`.
+pub fn checked_runs_told(alloc: Global, given: &str, out: &mut String) {
+    let (stream, behind) = parted(given);
+    source_told(alloc, behind, Asked::Runs(stream), out);
+}
+
+fn source_told(alloc: Global, given: &str, asked: Asked<'_>, out: &mut String) {
+    let (file, behind) = parted(given);
+    match network(alloc, file) {
+        Some(source) => target_told(alloc, &source, behind, asked, out),
+        None => say(out, "no source"),
+    }
+}
+
+fn target_told(alloc: Global, source: &TypedNet, given: &str, asked: Asked<'_>, out: &mut String) {
+    let (file, certificate) = parted(given);
+    match network(alloc, file) {
+        Some(target) => steps_told(alloc, source, &target, certificate, asked, out),
+        None => say(out, "no target"),
+    }
+}
+
+fn steps_told(
+    alloc: Global,
+    source: &TypedNet,
+    target: &TypedNet,
+    certificate: &str,
+    asked: Asked<'_>,
+    out: &mut String,
+) {
+    match steps_in(alloc, certificate) {
+        Ok(steps) => {
+            let derivation = Derivation {
+                source,
+                target,
+                steps: &steps,
+            };
+            asked_told(alloc, derivation, asked, out);
+            drop(steps);
+        }
+        Err(fault) => text_fault_told(fault, out),
+    }
+}
+
+fn asked_told(alloc: Global, derivation: Derivation<'_>, asked: Asked<'_>, out: &mut String) {
+    match asked {
+        Asked::Check => answer_told(checked(alloc, derivation), out),
+        Asked::ScantCheck => scantly_told(alloc, derivation, out),
+        Asked::Runs(stream) => {
+            answer_told(checked(alloc, derivation), out);
+            runs_told(alloc, derivation, stream, out)
+        }
+    }
+}
+
+fn checked(alloc: Global, derivation: Derivation<'_>) -> Result<Accepted, CheckFault> {
+    check(
+        alloc,
+        derivation.source,
+        derivation.target,
+        derivation.steps,
+    )
+}
+
+/// Tells what a check answered.
+fn answer_told(answer: Result<Accepted, CheckFault>, out: &mut String) {
+    match answer {
+        Ok(accepted) => say_at(out, "accepted", accepted.steps as usize),
+        Err(CheckFault::InputsDiffer) => say(out, "inputs differ"),
+        Err(CheckFault::TooManySteps) => say(out, "too many steps"),
+        Err(CheckFault::NoPosition { step }) => say_at(out, "no position at step", step as usize),
+        Err(CheckFault::NoMatch { step }) => say_at(out, "no match at step", step as usize),
+        Err(CheckFault::IllTyped { step }) => say_at(out, "ill typed at step", step as usize),
+        Err(CheckFault::EndsElsewhere) => say(out, "ends elsewhere"),
+        Err(CheckFault::Memory) => say(out, "memory"),
+    }
+}
+
+/// Tells what the target writes on the stream, and where the source writes something else, that it
+/// does.
+fn runs_told(alloc: Global, derivation: Derivation<'_>, stream: &str, out: &mut String) {
+    let mut written = String::new(alloc);
+    let mut expected = String::new(alloc);
+    trial_told(alloc, derivation.target, Trial::Run(stream), &mut written);
+    trial_told(alloc, derivation.source, Trial::Run(stream), &mut expected);
+    say(out, ": ");
+    say(out, written.as_str());
+    if written.as_str() != expected.as_str() {
+        say(out, "and another of the source");
+    }
+}
+
+/// Tells what checks answer with no memory left, and after each refusal with a little more, until
+/// one isn't refused; whether any was; and where the networks aren't as they were, that they aren't.
+fn scantly_told(alloc: Global, derivation: Derivation<'_>, out: &mut String) {
+    let mut before = String::new(alloc);
+    let mut behind = String::new(alloc);
+    both_told(alloc, derivation, &mut before);
+    scant_tried(alloc, derivation, out);
+    both_told(alloc, derivation, &mut behind);
+    if behind.as_str() != before.as_str() {
+        say(out, ", changed");
+    }
+}
+
+fn both_told(alloc: Global, derivation: Derivation<'_>, out: &mut String) {
+    printed_told(
+        print_net(alloc, derivation.source.input(), derivation.source.net()),
+        out,
+    );
+    printed_told(
+        print_net(alloc, derivation.target.input(), derivation.target.net()),
+        out,
+    );
+}
+
+fn scant_tried(alloc: Global, derivation: Derivation<'_>, out: &mut String) {
+    match take_all(alloc, 0) {
+        Ok(ballast) => released_told(alloc, derivation, ballast, out),
+        Err(_) => say(out, "no ballast"),
+    }
+}
+
+fn released_told(
+    alloc: Global,
+    derivation: Derivation<'_>,
+    mut ballast: Ballast,
+    out: &mut String,
+) {
+    for refused in 0..RELEASES {
+        match checked(alloc, derivation) {
+            Err(CheckFault::Memory) => ballast.release(),
+            answer => {
+                drop(ballast);
+                answer_told(answer, out);
+                return say(
+                    out,
+                    if refused == 0 {
+                        ", never refused"
+                    } else {
+                        ", refused at first"
+                    },
+                );
+            }
+        }
+    }
+    drop(ballast);
+    say(out, "always refused");
+}
+
+/// How many times a check is tried with little memory.
+const RELEASES: usize = 1_000;
+
+/// Sources, targets and certificates, and what is answered.
+static CHECKS: &str = "
+§ A step that is taken, steps at positions that aren't there, and no step.
+‹sum doubled› | ‹sum doubled at once› | laws 1 (step L4 forward (at)) => accepted 1
+‹sum doubled› | ‹sum doubled at once› | laws 1 (step L4 forward (at 5)) => no position at step 1
+‹sum doubled› | ‹sum doubled at once› | laws 1 (step L4 forward (at 65535)) => no position at step 1
+‹sum doubled› | ‹sum doubled at once› | laws 1 => ends elsewhere
+‹sum doubled› | ‹sum doubled› | laws 1 => accepted 0
+§ A law that doesn't answer: the left side isn't there, a tree too many or too few, a law of the other kind.
+‹late switch› | ‹late switch› | laws 1 (step L27 forward (at)) => no match at step 1
+‹sum doubled› | ‹sum doubled at once› | laws 1 (step L4 forward (at)) (step L4 forward (at)) => no match at step 2
+‹sum doubled› | ‹sum doubled at once› | laws 1 (step L4 forward (at) time) => no match at step 1
+‹sum doubled› | ‹sum doubled› | laws 1 (step L1 backward (at)) => no match at step 1
+‹sum doubled› | ‹sum doubled› | laws 1 (step E1 backward (at) (then x 1)) => no match at step 1
+‹sum doubled› | ‹sum doubled› | laws 1 (step L1 forward (at 0 0)) => no match at step 1
+§ Steps in an expression.
+‹same› | ‹same› | laws 1 (step E7 backward (at 0) (fst (pair x (p 0)))) => ill typed at step 1
+‹same› | ‹same› | laws 1 (step E7 backward (at 0) (fst (pair x 1))) => ends elsewhere
+‹same› | ‹same› | laws 1 (step E7 backward (at 0) (fst (pair x 1))) (step E7 forward (at 0)) => accepted 2
+‹same› | ‹same› | laws 1 (step E7 backward (at 0) (fst (pair x 1))) (step E7 backward (at 0 0 1) (fst (pair 1 (p 0)))) => ill typed at step 2
+§ What is answered before the first step.
+‹same› | ‹same› | laws 1{10000* (step E7 backward (at 0) (fst (pair x (p 0))))} => ill typed at step 1
+‹same› | ‹same› | laws 1{10001* (step E7 backward (at 0) (fst (pair x (p 0))))} => too many steps
+‹same› | yampa 1 input Bool (arr x) | laws 1{10001* (step L4 forward (at 5))} => inputs differ
+§ Networks past the limits.
+yampa 1 input Int (arr {255*(neg }x{255*)}) | yampa 1 input Int (arr {255*(neg }x{255*)}) | laws 1 (step E7 backward (at{256* 0}) (fst (pair x 1))) => ill typed at step 1
+‹heaviest› | ‹heaviest› | laws 1 (step L1 backward (at 0) (>>> (arr x) (arr x))) => ill typed at step 1
+‹heaviest› | ‹heaviest› | laws 1 => accepted 0
+§ As many steps as a certificate may have.
+‹successor› | ‹successor› | laws 1{10000* (step E16 forward (at 0))} => accepted 10000
+‹successor› | ‹successor› | laws 1{9999* (step E16 forward (at 0))} => ends elsewhere
+";
+
+/// Streams, sources, targets and certificates, and what is answered and written.
+static CHECKED_RUNS: &str = "
+§ Networks that are derived, and what both write.
+5␤+1 6␤+1 9223372036854775807 | ‹sum doubled› | ‹sum doubled at once› | laws 1 (step L4 forward (at)) => accepted 1: 12␤14␤0␤
+0␤+4 0␤+5 1␤+6 0␤+7 2␤+1 0 | yampa 1 input Int (kSwitch time ‹event at one› (old 0)) | yampa 1 input Int time | laws 1 (step L38 forward (at)) => accepted 1: 0␤4␤9␤15␤22␤23␤
+0␤+4 0␤+5 1␤+6 0␤+7 2␤+1 0 | yampa 1 input Int (kSwitch (>>> (arr x) time) ‹event at one› ‹old at two›) | yampa 1 input Int ‹resumed› | laws 1 (step L1 forward (at 0)) => accepted 1: 0␤4␤-1␤-1␤9␤10␤
+";
+
+/// Sources, targets and certificates, and what is answered with little memory.
+static SCANT_CHECKS: &str = "
+§ Checks with little memory.
+‹sum doubled› | ‹sum doubled at once› | laws 1 (step L4 forward (at)) => accepted 1, refused at first
+‹sum doubled› | ‹sum doubled at once› | laws 1 (step L4 forward (at 5)) => no position at step 1, refused at first
+‹sum doubled› | ‹sum doubled at once› | laws 1 => ends elsewhere, never refused
+‹same› | ‹same› | laws 1 (step E7 backward (at 0) (fst (pair x (p 0)))) => ill typed at step 1, refused at first
+‹same› | ‹same› | laws 1 (step E7 backward (at 0) (fst (pair x 1))) (step E7 forward (at 0)) => accepted 2, refused at first
+‹same› | ‹same› | laws 1{10001* (step E7 backward (at 0) (fst (pair x (p 0))))} => too many steps, never refused
+‹same› | yampa 1 input Bool (arr x) | laws 1 => inputs differ, never refused
+";
+
+#[test]
+fn certificates_are_checked(rt: HostRuntime) {
+    all_are_found(&rt, rt.alloc(), Probe::Law(LawProbe::Check), CHECKS);
+    all_are_found(
+        &rt,
+        rt.alloc(),
+        Probe::Law(LawProbe::CheckedRuns),
+        CHECKED_RUNS,
+    );
+}
+
+#[test]
+fn checks_are_refused_memory(rt: HostRuntime) {
+    all_are_found(
+        &rt,
+        rt.alloc(),
+        Probe::Law(LawProbe::ScantCheck),
+        SCANT_CHECKS,
+    );
+}

@@ -1,0 +1,249 @@
+// What stands at positions of networks, and networks with another tree there.
+
+use crate::certificates::steps_in;
+use crate::found::{LawProbe, Probe, all_are_found};
+use crate::network_types::typed_told;
+use crate::networks::text_fault_told;
+use crate::runs::network;
+use crate::texts::{parted, say, say_at};
+use leaf_expr::push_expr;
+use net_syntax::{
+    LawStep, Place, Position, Tree, TreeRef, TypedNet, at, replace, same_net, type_at,
+};
+use net_text::push_net;
+use net_types::{Rewritten, rewrite};
+use sample_core::{Memory, Ty, push_type};
+use std::alloc::Global;
+
+/// What is tried at a position of a network.
+#[derive(Clone, Copy)]
+enum Trial {
+    /// What stands there, and its type.
+    Place,
+    /// The network with another tree there.
+    Replacing,
+    /// The same of the typed network.
+    Rewriting,
+}
+
+/// Tells what stands at a position of a file's network, how many parameters and frozen networks are
+/// in scope there, and its type: `FILE | E POSITION`.
+pub fn place_told(alloc: Global, given: &str, out: &mut String) {
+    net_told(alloc, given, Trial::Place, out);
+}
+
+/// Tells how a file's network is printed with another tree at a position: `FILE | LETTER POSITION
+/// TREE`, with the letter E before an expression, and L before a network.
+pub fn replaced_told(alloc: Global, given: &str, out: &mut String) {
+    net_told(alloc, given, Trial::Replacing, out);
+}
+
+/// Tells whether the tree is put there in the typed network, how that is then printed, and its
+/// types, weight and height: `FILE | LETTER POSITION TREE`.
+pub fn rewritten_told(alloc: Global, given: &str, out: &mut String) {
+    net_told(alloc, given, Trial::Rewriting, out);
+}
+
+fn net_told(alloc: Global, given: &str, trial: Trial, out: &mut String) {
+    let (file, behind) = parted(given);
+    match network(alloc, file) {
+        Some(net) => step_told(alloc, &net, behind, trial, out),
+        None => say(out, "no network"),
+    }
+}
+
+/// The position and the tree are read as those of a step.
+fn step_told(alloc: Global, net: &TypedNet, given: &str, trial: Trial, out: &mut String) {
+    let (letter, behind) = given.split_once(' ').unwrap_or((given, ""));
+    let mut text = String::new(alloc);
+    drop(write!(text, "laws 1 (step {letter}1 forward {behind})"));
+    match steps_in(alloc, text.as_str()) {
+        Ok(steps) => {
+            if let Some(step) = steps.first() {
+                tried(alloc, net, step, trial, out);
+            }
+            drop(steps);
+        }
+        Err(fault) => text_fault_told(fault, out),
+    }
+}
+
+fn tried(alloc: Global, net: &TypedNet, step: &LawStep, trial: Trial, out: &mut String) {
+    match (trial, &step.given) {
+        (Trial::Place, _) => {
+            stands_told(net, &step.position, out);
+            type_told(type_at(alloc, net, &step.position), out)
+        }
+        (Trial::Replacing, Some(tree)) => other_told(alloc, net, &step.position, tree, out),
+        (Trial::Rewriting, Some(tree)) => copy_told(alloc, net, &step.position, tree, out),
+        (_, None) => say(out, "no tree"),
+    }
+}
+
+/// Tells what stands at the position, and what is in scope there.
+fn stands_told(net: &TypedNet, position: &Position, out: &mut String) {
+    match at(net.net(), position) {
+        Some(place) => found_told(place, out),
+        None => say(out, "nothing"),
+    }
+}
+
+fn found_told(place: Place<'_>, out: &mut String) {
+    match place.tree {
+        TreeRef::Net(net) => drop(push_net(out, net)),
+        TreeRef::Expr(expr) => drop(push_expr(out, expr)),
+    }
+    say_at(out, " params", place.params as usize);
+    say_at(out, " olds", place.olds as usize);
+}
+
+/// Tells the type, where there is one.
+fn type_told(found: Result<Option<Ty>, Memory>, out: &mut String) {
+    match found {
+        Ok(Some(ty)) => {
+            say(out, ": ");
+            drop(push_type(out, &ty));
+            drop(ty)
+        }
+        Ok(None) => say(out, ": no type"),
+        Err(Memory) => say(out, " memory"),
+    }
+}
+
+/// Tells how the network with the tree at the position is printed.
+fn other_told(alloc: Global, net: &TypedNet, position: &Position, tree: &Tree, out: &mut String) {
+    match replace(alloc, net.net(), position, tree) {
+        Ok(Some(other)) => {
+            drop(push_net(out, &other));
+            drop(other);
+        }
+        Ok(None) => say(out, "nothing"),
+        Err(Memory) => say(out, "memory"),
+    }
+}
+
+/// Puts the tree into a copy of the network.
+fn copy_told(alloc: Global, net: &TypedNet, position: &Position, tree: &Tree, out: &mut String) {
+    match net.try_copy(alloc) {
+        Ok(copy) => put_told(alloc, net, copy, position, tree, out),
+        Err(Memory) => say(out, "memory"),
+    }
+}
+
+/// Tells what the rewriting of the copy comes to, and where the copy is the network as it was, that
+/// it is.
+fn put_told(
+    alloc: Global,
+    net: &TypedNet,
+    mut copy: TypedNet,
+    position: &Position,
+    tree: &Tree,
+    out: &mut String,
+) {
+    match tree.try_copy(alloc) {
+        Ok(tree) => answer_told(rewrite(alloc, &mut copy, position, tree), &copy, out),
+        Err(Memory) => say(out, "memory"),
+    }
+    if same_net(copy.net(), net.net()) {
+        say(out, ", as before");
+    }
+    drop(copy);
+}
+
+fn answer_told(answer: Result<Rewritten, Memory>, net: &TypedNet, out: &mut String) {
+    match answer {
+        Ok(Rewritten::Done) => {
+            drop(push_net(out, net.net()));
+            say(out, ": ");
+            typed_told(net, out)
+        }
+        Ok(Rewritten::NoPosition) => say(out, "no position"),
+        Ok(Rewritten::IllTyped) => say(out, "ill typed"),
+        Err(Memory) => say(out, "memory"),
+    }
+}
+
+/// Networks and positions, and what stands there, what is in scope there, and its type.
+static PLACES: &str = "
+§ The whole, and parts of networks and of expressions.
+‹increment› | E (at) => (>>> (arr (add x 1)) (iPre 0)) params 0 olds 0: Int
+‹increment› | E (at 1 0) => 0 params 0 olds 0: Int
+‹increment› | E (at 2) => nothing: no type
+‹increment› | E (at 0 0 1) => 1 params 0 olds 0: Int
+‹increment› | E (at 0 0 1 0) => nothing: no type
+yampa 1 input Int (arr (then (less x 1) (not x))) | E (at 0 1 0) => x params 0 olds 0: Bool
+yampa 1 input (Event Bool) (arr (on x 1 (if (snd x) 2 3))) | E (at 0 2 0 0) => x params 0 olds 0: (Pair (Event Bool) Bool)
+yampa 1 input Int (arr (list Int x (nth (list Int 5) 6 7))) | E (at 0 1 2) => 7 params 0 olds 0: Int
+§ Forms without networks, loops and members.
+yampa 1 input Int ‹forms› | E (at 3) => time params 0 olds 0: Int
+yampa 1 input Int ‹forms› | E (at 3 0) => nothing: no type
+yampa 1 input Int ‹forms› | E (at 6 1 0 1) => 0 params 0 olds 0: Int
+yampa 1 input Int ‹forms› | E (at 7 0 0) => unit params 0 olds 0: Unit
+yampa 1 input Int ‹forms› | E (at 9 1 0) => (first (arr (neg x))) params 0 olds 0: (Pair Int Bool)
+yampa 1 input Int ‹forms› | E (at 10 1) => (arr (pair (add (fst x) (snd x)) (fst x))) params 0 olds 0: (Pair Int Int)
+yampa 1 input Int ‹forms› | E (at 16) => nothing: no type
+§ Switches, and what they bind.
+yampa 1 input Int (switch ‹event above nine› ‹plus event›) | E (at 0) => ‹event above nine› params 0 olds 0: (Pair Int (Event Int))
+yampa 1 input Int (switch ‹event above nine› ‹plus event›) | E (at 5) => nothing: no type
+yampa 1 input Int (switch ‹event above nine› ‹plus event›) | E (at 1 0 1) => (p 0) params 1 olds 0: Int
+yampa 1 input Int (dSwitch ‹event above nine› ‹plus event›) | E (at 1) => ‹plus event› params 1 olds 0: Int
+yampa 1 input (Pair Int (Event Bool)) (rSwitch (iPre 0) (arr (if (p 0) x 0))) | E (at 1 0 0) => (p 0) params 1 olds 0: Bool
+yampa 1 input Int ‹switched twice› | E (at 1 1 0) => (add x (p 1)) params 2 olds 0: Int
+yampa 1 input Int ‹resumed› | E (at 1) => ‹event at one› params 0 olds 0: (Event Unit)
+yampa 1 input Int ‹resumed› | E (at 2) => ‹old at two› params 1 olds 1: Int
+yampa 1 input Int ‹resumed› | E (at 2 1) => (old 0) params 2 olds 1: Int
+yampa 1 input Int ‹routed› | E (at 0) => (fst x) params 0 olds 0: Int
+yampa 1 input Int ‹routed› | E (at 2) => integral params 0 olds 0: Int
+yampa 1 input Int ‹routed› | E (at 4) => (parB (old 1) (old 0)) params 1 olds 2: (List Int)
+yampa 1 input Int ‹routed› | E (at 5) => nothing: no type
+";
+
+/// Networks, positions and trees, and the networks with the trees there, whatever their types.
+static REPLACINGS: &str = "
+§ Trees in the place of others.
+‹increment› | L (at) time => time
+‹increment› | L (at 1) time => (>>> (arr (add x 1)) time)
+‹increment› | E (at 0 0 1) true => (>>> (arr (add x true)) (iPre 0))
+yampa 1 input Int (delay 3 0) | E (at 0) x => (delay 3 x)
+yampa 1 input (Event Int) (accumBy (fst x) 0) | E (at 1) 5 => (accumBy (fst x) 5)
+yampa 1 input Int (loopPre 0 (first time)) | L (at 1 0) integral => (loopPre 0 (first integral))
+yampa 1 input Int (loopPre 0 (first time)) | E (at 0) 5 => (loopPre 5 (first time))
+yampa 1 input Int (dSwitch ‹event always› ‹plus event›) | L (at 1) time => (dSwitch ‹event always› time)
+yampa 1 input Int (kSwitch time (arr (event 1)) (old 0)) | L (at 2) integral => (kSwitch time (arr (event 1)) integral)
+yampa 1 input Int (pSwitch x (col time time) (arr (event 1)) (parB time)) | L (at 2) integral => (pSwitch x (col time integral) (arr (event 1)) (parB time))
+yampa 1 input Int (pSwitch x (col time time) (arr (event 1)) (parB time)) | L (at 3) integral => (pSwitch x (col time time) integral (parB time))
+yampa 1 input Int (pSwitch x (col time time) (arr (event 1)) (parB time)) | E (at 0) 5 => (pSwitch 5 (col time time) (arr (event 1)) (parB time))
+§ Where nothing stands, or a tree of the other kind.
+‹increment› | L (at 2) time => nothing
+‹increment› | L (at 0 0) time => nothing
+‹increment› | E (at 0) x => nothing
+";
+
+/// Networks, positions and trees, and what the rewriting comes to.
+static REWRITINGS: &str = "
+§ Trees of the type of what stood there.
+‹sum doubled› | L (at) (arr (then (add x 1) (mul x 2))) => (arr (then (add x 1) (mul x 2))): Int -> Int weight 1 height 1
+‹sum doubled› | E (at 0 0) (add x 1) => (>>> (arr (add x 1)) (arr (mul x 2))): Int -> Int weight 3 height 2, as before
+yampa 1 input Int ‹resumed› | L (at 0) (>>> (arr x) time) => (kSwitch (>>> (arr x) time) ‹event at one› ‹old at two›): Int -> Int weight 11 height 5
+‹tallest› | L (at 0) (>>> (arr x) (arr x)) => (>>> (>>> (arr x) (arr x)) {254*(>>> (arr x) }(arr x){254*)}): Int -> Int weight 513 height 256
+§ Positions that aren't there, and trees of the other kind.
+‹sum doubled› | L (at 5) time => no position, as before
+‹sum doubled› | L (at 0 0) time => no position, as before
+‹sum doubled› | E (at 0) x => no position, as before
+§ Trees of another type, and networks past the limits.
+‹sum doubled› | L (at) (arr (less x 1)) => ill typed, as before
+‹sum doubled› | E (at 0 0 1) true => ill typed, as before
+‹sum doubled› | E (at 0 0) (p 0) => ill typed, as before
+yampa 1 input Int (arr (len (list Int x 5))) | E (at 0 0) (list Bool true) => ill typed, as before
+yampa 1 input Int ‹resumed› | L (at 2 1) (old 1) => ill typed, as before
+‹tallest› | L (at{255* 1}) (>>> (arr x) (arr x)) => ill typed, as before
+‹heaviest› | L (at 0) (>>> (arr x) (arr x)) => ill typed, as before
+yampa 1 input Int (arr {255*(neg }x{255*)}) | E (at{256* 0}) (neg x) => ill typed, as before
+";
+
+#[test]
+fn trees_are_found_and_put(rt: HostRuntime) {
+    all_are_found(&rt, rt.alloc(), Probe::Law(LawProbe::Place), PLACES);
+    all_are_found(&rt, rt.alloc(), Probe::Law(LawProbe::Replacing), REPLACINGS);
+    all_are_found(&rt, rt.alloc(), Probe::Law(LawProbe::Rewriting), REWRITINGS);
+}
