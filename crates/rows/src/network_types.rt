@@ -92,7 +92,7 @@ yampa 1 input {32*(Event }Int{32*)} time => too deep
 ‹deep event› => expression too deep (at 0)
 § Weights at the limit and over it: frozen networks count each time that they are resumed.
 ‹heaviest› => Int -> Int weight 1000000 height 52
-yampa 1 input Int ‹first frozen› {16*‹next frozen› }(>>> (old 16) (>>> (old 15) (>>> (old 14) (>>> (old 12) (>>> (old 7) (>>> (old 4) (>>> (old 2) (>>> (old 1) (>>> (arr x) (>>> (arr x) (>>> (arr x) (arr x))))))))))){17*)} => too heavy
+yampa 1 input Int ‹first frozen› {16*‹next frozen› }(>>> (old 16) (>>> (old 15) (>>> (old 14) (>>> (old 12) (>>> (old 7) (>>> (old 4) (>>> (old 2) (>>> (old 1) (>>> (arr x) (>>> (arr x) (>>> (arr x) (arr x)))))))))))){17*)} => too heavy
 yampa 1 input Int ‹first frozen› {19*‹next frozen› }(old 19){20*)} => too heavy
 yampa 1 input Int ‹first frozen› {79*‹next frozen› }(old 79){80*)} => too heavy
 yampa 1 input Int ‹first frozen› {19*‹next frozen› }{256*(>>> (old 19) }(arr x){256*)}{20*)} => too deep

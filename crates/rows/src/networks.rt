@@ -77,6 +77,11 @@ yampa 1 input => syntax at 13
 yampa 1 input Int => syntax at 17
 yampa 1 input 5 identity => syntax at 14
 yampa 1 input identity => syntax at 14
+{10000*(} => header
+{10000*)} => header
+{10000*;} => header
+{10000*-} => header
+{10000*~} => header
 {1048576*(} => header
 {1048576*(}  => too long
 § Files in which no network stands: bytes of no text, zeros and vertical tabs are in words.
