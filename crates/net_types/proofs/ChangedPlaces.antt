@@ -5,11 +5,11 @@ use Rattle.net_syntax.specs.Network.{Network, Networks, arr, seq, first, par, lo
 use Rattle.net_syntax.specs.Place.{◌>>=◌, Tree, a_network, a_leaf, member, child, child_network, PSwitchChild, p_switch_child, member_child, event_child, continuation_child, no_child}
 use Rattle.net_syntax.specs.Placed.{with_member, with_child, with_p_switch_child}
 use Rattle.net_syntax.specs.Standing.{Standing}
-use Rattle.net_types.specs.Contexts.{behind_route, place_in, routed_in}
+use Rattle.net_syntax.specs.StandingWalk.{taking, p_switch_input, p_switch_scope, inside}
 
 -- with another part in its place, the part stands there, and the place is the same
 abbrev pub Kept : Standing → Network Expression → ℕ → Tree Expression → Type 0
-Kept R f k s = IfSome (with_child f k s) (λ v. (place_in R v k ≡ place_in R f k) × (child v k ≡ Some s))
+Kept R f k s = IfSome (with_child f k s) (λ v. (inside R v k ≡ inside R f k) × (child v k ≡ Some s))
 
 -- the members with another one
 member_there : (fs : Networks Expression) (k : ℕ) (s : Network Expression)
@@ -31,7 +31,7 @@ kept R (first f) zero (a_network s) = (refl, refl)
 kept R (par fs) k (a_network s) = go (with_member fs k s) (member_there fs k s)
   where
     go : (o : Option (Networks Expression)) → IfSome o (λ gs. (member gs k ≡ Some s) × (p_switch_child gs k ≡ member_child))
-        → IfSome (option_map par o) (λ v. (place_in R v k ≡ place_in R (par fs) k) × (child v k ≡ Some (a_network s)))
+        → IfSome (option_map par o) (λ v. (inside R v k ≡ inside R (par fs) k) × (child v k ≡ Some (a_network s)))
     go None h = tt
     go (Some gs) h = (refl, ap (option_map a_network) h.0)
 kept R (loop_pre c f) zero (a_leaf s) = (refl, refl)
@@ -56,20 +56,23 @@ kept R (p_switch r fs e t) zero (a_leaf s) = (refl, refl)
 kept R (p_switch r fs e t) (suc k) (a_network s) = go (p_switch_child fs k) refl
   where
     Changed : Option (Network Expression) → Type 0
-    Changed o = IfSome o (λ v. (place_in R v (suc k) ≡ place_in R (p_switch r fs e t) (suc k)) × (child v (suc k) ≡ Some (a_network s)))
+    Changed o = IfSome o (λ v. (inside R v (suc k) ≡ inside R (p_switch r fs e t) (suc k)) × (child v (suc k) ≡ Some (a_network s)))
+
+    At : PSwitchChild → Networks Expression → Network Expression → Option Standing
+    At W gs h = p_switch_input R r gs W >>= (λ A. option_map (λ Q. taking Q A) (p_switch_scope R r gs h W))
 
     in_members : p_switch_child fs k ≡ member_child → (o : Option (Networks Expression))
         → IfSome o (λ gs. (member gs k ≡ Some s) × (p_switch_child gs k ≡ member_child)) → Changed (option_map (λ gs. p_switch r gs e t) o)
     in_members j None h = tt
     in_members j (Some gs) h = (
-      ap (λ z. routed_in R r >>= behind_route z R gs e) h.1 ∙ ap (λ z. routed_in R r >>= behind_route z R fs e) (sym j),
+      ap (λ z. At z gs e) h.1 ∙ ap (λ z. At z fs e) (sym j),
       ap (λ z. option_map a_network (child_network z gs e t k)) h.1 ∙ ap (option_map a_network) h.0,
     )
 
     go : (W : PSwitchChild) → p_switch_child fs k ≡ W → Changed (with_p_switch_child W r fs e t k s)
     go member_child j = in_members j (with_member fs k s) (member_there fs k s)
     go event_child j = (
-      ap (λ z. routed_in R r >>= behind_route z R fs s) j ∙ ap (λ z. routed_in R r >>= behind_route z R fs e) (sym j),
+      ap (λ z. At z fs s) j ∙ ap (λ z. At z fs e) (sym j),
       ap (λ z. option_map a_network (child_network z fs s t k)) j,
     )
     go continuation_child j = (refl, ap (λ z. option_map a_network (child_network z fs e s k)) j)

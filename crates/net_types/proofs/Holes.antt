@@ -1,63 +1,28 @@
 -- A part of a typed network: where it stands, its type, and that the network keeps its type where the part is another of that type.
-use Rattle.std.proofs.Common.{◌≡◌, ℕ, zero, suc, ◌≤◌, ◌<◌, List, [], ◌∷◌, ◌++◌, Option, Some, None, IfSome, option_map, refl, sym, ap, subst, ◌∙◌, arith}
+use Rattle.std.proofs.Common.{◌≡◌, ℕ, zero, suc, ◌<◌, List, [], ◌∷◌, ◌++◌, Option, Some, None, IfSome, option_map, refl, sym, ap, subst, ◌∙◌, arith}
 use Rattle.std.specs.Result.{result_ok}
 use Rattle.sample_core.specs.TypeTree.{TypeTree, unit_ty, int_ty, pair_ty, event_ty, list_ty}
 use Rattle.leaf_core.specs.Expression.{Expression}
-use Rattle.leaf_core.specs.TypeLimits.{TypeFits}
-use Rattle.leaf_core.specs.ExpressionLimits.{ExpressionTypedWithin}
-use Rattle.leaf_core.proofs.Exactness.{type_answer-exact}
 use Rattle.net_syntax.specs.Network.{Network, Networks, par, p_switch, no_members, and_member}
-use Rattle.net_syntax.specs.Typing.{Arrow, arrow, copies, members, AllTyped, arr_typed, seq_typed, first_typed, par_typed, loop_typed, i_pre_typed, delay_typed, hold_typed, accum_typed, after_typed, repeatedly_typed, switch_typed, d_switch_typed, r_switch_typed, k_switch_typed, p_switch_typed, no_members_typed, and_member_typed}
-use Rattle.net_syntax.specs.TypedNetwork.{NetTyped}
+use Rattle.net_syntax.specs.Typing.{Arrow, arrow, copies, members, arr_typed, seq_typed, first_typed, par_typed, loop_typed, i_pre_typed, delay_typed, hold_typed, accum_typed, after_typed, repeatedly_typed, switch_typed, d_switch_typed, r_switch_typed, k_switch_typed, p_switch_typed, no_members_typed, and_member_typed}
 use Rattle.net_syntax.specs.NetworkLimits.{NetTypedWithin}
-use Rattle.net_syntax.specs.Place.{◌>>=◌, Tree, a_network, a_leaf, member, child, child_network, PSwitchChild, p_switch_child, member_child, event_child, continuation_child, no_child}
+use Rattle.net_syntax.specs.Place.{Tree, a_network, member, child, child_network, PSwitchChild, p_switch_child, member_child, event_child, continuation_child, no_child}
 use Rattle.net_syntax.specs.Placed.{with_member, with_child, with_p_switch_child}
-use Rattle.net_syntax.specs.Standing.{Standing, standing, MembersTyped, ChildStands, in_arr, first_in_seq, second_in_seq, in_first, in_par, constant_in_loop, network_in_loop, in_i_pre, in_delay, in_hold, step_in_accum, start_in_accum, in_after, in_repeatedly, network_in_switch, continuation_in_switch, network_in_d_switch, continuation_in_d_switch, network_in_r_switch, continuation_in_r_switch, network_in_k_switch, event_in_k_switch, continuation_in_k_switch, route_in_p_switch, member_in_p_switch, event_in_p_switch, continuation_in_p_switch}
-use Rattle.net_syntax.proofs.TypingMap.{map_typed, map_all_typed}
-use Rattle.net_types.specs.Contexts.{output_in, leaf_in, first_output, behind_route, place_in}
+use Rattle.net_syntax.specs.Standing.{Standing, standing, ChildStands, in_arr, first_in_seq, second_in_seq, in_first, in_par, constant_in_loop, network_in_loop, in_i_pre, in_delay, in_hold, step_in_accum, start_in_accum, in_after, in_repeatedly, network_in_switch, continuation_in_switch, network_in_d_switch, continuation_in_d_switch, network_in_r_switch, continuation_in_r_switch, network_in_k_switch, event_in_k_switch, continuation_in_k_switch, route_in_p_switch, member_in_p_switch, event_in_p_switch, continuation_in_p_switch}
+use Rattle.net_syntax.specs.StandingWalk.{inside}
+use Rattle.net_syntax.proofs.FoundTypes.{TreeWithin, MembersWithin, ChildThere, child_there, forget, forget_all}
+use Rattle.net_syntax.proofs.OnePlace.{populated, one_place}
+use Rattle.net_syntax.proofs.SamePlaces.{Filler, filled}
+use Rattle.net_types.specs.KeptTypes.{checked_output}
 use Rattle.net_types.proofs.Checks.{walk_exact}
 
--- a tree that stands there has this output type, or type, within the limits
-abbrev pub TreeWithin : Standing → Tree Expression → TypeTree → Type 0
-TreeWithin R (a_network f) B = NetTypedWithin R.params R.olds f R.input B
-TreeWithin R (a_leaf e) B = ExpressionTypedWithin e R.params R.input B
-
--- what may fill the place of a tree: another of its kind
-abbrev pub Filler : Tree Expression → Type 0
-Filler (a_network f) = Network Expression
-Filler (a_leaf e) = Expression
-
-abbrev pub filled : (c : Tree Expression) → Filler c → Tree Expression
-filled (a_network f) n = a_network n
-filled (a_leaf e) n = a_leaf n
-
--- the limits aside
-pub plain : {Ps : List TypeTree} {Os : List Arrow} {f : Network Expression} {A B : TypeTree} → NetTypedWithin Ps Os f A B → NetTyped Ps Os f A B
-plain d = map_typed (λ e Ps A B h. h.checked.given) (λ A m. tt) d
-
-all_plain : {Ps : List TypeTree} {Os : List Arrow} {fs : Networks Expression} {A B : TypeTree}
-    → AllTyped (λ e Qs C D. ExpressionTypedWithin e Qs C D) TypeFits Ps Os fs A B → MembersTyped Ps Os fs A B
-all_plain ds = map_all_typed (λ e Ps A B h. h.checked.given) (λ A m. tt) ds
-
--- the types that are found
-pub output_found : {Ps : List TypeTree} {Os : List Arrow} {f : Network Expression} {A B : TypeTree} → NetTypedWithin Ps Os f A B → output_in (standing Ps Os A) f ≡ Some B
+-- the type that the check gives
+pub output_found : {Ps : List TypeTree} {Os : List Arrow} {f : Network Expression} {A B : TypeTree} → NetTypedWithin Ps Os f A B → checked_output (standing Ps Os A) f ≡ Some B
 output_found {Ps = Ps} {Os = Os} {f = f} {A = A} {B = B} d = ap result_ok ((walk_exact [] Ps Os A f B).1 d)
-
-pub leaf_found : {Ps : List TypeTree} (Os : List Arrow) {e : Expression} {A B : TypeTree} → ExpressionTypedWithin e Ps A B → leaf_in (standing Ps Os A) e ≡ Some B
-leaf_found {Ps = Ps} Os {e = e} {A = A} {B = B} h = ap result_ok ((type_answer-exact Ps A e B).1 h)
-
-first_found : {Ps : List TypeTree} {Os : List Arrow} (fs : Networks Expression) {A B : TypeTree} → 1 ≤ members fs
-    → AllTyped (λ e Qs C D. ExpressionTypedWithin e Qs C D) TypeFits Ps Os fs A B → first_output (standing Ps Os A) fs ≡ Some B
-first_found no_members some ds = absurd (omega arith)
-first_found (and_member f fs) some (and_member_typed d ds) = output_found d
-
-then : {X Y : Type 0} {o : Option X} {x : X} (g : X → Option Y) {y : Y} → o ≡ Some x → g x ≡ Some y → (o >>= g) ≡ Some y
-then g e d = ap (λ z. z >>= g) e ∙ d
 
 -- a part of a typed network
 pub record Hole (Ps : List TypeTree) (Os : List Arrow) (A B : TypeTree) (net : Network Expression) (k : ℕ) (c : Tree Expression) : Type 0 where
   pub place : Standing
-  pub found : place_in (standing Ps Os A) net k ≡ Some place
   pub stands : ChildStands Ps Os A net k place
   pub out : TypeTree
   pub typed : TreeWithin place c out
@@ -68,18 +33,18 @@ abbrev MemberHole : List TypeTree → List Arrow → TypeTree → TypeTree → N
 MemberHole Ps Os A B fs k f =
     NetTypedWithin Ps Os f A B
     × ((n : Network Expression) → NetTypedWithin Ps Os n A B
-    → IfSome (with_member fs k n) (λ gs. AllTyped (λ e Qs C D. ExpressionTypedWithin e Qs C D) TypeFits Ps Os gs A B × (members gs ≡ members fs)))
+    → IfSome (with_member fs k n) (λ gs. MembersWithin Ps Os gs A B × (members gs ≡ members fs)))
 
 member_hole : {Ps : List TypeTree} {Os : List Arrow} {fs : Networks Expression} {A B : TypeTree}
-    → AllTyped (λ e Qs C D. ExpressionTypedWithin e Qs C D) TypeFits Ps Os fs A B → (k : ℕ) → IfSome (member fs k) (MemberHole Ps Os A B fs k)
+    → MembersWithin Ps Os fs A B → (k : ℕ) → IfSome (member fs k) (MemberHole Ps Os A B fs k)
 member_hole no_members_typed k = tt
 member_hole (and_member_typed d ds) zero = (d, λ n i. (and_member_typed i ds, refl))
 member_hole {Ps = Ps} {Os = Os} {A = A} {B = B} (and_member_typed {f = f} {fs = fs} d ds) (suc k) = go (member fs k) (member_hole ds k)
   where
     put_on : (o : Option (Networks Expression))
-        → IfSome o (λ gs. AllTyped (λ e Qs C D. ExpressionTypedWithin e Qs C D) TypeFits Ps Os gs A B × (members gs ≡ members fs))
+        → IfSome o (λ gs. MembersWithin Ps Os gs A B × (members gs ≡ members fs))
         → IfSome (option_map (and_member f) o)
-        (λ gs. AllTyped (λ e Qs C D. ExpressionTypedWithin e Qs C D) TypeFits Ps Os gs A B × (members gs ≡ suc (members fs)))
+        (λ gs. MembersWithin Ps Os gs A B × (members gs ≡ suc (members fs)))
     put_on None h = tt
     put_on (Some gs) h = (and_member_typed d h.0, ap suc h.1)
 
@@ -111,19 +76,17 @@ continuation_number (and_member f fs) (suc k) e = ap suc (continuation_number fs
 
 pub hole : {Ps : List TypeTree} {Os : List Arrow} {net : Network Expression} {A B : TypeTree} → NetTypedWithin Ps Os net A B → (k : ℕ)
     → IfSome (child net k) (Hole Ps Os A B net k)
-hole {Ps = Ps} {Os = Os} {A = A} {B = B} (arr_typed h) zero = record { place = standing Ps Os A; found = refl; stands = in_arr; out = B; typed = h; put = λ n i. arr_typed i }
-hole {Ps = Ps} {Os = Os} {A = A} (seq_typed {B = B} d k) zero = record { place = standing Ps Os A; found = refl; stands = first_in_seq; out = B; typed = d; put = λ n i. seq_typed i k }
+hole {Ps = Ps} {Os = Os} {A = A} {B = B} (arr_typed h) zero = record { place = standing Ps Os A; stands = in_arr; out = B; typed = h; put = λ n i. arr_typed i }
+hole {Ps = Ps} {Os = Os} {A = A} (seq_typed {B = B} d k) zero = record { place = standing Ps Os A; stands = first_in_seq; out = B; typed = d; put = λ n i. seq_typed i k }
 hole {Ps = Ps} {Os = Os} {B = D} (seq_typed {B = B} d k) (suc zero) = record {
   place = standing Ps Os B;
-  found = then _ (output_found d) refl;
-  stands = second_in_seq (plain d);
+  stands = second_in_seq (forget d);
   out = D;
   typed = k;
   put = λ n i. seq_typed d i;
 }
 hole {Ps = Ps} {Os = Os} (first_typed {A = A} {B = B} d w) zero = record {
   place = standing Ps Os A;
-  found = refl;
   stands = in_first;
   out = B;
   typed = d;
@@ -132,17 +95,16 @@ hole {Ps = Ps} {Os = Os} (first_typed {A = A} {B = B} d w) zero = record {
 hole {Ps = Ps} {Os = Os} {A = A} {B = D} (par_typed {fs = fs} {B = B} some few ds w) k = go (member fs k) (member_hole ds k)
   where
     put_on : (o : Option (Networks Expression))
-        → IfSome o (λ gs. AllTyped (λ e Qs C D. ExpressionTypedWithin e Qs C D) TypeFits Ps Os gs A B × (members gs ≡ members fs))
+        → IfSome o (λ gs. MembersWithin Ps Os gs A B × (members gs ≡ members fs))
         → IfSome (option_map par o) (λ v. NetTypedWithin Ps Os v A (list_ty B))
     put_on None h = tt
     put_on (Some gs) h = let e : members gs ≡ members fs = h.1 in par_typed (omega arith) (omega arith) h.0 w
 
     go : (o : Option (Network Expression)) → IfSome o (MemberHole Ps Os A B fs k) → IfSome (option_map a_network o) (Hole Ps Os A (list_ty B) (par fs) k)
     go None h = tt
-    go (Some g) h = record { place = standing Ps Os A; found = refl; stands = in_par; out = B; typed = h.0; put = λ n i. put_on (with_member fs k n) (h.1 n i) }
+    go (Some g) h = record { place = standing Ps Os A; stands = in_par; out = B; typed = h.0; put = λ n i. put_on (with_member fs k n) (h.1 n i) }
 hole {Ps = Ps} {Os = Os} (loop_typed {C = C} h w d) zero = record {
   place = standing Ps Os unit_ty;
-  found = refl;
   stands = constant_in_loop;
   out = C;
   typed = h;
@@ -150,18 +112,16 @@ hole {Ps = Ps} {Os = Os} (loop_typed {C = C} h w d) zero = record {
 }
 hole {Ps = Ps} {Os = Os} (loop_typed {A = A} {B = B} {C = C} h w d) (suc zero) = record {
   place = standing Ps Os (pair_ty A C);
-  found = then _ (leaf_found Os h) refl;
   stands = network_in_loop h.checked.given;
   out = pair_ty B C;
   typed = d;
   put = λ n i. loop_typed h w i;
 }
-hole {Ps = Ps} {Os = Os} (i_pre_typed {A = A} h) zero = record { place = standing Ps Os unit_ty; found = refl; stands = in_i_pre; out = A; typed = h; put = λ n i. i_pre_typed i }
-hole {Ps = Ps} {Os = Os} (delay_typed {A = A} low high h) zero = record { place = standing Ps Os unit_ty; found = refl; stands = in_delay; out = A; typed = h; put = λ n i. delay_typed low high i }
-hole {Ps = Ps} {Os = Os} (hold_typed {A = A} h) zero = record { place = standing Ps Os unit_ty; found = refl; stands = in_hold; out = A; typed = h; put = λ n i. hold_typed i }
+hole {Ps = Ps} {Os = Os} (i_pre_typed {A = A} h) zero = record { place = standing Ps Os unit_ty; stands = in_i_pre; out = A; typed = h; put = λ n i. i_pre_typed i }
+hole {Ps = Ps} {Os = Os} (delay_typed {A = A} low high h) zero = record { place = standing Ps Os unit_ty; stands = in_delay; out = A; typed = h; put = λ n i. delay_typed low high i }
+hole {Ps = Ps} {Os = Os} (hold_typed {A = A} h) zero = record { place = standing Ps Os unit_ty; stands = in_hold; out = A; typed = h; put = λ n i. hold_typed i }
 hole {Ps = Ps} {Os = Os} (accum_typed {V = V} {Z = Z} h w k v) zero = record {
   place = standing Ps Os (pair_ty Z V);
-  found = then _ (leaf_found Os h) refl;
   stands = step_in_accum h.checked.given;
   out = Z;
   typed = k;
@@ -169,7 +129,6 @@ hole {Ps = Ps} {Os = Os} (accum_typed {V = V} {Z = Z} h w k v) zero = record {
 }
 hole {Ps = Ps} {Os = Os} (accum_typed {V = V} {Z = Z} h w k v) (suc zero) = record {
   place = standing Ps Os unit_ty;
-  found = refl;
   stands = start_in_accum;
   out = Z;
   typed = h;
@@ -177,7 +136,6 @@ hole {Ps = Ps} {Os = Os} (accum_typed {V = V} {Z = Z} h w k v) (suc zero) = reco
 }
 hole {Ps = Ps} {Os = Os} (after_typed {C = C} high h w) zero = record {
   place = standing Ps Os unit_ty;
-  found = refl;
   stands = in_after;
   out = C;
   typed = h;
@@ -185,7 +143,6 @@ hole {Ps = Ps} {Os = Os} (after_typed {C = C} high h w) zero = record {
 }
 hole {Ps = Ps} {Os = Os} (repeatedly_typed {C = C} low high h w) zero = record {
   place = standing Ps Os unit_ty;
-  found = refl;
   stands = in_repeatedly;
   out = C;
   typed = h;
@@ -193,7 +150,6 @@ hole {Ps = Ps} {Os = Os} (repeatedly_typed {C = C} low high h w) zero = record {
 }
 hole {Ps = Ps} {Os = Os} (switch_typed {A = A} {B = B} {C = C} d k) zero = record {
   place = standing Ps Os A;
-  found = refl;
   stands = network_in_switch;
   out = pair_ty B (event_ty C);
   typed = d;
@@ -201,15 +157,13 @@ hole {Ps = Ps} {Os = Os} (switch_typed {A = A} {B = B} {C = C} d k) zero = recor
 }
 hole {Ps = Ps} {Os = Os} (switch_typed {A = A} {B = B} {C = C} d k) (suc zero) = record {
   place = standing (Ps ++ C ∷ []) Os A;
-  found = then _ (output_found d) refl;
-  stands = continuation_in_switch (plain d);
+  stands = continuation_in_switch (forget d);
   out = B;
   typed = k;
   put = λ n i. switch_typed d i;
 }
 hole {Ps = Ps} {Os = Os} (d_switch_typed {A = A} {B = B} {C = C} d k) zero = record {
   place = standing Ps Os A;
-  found = refl;
   stands = network_in_d_switch;
   out = pair_ty B (event_ty C);
   typed = d;
@@ -217,15 +171,13 @@ hole {Ps = Ps} {Os = Os} (d_switch_typed {A = A} {B = B} {C = C} d k) zero = rec
 }
 hole {Ps = Ps} {Os = Os} (d_switch_typed {A = A} {B = B} {C = C} d k) (suc zero) = record {
   place = standing (Ps ++ C ∷ []) Os A;
-  found = then _ (output_found d) refl;
-  stands = continuation_in_d_switch (plain d);
+  stands = continuation_in_d_switch (forget d);
   out = B;
   typed = k;
   put = λ n i. d_switch_typed d i;
 }
 hole {Ps = Ps} {Os = Os} (r_switch_typed {D = D} {B = B} {C = C} d k) zero = record {
   place = standing Ps Os D;
-  found = refl;
   stands = network_in_r_switch;
   out = B;
   typed = d;
@@ -233,7 +185,6 @@ hole {Ps = Ps} {Os = Os} (r_switch_typed {D = D} {B = B} {C = C} d k) zero = rec
 }
 hole {Ps = Ps} {Os = Os} (r_switch_typed {D = D} {B = B} {C = C} d k) (suc zero) = record {
   place = standing (Ps ++ C ∷ []) Os D;
-  found = refl;
   stands = continuation_in_r_switch;
   out = B;
   typed = k;
@@ -241,7 +192,6 @@ hole {Ps = Ps} {Os = Os} (r_switch_typed {D = D} {B = B} {C = C} d k) (suc zero)
 }
 hole {Ps = Ps} {Os = Os} (k_switch_typed {A = A} {B = B} {C = C} d w e k) zero = record {
   place = standing Ps Os A;
-  found = refl;
   stands = network_in_k_switch;
   out = B;
   typed = d;
@@ -249,23 +199,20 @@ hole {Ps = Ps} {Os = Os} (k_switch_typed {A = A} {B = B} {C = C} d w e k) zero =
 }
 hole {Ps = Ps} {Os = Os} (k_switch_typed {A = A} {B = B} {C = C} d w e k) (suc zero) = record {
   place = standing Ps Os (pair_ty A B);
-  found = then _ (output_found d) refl;
-  stands = event_in_k_switch (plain d);
+  stands = event_in_k_switch (forget d);
   out = event_ty C;
   typed = e;
   put = λ n i. k_switch_typed d w i k;
 }
 hole {Ps = Ps} {Os = Os} (k_switch_typed {A = A} {B = B} {C = C} d w e k) (suc (suc zero)) = record {
   place = standing (Ps ++ C ∷ []) (Os ++ arrow A B ∷ []) A;
-  found = then _ (output_found d) (then _ (output_found e) refl);
-  stands = continuation_in_k_switch (plain d) (plain e);
+  stands = continuation_in_k_switch (forget d) (forget e);
   out = B;
   typed = k;
   put = λ n i. k_switch_typed d w e i;
 }
 hole {Ps = Ps} {Os = Os} (p_switch_typed {A = A} {D = D} some few w h ds v e k) zero = record {
   place = standing Ps Os (pair_ty A int_ty);
-  found = refl;
   stands = route_in_p_switch;
   out = D;
   typed = h;
@@ -274,17 +221,13 @@ hole {Ps = Ps} {Os = Os} (p_switch_typed {A = A} {D = D} some few w h ds v e k) 
 hole {Ps = Ps} {Os = Os} (p_switch_typed {r = r} {fs = fs} {e = e} {t = t} {A = A} {B = B} {C = C} {D = D} some few w h ds v de dt) (suc k) = go (p_switch_child fs k) refl
   where
     put_on : (o : Option (Networks Expression))
-        → IfSome o (λ gs. AllTyped (λ e Qs C D. ExpressionTypedWithin e Qs C D) TypeFits Ps Os gs D B × (members gs ≡ members fs))
+        → IfSome o (λ gs. MembersWithin Ps Os gs D B × (members gs ≡ members fs))
         → IfSome (option_map (λ gs. p_switch r gs e t) o) (λ u. NetTypedWithin Ps Os u A (list_ty B))
     put_on None i = tt
     put_on (Some gs) i =
         let j : members gs ≡ members fs = i.1 in
         p_switch_typed (omega arith) (omega arith) w h i.0 v de
         (subst (λ m. NetTypedWithin (Ps ++ C ∷ []) (Os ++ copies m (arrow D B)) t A (list_ty B)) (sym j) dt)
-
-    at_k : (W : PSwitchChild) → p_switch_child fs k ≡ W → (Q : Standing) → behind_route W (standing Ps Os A) fs e D ≡ Some Q
-        → place_in (standing Ps Os A) (p_switch r fs e t) (suc k) ≡ Some Q
-    at_k W j Q q = then _ (leaf_found Os h) (ap (λ z. behind_route z (standing Ps Os A) fs e D) j ∙ q)
 
     put_at : (W : PSwitchChild) → p_switch_child fs k ≡ W → (n : Network Expression)
         → IfSome (with_p_switch_child W r fs e t k n) (λ u. NetTypedWithin Ps Os u A (list_ty B))
@@ -296,7 +239,6 @@ hole {Ps = Ps} {Os = Os} (p_switch_typed {r = r} {fs = fs} {e = e} {t = t} {A = 
     a_member j None i = tt
     a_member j (Some g) i = record {
       place = standing Ps Os D;
-      found = at_k member_child j (standing Ps Os D) refl;
       stands = member_in_p_switch h.checked.given (member_number fs k j);
       out = B;
       typed = i.0;
@@ -308,23 +250,27 @@ hole {Ps = Ps} {Os = Os} (p_switch_typed {r = r} {fs = fs} {e = e} {t = t} {A = 
     go member_child j = a_member j (member fs k) (member_hole ds k)
     go event_child j = record {
       place = standing Ps Os (pair_ty A (list_ty B));
-      found = at_k event_child j (standing Ps Os (pair_ty A (list_ty B))) (then _ (first_found fs some ds) refl);
       stands = subst (λ m. ChildStands Ps Os A (p_switch r fs e t) (suc m) (standing Ps Os (pair_ty A (list_ty B)))) (event_number fs k j)
-          (event_in_p_switch h.checked.given (all_plain ds));
+          (event_in_p_switch h.checked.given (forget_all ds));
       out = event_ty C;
       typed = de;
       put = λ n x. put_at event_child j n (p_switch_typed some few w h ds v x dt);
     }
     go continuation_child j = record {
       place = standing (Ps ++ C ∷ []) (Os ++ copies (members fs) (arrow D B)) A;
-      found = at_k continuation_child j (standing (Ps ++ C ∷ []) (Os ++ copies (members fs) (arrow D B)) A)
-          (then _ (first_found fs some ds) (then _ (output_found de) refl));
       stands = subst
           (λ m. ChildStands Ps Os A (p_switch r fs e t) (suc m) (standing (Ps ++ C ∷ []) (Os ++ copies (members fs) (arrow D B)) A))
-          (continuation_number fs k j) (continuation_in_p_switch h.checked.given (all_plain ds) (plain de));
+          (continuation_number fs k j) (continuation_in_p_switch h.checked.given (forget_all ds) (forget de));
       out = list_ty B;
       typed = dt;
       put = λ n x. put_at continuation_child j n (p_switch_typed some few w h ds v de x);
     }
     go no_child j = tt
 hole _ k = tt
+
+-- where a child stands, the code finds it
+pub found_there : {Ps : List TypeTree} {Os : List Arrow} {net : Network Expression} {A B : TypeTree} {k : ℕ} {c : Tree Expression} {R : Standing}
+    → NetTypedWithin Ps Os net A B → child net k ≡ Some c → ChildStands Ps Os A net k R → inside (standing Ps Os A) net k ≡ Some R
+found_there {Ps = Ps} {Os = Os} {net = net} {A = A} {k = k} d i s =
+    let t : ChildThere (standing Ps Os A) net k _ = subst (λ o. IfSome o (ChildThere (standing Ps Os A) net k)) i (child_there d k) in
+    t.found ∙ ap Some (one_place (populated d) t.stands s refl)

@@ -1,19 +1,18 @@
 -- A type is kept at a position, as the code finds it, exactly where the tree with another there is typed within the limits.
-use Rattle.std.proofs.Common.{◌≡◌, ◌≤◌, ◌<◌, ℕ, min, arith, Bool, true, false, ◌&&◌, List, [], ◌∷◌, Option, Some, None, IfSome, option_map, Result, Ok, Err, refl, sym, ap, subst, ◌∙◌}
+use Rattle.std.proofs.Common.{◌≡◌, ◌≤◌, ◌<◌, ℕ, min, leb, leb-true, le-leb, arith, Bool, true, false, ◌&&◌, List, [], ◌∷◌, Option, Some, None, IfSome, option_map, Result, Ok, Err, refl, sym, ap, subst, ◌∙◌}
 use Rattle.std.specs.Option.{option_and_then}
 use Rattle.std.specs.Result.{result_ok}
 use Rattle.std.proofs.lemmas.Option.{none-some, same_Some}
 use Rattle.sample_core.specs.TypeTree.{TypeTree}
-use Rattle.leaf_core.specs.Expression.{Expression}
+use Rattle.leaf_core.specs.Expression.{Expression, height_of, nodes_in}
 use Rattle.leaf_core.specs.TypeLimits.{TypeFits}
 use Rattle.leaf_core.specs.ExpressionTyping.{ExpressionTyped}
-use Rattle.leaf_core.specs.ExpressionCheck.{type_answer}
-use Rattle.leaf_core.specs.ExpressionLimits.{ExpressionTypedWithin}
+use Rattle.leaf_core.specs.ExpressionLimits.{ExpressionFits, expression_fits, TypedWithin, ExpressionTypedWithin}
 use Rattle.leaf_core.specs.Parts.{part_at, with_part_at, InputAt}
 use Rattle.leaf_core.specs.PartWalk.{part_type_at}
-use Rattle.leaf_core.proofs.Exactness.{same_tree-true, same_tree-refl, type_answer-exact}
+use Rattle.leaf_core.proofs.Exactness.{same_tree-true, same_tree-refl}
 use Rattle.leaf_core.proofs.Uniqueness.{one_type}
-use Rattle.leaf_core.proofs.PartTypes.{TypedThere, there_typed, one_input, kept_there, keeps_type, inner}
+use Rattle.leaf_core.proofs.PartTypes.{TypedThere, there_typed, one_input, kept_there, inner}
 use Rattle.net_syntax.specs.Network.{Network, network_size}
 use Rattle.net_syntax.specs.Weight.{weight}
 use Rattle.net_syntax.specs.Height.{height}
@@ -23,12 +22,16 @@ use Rattle.net_syntax.specs.Placed.{with_child, replaced}
 use Rattle.net_syntax.specs.TypedNetwork.{TypedNetwork}
 use Rattle.net_syntax.specs.NetworkLimits.{NetTypedWithin, WithinLimits}
 use Rattle.net_syntax.specs.Standing.{Standing, standing, alone, TreeTyped, StandsAt, at_network, inside_network, inside_expression}
+use Rattle.net_syntax.specs.StandingWalk.{inside}
 use Rattle.net_syntax.proofs.StreamLaws.{one-output-type}
-use Rattle.net_types.specs.Contexts.{output_in, leaf_in, place_in, same_type, is_there, kept_in_leaf, both_there, type_kept}
+use Rattle.net_syntax.proofs.FoundTypes.{TreeWithin, forget}
+use Rattle.net_syntax.proofs.SamePlaces.{Filler, filled}
+use Rattle.net_types.specs.KeptTypes.{checked_output, same_type, kept_in_leaf, both_there, type_kept}
 use Rattle.net_types.specs.Answered.{NoRewriting}
 use Rattle.net_types.proofs.Sizes.{size_law}
 use Rattle.net_types.proofs.Checks.{walk_exact}
-use Rattle.net_types.proofs.Holes.{TreeWithin, Filler, filled, plain, output_found, leaf_found, Hole, hole}
+use Rattle.net_types.proofs.Holes.{output_found, Hole, hole, found_there}
+use Rattle.net_types.proofs.WithinParts.{put_there}
 use Rattle.net_types.proofs.ChangedPlaces.{kept}
 use Rattle.net_syntax.proofs.OnePlace.{populated, one_place}
 
@@ -98,17 +101,16 @@ ok_of : {X E : Type 0} {r : Result X E} {x : X} → result_ok r ≡ Some x → r
 ok_of {r = Ok y} {x = x} e = ap Ok (same_Some y x e)
 ok_of {r = Err f} {x = x} e = absurd (none-some x e)
 
-there_is : {E : Type 0} (r : Result TypeTree E) → is_there (result_ok r) ≡ true → (B : TypeTree) × (r ≡ Ok B)
-there_is (Ok B) i = (B, refl)
-there_is (Err f) i = absurd (cc)
-
-output_told : (R : Standing) (f : Network Expression) (B : TypeTree) → output_in R f ≡ Some B → NetTypedWithin R.params R.olds f R.input B
+output_told : (R : Standing) (f : Network Expression) (B : TypeTree) → checked_output R f ≡ Some B → NetTypedWithin R.params R.olds f R.input B
 output_told R f B e = (walk_exact [] R.params R.olds R.input f B).0 (ok_of e)
 
-leaf_told : (R : Standing) (e : Expression) → is_there (leaf_in R e) ≡ true → (B : TypeTree) × ExpressionTypedWithin e R.params R.input B
-leaf_told R e i =
-    let t = there_is (type_answer R.params R.input e) i in
-    (t.0, (type_answer-exact R.params R.input e t.0).0 t.1)
+fits_told : (e : Expression) → expression_fits e ≡ true → ExpressionFits e
+fits_told e i =
+    let t = both_true (leb (height_of e) 256) (leb (nodes_in e) 100000) i in
+    record { shallow = leb-true (height_of e) 256 t.0; small = leb-true (nodes_in e) 100000 t.1 }
+
+fits_is : (e : Expression) → ExpressionFits e → expression_fits e ≡ true
+fits_is e h = both (le-leb (height_of e) 256 h.shallow) (le-leb (nodes_in e) 100000 h.small)
 
 -- at the position stands a tree, and s, of one type
 pub record Alike (R : Standing) (tree : Tree Expression) (p : List ℕ) (s : Tree Expression) : Type 0 where
@@ -123,9 +125,8 @@ pub record Alike (R : Standing) (tree : Tree Expression) (p : List ℕ) (s : Tre
 leaf_alike : (R : Standing) (e v s : Expression) (p : List ℕ) (B : TypeTree) → ExpressionTypedWithin e R.params R.input B → with_part_at e p s ≡ Some v
     → kept_in_leaf R e p (Some v) ≡ true → Alike R (a_leaf e) p (a_leaf s) × ExpressionTypedWithin v R.params R.input B
 leaf_alike R e v s p B d q i =
-    let tests = both_true (is_there (leaf_in R v)) (same_type (part_type_at R.params R.input e p) (part_type_at R.params R.input v p)) i in
-    let w = leaf_told R v tests.0 in
-    from_parts w.0 w.1 tests.1 (part_before e p s v q)
+    let tests = both_true (expression_fits v) (same_type (part_type_at R.params R.input e p) (part_type_at R.params R.input v p)) i in
+    from_parts (fits_told v tests.0) tests.1 (part_before e p s v q)
   where
     part_before : (a : Expression) (r : List ℕ) (b u : Expression) → with_part_at a r b ≡ Some u → (c : Expression) × (part_at a r ≡ Some c)
     part_before a [] b u j = (a, refl)
@@ -133,19 +134,19 @@ leaf_alike R e v s p B d q i =
         let rest = part_before t.before r b t.now t.changed in
         (rest.0, ap (option_and_then (λ z. part_at z r)) t.there ∙ rest.1)
 
-    from_parts : (C : TypeTree) → ExpressionTypedWithin v R.params R.input C → same_type (part_type_at R.params R.input e p) (part_type_at R.params R.input v p) ≡ true
-        → (c : Expression) × (part_at e p ≡ Some c) → Alike R (a_leaf e) p (a_leaf s) × ExpressionTypedWithin v R.params R.input B
-    from_parts C w same c =
+    from_parts : ExpressionFits v → same_type (part_type_at R.params R.input e p) (part_type_at R.params R.input v p) ≡ true → (c : Expression) × (part_at e p ≡ Some c)
+        → Alike R (a_leaf e) p (a_leaf s) × ExpressionTypedWithin v R.params R.input B
+    from_parts fits same c =
         let old : TypedThere R.params R.input e p c.0 = there_typed d.checked.given d.checked.fits p c.0 c.1 in
-        let now : (part_at v p ≡ Some s) × InputAt R.params R.input v p old.input = kept_there e p s v q old.gets in
-        let new : TypedThere R.params R.input v p s = there_typed w.checked.given w.checked.fits p s now.0 in
-        let one : new.input ≡ old.input = one_input p new.gets now.1 in
         let told : part_type_at R.params R.input v p ≡ Some old.output =
         same_told (part_type_at R.params R.input v p) old.output (ap (λ z. same_type z (part_type_at R.params R.input v p)) (sym old.found) ∙ same) in
+        let whole : TypedWithin v R.params R.input B = put_there p e s v old.output d.checked q old.found told in
+        let now : (part_at v p ≡ Some s) × InputAt R.params R.input v p old.input = kept_there e p s v q old.gets in
+        let new : TypedThere R.params R.input v p s = there_typed whole.given whole.fits p s now.0 in
+        let one : new.input ≡ old.input = one_input p new.gets now.1 in
         let out : new.output ≡ old.output = same_Some new.output old.output (sym new.found ∙ told) in
         let typed : ExpressionTyped s R.params old.input old.output =
-        subst (λ z. ExpressionTyped s R.params z old.output) one (subst (λ z. ExpressionTyped s R.params new.input z) out new.typed) in
-        let whole : ExpressionTyped v R.params R.input B = keeps_type d.checked.given d.checked.fits p c.0 s v c.1 old.gets old.typed typed q in (
+        subst (λ z. ExpressionTyped s R.params z old.output) one (subst (λ z. ExpressionTyped s R.params new.input z) out new.typed) in (
           record {
             there = a_leaf c.0;
             place = standing R.params R.olds old.input;
@@ -154,7 +155,7 @@ leaf_alike R e v s p B d q i =
             before = old.typed;
             now = typed;
           },
-          subst (ExpressionTypedWithin v R.params R.input) (one_type v R.params R.input C B w.checked.given whole) w,
+          record { whole_fits = fits; checked = whole },
         )
 
 -- where the code finds the type kept, it is, and the whole is typed as before
@@ -167,9 +168,9 @@ alike R (a_leaf e) p (a_leaf s) w B d q i = go (with_part_at e p s) refl q i
     go (Some v) j r k = let a = leaf_alike R e v s p B d j k in (a.0, subst (λ z. TreeWithin R z B) (same_Some (a_leaf v) w r) a.1)
 alike R (a_leaf e) p (a_network s) w B d q i = absurd (none-some w q)
 alike R (a_network f) [] (a_network s) w B d q i =
-    let found : output_in R s ≡ Some B = same_told (output_in R s) B (ap (λ z. same_type z (output_in R s)) (sym (output_found d)) ∙ i) in
+    let found : checked_output R s ≡ Some B = same_told (checked_output R s) B (ap (λ z. same_type z (checked_output R s)) (sym (output_found d)) ∙ i) in
     let typed : NetTypedWithin R.params R.olds s R.input B = output_told R s B found in (
-      record { there = a_network f; place = R; stands = at_network; output = B; before = plain d; now = plain typed },
+      record { there = a_network f; place = R; stands = at_network; output = B; before = forget d; now = forget typed },
       subst (λ z. TreeWithin R z B) (same_Some (a_network s) w q) typed,
     )
 alike R (a_network f) [] (a_leaf s) w B d q i = absurd (none-some w q)
@@ -178,7 +179,7 @@ alike R (a_network f) (k ∷ p) s w B d q i =
     let h : Hole R.params R.olds R.input B f k t.before = value_is (Hole R.params R.olds R.input B f k) t.there (hole d k) in
     let i' : type_kept h.place t.before p s ≡ true =
     ap (λ z. both_there z (Some h.place) (λ c Q. type_kept Q c p s)) (sym t.there)
-    ∙ (ap (λ z. both_there (child f k) z (λ c Q. type_kept Q c p s)) (sym h.found) ∙ i) in
+    ∙ (ap (λ z. both_there (child f k) z (λ c Q. type_kept Q c p s)) (sym (found_there d t.there h.stands)) ∙ i) in
     let a : Alike h.place t.before p s × TreeWithin h.place t.now h.out = alike h.place t.before p s t.now h.out h.typed t.changed i' in
     let n : (m : Filler t.before) × (filled t.before m ≡ t.now) = same_kind t.before t.now p s t.changed in
     let put : IfSome (with_child f k (filled t.before n.0)) (λ v. NetTypedWithin R.params R.olds v R.input B) =
@@ -207,7 +208,7 @@ leaf_type_kept R Q e v s there p B B' C d w q c g h k =
     (subst (λ z. ExpressionTyped there R.params z old.output) (one_input p old.gets g) old.typed) h in
     let b : new.output ≡ C = one_type s R.params Q.input new.output C
     (subst (λ z. ExpressionTyped s R.params z new.output) (one_input p new.gets now.1) new.typed) k in
-    both (ap is_there (leaf_found R.olds w)) (same_is (old.found ∙ ap Some a) (new.found ∙ ap Some b))
+    both (fits_is v w.whole_fits) (same_is (old.found ∙ ap Some a) (new.found ∙ ap Some b))
 
 one_tree : {X : Type 0} {o : Option X} {a b : X} → o ≡ Some a → o ≡ Some b → a ≡ b
 one_tree {a = a} {b = b} e h = same_Some a b (sym e ∙ h)
@@ -221,8 +222,8 @@ type_is_kept R Q tree there p s w B B' C d x q (at_network {f = f}) h k = go s q
     go (a_leaf s) q k = absurd (none-some w q)
     go (a_network s) q k =
         let x' : NetTypedWithin R.params R.olds s R.input B' = subst (λ z. TreeWithin R z B') (sym (same_Some (a_network s) w q)) x in
-        let a : B ≡ C = one-output-type R.params R.olds f R.input B C (plain d) h in
-        let b : B' ≡ C = one-output-type R.params R.olds s R.input B' C (plain x') k in
+        let a : B ≡ C = one-output-type R.params R.olds f R.input B C (forget d) h in
+        let b : B' ≡ C = one-output-type R.params R.olds s R.input B' C (forget x') k in
         same_is (output_found d ∙ ap Some a) (output_found x' ∙ ap Some b)
 type_is_kept R Q tree there p s w B B' C d x q (inside_expression {e = e} {c = c} {C = D} i g) h k = go s q k
   where
@@ -239,17 +240,18 @@ type_is_kept R Q tree there p s w B B' C d x q (inside_network {R = P} {f = f} {
     let t : Split f n p' s w = split f n p' s w q in
     let a : Hole R.params R.olds R.input B f n c = value_is (Hole R.params R.olds R.input B f n) i (hole d n) in
     let x' : NetTypedWithin R.params R.olds t.net R.input B' = subst (λ z. TreeWithin R z B') (sym t.whole) x in
-    let same : (place_in R t.net n ≡ place_in R f n) × (child t.net n ≡ Some t.now) =
-    value_is (λ v. (place_in R v n ≡ place_in R f n) × (child v n ≡ Some t.now)) t.is (kept R f n t.now) in
+    let same : (inside R t.net n ≡ inside R f n) × (child t.net n ≡ Some t.now) =
+    value_is (λ v. (inside R v n ≡ inside R f n) × (child v n ≡ Some t.now)) t.is (kept R f n t.now) in
     let b : Hole R.params R.olds R.input B' t.net n t.now = value_is (Hole R.params R.olds R.input B' t.net n) same.1 (hole x' n) in
-    let moved : b.place ≡ a.place = one_tree b.found (same.0 ∙ a.found) in
+    let found : inside R f n ≡ Some a.place = found_there d i a.stands in
+    let moved : b.place ≡ a.place = one_tree (found_there x' same.1 b.stands) (same.0 ∙ found) in
     let here : a.place ≡ P = one_place (populated d) a.stands g refl in
     let e : t.before ≡ c = one_tree t.there i in
     let below_kept : type_kept P c p' s ≡ true =
     type_is_kept P Q c there p' s t.now a.out b.out C (subst (λ z. TreeWithin z c a.out) here a.typed)
     (subst (λ z. TreeWithin z t.now b.out) (moved ∙ here) b.typed) (ap (λ z. replaced z p' s) (sym e) ∙ t.changed) r h k in
-    ap (λ z. both_there z (place_in R f n) (λ y Z. type_kept Z y p' s)) i
-    ∙ (ap (λ z. both_there (Some c) z (λ y Z. type_kept Z y p' s)) (a.found ∙ ap Some here) ∙ below_kept)
+    ap (λ z. both_there z (inside R f n) (λ y Z. type_kept Z y p' s)) i
+    ∙ (ap (λ z. both_there (Some c) z (λ y Z. type_kept Z y p' s)) (found ∙ ap Some here) ∙ below_kept)
 
 -- the network that is made is the rewriting
 pub rewritten : (t : TypedNetwork) (p : List ℕ) (s : Tree Expression) (A B : TypeTree) (v : Network Expression) (w h : ℕ) → WithinLimits t

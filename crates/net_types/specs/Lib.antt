@@ -6,6 +6,5 @@ pub mod WalkParts
 pub mod Sites
 pub mod FaultPlaces
 pub mod TypingLaws
-pub mod Contexts
-pub mod ContextView
+pub mod KeptTypes
 pub mod Answered

@@ -10,9 +10,13 @@ pub record InScope : Type 0 where
   pub params : List TypeTree
   pub olds : List Arrow
 
+-- these in scope
+abbrev pub in_scope : List TypeTree → List Arrow → InScope
+in_scope Ps Os = record { params = Ps; olds = Os }
+
 -- nothing in scope
 abbrev pub empty : InScope
-empty = record { params = []; olds = [] }
+empty = in_scope [] []
 
 -- one more parameter, of type C
 abbrev pub and_param : InScope → TypeTree → InScope

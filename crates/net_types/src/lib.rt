@@ -3,7 +3,6 @@
 #![tactic(auto)]
 
 mod check;
-mod contexts;
 mod fault;
 mod laws;
 mod nodes;

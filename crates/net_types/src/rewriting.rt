@@ -4,17 +4,17 @@ ghost use Rattle.std.specs.Prelude.{◌≡◌, [], IfOk, MatchOption, Some, opti
 ghost use Rattle.sample_core.specs.TypeView.{type_of};
 ghost use Rattle.leaf_core.specs.{ExpressionView.expression_of, TypeLimits.same_tree};
 ghost use Rattle.net_syntax.specs.NetworkView.{tree_of};
-ghost use Rattle.net_syntax.specs.{LawStep.part_of, NetworkLimits.WithinLimits, Place.a_leaf, Place.a_network, Placed.replaced, Rewriting.Rewrites, Standing.alone};
+ghost use Rattle.net_syntax.specs.{LawStep.part_of, NetworkLimits.WithinLimits, Place.a_leaf, Place.a_network, Placed.replaced, Rewriting.Rewrites, Standing.alone, Standing.standing, StandingWalk.standing_of};
 ghost use Rattle.net_types.specs.Answered.{Answers, NoRewriting};
-ghost use Rattle.net_types.specs.ContextView.{standing_of};
-ghost use Rattle.net_types.specs.Contexts.{kept_in_leaf, same_type, type_kept};
+ghost use Rattle.net_types.specs.KeptTypes.{checked_output, kept_in_leaf, same_type, type_kept};
 
-use crate::contexts::{Context, child_context, leaf_in, output_in};
+use crate::fault::TypeFault;
 use crate::scope::Scope;
-use leaf_core::{Expr, part_type, with_part_at};
+use crate::walk::walk;
+use leaf_core::{Expr, expr_fits, part_type, with_part_at};
 use net_syntax::{
-    MOST_HEIGHT, MOST_WEIGHT, Net, Position, Tree, TreeRef, TypedNet, child, height, is_oversized,
-    replace, weight,
+    MOST_HEIGHT, MOST_WEIGHT, Net, Position, Standing, Tree, TreeRef, TypedNet, child,
+    child_standing, height, is_oversized, replace, weight,
 };
 use sample_core::{Memory, Ty, same_type};
 use std::alloc::Global;
@@ -34,10 +34,11 @@ pub enum Rewritten {
 /// Puts the tree at the position of the typed network, in place of what stands there. After each
 /// answer but `Done` the network is as before. `Memory` where a growth was refused.
 ///
-/// Types are found of the tree, where it stands, and of what it replaces; inside an expression, of
-/// the whole expression. To know what is in scope there and the input's type, parts beside the way
-/// to the position are typed too, as the first of two networks where the position is in the second.
-/// What stands elsewhere isn't typed again. The weight and the height are taken of the whole.
+/// Types are found of the tree, where it stands, and of what it replaces. To know what is in scope
+/// there and the input's type, types of parts beside the way to the position are found too, as of the
+/// first of two networks where the position is in the second. What stands elsewhere isn't typed
+/// again. The weight and the height are taken of the whole, and so are, where the position is in an
+/// expression, the height and the nodes of that.
 pub fn rewrite(
     alloc: Global,
     net: &mut TypedNet,
@@ -112,57 +113,83 @@ fn keeps_type(alloc: Global, net: &TypedNet, path: &[u32], tree: &Tree) -> Resul
         (part_of tree.now)) }
 {
     let before = net.net();
-    let input = net.input().try_copy(alloc)?;
-    let context = Context {
-        scope: Scope::new(alloc),
-        input,
+    let at = Standing {
+        params: Vec::new(alloc),
+        olds: Vec::new(alloc),
+        input: net.input().try_copy(alloc)?,
     };
-    type_kept(alloc, context, before, path, tree)
+    type_kept(alloc, at, before, path, tree)
 }
 
-/// Whether the tree has, at the path of a network that stands in the context, the type of what
-/// stands there; an expression that it becomes a part of must have a type within the limits too.
+/// Whether the tree has, at the path of a network that stands there, the type of what stands at the
+/// path; an expression that it becomes a part of must be within the limits too.
 fn type_kept(
     alloc: Global,
-    context: Context,
+    at: Standing,
     net: &Net<Expr>,
     path: &[u32],
     other: &Tree,
 ) -> Result<bool, Memory>
     ensures { IfOk result (λ kept. kept
-        ≡ type_kept (standing_of context) (a_network (tree_of net.now)) path.now
+        ≡ type_kept (standing_of at) (a_network (tree_of net.now)) path.now
         (part_of other.now)) }
 {
     let Some((k, rest)) = path.split_first() else {
-        return kept_here(alloc, context, net, other);
+        return kept_here(alloc, at, net, other);
     };
     let Some(inner) = child(net, *k) else {
-        drop(context);
+        drop(at);
         return Ok(false);
     };
-    match child_context(alloc, context, net, *k)? {
-        Some(context) => match inner {
-            TreeRef::Net(inner) => type_kept(alloc, context, inner, rest, other),
-            TreeRef::Expr(inner) => kept_inside(alloc, context, inner, rest, other),
+    match child_standing(alloc, at, net, *k)? {
+        Some(at) => match inner {
+            TreeRef::Net(inner) => type_kept(alloc, at, inner, rest, other),
+            TreeRef::Expr(inner) => kept_inside(alloc, at, inner, rest, other),
         },
         None => Ok(false),
     }
 }
 
 /// Whether the tree is a network of the other one's output type.
-fn kept_here(alloc: Global, context: Context, net: &Net<Expr>, other: &Tree) -> Result<bool, Memory>
+fn kept_here(alloc: Global, at: Standing, net: &Net<Expr>, other: &Tree) -> Result<bool, Memory>
     ensures { IfOk result (λ kept. kept
-        ≡ type_kept (standing_of context) (a_network (tree_of net.now)) []
-        (part_of other.now)) }
+        ≡ type_kept (standing_of at) (a_network (tree_of net.now)) [] (part_of other.now)) }
 {
     let Tree::Net(other) = other else {
-        drop(context);
+        drop(at);
         return Ok(false);
     };
-    let before = output_in(alloc, &context, net)?;
-    let after = output_in(alloc, &context, other)?;
-    drop(context);
+    let Standing {
+        params,
+        olds,
+        input,
+    } = at;
+    let scope = Scope::of(params, olds);
+    let before = output_of(alloc, &scope, &input, net)?;
+    let after = output_of(alloc, &scope, &input, other)?;
+    drop(scope);
+    drop(input);
     Ok(are_same(before, after))
+}
+
+/// The output type of a network under a scope and an input of this type; `None` where it has none
+/// within the limits.
+fn output_of(
+    alloc: Global,
+    scope: &Scope,
+    input: &Ty,
+    net: &Net<Expr>,
+) -> Result<Option<Ty>, Memory>
+    ensures { IfOk result (λ found. option_map type_of found
+        ≡ checked_output (standing scope.now.params scope.now.olds (type_of input.now))
+        (tree_of net.now)) }
+{
+    let mut path = Vec::new(alloc);
+    match walk(alloc, &mut path, scope, input, net) {
+        Ok(found) => Ok(Some(found)),
+        Err(TypeFault::Memory) => Err(Memory),
+        Err(_) => Ok(None),
+    }
 }
 
 /// Whether there are two types, and they are the same.
@@ -185,47 +212,46 @@ fn same(before: &Ty, after: &Ty) -> bool
 /// The same in an expression of a network.
 fn kept_inside(
     alloc: Global,
-    context: Context,
+    at: Standing,
     expr: &Expr,
     path: &[u32],
     other: &Tree,
 ) -> Result<bool, Memory>
     ensures { IfOk result (λ kept. kept
-        ≡ type_kept (standing_of context) (a_leaf (expression_of expr.now)) path.now
+        ≡ type_kept (standing_of at) (a_leaf (expression_of expr.now)) path.now
         (part_of other.now)) }
 {
     let Tree::Expr(other) = other else {
-        drop(context);
+        drop(at);
         return Ok(false);
     };
     let Some(changed) = with_part_at(alloc, expr, path, other)? else {
-        drop(context);
+        drop(at);
         return Ok(false);
     };
-    let kept = kept_in_leaf(alloc, &context, expr, path, &changed);
+    let kept = kept_in_leaf(alloc, &at, expr, path, &changed);
     drop(changed);
-    drop(context);
+    drop(at);
     kept
 }
 
-/// Whether the changed expression has a type, and at the path the one that the other has there.
+/// Whether the changed expression is within the limits, and has at the path the type that the other
+/// has there.
 fn kept_in_leaf(
     alloc: Global,
-    context: &Context,
+    at: &Standing,
     expr: &Expr,
     path: &[u32],
     changed: &Expr,
 ) -> Result<bool, Memory>
     ensures { IfOk result (λ kept. kept
-        ≡ kept_in_leaf (standing_of context.now) (expression_of expr.now) path.now
+        ≡ kept_in_leaf (standing_of at.now) (expression_of expr.now) path.now
         (Some (expression_of changed.now))) }
 {
-    let Some(whole) = leaf_in(alloc, context, changed)? else {
+    if !expr_fits(changed) {
         return Ok(false);
-    };
-    drop(whole);
-    let params = context.scope.params();
-    let before = part_type(alloc, params, &context.input, expr, path)?;
-    let after = part_type(alloc, params, &context.input, changed, path)?;
+    }
+    let before = part_type(alloc, &at.params, &at.input, expr, path)?;
+    let after = part_type(alloc, &at.params, &at.input, changed, path)?;
     Ok(are_same(before, after))
 }

@@ -3,7 +3,7 @@
 ghost use Rattle.std.specs.Prelude.{◌≡◌, ◌++◌, IfOk, OnOk, map};
 ghost use Rattle.sample_core.specs.TypeView.{type_of};
 ghost use Rattle.net_syntax.specs.{ArrowView.arrow_of, Typing.arrow, Typing.copies};
-ghost use Rattle.net_types.specs.Scopes.{and_olds, and_param, empty};
+ghost use Rattle.net_types.specs.Scopes.{and_olds, and_param, empty, in_scope};
 
 use net_syntax::Arrow;
 use sample_core::{Memory, Ty, try_copy_types};
@@ -43,6 +43,13 @@ impl Scope {
             params: Vec::new(alloc),
             olds: Vec::new(alloc),
         }
+    }
+
+    /// These in scope.
+    pub(crate) fn of(params: Vec<Ty>, olds: Vec<Arrow>) -> Scope
+        ensures { result ≡ in_scope (map type_of params.items) (map arrow_of olds.items) }
+    {
+        Scope { params, olds }
     }
 
     /// The types of the parameters.

@@ -21,7 +21,7 @@ fn limited(ty: Ty) -> Result<Ty, TypeFault>
 }
 
 /// A copy of the type, as a part of another.
-pub(crate) fn copied_part(alloc: Global, ty: &Ty) -> Result<TyChild, Memory>
+fn copied_part(alloc: Global, ty: &Ty) -> Result<TyChild, Memory>
     ensures { IfOk result (λ part. part ≡ type_of ty.now) }
 {
     let copy = ty.try_copy(alloc)?;
