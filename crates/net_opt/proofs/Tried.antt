@@ -1,14 +1,16 @@
 -- A law that was tried at a place and a step that was taken there.
-use Rattle.std.proofs.Common.{◌≡◌, ℕ, ◌<◌, List, length, Option, Some, None, Contains, refl, sym, ap, ◌∙◌, subst, get_or}
-use Rattle.std.proofs.lemmas.List.{get_or_default}
+use Rattle.std.proofs.Common.{◌≡◌, ℕ, ◌+◌, ◌<◌, List, [], ◌∷◌, ◌++◌, length, map, Option, Some, None, Result, Ok, Err, IfOk, Contains, refl, sym, ap, ◌∙◌, subst, get_or, below_more}
+use Rattle.std.proofs.lemmas.List.{get_or_default, map-append}
 use Rattle.std.proofs.lemmas.Option.{none-some}
 use Rattle.leaf_core.specs.Expression.{Expression}
 use Rattle.net_syntax.specs.Network.{Network}
 use Rattle.net_syntax.specs.Place.{Tree, a_network, a_leaf}
-use Rattle.net_syntax.specs.Placed.{Placed, placed, placed_at}
+use Rattle.sample_core.specs.declared.memory.Memory.{Memory}
+use Rattle.net_syntax.specs.Placed.{Placed, placed, placed_at, replaced}
 use Rattle.net_syntax.specs.Rewriting.{Rewrites}
 use Rattle.net_syntax.specs.TypedNetwork.{TypedNetwork}
-use Rattle.net_syntax.specs.LawStep.{Step}
+use Rattle.net_syntax.specs.LawStep.{Step, step_of}
+use Rattle.net_syntax.specs.declared.law_step.LawStep.{LawStep}
 use Rattle.net_syntax.specs.declared.law_step.Law.{Law}
 use Rattle.net_syntax.specs.declared.law_step.Law.TheVariants as L
 use Rattle.net_syntax.specs.declared.law_step.Direction.TheVariants.{Forward}
@@ -19,9 +21,12 @@ use Rattle.law_rules.specs.NetworkRow.{NetworkRow}
 use Rattle.law_rules.specs.Answer as N
 use Rattle.law_rules.proofs.RowsExact.{one-right_side}
 use Rattle.cert_check.specs.TreeAnswer.{TreeAnswer}
-use Rattle.cert_check.specs.Derives.{Next}
+use Rattle.net_types.specs.Answered.{NoRewriting}
+use Rattle.std.specs.List.{All}
+use Rattle.std.proofs.lemmas.List.Elements.{All-nil, All-push}
+use Rattle.cert_check.specs.Derives.{Next, Steps, no_step, step_then}
 use Rattle.net_opt.specs.Optimising.{MayTake, NoneLeft, network_laws, expression_laws}
-use Rattle.net_opt.specs.Search.{StandsThere, ExpressionThere, forward_step, NoStepBy, NoStepAt, Takes}
+use Rattle.net_opt.specs.Search.{StandsThere, ExpressionThere, forward_step, NoStepBy, NoStepAt, Takes, Found, Puts}
 
 -- what is answered forward at a network by a law of networks, and that nothing else is
 record NetAnswer (n olds : ℕ) (f : Network Expression) (new : Tree Expression) : Type 0 where
@@ -129,3 +134,74 @@ none_anywhere t none = λ s may u next. none s.position s.law may.tried u (step_
 -- where nothing stands no step leads on
 pub none_there : (t : TypedNetwork) (p : List ℕ) → placed_at 0 0 (a_network t.net) p ≡ None → NoStepAt t p
 none_there t p is = λ law tried u next. none-some next.answered.place (sym is ∙ next.answered.found)
+
+-- where the position isn't there no tree can be put there
+pub nowhere : (t : TypedNetwork) (p : List ℕ) (new : Tree Expression) → replaced (a_network t.net) p new ≡ None → NoRewriting t p new
+nowhere t p new is = λ u w. none-some (a_network u.net) (sym is ∙ w.result)
+
+-- what is put there by a law's right side is its step
+put_net : (t u : TypedNetwork) (p : List ℕ) (n j : ℕ) (f r : Network Expression) (o : Option LawStep) → StandsThere t p n (a_network f) → Contains network_laws j
+    → NetworkRow j n f r → Puts (L.L j) t p (a_network r) u o → Found (NoStepBy t p (L.L j)) t u o
+put_net t u p n j f r None s tried row h = (h.0, refused_net t p n j f r s row h.1)
+put_net t u p n j f r (Some x) s tried row h = taken_net t u p n j f r (step_of x) s row tried h.0 h.1
+
+put_leaf : (t u : TypedNetwork) (p : List ℕ) (j : ℕ) (e r : Expression) (o : Option LawStep) → ExpressionThere t p e → Contains expression_laws j
+    → ExpressionRow j e r → Puts (L.E j) t p (a_leaf r) u o → Found (NoStepBy t p (L.E j)) t u o
+put_leaf t u p j e r None s tried row h = (h.0, refused_leaf t p j e r s row h.1)
+put_leaf t u p j e r (Some x) s tried row h = taken_leaf t u p j e r (step_of x) s row tried h.0 h.1
+
+-- the same of what the code answers
+pub net_step : (t u : TypedNetwork) (p : List ℕ) (n j : ℕ) (f r : Network Expression) (o : Result (Option LawStep) Memory) → StandsThere t p n (a_network f)
+    → Contains network_laws j → N.NetworkAnswer (L.L j) Forward f None n r → IfOk o (Puts (L.L j) t p (a_network r) u) → IfOk o (Found (NoStepBy t p (L.L j)) t u)
+net_step t u p n j f r (Ok o) s tried (N.forward_answer row) h = put_net t u p n j f r o s tried row h
+net_step t u p n j f r (Err m) s tried a h = tt
+
+pub leaf_step : (t u : TypedNetwork) (p : List ℕ) (j : ℕ) (e r : Expression) (o : Result (Option LawStep) Memory) → ExpressionThere t p e
+    → Contains expression_laws j → E.ExpressionAnswer (L.E j) Forward e None r → IfOk o (Puts (L.E j) t p (a_leaf r) u) → IfOk o (Found (NoStepBy t p (L.E j)) t u)
+leaf_step t u p j e r (Ok o) s tried (E.forward_answer row) h = put_leaf t u p j e r o s tried row h
+leaf_step t u p j e r (Err m) s tried a h = tt
+
+pub no_net_answer : (t : TypedNetwork) (p : List ℕ) (n j : ℕ) (f : Network Expression) → StandsThere t p n (a_network f)
+    → ((r : Network Expression) → N.NetworkAnswer (L.L j) Forward f None n r → ⊥) → NoStepBy t p (L.L j)
+no_net_answer t p n j f s none = no_row_net t p n j f s (λ r row. none r (N.forward_answer row))
+
+pub no_leaf_answer : (t : TypedNetwork) (p : List ℕ) (j : ℕ) (e : Expression) → ExpressionThere t p e
+    → ((r : Expression) → E.ExpressionAnswer (L.E j) Forward e None r → ⊥) → NoStepBy t p (L.E j)
+no_leaf_answer t p j e s none = no_row_leaf t p j e s (λ r row. none r (E.forward_answer row))
+
+-- the steps so far with one more
+steps_more : (t u v : TypedNetwork) (ss : List Step) (s : Step) → Steps t ss u → Next u s v → Steps t (ss ++ s ∷ []) v
+steps_more t u v ss s no_step x = step_then x no_step
+steps_more t u v ss s (step_then {u = w} {ss = rest} y ys) x = step_then y (steps_more w u v rest s ys x)
+
+pub one_more : (t u v : TypedNetwork) (xs : List LawStep) (x : LawStep) → Steps t (map step_of xs) u → Takes u (step_of x) v → Steps t (map step_of (xs ++ x ∷ [])) v
+one_more t u v xs x led takes = subst (λ ss. Steps t ss v) (sym (map-append step_of xs (x ∷ []))) (steps_more t u v (map step_of xs) (step_of x) led takes.next)
+
+pub one_taken : (t v : TypedNetwork) (xs : List LawStep) (x : LawStep) → All MayTake (map step_of xs) → Takes t (step_of x) v → All MayTake (map step_of (xs ++ x ∷ []))
+one_taken t v xs x all takes = subst (All MayTake) (sym (map-append step_of xs (x ∷ []))) (All-push MayTake (map step_of xs) (step_of x) all takes.may)
+
+-- before any step
+pub none_yet : (t : TypedNetwork) (xs : List LawStep) → xs ≡ [] → Steps t (map step_of xs) t
+none_yet t xs e = subst (λ ys. Steps t (map step_of ys) t) (sym e) no_step
+
+pub none_taken : (xs : List LawStep) → xs ≡ [] → All MayTake (map step_of xs)
+none_taken xs e = subst (λ ys. All MayTake (map step_of ys)) (sym e) (All-nil MayTake)
+
+-- no step was taken, or one was
+pub found_none : (N : Type 0) (t u : TypedNetwork) (o : Option LawStep) → ((x : LawStep) → o ≡ Some x → ⊥) → Found N t u o → (u ≡ t) × N
+found_none N t u None never h = h
+found_none N t u (Some x) never h = absurd (never x refl)
+
+pub found_some : (N : Type 0) (t u : TypedNetwork) (o : Option LawStep) (x : LawStep) → o ≡ Some x → Found N t u o → Takes t (step_of x) u
+found_some N t u o x e h = subst (Found N t u) e h
+
+-- one law more was tried
+pub net_law_more : (t v u : TypedNetwork) (p : List ℕ) (i : ℕ) → v ≡ t → ((k : ℕ) → k < i → NoStepBy t p (L.L (get_or network_laws k 0)))
+    → NoStepBy v p (L.L (get_or network_laws i 0)) → (k : ℕ) → k < i + 1 → NoStepBy t p (L.L (get_or network_laws k 0))
+net_law_more t v u p i same before here =
+    below_more (λ k. NoStepBy t p (L.L (get_or network_laws k 0))) i before (subst (λ w. NoStepBy w p (L.L (get_or network_laws i 0))) same here)
+
+pub leaf_law_more : (t v u : TypedNetwork) (p : List ℕ) (i : ℕ) → v ≡ t → ((k : ℕ) → k < i → NoStepBy t p (L.E (get_or expression_laws k 0)))
+    → NoStepBy v p (L.E (get_or expression_laws i 0)) → (k : ℕ) → k < i + 1 → NoStepBy t p (L.E (get_or expression_laws k 0))
+leaf_law_more t v u p i same before here =
+    below_more (λ k. NoStepBy t p (L.E (get_or expression_laws k 0))) i before (subst (λ w. NoStepBy w p (L.E (get_or expression_laws i 0))) same here)

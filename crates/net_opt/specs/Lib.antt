@@ -1,3 +1,5 @@
 -- What an optimised network is.
 pub mod Optimising
 pub mod Search
+pub mod Walk
+pub mod Laws

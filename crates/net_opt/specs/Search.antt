@@ -1,5 +1,5 @@
 -- Steps forward at a place.
-use Rattle.std.specs.Prelude.{◌≡◌, ℕ, List, Option, Some, None}
+use Rattle.std.specs.Prelude.{◌≡◌, ℕ, List, ◌++◌, Option, Some, None}
 use Rattle.leaf_core.specs.Expression.{Expression}
 use Rattle.net_syntax.specs.Place.{Tree, a_network, a_leaf}
 use Rattle.net_syntax.specs.Placed.{placed, placed_at}
@@ -8,6 +8,8 @@ use Rattle.net_syntax.specs.LawStep.{Step, step_of}
 use Rattle.net_syntax.specs.declared.law_step.LawStep.{LawStep}
 use Rattle.net_syntax.specs.declared.law_step.Law.{Law}
 use Rattle.net_syntax.specs.declared.law_step.Direction.TheVariants.{Forward}
+use Rattle.net_syntax.specs.Rewriting.{Rewrites}
+use Rattle.net_types.specs.Answered.{NoRewriting}
 use Rattle.cert_check.specs.Derives.{Next}
 use Rattle.net_opt.specs.Optimising.{IsTried, MayTake}
 
@@ -32,6 +34,10 @@ NoStepBy t p law = (u : TypedNetwork) → Next t (forward_step law p) u → ⊥
 abbrev pub NoStepAt : TypedNetwork → List ℕ → Type 0
 NoStepAt t p = (law : Law) → IsTried law → NoStepBy t p law
 
+-- the same at this position and at all that lead on from it
+abbrev pub NoStepWithin : TypedNetwork → List ℕ → Type 0
+NoStepWithin t p = (q : List ℕ) → NoStepAt t (p ++ q)
+
 -- a step that may be taken leads on so
 pub record Takes (t : TypedNetwork) (s : Step) (u : TypedNetwork) : Type 0 where
   pub may : MayTake s
@@ -41,3 +47,10 @@ pub record Takes (t : TypedNetwork) (s : Step) (u : TypedNetwork) : Type 0 where
 abbrev pub Found : Type 0 → TypedNetwork → TypedNetwork → Option LawStep → Type 0
 Found Nothing t u None = (u ≡ t) × Nothing
 Found Nothing t u (Some s) = Takes t (step_of s) u
+
+-- where the network was t and now is u: the law's step stands there with the tree at the position,
+-- or there is no such network, and it is as it was
+abbrev pub Puts : Law → TypedNetwork → List ℕ → Tree Expression → TypedNetwork → Option LawStep
+    → Type 0
+Puts law t p new u None = (u ≡ t) × NoRewriting t p new
+Puts law t p new u (Some s) = (step_of s ≡ forward_step law p) × Rewrites t p new u
