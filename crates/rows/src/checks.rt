@@ -239,7 +239,7 @@ static CHECKED_RUNS: &str = "
 static SCANT_CHECKS: &str = "
 § Checks with little memory.
 ‹sum doubled› | ‹sum doubled at once› | laws 1 (step L4 forward (at)) => accepted 1, refused at first
-‹sum doubled› | ‹sum doubled at once› | laws 1 (step L4 forward (at 5)) => no position at step 1, refused at first
+‹sum doubled› | ‹sum doubled at once› | laws 1 (step L4 forward (at 5)) => no position at step 1, never refused
 ‹sum doubled› | ‹sum doubled at once› | laws 1 => ends elsewhere, never refused
 ‹same› | ‹same› | laws 1 (step E7 backward (at 0) (fst (pair x (p 0)))) => ill typed at step 1, refused at first
 ‹same› | ‹same› | laws 1 (step E7 backward (at 0) (fst (pair x 1))) (step E7 forward (at 0)) => accepted 2, refused at first
