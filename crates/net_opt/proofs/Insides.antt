@@ -1,12 +1,11 @@
 -- What is inside a tree: it is smaller, its number is low, and behind the last there is no more.
-use Rattle.std.proofs.Common.{◌≡◌, ℕ, zero, suc, ◌+◌, ◌≤◌, ◌<◌, List, [], ◌∷◌, ◌++◌, Option, Some, None, option_map, refl, sym, ap, ◌∙◌, subst, arith}
+use Rattle.std.proofs.Common.{◌≡◌, ℕ, zero, suc, ◌+◌, ◌≤◌, ◌<◌, Option, Some, None, option_map, refl, sym, ap, ◌∙◌, subst, arith}
 use Rattle.std.specs.Prelude.{IfSome}
-use Rattle.std.proofs.lemmas.Option.{none-some}
 use Rattle.leaf_core.specs.Expression.{Expression, Expressions, no_more, and_then, nodes_in, nodes_in_all}
 use Rattle.leaf_core.specs.Inside.{Inside, one, two, three, row, inside_of, inside_nodes}
 use Rattle.leaf_core.specs.Parts.{element, part_inside, part}
 use Rattle.leaf_core.proofs.InsideLaws.{nodes_inside}
-use Rattle.net_syntax.specs.Network.{Network, Networks, network_size, networks_size, arr, seq, first, par, loop_pre, i_pre, delay, hold, accum_by, after, repeatedly, time, integral, switch, d_switch, r_switch, k_switch, p_switch, old, no_members, and_member}
+use Rattle.net_syntax.specs.Network.{Network, Networks, network_size, networks_size, arr, seq, first, par, loop_pre, i_pre, delay, hold, accum_by, after, repeatedly, switch, d_switch, r_switch, k_switch, p_switch, no_members, and_member}
 use Rattle.net_syntax.specs.Typing.{members}
 use Rattle.net_syntax.specs.Place.{Tree, a_network, a_leaf, member, child, child_network, PSwitchChild, p_switch_child, member_child, event_child, continuation_child, no_child}
 use Rattle.net_syntax.specs.Placed.{bound_in, bound_behind}

@@ -6,7 +6,7 @@ use Rattle.leaf_core.specs.Expression.{Expression}
 use Rattle.net_syntax.specs.Network.{Network}
 use Rattle.net_syntax.specs.Place.{Tree, a_network, a_leaf}
 use Rattle.sample_core.specs.declared.memory.Memory.{Memory}
-use Rattle.net_syntax.specs.Placed.{Placed, placed, placed_at, replaced}
+use Rattle.net_syntax.specs.Placed.{Placed, placed, placed_at}
 use Rattle.net_syntax.specs.Rewriting.{Rewrites}
 use Rattle.net_syntax.specs.TypedNetwork.{TypedNetwork}
 use Rattle.net_syntax.specs.LawStep.{Step, step_of}
@@ -21,7 +21,6 @@ use Rattle.law_rules.specs.NetworkRow.{NetworkRow}
 use Rattle.law_rules.specs.Answer as N
 use Rattle.law_rules.proofs.RowsExact.{one-right_side}
 use Rattle.cert_check.specs.TreeAnswer.{TreeAnswer}
-use Rattle.net_types.specs.Answered.{NoRewriting}
 use Rattle.std.specs.List.{All}
 use Rattle.std.proofs.lemmas.List.Elements.{All-nil, All-push}
 use Rattle.cert_check.specs.Derives.{Next, Steps, no_step, step_then}
@@ -54,15 +53,6 @@ answer_there : (t v : TypedNetwork) (p : List ℕ) (k n : ℕ) (u : Tree Express
 answer_there t v p k n u law there next =
     let same : next.answered.place ≡ placed k n u = let found : placed_at 0 0 (a_network t.net) p ≡ Some next.answered.place = next.answered.found in cc in
     subst (λ (c : Placed). TreeAnswer c.olds law Forward c.tree None next.new) same next.answered.answered
-
--- no step by a law without a row there
-pub no_row_net : (t : TypedNetwork) (p : List ℕ) (n j : ℕ) (f : Network Expression) → StandsThere t p n (a_network f)
-    → ((r : Network Expression) → NetworkRow j n f r → ⊥) → NoStepBy t p (L.L j)
-no_row_net t p n j f s none = λ v next. let a = net_answer j n f next.new (answer_there t v p s.params n (a_network f) (L.L j) s.there next) in none a.right a.row
-
-pub no_row_leaf : (t : TypedNetwork) (p : List ℕ) (j : ℕ) (e : Expression) → ExpressionThere t p e
-    → ((r : Expression) → ExpressionRow j e r → ⊥) → NoStepBy t p (L.E j)
-no_row_leaf t p j e s none = λ v next. let a = leaf_answer j s.0 e next.new (answer_there t v p s.1.params s.0 (a_leaf e) (L.E j) s.1.there next) in none a.right a.row
 
 -- no step by a law whose right side can't stand there
 pub refused_net : (t : TypedNetwork) (p : List ℕ) (n j : ℕ) (f r : Network Expression) → StandsThere t p n (a_network f) → NetworkRow j n f r
@@ -135,10 +125,6 @@ none_anywhere t none = λ s may u next. none s.position s.law may.tried u (step_
 pub none_there : (t : TypedNetwork) (p : List ℕ) → placed_at 0 0 (a_network t.net) p ≡ None → NoStepAt t p
 none_there t p is = λ law tried u next. none-some next.answered.place (sym is ∙ next.answered.found)
 
--- where the position isn't there no tree can be put there
-pub nowhere : (t : TypedNetwork) (p : List ℕ) (new : Tree Expression) → replaced (a_network t.net) p new ≡ None → NoRewriting t p new
-nowhere t p new is = λ u w. none-some (a_network u.net) (sym is ∙ w.result)
-
 -- what is put there by a law's right side is its step
 put_net : (t u : TypedNetwork) (p : List ℕ) (n j : ℕ) (f r : Network Expression) (o : Option LawStep) → StandsThere t p n (a_network f) → Contains network_laws j
     → NetworkRow j n f r → Puts (L.L j) t p (a_network r) u o → Found (NoStepBy t p (L.L j)) t u o
@@ -160,14 +146,6 @@ pub leaf_step : (t u : TypedNetwork) (p : List ℕ) (j : ℕ) (e r : Expression)
     → Contains expression_laws j → E.ExpressionAnswer (L.E j) Forward e None r → IfOk o (Puts (L.E j) t p (a_leaf r) u) → IfOk o (Found (NoStepBy t p (L.E j)) t u)
 leaf_step t u p j e r (Ok o) s tried (E.forward_answer row) h = put_leaf t u p j e r o s tried row h
 leaf_step t u p j e r (Err m) s tried a h = tt
-
-pub no_net_answer : (t : TypedNetwork) (p : List ℕ) (n j : ℕ) (f : Network Expression) → StandsThere t p n (a_network f)
-    → ((r : Network Expression) → N.NetworkAnswer (L.L j) Forward f None n r → ⊥) → NoStepBy t p (L.L j)
-no_net_answer t p n j f s none = no_row_net t p n j f s (λ r row. none r (N.forward_answer row))
-
-pub no_leaf_answer : (t : TypedNetwork) (p : List ℕ) (j : ℕ) (e : Expression) → ExpressionThere t p e
-    → ((r : Expression) → E.ExpressionAnswer (L.E j) Forward e None r → ⊥) → NoStepBy t p (L.E j)
-no_leaf_answer t p j e s none = no_row_leaf t p j e s (λ r row. none r (E.forward_answer row))
 
 -- the steps so far with one more
 steps_more : (t u v : TypedNetwork) (ss : List Step) (s : Step) → Steps t ss u → Next u s v → Steps t (ss ++ s ∷ []) v
@@ -196,12 +174,12 @@ pub found_some : (N : Type 0) (t u : TypedNetwork) (o : Option LawStep) (x : Law
 found_some N t u o x e h = subst (Found N t u) e h
 
 -- one law more was tried
-pub net_law_more : (t v u : TypedNetwork) (p : List ℕ) (i : ℕ) → v ≡ t → ((k : ℕ) → k < i → NoStepBy t p (L.L (get_or network_laws k 0)))
+pub net_law_more : (t v : TypedNetwork) (p : List ℕ) (i : ℕ) → v ≡ t → ((k : ℕ) → k < i → NoStepBy t p (L.L (get_or network_laws k 0)))
     → NoStepBy v p (L.L (get_or network_laws i 0)) → (k : ℕ) → k < i + 1 → NoStepBy t p (L.L (get_or network_laws k 0))
-net_law_more t v u p i same before here =
+net_law_more t v p i same before here =
     below_more (λ k. NoStepBy t p (L.L (get_or network_laws k 0))) i before (subst (λ w. NoStepBy w p (L.L (get_or network_laws i 0))) same here)
 
-pub leaf_law_more : (t v u : TypedNetwork) (p : List ℕ) (i : ℕ) → v ≡ t → ((k : ℕ) → k < i → NoStepBy t p (L.E (get_or expression_laws k 0)))
+pub leaf_law_more : (t v : TypedNetwork) (p : List ℕ) (i : ℕ) → v ≡ t → ((k : ℕ) → k < i → NoStepBy t p (L.E (get_or expression_laws k 0)))
     → NoStepBy v p (L.E (get_or expression_laws i 0)) → (k : ℕ) → k < i + 1 → NoStepBy t p (L.E (get_or expression_laws k 0))
-leaf_law_more t v u p i same before here =
+leaf_law_more t v p i same before here =
     below_more (λ k. NoStepBy t p (L.E (get_or expression_laws k 0))) i before (subst (λ w. NoStepBy w p (L.E (get_or expression_laws i 0))) same here)

@@ -1,5 +1,5 @@
 -- The walk: what is reached inside a tree that was reached, and that no step is left in it.
-use Rattle.std.proofs.Common.{◌≡◌, ℕ, zero, suc, ◌+◌, ◌-◌, ◌^◌, ◌≤◌, ◌<◌, List, [], ◌∷◌, ◌++◌, Option, Some, None, Result, Ok, Err, IfOk, option_map, inl, inr, refl, sym, ap, ◌∙◌, subst, arith, append_assoc, below_more}
+use Rattle.std.proofs.Common.{◌≡◌, ℕ, ◌+◌, ◌-◌, ◌^◌, ◌≤◌, ◌<◌, List, [], ◌∷◌, ◌++◌, Option, Some, None, Result, Ok, Err, IfOk, option_map, inl, inr, refl, sym, ap, ◌∙◌, subst, arith, append_assoc, below_more}
 use Rattle.std.specs.Prelude.{IfSome, option_and_then}
 use Rattle.std.proofs.lemmas.Option.{none-some, same_Some}
 use Rattle.std.proofs.lemmas.List.{append-nil}
@@ -16,11 +16,11 @@ use Rattle.net_syntax.specs.declared.place.TreeRef.{TreeRef}
 use Rattle.net_syntax.specs.declared.law_step.LawStep.{LawStep}
 use Rattle.net_syntax.specs.NetworkLimits.{WithinLimits}
 use Rattle.net_syntax.specs.TypedNetwork.{TypedNetwork}
-use Rattle.net_syntax.proofs.FoundTypes.{ChildThere, TreeWithin, child_there}
+use Rattle.net_syntax.proofs.FoundTypes.{ChildThere, child_there}
 use Rattle.net_types.proofs.Sizes.{few_inside}
 use Rattle.net_opt.specs.Optimising.{NoneLeft}
 use Rattle.net_opt.specs.Search.{StandsThere, NoStepAt, NoStepWithin, Found}
-use Rattle.net_opt.specs.Walk.{inside, frozen_in, TypedSomewhere, Limited, Reached}
+use Rattle.net_opt.specs.Walk.{inside, frozen_in, Limited, Reached}
 use Rattle.net_opt.proofs.Insides.{ChildFits, PartFits, child_fits, part_fits, no_later_child, no_later_part}
 use Rattle.net_opt.proofs.Tried.{none_there, none_anywhere}
 

@@ -1,4 +1,4 @@
-use Rattle.std.proofs.Common.{◌≡◌, ◌-◌, ◌≤◌, length, map}
+use Rattle.std.proofs.Common.{◌-◌, ◌≤◌, length, map}
 use Rattle.std.specs.List.{All}
 use Rattle.net_syntax.specs.LawStep.{step_of}
 use Rattle.cert_check.specs.Derives.{Steps}

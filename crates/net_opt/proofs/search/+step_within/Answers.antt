@@ -1,8 +1,8 @@
-use Rattle.std.proofs.Common.{◌≡◌, ◌≤◌, ◌<◌, ℕ, List, Some, option_map, refl, sym, ap, ◌∙◌, subst, arith}
+use Rattle.std.proofs.Common.{◌≡◌, Some, option_map, refl, sym, ap, ◌∙◌, subst, arith}
 use Rattle.std.proofs.lemmas.Grind.{common_steps}
 use Rattle.net_syntax.specs.ChildParts.{seen}
-use Rattle.net_opt.specs.Search.{StandsThere, NoStepAt, NoStepWithin}
-use Rattle.net_opt.specs.Walk.{inside, Limited}
+use Rattle.net_opt.specs.Search.{NoStepAt, NoStepWithin}
+use Rattle.net_opt.specs.Walk.{inside}
 use Rattle.net_opt.proofs.Tried.{found_none}
 use Rattle.net_opt.proofs.Walked.{reached_more, lower_inside, low_number, few_frozen, none_within, one_deeper, nothing_inside}
 use Rattle.net_opt.proofs.search.+step_within.Goals as goal

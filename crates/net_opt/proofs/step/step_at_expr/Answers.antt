@@ -1,4 +1,4 @@
-use Rattle.std.proofs.Common.{◌≡◌, ℕ, length, refl, ◌∙◌, get_or, arith}
+use Rattle.std.proofs.Common.{◌≡◌, length, refl, ◌∙◌, get_or, arith}
 use Rattle.leaf_core.specs.ExpressionView.{expression_of}
 use Rattle.net_syntax.specs.declared.law_step.Law.TheVariants as L
 use Rattle.net_opt.specs.Optimising.{expression_laws}
@@ -12,7 +12,7 @@ loop-number-preserved c =
     c.step_by_expr_law.new.typed c.in_ok-step.field-0 c.in_default.not-Some c.in_ok-step.ensures in
     record {
       kept = h.0 ∙ c.loop-number.invariant.kept;
-      none = leaf_law_more c.args.typed.now c.loop-number.typed c.step_by_expr_law.new.typed c.args.path.now c.loop-number.number-index
+      none = leaf_law_more c.args.typed.now c.loop-number.typed c.args.path.now c.loop-number.number-index
           c.loop-number.invariant.kept c.loop-number.invariant.none h.1;
     }
 
