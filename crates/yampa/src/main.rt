@@ -2,11 +2,6 @@
 //! what it answers.
 #![tactic(auto)]
 
-ghost use Rattle.std.specs.Prelude.{IfErr};
-ghost use Rattle.leaf_table.specs.Rows.{rows_of};
-ghost use Rattle.step_core.specs.Binding.{FitsTable};
-ghost use Rattle.yampa_run.specs.FaultLines.{EndsRun};
-
 mod host;
 mod streams;
 
@@ -19,15 +14,10 @@ use std::cell::RefCell;
 use std::env;
 use std::io::{self, BufReader, ErrorKind, Write};
 use std::process::ExitCode;
-use step_core::{BindFault, Bound, bind};
 use streams::{Input, Output, Printer, ROOM, give_held, has_failed};
 use yampa_run::{
-    Counted, Job, Refusal, RunFault, fault_line, fill_table, prepare, run as run_lines,
-    table_refusal,
+    Counted, Job, Refusal, RunFault, fault_line, fill_table, prepare, run_network, table_refusal,
 };
-
-/// The status of a program that could not read, write or get memory.
-const BROKEN: u8 = 3;
 
 fn main(rt: HostRuntime) -> ExitCode {
     let asked = job(&rt);
@@ -42,10 +32,7 @@ fn main(rt: HostRuntime) -> ExitCode {
 /// Does what is to be done. Answers the exit status.
 fn perform(rt: &HostRuntime, job: &Job) -> u8 {
     match job {
-        Job::Print(text) => match print(rt, text.as_bytes()) {
-            Ok(()) => 0,
-            Err(fault) => tell(rt, &fault),
-        },
+        Job::Print(text) => print(rt, text),
         Job::Run(net) => run(rt, net),
     }
 }
@@ -113,85 +100,70 @@ fn refuse_table(rt: &HostRuntime, fault: TableFault) -> u8 {
     status
 }
 
-/// Runs the network on standard input, over a table of its closures. Answers the exit status.
+/// Runs the network on standard input, over a table of its closures, and prints the lines of its
+/// answers. Answers the exit status.
 fn run_on(rt: &HostRuntime, net: &TypedNet, table: &LeafTable) -> u8 {
-    match bind(rt.alloc(), net, table) {
-        Ok(bound) => {
-            let status = run_bound(rt, &bound, table);
-            drop(bound);
-            status
-        }
-        Err(BindFault::Memory) => refuse(rt, &Refusal::Memory),
-        // The table was filled with a row for each expression, so this doesn't come.
-        Err(BindFault::MissingLeaf { position: _ }) => complain(rt, BROKEN, "no row"),
-    }
-}
-
-/// Runs the network on standard input, and prints the lines of its answers. Answers the exit
-/// status.
-fn run_bound(rt: &HostRuntime, bound: &Bound, table: &LeafTable) -> u8
-    requires { FitsTable (rows_of table.now) bound.now }
-{
     match Output::new(rt.alloc(), rt.stdout()) {
-        Ok(output) => run_printed(rt, bound, table, &RefCell::new(output)),
+        Ok(output) => run_printed(rt, net, table, &RefCell::new(output)),
         Err(Memory) => refuse(rt, &Refusal::Memory),
     }
 }
 
 /// The same with the output that is held back.
-fn run_printed(rt: &HostRuntime, bound: &Bound, table: &LeafTable, output: &RefCell<Output>) -> u8
-    requires { FitsTable (rows_of table.now) bound.now }
-{
+fn run_printed(
+    rt: &HostRuntime,
+    net: &TypedNet,
+    table: &LeafTable,
+    output: &RefCell<Output>,
+) -> u8 {
     let input = Input::new(rt.stdin(), output);
     let Ok(input) = BufReader::with_capacity(rt.alloc(), ROOM, input) else {
         return refuse(rt, &Refusal::Memory);
     };
     let mut reader = Counted::new(input);
     let mut writer = Counted::new(Printer::new(output));
-    let ended = run_lines(rt.alloc(), bound, table, &mut reader, &mut writer);
+    let ended = run_network(rt.alloc(), net, table, &mut reader, &mut writer);
     drop(reader);
     drop(writer);
     // Where the host has refused output, the lines before a fault of the stream weren't all
     // printed, so that is told, and not the stream's fault.
     let given = give_held(output).is_ok();
-    if !given || has_failed(output) {
-        drop(ended);
-        return tell(rt, &RunFault::Write { lines: 0 });
-    }
-    match ended {
-        Ok(_) => 0,
-        Err(fault) => tell(rt, &fault),
-    }
+    let status = if !given || has_failed(output) {
+        refuse_output(rt)
+    } else {
+        match &ended {
+            Ok(_) => 0,
+            Err(refusal) => refuse(rt, refusal),
+        }
+    };
+    drop(ended);
+    status
 }
 
-/// Prints the bytes on standard output. How many lines a refused write printed isn't known, and
-/// isn't told.
-fn print(rt: &HostRuntime, bytes: &[u8]) -> Result<(), RunFault>
-    ensures { IfErr result EndsRun }
-{
+/// Prints the text on standard output. Answers the exit status.
+fn print(rt: &HostRuntime, text: &str) -> u8 {
     let mut stdout = rt.stdout();
-    match stdout.write_all(bytes).and_then(|()| stdout.flush()) {
-        Ok(()) => Ok(()),
-        Err(_) => Err(RunFault::Write { lines: 0 }),
+    match stdout
+        .write_all(text.as_bytes())
+        .and_then(|()| stdout.flush())
+    {
+        Ok(()) => 0,
+        Err(_) => refuse_output(rt),
     }
 }
 
-/// Prints why a run ended early. Answers its exit status.
-fn tell(rt: &HostRuntime, fault: &RunFault) -> u8
-    requires { EndsRun fault.now }
-{
-    match fault_line(rt.alloc(), fault) {
+/// Prints that the host has refused output. How many lines it took isn't known, and isn't told.
+/// Answers the exit status.
+fn refuse_output(rt: &HostRuntime) -> u8 {
+    match fault_line(rt.alloc(), &RunFault::Write { lines: 0 }) {
         Ok((status, line)) => complain(rt, status, &line),
         Err(Memory) => refuse(rt, &Refusal::Memory),
     }
 }
 
-/// Prints why nothing is done. Answers the exit status.
+/// Prints why nothing is done, or why a run stopped. Answers the exit status.
 fn refuse(rt: &HostRuntime, refusal: &Refusal) -> u8 {
-    match refusal {
-        Refusal::Line { status, line } => complain(rt, *status, line),
-        Refusal::Memory => complain(rt, BROKEN, "memory"),
-    }
+    complain(rt, refusal.status(), refusal.line())
 }
 
 /// Prints a line on standard error. Answers the status.

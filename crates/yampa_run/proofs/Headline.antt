@@ -62,7 +62,7 @@ all_read text read None c e = absurd c
 all_read text read (Some left) c e = c ∙ ap (λ l. read ++ l) e ∙ append-nil read
 
 -- what holds of the text that begins with the bytes that were read holds of the text that the reader had
-of_text : (P : List ℕ → Type 0) (text read : List ℕ) (has' : Option (List ℕ)) → Consumes (Some text) has' read → HoldsOfText (IsAtEnd has') read P → P text
+pub of_text : (P : List ℕ → Type 0) (text read : List ℕ) (has' : Option (List ℕ)) → Consumes (Some text) has' read → HoldsOfText (IsAtEnd has') read P → P text
 of_text P text read has' c (inl h) = subst P (sym (all_read text read has' c h.0)) h.1
 of_text P text read None c (inr h) = absurd c
 of_text P text read (Some left) c (inr h) = subst P (sym c) (h left)
@@ -104,7 +104,7 @@ writes_output t text has' holds holds' (Err (U.Write lines)) r u = absurd u
 writes_output t text has' holds holds' (Err (U.Memory lines)) r u = absurd u
 
 -- what a run writes of the target is what it writes of the source
-of_source : (source target : TypedNetwork) (text : List ℕ) (holds holds' : Option (List ℕ)) (result : Result RunReport RunFault)
+pub of_source : (source target : TypedNetwork) (text : List ℕ) (holds holds' : Option (List ℕ)) (result : Result RunReport RunFault)
     → source.input ≡ target.input → output_of source.input source.net text ≡ output_of target.input target.net text
     → WritesOutput target text holds holds' result → WritesOutput source text holds holds' result
 of_source source target text holds holds' result i e w = record {

@@ -3,4 +3,7 @@ pub mod Runs
 mod Networks
 mod Refusals
 mod Headline
-mod CheckedRun
+mod Front
+mod NetworkRun
+mod TextFaults
+mod WholeRun

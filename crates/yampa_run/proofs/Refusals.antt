@@ -1,16 +1,33 @@
--- Bytes are refused with one line, and have no network then.
-use Rattle.std.proofs.Common.{◌≡◌, ◌≢◌, ℕ, List, sym, ap, ◌∙◌, Result, Ok, Err}
+-- Bytes are refused with one line, and have no network then. So nothing that can be run is refused.
+use Rattle.std.proofs.Common.{◌≡◌, ◌≢◌, ℕ, List, refl, sym, ap, ◌∙◌, subst, inl, inr, Option, Some, None, Result, Ok, Err, length}
+use Rattle.std.specs.Prelude.{string_bytes}
 use Rattle.sample_core.specs.TypeTree.{TypeTree}
 use Rattle.leaf_core.specs.Expression.{Expression}
 use Rattle.net_syntax.specs.Network.{Network}
+use Rattle.net_syntax.specs.LawStep.{Step}
+use Rattle.net_syntax.specs.TypedNetwork.{TypedNetwork}
+use Rattle.net_text.specs.CertificateLaws.{IsCertificate, IsCertificateFault}
 use Rattle.net_text.specs.FileLaws.{IsFile, IsFileFault}
 use Rattle.net_text.specs.declared.fault.NetTextFault.{NetTextFault}
 use Rattle.net_text.specs.declared.fault.NetTextFault.TheVariants as V
+use Rattle.net_text.proofs.CertificateRead.{certificate_fault_law, one_certificate, read_certificate_law}
 use Rattle.net_text.proofs.FileRead.{read_file_law, file_fault_law, one_file}
 use Rattle.net_types.proofs.Checks.{check_exact}
 use Rattle.net_types.specs.Check.{check}
+use Rattle.cert_check.specs.CheckAnswer.{CheckAnswer}
+use Rattle.cert_check.specs.Derives.{Derives}
+use Rattle.cert_check.specs.declared.answer.Accepted.{Accepted}
+use Rattle.cert_check.specs.declared.answer.CheckFault.{CheckFault}
+use Rattle.cert_check.specs.declared.answer.CheckFault.TheVariants as C
+use Rattle.cert_check.proofs.OneAnswer.{one_answer}
+use Rattle.command_line.specs.CommandLine.{DerivationNames, RequestTree, types, run, check as checks, run_checked, request_in, AsksNothing}
 use Rattle.yampa_run.specs.RefusalLines.{text_words, type_words}
-use Rattle.yampa_run.specs.Preparation.{OneRefusalLaw, NoNetworkLaw, by_text, by_types}
+use Rattle.yampa_run.specs.Preparation.{AreTold, Fails, HasNoDerivation, HasNoNetwork, HasNoSteps, IsDerivedIn, IsNetworkIn, IsNetworkOf, IsTold, AreStepsOf, KnownFiles, Meets, RefusesCheck, OneRefusalLaw, NoNetworkLaw, OnlyMemoryLaw, by_text, by_types, no_source, no_target, no_steps, not_accepted}
+use Rattle.yampa_run.specs.declared.refused.Role.{Role}
+use Rattle.yampa_run.specs.declared.refused.Role.TheVariants as R
+use Rattle.yampa_run.specs.declared.preparation.Job.TheVariants as J
+use Rattle.yampa_run.specs.declared.preparation.Refusal.{Refusal}
+use Rattle.yampa_run.specs.declared.preparation.Refusal.TheVariants as Refused
 
 err_is : {A F : Type 0} {x y : F} → ◌≡◌ {A = Result A F} (Err x) (Err y) → x ≡ y
 err_is e = cc
@@ -37,3 +54,91 @@ no_network r bytes line t (by_text f d h e) n = no_fault bytes f t.input t.net d
 no_network r bytes line t (by_types A net f h c e) n =
     let same = one_file bytes t.input A t.net net n.file h in
     not_ok (sym c ∙ (check_exact A net t).1 (same.0, same.1, n.typed))
+
+-- bytes have one network
+one_network : (bytes : List ℕ) (t u : TypedNetwork) → IsNetworkIn bytes t → IsNetworkIn bytes u → t ≡ u
+one_network bytes t u n m =
+    let same = one_file bytes u.input t.input u.net t.net m.file n.file in
+    let a : check t.input t.net ≡ Ok t = (check_exact t.input t.net t).1 (refl, refl, n.typed) in
+    let b : check t.input t.net ≡ Ok u = (check_exact t.input t.net u).1 (same.0, same.1, m.typed) in
+    ok_is (sym a ∙ b)
+  where
+    ok_is : {A F : Type 0} {x y : A} → ◌≡◌ {A = Result A F} (Ok x) (Ok y) → x ≡ y
+    ok_is e = cc
+
+-- a certificate file has no fault
+no_certificate_fault : (bytes : List ℕ) (f : NetTextFault) (steps : List Step) → f ≢ V.Memory → IsCertificateFault bytes f → IsCertificate bytes steps → ⊥
+no_certificate_fault bytes f steps d h i = not_ok (sym ((certificate_fault_law bytes f d).1 h) ∙ (read_certificate_law bytes steps).1 i)
+
+-- where steps derive the target, a check tells no fault
+no_check_fault : (source target : TypedNetwork) (steps : List Step) (f : CheckFault) → f ≢ C.Memory → Derives source target steps
+    → CheckAnswer source target steps (Err f) → ⊥
+no_check_fault source target steps f d h a =
+    let accepted : Accepted = record { steps = length steps } in
+    not_ok (one_answer source target steps (Err f) (Ok accepted) a (h, refl) (λ e. d (err_is e)) (λ e. not_ok (sym e)))
+
+-- a file whose bytes are told and have a network isn't refused with a line
+no_file : (r : Role) (known : Option (List ℕ)) (t : TypedNetwork) (refusal : Refusal) → refusal ≢ Refused.Memory → IsTold known → IsNetworkOf known t
+    → HasNoNetwork r known refusal → ⊥
+no_file r known t Refused.Memory d k n h = d refl
+no_file r known t (Refused.Line status line) d (bytes, e) n h =
+    go (subst (λ o. IsNetworkOf o t) e n) (subst (λ o. HasNoNetwork r o (Refused.Line status line)) e h)
+  where
+    go : IsNetworkIn bytes t → HasNoNetwork r (Some bytes) (Refused.Line status line) → ⊥
+    go i (inl u) = let q : Some bytes ≡ None = u.1 in absurd (cc)
+    go i (inr w) = no_network r bytes (string_bytes line) t w.1 i
+
+-- and so it is of a certificate's steps
+no_certificate : (known : Option (List ℕ)) (steps : List Step) (refusal : Refusal) → refusal ≢ Refused.Memory → IsTold known → AreStepsOf known steps
+    → HasNoSteps known refusal → ⊥
+no_certificate known steps Refused.Memory d k n h = d refl
+no_certificate known steps (Refused.Line status line) d (bytes, e) n h =
+    go (subst (λ o. AreStepsOf o steps) e n) (subst (λ o. HasNoSteps o (Refused.Line status line)) e h)
+  where
+    go : IsCertificate bytes steps → HasNoSteps (Some bytes) (Refused.Line status line) → ⊥
+    go i (inl u) = let q : Some bytes ≡ None = u.1 in absurd (cc)
+    go i (inr w) = no_certificate_fault bytes w.1.0 steps w.1.1 w.1.2 i
+
+one_of_file : (known : Option (List ℕ)) (t u : TypedNetwork) → IsTold known → IsNetworkOf known t → IsNetworkOf known u → t ≡ u
+one_of_file known t u (bytes, e) n m = one_network bytes t u (subst (λ o. IsNetworkOf o t) e n) (subst (λ o. IsNetworkOf o u) e m)
+
+same_steps : (known : Option (List ℕ)) (ss us : List Step) → IsTold known → AreStepsOf known ss → AreStepsOf known us → ss ≡ us
+same_steps known ss us (bytes, e) n m = one_certificate bytes ss us (subst (λ o. AreStepsOf o ss) e n) (subst (λ o. AreStepsOf o us) e m)
+
+tells_fault : (f : CheckFault) (refusal : Refusal) → refusal ≢ Refused.Memory → RefusesCheck f refusal → f ≢ C.Memory
+tells_fault f Refused.Memory d h = absurd (d refl)
+tells_fault f (Refused.Line status line) d h = h.0
+
+no_derivation : (told : KnownFiles) (names : DerivationNames) (t : TypedNetwork) (count : ℕ) (refusal : Refusal) → refusal ≢ Refused.Memory
+    → AreTold told (run_checked names) → IsDerivedIn told names t count → HasNoDerivation told names refusal → ⊥
+no_derivation told names t count refusal m k d (no_source h) = no_file R.Source (told names.source) d.source refusal m k.0 d.files.is_source h
+no_derivation told names t count refusal m k d (no_target source i h) = no_file R.Target (told names.target) t refusal m k.1 d.files.is_target h
+no_derivation told names t count refusal m k d (no_steps source target i j h) =
+    no_certificate (told names.certificate) d.steps refusal m k.2 d.files.are_steps h
+no_derivation told names t count refusal m k d (not_accepted source target steps files f a h) =
+    let x : source ≡ d.source = one_of_file (told names.source) source d.source k.0 files.is_source d.files.is_source in
+    let y : target ≡ t = one_of_file (told names.target) target t k.1 files.is_target d.files.is_target in
+    let z : steps ≡ d.steps = same_steps (told names.certificate) steps d.steps k.2 files.are_steps d.files.are_steps in
+    no_check_fault d.source t d.steps f (tells_fault f refusal m h) d.derives
+    (subst (λ s. CheckAnswer s t d.steps (Err f)) x (subst (λ u. CheckAnswer source u d.steps (Err f)) y
+    (subst (λ ss. CheckAnswer source target ss (Err f)) z a)))
+
+not_failed : (told : KnownFiles) (what : RequestTree) (t : TypedNetwork) (refusal : Refusal) → refusal ≢ Refused.Memory → AreTold told what
+    → Meets told what (J.Run t) → Fails told what refusal → ⊥
+not_failed told (types name) t refusal m k n f = n
+not_failed told (run name) t refusal m k n f = no_file R.Network (told name) t refusal m k n f
+not_failed told (checks names) t refusal m k n f = n
+not_failed told (run_checked names) t refusal m k n f = no_derivation told names t n.count refusal m k n.derived f
+
+nothing_asked : (words : List (List ℕ)) (what : RequestTree) → request_in words ≡ Some what → AsksNothing words → ⊥
+unfolding AsksNothing
+nothing_asked words what e h = let q : request_in words ≡ None = h.0 in absurd (cc)
+
+pub only_memory : OnlyMemoryLaw
+only_memory told words what t Refused.Memory asks known n h = refl
+only_memory told words what t (Refused.Line status line) asks known n (inl h) = absurd (nothing_asked words what asks h.1)
+only_memory told words what t (Refused.Line status line) asks known n (inr h) =
+    let again : request_in words ≡ Some h.what = h.asks in
+    let same : h.what ≡ what = cc in
+    let fails : Fails told what (Refused.Line status line) = subst (λ w. Fails told w (Refused.Line status line)) same h.fails in
+    absurd (not_failed told what t (Refused.Line status line) (λ q. cc) known n fails)

@@ -73,7 +73,7 @@ spelled-append (v ∷ vs) ws = ap (λ ls. spelling v ++ (10 ∷ ls)) (spelled-ap
     ∙ sym (append_assoc (spelling v) (10 ∷ spelled_lines vs) (spelled_lines ws))
 
 -- what comes later leaves the lines so far
-later_lines : (net : Network Expression) (p later : TimedList)
+pub later_lines : (net : Network Expression) (p later : TimedList)
     → (vs : List Datum) × (spelled_lines (stream_of net p) ++ spelled_lines vs ≡ spelled_lines (stream_of net (p ++ later)))
 later_lines net p later =
     let all : List Datum = stream_of net (p ++ later) in
@@ -156,7 +156,7 @@ ends A net has has' has'' holds holds' s s' r lines most g a =
       visited = g.visited ∙ ap (λ k. most_visits_of net k.taken) (sym h.all);
     }
 
-map_holds : (end : Type 0) (read : List ℕ) (P Q : List ℕ → Type 0) → ((text : List ℕ) → P text → Q text) → HoldsOfText end read P → HoldsOfText end read Q
+pub map_holds : (end : Type 0) (read : List ℕ) (P Q : List ℕ → Type 0) → ((text : List ℕ) → P text → Q text) → HoldsOfText end read P → HoldsOfText end read Q
 map_holds end read P Q f (inl h) = inl (h.0, f read h.1)
 map_holds end read P Q f (inr h) = inr (λ more. f (read ++ more) (h more))
 

@@ -6,4 +6,5 @@ pub mod KnownFiles
 pub mod RefusalLines
 pub mod Preparation
 pub mod Headline
-pub mod CheckedRun
+pub mod NetworkRun
+pub mod WholeRun

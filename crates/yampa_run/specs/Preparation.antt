@@ -226,6 +226,25 @@ IsRefusal told words (Refused.Line status line) = ((status ≡ 2) × AsksNothing
     ⊎ FailsWords told words (Refused.Line status line)
 IsRefusal told words Refused.Memory = ⊤
 
+-- the bytes of a file are told
+abbrev pub IsTold : Option (List ℕ) → Type 0
+IsTold told = (bytes : List ℕ) × (told ≡ Some bytes)
+
+-- the bytes of the files that are asked about are told
+abbrev pub AreTold : KnownFiles → RequestTree → Type 0
+AreTold told (types name) = IsTold (told name)
+AreTold told (run name) = IsTold (told name)
+AreTold told (checks names) = IsTold (told names.source) × IsTold (told names.target)
+    × IsTold (told names.certificate)
+AreTold told (run_checked names) = IsTold (told names.source) × IsTold (told names.target)
+    × IsTold (told names.certificate)
+
+-- where the files' bytes are told and there is a network to run, memory alone is a reason to refuse
+abbrev pub OnlyMemoryLaw : Type 0
+OnlyMemoryLaw = (told : KnownFiles) (words : List (List ℕ)) (what : RequestTree)
+    (t : TypedNetwork) (refusal : Refusal) → request_in words ≡ Some what → AreTold told what
+    → Meets told what (J.Run t) → IsRefusal told words refusal → refusal ≡ Refused.Memory
+
 -- a refusal for a table that takes no more: its line with status 1 where it is full, or memory was
 -- short
 abbrev pub RefusesTable : TableFault → Refusal → Type 0

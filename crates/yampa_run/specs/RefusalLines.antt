@@ -1,5 +1,5 @@
--- What the program prints of a file that is refused.
-use Rattle.std.specs.Prelude.{ℕ, List, ◌++◌, codes}
+-- What the program prints of a file that is refused, and of any refusal.
+use Rattle.std.specs.Prelude.{ℕ, List, ◌++◌, codes, string_bytes}
 use Rattle.std.specs.Fmt.{decimal}
 use Rattle.leaf_core.specs.declared.typing.ExprFault.{ExprFault}
 use Rattle.leaf_core.specs.declared.typing.ExprFault.TheVariants as X
@@ -10,6 +10,8 @@ use Rattle.net_types.specs.declared.fault.TypeFault.{TypeFault}
 use Rattle.net_types.specs.declared.fault.TypeFault.TheVariants as T
 use Rattle.cert_check.specs.declared.answer.CheckFault.{CheckFault}
 use Rattle.cert_check.specs.declared.answer.CheckFault.TheVariants as C
+use Rattle.yampa_run.specs.declared.preparation.Refusal.{Refusal}
+use Rattle.yampa_run.specs.declared.preparation.Refusal.TheVariants as Refused
 use Rattle.yampa_run.specs.declared.refused.Role.{Role}
 use Rattle.yampa_run.specs.declared.refused.Role.TheVariants as R
 
@@ -78,3 +80,13 @@ check_words (C.NoMatch n) = step_words (codes "no match") n
 check_words (C.IllTyped n) = step_words (codes "ill typed") n
 check_words C.EndsElsewhere = line_on R.Certificate (codes "ends elsewhere")
 check_words C.Memory = codes "memory"
+
+-- the exit status of a refusal: its own, or 3 where memory was short
+abbrev pub refusal_status : Refusal → ℕ
+refusal_status (Refused.Line status line) = status
+refusal_status Refused.Memory = 3
+
+-- the line on standard error of a refusal, without its line feed
+abbrev pub refusal_line : Refusal → List ℕ
+refusal_line (Refused.Line status line) = string_bytes line
+refusal_line Refused.Memory = codes "memory"

@@ -1,18 +1,23 @@
-// Laws of the definitions: what the refusal of a file says, and that a derived network writes the
-// same.
+// Laws of the definitions: what the refusal of a file says, that a derived network writes the same,
+// and the whole way of a command.
 
-ghost use Rattle.yampa_run.specs.Preparation.{OneRefusalLaw, NoNetworkLaw};
-ghost use Rattle.yampa_run.specs.CheckedRun.{CheckedRunLaw};
+ghost use Rattle.yampa_run.specs.Preparation.{NoNetworkLaw, OneRefusalLaw, OnlyMemoryLaw};
 ghost use Rattle.yampa_run.specs.Headline.{SameOutputLaw, SameFrontLaw, WritesOutputLaw, HeadlineLaw};
+ghost use Rattle.yampa_run.specs.WholeRun.{WholeRunLaw};
 
 use cert_check::derivation_laws;
 use net_syntax::typing_laws;
 use sample_core::reading_laws;
+use stream_text::stream_laws;
 
-/// The bytes of a file are refused with one line, and bytes that have a network with none.
+/// The bytes of a file are refused with one line, and bytes that have a network with none. So a run
+/// that is asked for is refused, but for lack of memory, only where there is no network to run: where
+/// the file's bytes have none, or those of three files are no source, target and certificate whose
+/// steps derive the target.
 pub fn refusal_laws()
     ensures one_line { OneRefusalLaw }
     ensures no_network { NoNetworkLaw }
+    ensures only_memory { OnlyMemoryLaw }
 {}
 
 /// Where steps derive a network from another, both have the same output on every text. So a run of
@@ -29,12 +34,15 @@ pub fn headline_laws()
     derivation_laws();
 }
 
-/// Where the bytes of three files are those of a source, a target and a certificate that leads from
-/// one to the other, an unhindered run of the target writes exactly the output of the source.
-pub fn checked_run_laws()
-    ensures checked { CheckedRunLaw }
+/// Where the words ask for a run of a network file, or of a target whose certificate is to be
+/// checked, and the bytes of the files that they name are told: what is written of any text is the
+/// output of the file's network, or of the source, all of it with status 0, or with status 1 and the
+/// line of the text's first fault, and a part from the front with status 3.
+pub fn whole_run_laws()
+    ensures whole { WholeRunLaw }
 {
     reading_laws();
+    stream_laws();
     derivation_laws();
     typing_laws();
 }

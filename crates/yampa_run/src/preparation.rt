@@ -2,6 +2,7 @@
 
 ghost use Rattle.std.specs.Prelude.{◌≡◌, ◌++◌, ℕ, List, Err, IfErr, IfOk, OnOk, Some, map, string_bytes};
 ghost use Rattle.command_line.specs.CommandLine.{ReadsWords, request_view};
+ghost use Rattle.yampa_run.specs.RefusalLines.{refusal_line, refusal_status};
 ghost use Rattle.yampa_run.specs.Preparation.{Fails, HasNoNetwork, IsRequested, IsNetworkIn, IsNetworkOf, IsRefusal, Meets, RefusesText, RefusesTypes, TellsTypes, KnownFiles, arrow_line, size_lines, types_lines};
 
 use crate::certificate::{accepted, derived};
@@ -24,13 +25,35 @@ pub enum Job {
     Run(TypedNet),
 }
 
-/// Why nothing is to be done.
+/// Why nothing is to be done, or a run stopped before the end of its stream.
 #[derive(Drop)]
 pub enum Refusal {
     /// The exit status, and the line that says why, without its line feed.
     Line { status: u8, line: String },
     /// A growth was refused.
     Memory,
+}
+
+impl Refusal {
+    /// The exit status: 3 where memory was short.
+    pub fn status(&self) -> u8
+        ensures { result ≡ refusal_status self.now }
+    {
+        match self {
+            Refusal::Line { status, .. } => *status,
+            Refusal::Memory => 3,
+        }
+    }
+
+    /// The line that says why, without its line feed.
+    pub fn line(&self) -> &str
+        ensures { result.now ≡ refusal_line self.now }
+    {
+        match self {
+            Refusal::Line { line, .. } => line.as_str(),
+            Refusal::Memory => "memory",
+        }
+    }
 }
 
 impl From<Memory> for Refusal {
