@@ -15,7 +15,7 @@ use std::alloc::Global;
 /// The most steps that the optimiser takes.
 pub const MOST_STEPS: usize = 1_000;
 
-/// The network made faster by laws alone, with the steps that lead from the source to it. Each is
+/// What laws alone make of the source, meant to be faster, with the steps that lead there. Each is
 /// forward and by one of the laws that the optimiser tries. There are at most 1,000; where there are
 /// fewer, no such step, at any position of the network, would be accepted. `Memory` where a growth
 /// was refused.
