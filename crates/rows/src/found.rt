@@ -13,7 +13,7 @@ use crate::networks::file_told;
 use crate::piecewise::failing_told;
 use crate::places::{place_told, replaced_told, rewritten_told};
 use crate::reading::{expr_at_told, expr_told, type_at_told};
-use crate::runs::{missing_told, run_told, scantly_told, visited_told};
+use crate::runs::{missing_told, run_told, scantly_told, visited_told, whole_run_told};
 use crate::scant_memory::scant_told;
 use crate::scant_networks::scant_network_told;
 use crate::scant_runs::scant_run_told;
@@ -74,7 +74,9 @@ pub enum Probe {
     Command,
     /// What a network's run on a stream writes: `FILE | STREAM`.
     Run,
-    /// The same where a device fails: `FILE | FAILURE | STREAM`.
+    /// The same where binding and running are one call: `FILE | STREAM`.
+    WholeRun,
+    /// What is written where a device fails: `FILE | FAILURE | STREAM`.
     Failing,
     /// How many nodes each sample visits: `FILE | STREAM`.
     Visits,
@@ -153,6 +155,7 @@ fn tell(alloc: Global, probe: Probe, given: &str, out: &mut String) {
         Probe::Part => part_told(alloc, given, out),
         Probe::Command => command_told(alloc, given, out),
         Probe::Run => run_told(alloc, given, out),
+        Probe::WholeRun => whole_run_told(alloc, given, out),
         Probe::Failing => failing_told(alloc, given, out),
         Probe::Visits => visited_told(alloc, given, out),
         Probe::Missing => missing_told(alloc, given, out),

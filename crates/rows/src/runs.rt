@@ -6,6 +6,7 @@ ghost use Rattle.step_core.specs.Binding.{FitsTable};
 ghost use Rattle.yampa_run.specs.FaultLines.{EndsRun};
 
 use crate::commands::{refusal_told, status_told};
+use crate::devices::Pieces;
 use crate::found::{Probe, all_are_found};
 use crate::piecewise::{failure_tried, written_told};
 use crate::scant_pushes::scant_stream_told;
@@ -19,11 +20,13 @@ use net_types::check_types;
 use sample_core::{Memory, Sample};
 use std::alloc::Global;
 use step_core::{BindFault, Bound, bind};
-use yampa_run::{RunFault, RunReport, fault_line, fill_table, table_refusal};
+use yampa_run::{Counted, RunFault, RunReport, fault_line, fill_table, run_network, table_refusal};
 
-/// What is tried of a network that is bound to a table of its closures.
+/// What is tried of a network over a table of its closures.
 #[derive(Clone, Copy)]
 pub enum Trial<'a> {
+    /// What binding and running it on this stream in one call writes.
+    Whole(&'a str),
     /// What its run on this stream writes.
     Run(&'a str),
     /// What its run on a stream writes where a device fails: the failure, and the stream.
@@ -43,6 +46,13 @@ pub enum Trial<'a> {
 pub fn run_told(alloc: Global, given: &str, out: &mut String) {
     let (file, stream) = parted(given);
     file_told(alloc, file, Trial::Run(stream), out);
+}
+
+/// Tells what binding and running the network in one call writes, `FILE | STREAM`, and behind it,
+/// where that ends early, the exit status and the line that tells why.
+pub fn whole_run_told(alloc: Global, given: &str, out: &mut String) {
+    let (file, stream) = parted(given);
+    file_told(alloc, file, Trial::Whole(stream), out);
 }
 
 /// Tells how many nodes of the network each sample of the stream visits, `FILE | STREAM`.
@@ -100,7 +110,7 @@ fn filled_told(
     let mut table = LeafTable::new(alloc);
     let filled = fill_table!(alloc, table, needs);
     match filled {
-        Ok(()) => bound_told(alloc, net, &table, trial, out),
+        Ok(()) => stored_told(alloc, net, &table, trial, out),
         Err(fault) => table_refused(alloc, fault, out),
     }
     drop(table);
@@ -110,6 +120,33 @@ fn table_refused(alloc: Global, fault: TableFault, out: &mut String) {
     let refusal = table_refusal(alloc, fault);
     refusal_told(&refusal, out);
     drop(refusal);
+}
+
+/// Tells what the trial of the network finds over the table.
+fn stored_told(
+    alloc: Global,
+    net: &TypedNet,
+    table: &LeafTable,
+    trial: Trial<'_>,
+    out: &mut String,
+) {
+    match trial {
+        Trial::Whole(stream) => whole_told(alloc, net, table, stream, out),
+        trial => bound_told(alloc, net, table, trial, out),
+    }
+}
+
+/// Tells what binding the network to the table and running it writes, and why that ends early.
+fn whole_told(alloc: Global, net: &TypedNet, table: &LeafTable, stream: &str, out: &mut String) {
+    let mut reader = Counted::new(Pieces::new(stream.as_bytes(), 4_096, 0));
+    let mut writer = Counted::new(Vec::new(alloc));
+    let ended = run_network(alloc, net, table, &mut reader, &mut writer);
+    let written = writer.into_inner();
+    say(out, str::from_utf8(&written).unwrap_or("no text"));
+    if let Err(refusal) = &ended {
+        refusal_told(refusal, out);
+    }
+    drop(ended);
 }
 
 /// Tells what the trial of the network finds, bound to the table, or which expression has no row.
@@ -150,7 +187,7 @@ fn tried(alloc: Global, bound: &Bound, table: &LeafTable, trial: Trial<'_>, out:
         Trial::Visits(stream) => visits_told(alloc, bound, table, stream, out),
         Trial::ScantStream(stream) => scant_stream_told(alloc, bound, table, stream, out),
         Trial::Call(need, x) => row_told(table, need, x, out),
-        Trial::Rows => say(out, "a row for each"),
+        Trial::Whole(_) | Trial::Rows => say(out, "a row for each"),
     }
 }
 
@@ -172,7 +209,8 @@ fn failure_told(alloc: Global, fault: &RunFault, out: &mut String)
     }
 }
 
-/// Tells the position of the first expression of the network that has no row in an empty table.
+/// Tells the position of the first expression of the network that has no row in an empty table, and
+/// what a run over that table tells.
 pub fn missing_told(alloc: Global, text: &str, out: &mut String) {
     match network(alloc, text) {
         Some(net) => unfilled_told(alloc, &net, out),
@@ -183,6 +221,8 @@ pub fn missing_told(alloc: Global, text: &str, out: &mut String) {
 fn unfilled_told(alloc: Global, net: &TypedNet, out: &mut String) {
     let table = LeafTable::new(alloc);
     bound_told(alloc, net, &table, Trial::Rows, out);
+    say(out, " ");
+    whole_told(alloc, net, &table, "5", out);
     drop(table);
 }
 
@@ -255,11 +295,20 @@ yampa 1 input Int (kSwitch time (arr (event unit)) {200*(kSwitch (old 0) (arr (e
 /// Networks, and where the first expression without a row stands.
 static MISSING: &str = "
 § The first expression without a row.
-‹increment› => (at 0 0)
+‹increment› => (at 0 0) status 3 no row
+";
+
+/// Networks, streams, and all that is written where binding and running are one call.
+static WHOLE_RUNS: &str = "
+§ To the end, to the first faulty line, and on no sample.
+‹increment› | 5␤+1 6␤+1 7 => 0␤6␤7␤
+‹increment› | 5␤+1 6␤+0 7 => 0␤6␤status 1 stream: line 3: step
+‹increment› |  =>
 ";
 
 #[test]
 fn runs_go_as_worked_out(rt: HostRuntime) {
     all_are_found(&rt, rt.alloc(), Probe::Run, RUNS);
+    all_are_found(&rt, rt.alloc(), Probe::WholeRun, WHOLE_RUNS);
     all_are_found(&rt, rt.alloc(), Probe::Missing, MISSING);
 }
