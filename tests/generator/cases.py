@@ -1,0 +1,220 @@
+"""The cases: what is made of a random number, and which laws the program is held to."""
+import random
+
+from generator.breaking import Breaker
+from generator.holding import Command, Find
+from generator.making import Maker
+from generator.meaning import TooSlow
+from generator.steps import StepMaker, reversed_steps, turned
+from generator.texts import LAWS, Step, certificate_text, network_text
+from generator.trees import expanded, head, is_network, preorder, replaced
+from generator.typed import TypeFault, check_types
+
+
+class Case:
+    """One case: all that is random in it comes from the seed and the case's number."""
+
+    def __init__(self, program, seed, number):
+        self.program, self.tally = program, program.tally
+        self.rng = random.Random(f"{seed} {number}")
+        self.maker, self.breaker = Maker(self.rng), Breaker(self.rng)
+        self.steps = StepMaker(self.maker)
+        self.number = number
+
+    def run(self):
+        kinds = [kind for kind in KINDS if kind != "optimised" or self.program.optimises]
+        kind = kinds[self.number % len(kinds)]
+        self.tally["case", kind] += 1
+        getattr(self, kind)()
+
+    # ---- parts
+
+    def network(self, size=None):
+        """A typed network, as it was made and in core forms."""
+        given, output = self.maker.type(), self.maker.type()
+        if size is None:
+            size = self.rng.choice([1, 3, 5, 7, 9])
+        made = self.maker.network(given, output, size=size)
+        core = expanded(made)
+        self.count(made, core, given)
+        return made, check_types(given, core)
+
+    def count(self, made, core, given):
+        """Tells the tally which forms, sugar and types are there."""
+        for word in words_of(made):
+            if word in SUGAR:
+                self.tally["sugar", word] += 1
+        for _, tree in preorder(core):
+            self.tally["forms" if is_network(tree) else "expressions", head(tree)] += 1
+        self.tally["input types", head(given)] += 1
+
+    def hold(self, command, *files, stream=b"", pieces=()):
+        return self.program.hold(Command(command, list(files), stream, list(pieces)))
+
+    def stream(self, typed):
+        """A stream of the network's input type, of which one in five has a faulty line."""
+        lines = self.maker.stream(typed.input)
+        if lines and self.maker.chance(0.2):
+            at = self.rng.randrange(len(lines))
+            lines[at] = self.breaker.broken(lines[at])
+        return b"".join(lines)
+
+    def pieces(self, stream):
+        """The stream in pieces."""
+        cuts = sorted({0, len(stream), *[self.rng.randint(0, len(stream)) for _ in range(self.rng.randint(1, 6))]})
+        return [stream[a:b] for a, b in zip(cuts, cuts[1:])] or [b""]
+
+    # ---- kinds of cases
+
+    def ran(self):
+        """Types and runs of one network: spelt otherwise, in pieces, and on the front of its stream."""
+        made, typed = self.network()
+        core = typed.places[()].tree
+        text, plain = self.maker.spaced(network_text(typed.input, made)), network_text(typed.input, core).encode()
+        self.hold("types", text)
+        self.hold("types", plain)
+        stream = self.stream(typed)
+        whole = self.hold("run", text, stream=stream)
+        other = self.hold("run", plain, stream=stream, pieces=self.pieces(stream))
+        lines = stream.split(b"\n")
+        front = b"".join(line + b"\n" for line in lines[: self.rng.randrange(len(lines))])
+        part = self.hold("run", text, stream=front)
+        if whole and not (whole == other and whole.output.startswith(part.output)):
+            raise Find(Command("run", [text], stream), "a front of the stream, or pieces of it, give other lines", whole, part)
+
+    def certified(self):
+        """A law at a random place, in both directions, and a row of steps from there, and back."""
+        _, typed = self.network(self.rng.choice([0, 2, 4, 6]))
+        law = LAWS[self.number // len(KINDS) % len(LAWS)]
+        source, position = self.steps.with_left_side(typed, law)
+        steps, typeds = self.steps.walk(source, 0)
+        step = Step(law, "forward", position)
+        target = self.steps.behind(source, step)
+        if target is None:
+            raise AssertionError(f"no left side of {law}: {source.places[()].tree}")
+        steps, typeds = self.steps.walk(target, self.rng.choice([0, 0, 1, 2, 5]))
+        steps, typeds = [step, *steps], [source, *typeds]
+        if self.maker.chance(0.5):
+            steps, typeds = reversed_steps(steps, typeds), typeds[::-1]
+        self.hold_steps(steps, typeds)
+
+    def hold_steps(self, steps, typeds):
+        files = [text_of(typeds[0]), text_of(typeds[-1]), certificate_text(steps).encode()]
+        self.accepted(self.hold("check", *files), files, len(steps))
+        for step in steps:
+            self.tally[f"laws {step.direction}", step.law] += 1
+        self.same(files, self.stream(typeds[0]))
+        self.refused(files, steps, typeds)
+
+    def accepted(self, told, files, count):
+        if told.output != f"accepted {count}\n".encode():
+            raise Find(Command("check", files), "steps that can be taken are refused", told)
+
+    def same(self, files, stream):
+        """Source, target and the checked target write the same bytes."""
+        told = [self.program.run(Command("run", [file], stream)) for file in files[:2]]
+        told.append(self.program.run(Command("run-checked", files, stream, self.pieces(stream))))
+        if not told[0] == told[1] == told[2]:
+            raise Find(Command("run-checked", files, stream), "source and target write other bytes", told[1], told[0])
+        self.hold("run", files[0], stream=stream)
+
+    def refused(self, files, steps, typeds):
+        """A certificate with a step changed, or a target with a part changed."""
+        source, target, certificate = files
+        if self.maker.chance(0.3):
+            net = self.breaker.tree(typeds[-1].places[()].tree, self.maker)
+            target = network_text(typeds[-1].input, expanded(net)).encode()
+        else:
+            certificate = certificate_text(self.changed(steps)).encode()
+        command = self.rng.choice(["check", "check", "run-checked"])
+        told = self.hold(command, source, target, certificate, stream=self.stream(typeds[0]))
+        if told and told.output.startswith(b"accepted"):
+            self.same([source, target, certificate], self.stream(typeds[0]))
+
+    def changed(self, steps):
+        """The steps with one of them changed, left out, doubled or moved."""
+        at = self.rng.randrange(len(steps))
+        step, other = steps[at], self.rng.choice(steps)
+        law = self.rng.choice([law for law in LAWS if law[0] == step.law[0]])
+        position = self.rng.choice([step.position[:-1], (*step.position, self.rng.randint(0, 2)), other.position])
+        turned_round = "backward" if step.direction == "forward" else "forward"
+        ways = [
+            [],
+            [step, step],
+            [Step(law, step.direction, step.position, step.given)],
+            [Step(step.law, turned_round, step.position, step.given)],
+            [Step(step.law, step.direction, position, step.given)],
+            [Step(step.law, step.direction, step.position, None if step.given is not None else self.some_tree(step.law))],
+        ]
+        if step.given is not None:
+            given = self.breaker.tree(step.given, self.maker)
+            ways += [[Step(step.law, step.direction, step.position, expanded(given))]] * 3
+        return steps[:at] + self.rng.choice(ways) + steps[at + 1 :]
+
+    def some_tree(self, law):
+        return "time" if law[0] == "L" else "x"
+
+    def optimised(self):
+        """The optimiser's network, given again, and its certificate."""
+        made, typed = self.network(self.rng.choice([2, 4, 6]))
+        if self.maker.chance(0.7):
+            typed, _ = self.steps.with_left_side(typed, self.rng.choice(LAWS))
+            made = typed.places[()].tree
+        text = self.maker.spaced(network_text(typed.input, made))
+        net = self.hold("optimise", text).output
+        certificate = self.hold("optimise --certificate", text).output
+        types = self.hold("types", net).output.split(b"\n")[0]
+        if types != self.hold("types", text).output.split(b"\n")[0]:
+            raise Find(Command("optimise", [text]), "what is printed has other types", net, text)
+        count = certificate.count(b"(step ")
+        self.accepted(self.hold("check", text, net, certificate), [text, net, certificate], count)
+        if count < 1_000 and self.hold("optimise", net).output != net:
+            raise Find(Command("optimise", [text]), "what is printed can be bettered", net)
+        self.same([text, net, certificate], self.stream(typed))
+
+    def ill_typed(self):
+        """Networks with a part that may not fit."""
+        _, typed = self.network()
+        for _ in range(4):
+            net = self.breaker.tree(typed.places[()].tree, self.maker)
+            given = typed.input if self.maker.chance(0.9) else self.maker.type()
+            self.hold("types", network_text(given, net).encode())
+
+    def hostile(self):
+        """Files and streams whose bytes were changed."""
+        made, typed = self.network(self.rng.choice([0, 2, 4]))
+        text = self.maker.spaced(network_text(typed.input, made))
+        self.hold("types", self.breaker.broken(text))
+        self.hold("run", text, stream=self.breaker.broken(self.stream(typed)))
+        self.hold(self.rng.choice(["run", "types"]), self.breaker.broken(text), stream=self.stream(typed))
+        steps, typeds = self.steps.walk(typed, 3)
+        files = [text_of(typeds[0]), text_of(typeds[-1]), self.maker.spaced(certificate_text(steps))]
+        at = self.rng.choice([0, 1, 2, 2, 2, 2])
+        files[at] = self.breaker.broken(files[at])
+        self.hold(self.rng.choice(["check", "run-checked"]), *files, stream=self.stream(typed))
+        if self.maker.chance(0.1):
+            self.large(text, files)
+
+    def large(self, text, files):
+        """Texts of hostile sizes."""
+        beginning = self.rng.choice([b"", b"yampa 1 input ", b"yampa 1 input Int ", b"yampa 1 input Int (arr ", text])
+        self.hold("types", self.breaker.large(beginning))
+        beginning = self.rng.choice([b"", b"laws 1 ", b"laws 1 (step L4 backward (at) ", b"laws 1 (step E1 backward (at", files[2]])
+        self.hold("check", text, text, self.breaker.large(beginning))
+        stream = self.breaker.large(self.rng.choice([b"", b"5\n+1 ", b"(list ", b"5\n+"]))
+        self.hold("run", b"yampa 1 input " + self.rng.choice([b"Int", b"(List Int)"]) + b" identity", stream=stream)
+
+
+SUGAR = "constant second *** &&& never now edge identity accumHoldBy lMerge gate tag attach".split()
+KINDS = ["ran", "certified", "hostile", "ran", "certified", "optimised", "ill_typed", "certified"]
+
+
+def words_of(tree):
+    """All words of a tree."""
+    if not isinstance(tree, tuple):
+        return [tree]
+    return [word for part in tree for word in words_of(part)]
+
+
+def text_of(typed):
+    return network_text(typed.input, typed.places[()].tree).encode()

@@ -1,0 +1,223 @@
+"""What the program must tell of files and a stream by the model, and whether it does."""
+import os
+import signal
+import subprocess
+import tempfile
+import time
+from collections import Counter
+from dataclasses import dataclass, field
+from pathlib import Path
+
+from generator.laws import StepFault, checked, optimised
+from generator.meaning import Environment, Model, TooSlow
+from generator.texts import TextFault, certificate_text, network_text, read_certificate, read_network, read_stream
+from generator.trees import shown
+from generator.typed import TypeFault, check_types
+
+ROLES = {
+    "types": ["network"],
+    "run": ["network"],
+    "optimise": ["network"],
+    "optimise --certificate": ["network"],
+    "check": ["source", "target", "certificate"],
+    "run-checked": ["source", "target", "certificate"],
+}
+WALL_SECONDS = 60
+PROCESSOR_SECONDS = 1.0
+
+
+@dataclass
+class Told:
+    """What a command prints, and its exit status; a negative one is the signal that ended it."""
+
+    output: bytes = b""
+    error: bytes = b""
+    status: int = 0
+
+
+@dataclass
+class Command:
+    """A command on files, each given by its bytes, and a stream; the stream is fed in pieces where there are some."""
+
+    command: str
+    files: list
+    stream: bytes = b""
+    pieces: list = field(default_factory=list)
+
+
+class Find(Exception):
+    """The program tells something else than it must."""
+
+    def __init__(self, command, why, told, wanted=None):
+        super().__init__(why)
+        self.command, self.why, self.told, self.wanted = command, why, told, wanted
+
+
+class Refused(Exception):
+    """A fault line."""
+
+
+# ---- what is wanted
+
+
+def wanted_of(command, tally):
+    """What the model says of a command, or TooSlow."""
+    try:
+        files = read_files(command)
+        return printed(command, files, tally)
+    except Refused as fault:
+        tally["fault", fault_kind(str(fault))] += 1
+        return Told(b"", f"{fault}\n".encode(), 1)
+
+
+def fault_kind(line):
+    """A fault line without its places."""
+    words = [word for word in line.replace("(", " ").replace(")", " ").replace(":", ": ").split() if not word.isdigit()]
+    return " ".join(words).replace("source:", "network:").replace("target:", "network:")
+
+
+def read_files(command):
+    """What the files hold, each with its text before its types."""
+    found = []
+    for role, text in zip(ROLES[command.command], command.files):
+        try:
+            if role == "certificate":
+                found.append(read_certificate(text))
+            else:
+                found.append(check_types(*read_network(text)))
+        except (TextFault, TypeFault) as fault:
+            raise Refused(f"{role}: {fault}") from None
+    return found
+
+
+def printed(command, files, tally):
+    word = command.command
+    if word == "types":
+        net = files[0]
+        lines = f"{shown(net.input)} -> {shown(net.output)}\nweight {net.weight}\nheight {net.height}\n"
+        return Told(lines.encode())
+    if word.startswith("optimise"):
+        net, steps = optimised(files[0])
+        tally["counts", "steps of the optimiser"] += len(steps)
+        for step in steps:
+            tally["laws of the optimiser", step.law] += 1
+        text = certificate_text(steps) if word.endswith("--certificate") else network_text(net.input, net.places[()].tree)
+        return Told(text.encode())
+    if word == "run":
+        return ran(files[0], command.stream, tally)
+    try:
+        count = checked(*files)
+    except StepFault as fault:
+        raise Refused(f"certificate: {fault}") from None
+    return Told(f"accepted {count}\n".encode()) if word == "check" else ran(files[1], command.stream, tally)
+
+
+def ran(net, stream, tally):
+    samples, fault = read_stream(stream, net.input)
+    model = Model()
+    values = model.outputs(net.places[()].tree, Environment(), samples)
+    for word, count in model.fired.items():
+        tally["fired", word] += count
+    tally["counts", "samples"] += len(samples)
+    output = "".join(shown(value) + "\n" for value in values).encode()
+    if not fault:
+        return Told(output)
+    tally["fault", fault_kind(f"stream: {fault}")] += 1
+    return Told(output, f"stream: {fault}\n".encode(), 1)
+
+
+# ---- what is told
+
+
+class Program:
+    """The program, run in a folder of its own; it keeps a tally of what was met."""
+
+    def __init__(self, path, folder=None):
+        self.path = Path(path).resolve()
+        self.folder = Path(folder or tempfile.mkdtemp(prefix="generated-"))
+        self.tally = Counter()
+
+    def run(self, command):
+        names = []
+        for number, text in enumerate(command.files):
+            names.append(f"file{number}")
+            if text is not None:
+                (self.folder / names[-1]).write_bytes(text)
+        word, *flags = command.command.split()
+        return self.start([word, *flags, *names], command)
+
+    def start(self, words, command):
+        """Starts the program once; what it prints goes to files, so that it never waits for its reader."""
+        self.tally["counts", "starts"] += 1
+        paths = [self.folder / name for name in ("output", "error", "stream")]
+        paths[2].write_bytes(command.stream)
+        with open(paths[0], "wb") as output, open(paths[1], "wb") as error, open(paths[2], "rb") as stream:
+            source = subprocess.PIPE if command.pieces else stream
+            child = subprocess.Popen([self.path, *words], stdin=source, stdout=output, stderr=error, cwd=self.folder)
+            if command.pieces:
+                feed(child.stdin, command.pieces)
+            status, seconds = ended(child)
+        told = Told(paths[0].read_bytes(), paths[1].read_bytes(), status)
+        self.judge(command, told, seconds)
+        return told
+
+    def judge(self, command, told, seconds):
+        """What holds of every run, whatever the files and the stream."""
+        self.tally["status", told.status] += 1
+        if told.status not in (0, 1, 2, 3):
+            raise Find(command, f"ended by a signal or with status {told.status}", told)
+        if seconds > PROCESSOR_SECONDS:
+            raise Find(command, f"took {seconds:.2f} seconds of a processor", told)
+        if told.status in (1, 3) and told.error.count(b"\n") != 1 or bool(told.status) != bool(told.error):
+            raise Find(command, "no one line on standard error", told)
+
+    def hold(self, command):
+        """Runs a command and holds it to the model. None where the model is too slow for it."""
+        told = self.run(command)
+        try:
+            wanted = wanted_of(command, self.tally)
+        except TooSlow:
+            self.tally["counts", "too slow for the model"] += 1
+            return None
+        if told != wanted:
+            raise Find(command, "the model says something else", told, wanted)
+        self.tally["command", command.command] += 1
+        return told
+
+
+def feed(pipe, pieces):
+    """Writes the pieces one by one, with a rest between some."""
+    try:
+        for number, piece in enumerate(pieces):
+            pipe.write(piece)
+            pipe.flush()
+            if number < 8:
+                time.sleep(0.001)
+        pipe.close()
+    except BrokenPipeError:
+        pass
+
+
+def ended(child):
+    """The status of a child that has ended, and the seconds of a processor that it took."""
+    signal.alarm(WALL_SECONDS)
+    try:
+        _, status, usage = os.wait4(child.pid, 0)
+    except Overdue:
+        child.kill()
+        _, status, usage = os.wait4(child.pid, 0)
+    finally:
+        signal.alarm(0)
+    child.returncode = os.waitstatus_to_exitcode(status)
+    return child.returncode, usage.ru_utime + usage.ru_stime
+
+
+class Overdue(Exception):
+    """A child doesn't end."""
+
+
+def overdue(_number, _frame):
+    raise Overdue
+
+
+signal.signal(signal.SIGALRM, overdue)

@@ -1,0 +1,312 @@
+"""The laws, from left to right; what a step of a certificate makes; what the optimiser takes."""
+from generator.meaning import STRICT
+from generator.texts import Step
+from generator.trees import SWAP, at, head, is_literal, is_network, preorder, replaced
+from generator.typed import TypeFault, check_types
+
+ASSOC = ("pair", ("fst", ("fst", "x")), ("pair", ("snd", ("fst", "x")), ("snd", "x")))
+UNASSOC = ("pair", ("pair", ("fst", "x"), ("fst", ("snd", "x"))), ("snd", ("snd", "x")))
+REGROUPED = ("pair", ("pair", ("fst", ("fst", "x")), ("snd", "x")), ("snd", ("fst", "x")))
+
+DISTRIBUTED = "pair fst snd neg add sub mul less equal not and or if event nth len list".split()
+FOLDED = "neg add sub mul less equal not and or".split()
+MEMBERS = 64
+
+
+def left(g):
+    return ("pair", ("then", ("fst", "x"), g), ("snd", "x"))
+
+
+def right(g):
+    return ("pair", ("fst", "x"), ("then", ("snd", "x"), g))
+
+
+def mapped(g, carried):
+    return ("on", "x", ("none", carried), ("event", ("then", ("snd", "x"), g)))
+
+
+def seq(f, g):
+    return (">>>", f, g)
+
+
+def arr(e):
+    return ("arr", e)
+
+
+def forward(law, tree, olds):
+    """The right side of the law where the tree is a left side with so many frozen networks in scope; else None."""
+    if law[0] == "E":
+        return None if is_network(tree) else of_expressions(law, tree)
+    if law in ("L38", "L39", "L40", "L41", "L42"):
+        return of_members(law, tree, olds)
+    return of_switches(law, tree) if law in SWITCH_LAWS else of_networks(law, tree)
+
+
+# ---- laws of expressions
+
+
+def of_expressions(law, tree):
+    match law, tree:
+        case "E1", ("then", "x", f):
+            return f
+        case "E2", ("then", f, "x"):
+            return f
+        case "E3", ("then", ("then", f, g), h):
+            return ("then", f, ("then", g, h))
+        case "E4", ("then", f, (o, *parts)) if o in DISTRIBUTED:
+            return distributed(f, o, parts)
+        case "E5", ("then", f, ("on", g, d, b)):
+            both = ("pair", ("then", ("fst", "x"), f), ("snd", "x"))
+            return ("on", ("then", f, g), ("then", f, d), ("then", both, b))
+        case "E6", ("then", _, k) if is_literal(k) or is_constant(k):
+            return k
+        case ("E7", ("fst", ("pair", e, _))) | ("E8", ("snd", ("pair", _, e))):
+            return e
+        case "E9", ("pair", ("fst", e), ("snd", f)) if e == f:
+            return e
+        case ("E10", ("if", "true", e, _)) | ("E11", ("if", "false", _, e)):
+            return e
+        case "E12", ("if", _, e, f) if e == f:
+            return e
+        case "E13", ("on", ("none", _), d, _):
+            return d
+        case "E14", ("on", ("event", v), _, b):
+            return ("then", ("pair", "x", v), b)
+        case "E15", (o, *parts) if o in FOLDED:
+            return folded(o, parts)
+        case "E16", ("add", a, b):
+            return ("add", b, a)
+        case "E17", ("add", ("add", a, b), c):
+            return ("add", a, ("add", b, c))
+        case "E18", ("nth", ("list", _, *elements), int(i), d) if elements:
+            return elements[i] if 0 <= i < len(elements) else d
+    return None
+
+
+def is_constant(tree):
+    return head(tree) in ("p", "none") or head(tree) == "list" and len(tree) == 2
+
+
+def distributed(f, o, parts):
+    if o != "list":
+        return (o, *[("then", f, part) for part in parts])
+    carried, *elements = parts
+    return ("list", carried, *[("then", f, element) for element in elements]) if elements else None
+
+
+def literal_kind(tree):
+    if isinstance(tree, int):
+        return "Int"
+    return {"true": "Bool", "false": "Bool", "unit": "Unit"}.get(tree)
+
+
+def folded(o, parts):
+    kinds = {literal_kind(part) for part in parts}
+    taken = {"equal": {"Int", "Bool", "Unit"}, "not": {"Bool"}, "and": {"Bool"}, "or": {"Bool"}}.get(o, {"Int"})
+    return STRICT[o](*parts) if len(kinds) == 1 and kinds <= taken else None
+
+
+# ---- laws of networks
+
+
+def of_networks(law, tree):
+    match law, tree:
+        case ("L1", (">>>", ("arr", "x"), f)) | ("L2", (">>>", f, ("arr", "x"))):
+            return f
+        case "L3", (">>>", (">>>", f, g), h):
+            return seq(f, seq(g, h))
+        case "L4", (">>>", ("arr", f), ("arr", g)):
+            return arr(("then", f, g))
+        case "L5", ("first", ("arr", f)):
+            return arr(left(f))
+        case "L6", ("first", (">>>", f, g)):
+            return seq(("first", f), ("first", g))
+        case "L7", (">>>", ("first", f), ("arr", ("pair", ("fst", "x"), ("then", ("snd", "x"), g)))):
+            return seq(arr(right(g)), ("first", f))
+        case "L8", (">>>", ("first", f), ("arr", ("fst", "x"))):
+            return seq(arr(("fst", "x")), f)
+        case "L9", (">>>", ("first", ("first", f)), ("arr", e)) if e == ASSOC:
+            return seq(arr(ASSOC), ("first", f))
+        case "L10", (">>>", ("arr", f), (">>>", ("arr", g), h)):
+            return seq(arr(("then", f, g)), h)
+        case "L11", (">>>", ("iPre", c), ("arr", f)):
+            return seq(arr(f), ("iPre", ("then", c, f)))
+        case "L12", ("iPre", ("pair", c, d)):
+            return seq(("first", ("iPre", c)), seq(arr(SWAP), seq(("first", ("iPre", d)), arr(SWAP))))
+        case "L18", (">>>", ("arr", ("event", e)), ("hold", _)):
+            return arr(e)
+        case "L19", (">>>", ("arr", ("none", _)), ("hold", c)):
+            return arr(("then", "unit", c))
+        case "L20", (">>>", _, s) if head(s) in ("after", "repeatedly", "time"):
+            return s
+        case "L25", (">>>", _, ("arr", ("then", "unit", e))):
+            return arr(("then", "unit", e))
+        case "L26", (">>>", ("delay", q, c), ("arr", f)):
+            return seq(arr(f), ("delay", q, ("then", c, f)))
+    return of_loops(law, tree) or of_events(law, tree)
+
+
+def of_loops(law, tree):
+    match law, tree:
+        case "L13", (">>>", h, ("loopPre", c, f)):
+            return ("loopPre", c, seq(("first", h), f))
+        case "L14", (">>>", ("loopPre", c, f), h):
+            return ("loopPre", c, seq(f, ("first", h)))
+        case "L15", ("loopPre", d, (">>>", ("arr", ("pair", ("fst", "x"), ("then", ("snd", "x"), g))), f)):
+            return ("loopPre", ("then", d, g), seq(f, arr(right(g))))
+        case "L16", ("loopPre", c, ("loopPre", d, f)):
+            return ("loopPre", ("pair", c, d), seq(arr(UNASSOC), seq(f, arr(ASSOC))))
+        case "L17", ("loopPre", _, ("first", f)):
+            return f
+    return None
+
+
+def of_events(law, tree):
+    match law, tree:
+        case ("L21", (">>>", ("after", q, c), ("arr", e))) | ("L22", (">>>", ("repeatedly", q, c), ("arr", e))):
+            g = mapper(e)
+            return None if g is None else (tree[1][0], q, ("then", c, g))
+        case "L23", (">>>", ("arr", e), ("hold", ("then", c, h))):
+            g = mapper(e)
+            return seq(("hold", c), arr(g)) if g == h else None
+        case "L24", (">>>", ("arr", e), ("accumBy", h, z)):
+            g = mapper(e)
+            return None if g is None else ("accumBy", ("then", right(g), h), z)
+    return None
+
+
+def mapper(tree):
+    """The function that is mapped over events, where that is all that an expression does."""
+    match tree:
+        case ("on", "x", ("none", _), ("event", ("then", ("snd", "x"), g))):
+            return g
+    return None
+
+
+SWITCH_LAWS = {f"L{k}": "switch" if k % 2 else "dSwitch" for k in range(27, 35)} | dict.fromkeys(["L35", "L36", "L37"])
+
+
+def of_switches(law, tree):
+    s = SWITCH_LAWS[law]
+    match law, tree:
+        case ("L27" | "L28"), (">>>", ("arr", h), (word, f, t)) if word == s:
+            return (s, seq(arr(h), f), seq(arr(h), t))
+        case ("L29" | "L30"), (">>>", (word, f, t), ("arr", h)) if word == s:
+            return (s, seq(f, arr(left(h))), seq(t, arr(h)))
+        case ("L31" | "L32"), (word, (">>>", f, ("arr", ("pair", "x", ("none", _)))), _) if word == s:
+            return f
+        case ("L33" | "L34"), ("first", (word, f, t)) if word == s:
+            return (s, seq(("first", f), arr(REGROUPED)), ("first", t))
+        case "L35", (">>>", ("arr", ("pair", e, ("none", _))), ("rSwitch", f, _)):
+            return seq(arr(e), f)
+        case "L36", (">>>", ("rSwitch", f, t), ("arr", h)):
+            return ("rSwitch", seq(f, arr(h)), seq(t, arr(h)))
+        case "L37", ("kSwitch", f, ("arr", ("none", _)), _):
+            return f
+    return None
+
+
+def of_members(law, tree, olds):
+    match law, tree:
+        case "L38", ("kSwitch", f, _, ("old", j)) if j == olds:
+            return f
+        case "L39", ("pSwitch", r, (_, *members), ("arr", ("none", _)), _) if 1 <= len(members) <= MEMBERS:
+            return ("parB", *[seq(arr(("then", ("pair", "x", i), r)), f) for i, f in enumerate(members)])
+        case "L40", (">>>", ("parB", *members), ("arr", ("nth", "x", int(i), _))) if len(members) <= MEMBERS:
+            return members[i] if 0 <= i < len(members) else None
+        case "L41", (">>>", h, ("parB", *members)) if 1 <= len(members) <= MEMBERS:
+            return ("parB", *[seq(h, f) for f in members])
+        case "L42", ("arr", ("list", _, *elements)) if 1 <= len(elements) <= MEMBERS:
+            return ("parB", *map(arr, elements))
+    return None
+
+
+# ---- steps
+
+
+def answer(step, tree, olds):
+    """What a step makes of the tree at its position; None where it has no answer there."""
+    if is_network(tree) != (step.law[0] == "L"):
+        return None
+    if step.direction == "forward":
+        return forward(step.law, tree, olds) if step.given is None else None
+    if step.given is None:
+        return None
+    return step.given if forward(step.law, step.given, olds) == tree else None
+
+
+class StepFault(Exception):
+    """What is refused of a certificate, as the program says it."""
+
+
+def taken(typed, step):
+    """The typed network behind a step, or a StepFault."""
+    net = typed.places[()].tree
+    tree = at(net, step.position)
+    if tree is None:
+        raise StepFault("no position")
+    place = typed.places[step.position]
+    found = answer(step, tree, len(place.scope.olds))
+    if found is None:
+        raise StepFault("no match")
+    try:
+        behind = check_types(typed.input, replaced(net, step.position, found))
+    except TypeFault:
+        raise StepFault("ill typed") from None
+    if behind.places[step.position].output != place.output:
+        raise StepFault("ill typed")
+    return behind
+
+
+STEPS = 10_000
+
+
+def checked(source, target, steps):
+    """The number of steps that lead from one typed network to the other, or a StepFault."""
+    if source.input != target.input:
+        raise StepFault("inputs differ")
+    if len(steps) > STEPS:
+        raise StepFault("too many steps")
+    now = source
+    for number, step in enumerate(steps, 1):
+        try:
+            now = taken(now, step)
+        except StepFault as fault:
+            raise StepFault(f"{fault} at step {number}") from None
+    if now.places[()].tree != target.places[()].tree:
+        raise StepFault("ends elsewhere")
+    return len(steps)
+
+
+# ---- the optimiser
+
+
+NETWORK_ORDER = "L1 L2 L20 L25 L3 L4 L10 L5 L8 L17 L18 L19 L21 L22 L23 L24 L31 L32 L35 L37 L38 L40".split()
+EXPRESSION_ORDER = "E1 E2 E3 E6 E7 E8 E9 E10 E11 E12 E13 E14 E15 E18".split()
+OPTIMISER_STEPS = 1_000
+
+
+def optimised(source):
+    """The typed network that the optimiser reaches, and its steps."""
+    steps = []
+    while len(steps) < OPTIMISER_STEPS:
+        found = next_step(source)
+        if found is None:
+            break
+        step, source = found
+        steps.append(step)
+    return source, steps
+
+
+def next_step(typed):
+    """The first step in preorder that the optimiser can take, and what it leads to."""
+    for position, tree in preorder(typed.places[()].tree):
+        for law in NETWORK_ORDER if is_network(tree) else EXPRESSION_ORDER:
+            step = Step(law, "forward", position)
+            if answer(step, tree, len(typed.places[position].scope.olds)) is None:
+                continue
+            try:
+                return step, taken(typed, step)
+            except StepFault:
+                pass
+    return None
