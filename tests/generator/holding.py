@@ -6,6 +6,7 @@ import tempfile
 import time
 from collections import Counter
 from dataclasses import dataclass, field
+from functools import lru_cache
 from pathlib import Path
 
 from generator.laws import StepFault, checked, optimised
@@ -22,6 +23,8 @@ ROLES = {
     "check": ["source", "target", "certificate"],
     "run-checked": ["source", "target", "certificate"],
 }
+MEMORY = Path("/dev/shm")
+FILES = ["first", "second", "third"]
 WALL_SECONDS = 60
 PROCESSOR_SECONDS = 1.0
 
@@ -81,13 +84,29 @@ def read_files(command):
     found = []
     for role, text in zip(ROLES[command.command], command.files):
         try:
-            if role == "certificate":
-                found.append(read_certificate(text))
-            else:
-                found.append(check_types(*read_network(text)))
+            found.append(read_certificate(text) if role == "certificate" else typed_of(text))
         except (TextFault, TypeFault) as fault:
             raise Refused(f"{role}: {fault}") from None
     return found
+
+
+@lru_cache(maxsize=16)
+def typed_of(text):
+    return check_types(*read_network(text))
+
+
+@lru_cache(maxsize=4)
+def optimised_of(text):
+    return optimised(typed_of(text))
+
+
+@lru_cache(maxsize=4)
+def run_of(text, stream):
+    """The samples of the stream, its fault or None, the outputs, and what fired."""
+    net = typed_of(text)
+    samples, fault = read_stream(stream, net.input)
+    model = Model()
+    return len(samples), fault, model.outputs(net.places[()].tree, Environment(), samples), model.fired
 
 
 def printed(command, files, tally):
@@ -96,29 +115,33 @@ def printed(command, files, tally):
         net = files[0]
         lines = f"{shown(net.input)} -> {shown(net.output)}\nweight {net.weight}\nheight {net.height}\n"
         return Told(lines.encode())
-    if word.startswith("optimise"):
-        net, steps = optimised(files[0])
-        tally["counts", "steps of the optimiser"] += len(steps)
-        for step in steps:
-            tally["laws of the optimiser", step.law] += 1
-        text = certificate_text(steps) if word.endswith("--certificate") else network_text(net.input, net.places[()].tree)
-        return Told(text.encode())
+    if word == "optimise":
+        net, _ = optimised_of(command.files[0])
+        return Told(network_text(net.input, net.places[()].tree).encode())
+    if word == "optimise --certificate":
+        return Told(certificate_text(counted(optimised_of(command.files[0])[1], tally)).encode())
     if word == "run":
-        return ran(files[0], command.stream, tally)
+        return ran(command.files[0], command.stream, tally)
     try:
         count = checked(*files)
     except StepFault as fault:
         raise Refused(f"certificate: {fault}") from None
-    return Told(f"accepted {count}\n".encode()) if word == "check" else ran(files[1], command.stream, tally)
+    return Told(f"accepted {count}\n".encode()) if word == "check" else ran(command.files[1], command.stream, tally)
 
 
-def ran(net, stream, tally):
-    samples, fault = read_stream(stream, net.input)
-    model = Model()
-    values = model.outputs(net.places[()].tree, Environment(), samples)
-    for word, count in model.fired.items():
+def counted(steps, tally):
+    """The steps of the optimiser, of which the tally is told."""
+    tally["counts", "steps of the optimiser"] += len(steps)
+    for step in steps:
+        tally["laws of the optimiser", step.law] += 1
+    return steps
+
+
+def ran(text, stream, tally):
+    samples, fault, values, fired = run_of(text, stream)
+    for word, count in fired.items():
         tally["fired", word] += count
-    tally["counts", "samples"] += len(samples)
+    tally["counts", "samples"] += samples
     output = "".join(shown(value) + "\n" for value in values).encode()
     if not fault:
         return Told(output)
@@ -129,35 +152,47 @@ def ran(net, stream, tally):
 # ---- what is told
 
 
+class Slot:
+    """A file that is written anew for each run."""
+
+    def __init__(self, path):
+        self.file = open(path, "w+b", buffering=0)
+
+    def hold(self, text):
+        self.file.seek(0)
+        self.file.truncate()
+        self.file.write(text)
+        self.file.seek(0)
+        return self.file
+
+    def text(self):
+        self.file.seek(0)
+        return self.file.read()
+
+
 class Program:
     """The program, run in a folder of its own; it keeps a tally of what was met."""
 
-    def __init__(self, path, folder=None):
+    def __init__(self, path):
         self.path = Path(path).resolve()
-        self.folder = Path(folder or tempfile.mkdtemp(prefix="generated-"))
+        self.folder = Path(tempfile.mkdtemp(prefix="generated-", dir=MEMORY if MEMORY.is_dir() else None))
+        self.slots = {name: Slot(self.folder / name) for name in [*FILES, "stream", "output", "error"]}
         self.tally = Counter()
 
     def run(self, command):
-        names = []
-        for number, text in enumerate(command.files):
-            names.append(f"file{number}")
-            if text is not None:
-                (self.folder / names[-1]).write_bytes(text)
-        word, *flags = command.command.split()
-        return self.start([word, *flags, *names], command)
-
-    def start(self, words, command):
-        """Starts the program once; what it prints goes to files, so that it never waits for its reader."""
+        """Runs a command once; what it prints goes to files, so that it never waits for its reader."""
         self.tally["counts", "starts"] += 1
-        paths = [self.folder / name for name in ("output", "error", "stream")]
-        paths[2].write_bytes(command.stream)
-        with open(paths[0], "wb") as output, open(paths[1], "wb") as error, open(paths[2], "rb") as stream:
-            source = subprocess.PIPE if command.pieces else stream
-            child = subprocess.Popen([self.path, *words], stdin=source, stdout=output, stderr=error, cwd=self.folder)
-            if command.pieces:
-                feed(child.stdin, command.pieces)
-            status, seconds = ended(child)
-        told = Told(paths[0].read_bytes(), paths[1].read_bytes(), status)
+        for name, text in zip(FILES, command.files):
+            self.slots[name].hold(text)
+        words = [self.path, *command.command.split(), *FILES[: len(command.files)]]
+        stream = self.slots["stream"].hold(command.stream)
+        source = subprocess.PIPE if command.pieces else stream
+        output, error = (self.slots[name].hold(b"") for name in ("output", "error"))
+        child = subprocess.Popen(words, stdin=source, stdout=output, stderr=error, cwd=self.folder)
+        if command.pieces:
+            feed(child.stdin, command.pieces)
+        status, seconds = ended(child)
+        told = Told(self.slots["output"].text(), self.slots["error"].text(), status)
         self.judge(command, told, seconds)
         return told
 

@@ -13,6 +13,32 @@ FOLDED = "neg add sub mul less equal not and or".split()
 MEMBERS = 64
 
 
+LEFT_WORDS = {
+    "then": "E1 E2 E3 E4 E5 E6",
+    "fst": "E7",
+    "snd": "E8",
+    "pair": "E9",
+    "if": "E10 E11 E12",
+    "on": "E13 E14",
+    "add": "E15 E16 E17",
+    "nth": "E18",
+    ">>>": "L1 L2 L3 L4 L7 L8 L9 L10 L11 L13 L14 L18 L19 L20 L21 L22 L23 L24 L25 L26 L27 L28 L29 L30 L35 L36 L40 L41",
+    "first": "L5 L6 L33 L34",
+    "iPre": "L12",
+    "loopPre": "L15 L16 L17",
+    "switch": "L31",
+    "dSwitch": "L32",
+    "kSwitch": "L37 L38",
+    "pSwitch": "L39",
+    "arr": "L42",
+} | dict.fromkeys("neg sub mul less equal not and or".split(), "E15")
+
+
+def laws_by_word(among):
+    """By the first word of a tree, those of these laws whose left side may begin with it, in their order."""
+    return {word: [law for law in among if law in laws.split()] for word, laws in LEFT_WORDS.items()}
+
+
 def left(g):
     return ("pair", ("then", ("fst", "x"), g), ("snd", "x"))
 
@@ -283,6 +309,7 @@ def checked(source, target, steps):
 
 NETWORK_ORDER = "L1 L2 L20 L25 L3 L4 L10 L5 L8 L17 L18 L19 L21 L22 L23 L24 L31 L32 L35 L37 L38 L40".split()
 EXPRESSION_ORDER = "E1 E2 E3 E6 E7 E8 E9 E10 E11 E12 E13 E14 E15 E18".split()
+OPTIMISER_LAWS = laws_by_word(NETWORK_ORDER + EXPRESSION_ORDER)
 OPTIMISER_STEPS = 1_000
 
 
@@ -301,7 +328,7 @@ def optimised(source):
 def next_step(typed):
     """The first step in preorder that the optimiser can take, and what it leads to."""
     for position, tree in preorder(typed.places[()].tree):
-        for law in NETWORK_ORDER if is_network(tree) else EXPRESSION_ORDER:
+        for law in OPTIMISER_LAWS.get(head(tree), []):
             step = Step(law, "forward", position)
             if answer(step, tree, len(typed.places[position].scope.olds)) is None:
                 continue

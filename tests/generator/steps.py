@@ -1,5 +1,18 @@
 """Random steps of certificates: left sides of the laws, put into random networks, and rows of steps in both directions."""
-from generator.laws import ASSOC, DISTRIBUTED, FOLDED, SWITCH_LAWS, StepFault, arr, forward, mapped, right, seq, taken
+from generator.laws import (
+    ASSOC,
+    DISTRIBUTED,
+    FOLDED,
+    SWITCH_LAWS,
+    StepFault,
+    arr,
+    forward,
+    laws_by_word,
+    mapped,
+    right,
+    seq,
+    taken,
+)
 from generator.texts import LAWS, Step
 from generator.trees import at, expanded, head, is_literal, is_network, preorder, replaced
 from generator.typed import ExpressionFault, ExpressionWalk, check_types, event, is_form, list_of, pair
@@ -298,8 +311,9 @@ class StepMaker:
 
     def with_left_side(self, typed, law):
         """A network with a left side of the law at a random place of this one, and the position of that side."""
-        is_law_of_networks = law[0] == "L"
-        places = [place for place in typed.places.values() if is_network(place.tree) == is_law_of_networks]
+        places = [place for place in typed.places.values() if is_network(place.tree) == (law[0] == "L")]
+        if not places:
+            return self.with_left_side(check_types(typed.input, seq(arr("x"), typed.places[()].tree)), law)
         place = self.rng.choice(sorted(places, key=lambda place: place.position))
         into, tree, out = LeftSides(self.maker, place.scope).of(law, place.input, place.output)
         fitted, position = self.fitted(place, into, tree, out)
@@ -326,7 +340,8 @@ class StepMaker:
         net, found = typed.places[()].tree, []
         for position, tree in preorder(net):
             olds = len(typed.places[position].scope.olds)
-            found += [Step(law, "forward", position) for law in LAWS if forward(law, tree, olds) is not None]
+            laws = LAWS_BY_WORD.get(head(tree), [])
+            found += [Step(law, "forward", position) for law in laws if forward(law, tree, olds) is not None]
         return found
 
     def backward_step(self, typed):
@@ -468,5 +483,6 @@ def turned(step, before):
     return Step(step.law, "backward", step.position, at(before.places[()].tree, step.position))
 
 
+LAWS_BY_WORD = laws_by_word(LAWS)
 NETWORK_GROWTHS = "L1 L2 L3 L5 L13 L17 L18 L20 L25 L31 L32 L35 L37 L38 L40 L42".split()
 EXPRESSION_GROWTHS = "E1 E2 E3 E6 E7 E8 E9 E10 E11 E12 E13 E14 E15 E16 E17 E18".split()

@@ -1,4 +1,5 @@
 """Types, values, expressions and networks as they are written: words, numbers, and tuples that begin with a word."""
+from functools import lru_cache
 
 TYPE_WORDS = ["Unit", "Bool", "Int"]
 TYPE_FORMS = {"Pair": ["T", "T"], "Event": ["T"], "List": ["T"]}
@@ -101,19 +102,26 @@ def child_places(tree):
     """For each child by its number, the indices that lead to it in the tuple."""
     if not isinstance(tree, tuple):
         return []
+    return places_in(tree[0], len(tree), len(tree[2]) if tree[0] == "pSwitch" else 0)
+
+
+@lru_cache(maxsize=None)
+def places_in(word, length, members):
+    """The places of the children in a tuple of this length, whose list of members has that one."""
     places = []
-    for index, sort in enumerate(FORMS[tree[0]], 1):
+    for index, sort in enumerate(FORMS[word], 1):
         if sort in ("E", "N"):
             places.append((index,))
         elif sort in ("E*", "N*"):
-            places += [(at,) for at in range(index, len(tree))]
+            places += [(at,) for at in range(index, length)]
         elif sort == "col":
-            places += [(index, at) for at in range(1, len(tree[index]))]
+            places += [(index, at) for at in range(1, members)]
     return places
 
 
 def children(tree):
-    return [part_at(tree, place) for place in child_places(tree)]
+    places = child_places(tree)
+    return [tree[place[0]] if len(place) == 1 else part_at(tree, place) for place in places]
 
 
 def part_at(tree, place):

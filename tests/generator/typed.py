@@ -119,9 +119,10 @@ class ExpressionWalk:
         return self.walk(tree, input_type, scope, position)
 
     def walk(self, tree, input_type, scope, position):
+        places = child_places(tree)
+
         def part(number, under=input_type):
-            index = child_places(tree)[number][0]
-            return self.walk(tree[index], under, scope, (*position, number))
+            return self.walk(tree[places[number][0]], under, scope, (*position, number))
 
         output = within(self.form_type(tree, input_type, scope, part))
         self.places[position] = Place(position, tree, input_type, output, scope)
