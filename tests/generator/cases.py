@@ -4,6 +4,7 @@ import random
 from generator.breaking import Breaker
 from generator.holding import Command, Find
 from generator.laws import taken
+from generator.limits import Limits
 from generator.making import Maker
 from generator.steps import StepMaker, reversed_steps
 from generator.texts import LAWS, Step, certificate_text, network_text
@@ -18,13 +19,15 @@ class Case:
         self.program, self.tally = program, program.tally
         self.rng = random.Random(f"{seed} {number}")
         self.maker, self.breaker = Maker(self.rng), Breaker(self.rng)
-        self.steps = StepMaker(self.maker)
+        self.steps, self.limited = StepMaker(self.maker), Limits(self.rng)
         self.number = number
 
     def run(self):
         kind = KINDS[self.number % len(KINDS)]
         if kind == "optimised" and not self.program.optimises:
             kind = "certified"
+        if kind in self.program.skipped:
+            return
         self.tally["case", kind] += 1
         getattr(self, kind)()
 
@@ -190,7 +193,8 @@ class Case:
         text = self.maker.spaced(network_text(typed.input, made))
         self.hold("types", self.breaker.broken(text))
         self.hold("run", text, stream=self.breaker.broken(self.stream(typed)))
-        self.hold(self.rng.choice(["run", "types"]), self.breaker.broken(text), stream=self.stream(typed))
+        commands = ["run", "types"] + ["optimise"] * self.program.optimises
+        self.hold(self.rng.choice(commands), self.breaker.broken(text), stream=self.stream(typed))
         steps, typeds = self.steps.walk(typed, 3)
         files = [text_of(typeds[0]), text_of(typeds[-1]), self.maker.spaced(certificate_text(steps))]
         at = self.rng.choice([0, 1, 2, 2, 2, 2])
@@ -209,8 +213,46 @@ class Case:
         self.hold("run", b"yampa 1 input " + self.rng.choice([b"Int", b"(List Int)"]) + b" identity", stream=stream)
 
 
+    def limits(self):
+        """What stands at the limits, and one past them."""
+        for way in range(3):
+            command = self.limited.any(3 * (self.number // len(KINDS)) + way)
+            self.program.hold(command)
+
+    def worded(self):
+        """Words of the command line that are wrong, and files that aren't there."""
+        for words in self.rng.sample(WRONG_WORDS, 3):
+            told = self.program.start(words, Command("words", []))
+            if told.status != 2 or told.output:
+                raise Find(Command(str(words), []), "wrong words aren't told as wrong", told)
+        text = b"yampa 1 input Int time"
+        files = [text, text, b"laws 1"]
+        files[self.rng.randrange(3)] = None
+        self.hold(self.rng.choice(["check", "run-checked"]), *files)
+        self.hold(self.rng.choice(["types", "run"]), None)
+
+
+WRONG_WORDS = [
+    [],
+    [""],
+    ["Types", "first"],
+    ["first"],
+    ["types"],
+    ["types", "first", "second"],
+    ["run"],
+    ["run", "first", "second"],
+    ["check", "first", "second"],
+    ["check", "first", "second", "third", "first"],
+    ["run-checked", "first"],
+    ["types", "--certificate", "first"],
+    ["optimise"],
+    ["optimise", "--certificates", "first"],
+    ["types", "-x", "first"],
+    [b"types", b"\xff"],
+    [b"\xfe"],
+]
 SUGAR = "constant second *** &&& never now edge identity accumHoldBy lMerge gate tag attach".split()
-KINDS = ["ran", "certified", "hostile", "ran", "certified", "optimised", "ill_typed", "certified"]
+KINDS = "ran certified hostile ran certified optimised ill_typed certified".split() * 4 + ["limits", "worded"]
 
 
 def words_of(tree):

@@ -12,7 +12,7 @@ from pathlib import Path
 from generator.laws import StepFault, checked, optimised
 from generator.meaning import Environment, Model, TooSlow
 from generator.texts import TextFault, certificate_text, network_text, read_certificate, read_network, read_stream
-from generator.trees import shown
+from generator.trees import children, is_network, shown
 from generator.typed import TypeFault, check_types
 
 ROLES = {
@@ -25,6 +25,8 @@ ROLES = {
 }
 MEMORY = Path("/dev/shm")
 FILES = ["first", "second", "third"]
+ABSENT = "absent"
+LEAVES = 4_096
 WALL_SECONDS = 60
 PROCESSOR_SECONDS = 1.0
 
@@ -70,7 +72,7 @@ def wanted_of(command, tally):
         return printed(command, files, tally)
     except Refused as fault:
         tally["fault", fault_kind(str(fault))] += 1
-        return Told(b"", f"{fault}\n".encode(), 1)
+        return Told(b"", f"{fault}\n".encode(), 3 if str(fault).endswith("cannot be read") else 1)
 
 
 def fault_kind(line):
@@ -83,6 +85,8 @@ def read_files(command):
     """What the files hold, each with its text before its types."""
     found = []
     for role, text in zip(ROLES[command.command], command.files):
+        if text is None:
+            raise Refused(f"{role}: cannot be read")
         try:
             found.append(read_certificate(text) if role == "certificate" else typed_of(text))
         except (TextFault, TypeFault) as fault:
@@ -98,6 +102,13 @@ def typed_of(text):
 @lru_cache(maxsize=4)
 def optimised_of(text):
     return optimised(typed_of(text))
+
+
+def leaves_of(net):
+    """The different expressions of a network, each with what it is typed under."""
+    nodes = [place for place in net.places.values() if is_network(place.tree)]
+    leaves = [net.places[(*node.position, at)] for node in nodes for at, child in enumerate(children(node.tree)) if not is_network(child)]
+    return {(leaf.tree, leaf.scope.params, leaf.input) for leaf in leaves}
 
 
 @lru_cache(maxsize=4)
@@ -138,6 +149,8 @@ def counted(steps, tally):
 
 
 def ran(text, stream, tally):
+    if len(leaves_of(typed_of(text))) > LEAVES:
+        raise Refused("table full")
     samples, fault, values, fired = run_of(text, stream)
     for word, count in fired.items():
         tally["fired", word] += count
@@ -180,15 +193,21 @@ class Program:
         self.tally = Counter()
 
     def run(self, command):
-        """Runs a command once; what it prints goes to files, so that it never waits for its reader."""
-        self.tally["counts", "starts"] += 1
+        """Runs a command once."""
+        names = []
         for name, text in zip(FILES, command.files):
-            self.slots[name].hold(text)
-        words = [self.path, *command.command.split(), *FILES[: len(command.files)]]
+            names.append(ABSENT if text is None else name)
+            if text is not None:
+                self.slots[name].hold(text)
+        return self.start(command.command.split() + names, command)
+
+    def start(self, words, command):
+        """Starts the program with these words; what it prints goes to files, so that it never waits for its reader."""
+        self.tally["counts", "starts"] += 1
         stream = self.slots["stream"].hold(command.stream)
         source = subprocess.PIPE if command.pieces else stream
         output, error = (self.slots[name].hold(b"") for name in ("output", "error"))
-        child = subprocess.Popen(words, stdin=source, stdout=output, stderr=error, cwd=self.folder)
+        child = subprocess.Popen([self.path, *words], stdin=source, stdout=output, stderr=error, cwd=self.folder)
         if command.pieces:
             feed(child.stdin, command.pieces)
         status, seconds = ended(child)

@@ -1,0 +1,139 @@
+"""Files and streams at the limits, and one past them."""
+from generator.holding import Command
+from generator.texts import Step, certificate_text, network_text
+from generator.trees import NUMBERS
+from generator.typed import event, pair
+
+
+def nested(times, around, tree):
+    for _ in range(times):
+        tree = around(tree)
+    return tree
+
+
+def network(given, net):
+    return network_text(given, net).encode()
+
+
+class Limits:
+    """Makes commands by a source of random numbers: each way has a limit, and is one before it, at it, or one past it."""
+
+    def __init__(self, rng):
+        self.rng = rng
+
+    def near(self, limit):
+        return limit + self.rng.choice([-1, 0, 0, 1, 1])
+
+    def any(self, number):
+        """The commands in turn, so that none is left out."""
+        ways = [self.type_depth, self.type_nodes, self.network_height, self.expression_height, self.members, self.weight]
+        ways += [self.open, self.range, self.child, self.line, self.leaves, self.steps, self.size, self.inputs]
+        return ways[number % len(ways)]()
+
+    def type_depth(self):
+        given = nested(self.near(32) - 1, event, "Int")
+        net = self.rng.choice(["time", ("arr", "x"), ("arr", ("event", "x")), ("iPre", ("none", given[1])), ("after", 1, "unit")])
+        return Command("types", [network(given, net)])
+
+    def type_nodes(self):
+        given = self.nodes(self.near(256))
+        both = ("arr", ("pair", "x", "x"))
+        net = self.rng.choice(["time", ("arr", "x"), ("first", "time"), ("loopPre", 0, ("arr", "x")), both, ("arr", ("event", "x"))])
+        return Command("types", [network(given, net)])
+
+    def nodes(self, count):
+        """A type with so many nodes, and hardly higher than it must be."""
+        if count < 3:
+            return "Int" if count == 1 else event("Int")
+        part = (count - 1) // 2
+        return pair(self.nodes(part), self.nodes(count - 1 - part))
+
+    def network_height(self):
+        height = self.near(256)
+        around = self.rng.choice([lambda f: (">>>", "time", f), lambda f: (">>>", f, "time"), lambda f: ("switch", self.never(), f)])
+        return Command("types", [network("Int", nested(height - 1, around, "time"))])
+
+    def never(self):
+        return ("arr", ("pair", "x", ("none", "Unit")))
+
+    def expression_height(self):
+        around = self.rng.choice([lambda e: ("neg", e), lambda e: ("then", "x", e), lambda e: ("add", 1, e)])
+        text = network("Int", ("arr", nested(self.near(256) - 1, around, "x")))
+        return Command(self.rng.choice(["types", "run"]), [text], b"5\n")
+
+    def members(self):
+        count = self.rng.choice([0, 1, 63, 64, 65])
+        parallel = ("parB", *["time"] * count)
+        ready = ("arr", ("event", "unit"))
+        collection = ("pSwitch", ("fst", "x"), ("col", *["time"] * count), ready, ("parB", ("old", 0), ("old", max(count - 1, 0))))
+        return Command("run", [network("Int", self.rng.choice([parallel, collection]))], b"5\n+1 6\n")
+
+    def weight(self):
+        """A chain in which each frozen network resumes the one before it twice."""
+        depth = self.rng.choice([16, 17, 18, 20, 80])
+        net = self.tail(depth)
+        for level in reversed(range(depth)):
+            resumed = ("old", level - 1)
+            net = ("kSwitch", (">>>", resumed, resumed) if level else ("arr", "x"), ("arr", ("none", "Unit")), net)
+        return Command("types", [network("Int", net)])
+
+    def tail(self, depth):
+        """At depth 17 a tail that makes the weight 1,000,000, or hardly more or less."""
+        levels = [16, 15, 14, 12, 7, 4, 2, 1] if depth == 17 else [depth - 1]
+        parts = [("old", level) for level in levels] + [("arr", "x")] * (self.near(3) if depth == 17 else 1)
+        net = parts.pop()
+        for part in reversed(parts):
+            net = (">>>", part, net)
+        return net
+
+    def open(self):
+        word = self.rng.choice([b"(>>> ", b"(arr (neg ", b"(first ", b"(switch (switch ", b"(parB "])
+        count = self.near(600) // word.count(b"(")
+        inside, tail = self.rng.choice([b"time", b"x", b"", b"(old 0)", b"(pSwitch x (col "]), b")" * self.rng.choice([0, count])
+        return Command("types", [b"yampa 1 input Int " + word * count + inside + tail])
+
+    def range(self):
+        place, numbers = self.rng.choice(sorted(NUMBERS.items()))
+        number = self.rng.choice(numbers) + self.rng.choice([-1, 0, 0, 1])
+        net = {
+            "literal": ("arr", number),
+            "level": self.rng.choice([("arr", ("p", number)), ("old", number)]),
+            "delay": ("delay", number, 0),
+            "after": ("after", number, 0),
+            "repeatedly": ("repeatedly", number, 0),
+        }.get(place)
+        if net is None:
+            return self.child(number)
+        step = self.rng.choice([2**63 - 1, 2**63, 2**62, 4096, 1])
+        return Command("run", [network("Int", net)], f"5\n+{step} 6\n+{step} 7\n".encode())
+
+    def child(self, number=65_536):
+        text = network("Int", ("arr", "x"))
+        return Command("check", [text, text, f"laws 1 (step E1 forward (at {number}))".encode()])
+
+    def line(self):
+        """A line of 65,536 bytes, or one more or less."""
+        length = self.near(65_536)
+        value = b"(list" + b" 1" * ((length - 8) // 2) + (b" 12)" if length % 2 else b" 1)")
+        lines = self.rng.choice([[value], [b"(list)", b"+1 " + value[:5] + value[8:]]])
+        return Command("run", [network(("List", "Int"), ("arr", ("len", "x")))], b"\n".join([*lines, b"+1 =\n"]))
+
+    def leaves(self):
+        """A network with 4,096 different expressions, or one more."""
+        rows = [("parB", *[("arr", ("add", "x", 64 * row + at)) for at in range(64)]) for row in range(64)]
+        net = self.rng.choice([("parB", *rows), (">>>", ("arr", ("neg", "x")), ("parB", *rows)), (">>>", ("arr", ("add", "x", 7)), ("parB", *rows))])
+        return Command("run", [network("Int", net)], b"5\n")
+
+    def steps(self):
+        """10,000 steps, or one more or less, from a sum to itself."""
+        text = network("Int", ("arr", ("add", "x", 1)))
+        steps = [Step("E16", "forward", (0,))] * self.near(10_000)
+        return Command("check", [text, text, certificate_text(steps).encode()])
+
+    def size(self):
+        text = network("Int", "time").ljust(self.near(1_048_576), self.rng.choice([b" ", b";", b"\n"]))
+        return Command("types", [text])
+
+    def inputs(self):
+        texts = [network(given, ("arr", "unit")) for given in self.rng.choices(["Int", "Bool", pair("Int", "Int")], k=2)]
+        return Command("check", [*texts, self.rng.choice([b"laws 1", b"laws 2", b"laws 1 (step E1 forward (at 0))"])])
