@@ -5,11 +5,11 @@ from generator.breaking import Breaker
 from generator.holding import Command, Find
 from generator.laws import taken
 from generator.limits import Limits
-from generator.making import Maker
+from generator.making import FORM_WEIGHTS, Maker
 from generator.steps import StepMaker, reversed_steps
 from generator.texts import LAWS, Step, certificate_text, network_text
 from generator.trees import expanded, head, is_network, preorder
-from generator.typed import check_types
+from generator.typed import Scope, check_types
 
 
 class Case:
@@ -31,10 +31,10 @@ class Case:
         self.tally["case", kind] += 1
         getattr(self, kind)()
 
-    def next_law(self):
-        """The laws in turn, so that in few cases none is left out."""
+    def next_of(self, kind, words):
+        """The words in turn over the cases of a kind, so that in few cases none is left out."""
         rounds, rest = divmod(self.number, len(KINDS))
-        return LAWS[(rounds * KINDS.count("certified") + KINDS[:rest].count("certified")) % len(LAWS)]
+        return words[(rounds * KINDS.count(kind) + KINDS[:rest].count(kind)) % len(words)]
 
     # ---- parts
 
@@ -44,6 +44,16 @@ class Case:
         if size is None:
             size = self.rng.choice([1, 3, 5, 7, 9])
         made = self.maker.network(given, output, size=size)
+        core = expanded(made)
+        self.count(made, core, given)
+        return made, check_types(given, core)
+
+    def networks(self):
+        """Some networks on one input, of which the first begins with the next word in turn; joined to one that outputs all of theirs."""
+        word, size = self.next_of("ran", FORM_WORDS), self.rng.choice([2, 3, 5, 7])
+        given, made, _ = self.maker.of_form(word, self.maker.type(), self.maker.type(), Scope(), size)
+        for _ in range(self.rng.choice([0, 1, 2, 3])):
+            made = ("&&&", made, self.maker.network(given, self.maker.type(), size=self.rng.choice([1, 3, 5])))
         core = expanded(made)
         self.count(made, core, given)
         return made, check_types(given, core)
@@ -77,7 +87,7 @@ class Case:
 
     def ran(self):
         """Types and runs of one network: spelt otherwise, in pieces, and on the front of its stream."""
-        made, typed = self.network()
+        made, typed = self.networks()
         core = typed.places[()].tree
         text, plain = self.maker.spaced(network_text(typed.input, made)), network_text(typed.input, core).encode()
         self.hold("types", text)
@@ -94,7 +104,7 @@ class Case:
     def certified(self):
         """A law at a random place, and a row of steps from there; then all the way back."""
         _, typed = self.network(self.rng.choice([0, 2, 4, 6]))
-        law = self.next_law()
+        law = self.next_of("certified", LAWS)
         source, position = self.steps.with_left_side(typed, law)
         step = Step(law, "forward", position)
         steps, typeds = self.steps.walk(taken(source, step), self.rng.choice([0, 0, 1, 2, 5]))
@@ -251,6 +261,7 @@ WRONG_WORDS = [
     [b"types", b"\xff"],
     [b"\xfe"],
 ]
+FORM_WORDS = [word for word in FORM_WEIGHTS if word != "old"]
 SUGAR = "constant second *** &&& never now edge identity accumHoldBy lMerge gate tag attach".split()
 KINDS = "ran certified hostile ran certified optimised ill_typed certified".split() * 4 + ["limits", "worded"]
 

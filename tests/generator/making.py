@@ -59,7 +59,7 @@ class Maker:
         if size <= 0:
             return self.literal(given, output, scope)
         makers = [self.through, self.choice, self.happening, self.element, self.part, self.literal]
-        ways = [(2, self.own)] + [(1, maker) for maker in makers]
+        ways = [(3, self.own), (3, self.telling)] + [(1, maker) for maker in makers]
         return self.weighted(ways)(given, output, scope, size - 1)
 
     def weighted(self, ways):
@@ -67,8 +67,12 @@ class Maker:
 
     def views(self, given, output, scope):
         """The parts of the input and of the parameters that have this type."""
+        return [tree for tree, type_ in self.known(given, scope) if type_ == output]
+
+    def known(self, given, scope):
+        """The parts of the input and of the parameters, each with its type."""
         roots = [("x", given)] + [(("p", level), param) for level, param in enumerate(scope.params)]
-        return [tree for root in roots for tree in views_of(*root, output)]
+        return [part for root in roots for part in parts_of(*root)]
 
     def literal(self, given, output, scope, size=0):
         """An expression that begins with the word that makes values of the type."""
@@ -78,10 +82,31 @@ class Maker:
         if word == "Pair":
             return ("pair", *[self.expression(given, part, scope, size) for part in parts])
         if word == "Event":
-            empty = ("none", parts[0])
-            return empty if self.chance(0.4) else ("event", self.expression(given, parts[0], scope, size))
+            sides = [("event", self.expression(given, parts[0], scope, size)), ("none", parts[0])]
+            self.rng.shuffle(sides)
+            return sides[0] if self.chance(0.4) else ("if", self.question(*self.rng.choice(self.known(given, scope))), *sides)
         count = self.rng.choice([0, 1, 1, 2, 3])
         return ("list", parts[0], *[self.expression(given, parts[0], scope, size) for _ in range(count)])
+
+    def telling(self, given, output, scope, size):
+        """An expression that goes by a part of the input, so that what the part is can be seen in the output."""
+        tree, type_ = self.rng.choice(self.known(given, scope))
+        sides = [self.expression(given, output, scope, size) for _ in range(2)]
+        if is_form("Event", type_):
+            return ("on", tree, sides[0], self.expression(pair(given, type_[1]), output, scope, size))
+        if is_form("List", type_) and type_[1] == output:
+            return ("nth", tree, self.rng.randint(0, 2), sides[0])
+        return ("if", self.question(tree, type_), *sides)
+
+    def question(self, tree, type_):
+        """A truth that goes by a tree of this type."""
+        if type_ == "Int":
+            return self.rng.choice([("less", tree, self.rng.randint(0, 6)), ("equal", tree, self.rng.randint(0, 4))])
+        if is_form("List", type_):
+            return ("less", ("len", tree), self.rng.randint(1, 3))
+        if is_form("Event", type_):
+            return ("on", tree, "false", "true")
+        return tree if type_ == "Bool" else ("equal", tree, written(self.value(type_), type_))
 
     def through(self, given, output, scope, size):
         between = self.rng.choice([given, output, self.type(2)])
@@ -135,7 +160,7 @@ class Maker:
         return (word, *[part("Bool") for _ in range(1 if word == "not" else 2)])
 
     def own_event(self, given, carried, scope, size, part):
-        word = self.rng.choice(["if", "if", "if", "lMerge", "gate", "tag", "attach"])
+        word = self.rng.choice(["own", "own", "own", "lMerge", "gate", "tag", "attach"])
         if word == "lMerge":
             return ("lMerge", part(event(carried)), part(event(carried)))
         if word == "gate":
@@ -144,9 +169,7 @@ class Maker:
             return ("tag", carried, part(event(self.type(2))), part(carried))
         if word == "attach" and is_form("Pair", carried):
             return ("attach", carried, part(event(carried[1])), part(carried[2]))
-        sides = [("event", part(carried)), ("none", carried)]
-        self.rng.shuffle(sides)
-        return ("if", part("Bool"), *sides)
+        return self.literal(given, event(carried), scope, size)
 
     # ---- networks
 
@@ -332,9 +355,9 @@ class Maker:
             return self.rng.choice([1, 1, 1, 2, 3, 4, 7])
         return self.rng.choice([GREATEST, GREATEST - 1, 2**62, 4096, 10**6])
 
-    def stream(self, type_, longest=10):
+    def stream(self, type_):
         """The lines of a stream, each with its line feed."""
-        count = self.rng.randint(0, longest)
+        count = self.rng.choice([0, 1, 2, 3, 5, 8, 12, 16])
         lines = []
         for number in range(count):
             shown_value = "=" if number and self.chance(0.15) else shown(self.value(type_))
@@ -355,10 +378,21 @@ class Maker:
         return (self.rng.choice(["", " ", "; first\n"]) + found + self.rng.choice(["", "\n", " ; last"])).encode()
 
 
-def views_of(tree, type_, output, deep=3):
-    """The tree of this type, or parts of it, that have the type of the output."""
-    found = [tree] if type_ == output else []
+def written(value, type_):
+    """The expression that is this value, whatever the input."""
+    if not isinstance(type_, tuple):
+        return value
+    if value == "none":
+        return ("none", type_[1])
+    if type_[0] == "List":
+        return ("list", type_[1], *[written(element, type_[1]) for element in value[1:]])
+    return (value[0], *[written(part, part_type) for part, part_type in zip(value[1:], type_[1:])])
+
+
+def parts_of(tree, type_, deep=3):
+    """The tree of this type and its parts, each with its type."""
+    found = [(tree, type_)]
     if deep and is_form("Pair", type_):
-        found += views_of(("fst", tree), type_[1], output, deep - 1)
-        found += views_of(("snd", tree), type_[2], output, deep - 1)
+        found += parts_of(("fst", tree), type_[1], deep - 1)
+        found += parts_of(("snd", tree), type_[2], deep - 1)
     return found
