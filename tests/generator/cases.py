@@ -49,11 +49,11 @@ class Case:
         return made, check_types(given, core)
 
     def networks(self):
-        """Some networks on one input, of which the first begins with the next word in turn; joined to one that outputs all of theirs."""
-        word, size = self.next_of("ran", FORM_WORDS), self.rng.choice([2, 3, 5, 7])
+        """Some networks side by side on one input. The first begins with the next word in turn."""
+        word, size = self.next_of("ran", FORM_WORDS), self.rng.choice([1, 2, 3, 5, 7])
         given, made, _ = self.maker.of_form(word, self.maker.type(), self.maker.type(), Scope(), size)
         for _ in range(self.rng.choice([0, 1, 2, 3])):
-            made = ("&&&", made, self.maker.network(given, self.maker.type(), size=self.rng.choice([1, 3, 5])))
+            made = ("&&&", made, self.maker.any_network(given, self.rng.choice([1, 1, 2, 4])))
         core = expanded(made)
         self.count(made, core, given)
         return made, check_types(given, core)

@@ -1,5 +1,5 @@
 """Random types, values, expressions, networks and streams, all of them typed."""
-from generator.trees import GREATEST, NETWORK_FORMS, NETWORK_SUGAR, NETWORK_SUGAR_WORDS, NETWORK_WORDS, shown
+from generator.trees import GREATEST, NETWORK_FORMS, NETWORK_SUGAR, NETWORK_SUGAR_WORDS, NETWORK_WORDS, SWAP, shown
 from generator.typed import Scope, event, is_form, list_of, pair
 
 FORM_WEIGHTS = {word: 2 for word in [*NETWORK_FORMS, *NETWORK_WORDS]}
@@ -54,12 +54,12 @@ class Maker:
     def expression(self, given, output, scope, size=3):
         """An expression from one type to another."""
         seen = self.views(given, output, scope)
-        if seen and self.chance(0.5 if size > 0 else 0.85):
+        if seen and self.chance(0.35 if size > 0 else 0.85):
             return self.rng.choice(seen)
         if size <= 0:
             return self.literal(given, output, scope)
         makers = [self.through, self.choice, self.happening, self.element, self.part, self.literal]
-        ways = [(3, self.own), (3, self.telling)] + [(1, maker) for maker in makers]
+        ways = [(6 if output == "Int" else 3, self.own), (3, self.telling), (3, self.shaped)] + [(1, maker) for maker in makers]
         return self.weighted(ways)(given, output, scope, size - 1)
 
     def weighted(self, ways):
@@ -133,6 +133,20 @@ class Maker:
             return ("fst", self.expression(given, pair(output, other), scope, size))
         return ("snd", self.expression(given, pair(other, output), scope, size))
 
+    def shaped(self, given, output, scope, size):
+        """One of the forms that the program keeps a way of its own for, where the types allow one."""
+        a, b = self.number(), self.number()
+        shapes = []
+        if given == output == "Int":
+            shapes = [("add", "x", b), ("mul", "x", a), ("add", ("mul", "x", a), b)]
+        elif given == "Int" and output == "Bool":
+            shapes = [("less", "x", a)]
+        elif is_form("Pair", given) and output == pair(given[2], given[1]):
+            shapes = [SWAP]
+        elif output == event(given):
+            shapes = [("event", "x")]
+        return self.rng.choice(shapes) if shapes else self.own(given, output, scope, size)
+
     def own(self, given, output, scope, size):
         """A form that makes values of the type and of few others."""
 
@@ -177,9 +191,15 @@ class Maker:
         """A network from one type to another."""
         if size <= 0:
             return ("arr", self.expression(given, output, scope, 2))
-        words = list(FORM_WEIGHTS)
-        word = self.rng.choices(words, [FORM_WEIGHTS[word] for word in words])[0]
-        return self.fitted(given, self.of_form(word, given, output, scope, size), output, scope)
+        return self.fitted(given, self.of_form(self.word(), given, output, scope, size), output, scope)
+
+    def any_network(self, given, size):
+        """A network of any output type, so that its output shows all that its last form gives."""
+        into, tree, output = self.of_form(self.word(), given, self.type(), UNIT_SCOPE, size)
+        return self.fitted(given, (into, tree, output), output, UNIT_SCOPE)
+
+    def word(self):
+        return self.rng.choices(list(FORM_WEIGHTS), list(FORM_WEIGHTS.values()))[0]
 
     def of_form(self, word, given, output, scope, size):
         """A network that begins with this word, with the types that it has, which are these where that can be."""
