@@ -28,7 +28,6 @@ FILES = ["first", "second", "third"]
 ABSENT = "absent"
 LEAVES = 4_096
 WALL_SECONDS = 60
-PROCESSOR_SECONDS = 1.0
 
 
 @dataclass
@@ -186,8 +185,8 @@ class Slot:
 class Program:
     """The program, run in a folder of its own; it keeps a tally of what was met."""
 
-    def __init__(self, path):
-        self.path = Path(path).resolve()
+    def __init__(self, path, longest=1.0):
+        self.path, self.longest = Path(path).resolve(), longest
         self.folder = Path(tempfile.mkdtemp(prefix="generated-", dir=MEMORY if MEMORY.is_dir() else None))
         self.slots = {name: Slot(self.folder / name) for name in [*FILES, "stream", "output", "error"]}
         self.tally = Counter()
@@ -220,7 +219,7 @@ class Program:
         self.tally["status", told.status] += 1
         if told.status not in (0, 1, 2, 3):
             raise Find(command, f"ended by a signal or with status {told.status}", told)
-        if seconds > PROCESSOR_SECONDS:
+        if seconds > self.longest:
             raise Find(command, f"took {seconds:.2f} seconds of a processor", told)
         if told.status in (1, 3) and told.error.count(b"\n") != 1 or bool(told.status) != bool(told.error):
             raise Find(command, "no one line on standard error", told)
