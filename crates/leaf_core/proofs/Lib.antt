@@ -10,3 +10,4 @@ pub mod Sizes
 pub mod SameParts
 pub mod PartNumbers
 pub mod PartTypes
+pub mod WithinParts

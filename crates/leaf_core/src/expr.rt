@@ -154,7 +154,7 @@ fn copy_of_one(form: &Expr, a: &ExprChild) -> Result<Expr, Memory>
     ensures { IfOk result (λ e. e ≡ with_one form.now a.now) }
 {
     let a = a.try_copy()?;
-    Ok(with_one(form, a))
+    Ok(with_one_part(form, a))
 }
 
 /// The expression's form, with copies of these two parts.
@@ -163,7 +163,7 @@ fn copy_of_two(form: &Expr, a: &ExprChild, b: &ExprChild) -> Result<Expr, Memory
 {
     let a = a.try_copy()?;
     let b = b.try_copy()?;
-    Ok(with_two(form, a, b))
+    Ok(with_two_parts(form, a, b))
 }
 
 /// The expression's form, with copies of these three parts.
@@ -173,11 +173,12 @@ fn copy_of_three(form: &Expr, a: &ExprChild, b: &ExprChild, c: &ExprChild) -> Re
     let a = a.try_copy()?;
     let b = b.try_copy()?;
     let c = c.try_copy()?;
-    Ok(with_three(form, a, b, c))
+    Ok(with_three_parts(form, a, b, c))
 }
 
-/// The expression's form, with this part.
-pub(crate) fn with_one(form: &Expr, a: ExprChild) -> Expr
+/// The expression's form, which has one part, with this one in its place. Where it has another
+/// number of parts, the length of this one.
+pub fn with_one_part(form: &Expr, a: ExprChild) -> Expr
     ensures { result ≡ with_one form.now a }
 {
     match form {
@@ -190,8 +191,9 @@ pub(crate) fn with_one(form: &Expr, a: ExprChild) -> Expr
     }
 }
 
-/// The expression's form, with these two parts.
-pub(crate) fn with_two(form: &Expr, a: ExprChild, b: ExprChild) -> Expr
+/// The expression's form, which has two parts, with these in their place. Where it has another
+/// number of parts, whether one of these or both are true.
+pub fn with_two_parts(form: &Expr, a: ExprChild, b: ExprChild) -> Expr
     ensures { result ≡ with_two form.now a b }
 {
     match form {
@@ -207,8 +209,9 @@ pub(crate) fn with_two(form: &Expr, a: ExprChild, b: ExprChild) -> Expr
     }
 }
 
-/// The expression's form, with these three parts.
-pub(crate) fn with_three(form: &Expr, a: ExprChild, b: ExprChild, c: ExprChild) -> Expr
+/// The expression's form, which has three parts, with these in their place. Where it has another
+/// number of parts, the element of the first at the second, or else the third.
+pub fn with_three_parts(form: &Expr, a: ExprChild, b: ExprChild, c: ExprChild) -> Expr
     ensures { result ≡ with_three form.now a b c }
 {
     match form {

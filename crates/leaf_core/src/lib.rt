@@ -1,5 +1,5 @@
 //! Expressions: their trees, types, values and shapes, and the keys that closures are found by.
-//! `leaf_expr` passes all of it on, beside their texts.
+//! `leaf_expr` passes on all that is asked of a whole expression, beside its text.
 #![tactic(auto)]
 
 mod equal;
@@ -21,7 +21,7 @@ mod typing;
 
 pub use equal::same_expr;
 pub use evaluation::{eval, eval_over};
-pub use expr::{Expr, ExprChild, Exprs};
+pub use expr::{Expr, ExprChild, Exprs, with_one_part, with_three_parts, with_two_parts};
 pub use key::LeafKey;
 pub use laws::{part_laws, typing_laws};
 pub use limits::{expr_fits, type_fits};

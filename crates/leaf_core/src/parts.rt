@@ -6,7 +6,7 @@ ghost use Rattle.leaf_core.specs.{ExpressionView.expression_of, Inside.one, Insi
 ghost use Rattle.leaf_core.specs.Expression.{expressions_of, list_expr};
 ghost use Rattle.leaf_core.specs.Parts.{inside_with, part, part_at, refilled, with_part, with_part_at};
 
-use crate::expr::{Expr, ExprChild, Exprs, with_one, with_three, with_two};
+use crate::expr::{Expr, ExprChild, Exprs, with_one_part, with_three_parts, with_two_parts};
 use crate::inside::{Contents, inside};
 use sample_core::{Memory, Ty};
 use std::alloc::Global;
@@ -108,7 +108,7 @@ fn with_part_of_one(
         return Ok(None);
     }
     let other = ExprChild::new(alloc, other)?;
-    Ok(Some(with_one(form, other)))
+    Ok(Some(with_one_part(form, other)))
 }
 
 /// The same of a form of two parts.
@@ -131,10 +131,10 @@ fn with_part_of_two(
     let other = ExprChild::new(alloc, other)?;
     if k == 0 {
         let b = b.try_copy()?;
-        Ok(Some(with_two(form, other, b)))
+        Ok(Some(with_two_parts(form, other, b)))
     } else {
         let a = a.try_copy()?;
-        Ok(Some(with_two(form, a, other)))
+        Ok(Some(with_two_parts(form, a, other)))
     }
 }
 
@@ -160,9 +160,9 @@ fn with_part_of_three(
     let b = b.try_copy()?;
     let c = c.try_copy()?;
     match k {
-        0 => Ok(Some(with_three(form, other, b, c))),
-        1 => Ok(Some(with_three(form, a, other, c))),
-        _ => Ok(Some(with_three(form, a, b, other))),
+        0 => Ok(Some(with_three_parts(form, other, b, c))),
+        1 => Ok(Some(with_three_parts(form, a, other, c))),
+        _ => Ok(Some(with_three_parts(form, a, b, other))),
     }
 }
 
