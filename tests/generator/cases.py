@@ -8,7 +8,7 @@ from generator.limits import Limits
 from generator.making import FORM_WEIGHTS, Maker
 from generator.steps import StepMaker, reversed_steps
 from generator.texts import LAWS, Step, certificate_text, network_text
-from generator.trees import expanded, head, is_network, preorder
+from generator.trees import child_places, expanded, head, is_network, preorder
 from generator.typed import Scope, check_types
 
 
@@ -119,8 +119,9 @@ class Case:
     def accepted_steps(self, steps, typeds):
         files = [text_of(typeds[0]), text_of(typeds[-1]), certificate_text(steps).encode()]
         self.accepted(self.hold("check", *files), files, len(steps))
-        for step in steps:
+        for step, typed in zip(steps, typeds):
             self.tally[f"laws {step.direction}", step.law] += 1
+            self.tally["places of steps", place_of(typed, step.position)] += 1
         return files
 
     def accepted(self, told, files, count):
@@ -136,9 +137,13 @@ class Case:
         self.hold("run", files[0], stream=stream)
 
     def refused(self, files, steps, typeds):
-        """A certificate with a step changed, or a target with a part changed."""
+        """A certificate with a step changed or one that is ill typed, or a target with a part changed."""
         source, target, certificate = files
         if self.maker.chance(0.3):
+            at = self.rng.randint(0, len(steps))
+            ill = self.steps.ill_typed_step(typeds[at])
+            certificate = certificate_text([*steps[:at], ill, *steps[at:]]).encode()
+        elif self.maker.chance(0.3):
             net = self.breaker.tree(typeds[-1].places[()].tree, self.maker)
             target = network_text(typeds[-1].input, expanded(net)).encode()
         else:
@@ -271,6 +276,20 @@ def words_of(tree):
     if not isinstance(tree, tuple):
         return [tree]
     return [word for part in tree for word in words_of(part)]
+
+
+def place_of(typed, position):
+    """What a position is inside of: the first that holds of a template, a frozen network, an expression, or a network."""
+    words = [(head(typed.places[position[:at]].tree), position[at:]) for at in range(len(position))]
+    if any(word in TEMPLATES and rest[0] == len(child_places(typed.places[position[: -len(rest)]].tree)) - 1 for word, rest in words):
+        return "in a template"
+    if any(word == "kSwitch" and rest[0] == 0 or word == "pSwitch" and rest[0] > 0 for word, rest in words):
+        return "in a network that is frozen, or what watches it"
+    parent = typed.places[position[:-1]].tree if position else None
+    return "in an expression" if parent is not None and not is_network(parent) else "elsewhere"
+
+
+TEMPLATES = ["switch", "dSwitch", "rSwitch", "kSwitch", "pSwitch"]
 
 
 def text_of(typed):

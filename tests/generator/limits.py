@@ -27,7 +27,7 @@ class Limits:
     def any(self, number):
         """The commands in turn, so that none is left out."""
         ways = [self.type_depth, self.type_nodes, self.network_height, self.expression_height, self.members, self.weight]
-        ways += [self.open, self.range, self.child, self.line, self.leaves, self.steps, self.size, self.inputs]
+        ways += [self.open, self.range, self.child, self.line, self.leaves, self.steps, self.size, self.inputs, self.grown]
         return ways[number % len(ways)]()
 
     def type_depth(self):
@@ -129,6 +129,14 @@ class Limits:
         text = network("Int", ("arr", ("add", "x", 1)))
         steps = [Step("E16", "forward", (0,))] * self.near(10_000)
         return Command("check", [text, text, certificate_text(steps).encode()])
+
+    def grown(self):
+        """A step that makes an expression one higher, at the limit of heights."""
+        count = self.near(255)
+        text = network("Int", ("arr", nested(count, lambda e: ("neg", e), "x")))
+        step = Step("E1", "backward", (0,) * (count + 1), ("then", "x", "x"))
+        target = network("Int", ("arr", nested(count, lambda e: ("neg", e), ("then", "x", "x"))))
+        return Command("check", [text, self.rng.choice([text, target]), certificate_text([step]).encode()])
 
     def size(self):
         text = network("Int", "time").ljust(self.near(1_048_576), self.rng.choice([b" ", b";", b"\n"]))

@@ -135,7 +135,7 @@ def first_event(happenings):
 class Model:
     """The outputs of networks; `fired` counts the switches that fired and the networks that were resumed, by their words."""
 
-    def __init__(self, fuel=400_000):
+    def __init__(self, fuel=100_000):
         self.fuel = fuel
         self.fired = Counter()
 

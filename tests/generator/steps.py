@@ -437,6 +437,37 @@ class StepMaker:
                 return arr(("list", place.output[1], *[member[1] for member in members]))
         return None
 
+    def ill_typed_step(self, typed):
+        """A step backward that matches, to a tree with a part that has hardly ever a type."""
+        position, tree = self.rng.choice(list(preorder(typed.places[()].tree)))
+        t = self.maker.type(2)
+        if is_network(tree):
+            ill = self.rng.choice([("old", self.rng.randint(0, 9)), ("hold", 0), arr(("p", 9)), arr(("not", 1)), ("parB",)])
+            trees = {
+                "L17": ("loopPre", self.rng.choice(["x", ("p", 9), ("not", 1)]), ("first", tree)),
+                "L20": seq(ill, tree),
+                "L25": seq(ill, tree),
+                "L31": ("switch", seq(tree, arr(("pair", "x", ("none", t)))), ill),
+                "L32": ("dSwitch", seq(tree, arr(("pair", "x", ("none", t)))), ill),
+                "L37": ("kSwitch", tree, arr(("none", t)), ill),
+                "L40": seq(("parB", tree, ill), arr(("nth", "x", 0, 0))),
+            }
+        else:
+            ill = self.rng.choice([("p", 9), ("not", 1), ("add", "true", 1), ("fst", 0), ("if", 1, "x", "x"), ("equal", 1, "true")])
+            trees = {
+                "E6": ("then", ill, tree),
+                "E7": ("fst", ("pair", tree, ill)),
+                "E8": ("snd", ("pair", ill, tree)),
+                "E9": ("pair", ("fst", tree), ("snd", tree)),
+                "E10": ("if", "true", tree, ill),
+                "E11": ("if", "false", ill, tree),
+                "E12": ("if", ill, tree, tree),
+                "E13": ("on", ("none", t), tree, ill),
+                "E18": ("nth", ("list", t, tree), 0, tree),
+            }
+        law = self.rng.choice(list(trees))
+        return Step(law, "backward", position, trees[law])
+
     def walk(self, typed, count):
         """A row of steps that can be taken from a network, in both directions, and the typed networks between them."""
         steps, typeds = [], [typed]
