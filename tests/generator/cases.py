@@ -8,7 +8,7 @@ from generator.limits import Limits
 from generator.making import FORM_WEIGHTS, Maker
 from generator.steps import StepMaker, reversed_steps
 from generator.texts import LAWS, Step, certificate_text, network_text
-from generator.trees import child_places, expanded, head, is_network, preorder
+from generator.trees import SUGAR_WORDS, child_places, expanded, head, is_network, preorder
 from generator.typed import Scope, check_types
 
 
@@ -24,12 +24,9 @@ class Case:
 
     def run(self):
         kind = KINDS[self.number % len(KINDS)]
-        if kind == "optimised" and not self.program.optimises:
-            kind = "certified"
-        if kind in self.program.skipped:
-            return
-        self.tally["case", kind] += 1
-        getattr(self, kind)()
+        if kind not in self.program.skipped:
+            self.tally["kinds of cases", kind] += 1
+            getattr(self, kind)()
 
     def next_of(self, kind, words):
         """The words in turn over the cases of a kind, so that in few cases none is left out."""
@@ -61,7 +58,7 @@ class Case:
     def count(self, made, core, given):
         """Tells the tally which forms, sugar and types are there."""
         for word in words_of(made):
-            if word in SUGAR:
+            if word in SUGAR_WORDS:
                 self.tally["sugar", word] += 1
         for _, tree in preorder(core):
             self.tally["forms" if is_network(tree) else "expressions", head(tree)] += 1
@@ -98,8 +95,10 @@ class Case:
         lines = stream.split(b"\n")
         front = b"".join(line + b"\n" for line in lines[: self.rng.randrange(len(lines))])
         part = self.hold("run", text, stream=front)
-        if whole and not (whole == other and whole.output.startswith(part.output)):
-            raise Find(Command("run", [text], stream), "a front of the stream, or pieces of it, give other lines", whole, part)
+        if whole != other:
+            raise Find(Command("run", [text], stream), "pieces of the stream give other lines", other, whole)
+        if not whole.output.startswith(part.output):
+            raise Find(Command("run", [text], stream), "the front of the stream gives other lines", part, whole)
 
     def certified(self):
         """A law at a random place, and a row of steps from there; then all the way back."""
@@ -130,11 +129,11 @@ class Case:
 
     def same(self, files, stream):
         """Source, target and the checked target write the same bytes."""
-        told = [self.program.run(Command("run", [file], stream)) for file in files[:2]]
-        told.append(self.program.run(Command("run-checked", files, stream, self.pieces(stream))))
-        if not told[0] == told[1] == told[2]:
-            raise Find(Command("run-checked", files, stream), "source and target write other bytes", told[1], told[0])
-        self.hold("run", files[0], stream=stream)
+        source = self.hold("run", files[0], stream=stream)
+        target = self.program.run(Command("run", files[1:2], stream))
+        behind_check = self.program.run(Command("run-checked", files, stream, self.pieces(stream)))
+        if not source == target == behind_check:
+            raise Find(Command("run-checked", files, stream), "source and target write other bytes", target, source)
 
     def refused(self, files, steps, typeds):
         """A certificate with a step changed or one that is ill typed, or a target with a part changed."""
@@ -150,7 +149,7 @@ class Case:
             certificate = certificate_text(self.changed(steps)).encode()
         command = self.rng.choice(["check", "check", "run-checked"])
         told = self.hold(command, source, target, certificate, stream=self.stream(typeds[0]))
-        if told and told.output.startswith(b"accepted"):
+        if told.output.startswith(b"accepted"):
             self.same([source, target, certificate], self.stream(typeds[0]))
 
     def changed(self, steps):
@@ -166,15 +165,14 @@ class Case:
             [Step(law, step.direction, step.position, step.given)],
             [Step(step.law, turned_round, step.position, step.given)],
             [Step(step.law, step.direction, position, step.given)],
-            [Step(step.law, step.direction, step.position, None if step.given is not None else self.some_tree(step.law))],
         ]
-        if step.given is not None:
-            given = self.breaker.tree(step.given, self.maker)
-            ways += [[Step(step.law, step.direction, step.position, expanded(given))]] * 3
+        if step.given is None:
+            ways.append([Step(step.law, step.direction, step.position, "time" if law[0] == "L" else "x")])
+        else:
+            given = expanded(self.breaker.tree(step.given, self.maker))
+            ways += [[Step(step.law, step.direction, step.position)]]
+            ways += [[Step(step.law, step.direction, step.position, given)]] * 3
         return steps[:at] + self.rng.choice(ways) + steps[at + 1 :]
-
-    def some_tree(self, law):
-        return "time" if law[0] == "L" else "x"
 
     def optimised(self):
         """The optimiser's network, given again, and its certificate."""
@@ -208,8 +206,7 @@ class Case:
         text = self.maker.spaced(network_text(typed.input, made))
         self.hold("types", self.breaker.broken(text))
         self.hold("run", text, stream=self.breaker.broken(self.stream(typed)))
-        commands = ["run", "types"] + ["optimise"] * self.program.optimises
-        self.hold(self.rng.choice(commands), self.breaker.broken(text), stream=self.stream(typed))
+        self.hold(self.rng.choice(["run", "types", "optimise"]), self.breaker.broken(text), stream=self.stream(typed))
         steps, typeds = self.steps.walk(typed, 3)
         files = [text_of(typeds[0]), text_of(typeds[-1]), self.maker.spaced(certificate_text(steps))]
         at = self.rng.choice([0, 1, 2, 2, 2, 2])
@@ -226,7 +223,6 @@ class Case:
         self.hold("check", text, text, self.breaker.large(beginning))
         stream = self.breaker.large(self.rng.choice([b"", b"5\n+1 ", b"(list ", b"5\n+"]))
         self.hold("run", b"yampa 1 input " + self.rng.choice([b"Int", b"(List Int)"]) + b" identity", stream=stream)
-
 
     def limits(self):
         """What stands at the limits, and one past them."""
@@ -267,7 +263,7 @@ WRONG_WORDS = [
     [b"\xfe"],
 ]
 FORM_WORDS = [word for word in FORM_WEIGHTS if word != "old"]
-SUGAR = "constant second *** &&& never now edge identity accumHoldBy lMerge gate tag attach".split()
+SWITCHES = ["switch", "dSwitch", "rSwitch", "kSwitch", "pSwitch"]
 KINDS = "ran certified hostile ran certified optimised ill_typed certified".split() * 4 + ["limits", "worded"]
 
 
@@ -279,17 +275,18 @@ def words_of(tree):
 
 
 def place_of(typed, position):
-    """What a position is inside of: the first that holds of a template, a frozen network, an expression, or a network."""
-    words = [(head(typed.places[position[:at]].tree), position[at:]) for at in range(len(position))]
-    if any(word in TEMPLATES and rest[0] == len(child_places(typed.places[position[: -len(rest)]].tree)) - 1 for word, rest in words):
-        return "in a template"
-    if any(word == "kSwitch" and rest[0] == 0 or word == "pSwitch" and rest[0] > 0 for word, rest in words):
-        return "in a network that is frozen, or what watches it"
-    parent = typed.places[position[:-1]].tree if position else None
-    return "in an expression" if parent is not None and not is_network(parent) else "elsewhere"
-
-
-TEMPLATES = ["switch", "dSwitch", "rSwitch", "kSwitch", "pSwitch"]
+    """What a position is inside of: of a template, a network that may be frozen, and an expression the first that holds."""
+    found = "elsewhere"
+    for at, number in enumerate(position):
+        tree = typed.places[position[:at]].tree
+        word = head(tree)
+        if word in SWITCHES and number == len(child_places(tree)) - 1:
+            return "in a template"
+        if word == "kSwitch" and number == 0 or word == "pSwitch" and 1 <= number < len(tree[2]):
+            found = "in a network that may be frozen"
+        elif found == "elsewhere" and not is_network(tree):
+            found = "in an expression"
+    return found
 
 
 def text_of(typed):

@@ -70,7 +70,7 @@ def wanted_of(command, tally):
         files = read_files(command)
         return printed(command, files, tally)
     except Refused as fault:
-        tally["fault", fault_kind(str(fault))] += 1
+        tally["faults", fault_kind(str(fault))] += 1
         return Told(b"", f"{fault}\n".encode(), 3 if str(fault).endswith("cannot be read") else 1)
 
 
@@ -157,7 +157,7 @@ def ran(text, stream, tally):
     output = "".join(shown(value) + "\n" for value in values).encode()
     if not fault:
         return Told(output)
-    tally["fault", fault_kind(f"stream: {fault}")] += 1
+    tally["faults", fault_kind(f"stream: {fault}")] += 1
     return Told(output, f"stream: {fault}\n".encode(), 1)
 
 
@@ -185,8 +185,8 @@ class Slot:
 class Program:
     """The program, run in a folder of its own; it keeps a tally of what was met."""
 
-    def __init__(self, path, longest=1.0):
-        self.path, self.longest = Path(path).resolve(), longest
+    def __init__(self, path, longest, skipped):
+        self.path, self.longest, self.skipped = Path(path).resolve(), longest, skipped
         self.folder = Path(tempfile.mkdtemp(prefix="generated-", dir=MEMORY if MEMORY.is_dir() else None))
         self.slots = {name: Slot(self.folder / name) for name in [*FILES, "stream", "output", "error"]}
         self.tally = Counter()
@@ -216,7 +216,7 @@ class Program:
 
     def judge(self, command, told, seconds):
         """What holds of every run, whatever the files and the stream."""
-        self.tally["status", told.status] += 1
+        self.tally["statuses", told.status] += 1
         if told.status not in (0, 1, 2, 3):
             raise Find(command, f"ended by a signal or with status {told.status}", told)
         if seconds > self.longest:
@@ -225,16 +225,16 @@ class Program:
             raise Find(command, "no one line on standard error", told)
 
     def hold(self, command):
-        """Runs a command and holds it to the model. None where the model is too slow for it."""
+        """What a command tells, held to the model where that isn't too slow for it."""
         told = self.run(command)
         try:
             wanted = wanted_of(command, self.tally)
         except TooSlow:
             self.tally["counts", "too slow for the model"] += 1
-            return None
+            return told
         if told != wanted:
             raise Find(command, "the model says something else", told, wanted)
-        self.tally["command", command.command] += 1
+        self.tally["commands", command.command] += 1
         return told
 
 

@@ -63,6 +63,8 @@ NETWORK_SUGAR = {
     "accumHoldBy": ["E", "E"],
 }
 
+SUGAR_WORDS = [*EXPRESSION_SUGAR, *NETWORK_SUGAR, *NETWORK_SUGAR_WORDS]
+
 GREATEST = 2**63 - 1
 NUMBERS = {
     "literal": (-(2**63), GREATEST),
