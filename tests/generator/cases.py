@@ -68,12 +68,13 @@ class Case:
         return self.program.hold(Command(command, list(files), stream, list(pieces)))
 
     def stream(self, typed):
-        """A stream of the network's input type, of which one in five has a faulty line."""
+        """A stream of the network's input type, of which one in five has a faulty line, and some lack the last line feed."""
         lines = self.maker.stream(typed.input)
         if lines and self.maker.chance(0.2):
             at = self.rng.randrange(len(lines))
             lines[at] = self.breaker.broken(lines[at])
-        return b"".join(lines)
+        stream = b"".join(lines)
+        return stream.removesuffix(b"\n") if self.maker.chance(0.1) else stream
 
     def pieces(self, stream):
         """The stream in pieces."""

@@ -44,7 +44,8 @@ class Maker:
             return ("pair", *map(self.value, parts))
         if word == "Event":
             return "none" if self.chance(0.6) else ("event", self.value(parts[0]))
-        return ("list", *[self.value(parts[0]) for _ in range(self.rng.choice([0, 1, 1, 2, 3]))])
+        count = self.rng.choice([0, 1, 1, 2, 3]) if self.chance(0.995) else self.rng.randint(50, 1_000)
+        return ("list", *[self.value(parts[0]) for _ in range(count)])
 
     # ---- expressions
 
@@ -377,7 +378,7 @@ class Maker:
 
     def stream(self, type_):
         """The lines of a stream, each with its line feed."""
-        count = self.rng.choice([0, 1, 2, 3, 5, 8, 12, 16])
+        count = self.rng.choice([0, 1, 2, 3, 5, 8, 12, 16]) if self.chance(0.97) else self.rng.randint(100, 400)
         lines = []
         for number in range(count):
             shown_value = "=" if number and self.chance(0.15) else shown(self.value(type_))
