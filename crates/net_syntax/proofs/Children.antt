@@ -1,6 +1,6 @@
--- Which child of a `pSwitch` stands at which number.
-use Rattle.std.proofs.Common.{◌≡◌, ℕ, zero, suc, Some, refl}
-use Rattle.net_syntax.specs.Network.{Network, Networks, no_members, and_member}
+-- Which child of a `pSwitch` stands at which number, and how many members there can be.
+use Rattle.std.proofs.Common.{◌≡◌, ◌≤◌, ℕ, zero, suc, Some, refl, arith}
+use Rattle.net_syntax.specs.Network.{Network, Networks, no_members, and_member, networks_size}
 use Rattle.net_syntax.specs.Typing.{members}
 use Rattle.net_syntax.specs.Place.{member, p_switch_child, member_child, event_child, continuation_child}
 
@@ -17,3 +17,8 @@ module _ {L : Type 0} where
   pub continuation_is : (fs : Networks L) → p_switch_child fs (suc (members fs)) ≡ continuation_child
   continuation_is no_members = refl
   continuation_is (and_member g fs) = continuation_is fs
+
+  -- each member is a network, and is counted as one
+  pub members_few : (fs : Networks L) → members fs ≤ networks_size fs
+  members_few no_members = omega arith
+  members_few (and_member f fs) = omega (arith, members_few fs)

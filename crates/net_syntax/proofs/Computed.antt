@@ -1,7 +1,7 @@
 -- The worked examples, each by computing.
 use Rattle.std.proofs.Common.{refl, arith}
 use Rattle.std.specs.Int.{int_wrap}
-use Rattle.net_syntax.specs.Examples.{AddThenDelay, OnNothing, AddWraps, RepeatedlyByTime, AfterOnce, AfterAtOnce, TimeWraps, SwitchAtOnce, SwitchLate, StartedAtTheEvent, SwitchTwice, SwitchTwiceWeight, RestartAtEvents, RestartAtTheFirst, FreezeClock, FreezeAndResume, ClockOfSix, SwapMembers, DelayByTime, SumsFedBack, SumsHeld, EdgeAtTrue, HeaviestWithin, JustTooHeavy, TooHeavy}
+use Rattle.net_syntax.specs.Examples.{AddThenDelay, OnNothing, AddWraps, RepeatedlyByTime, AfterOnce, AfterAtOnce, TimeWraps, SwitchAtOnce, SwitchLate, StartedAtTheEvent, SwitchTwice, SwitchTwiceWeight, RestartAtEvents, RestartAtTheFirst, FreezeClock, FreezeAndResume, ClockOfSix, SwapMembers, DelayByTime, SumsFedBack, SumsHeld, EdgeAtTrue, MemberNumbers, RoutedPasts, DelayOfMany, IntegralWraps, RestartClock, SumsAtEvents, HeaviestWithin, HeaviestHeight, JustTooHeavy, TooHeavy}
 
 pub add_then_delay : AddThenDelay
 unfolding int_wrap
@@ -79,9 +79,25 @@ pub delay_by_time : DelayByTime
 unfolding int_wrap
 delay_by_time = refl
 
+pub delay_of_many : DelayOfMany
+unfolding int_wrap
+delay_of_many = refl
+
+pub integral_wraps : IntegralWraps
+unfolding int_wrap
+integral_wraps = refl
+
+pub restart_clock : RestartClock
+unfolding int_wrap
+restart_clock = refl
+
 pub sums_fed_back : SumsFedBack
 unfolding int_wrap
 sums_fed_back = refl
+
+pub sums_at_events : SumsAtEvents
+unfolding int_wrap
+sums_at_events = refl
 
 pub sums_held : SumsHeld
 unfolding int_wrap
@@ -91,8 +107,19 @@ pub edge_at_true : EdgeAtTrue
 unfolding int_wrap
 edge_at_true = refl
 
+pub member_numbers : MemberNumbers
+unfolding int_wrap
+member_numbers = refl
+
+pub routed_pasts : RoutedPasts
+unfolding int_wrap
+routed_pasts = refl
+
 pub heaviest_within : HeaviestWithin
 heaviest_within = refl
+
+pub heaviest_height : HeaviestHeight
+heaviest_height = refl
 
 pub just_too_heavy : JustTooHeavy
 just_too_heavy = refl

@@ -51,7 +51,7 @@ two : (net : Network Expression) (at : List ℕ) (j k : ℕ) (f g : Network Expr
 two net at j k f g ns ms hf hg df dg = All-append (Stands net at) ns ms (up net f at j ns hf df) (up net g at k ms hg dg)
 
 -- a member of a pSwitch is its child
-child_is_member : (fs : Networks Expression) (j : ℕ) (f e t : Network Expression) → member fs j ≡ Some f
+pub child_is_member : (fs : Networks Expression) (j : ℕ) (f e t : Network Expression) → member fs j ≡ Some f
     → child_network (p_switch_child fs j) fs e t j ≡ Some f
 child_is_member fs j f e t h = ap (λ o. child_network o fs e t j) (member_is fs j f h) ∙ h
 

@@ -2,9 +2,10 @@
 use Rattle.std.specs.Prelude.{◌≡◌, ℕ, zero, suc, ◌<◌, pos, negsuc, true, false, List, [], ◌∷◌}
 use Rattle.sample_core.specs.Datum.{Datum, unit, bool, int, pair, no_event, event, list, list_of}
 use Rattle.sample_core.specs.TypeTree.{unit_ty, int_ty}
-use Rattle.leaf_core.specs.Expression.{Expression, input, param, unit_expr, bool_expr, int_expr, pair_expr, fst, snd, neg, add, less, equal, not_expr, and_expr, if_expr, no_event_expr, event_expr}
+use Rattle.leaf_core.specs.Expression.{Expression, input, param, unit_expr, bool_expr, int_expr, pair_expr, fst, snd, neg, add, mul, less, equal, not_expr, and_expr, if_expr, no_event_expr, event_expr}
 use Rattle.net_syntax.specs.SignalFunction.{TimedList}
 use Rattle.net_syntax.specs.Network.{Network, arr, seq, first, par, loop_pre, i_pre, delay, hold, accum_by, after, repeatedly, time, integral, switch, d_switch, r_switch, k_switch, p_switch, old, networks_of}
+use Rattle.net_syntax.specs.Height.{height}
 use Rattle.net_syntax.specs.Weight.{weight}
 use Rattle.net_syntax.specs.TypedNetwork.{stream_of}
 
@@ -162,6 +163,22 @@ abbrev pub DelayByTime : Type 0
 DelayByTime = stream_of (delay 3 (num 0)) ((0, n 1) ∷ (2, n 2) ∷ (2, n 3) ∷ (2, n 4) ∷ []) ≡ n 0
     ∷ n 0 ∷ n 1 ∷ n 2 ∷ []
 
+-- at the times 0, 1, 9, 10, 12: two samples are due at once, and then none for long
+abbrev pub DelayOfMany : Type 0
+DelayOfMany = stream_of (delay 3 (num 0))
+    ((0, n 1) ∷ (1, n 2) ∷ (8, n 3) ∷ (1, n 4) ∷ (2, n 5) ∷ []) ≡ n 0 ∷ n 0 ∷ n 2 ∷ n 2 ∷ n 3 ∷ []
+
+-- `integral` wraps
+abbrev pub IntegralWraps : Type 0
+IntegralWraps = stream_of integral ((0, n 9223372036854775807) ∷ (2, n 0) ∷ []) ≡ n 0 ∷ minus 2 ∷ []
+
+-- `(rSwitch time time)`: at each event the clock starts anew
+abbrev pub RestartClock : Type 0
+RestartClock = stream_of (r_switch time time)
+    ((0, pair unit no_event) ∷ (4, pair unit no_event) ∷ (5, pair unit (event unit))
+    ∷ (6, pair unit no_event) ∷ (7, pair unit (event unit)) ∷ (1, pair unit no_event) ∷ []) ≡ n 0
+    ∷ n 4 ∷ n 0 ∷ n 6 ∷ n 0 ∷ n 1 ∷ []
+
 -- `(add (fst x) (snd x))`
 abbrev pub both_parts : Expression
 both_parts = add (fst input) (snd input)
@@ -170,6 +187,12 @@ both_parts = add (fst input) (snd input)
 abbrev pub SumsFedBack : Type 0
 SumsFedBack = stream_of (loop_pre (num 0) (arr (pair_expr both_parts both_parts)))
     ((0, n 1) ∷ (1, n 2) ∷ (1, n 3) ∷ []) ≡ n 1 ∷ n 3 ∷ n 6 ∷ []
+
+-- `(accumBy (add (fst x) (snd x)) 10)` has no event where its input has none
+abbrev pub SumsAtEvents : Type 0
+SumsAtEvents = stream_of (accum_by both_parts (num 10))
+    ((0, no_event) ∷ (1, event (n 5)) ∷ (1, no_event) ∷ (1, event (n 1)) ∷ []) ≡ no_event
+    ∷ event (n 15) ∷ no_event ∷ event (n 16) ∷ []
 
 -- `(accumHoldBy (add (fst x) (snd x)) 10)` in its core forms
 abbrev pub SumsHeld : Type 0
@@ -203,6 +226,25 @@ EdgeAtTrue = stream_of edge ((0, bool true) ∷ (1, bool false) ∷ (1, bool tru
 abbrev pub never_event : Network Expression
 never_event = arr (no_event_expr unit_ty)
 
+-- `(pSwitch (add (fst x) (mul 10 (snd x))) (col f f) E (parB g ..))`: to each member ten more than
+-- to the one before
+abbrev pub routed_by_number : Network Expression → Network Expression → List (Network Expression)
+    → Network Expression
+routed_by_number f e gs =
+    p_switch (add (fst input) (mul (num 10) (snd input))) (networks_of (f ∷ f ∷ [])) e
+    (par (networks_of gs))
+
+-- a member's number is counted from 0
+abbrev pub MemberNumbers : Type 0
+MemberNumbers = stream_of (routed_by_number (arr input) never_event (old 0 ∷ old 1 ∷ []))
+    ((0, n 5) ∷ []) ≡ two 5 15 ∷ []
+
+-- what is frozen has seen what was routed to it, and once resumed gets the input itself
+abbrev pub RoutedPasts : Type 0
+RoutedPasts = stream_of
+    (routed_by_number (i_pre (num 0)) (at_left 7) (old 1 ∷ old 0 ∷ []))
+    ((0, n 5) ∷ (1, n 7) ∷ (1, n 5) ∷ []) ≡ two 0 0 ∷ two 15 5 ∷ two 7 7 ∷ []
+
 -- m times `(kSwitch (>>> (old k) (old k)) E ..)`, k one more each time, then the last network
 abbrev pub doubled : ℕ → ℕ → Network Expression → Network Expression
 doubled zero k last = last
@@ -218,19 +260,26 @@ abbrev pub olds_then : List (Network Expression) → Network Expression
 olds_then gs = in_sequence (old 16) (old 15 ∷ old 14 ∷ old 12 ∷ old 7 ∷ old 4 ∷ old 2 ∷ old 1 ∷ gs)
 
 -- each nesting doubles the weight: the heaviest network within the limit
-abbrev pub HeaviestWithin : Type 0
-HeaviestWithin =
-    weight
-    (k_switch (arr input) never_event
-    (doubled 16 0 (olds_then (arr input ∷ arr input ∷ arr input ∷ [])))) [] ≡ 1000000
+abbrev pub heaviest : Network Expression
+heaviest =
+    k_switch (arr input) never_event
+    (doubled 16 0 (olds_then (arr input ∷ arr input ∷ arr input ∷ [])))
 
--- one that is just past it
+-- its weight is the limit
+abbrev pub HeaviestWithin : Type 0
+HeaviestWithin = weight heaviest [] ≡ 1000000
+
+-- its height
+abbrev pub HeaviestHeight : Type 0
+HeaviestHeight = height heaviest [] ≡ 52
+
+-- one that is just past the limit
 abbrev pub JustTooHeavy : Type 0
 JustTooHeavy =
     weight
     (k_switch (arr input) never_event
     (doubled 16 0 (olds_then (arr input ∷ arr input ∷ arr input ∷ arr input ∷ [])))) [] ≡ 1000002
 
--- one that is past it by its nesting alone
+-- one that is past the limit by its nesting alone
 abbrev pub TooHeavy : Type 0
 TooHeavy = 1000000 < weight (k_switch (arr input) never_event (doubled 19 0 (old 19))) []

@@ -1,5 +1,8 @@
 -- Laws of every network in every environment.
-use Rattle.std.specs.Prelude.{◌≡◌, ℕ, List, [], Some, All, length, take}
+use Rattle.std.specs.Prelude.{◌≡◌, ℕ, List, [], Some, All, Contains, length, map, take}
+use Rattle.std.specs.Cmp.Lexicographic.{slice_cmp}
+use Rattle.std.specs.List.Sorted.{IsStrictlySortedBy}
+use Rattle.std.specs.Ordering.{nat_cmp}
 use Rattle.sample_core.specs.TypeTree.{TypeTree}
 use Rattle.leaf_core.specs.Expression.{Expression}
 use Rattle.leaf_core.specs.ExpressionValue.{value_of}
@@ -68,6 +71,17 @@ WithinLaw = (Ps : List TypeTree) (Os : List Arrow) (net : Network Expression) (A
 abbrev pub PositionLaw : Type 0
 PositionLaw = (t : TypedNetwork) (ns : List Need) → LeavesOf t ns
     → All (λ n. at (a_network t.net) n.position ≡ Some (a_leaf n.key.expr, [])) ns
+
+-- each expression that is a child of a network is listed
+abbrev pub AllReachedLaw : Type 0
+AllReachedLaw = (t : TypedNetwork) (ns : List Need) → LeavesOf t ns → (p : List ℕ) (e : Expression)
+    → at (a_network t.net) p ≡ Some (a_leaf e, []) → Contains (map (λ n. n.position) ns) p
+
+-- they are listed in the order of their positions: at the first number where two differ, the lower
+-- comes first
+abbrev pub InOrderLaw : Type 0
+InOrderLaw = (t : TypedNetwork) (ns : List Need) → LeavesOf t ns
+    → IsStrictlySortedBy (slice_cmp nat_cmp) (map (λ n. n.position) ns)
 
 -- what stands at a position of a network within the limits has one type there
 abbrev pub OneTypeAtLaw : Type 0

@@ -12,6 +12,8 @@ ghost use Rattle.net_syntax.specs.Laws.{
   OneTypeLaw,
   OneListLaw,
   PositionLaw,
+  AllReachedLaw,
+  InOrderLaw,
   WithinLaw,
   OneTypeAtLaw,
 };
@@ -47,7 +49,14 @@ ghost use Rattle.net_syntax.specs.Examples.{
   SumsFedBack,
   SumsHeld,
   EdgeAtTrue,
+  MemberNumbers,
+  RoutedPasts,
+  DelayOfMany,
+  IntegralWraps,
+  RestartClock,
+  SumsAtEvents,
   HeaviestWithin,
+  HeaviestHeight,
   JustTooHeavy,
   TooHeavy,
 };
@@ -61,8 +70,8 @@ pub fn stream_laws()
 {}
 
 /// A typed network outputs typed values, the same ones in alike environments, and it has one
-/// output type and one list of expressions, each of which stands at its position. What stands at a
-/// position has one type there.
+/// output type and one list of expressions: each that is a child of a network in it, at its
+/// position, in the order of the positions. What stands at a position has one type there.
 pub fn typing_laws()
     ensures typed { TypedOutputsLaw }
     ensures alike { AlikeLaw }
@@ -70,6 +79,8 @@ pub fn typing_laws()
     ensures one_type { OneTypeLaw }
     ensures one_list { OneListLaw }
     ensures positions { PositionLaw }
+    ensures all_reached { AllReachedLaw }
+    ensures in_order { InOrderLaw }
     ensures within { WithinLaw }
     ensures one_type_at { OneTypeAtLaw }
 {}
@@ -108,12 +119,19 @@ pub fn output_examples()
     ensures sums_fed_back { SumsFedBack }
     ensures sums_held { SumsHeld }
     ensures edge_at_true { EdgeAtTrue }
+    ensures member_numbers { MemberNumbers }
+    ensures routed_pasts { RoutedPasts }
+    ensures delay_of_many { DelayOfMany }
+    ensures integral_wraps { IntegralWraps }
+    ensures restart_clock { RestartClock }
+    ensures sums_at_events { SumsAtEvents }
 {}
 
-/// What some networks weigh, computed by the definitions.
+/// What some networks weigh and how high one is, computed by the definitions.
 pub fn weight_examples()
     ensures switch_twice_weight { SwitchTwiceWeight }
     ensures heaviest_within { HeaviestWithin }
+    ensures heaviest_height { HeaviestHeight }
     ensures just_too_heavy { JustTooHeavy }
     ensures too_heavy { TooHeavy }
 {}

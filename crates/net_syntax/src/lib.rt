@@ -30,7 +30,7 @@ pub use measure::{MOST_HEIGHT, MOST_WEIGHT, height, is_oversized, weight};
 pub use need::LeafNeed;
 pub use needs::leaves;
 pub use net::{Members, Net, NetChild};
-pub use place::{Place, TreeRef, at, child};
+pub use place::{Place, TreeRef, at, child, place_below};
 pub use position::{Position, print_position, push_position};
 pub use replacing::replace;
 pub use standing::{Standing, child_standing, type_at};

@@ -48,8 +48,10 @@ pub fn at<'n>(net: &'n Net<Expr>, position: &Position) -> Option<Place<'n>>
     place_below(whole, position.path())
 }
 
-/// What stands at the path below a place.
-fn place_below<'n>(place: Place<'n>, path: &[u32]) -> Option<Place<'n>>
+/// What stands at the path below a place; `None` where the path isn't there. Along the path, as far
+/// as it leads, fewer than 2^32 parameters and fewer than 2^32 frozen networks must be in scope. It
+/// takes no memory.
+pub fn place_below<'n>(place: Place<'n>, path: &[u32]) -> Option<Place<'n>>
     requires { FewBound place.params place.olds (seen place.tree) path.now }
     ensures { option_map seen_place result
         ≡ placed_at place.entry.params place.entry.olds (seen place.entry.tree) path.now }

@@ -1,4 +1,4 @@
-use Rattle.net_syntax.proofs.Computed.{add_then_delay, on_nothing, add_wraps, repeatedly_by_time, after_once, after_at_once, time_wraps, switch_at_once, switch_late, started_at_the_event, switch_twice, restart_at_events, restart_at_the_first, freeze_clock, freeze_and_resume, clock_of_six, swap_members, delay_by_time, sums_fed_back, sums_held, edge_at_true}
+use Rattle.net_syntax.proofs.Computed.{add_then_delay, on_nothing, add_wraps, repeatedly_by_time, after_once, after_at_once, time_wraps, switch_at_once, switch_late, started_at_the_event, switch_twice, restart_at_events, restart_at_the_first, freeze_clock, freeze_and_resume, clock_of_six, swap_members, delay_by_time, sums_fed_back, sums_held, edge_at_true, member_numbers, routed_pasts, delay_of_many, integral_wraps, restart_clock, sums_at_events}
 use Rattle.net_syntax.proofs.laws.output_examples.Goals as goal
 
 pub returns-clause-add_then_delay : goal.returns-clause-add_then_delay
@@ -63,3 +63,21 @@ returns-clause-sums_held c = sums_held
 
 pub returns-clause-edge_at_true : goal.returns-clause-edge_at_true
 returns-clause-edge_at_true c = edge_at_true
+
+pub returns-clause-member_numbers : goal.returns-clause-member_numbers
+returns-clause-member_numbers c = member_numbers
+
+pub returns-clause-routed_pasts : goal.returns-clause-routed_pasts
+returns-clause-routed_pasts c = routed_pasts
+
+pub returns-clause-delay_of_many : goal.returns-clause-delay_of_many
+returns-clause-delay_of_many c = delay_of_many
+
+pub returns-clause-integral_wraps : goal.returns-clause-integral_wraps
+returns-clause-integral_wraps c = integral_wraps
+
+pub returns-clause-restart_clock : goal.returns-clause-restart_clock
+returns-clause-restart_clock c = restart_clock
+
+pub returns-clause-sums_at_events : goal.returns-clause-sums_at_events
+returns-clause-sums_at_events c = sums_at_events
