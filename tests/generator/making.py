@@ -5,6 +5,7 @@ from generator.typed import Scope, event, is_form, list_of, pair
 FORM_WEIGHTS = {word: 2 for word in [*NETWORK_FORMS, *NETWORK_WORDS]}
 FORM_WEIGHTS |= {word: 1 for word in [*NETWORK_SUGAR, *NETWORK_SUGAR_WORDS]}
 FORM_WEIGHTS |= {"arr": 5, ">>>": 5, "switch": 3, "kSwitch": 3, "pSwitch": 3, "old": 6}
+MEMORY = "iPre delay hold accumBy after repeatedly time integral loopPre".split()
 NAMES = {">>>": "seq", "***": "both", "&&&": "fan"}
 UNIT_SCOPE = Scope()
 
@@ -339,25 +340,37 @@ class Maker:
         value = self.type(2)
         e = self.part_of(pair(given, output), event(value), scope, size, 3)
         inner = scope.with_param(value).with_olds([(given, output)])
-        f = self.part_of(given, output, scope, size, 3)
-        return given, ("kSwitch", f, e, self.resuming(given, output, inner, size, 1)), output
+        f = self.remembering(given, output, scope, size)
+        return given, ("kSwitch", f, e, self.resuming(given, output, inner, size)), output
 
     def form_pSwitch(self, given, output, scope, size):
         member = output[1] if is_form("List", output) else output
         routed, value, out = self.rng.choice([given, self.type(2)]), self.type(2), list_of(member)
-        members = self.members(routed, member, scope, size - 1)
+        if self.chance(0.5):
+            members = self.members(routed, member, scope, size - 1)
+        else:
+            members = [self.remembering(routed, member, scope, 1) for _ in range(self.rng.randint(1, 3))]
         e = self.part_of(pair(given, out), event(value), scope, size, 3)
         inner = scope.with_param(value).with_olds([(routed, member)] * len(members))
         r = self.expression(pair(given, "Int"), routed, scope)
-        return given, ("pSwitch", r, ("col", *members), e, self.resuming(given, out, inner, size, len(members))), out
+        return given, ("pSwitch", r, ("col", *members), e, self.resuming(given, out, inner, size)), out
 
-    def resuming(self, given, output, scope, size, frozen):
-        """A continuation, which often resumes one of the networks that were frozen last."""
-        if self.chance(0.4):
+    def remembering(self, given, output, scope, size):
+        """A network that is to be frozen: half of them remember what came before."""
+        if self.chance(0.5):
+            return self.part_of(given, output, scope, size, 3)
+        return self.fitted(given, self.of_form(self.rng.choice(MEMORY), given, output, scope, 1), output, scope)
+
+    def resuming(self, given, output, scope, size):
+        """A continuation, which often resumes frozen networks, or freezes another one first."""
+        way = self.rng.choice(["any", "freeze", "one", "one", "two"])
+        if way == "any":
             return self.part_of(given, output, scope, size)
-        level = len(scope.olds) - self.rng.randint(1, frozen)
+        if way == "freeze" and size > 0:
+            return self.fitted(given, self.form_kSwitch(given, output, scope, size - 2), output, scope)
+        level = self.rng.choice([len(scope.olds) - 1, self.rng.randrange(len(scope.olds))])
         into, out = scope.olds[level]
-        if self.chance(0.3):
+        if way == "two":
             return self.fitted(given, (into, ("parB", ("old", level), ("old", level)), list_of(out)), output, scope)
         return self.fitted(given, (into, ("old", level), out), output, scope)
 
