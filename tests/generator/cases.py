@@ -263,7 +263,7 @@ WRONG_WORDS = [
     [b"types", b"\xff"],
     [b"\xfe"],
 ]
-FORM_WORDS = [word for word in FORM_WEIGHTS if word != "old"]
+FORM_WORDS = [word for word in FORM_WEIGHTS if word != "old"] + ["kSwitch", "pSwitch"] * 3
 SWITCHES = ["switch", "dSwitch", "rSwitch", "kSwitch", "pSwitch"]
 KINDS = "ran certified hostile ran certified optimised ill_typed certified".split() * 4 + ["limits", "worded"]
 

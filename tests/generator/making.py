@@ -366,8 +366,9 @@ class Maker:
         way = self.rng.choice(["any", "freeze", "one", "one", "two"])
         if way == "any":
             return self.part_of(given, output, scope, size)
-        if way == "freeze" and size > 0:
-            return self.fitted(given, self.form_kSwitch(given, output, scope, size - 2), output, scope)
+        if way == "freeze" and size > -2:
+            form = self.rng.choice([self.form_kSwitch, self.form_pSwitch])
+            return self.fitted(given, form(given, output, scope, size - 1), output, scope)
         level = self.rng.choice([len(scope.olds) - 1, self.rng.randrange(len(scope.olds))])
         into, out = scope.olds[level]
         if way == "two":
