@@ -1,5 +1,5 @@
 -- The walk and the check answer exactly the networks within the limits.
-use Rattle.std.proofs.Common.{◌≡◌, ◌∙◌, ℕ, true, min, arith, leb, [], Ok, Err, refl, ◌≤◌, sym, le-leb, leb-true}
+use Rattle.std.proofs.Common.{◌≡◌, ◌∙◌, ℕ, cond, true, min, arith, leb, [], Ok, Err, refl, ap, ◌≤◌, sym, le-leb, leb-true}
 use Rattle.sample_core.specs.TypeTree.{TypeTree}
 use Rattle.leaf_core.specs.Expression.{Expression}
 use Rattle.leaf_core.specs.TypeLimits.{type_fits}
@@ -13,9 +13,10 @@ use Rattle.net_syntax.specs.TypedNetwork.{TypedNetwork}
 use Rattle.net_syntax.specs.NetworkLimits.{WithinLimits}
 use Rattle.net_types.specs.declared.fault.TypeFault.{TypeFault}
 use Rattle.net_types.specs.declared.fault.TypeFault.TheVariants as Fault
-use Rattle.net_types.specs.Check.{net_walk, check}
+use Rattle.net_types.specs.Check.{net_walk, first_fault, check}
 use Rattle.net_types.specs.TypingLaws.{WalkLaw, CheckLaw}
-use Rattle.net_types.proofs.WalkTests.{Holds, ok_holds, next, holding, goes_on, faults_on, stops, tested, passes, within_tells, within_passes, type_fits-TypeFits, IsExact}
+use Rattle.net_types.specs.Walk.{◌>>◌, within}
+use Rattle.net_types.proofs.WalkTests.{Holds, ok_holds, err_holds, either, next, holding, goes_on, faults_on, stops, tested, passes, within_tells, within_passes, type_fits-TypeFits, IsExact}
 use Rattle.net_types.proofs.Sizes.{few_inside}
 use Rattle.net_types.proofs.WalkSound.{sound}
 use Rattle.net_types.proofs.WalkComplete.{complete}
@@ -30,12 +31,10 @@ walk_exact P Ps Os A net B = (
       complete (λ e Qs B. type_answer Qs B e) ExpressionTypedWithin exact P Ps Os A net B d,
 )
 
--- what the check answers is within the limits, and of what was given
-pub check_sound : (A : TypeTree) (net : Network Expression) → Holds (λ t. (t.input ≡ A) × (t.net ≡ net) × WithinLimits t) (check A net)
-check_sound A net =
+first_sound : (A : TypeTree) (net : Network Expression) → Holds (λ t. (t.input ≡ A) × (t.net ≡ net) × WithinLimits t) (first_fault A net)
+first_sound A net =
     next (within_tells A)
-    (λ Z w. next (tested (leb (network_size net) 2000000) Fault.TooHeavy) (λ n s.
-    next (sound (λ e Qs B. type_answer Qs B e) ExpressionTypedWithin exact [] [] [] A net)
+    (λ Z w. next (sound (λ e Qs B. type_answer Qs B e) ExpressionTypedWithin exact [] [] [] A net)
     (λ B d. next (tested (leb (height net []) 256) Fault.TooDeep) (λ u h. next (tested (leb (weight net []) 1000000) Fault.TooHeavy) (λ v k.
     ok_holds (
       refl,
@@ -46,16 +45,26 @@ check_sound A net =
             refl;
         its_height = refl;
       },
-    ))))))
+    )))))
+
+-- what the check answers is within the limits, and of what was given
+check_sound : (A : TypeTree) (net : Network Expression) → Holds (λ t. (t.input ≡ A) × (t.net ≡ net) × WithinLimits t) (check A net)
+check_sound A net =
+    either (Holds (λ t. (t.input ≡ A) × (t.net ≡ net) × WithinLimits t)) (leb (network_size net) 2000000) (first_sound A net)
+    (next (within_tells A) (λ Z w. err_holds))
+
+-- the check of a network that isn't vast
+of_few : (A : TypeTree) (net : Network Expression) → network_size net ≤ 2000000 → check A net ≡ first_fault A net
+of_few A net h = ap (λ b. cond b (first_fault A net) (within A >> Err Fault.TooHeavy)) (le-leb (network_size net) 2000000 h)
 
 check_complete : (t : TypedNetwork) → WithinLimits t → check t.input t.net ≡ Ok t
 check_complete t h =
-    goes_on _ (within_passes t.input h.fits.input_fits)
-    (goes_on _ (passes Fault.TooHeavy (le-leb (network_size t.net) 2000000 (few_inside t.net 1000000 h.fits.light)))
+    of_few t.input t.net (few_inside t.net 1000000 h.fits.light)
+    ∙ goes_on _ (within_passes t.input h.fits.input_fits)
     (goes_on _ (complete (λ e Qs B. type_answer Qs B e) ExpressionTypedWithin exact [] [] [] t.input t.net t.output h.fits.typed)
     (goes_on _ (passes Fault.TooDeep (le-leb (height t.net []) 256 h.fits.low))
     (goes_on _ (passes Fault.TooHeavy (le-leb (weight t.net []) 1000000 h.fits.light))
-    (λ i. Ok (record { input = t.input; output = t.output; net = t.net; weight = sym h.its_weight i; height = sym h.its_height i }))))))
+    (λ i. Ok (record { input = t.input; output = t.output; net = t.net; weight = sym h.its_weight i; height = sym h.its_height i })))))
 
 pub check_exact : CheckLaw
 check_exact A net t = (λ e. holding (check_sound A net) e, λ h. (λ i. check (sym h.0 i) (sym h.1 i)) ∙ check_complete t h.2)
@@ -74,5 +83,4 @@ within_limits A B net w h fits typed is_weight is_height light low =
 -- the walk's fault is the check's, where the tests before it are passed
 pub check_faults : (A : TypeTree) (net : Network Expression) (f : TypeFault) → type_fits A ≡ true → network_size net ≤ 2000000 → net_walk [] [] [] A net ≡ Err f
     → check A net ≡ Err f
-check_faults A net f fits small e =
-    faults_on _ (within_passes A (type_fits-TypeFits A fits)) (faults_on _ (passes Fault.TooHeavy (le-leb (network_size net) 2000000 small)) (stops _ e))
+check_faults A net f fits small e = of_few A net small ∙ faults_on _ (within_passes A (type_fits-TypeFits A fits)) (stops _ e)

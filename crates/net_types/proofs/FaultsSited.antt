@@ -18,6 +18,7 @@ use Rattle.net_types.specs.Walk.{LeafChecker, ◌>>=◌, ◌↓◌, test, within
 use Rattle.net_types.specs.Check.{check}
 use Rattle.net_types.specs.FaultPlaces.{FaultStandsIn, NetworkPlace, LeafPlace}
 use Rattle.net_types.specs.TypingLaws.{FaultLaw}
+use Rattle.net_types.proofs.WalkTests.{either}
 
 asked : {A B : Type 0} {r : Option A} (k : A → Option B) {a : A} {v : Option B} → r ≡ Some a → k a ≡ v → place.◌>>=◌ r k ≡ v
 asked k e d = ap (λ r. place.◌>>=◌ r k) e ∙ d
@@ -249,11 +250,12 @@ faulting (ended p) e = absurd (cc)
 check_sited : (A : TypeTree) (net : Network Expression) → Ends (FaultStandsIn net []) (λ t. Unit {0}) (check A net)
 check_sited A net =
     let t : LeafChecker Expression = λ e Qs B. type_answer Qs B e in
-    ends_next (by_within t net [] A)
-    (λ Z u. ends_next (by_test t net [] (leb (network_size net) 2000000) Fault.TooHeavy tt)
-    (λ n s. ends_next (sited t [] [] [] A net)
+    either (Ends (FaultStandsIn net []) (λ t. Unit {0})) (leb (network_size net) 2000000)
+    (ends_next (by_within t net [] A)
+    (λ Z u. ends_next (sited t [] [] [] A net)
     (λ B v. ends_next (by_test t net [] (leb (height net []) 256) Fault.TooDeep tt)
     (λ w i. ends_next (by_test t net [] (leb (weight net []) 1000000) Fault.TooHeavy tt) (λ j k. ended tt)))))
+    (ends_next (by_within t net [] A) (λ Z u. failed tt))
 
 pub faults_sited : FaultLaw
 faults_sited A net f e = faulting (check_sited A net) e

@@ -7,6 +7,5 @@ pub mod FaultsSited
 pub mod ScopeLists
 pub mod WalkParts
 pub mod Holes
-pub mod WithinParts
 pub mod ChangedPlaces
 pub mod Rewritings

@@ -13,6 +13,7 @@ use Rattle.leaf_core.specs.PartWalk.{part_type_at}
 use Rattle.leaf_core.proofs.Exactness.{same_tree-true, same_tree-refl}
 use Rattle.leaf_core.proofs.Uniqueness.{one_type}
 use Rattle.leaf_core.proofs.PartTypes.{TypedThere, there_typed, one_input, kept_there, inner}
+use Rattle.leaf_core.proofs.WithinParts.{put_there}
 use Rattle.net_syntax.specs.Network.{Network, network_size}
 use Rattle.net_syntax.specs.Weight.{weight}
 use Rattle.net_syntax.specs.Height.{height}
@@ -31,7 +32,6 @@ use Rattle.net_types.specs.Answered.{NoRewriting}
 use Rattle.net_types.proofs.Sizes.{size_law}
 use Rattle.net_types.proofs.Checks.{walk_exact}
 use Rattle.net_types.proofs.Holes.{output_found, Hole, hole, found_there}
-use Rattle.net_types.proofs.WithinParts.{put_there}
 use Rattle.net_types.proofs.ChangedPlaces.{kept}
 use Rattle.net_syntax.proofs.OnePlace.{populated, one_place}
 

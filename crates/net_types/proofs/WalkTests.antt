@@ -1,5 +1,5 @@
 -- What the walk's tests tell where they pass, and where they do.
-use Rattle.std.proofs.Common.{◌≡◌, ◌∙◌, ℕ, zero, suc, ◌≤◌, Bool, true, false, ◌&&◌, leb, List, [], ◌∷◌, Result, Ok, Err, ◌↔◌, refl, sym, ap, subst, le-leb, leb-true}
+use Rattle.std.proofs.Common.{◌≡◌, ◌∙◌, ℕ, zero, suc, ◌≤◌, Bool, true, false, cond, ◌&&◌, leb, List, [], ◌∷◌, Result, Ok, Err, ◌↔◌, refl, sym, ap, subst, le-leb, leb-true}
 use Rattle.net_syntax.specs.Network.{Networks}
 use Rattle.sample_core.specs.TypeTree.{TypeTree, depth_of, nodes_of, pair_ty, event_ty}
 use Rattle.net_syntax.specs.Typing.{Arrow, OldAt, old_here, old_after, members, LeafTyping}
@@ -43,6 +43,11 @@ faults_on k e d = ap (λ r. r >>= k) e ∙ d
 
 pub stops : {A B : Type 0} {r : Result A TypeFault} (k : A → Result B TypeFault) {f : TypeFault} → r ≡ Err f → (r >>= k) ≡ Err f
 stops k e = ap (λ r. r >>= k) e
+
+-- what has P at either answer has it at the one that is chosen
+pub either : {A : Type 0} (P : Result A TypeFault → Type 0) (b : Bool) {r s : Result A TypeFault} → P r → P s → P (cond b r s)
+either P true h k = h
+either P false h k = k
 
 both_true : (a b : Bool) → (a && b) ≡ true → (a ≡ true) × (b ≡ true)
 both_true true b e = (refl, e)

@@ -1,5 +1,5 @@
 -- The check of a whole network.
-use Rattle.std.specs.Prelude.{ℕ, leb, List, [], Result, Ok}
+use Rattle.std.specs.Prelude.{ℕ, cond, leb, List, [], Result, Ok, Err}
 use Rattle.sample_core.specs.Answer.{GivesUnless}
 use Rattle.sample_core.specs.TypeTree.{TypeTree}
 use Rattle.leaf_core.specs.Expression.{Expression}
@@ -23,17 +23,22 @@ abbrev pub net_walk_all : List ℕ → ℕ → List TypeTree → List Arrow → 
     → Result (List TypeTree) TypeFault
 net_walk_all P k Ps Os A fs = walk_all (λ e Qs B. type_answer Qs B e) P k Ps Os A fs
 
--- a whole network with nothing in scope: the input's type first, then the walk, then the height,
--- last the weight. Before the walk stands one test that a network from a file always passes: only
--- one with shared parts can have so many networks in it, and it is too heavy as well
-abbrev pub check : TypeTree → Network Expression → Result TypedNetwork TypeFault
-check A net = do
+-- a whole network with nothing in scope, or its first fault: the input's type first, then the walk,
+-- then the height, last the weight
+abbrev pub first_fault : TypeTree → Network Expression → Result TypedNetwork TypeFault
+first_fault A net = do
   within A
-  test (leb (network_size net) 2000000) Fault.TooHeavy
   B ← net_walk [] [] [] A net
   test (leb (height net []) 256) Fault.TooDeep
   test (leb (weight net []) 1000000) Fault.TooHeavy
   Ok (record { input = A; output = B; net = net; weight = weight net []; height = height net [] })
+
+-- the same, but that one in which more than two million networks stand inside one another is too
+-- heavy before the walk: it is over the limit of the weight, and only shared parts make so many, so
+-- no file can hold it
+abbrev pub check : TypeTree → Network Expression → Result TypedNetwork TypeFault
+check A net =
+    cond (leb (network_size net) 2000000) (first_fault A net) (within A >> Err Fault.TooHeavy)
 
 -- the call's result, seen by view, is the answer; only `Memory`, where a growth was refused, says
 -- nothing of it
