@@ -7,7 +7,7 @@ ghost use Rattle.leaf_core.specs.ExpressionView.{expression_of};
 ghost use Rattle.leaf_core.specs.Inside.{with_one, with_two, with_three};
 ghost use Rattle.expr_laws.specs.Direct.{law4, spread};
 
-use leaf_core::{Expr, ExprChild, Exprs};
+use leaf_core::{Expr, ExprChild, Exprs, with_one_part, with_three_parts, with_two_parts};
 use sample_core::{Memory, Ty};
 use std::alloc::Global;
 
@@ -65,7 +65,7 @@ fn spread_one(
         ≡ Some (expression_of (with_one form.now (then_expr f.now a.now)))) }
 {
     let a = behind(alloc, f, a)?;
-    Ok(Some(with_one(form, a)))
+    Ok(Some(with_one_part(form, a)))
 }
 
 /// The form with its two parts behind f.
@@ -83,7 +83,7 @@ fn spread_two(
 {
     let a = behind(alloc, f, a)?;
     let b = behind(alloc, f, b)?;
-    Ok(Some(with_two(form, a, b)))
+    Ok(Some(with_two_parts(form, a, b)))
 }
 
 /// The form with its three parts behind f.
@@ -103,49 +103,7 @@ fn spread_three(
     let a = behind(alloc, f, a)?;
     let b = behind(alloc, f, b)?;
     let c = behind(alloc, f, c)?;
-    Ok(Some(with_three(form, a, b, c)))
-}
-
-/// The form, with this part.
-fn with_one(form: &Expr, a: ExprChild) -> Expr
-    ensures { result ≡ with_one form.now a }
-{
-    match form {
-        Expr::Fst(_) => Expr::Fst(a),
-        Expr::Snd(_) => Expr::Snd(a),
-        Expr::Neg(_) => Expr::Neg(a),
-        Expr::Not(_) => Expr::Not(a),
-        Expr::Event(_) => Expr::Event(a),
-        _ => Expr::Len(a),
-    }
-}
-
-/// The form, with these two parts.
-fn with_two(form: &Expr, a: ExprChild, b: ExprChild) -> Expr
-    ensures { result ≡ with_two form.now a b }
-{
-    match form {
-        Expr::Pair(..) => Expr::Pair(a, b),
-        Expr::Then(..) => Expr::Then(a, b),
-        Expr::Add(..) => Expr::Add(a, b),
-        Expr::Sub(..) => Expr::Sub(a, b),
-        Expr::Mul(..) => Expr::Mul(a, b),
-        Expr::Less(..) => Expr::Less(a, b),
-        Expr::Equal(..) => Expr::Equal(a, b),
-        Expr::And(..) => Expr::And(a, b),
-        _ => Expr::Or(a, b),
-    }
-}
-
-/// The form, with these three parts.
-fn with_three(form: &Expr, a: ExprChild, b: ExprChild, c: ExprChild) -> Expr
-    ensures { result ≡ with_three form.now a b c }
-{
-    match form {
-        Expr::If(..) => Expr::If(a, b, c),
-        Expr::On(..) => Expr::On(a, b, c),
-        _ => Expr::Nth(a, b, c),
-    }
+    Ok(Some(with_three_parts(form, a, b, c)))
 }
 
 /// The list of its elements behind f; nothing where it has none.

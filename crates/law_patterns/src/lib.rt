@@ -16,13 +16,7 @@ mod stack;
 mod sym;
 mod todo;
 
-pub use building::build;
 pub use laws::pattern_laws;
-pub use letters::Letters;
-pub use matching::fit;
-pub use net_building::build_net;
-pub use net_letters::NetLetters;
-pub use net_matching::fit_net;
 pub use net_sym::{
     D_SWITCH, FIRST, K_SWITCH, NET_F, NET_G, NET_H, NetLetter, NetSym, R_SWITCH, SEQ, SWITCH,
 };
