@@ -2,6 +2,9 @@ pub mod VisitSums
 pub mod VisitBounds
 pub mod VisitSteps
 pub mod EnvironmentBounds
+pub mod CausalCounts
+pub mod CausalVisits
+pub mod ComputedVisits
 pub mod EnvironmentScopes
 pub mod CountedFunctions
 pub mod PlainCounts

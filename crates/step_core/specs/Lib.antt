@@ -17,6 +17,8 @@ pub mod Lookup
 pub mod Lowering
 pub mod BindingLaws
 pub mod ScopeLaws
+pub mod VisitLaws
+pub mod VisitExamples
 pub mod RunnerState
 pub mod StateOption
 pub mod RunnerView

@@ -28,5 +28,5 @@ mod step;
 pub use binding::bind;
 pub use bound::Bound;
 pub use fault::BindFault;
-pub use laws::{binding_laws, scope_laws};
+pub use laws::{binding_laws, scope_laws, visit_examples, visit_laws};
 pub use runner::Runner;
