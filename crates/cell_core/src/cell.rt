@@ -86,7 +86,8 @@ impl Cell {
     }
 
     /// The same, with the cell after it in the place of another one, and the answer in that of
-    /// another value.
+    /// another value. After a refusal some cell stands in the one place, and some value in the
+    /// other.
     #[inline(always)]
     pub fn step_into(
         &self,
@@ -129,7 +130,8 @@ impl Cell {
     }
 
     /// An `iPre` that keeps a copy of the value, in the place of this cell, whose memory it takes
-    /// where that is an `iPre` too. `Memory` only where a count of references is full.
+    /// where that is an `iPre` too. `Memory` only where a count of references is full: some cell
+    /// stands there then.
     #[inline(always)]
     pub fn put_previous(&mut self, alloc: Global, value: &Sample) -> Result<(), Memory>
         ensures { OnOk result (cell_of self.new ≡ keeping (datum_of value.now)) }

@@ -70,7 +70,7 @@ impl Cells {
         self.used = 0;
     }
 
-    /// One cell more. `Memory` where a growth was refused.
+    /// One cell more. `Memory` where a growth was refused: the cells are as they were then.
     #[inline(always)]
     pub fn push(&mut self, cell: Cell) -> Result<(), Memory>
         ensures { IfOk result (λ _. self.new ≡ self.old ++ cell_of cell ∷ []) }
@@ -85,7 +85,8 @@ impl Cells {
     }
 
     /// Puts the answer of a cell to one sample more, `dt` after the one before, in the place of
-    /// another value; the cell after it is one cell more. `Memory` where a growth was refused.
+    /// another value; the cell after it is one cell more. `Memory` where a growth was refused: those
+    /// before stand there then, perhaps with some cell more, and some value in the other's place.
     #[inline(always)]
     pub fn push_step(
         &mut self,
@@ -129,7 +130,8 @@ impl Cells {
         }
     }
 
-    /// One cell more: an `iPre` that keeps a copy of the value. `Memory` where a growth was refused.
+    /// One cell more: an `iPre` that keeps a copy of the value. `Memory` where a growth was refused:
+    /// those before stand there then, perhaps with some cell more.
     #[inline(always)]
     pub fn push_previous(&mut self, alloc: Global, value: &Sample) -> Result<(), Memory>
         ensures { IfOk result
@@ -144,7 +146,7 @@ impl Cells {
     }
 
     /// An `iPre` that keeps a copy of the value, in the place of cell i. `Memory` only where a count
-    /// of references is full.
+    /// of references is full: some cell stands in that place then, and the others stay.
     #[inline(always)]
     pub fn put_previous(&mut self, alloc: Global, i: usize, value: &Sample) -> Result<(), Memory>
         requires { i < length self.old }

@@ -49,7 +49,7 @@ pub enum Around<'s, 'n> {
 /// A state that is out of use is a place: the state that comes into it takes its memory, as far as
 /// no one else holds that. What is shared stays as it is.
 impl<'n> State<'n> {
-    /// The node, in this place. `Memory` where a growth was refused.
+    /// The node, in this place. `Memory` where a growth was refused: the place is as it was then.
     pub fn put(&mut self, alloc: Global, node: Node<'n>) -> Result<(), Memory>
         ensures { OnOk result (state_of self.new ≡ node_of node.entry) }
     {
@@ -64,7 +64,7 @@ impl<'n> State<'n> {
     }
 
     /// The node round the parts that stand in this place, which must be no one else's. `Memory`
-    /// where a growth was refused.
+    /// where a growth was refused: some state stands there then.
     #[inline(always)]
     pub fn put_round(&mut self, alloc: Global, around: Around<'_, 'n>) -> Result<(), Memory>
         ensures { OnOk result (state_of self.new ≡ node_round around.entry (state_of self.old)) }

@@ -53,7 +53,7 @@ impl StaticParts {
     }
 
     /// These parameters, shared, and no cells, in the memory of what was kept. It takes no memory;
-    /// `Memory` only where a count of references is full.
+    /// `Memory` only where a count of references is full: the parameters are as they were then.
     #[inline(always)]
     pub fn renew(&mut self, params: &Params) -> Result<(), Memory>
         ensures params { OnOk result (self.new.params ≡ params.now) }
