@@ -104,12 +104,12 @@ fn all_nodes_in(members: &[Net<LeafId>]) -> u32
 fn one_and(m: u32, n: u32) -> u32
     ensures { suc (m + n) < 2 ^ 32 → result ≡ suc (m + n) }
 {
-    m.wrapping_add(n).wrapping_add(1)
+    m.saturating_add(n).saturating_add(1)
 }
 
 /// The nodes of two parts, where that fits 32 bits.
 fn both(m: u32, n: u32) -> u32
     ensures { m + n < 2 ^ 32 → result ≡ m + n }
 {
-    m.wrapping_add(n)
+    m.saturating_add(n)
 }
