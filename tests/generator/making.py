@@ -338,28 +338,37 @@ class Maker:
 
     def form_kSwitch(self, given, output, scope, size):
         value = self.type(2)
-        e = self.part_of(pair(given, output), event(value), scope, size, 3)
+        f, output = self.remembering(given, output, scope, size)
+        e = self.watching(pair(given, output), value, scope, size)
         inner = scope.with_param(value).with_olds([(given, output)])
-        f = self.remembering(given, output, scope, size)
         return given, ("kSwitch", f, e, self.resuming(given, output, inner, size)), output
 
     def form_pSwitch(self, given, output, scope, size):
-        member = output[1] if is_form("List", output) else output
-        routed, value, out = self.rng.choice([given, self.type(2)]), self.type(2), list_of(member)
-        if self.chance(0.5):
-            members = self.members(routed, member, scope, size - 1)
-        else:
-            members = [self.remembering(routed, member, scope, 1) for _ in range(self.rng.randint(1, 3))]
-        e = self.part_of(pair(given, out), event(value), scope, size, 3)
+        routed, value = self.rng.choice([given, self.type(2)]), self.type(2)
+        first, member = self.remembering(routed, output[1] if is_form("List", output) else output, scope, size)
+        members = [first, *self.members(routed, member, scope, size - 1)][:64]
+        out = list_of(member)
+        e = self.watching(pair(given, out), value, scope, size)
         inner = scope.with_param(value).with_olds([(routed, member)] * len(members))
         r = self.expression(pair(given, "Int"), routed, scope)
         return given, ("pSwitch", r, ("col", *members), e, self.resuming(given, out, inner, size)), out
 
     def remembering(self, given, output, scope, size):
-        """A network that is to be frozen: half of them remember what came before."""
-        if self.chance(0.5):
-            return self.part_of(given, output, scope, size, 3)
-        return self.fitted(given, self.of_form(self.rng.choice(MEMORY), given, output, scope, 1), output, scope)
+        """A network that is to be frozen, with its output type: more than half of them remember what came before."""
+        if self.chance(0.4):
+            return self.part_of(given, output, scope, size, 3), output
+        into, tree, out = self.of_form(self.rng.choice(MEMORY), given, output, scope, 1)
+        return self.fitted(given, (into, tree, out), out, scope), out
+
+    def watching(self, given, value, scope, size):
+        """What says when a network is frozen, often at a time or at a sample that isn't the first."""
+        way = self.rng.choice(["any", "any", "time", "sample"])
+        if way == "time":
+            return ("after", self.rng.choice([1, 2, 3, 5]), self.constant(value, scope))
+        if way == "sample":
+            question = self.question(*self.rng.choice(self.known(given, scope)))
+            return ("arr", ("if", question, ("event", self.expression(given, value, scope, 1)), ("none", value)))
+        return self.part_of(given, event(value), scope, size, 3)
 
     def resuming(self, given, output, scope, size):
         """A continuation, which often resumes frozen networks, or freezes another one first."""
