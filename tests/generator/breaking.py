@@ -64,11 +64,13 @@ class Breaker:
     def tree(self, net, maker):
         """The network with another part at a random place, which is of its kind but may not be of its type."""
         position, tree = self.rng.choice(list(preorder(net)))
-        return replaced(net, position, self.other_network(net, tree, maker) if is_network(tree) else self.other_expression(tree, maker))
+        other = self.other_network(net, tree, maker) if is_network(tree) else self.other_expression(tree, maker)
+        return replaced(net, position, other)
 
     def other_network(self, net, tree, maker):
         ways = [*NETWORK_WORDS, ("old", self.rng.randint(0, 3)), ("parB",), ("arr", "x"), ("first", tree), ("hold", 0)]
-        ways += [("iPre", self.rng.choice([0, "true"])), ("delay", 1, "unit"), ("accumBy", ("fst", "x"), 0), ("switch", tree, tree)]
+        ways += [("iPre", self.rng.choice([0, "true"])), ("delay", 1, "unit"), ("accumBy", ("fst", "x"), 0)]
+        ways += [("switch", tree, tree)]
         ways += [("rSwitch", tree, tree), ("kSwitch", tree, tree, tree), ("loopPre", 0, tree), ("loopPre", "unit", tree)]
         ways += [("pSwitch", "x", ("col",), tree, tree), ("pSwitch", ("fst", "x"), ("col", tree), tree, tree)]
         ways += [("parB", *[tree] * self.rng.choice([2, 64, 65])), ("parB", tree, "time", tree), ("dSwitch", tree, "time")]
@@ -76,15 +78,16 @@ class Breaker:
         return self.rng.choice([*ways, part, part, maker.network(maker.type(), maker.type(), size=1)])
 
     def other_expression(self, tree, maker):
-        ways = [*EXPRESSION_WORDS, 7, GREATEST, ("p", self.rng.randint(0, 3)), ("fst", tree), ("not", tree), ("add", tree, tree)]
-        ways += [("none", maker.type()), ("list", maker.type(), tree), ("len", tree), ("nth", tree, tree, tree), ("if", tree, tree, tree)]
-        ways += [("on", tree, tree, tree), ("equal", tree, 1), ("then", tree, "x"), ("event", tree), self.deep(tree), self.wide(tree)]
+        ways = [*EXPRESSION_WORDS, 7, GREATEST, ("p", self.rng.randint(0, 3)), ("fst", tree), ("not", tree)]
+        ways += [("add", tree, tree), ("none", maker.type()), ("list", maker.type(), tree), ("len", tree)]
+        ways += [("nth", tree, tree, tree), ("if", tree, tree, tree), ("on", tree, tree, tree), ("equal", tree, 1)]
+        ways += [("then", tree, "x"), ("event", tree), self.deep(tree), self.wide(tree)]
         return self.rng.choice([*ways, maker.expression(maker.type(), maker.type(), Scope())])
 
     def deep(self, tree):
         """The expression inside many others, at the limits of heights and of types."""
-        word, count = self.rng.choice([("neg", 254), ("neg", 255), ("neg", 256), ("event", 30), ("event", 31), ("event", 32)])
-        for _ in range(count):
+        word, most = self.rng.choice([("neg", 255), ("event", 31)])
+        for _ in range(most + self.rng.choice([-1, 0, 1])):
             tree = (word, tree)
         return tree
 

@@ -220,7 +220,8 @@ class Case:
         """Texts of hostile sizes."""
         beginning = self.rng.choice([b"", b"yampa 1 input ", b"yampa 1 input Int ", b"yampa 1 input Int (arr ", text])
         self.hold("types", self.breaker.large(beginning))
-        beginning = self.rng.choice([b"", b"laws 1 ", b"laws 1 (step L4 backward (at) ", b"laws 1 (step E1 backward (at", files[2]])
+        steps = [b"", b"(step L4 backward (at) ", b"(step E1 backward (at"]
+        beginning = self.rng.choice([b"", files[2], *[b"laws 1 " + step for step in steps]])
         self.hold("check", text, text, self.breaker.large(beginning))
         stream = self.breaker.large(self.rng.choice([b"", b"5\n+1 ", b"(list ", b"5\n+"]))
         self.hold("run", b"yampa 1 input " + self.rng.choice([b"Int", b"(List Int)"]) + b" identity", stream=stream)

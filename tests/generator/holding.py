@@ -106,8 +106,8 @@ def optimised_of(text):
 def leaves_of(net):
     """The different expressions of a network, each with what it is typed under."""
     nodes = [place for place in net.places.values() if is_network(place.tree)]
-    leaves = [net.places[(*node.position, at)] for node in nodes for at, child in enumerate(children(node.tree)) if not is_network(child)]
-    return {(leaf.tree, leaf.scope.params, leaf.input) for leaf in leaves}
+    below = [net.places[(*node.position, at)] for node in nodes for at in range(len(children(node.tree)))]
+    return {(leaf.tree, leaf.scope.params, leaf.input) for leaf in below if not is_network(leaf.tree)}
 
 
 @lru_cache(maxsize=4)

@@ -32,14 +32,14 @@ class Limits:
 
     def type_depth(self):
         given = nested(self.near(32) - 1, event, "Int")
-        net = self.rng.choice(["time", ("arr", "x"), ("arr", ("event", "x")), ("iPre", ("none", given[1])), ("after", 1, "unit")])
-        return Command("types", [network(given, net)])
+        nets = ["time", ("arr", "x"), ("arr", ("event", "x")), ("iPre", ("none", given[1])), ("after", 1, "unit")]
+        return Command("types", [network(given, self.rng.choice(nets))])
 
     def type_nodes(self):
         given = self.nodes(self.near(256))
-        both = ("arr", ("pair", "x", "x"))
-        net = self.rng.choice(["time", ("arr", "x"), ("first", "time"), ("loopPre", 0, ("arr", "x")), both, ("arr", ("event", "x"))])
-        return Command("types", [network(given, net)])
+        nets = ["time", ("arr", "x"), ("first", "time"), ("loopPre", 0, ("arr", "x"))]
+        nets += [("arr", ("pair", "x", "x")), ("arr", ("event", "x"))]
+        return Command("types", [network(given, self.rng.choice(nets))])
 
     def nodes(self, count):
         """A type with so many nodes, and hardly higher than it must be."""
@@ -50,8 +50,8 @@ class Limits:
 
     def network_height(self):
         height = self.near(256)
-        around = self.rng.choice([lambda f: (">>>", "time", f), lambda f: (">>>", f, "time"), lambda f: ("switch", self.never(), f)])
-        return Command("types", [network("Int", nested(height - 1, around, "time"))])
+        ways = [lambda f: (">>>", "time", f), lambda f: (">>>", f, "time"), lambda f: ("switch", self.never(), f)]
+        return Command("types", [network("Int", nested(height - 1, self.rng.choice(ways), "time"))])
 
     def never(self):
         return ("arr", ("pair", "x", ("none", "Unit")))
@@ -65,7 +65,8 @@ class Limits:
         count = self.rng.choice([0, 1, 63, 64, 65])
         parallel = ("parB", *["time"] * count)
         ready = ("arr", ("event", "unit"))
-        collection = ("pSwitch", ("fst", "x"), ("col", *["time"] * count), ready, ("parB", ("old", 0), ("old", max(count - 1, 0))))
+        resumed = ("parB", ("old", 0), ("old", max(count - 1, 0)))
+        collection = ("pSwitch", ("fst", "x"), ("col", *["time"] * count), ready, resumed)
         return Command("run", [network("Int", self.rng.choice([parallel, collection]))], b"5\n+1 6\n")
 
     def weight(self):
@@ -89,8 +90,8 @@ class Limits:
     def open(self):
         word = self.rng.choice([b"(>>> ", b"(arr (neg ", b"(first ", b"(switch (switch ", b"(parB "])
         count = self.near(600) // word.count(b"(")
-        inside, tail = self.rng.choice([b"time", b"x", b"", b"(old 0)", b"(pSwitch x (col "]), b")" * self.rng.choice([0, count])
-        return Command("types", [b"yampa 1 input Int " + word * count + inside + tail])
+        inside = self.rng.choice([b"time", b"x", b"", b"(old 0)", b"(pSwitch x (col "])
+        return Command("types", [b"yampa 1 input Int " + word * count + inside + b")" * self.rng.choice([0, count])])
 
     def range(self):
         place, numbers = self.rng.choice(sorted(NUMBERS.items()))
@@ -121,7 +122,10 @@ class Limits:
     def leaves(self):
         """A network with 4,096 different expressions, or one more."""
         rows = [("parB", *[("arr", ("add", "x", 64 * row + at)) for at in range(64)]) for row in range(64)]
-        net = self.rng.choice([("parB", *rows), (">>>", ("arr", ("neg", "x")), ("parB", *rows)), (">>>", ("arr", ("add", "x", 7)), ("parB", *rows))])
+        before = self.rng.choice([[], [("neg", "x")], [("add", "x", 7)]])
+        net = ("parB", *rows)
+        for e in before:
+            net = (">>>", ("arr", e), net)
         return Command("run", [network("Int", net)], b"5\n")
 
     def steps(self):

@@ -11,7 +11,7 @@ UNIT_SCOPE = Scope()
 
 
 class Maker:
-    """Makes trees from a source of random numbers. A network is made as `(input, tree, output)` by the methods of its form."""
+    """Makes trees from a source of random numbers; a form by its method, as its input type, the tree and its output type."""
 
     def __init__(self, rng):
         self.rng = rng
@@ -60,8 +60,8 @@ class Maker:
             return self.rng.choice(seen)
         if size <= 0:
             return self.literal(given, output, scope)
-        makers = [self.through, self.choice, self.happening, self.element, self.part, self.literal]
-        ways = [(6 if output == "Int" else 3, self.own), (3, self.telling), (3, self.shaped)] + [(1, maker) for maker in makers]
+        ways = [(6 if output == "Int" else 3, self.own), (3, self.telling), (3, self.shaped)]
+        ways += [(1, way) for way in (self.through, self.choice, self.happening, self.element, self.part, self.literal)]
         return self.weighted(ways)(given, output, scope, size - 1)
 
     def weighted(self, ways):
@@ -86,7 +86,7 @@ class Maker:
         if word == "Event":
             sides = [("event", self.expression(given, parts[0], scope, size)), ("none", parts[0])]
             self.rng.shuffle(sides)
-            return sides[0] if self.chance(0.4) else ("if", self.question(*self.rng.choice(self.known(given, scope))), *sides)
+            return sides[0] if self.chance(0.4) else ("if", self.some_question(given, scope), *sides)
         count = self.rng.choice([0, 1, 1, 2, 3])
         return ("list", parts[0], *[self.expression(given, parts[0], scope, size) for _ in range(count)])
 
@@ -99,6 +99,9 @@ class Maker:
         if is_form("List", type_) and type_[1] == output:
             return ("nth", tree, self.rng.randint(0, 2), sides[0])
         return ("if", self.question(tree, type_), *sides)
+
+    def some_question(self, given, scope):
+        return self.question(*self.rng.choice(self.known(given, scope)))
 
     def question(self, tree, type_):
         """A truth that goes by a tree of this type."""
@@ -366,7 +369,7 @@ class Maker:
         if way == "time":
             return ("after", self.rng.choice([1, 2, 3, 5]), self.constant(value, scope))
         if way == "sample":
-            question = self.question(*self.rng.choice(self.known(given, scope)))
+            question = self.some_question(given, scope)
             return ("arr", ("if", question, ("event", self.expression(given, value, scope, 1)), ("none", value)))
         return self.part_of(given, event(value), scope, size, 3)
 

@@ -453,7 +453,8 @@ class StepMaker:
                 "L40": seq(("parB", tree, ill), arr(("nth", "x", 0, 0))),
             }
         else:
-            ill = self.rng.choice([("p", 9), ("not", 1), ("add", "true", 1), ("fst", 0), ("if", 1, "x", "x"), ("equal", 1, "true")])
+            ills = [("p", 9), ("not", 1), ("add", "true", 1), ("fst", 0), ("if", 1, "x", "x"), ("equal", 1, "true")]
+            ill = self.rng.choice(ills)
             trees = {
                 "E6": ("then", ill, tree),
                 "E7": ("fst", ("pair", tree, ill)),
