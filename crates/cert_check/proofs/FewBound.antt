@@ -9,6 +9,7 @@ use Rattle.net_syntax.specs.NetworkLimits.{WithinLimits}
 use Rattle.net_syntax.specs.TypedNetwork.{TypedNetwork}
 use Rattle.net_syntax.specs.Place.{Tree, a_network, a_leaf, member, child, child_network, PSwitchChild, p_switch_child, member_child, event_child, continuation_child, no_child}
 use Rattle.net_syntax.specs.Placed.{Bound, bound, bound_in, bound_behind, FewBound}
+use Rattle.net_syntax.proofs.Children.{members_few}
 use Rattle.net_types.proofs.Sizes.{few_inside}
 
 abbrev tree_size : Tree Expression → ℕ
@@ -31,10 +32,6 @@ member_size : (fs : Networks Expression) (k size : ℕ) (c : Tree Expression) �
 member_size no_members k size c h e = at_none size (bound 0 0) c e
 member_size (and_member f fs) zero size c h e = at_child size (bound 0 0) (a_network f) c e (record { params_fit = omega arith; olds_fit = omega arith })
 member_size (and_member f fs) (suc k) size c h e = let l : networks_size fs ≤ size = omega arith in member_size fs k size c l e
-
-members_few : (fs : Networks Expression) → members fs ≤ networks_size fs
-members_few no_members = omega arith
-members_few (and_member f fs) = omega (arith, members_few fs)
 
 p_switch_smaller : (r : Expression) (fs : Networks Expression) (e t : Network Expression) (k : ℕ) (c : Tree Expression) (w : PSwitchChild)
     → option_map a_network (child_network w fs e t k) ≡ Some c → Smaller (network_size (p_switch r fs e t)) (bound_behind w fs) c

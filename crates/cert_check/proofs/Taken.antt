@@ -20,7 +20,7 @@ use Rattle.cert_check.specs.declared.answer.Accepted.{Accepted}
 use Rattle.cert_check.proofs.Sound.{derives_same, derives_types}
 
 -- one step more
-steps_more : (t u v : TypedNetwork) (ss : List Step) (s : Step) → Steps t ss u → Next u s v → Steps t (ss ++ s ∷ []) v
+pub steps_more : (t u v : TypedNetwork) (ss : List Step) (s : Step) → Steps t ss u → Next u s v → Steps t (ss ++ s ∷ []) v
 steps_more t u v ss s no_step x = step_then x no_step
 steps_more t u v ss s (step_then {u = w} {ss = rest} y ys) x = step_then y (steps_more w u v rest s ys x)
 
