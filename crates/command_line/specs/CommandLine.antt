@@ -1,8 +1,9 @@
 -- The program's command line, and what its words ask for.
-use Rattle.std.specs.Prelude.{◌≡◌, ◌≢◌, ℕ, List, [], ◌∷◌, true, Option, Some, None, option_and_then, option_map, Result, Ok, Err, bytes_eq, codes, if◌then◌else◌, ⊤}
+use Rattle.std.specs.Prelude.{◌≡◌, ◌≢◌, ℕ, Bool, List, [], ◌∷◌, true, false, Option, Some, None, option_and_then, option_map, Result, Ok, Err, bytes_eq, codes, if◌then◌else◌, ⊤}
+use Rattle.std.specs.Option.{option_map_or}
 use Rattle.clap.specs.Simple.{on_top}
 use Rattle.clap.specs.Words.{App, IsAmong, Kinds, Row, Rule, Shape, fault_of, first_of, new_app, new_rule, subcommand_of, with_rule, with_subcommand}
-use Rattle.clap.specs.declared.builder.action.ArgAction.TheVariants.{Set}
+use Rattle.clap.specs.declared.builder.action.ArgAction.TheVariants.{Set, SetTrue}
 use Rattle.clap.specs.declared.error.kind.ErrorKind.{ErrorKind}
 use Rattle.clap.specs.declared.error.kind.ErrorKind.TheVariants as kind
 use Rattle.command_line.specs.declared.command.Derivation.{Derivation}
@@ -10,14 +11,26 @@ use Rattle.command_line.specs.declared.command.Request.{Request}
 use Rattle.command_line.specs.declared.command.Request.TheVariants as Q
 use Rattle.command_line.specs.declared.command.Reply.{Reply}
 use Rattle.command_line.specs.declared.command.Reply.TheVariants as R
+use Rattle.command_line.specs.declared.command.Wanted.{Wanted}
+use Rattle.command_line.specs.declared.command.Wanted.TheVariants as W
 
 -- the name of a file, which must be there
 abbrev pub file_name : List ℕ → Rule
 file_name id = record (new_rule id) { action = Some Set; required = true }
 
+-- a flag, written with two hyphens, which need not be there
+abbrev pub flag : List ℕ → Rule
+flag id = record (new_rule id) { long = Some id; action = Some SetTrue }
+
 -- a subcommand that takes the name of a network file
 abbrev pub file_command : List ℕ → Shape
 file_command name = (with_rule (new_app name) (file_name (codes "NET"))).top
+
+-- the subcommand that takes the name of a network file and a flag for the certificate
+abbrev pub optimise_command : Shape
+optimise_command =
+    (with_rule (with_rule (new_app (codes "optimise")) (file_name (codes "NET")))
+    (flag (codes "certificate"))).top
 
 -- a subcommand that takes the names of a source, a target and a certificate
 abbrev pub derivation_command : List ℕ → Shape
@@ -30,14 +43,15 @@ derivation_command name =
 abbrev pub program : App
 program = on_top (λ s. record s { subcommand_required = true }) (new_app (codes "yampa"))
 
--- the program's command line: `types NET`, `run NET`, `check SRC TGT CERT` or
--- `run-checked SRC TGT CERT`
+-- the program's command line: `types NET`, `run NET`, `optimise NET`, which takes the flag
+-- `--certificate` too, `check SRC TGT CERT` or `run-checked SRC TGT CERT`
 abbrev pub command_line : App
 command_line =
     with_subcommand
     (with_subcommand
+    (with_subcommand
     (with_subcommand (with_subcommand program (file_command (codes "types")))
-    (file_command (codes "run"))) (derivation_command (codes "check")))
+    (file_command (codes "run"))) optimise_command) (derivation_command (codes "check")))
     (derivation_command (codes "run-checked"))
 
 -- the names of the files of a derivation
@@ -47,10 +61,12 @@ pub record DerivationNames : Type 0 where
   pub certificate : List ℕ
 
 -- what a command line asks for: the types of the network in the file of that name, or a run of it;
--- whether a certificate leads from its source to its target, or that and a run of the target
+-- the network that the optimiser makes of it, or the certificate that leads there; whether a
+-- certificate leads from its source to its target, or that and a run of the target
 pub data RequestTree : Type 0 where
   types : List ℕ → RequestTree
   run : List ℕ → RequestTree
+  optimise : Wanted → List ℕ → RequestTree
   check : DerivationNames → RequestTree
   run_checked : DerivationNames → RequestTree
 
@@ -63,14 +79,27 @@ derivation_in rows = option_and_then (λ source.
       certificate = certificate;
     }) (first_of (codes "CERT") rows)) (first_of (codes "TGT") rows)) (first_of (codes "SRC") rows)
 
+-- a flag is given, among a subcommand's matches
+abbrev pub is_given : List ℕ → List Row → Bool
+is_given id rows = option_map_or (λ value. bytes_eq value (codes "true")) (first_of id rows) false
+
+-- what is wanted of the optimiser: the certificate where the flag for it is given, else the network
+abbrev pub wanted_in : List Row → Wanted
+wanted_in rows = if is_given (codes "certificate") rows then W.Certificate else W.Network
+
+-- what the subcommand `optimise` asks for, by its matches
+abbrev pub optimise_in : List Row → Option RequestTree
+optimise_in rows = option_map (optimise (wanted_in rows)) (first_of (codes "NET") rows)
+
 -- what a subcommand asks for, by its matches
 abbrev pub request_on : List ℕ → List Row → Option RequestTree
 request_on command rows =
     if bytes_eq command (codes "types") then option_map types (first_of (codes "NET") rows)
     else (if bytes_eq command (codes "run") then option_map run (first_of (codes "NET") rows)
+    else (if bytes_eq command (codes "optimise") then optimise_in rows
     else (if bytes_eq command (codes "check") then option_map check (derivation_in rows)
     else (if bytes_eq command (codes "run-checked") then option_map run_checked (derivation_in rows)
-    else None)))
+    else None))))
 
 -- what the subcommand and its matches ask for
 abbrev pub request_by : Option (List ℕ × List Row) → Option RequestTree
@@ -108,6 +137,7 @@ derivation_view d = record {
 abbrev pub request_view : Request → RequestTree
 request_view (Q.Types net) = types net.now
 request_view (Q.Run net) = run net.now
+request_view (Q.Optimise net wanted) = optimise wanted net.now
 request_view (Q.Check d) = check (derivation_view d)
 request_view (Q.RunChecked d) = run_checked (derivation_view d)
 

@@ -1,6 +1,7 @@
 -- Command lines, word for word, and what they ask for.
 use Rattle.std.specs.Prelude.{◌≡◌, [], ◌∷◌, Some, codes}
-use Rattle.command_line.specs.CommandLine.{AsksHelp, AsksNothing, DerivationNames, check, request_in, run, run_checked, types}
+use Rattle.command_line.specs.CommandLine.{AsksHelp, AsksNothing, DerivationNames, check, optimise, request_in, run, run_checked, types}
+use Rattle.command_line.specs.declared.command.Wanted.TheVariants as W
 
 -- what is asked for
 abbrev pub RequestRows : Type 0
@@ -9,6 +10,18 @@ RequestRows =
     × (request_in (codes "yampa" ∷ codes "run" ∷ codes "net" ∷ []) ≡ Some (run (codes "net")))
     × (request_in (codes "yampa" ∷ codes "run" ∷ codes "--" ∷ codes "-net" ∷ [])
     ≡ Some (run (codes "-net")))
+
+-- what is asked of the optimiser: the flag stands behind the file's name or before it
+abbrev pub OptimiseRows : Type 0
+OptimiseRows =
+    (request_in (codes "yampa" ∷ codes "optimise" ∷ codes "net" ∷ [])
+    ≡ Some (optimise W.Network (codes "net")))
+    × (request_in
+    (codes "yampa" ∷ codes "optimise" ∷ codes "net" ∷ codes "--certificate" ∷ [])
+    ≡ Some (optimise W.Certificate (codes "net")))
+    × (request_in
+    (codes "yampa" ∷ codes "optimise" ∷ codes "--certificate" ∷ codes "net" ∷ [])
+    ≡ Some (optimise W.Certificate (codes "net")))
 
 -- the three files of one derivation
 abbrev pub three_files : DerivationNames
@@ -28,6 +41,7 @@ DerivationRows =
 abbrev pub HelpRows : Type 0
 HelpRows = AsksHelp (codes "yampa" ∷ codes "--help" ∷ [])
     × AsksHelp (codes "yampa" ∷ codes "run" ∷ codes "-h" ∷ [])
+    × AsksHelp (codes "yampa" ∷ codes "optimise" ∷ codes "--help" ∷ [])
 
 -- what asks for nothing that is there
 abbrev pub NothingRows : Type 0
@@ -37,3 +51,17 @@ NothingRows = AsksNothing (codes "yampa" ∷ []) × AsksNothing (codes "yampa" �
     × AsksNothing (codes "yampa" ∷ codes "check" ∷ codes "a" ∷ codes "b" ∷ [])
     × AsksNothing
     (codes "yampa" ∷ codes "run-checked" ∷ codes "a" ∷ codes "b" ∷ codes "c" ∷ codes "d" ∷ [])
+
+-- what asks for nothing of the optimiser: no file, two, the flag alone, twice or with a value, and
+-- a flag that isn't there
+abbrev pub NoOptimiseRows : Type 0
+NoOptimiseRows = AsksNothing (codes "yampa" ∷ codes "optimise" ∷ [])
+    × AsksNothing (codes "yampa" ∷ codes "optimise" ∷ codes "net" ∷ codes "net" ∷ [])
+    × AsksNothing (codes "yampa" ∷ codes "optimise" ∷ codes "--certificate" ∷ [])
+    × AsksNothing
+    (codes "yampa" ∷ codes "optimise" ∷ codes "--certificate" ∷ codes "net"
+    ∷ codes "--certificate" ∷ [])
+    × AsksNothing
+    (codes "yampa" ∷ codes "optimise" ∷ codes "net" ∷ codes "--certificate=true" ∷ [])
+    × AsksNothing (codes "yampa" ∷ codes "optimise" ∷ codes "net" ∷ codes "--fast" ∷ [])
+    × AsksNothing (codes "yampa" ∷ codes "run" ∷ codes "net" ∷ codes "--certificate" ∷ [])

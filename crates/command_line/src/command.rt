@@ -3,8 +3,8 @@
 ghost use Rattle.std.specs.Prelude.{◌≡◌, IfOk, codes, map, option_map, false};
 ghost use Rattle.clap.specs.Words.{app_of, first_of, found_of, kind_of, rows_of, rule_of, shape_of, subcommand_rows_of, with_subcommand};
 ghost use Rattle.clap.specs.declared.builder.command.Command.TheViews.{out-Command};
-ghost use Rattle.command_line.specs.CommandRows.{RequestRows, DerivationRows, HelpRows, NothingRows};
-ghost use Rattle.command_line.specs.CommandLine.{IsNothing, ReadsWords, RepliesTo, request_by, request_on, command_line, derivation_command, derivation_in, derivation_view, file_command, file_name, request_view, types, run, check, run_checked};
+ghost use Rattle.command_line.specs.CommandRows.{RequestRows, OptimiseRows, DerivationRows, HelpRows, NothingRows, NoOptimiseRows};
+ghost use Rattle.command_line.specs.CommandLine.{IsNothing, ReadsWords, RepliesTo, request_by, request_on, command_line, derivation_command, derivation_in, derivation_view, file_command, file_name, flag, is_given, optimise_command, optimise_in, request_view, types, run, check, run_checked, wanted_in};
 
 use crate::help;
 use clap::error::{Error, ErrorKind};
@@ -22,6 +22,15 @@ pub struct Derivation<'a> {
     pub certificate: &'a str,
 }
 
+/// What is wanted of the optimiser.
+#[derive(Clone, Copy)]
+pub enum Wanted {
+    /// The network that it finds.
+    Network,
+    /// The certificate that leads there.
+    Certificate,
+}
+
 /// What the command line asks for.
 #[derive(Clone, Copy)]
 pub enum Request<'a> {
@@ -29,6 +38,8 @@ pub enum Request<'a> {
     Types { net: &'a str },
     /// A run of the network in a file.
     Run { net: &'a str },
+    /// What the optimiser makes of the network in a file.
+    Optimise { net: &'a str, wanted: Wanted },
     /// Whether a certificate leads from its source to its target.
     Check(Derivation<'a>),
     /// The same, and then a run of the target.
@@ -67,6 +78,17 @@ fn named_file<'a>(alloc: Global, id: &'a str, tells: &'a str) -> Arg<'a>
         .help(tells)
 }
 
+/// A flag, which may stand before and behind the name of a file, and what help tells of it.
+fn flag<'a>(alloc: Global, id: &'a str, tells: &'a str) -> Arg<'a>
+    ensures rule { rule_of result ≡ flag id.entry.now }
+    ensures local { result.global ≡ false }
+{
+    Arg::new(alloc, id)
+        .long(id)
+        .action(ArgAction::SetTrue)
+        .help(tells)
+}
+
 /// A subcommand of that name that takes a network file, and what help tells of it.
 fn on_network<'a>(
     alloc: Global,
@@ -79,6 +101,15 @@ fn on_network<'a>(
 {
     let command = Command::new(alloc, name).about(does).after_help(more);
     command.arg(named_file(alloc, "NET", help::NET))
+}
+
+/// The subcommand `optimise`, which takes a network file and a flag for the certificate.
+fn optimise_command<'a>(alloc: Global) -> Result<Command<'a>, AllocError>
+    ensures shape { IfOk result (λ c. shape_of c ≡ optimise_command) }
+    ensures local { IfOk result (λ c. (out-Command c).has_globals ≡ false) }
+{
+    let command = on_network(alloc, "optimise", help::OPTIMISE, help::OPTIMISE_MORE)?;
+    command.arg(flag(alloc, "certificate", help::CERTIFICATE))
 }
 
 /// A subcommand of that name that takes the files of a derivation, and what help tells of it.
@@ -109,6 +140,20 @@ fn with_network<'a>(
         (λ c. app_of c ≡ with_subcommand (app_of command.entry) (file_command name.entry.now)) }
 {
     match on_network(alloc, name, does, more) {
+        Ok(subcommand) => command.subcommand(subcommand),
+        Err(refused) => {
+            drop(command);
+            Err(refused)
+        }
+    }
+}
+
+/// The command with the subcommand `optimise`.
+fn with_optimise<'a>(alloc: Global, command: Command<'a>) -> Result<Command<'a>, AllocError>
+    ensures app { IfOk result
+        (λ c. app_of c ≡ with_subcommand (app_of command.entry) optimise_command) }
+{
+    match optimise_command(alloc) {
         Ok(subcommand) => command.subcommand(subcommand),
         Err(refused) => {
             drop(command);
@@ -148,6 +193,7 @@ fn make_command<'a>(alloc: Global) -> Result<Command<'a>, AllocError>
         .after_help(help::PROGRAM_MORE);
     let command = with_network(alloc, command, "types", help::TYPES, help::TYPES_MORE)?;
     let command = with_network(alloc, command, "run", help::RUN, help::RUN_MORE)?;
+    let command = with_optimise(alloc, command)?;
     let command = with_derivation(alloc, command, "check", help::CHECK, help::CHECK_MORE)?;
     with_derivation(
         alloc,
@@ -173,6 +219,7 @@ fn request_named<'a>(name: &str, matches: &ArgMatches<'a>) -> Option<Request<'a>
     match name {
         "types" => types_of(matches),
         "run" => run_of(matches),
+        "optimise" => optimise_of(matches),
         "check" => check_of(matches),
         "run-checked" => run_checked_of(matches),
         _ => None,
@@ -193,6 +240,35 @@ fn run_of<'a>(matches: &ArgMatches<'a>) -> Option<Request<'a>>
 {
     let net = value_of(matches, "NET")?;
     Some(Request::Run { net })
+}
+
+fn optimise_of<'a>(matches: &ArgMatches<'a>) -> Option<Request<'a>>
+    ensures { option_map request_view result ≡ optimise_in (rows_of (found_of matches.now)) }
+{
+    let net = value_of(matches, "NET")?;
+    let wanted = wanted_of(matches);
+    Some(Request::Optimise { net, wanted })
+}
+
+/// What is wanted of the optimiser: the certificate where the flag for it is given.
+fn wanted_of(matches: &ArgMatches<'_>) -> Wanted
+    ensures { result ≡ wanted_in (rows_of (found_of matches.now)) }
+{
+    if is_given(matches, "certificate") {
+        Wanted::Certificate
+    } else {
+        Wanted::Network
+    }
+}
+
+/// Whether that flag is given.
+fn is_given(matches: &ArgMatches<'_>, id: &str) -> bool
+    ensures { result ≡ is_given id.now (rows_of (found_of matches.now)) }
+{
+    match value_of(matches, id) {
+        Some(value) => value == "true",
+        None => false,
+    }
 }
 
 fn check_of<'a>(matches: &ArgMatches<'a>) -> Option<Request<'a>>
@@ -285,11 +361,13 @@ fn no_such_command(alloc: Global) -> Reply
     }
 }
 
-/// Command lines, word for word, and what they ask for: a file's types or its run, a derivation,
-/// help, or nothing that is there.
+/// Command lines, word for word, and what they ask for: a file's types or its run, the optimiser,
+/// a derivation, help, or nothing that is there.
 pub fn command_rows()
     ensures asked { RequestRows }
+    ensures optimise { OptimiseRows }
     ensures derivations { DerivationRows }
     ensures help { HelpRows }
     ensures nothing { NothingRows }
+    ensures no_optimise { NoOptimiseRows }
 {}

@@ -6,8 +6,9 @@ pub const PROGRAM: &str = "Checks and runs networks of signal functions.";
 /// What help on the program ends with.
 pub const PROGRAM_MORE: &str = "\
 A network is a text file: its input's type, and how each sample of a timed stream leads to an
-output. `yampa types NET` tells what goes in and what comes out, `yampa run NET < STREAM` runs it,
-`yampa check SRC TGT CERT` checks that two networks output the same, by a certificate that says why.
+output. `yampa types NET` tells what goes in and what comes out, `yampa run NET < STREAM` runs it.
+`yampa check SRC TGT CERT` checks that two networks output the same, by a certificate that says why;
+`yampa optimise NET` finds such a network, and the certificate that leads there, by itself.
 docs/LANGUAGE.md teaches the language. A small file NET, which outputs 0, and then each number
 plus one, a sample late:
 
@@ -66,6 +67,33 @@ network has over 4,096 different expressions, 2 where the words of the command l
 where something can't be read or written, or memory is short. Where it isn't 0, standard error
 says why.";
 
+/// What `optimise` does.
+pub const OPTIMISE: &str = "Rewrites a network by laws, and prints the one that they lead to";
+
+/// What the flag for the certificate does.
+pub const CERTIFICATE: &str = "Prints the certificate that leads there, in the network's place";
+
+/// What help on `optimise` ends with.
+pub const OPTIMISE_MORE: &str = "\
+It takes the first step that may be taken by a law, forward, and then the next one, until there is
+none or 1,000 are taken. Within the limits of files, `yampa check` accepts the certificate from NET
+to the network that is printed, so both output the same on every stream. It is meant to be faster,
+but that isn't promised. No stream is read. docs/LAWS.md has the laws.
+
+Example: where the file `net` holds `yampa 1 input Int (>>> (arr (add x 1)) (arr (mul x 2)))`,
+
+  $ yampa optimise net
+  yampa 1
+  input Int
+  (arr (then (add x 1) (mul x 2)))
+  $ yampa optimise net --certificate
+  laws 1
+  (step L4 forward (at))
+
+Exit status: 0 where the network or the certificate is printed, 1 where the file is refused, 2 where
+the words of the command line are wrong, 3 where the file can't be read, nothing can be written, or
+memory is short. Where it isn't 0, standard error says why.";
+
 /// What the file of a certificate's source is.
 pub const SRC: &str = "The file of the network that the certificate begins with";
 
@@ -84,7 +112,7 @@ pub const CHECK_MORE: &str = "\
 A certificate is a text file of steps. A step names a law, its direction and a place in the network,
 and, where the direction is `backward`, the tree that then stands there. Where the steps lead from
 the network of SRC to that of TGT, both output the same on every stream, and one line is printed,
-with the number of steps. No stream is read.
+with the number of steps. No stream is read. docs/LAWS.md has the laws.
 
 Example: where the file `source` holds `yampa 1 input Int (>>> (arr (add x 1)) (arr (mul x 2)))`,
 the file `target` holds `yampa 1 input Int (arr (then (add x 1) (mul x 2)))`, and the file `steps`

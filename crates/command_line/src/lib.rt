@@ -5,4 +5,4 @@
 mod command;
 mod help;
 
-pub use command::{Derivation, Reply, Request, command_rows, parse};
+pub use command::{Derivation, Reply, Request, Wanted, command_rows, parse};

@@ -7,3 +7,4 @@ mod Front
 mod NetworkRun
 mod TextFaults
 mod WholeRun
+mod OptimisedFiles

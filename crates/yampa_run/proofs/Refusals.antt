@@ -20,7 +20,7 @@ use Rattle.cert_check.specs.declared.answer.Accepted.{Accepted}
 use Rattle.cert_check.specs.declared.answer.CheckFault.{CheckFault}
 use Rattle.cert_check.specs.declared.answer.CheckFault.TheVariants as C
 use Rattle.cert_check.proofs.OneAnswer.{one_answer}
-use Rattle.command_line.specs.CommandLine.{DerivationNames, RequestTree, types, run, check as checks, run_checked, request_in, AsksNothing}
+use Rattle.command_line.specs.CommandLine.{DerivationNames, RequestTree, types, run, optimise, check as checks, run_checked, request_in, AsksNothing}
 use Rattle.yampa_run.specs.RefusalLines.{text_words, type_words}
 use Rattle.yampa_run.specs.Preparation.{AreTold, Fails, HasNoDerivation, HasNoNetwork, HasNoSteps, IsDerivedIn, IsNetworkIn, IsNetworkOf, IsTold, AreStepsOf, KnownFiles, Meets, RefusesCheck, OneRefusalLaw, NoNetworkLaw, OnlyMemoryLaw, by_text, by_types, no_source, no_target, no_steps, not_accepted}
 use Rattle.yampa_run.specs.declared.refused.Role.{Role}
@@ -127,6 +127,7 @@ not_failed : (told : KnownFiles) (what : RequestTree) (t : TypedNetwork) (refusa
     → Meets told what (J.Run t) → Fails told what refusal → ⊥
 not_failed told (types name) t refusal m k n f = n
 not_failed told (run name) t refusal m k n f = no_file R.Network (told name) t refusal m k n f
+not_failed told (optimise wanted name) t refusal m k n f = n
 not_failed told (checks names) t refusal m k n f = n
 not_failed told (run_checked names) t refusal m k n f = no_derivation told names t n.count refusal m k n.derived f
 

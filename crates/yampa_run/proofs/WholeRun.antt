@@ -8,7 +8,7 @@ use Rattle.net_syntax.specs.TypedNetwork.{TypedNetwork}
 use Rattle.cert_check.specs.Laws.{SameStreamLaw}
 use Rattle.stream_text.specs.LineFaults.{LineFaultLaw}
 use Rattle.stream_text.specs.declared.fault.StreamFault.TheVariants as S
-use Rattle.command_line.specs.CommandLine.{RequestTree, types, run, check as checks, run_checked}
+use Rattle.command_line.specs.CommandLine.{RequestTree, types, run, optimise, check as checks, run_checked}
 use Rattle.yampa_run.specs.FaultLines.{line_of, status_of}
 use Rattle.yampa_run.specs.Headline.{RunsSo, output_in}
 use Rattle.yampa_run.specs.NetworkRun.{RunsOver}
@@ -89,6 +89,7 @@ whole_run reads law faults same within told words t keys text has' holds holds' 
     go : (what : RequestTree) → Meets told what (J.Run t) → RunsAsAsked told what text holds holds' answer
     go (types name) m = m
     go (run name) m = λ file e. record { net = t; net_is = subst (λ known. IsNetworkOf known t) e m; writes = so }
+    go (optimise wanted name) m = m
     go (checks names) m = m
     go (run_checked names) m = λ source_file target_file certificate e f g.
         let d : IsDerivedIn told names t m.count = m.derived in

@@ -8,3 +8,4 @@ pub mod Preparation
 pub mod Headline
 pub mod NetworkRun
 pub mod WholeRun
+pub mod OptimisedFiles

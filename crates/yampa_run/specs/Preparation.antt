@@ -9,7 +9,9 @@ use Rattle.net_syntax.specs.TypedNetwork.{TypedNetwork}
 use Rattle.net_syntax.specs.NetworkLimits.{WithinLimits}
 use Rattle.net_syntax.specs.LawStep.{Step}
 use Rattle.net_text.specs.CertificateLaws.{IsCertificate, IsCertificateFault}
+use Rattle.net_text.specs.CertificatePrinting.{certificate_spelling}
 use Rattle.net_text.specs.FileLaws.{IsFile, IsFileFault}
+use Rattle.net_text.specs.Printing.{file_spelling}
 use Rattle.net_text.specs.declared.fault.NetTextFault.{NetTextFault}
 use Rattle.net_text.specs.declared.fault.NetTextFault.TheVariants as V
 use Rattle.net_types.specs.Check.{check}
@@ -19,9 +21,12 @@ use Rattle.cert_check.specs.Derives.{Derives}
 use Rattle.cert_check.specs.CheckAnswer.{CheckAnswer}
 use Rattle.cert_check.specs.declared.answer.CheckFault.{CheckFault}
 use Rattle.cert_check.specs.declared.answer.CheckFault.TheVariants as C
+use Rattle.net_opt.specs.Optimising.{Optimised}
 use Rattle.leaf_table.specs.declared.fault.TableFault.{TableFault}
 use Rattle.leaf_table.specs.declared.fault.TableFault.TheVariants as A
-use Rattle.command_line.specs.CommandLine.{DerivationNames, RequestTree, types, run, check as checks, run_checked, request_in, AsksHelp, AsksNothing}
+use Rattle.command_line.specs.CommandLine.{DerivationNames, RequestTree, types, run, optimise, check as checks, run_checked, request_in, AsksHelp, AsksNothing}
+use Rattle.command_line.specs.declared.command.Wanted.{Wanted}
+use Rattle.command_line.specs.declared.command.Wanted.TheVariants as W
 use Rattle.yampa_run.specs.RefusalLines.{check_words, text_words, type_words, unread_words}
 use Rattle.yampa_run.specs.declared.refused.Role.{Role}
 use Rattle.yampa_run.specs.declared.refused.Role.TheVariants as R
@@ -68,11 +73,16 @@ abbrev pub IsRefusedOf : Role → Option (List ℕ) → List ℕ → Type 0
 IsRefusedOf r None line = ⊤
 IsRefusedOf r (Some bytes) line = IsRefusedWith r bytes line
 
--- why there is no network of a file: it wasn't read, with status 3, and nothing is told of it; or
--- it is refused, with status 1; or memory was short
+-- a file wasn't read, with status 3, and nothing is told of it; or memory was short
+abbrev pub IsUnread : Role → Option (List ℕ) → Refusal → Type 0
+IsUnread r told (Refused.Line status line) = (status ≡ 3) × (told ≡ None)
+    × (string_bytes line ≡ unread_words r)
+IsUnread r told Refused.Memory = ⊤
+
+-- why there is no network of a file: it wasn't read; or it is refused, with status 1; or memory was
+-- short
 abbrev pub HasNoNetwork : Role → Option (List ℕ) → Refusal → Type 0
-HasNoNetwork r told (Refused.Line status line) =
-    ((status ≡ 3) × (told ≡ None) × (string_bytes line ≡ unread_words r))
+HasNoNetwork r told (Refused.Line status line) = IsUnread r told (Refused.Line status line)
     ⊎ ((status ≡ 1) × IsRefusedOf r told (string_bytes line))
 HasNoNetwork r told Refused.Memory = ⊤
 
@@ -99,11 +109,11 @@ IsNoCertificate None line = ⊤
 IsNoCertificate (Some bytes) line = (f : NetTextFault) × (f ≢ V.Memory)
     × IsCertificateFault bytes f × (line ≡ text_words R.Certificate f)
 
--- why there are no steps of a file: it wasn't read, with status 3, and nothing is told of it; or
--- it is refused, with status 1; or memory was short
+-- why there are no steps of a file: it wasn't read; or it is refused, with status 1; or memory was
+-- short
 abbrev pub HasNoSteps : Option (List ℕ) → Refusal → Type 0
 HasNoSteps told (Refused.Line status line) =
-    ((status ≡ 3) × (told ≡ None) × (string_bytes line ≡ unread_words R.Certificate))
+    IsUnread R.Certificate told (Refused.Line status line)
     ⊎ ((status ≡ 1) × IsNoCertificate told (string_bytes line))
 HasNoSteps told Refused.Memory = ⊤
 
@@ -165,6 +175,25 @@ pub record TellsTypes (told : Option (List ℕ)) (text : List ℕ) : Type 0 wher
   pub network : IsNetworkOf told net
   pub lines : text ≡ types_lines net
 
+-- what is printed of a network with inputs of type A and of the steps that lead to it: the file of
+-- the network, or the certificate of the steps
+abbrev pub wanted_text : Wanted → TypeTree → Network Expression → List Step → List ℕ
+wanted_text W.Network A net steps = file_spelling A net
+wanted_text W.Certificate A net steps = certificate_spelling steps
+
+-- the text is what is wanted of an optimised network of the source
+pub record PrintsOptimised (source : TypedNetwork) (wanted : Wanted) (text : List ℕ) : Type 0 where
+  pub net : Network Expression
+  pub steps : List Step
+  pub optimised : Optimised source net steps
+  pub printed : text ≡ wanted_text wanted source.input net steps
+
+-- the text is what is wanted of an optimised network of a file's, where its bytes are told
+pub record TellsOptimised (told : Option (List ℕ)) (wanted : Wanted) (text : List ℕ) : Type 0 where
+  pub source : TypedNetwork
+  pub network : IsNetworkOf told source
+  pub prints : PrintsOptimised source wanted text
+
 -- the line of the command `check`
 abbrev pub accepted_line : ℕ → List ℕ
 accepted_line count = codes "accepted " ++ (decimal count ++ codes "\n")
@@ -182,13 +211,16 @@ pub record IsChecked (told : KnownFiles) (names : DerivationNames) (t : TypedNet
   pub count : ℕ
   pub derived : IsDerivedIn told names t count
 
--- the job is what is asked for: the lines on a file's types, a run of its network, the line on a
--- derivation, or a run of a target that is derived
+-- the job is what is asked for: the lines on a file's types, a run of its network, what is wanted of
+-- an optimised one, the line on a derivation, or a run of a target that is derived
 abbrev pub Meets : KnownFiles → RequestTree → Job → Type 0
 Meets told (types name) (J.Print text) = TellsTypes (told name) (string_bytes text)
 Meets told (types name) (J.Run t) = ⊥
 Meets told (run name) (J.Print text) = ⊥
 Meets told (run name) (J.Run t) = IsNetworkOf (told name) t
+Meets told (optimise wanted name) (J.Print text) =
+    TellsOptimised (told name) wanted (string_bytes text)
+Meets told (optimise wanted name) (J.Run t) = ⊥
 Meets told (checks names) (J.Print text) = TellsAccepted told names (string_bytes text)
 Meets told (checks names) (J.Run t) = ⊥
 Meets told (run_checked names) (J.Print text) = ⊥
@@ -198,6 +230,7 @@ Meets told (run_checked names) (J.Run t) = IsChecked told names t
 abbrev pub Fails : KnownFiles → RequestTree → Refusal → Type 0
 Fails told (types name) refusal = HasNoNetwork R.Network (told name) refusal
 Fails told (run name) refusal = HasNoNetwork R.Network (told name) refusal
+Fails told (optimise wanted name) refusal = HasNoNetwork R.Network (told name) refusal
 Fails told (checks names) refusal = HasNoDerivation told names refusal
 Fails told (run_checked names) refusal = HasNoDerivation told names refusal
 
@@ -234,6 +267,7 @@ IsTold told = (bytes : List ℕ) × (told ≡ Some bytes)
 abbrev pub AreTold : KnownFiles → RequestTree → Type 0
 AreTold told (types name) = IsTold (told name)
 AreTold told (run name) = IsTold (told name)
+AreTold told (optimise wanted name) = IsTold (told name)
 AreTold told (checks names) = IsTold (told names.source) × IsTold (told names.target)
     × IsTold (told names.certificate)
 AreTold told (run_checked names) = IsTold (told names.source) × IsTold (told names.target)

@@ -5,10 +5,10 @@ ghost use Rattle.command_line.specs.CommandLine.{derivation_view};
 ghost use Rattle.net_syntax.specs.LawStep.{step_of};
 ghost use Rattle.yampa_run.specs.Preparation.{AreStepsOf, HasNoDerivation, HasNoNetwork, HasNoSteps, IsDerivedIn, IsNetworkOf, RefusesCheck, TellsAccepted, accepted_line};
 
-use crate::files::{FileFault, Files};
+use crate::files::{Files, read_file};
 use crate::preparation::{Refusal, load, text_refusal};
 use crate::printed::{push_number, push_words};
-use crate::refused::{Role, check_line, unread_line};
+use crate::refused::{Role, check_line};
 use cert_check::{CheckFault, check};
 use command_line::Derivation;
 use net_syntax::{LawStep, TypedNet};
@@ -83,13 +83,9 @@ fn load_steps<F: Files>(alloc: Global, name: &str, files: &F) -> Result<Vec<LawS
         (λ steps. AreStepsOf (F.told files.now name.now) (map step_of steps.items)) }
     ensures refused { IfErr result (HasNoSteps (F.told files.now name.now)) }
 {
-    match files.read(alloc, name) {
+    match read_file(alloc, Role::Certificate, name, files) {
         Ok(bytes) => steps_of(alloc, &bytes),
-        Err(FileFault::Memory) => Err(Refusal::Memory),
-        Err(FileFault::Unread) => Err(Refusal::Line {
-            status: 3,
-            line: unread_line(alloc, Role::Certificate)?,
-        }),
+        Err(refusal) => Err(refusal),
     }
 }
 

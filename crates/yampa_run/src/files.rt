@@ -2,7 +2,10 @@
 
 ghost use Rattle.std.specs.Prelude.{◌≡◌, ℕ, List, Option, None, IfErr, IfOk};
 ghost use Rattle.yampa_run.specs.KnownFiles.{AgreesWith};
+ghost use Rattle.yampa_run.specs.Preparation.{IsUnread};
 
+use crate::preparation::Refusal;
+use crate::refused::{Role, unread_line};
 use std::alloc::Global;
 
 /// Why a file wasn't read.
@@ -24,4 +27,24 @@ pub trait Files {
         ensures agrees { IfOk result (λ bytes. AgreesWith (told self.now name.now) bytes.items) }
         ensures unread { IfErr result (λ fault. fault ≡ FileFault.Unread
             → told self.now name.now ≡ None) };
+}
+
+/// The bytes of the file of that name, which is read as what the role says.
+pub(crate) fn read_file<F: Files>(
+    alloc: Global,
+    role: Role,
+    name: &str,
+    files: &F,
+) -> Result<Vec<u8>, Refusal>
+    ensures read { IfOk result (λ bytes. AgreesWith (F.told files.now name.now) bytes.items) }
+    ensures unread { IfErr result (IsUnread role (F.told files.now name.now)) }
+{
+    match files.read(alloc, name) {
+        Ok(bytes) => Ok(bytes),
+        Err(FileFault::Memory) => Err(Refusal::Memory),
+        Err(FileFault::Unread) => Err(Refusal::Line {
+            status: 3,
+            line: unread_line(alloc, role)?,
+        }),
+    }
 }

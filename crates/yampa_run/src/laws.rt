@@ -1,12 +1,15 @@
 // Laws of the definitions: what the refusal of a file says, that a derived network writes the same,
-// and the whole way of a command.
+// what the optimiser's texts are good for, and the whole way of a command.
 
 ghost use Rattle.yampa_run.specs.Preparation.{NoNetworkLaw, OneRefusalLaw, OnlyMemoryLaw};
 ghost use Rattle.yampa_run.specs.Headline.{SameOutputLaw, SameFrontLaw, WritesOutputLaw, HeadlineLaw};
+ghost use Rattle.yampa_run.specs.OptimisedFiles.{OptimisedFilesLaw};
 ghost use Rattle.yampa_run.specs.WholeRun.{WholeRunLaw};
 
 use cert_check::derivation_laws;
+use net_opt::optimised_laws;
 use net_syntax::typing_laws;
+use net_text::printing_laws;
 use sample_core::reading_laws;
 use stream_text::stream_laws;
 
@@ -45,4 +48,14 @@ pub fn whole_run_laws()
     stream_laws();
     derivation_laws();
     typing_laws();
+}
+
+/// What `optimise` prints of a network and of the steps that lead to it, put into files, within the
+/// limits of files: the steps of the one derive the network of the other from that of NET. So
+/// `check` and `run-checked` of the three refuse nothing but for lack of memory.
+pub fn optimised_file_laws()
+    ensures { OptimisedFilesLaw }
+{
+    printing_laws();
+    optimised_laws();
 }

@@ -6,9 +6,10 @@ ghost use Rattle.yampa_run.specs.RefusalLines.{refusal_line, refusal_status};
 ghost use Rattle.yampa_run.specs.Preparation.{Fails, HasNoNetwork, IsRequested, IsNetworkIn, IsNetworkOf, IsRefusal, Meets, RefusesText, RefusesTypes, TellsTypes, KnownFiles, arrow_line, size_lines, types_lines};
 
 use crate::certificate::{accepted, derived};
-use crate::files::{FileFault, Files};
+use crate::files::{Files, read_file};
+use crate::optimised::optimised;
 use crate::printed::{push_number, push_words};
-use crate::refused::{Role, text_line, type_line, unread_line};
+use crate::refused::{Role, text_line, type_line};
 use command_line::{Reply, Request, parse};
 use net_syntax::TypedNet;
 use net_text::{NetTextFault, read_net};
@@ -97,6 +98,10 @@ fn job_of<F: Files>(alloc: Global, request: Request<'_>, files: &F) -> Result<Jo
             Ok(net) => Ok(Job::Run(net)),
             Err(refusal) => Err(refusal),
         },
+        Request::Optimise { net, wanted } => match optimised(alloc, net, wanted, files) {
+            Ok(text) => Ok(Job::Print(text)),
+            Err(refusal) => Err(refusal),
+        },
         Request::Check(names) => match accepted(alloc, names, files) {
             Ok(text) => Ok(Job::Print(text)),
             Err(refusal) => Err(refusal),
@@ -143,13 +148,9 @@ pub fn load<F: Files>(alloc: Global, role: Role, name: &str, files: &F) -> Resul
     ensures network { IfOk result (IsNetworkOf (F.told files.now name.now)) }
     ensures refused { IfErr result (HasNoNetwork role (F.told files.now name.now)) }
 {
-    match files.read(alloc, name) {
+    match read_file(alloc, role, name, files) {
         Ok(bytes) => network_of(alloc, role, &bytes),
-        Err(FileFault::Memory) => Err(Refusal::Memory),
-        Err(FileFault::Unread) => Err(Refusal::Line {
-            status: 3,
-            line: unread_line(alloc, role)?,
-        }),
+        Err(refusal) => Err(refusal),
     }
 }
 

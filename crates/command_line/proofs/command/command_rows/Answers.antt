@@ -7,14 +7,23 @@ pub returns-clause-asked : goal.returns-clause-asked
 unfolding clap_on_literals request_in
 returns-clause-asked c = (refl, refl, refl)
 
+pub returns-clause-optimise : goal.returns-clause-optimise
+unfolding clap_on_literals request_in
+returns-clause-optimise c = (refl, refl, refl)
+
 pub returns-clause-derivations : goal.returns-clause-derivations
 unfolding clap_on_literals request_in
 returns-clause-derivations c = (refl, refl)
 
 pub returns-clause-help : goal.returns-clause-help
 unfolding clap_on_literals AsksHelp
-returns-clause-help c = (inl refl, inl refl)
+returns-clause-help c = (inl refl, inl refl, inl refl)
 
 pub returns-clause-nothing : goal.returns-clause-nothing
 unfolding clap_on_literals request_in AsksNothing
 returns-clause-nothing c = ((refl, λ e. cc), (refl, λ e. cc), (refl, λ e. cc), (refl, λ e. cc), (refl, λ e. cc), (refl, λ e. cc))
+
+pub returns-clause-no_optimise : goal.returns-clause-no_optimise
+unfolding clap_on_literals request_in AsksNothing
+returns-clause-no_optimise c =
+    ((refl, λ e. cc), (refl, λ e. cc), (refl, λ e. cc), (refl, λ e. cc), (refl, λ e. cc), (refl, λ e. cc), (refl, λ e. cc))

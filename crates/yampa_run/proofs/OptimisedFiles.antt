@@ -1,0 +1,89 @@
+-- What the command `optimise` prints is read back, and derives what is printed.
+use Rattle.std.proofs.Common.{◌≡◌, ℕ, Bool, true, false, List, [], ◌∷◌, refl, sym, ap, ◌∙◌, subst, arith}
+use Rattle.std.specs.List.{All, Contains, list_all}
+use Rattle.std.proofs.lemmas.Bool.{leb-true}
+use Rattle.std.proofs.lemmas.List.Elements.{All-head, All-tail}
+use Rattle.std.proofs.lemmas.List.Folds.{list_all_at}
+use Rattle.std.proofs.Math.Dec.{leb}
+use Rattle.leaf_expr.specs.Sexpr.{depths}
+use Rattle.net_syntax.specs.LawStep.{Step}
+use Rattle.net_syntax.specs.NetworkLimits.{WithinLimits}
+use Rattle.net_syntax.specs.TypedNetwork.{TypedNetwork}
+use Rattle.net_syntax.specs.declared.law_step.Law.{Law}
+use Rattle.net_syntax.specs.declared.law_step.Law.TheVariants as L
+use Rattle.net_text.specs.CertificateLaws.{IsCertificate}
+use Rattle.net_text.specs.CertificatePrinting.{ChildrenFit, GivenFits, IsLaw, PrintedCertificateLaw, StepFits, StepsFit, certificate_spelling, child_sexprs}
+use Rattle.net_text.specs.FileLaws.{IsFile, PrintedFileLaw}
+use Rattle.net_text.specs.Printing.{file_spelling}
+use Rattle.cert_check.specs.Derives.{Steps, no_step, step_then}
+use Rattle.net_opt.specs.Laws.{DerivesLaw}
+use Rattle.net_opt.specs.Optimising.{IsTried, MayTake, Optimised, expression_laws, network_laws}
+use Rattle.yampa_run.specs.OptimisedFiles.{OptimisedFilesLaw}
+use Rattle.yampa_run.specs.Preparation.{AreStepsOf, IsNetworkOf}
+
+-- a test that each number of a list passes is passed by one that stands in it
+passes : (test : ℕ → Bool) (ns : List ℕ) (n : ℕ) → list_all test ns ≡ true → Contains ns n → test n ≡ true
+passes test ns n all c = go (test n) refl
+  where
+    go : (b : Bool) → test n ≡ b → test n ≡ true
+    go true e = e
+    go false e = let none : list_all test ns ≡ false = list_all_at test ns c.0 n c.1 (ap test c.2 ∙ e) in cc
+
+-- a law that is tried has a number that files may have
+is_law : (law : Law) → IsTried law → IsLaw law
+is_law (L.L n) tried = (leb-true 1 n (passes (leb 1) network_laws n refl tried), leb-true n 42 (passes (λ k. leb k 42) network_laws n refl tried))
+is_law (L.E n) tried = (leb-true 1 n (passes (leb 1) expression_laws n refl tried), leb-true n 18 (passes (λ k. leb k 18) expression_laws n refl tried))
+
+flat : (p : List ℕ) → depths (child_sexprs p) ≡ 0
+flat [] = refl
+flat (k ∷ ks) = let e : depths (child_sexprs ks) ≡ 0 = flat ks in rw e refl
+
+-- a step that may be taken is within the limits of files where its position is
+step_fits : (s : Step) → MayTake s → ChildrenFit s.position → StepFits s
+step_fits s may fit = record {
+  law = is_law s.law may.tried;
+  position = fit;
+  given = subst (GivenFits s.law) (sym may.none_given) tt;
+  within = rw (may.none_given, flat s.position) (omega arith);
+}
+
+steps_fit : (ss : List Step) → All MayTake ss → All (λ s. ChildrenFit s.position) ss → StepsFit ss
+steps_fit [] may fit = tt
+steps_fit (s ∷ ss) may fit = (
+  step_fits s (All-head MayTake s ss may) (All-head (λ s. ChildrenFit s.position) s ss fit),
+  steps_fit ss (All-tail MayTake s ss may) (All-tail (λ s. ChildrenFit s.position) s ss fit),
+)
+
+-- steps keep the input type, and what they lead to is within the limits
+led : (t : TypedNetwork) (ss : List Step) (u : TypedNetwork) → WithinLimits t → Steps t ss u → (u.input ≡ t.input) × WithinLimits u
+led t ss u limits no_step = (refl, limits)
+led t ss u limits (step_then {u = next} {ss = more} x xs) =
+    let behind = led next more u x.rewritten.within xs in (behind.0 ∙ x.rewritten.same_input, behind.1)
+
+pub optimised_files : PrintedFileLaw → PrintedCertificateLaw → DerivesLaw → OptimisedFilesLaw
+optimised_files nets certificates derives told names source net steps held fit =
+    let target : TypedNetwork = held.optimised.last in
+    let ends : target.net ≡ net = held.optimised.ends in
+    let there = led source steps target held.source_is.typed held.optimised.exhausts.lead in
+    let printed : IsFile (file_spelling source.input net) source.input net = nets source.input net fit.numbers fit.type_depth fit.net_depth fit.net_size in
+    let listed : IsCertificate (certificate_spelling steps) steps =
+    certificates steps (steps_fit steps held.optimised.exhausts.may_be_taken fit.positions) fit.certificate_size in
+    record {
+      target = target;
+      target_is = ends;
+      derived = record {
+        source = source;
+        steps = steps;
+        files = record {
+          is_source = subst (λ known. IsNetworkOf known source) (sym held.source_told) held.source_is;
+          is_target = subst (λ known. IsNetworkOf known target) (sym held.target_told) (record {
+            file = subst (λ m. IsFile (file_spelling source.input net) target.input m) (sym ends)
+                (subst (λ A. IsFile (file_spelling source.input net) A net) (sym there.0) printed);
+            typed = there.1;
+          });
+          are_steps = subst (λ known. AreStepsOf known steps) (sym held.steps_told) listed;
+        };
+        derives = derives source target steps (subst (λ m. Optimised source m steps) (sym ends) held.optimised) (sym there.0);
+        counted = refl;
+      };
+    }
