@@ -6,7 +6,7 @@
 
 ghost use Rattle.std.specs.Prelude.{◌≡◌, [], ◌∷◌, ◌++◌, Contains, IfErr, IfSome, Ok, OnErr, OnOk, length, map};
 ghost use Rattle.sample_core.specs.ValueView.{datum_of};
-ghost use Rattle.leaf_table.specs.{Computes.Computes, Rows.rows_of};
+ghost use Rattle.leaf_table.specs.{Computes.Computes, Rows.leaves_of, Rows.rows_of};
 ghost use Rattle.yampa_run.specs.Preparation.{RefusesTable};
 
 use crate::preparation::Refusal;
@@ -51,6 +51,12 @@ pub fn add_row(
     ensures grown { OnOk result ((Contains (rows_of table.old) need.now.key → ⊥)
         → rows_of table.new ≡ rows_of table.old ++ need.now.key ∷ []) }
     ensures unchanged { OnErr result (rows_of table.new ≡ rows_of table.old) }
+    ensures kept { Contains (rows_of table.old) need.now.key
+        → leaves_of table.new ≡ leaves_of table.old }
+    ensures stored { OnOk result ((Contains (rows_of table.old) need.now.key → ⊥)
+        → (leaf : _) × (leaves_of table.new ≡ leaves_of table.old ++ leaf ∷ [])
+        × (leaf.key ≡ need.now.key) × (leaf.output ≡ need.now.output)) }
+    ensures no_other { OnErr result (leaves_of table.new ≡ leaves_of table.old) }
     ensures full { IfErr result (λ fault. fault ≡ TableFault.Full
         → (length (rows_of table.old) ≡ 4096)
         × (Contains (rows_of table.old) need.now.key → ⊥)) }
