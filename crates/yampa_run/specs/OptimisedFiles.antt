@@ -16,8 +16,8 @@ use Rattle.command_line.specs.CommandLine.{DerivationNames}
 use Rattle.command_line.specs.declared.command.Wanted.TheVariants as W
 use Rattle.yampa_run.specs.Preparation.{IsDerivedIn, IsNetworkIn, KnownFiles, wanted_text}
 
--- a network with inputs of type A, and the positions and the number of the steps that lead to it,
--- are within the limits of files, as they are printed
+-- a network with inputs of type A, the positions of the steps that lead to it, and both printed
+-- texts are within the limits of files
 pub record FitFiles (A : TypeTree) (net : Network Expression) (steps : List Step) : Type 0 where
   pub numbers : Writable net
   pub type_depth : depth (type_sexpr A) ≤ 600

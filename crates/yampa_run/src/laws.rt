@@ -52,7 +52,7 @@ pub fn whole_run_laws()
 
 /// What `optimise` prints of a network and of the steps that lead to it, put into files, within the
 /// limits of files: the steps of the one derive the network of the other from that of NET. So
-/// `check` and `run-checked` of the three refuse nothing but for lack of memory.
+/// `prepare` refuses `run-checked` of the three for lack of memory alone.
 pub fn optimised_file_laws()
     ensures { OptimisedFilesLaw }
 {
