@@ -3,6 +3,7 @@ from generator.trees import EXPRESSION_WORDS, GREATEST, NETWORK_WORDS, is_networ
 from generator.typed import Scope
 
 SPLICED = [b"(", b")", b" ", b"\n", b";", b"-", b"0", b"9", b"+", b"=", b"\0", b"\x0b", b"\r", b"\t", b"\x80", b"\xff", b"x"]
+STEPS = b"+0 +00 +01 +-1 + 1 ++1 +1a +9223372036854775807 +9223372036854775808 +99999999999999999999".split()
 WORDS = (
     "( ) x unit true false none time integral identity edge arr >>> first second parB col list pair event fst snd then "
     "neg add if on nth len p old 0 1 -1 007 -0 - 65535 65536 4097 9223372036854775807 9223372036854775808 "
@@ -49,6 +50,15 @@ class Breaker:
         else:
             words[at : at + (way == "replace")] = [self.rng.choice(WORDS).encode()]
         return b" ".join(words).replace(b"( ", b"(").replace(b" )", b")")
+
+    def line(self, line, value):
+        """A line of a stream with another step, or with a value that may be of another type."""
+        step, space, old = line.partition(b" ")
+        if not line.startswith(b"+"):
+            return self.rng.choice([b"+1 " + line, b"=\n", b"\n", value + b"\n", b" " + line, line[:-1] + b" \n"])
+        step = self.rng.choice([step, *STEPS])
+        old = self.rng.choice([old, old, value + b"\n", b"==\n", b"= \n", b"\n", b" " + old, old[:-1] + b"\r\n"])
+        return step + space + old
 
     def cut(self, text):
         return text[: self.place(text)]

@@ -8,7 +8,7 @@ from generator.limits import Limits
 from generator.making import FORM_WEIGHTS, Maker
 from generator.steps import StepMaker, reversed_steps
 from generator.texts import LAWS, Step, certificate_text, network_text
-from generator.trees import SUGAR_WORDS, child_places, expanded, head, is_network, preorder
+from generator.trees import SUGAR_WORDS, child_places, expanded, head, is_network, preorder, shown
 from generator.typed import Scope, check_types
 
 
@@ -71,8 +71,9 @@ class Case:
         """A stream of the network's input type, of which one in five has a faulty line, and some lack the last line feed."""
         lines = self.maker.stream(typed.input)
         if lines and self.maker.chance(0.2):
-            at = self.rng.randrange(len(lines))
-            lines[at] = self.breaker.broken(lines[at])
+            number = self.rng.randrange(len(lines))
+            value, line = shown(self.maker.value(self.maker.type())).encode(), lines[number]
+            lines[number] = self.rng.choice([self.breaker.broken(line), self.breaker.line(line, value)])
         stream = b"".join(lines)
         return stream.removesuffix(b"\n") if self.maker.chance(0.1) else stream
 
@@ -103,11 +104,11 @@ class Case:
 
     def certified(self):
         """A law at a random place, and a row of steps from there; then all the way back."""
-        _, typed = self.network(self.rng.choice([0, 2, 4, 6]))
-        law = self.next_of("certified", LAWS)
-        source, position = self.steps.with_left_side(typed, law)
+        law = self.next_of("certified", LAW_WORDS)
+        source, position = self.steps.with_left_side(self.surroundings(), law)
         step = Step(law, "forward", position)
-        steps, typeds = self.steps.walk(taken(source, step), self.rng.choice([0, 0, 1, 2, 5]))
+        target = taken(source, step)
+        steps, typeds = self.steps.walk(target, self.rng.choice([0, 0, 1, 2, 5]))
         steps, typeds = [step, *steps], [source, *typeds]
         ways = [(steps, typeds), (reversed_steps(steps, typeds), typeds[::-1])]
         self.rng.shuffle(ways)
@@ -115,6 +116,22 @@ class Case:
             files = self.accepted_steps(steps, typeds)
         self.same(files, self.stream(typeds[0]))
         self.refused(files, steps, typeds)
+        self.missed(source, step, target)
+
+    def missed(self, source, step, target):
+        """A step from a tree that is nearly a left side, or back to one."""
+        nearly = self.steps.nearly(source, step.position)
+        self.hold("check", text_of(nearly), text_of(target), certificate_text([step]).encode())
+        back = Step(step.law, "backward", step.position, nearly.places[step.position].tree)
+        self.hold("check", text_of(target), text_of(nearly), certificate_text([back]).encode())
+
+    def surroundings(self):
+        """A typed network that a left side is to be put into: one in three begins with a switch."""
+        if self.maker.chance(0.7):
+            return self.network(self.rng.choice([0, 2, 4, 6]))[1]
+        word, given, output = self.rng.choice(SWITCHES), self.maker.type(), self.maker.type()
+        given, made, _ = self.maker.of_form(word, given, output, Scope(), self.rng.choice([2, 4, 6]))
+        return check_types(given, expanded(made))
 
     def accepted_steps(self, steps, typeds):
         files = [text_of(typeds[0]), text_of(typeds[-1]), certificate_text(steps).encode()]
@@ -265,6 +282,7 @@ WRONG_WORDS = [
     [b"\xfe"],
 ]
 FORM_WORDS = [word for word in FORM_WEIGHTS if word != "old"] + ["kSwitch", "pSwitch"] * 3
+LAW_WORDS = [*LAWS, "L38", "L38"]
 SWITCHES = ["switch", "dSwitch", "rSwitch", "kSwitch", "pSwitch"]
 KINDS = "ran certified hostile ran certified optimised ill_typed certified".split() * 4 + ["limits", "worded"]
 

@@ -14,8 +14,8 @@ from generator.laws import (
     taken,
 )
 from generator.texts import LAWS, Step
-from generator.trees import at, expanded, head, is_literal, is_network, preorder, replaced
-from generator.typed import ExpressionFault, ExpressionWalk, check_types, event, is_form, list_of, pair
+from generator.trees import at, children, expanded, head, is_literal, is_network, preorder, replaced
+from generator.typed import ExpressionFault, ExpressionWalk, Scope, check_types, event, is_form, list_of, pair
 
 
 class LeftSides:
@@ -314,11 +314,22 @@ class StepMaker:
         places = [place for place in typed.places.values() if is_network(place.tree) == (law[0] == "L")]
         if not places:
             return self.with_left_side(check_types(typed.input, seq(arr("x"), typed.places[()].tree)), law)
-        place = self.rng.choice(sorted(places, key=lambda place: place.position))
+        bound = [place for place in places if place.scope != Scope()]
+        place = self.rng.choice(bound if bound and self.maker.chance(0.5) else places)
         into, tree, out = LeftSides(self.maker, place.scope).of(law, place.input, place.output)
         fitted, position = self.fitted(place, into, tree, out)
         net = replaced(typed.places[()].tree, place.position, fitted)
         return check_types(typed.input, net), place.position + position
+
+    def nearly(self, typed, position):
+        """The network with another part of the same types hardly below a position, or there where that has no parts."""
+        place = typed.places[position]
+        for _ in range(self.rng.choice([1, 1, 2])):
+            if children(place.tree):
+                place = typed.places[(*place.position, self.rng.randrange(len(children(place.tree))))]
+        make = self.maker.network if is_network(place.tree) else self.maker.expression
+        other = expanded(make(place.input, place.output, place.scope, self.rng.choice([0, 1, 2, 2])))
+        return check_types(typed.input, replaced(typed.places[()].tree, place.position, other))
 
     def fitted(self, place, into, tree, out):
         """The tree with the types of the place, and the tree's position in that."""
