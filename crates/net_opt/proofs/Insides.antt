@@ -8,17 +8,21 @@ use Rattle.leaf_core.proofs.InsideLaws.{nodes_inside}
 use Rattle.net_syntax.specs.Network.{Network, Networks, network_size, networks_size, arr, seq, first, par, loop_pre, i_pre, delay, hold, accum_by, after, repeatedly, switch, d_switch, r_switch, k_switch, p_switch, no_members, and_member}
 use Rattle.net_syntax.specs.Typing.{members}
 use Rattle.net_syntax.specs.Place.{Tree, a_network, a_leaf, member, child, child_network, PSwitchChild, p_switch_child, member_child, event_child, continuation_child, no_child}
-use Rattle.net_syntax.specs.Placed.{bound_in, bound_behind}
 use Rattle.net_syntax.specs.FormParts.{FormParts, leaves, fed, routed, parts_of}
 use Rattle.net_syntax.specs.FormParts as F
 use Rattle.net_syntax.specs.ChildParts.{child_inside}
 use Rattle.net_syntax.proofs.ChildNumbers.{child_is}
+use Rattle.net_syntax.proofs.Children.{members_few}
 
--- how a child at this number of a network of this size, which binds so many frozen networks in it,
--- compares with the network
-abbrev pub ChildFits : ℕ → ℕ → ℕ → Tree Expression → Type 0
-ChildFits size olds k (a_network g) = (network_size g < size) × (olds + network_size g ≤ size) × (k ≤ suc size)
-ChildFits size olds k (a_leaf e) = (olds ≤ size) × (k ≤ suc size)
+-- child k of a network, part k of an expression
+abbrev pub inside : Tree Expression → ℕ → Option (Tree Expression)
+inside (a_network f) k = child f k
+inside (a_leaf e) k = option_map a_leaf (part e k)
+
+-- a child at this number of a network of this size is smaller, and the number is low
+abbrev pub ChildFits : ℕ → ℕ → Tree Expression → Type 0
+ChildFits size k (a_network g) = (network_size g < size) × (k ≤ suc size)
+ChildFits size k (a_leaf e) = k ≤ suc size
 
 member_fits : (fs : Networks Expression) (k : ℕ) → IfSome (member fs k) (λ g. suc (network_size g + k) ≤ networks_size fs)
 member_fits no_members k = tt
@@ -30,14 +34,10 @@ member_fits (and_member f fs) (suc k) = go (member fs k) (member_fits fs k)
     go None h = tt
     go (Some g) h = omega (arith, h)
 
-members_few : (fs : Networks Expression) → members fs ≤ networks_size fs
-members_few no_members = omega arith
-members_few (and_member f fs) = omega (arith, members_few fs)
-
 par_fits : (fs : Networks Expression) (k : ℕ) (o : Option (Network Expression)) → IfSome o (λ g. suc (network_size g + k) ≤ networks_size fs)
-    → IfSome (option_map a_network o) (ChildFits (suc (networks_size fs)) 0 k)
+    → IfSome (option_map a_network o) (ChildFits (suc (networks_size fs)) k)
 par_fits fs k None h = tt
-par_fits fs k (Some g) h = (omega (arith, h), omega (arith, h), omega (arith, h))
+par_fits fs k (Some g) h = (omega (arith, h), omega (arith, h))
 
 -- what stands at number k behind the route of a pSwitch, by its kind
 data Behind (fs : Networks Expression) (k : ℕ) : PSwitchChild → Type 0 where
@@ -61,43 +61,43 @@ behind (and_member f fs) (suc k) = go (p_switch_child fs k) (behind fs k)
 
 behind_fits : (fs : Networks Expression) (e t : Network Expression) (k : ℕ) (c : PSwitchChild) → Behind fs k c
     → IfSome (option_map a_network (child_network c fs e t k))
-    (ChildFits (suc (networks_size fs + network_size e + network_size t)) (bound_behind c fs).olds (suc k))
+    (ChildFits (suc (networks_size fs + network_size e + network_size t)) (suc k))
 behind_fits fs e t k member_child at_member = go (member fs k) (member_fits fs k)
   where
     go : (o : Option (Network Expression)) → IfSome o (λ g. suc (network_size g + k) ≤ networks_size fs)
-        → IfSome (option_map a_network o) (ChildFits (suc (networks_size fs + network_size e + network_size t)) 0 (suc k))
+        → IfSome (option_map a_network o) (ChildFits (suc (networks_size fs + network_size e + network_size t)) (suc k))
     go None h = tt
-    go (Some g) h = (omega (arith, h), omega (arith, h), omega (arith, h))
-behind_fits fs e t k event_child (at_event i) = (omega arith, omega arith, omega (arith, i, members_few fs))
+    go (Some g) h = (omega (arith, h), omega (arith, h))
+behind_fits fs e t k event_child (at_event i) = (omega arith, omega (arith, i, members_few fs))
 behind_fits fs e t k continuation_child (at_continuation i) =
-    (omega arith, omega (arith, members_few fs), omega (arith, i, members_few fs))
+    (omega arith, omega (arith, i, members_few fs))
 behind_fits fs e t k no_child at_none = tt
 
-pub child_fits : (f : Network Expression) (k : ℕ) → IfSome (child f k) (ChildFits (network_size f) (bound_in f k).olds k)
-child_fits (arr e) zero = (omega arith, omega arith)
-child_fits (seq f g) zero = (omega arith, omega arith, omega arith)
-child_fits (seq f g) (suc zero) = (omega arith, omega arith, omega arith)
-child_fits (first f) zero = (omega arith, omega arith, omega arith)
+pub child_fits : (f : Network Expression) (k : ℕ) → IfSome (child f k) (ChildFits (network_size f) k)
+child_fits (arr e) zero = omega arith
+child_fits (seq f g) zero = (omega arith, omega arith)
+child_fits (seq f g) (suc zero) = (omega arith, omega arith)
+child_fits (first f) zero = (omega arith, omega arith)
 child_fits (par fs) k = par_fits fs k (member fs k) (member_fits fs k)
-child_fits (loop_pre c f) zero = (omega arith, omega arith)
-child_fits (loop_pre c f) (suc zero) = (omega arith, omega arith, omega arith)
-child_fits (i_pre c) zero = (omega arith, omega arith)
-child_fits (delay q c) zero = (omega arith, omega arith)
-child_fits (hold c) zero = (omega arith, omega arith)
-child_fits (accum_by g z) zero = (omega arith, omega arith)
-child_fits (accum_by g z) (suc zero) = (omega arith, omega arith)
-child_fits (after q c) zero = (omega arith, omega arith)
-child_fits (repeatedly q c) zero = (omega arith, omega arith)
-child_fits (switch f t) zero = (omega arith, omega arith, omega arith)
-child_fits (switch f t) (suc zero) = (omega arith, omega arith, omega arith)
-child_fits (d_switch f t) zero = (omega arith, omega arith, omega arith)
-child_fits (d_switch f t) (suc zero) = (omega arith, omega arith, omega arith)
-child_fits (r_switch f t) zero = (omega arith, omega arith, omega arith)
-child_fits (r_switch f t) (suc zero) = (omega arith, omega arith, omega arith)
-child_fits (k_switch f e t) zero = (omega arith, omega arith, omega arith)
-child_fits (k_switch f e t) (suc zero) = (omega arith, omega arith, omega arith)
-child_fits (k_switch f e t) (suc (suc zero)) = (omega arith, omega arith, omega arith)
-child_fits (p_switch r fs e t) zero = (omega arith, omega arith)
+child_fits (loop_pre c f) zero = omega arith
+child_fits (loop_pre c f) (suc zero) = (omega arith, omega arith)
+child_fits (i_pre c) zero = omega arith
+child_fits (delay q c) zero = omega arith
+child_fits (hold c) zero = omega arith
+child_fits (accum_by g z) zero = omega arith
+child_fits (accum_by g z) (suc zero) = omega arith
+child_fits (after q c) zero = omega arith
+child_fits (repeatedly q c) zero = omega arith
+child_fits (switch f t) zero = (omega arith, omega arith)
+child_fits (switch f t) (suc zero) = (omega arith, omega arith)
+child_fits (d_switch f t) zero = (omega arith, omega arith)
+child_fits (d_switch f t) (suc zero) = (omega arith, omega arith)
+child_fits (r_switch f t) zero = (omega arith, omega arith)
+child_fits (r_switch f t) (suc zero) = (omega arith, omega arith)
+child_fits (k_switch f e t) zero = (omega arith, omega arith)
+child_fits (k_switch f e t) (suc zero) = (omega arith, omega arith)
+child_fits (k_switch f e t) (suc (suc zero)) = (omega arith, omega arith)
+child_fits (p_switch r fs e t) zero = omega arith
 child_fits (p_switch r fs e t) (suc k) = behind_fits fs e t k (p_switch_child fs k) (behind fs k)
 child_fits _ k = tt
 

@@ -1,3 +1,4 @@
+pub mod Beside
 pub mod Tried
 pub mod Insides
 pub mod Walked

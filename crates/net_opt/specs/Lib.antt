@@ -1,5 +1,6 @@
 -- What an optimised network is.
 pub mod Optimising
+pub mod Order
 pub mod Search
 pub mod Walk
 pub mod Laws

@@ -1,5 +1,5 @@
--- Steps forward at a place.
-use Rattle.std.specs.Prelude.{◌≡◌, ℕ, List, ◌++◌, Option, Some, None}
+-- Steps forward at a place, and what the walk passed before it took one.
+use Rattle.std.specs.Prelude.{◌≡◌, ℕ, Bool, true, false, List, ◌++◌, Option, Some, None}
 use Rattle.leaf_core.specs.Expression.{Expression}
 use Rattle.net_syntax.specs.Place.{Tree, a_network, a_leaf}
 use Rattle.net_syntax.specs.Placed.{placed, placed_at}
@@ -7,11 +7,11 @@ use Rattle.net_syntax.specs.TypedNetwork.{TypedNetwork}
 use Rattle.net_syntax.specs.LawStep.{Step, step_of}
 use Rattle.net_syntax.specs.declared.law_step.LawStep.{LawStep}
 use Rattle.net_syntax.specs.declared.law_step.Law.{Law}
-use Rattle.net_syntax.specs.declared.law_step.Direction.TheVariants.{Forward}
 use Rattle.net_syntax.specs.Rewriting.{Rewrites}
 use Rattle.net_types.specs.Answered.{NoRewriting}
-use Rattle.cert_check.specs.Derives.{Next}
-use Rattle.net_opt.specs.Optimising.{IsTried, MayTake}
+use Rattle.cert_check.specs.Derives.{Answered, Next}
+use Rattle.net_opt.specs.Optimising.{IsTried, MayTake, forward_step, NoStepBy, FirstLaw}
+use Rattle.net_opt.specs.Order.{Before, LeftOf}
 
 -- what stands at the position, with so many frozen networks in scope
 pub record StandsThere (t : TypedNetwork) (p : List ℕ) (n : ℕ) (u : Tree Expression) : Type 0 where
@@ -22,35 +22,55 @@ pub record StandsThere (t : TypedNetwork) (p : List ℕ) (n : ℕ) (u : Tree Exp
 abbrev pub ExpressionThere : TypedNetwork → List ℕ → Expression → Type 0
 ExpressionThere t p e = (n : ℕ) × StandsThere t p n (a_leaf e)
 
--- the step by this law, forward and with no tree given, at this position
-abbrev pub forward_step : Law → List ℕ → Step
-forward_step law p = record { law = law; direction = Forward; position = p; given = None }
+-- the law doesn't match what stands at the position
+abbrev pub NoMatchBy : TypedNetwork → List ℕ → Law → Type 0
+NoMatchBy t p law = (new : Tree Expression) → Answered t (forward_step law p) new → ⊥
 
--- that step doesn't lead on
-abbrev pub NoStepBy : TypedNetwork → List ℕ → Law → Type 0
-NoStepBy t p law = (u : TypedNetwork) → Next t (forward_step law p) u → ⊥
+-- the law was passed by a walk: its step doesn't lead on there; in a walk in which nothing that
+-- matched was refused it doesn't even match
+abbrev pub Passed : Bool → TypedNetwork → List ℕ → Law → Type 0
+Passed true t p law = NoStepBy t p law
+Passed false t p law = NoMatchBy t p law
 
--- no step that may be taken leads on at this position
-abbrev pub NoStepAt : TypedNetwork → List ℕ → Type 0
-NoStepAt t p = (law : Law) → IsTried law → NoStepBy t p law
+-- so was each law that is tried
+abbrev pub PassedAt : Bool → TypedNetwork → List ℕ → Type 0
+PassedAt refused t p = (law : Law) → IsTried law → Passed refused t p law
 
 -- the same at this position and at all that lead on from it
-abbrev pub NoStepWithin : TypedNetwork → List ℕ → Type 0
-NoStepWithin t p = (q : List ℕ) → NoStepAt t (p ++ q)
+abbrev pub PassedWithin : Bool → TypedNetwork → List ℕ → Type 0
+PassedWithin refused t p = (q : List ℕ) → PassedAt refused t (p ++ q)
+
+-- from p on, no law that is tried matches anything left of the path
+abbrev pub Settled : TypedNetwork → List ℕ → List ℕ → Type 0
+Settled t p path = (q : List ℕ) → LeftOf q path → PassedAt false t (p ++ q)
+
+-- the step's position leads on from p; each position before it, from p on, was passed, and so was
+-- each law before its own
+pub record FirstWithin (refused : Bool) (t : TypedNetwork) (p : List ℕ) (s : Step) : Type 0 where
+  pub rest : List ℕ
+  pub leads : s.position ≡ p ++ rest
+  pub earlier : (q : List ℕ) → Before q rest → PassedAt refused t (p ++ q)
+  pub first_law : FirstLaw (Passed refused t s.position) s.law
 
 -- a step that may be taken leads on so
 pub record Takes (t : TypedNetwork) (s : Step) (u : TypedNetwork) : Type 0 where
   pub may : MayTake s
   pub next : Next t s u
 
--- where the network was t and now is u: a step was taken, or none, which says Nothing
-abbrev pub Found : Type 0 → TypedNetwork → TypedNetwork → Option LawStep → Type 0
-Found Nothing t u None = (u ≡ t) × Nothing
-Found Nothing t u (Some s) = Takes t (step_of s) u
+-- where the network was t and now is u: such a step was taken, or none, which says Nothing
+abbrev pub Found : Type 0 → (Step → Type 0) → TypedNetwork → TypedNetwork → Option LawStep → Type 0
+Found Nothing Such t u None = (u ≡ t) × Nothing
+Found Nothing Such t u (Some s) = Takes t (step_of s) u × Such (step_of s)
 
--- where the network was t and now is u: the law's step stands there with the tree at the position,
--- or there is no such network, and it is as it was
-abbrev pub Puts : Law → TypedNetwork → List ℕ → Tree Expression → TypedNetwork → Option LawStep
-    → Type 0
-Puts law t p new u None = (u ≡ t) × NoRewriting t p new
-Puts law t p new u (Some s) = (step_of s ≡ forward_step law p) × Rewrites t p new u
+-- where the network was t and now is u, and something was refused or not, before and now: the law's
+-- step stands there with the tree at the position, or that was refused, and all is as it was
+abbrev pub Puts : Law → TypedNetwork → List ℕ → Tree Expression → TypedNetwork → Bool → Bool
+    → Option LawStep → Type 0
+Puts law t p new u before now None = (u ≡ t) × NoRewriting t p new × (now ≡ true)
+Puts law t p new u before now (Some s) =
+    (step_of s ≡ forward_step law p) × Rewrites t p new u × (now ≡ before)
+
+-- the step is at the position, by the first law that wasn't passed there
+pub record FirstAt (refused : Bool) (t : TypedNetwork) (p : List ℕ) (s : Step) : Type 0 where
+  pub there : s.position ≡ p
+  pub first_law : FirstLaw (Passed refused t p) s.law

@@ -5,6 +5,7 @@ mod laws;
 mod optimiser;
 mod search;
 mod step;
+mod walk;
 
 pub use laws::optimised_laws;
 pub use optimiser::{MOST_STEPS, optimise};

@@ -1,92 +1,69 @@
 // The walk over a network for the first step that may be taken.
 
-ghost use Rattle.std.specs.Prelude.{◌≡◌, IfOk, option_map};
-ghost use Rattle.leaf_core.specs.Expression.{Expression};
-ghost use Rattle.net_syntax.specs.ChildParts.{seen};
-ghost use Rattle.net_syntax.specs.Network.{Network, p_switch};
-ghost use Rattle.net_syntax.specs.NetworkView.{tree_of, trees};
-ghost use Rattle.net_syntax.specs.Placed.{bound_in};
-ghost use Rattle.net_opt.specs.Search.{Found, NoStepWithin};
-ghost use Rattle.net_opt.specs.Walk.{Reached, frozen_in, inside};
+ghost use Rattle.std.specs.Prelude.{◌≡◌, IfOk, get_or, true};
+ghost use Rattle.net_syntax.specs.ChildParts.{seen_place};
+ghost use Rattle.net_opt.specs.Order.{onward};
+ghost use Rattle.net_opt.specs.Search.{FirstWithin, Found, PassedWithin, Settled};
+ghost use Rattle.net_opt.specs.Walk.{Reached};
 
 use crate::step::step_at;
-use leaf_core::{Expr, part};
-use net_syntax::{LawStep, Members, Net, TreeRef, TypedNet, child};
+use crate::walk::Walk;
+use net_syntax::{LawStep, Place, TypedNet, place_below};
 use sample_core::Memory;
 use std::alloc::Global;
 
-/// Takes the first step at the tree, which stands at the path with so many frozen networks in scope,
-/// or inside it: the tree comes before what is inside, and that in its order.
+/// Takes the first step where the walk is, at this place, or inside what stands there: that comes
+/// before what is inside, which comes in its order. Left of the settled path, from here on, nothing
+/// matches; the walk passes that over.
 pub(crate) fn step_within(
     alloc: Global,
     typed: &mut TypedNet,
-    path: &mut Vec<u32>,
-    tree: TreeRef<'_>,
-    olds: u32,
+    walk: &mut Walk,
+    place: Place<'_>,
+    settled: &[u32],
 ) -> Result<Option<LawStep>, Memory>
-    requires { Reached typed.old path.old.items olds (seen tree) }
-    ensures { IfOk result (Found
-        ((path.new.items ≡ path.old.items) × NoStepWithin typed.old path.old.items)
+    requires reached { Reached typed.old walk.old.path.items (seen_place place) }
+    requires settled { Settled typed.old walk.old.path.items settled.now }
+    ensures more { walk.old.refused ≡ true → walk.new.refused ≡ true }
+    ensures found { IfOk result (Found
+        ((walk.new.path.items ≡ walk.old.path.items)
+        × PassedWithin walk.new.refused typed.old walk.old.path.items)
+        (λ s. (walk.new.path.items ≡ s.position)
+        × FirstWithin walk.new.refused typed.old walk.old.path.items s)
         typed.old typed.new) }
 {
-    if let Some(step) = step_at(alloc, typed, path.as_slice(), tree, olds)? {
+    if let Some(step) = step_at(alloc, typed, walk, place)? {
         return Ok(Some(step));
     }
-    let mut k = 0;
-    while let Some(inner) = inside(tree, k) {
-        path.push(k)?;
-        let within = olds + frozen_in(tree, k);
-        if let Some(step) = step_within(alloc, typed, path, inner, within)? {
+    let mut k = first_number(settled);
+    while let Some(inner) = place_below(place, &[k]) {
+        walk.path.push(k)?;
+        let rest = onward(settled, k);
+        if let Some(step) = step_within(alloc, typed, walk, inner, rest)? {
             return Ok(Some(step));
         }
-        path.pop();
+        walk.path.pop();
         k += 1;
     }
     Ok(None)
 }
 
-/// Child k of a network, part k of an expression.
-fn inside(tree: TreeRef<'_>, k: u32) -> Option<TreeRef<'_>>
-    ensures { option_map seen result ≡ inside (seen tree.entry) k }
+/// The path's first number, 0 where it has none.
+fn first_number(path: &[u32]) -> u32
+    ensures { result ≡ get_or path.now 0 0 }
 {
-    match tree {
-        TreeRef::Net(net) => child(net, k),
-        TreeRef::Expr(expr) => Some(TreeRef::Expr(part(expr, k)?)),
+    match path.first() {
+        Some(k) => *k,
+        None => 0,
     }
 }
 
-/// How many frozen networks more are in scope inside the tree, at number k.
-fn frozen_in(tree: TreeRef<'_>, k: u32) -> u32
-    ensures { result ≡ frozen_in (seen tree.entry) k }
+/// What is left of the path behind number k; nothing where it begins otherwise.
+fn onward(path: &[u32], k: u32) -> &[u32]
+    ensures { result.now ≡ onward path.now k }
 {
-    match tree {
-        TreeRef::Net(net) => frozen_in_net(net, k),
-        TreeRef::Expr(_) => 0,
+    match path.split_first() {
+        Some((j, rest)) if *j == k => rest,
+        _ => &[],
     }
-}
-
-/// How many frozen networks the network binds in its child k.
-fn frozen_in_net(net: &Net<Expr>, k: u32) -> u32
-    ensures { result ≡ (bound_in (tree_of net.now) k).olds }
-{
-    match net {
-        Net::KSwitch(..) => match k {
-            2 => 1,
-            _ => 0,
-        },
-        Net::PSwitch(_, fs, _, _) => frozen_in_p_switch(fs, k),
-        _ => 0,
-    }
-}
-
-/// The same of a `pSwitch` of these members.
-fn frozen_in_p_switch(fs: &Members<Expr>, k: u32) -> u32
-    ensures { (r : Expression) (e t : Network Expression)
-        → result ≡ (bound_in (p_switch r (trees fs.now) e t) k).olds }
-{
-    let count = fs.as_slice().len();
-    if k as usize == count + 2 {
-        return k - 2;
-    }
-    0
 }

@@ -1,24 +1,50 @@
 use Rattle.std.proofs.Common.{◌≡◌, length, refl, ◌∙◌, get_or, arith}
 use Rattle.leaf_core.specs.ExpressionView.{expression_of}
+use Rattle.net_syntax.specs.LawStep.{step_of}
 use Rattle.net_syntax.specs.declared.law_step.Law.TheVariants as L
-use Rattle.net_opt.specs.Optimising.{expression_laws}
-use Rattle.net_opt.specs.Search.{NoStepBy}
-use Rattle.net_opt.proofs.Tried.{found_none, leaf_law_more, none_at_leaf}
+use Rattle.net_opt.specs.Optimising.{expression_laws, forward_step}
+use Rattle.net_opt.specs.Search.{Passed}
+use Rattle.net_opt.proofs.Tried.{found_none, found_some, leaf_law_more, first_leaf_law, passed_at_leaf}
 use Rattle.net_opt.proofs.step.step_at_expr.Goals as goal
 
 pub loop-number-preserved : goal.loop-number-preserved
 loop-number-preserved c =
-    let h = found_none (NoStepBy c.loop-number.typed c.args.path.now (L.E (get_or expression_laws c.loop-number.number-index 0))) c.loop-number.typed
-    c.step_by_expr_law.new.typed c.in_ok-step.field-0 c.in_default.not-Some c.in_ok-step.ensures in
+    let law = L.E (get_or expression_laws c.loop-number.number-index 0) in
+    let h = found_none (Passed c.step_by_expr_law.new.walk.refused c.loop-number.typed c.loop-number.walk.path.items law)
+    (λ s. s ≡ forward_step law c.loop-number.walk.path.items) c.loop-number.typed c.step_by_expr_law.new.typed c.in_ok-step.field-0 c.in_default.not-Some
+    c.in_ok-step.ensures.found in
+    let keeps = c.step_by_expr_law.ensures.keeps in
     record {
       kept = h.0 ∙ c.loop-number.invariant.kept;
-      none = leaf_law_more c.args.typed.now c.loop-number.typed c.args.path.now c.loop-number.number-index
-          c.loop-number.invariant.kept c.loop-number.invariant.none h.1;
+      path_kept = keeps.0 ∙ c.loop-number.invariant.path_kept;
+      more = λ e. keeps.1 (c.loop-number.invariant.more e);
+      none = leaf_law_more c.loop-number.walk.refused c.step_by_expr_law.new.walk.refused c.args.typed.now c.loop-number.typed c.args.walk.now.path.items
+          c.loop-number.walk.path.items c.loop-number.number-index keeps.1 c.loop-number.invariant.kept c.loop-number.invariant.path_kept
+          c.loop-number.invariant.none h.1;
+    }
+
+pub returns-in-Some : goal.returns-in-Some
+returns-in-Some c =
+    let law = L.E (get_or expression_laws c.loop-number.number-index 0) in
+    let keeps = c.step_by_expr_law.ensures.keeps in
+    record {
+      keeps = (keeps.0 ∙ c.loop-number.invariant.path_kept, λ e. keeps.1 (c.loop-number.invariant.more e));
+      found = first_leaf_law c.loop-number.walk.refused c.step_by_expr_law.new.walk.refused c.args.typed.now c.loop-number.typed c.step_by_expr_law.new.typed
+          c.args.walk.now.path.items c.loop-number.walk.path.items c.loop-number.number-index (step_of c.in-Some.step) keeps.1 c.loop-number.invariant.kept
+          c.loop-number.invariant.path_kept (omega arith) c.loop-number.invariant.none
+          (found_some (Passed c.step_by_expr_law.new.walk.refused c.loop-number.typed c.loop-number.walk.path.items law)
+          (λ s. s ≡ forward_step law c.loop-number.walk.path.items) c.loop-number.typed c.step_by_expr_law.new.typed c.in_ok-step.field-0 c.in-Some.step c.in-Some.is
+          c.in_ok-step.ensures.found);
     }
 
 pub returns : goal.returns
 returns c =
-    let all : length expression_laws ≡ 14 = refl in (
-      c.loop-number.invariant.kept,
-      none_at_leaf c.args.typed.now c.args.path.now (expression_of c.args.expr.now) c.requires (λ k h. c.loop-number.invariant.none k (omega (arith, all))),
-    )
+    let all : length expression_laws ≡ 14 = refl in
+    record {
+      keeps = (c.loop-number.invariant.path_kept, c.loop-number.invariant.more);
+      found = (
+        c.loop-number.invariant.kept,
+        passed_at_leaf c.loop-number.walk.refused c.args.typed.now c.args.walk.now.path.items (expression_of c.args.expr.now) c.requires
+            (λ k h. c.loop-number.invariant.none k (omega (arith, all))),
+      );
+    }
