@@ -105,7 +105,7 @@ pub fn status_told(status: u8, line: &str, out: &mut String) {
 
 /// Command lines, and what they lead to.
 static COMMANDS: &str = "
-§ Words, among them commands that aren't there yet.
+§ Words.
 yampa types net | ‹increment› => Int -> Int␤weight 3␤height 2␤
 yampa types other | ‹increment› => status 3 network: cannot be read
 yampa run other | ‹increment› => status 3 network: cannot be read
@@ -128,10 +128,24 @@ yampa run net net | ‹increment› => wrong words
 yampa run --fast net | ‹increment› => wrong words
 yampa --version | ‹increment› => wrong words
 yampa Run net | ‹increment› => wrong words
-yampa optimise net | ‹increment› => wrong words
-yampa optimise --certificate net | ‹increment› => wrong words
+yampa optimise | ‹increment› => wrong words
+yampa optimise --certificate | ‹increment› => wrong words
+yampa optimise net net | ‹increment› => wrong words
+yampa optimise --certificates net | ‹increment› => wrong words
 yampa check net net | ‹increment› => wrong words
 yampa run-checked net net net net | ‹increment› => wrong words
+§ What the optimiser makes of a network, and with the flag its certificate.
+yampa optimise net | ‹increment› => yampa 1␤input Int␤(>>> (arr (add x 1)) (iPre 0))␤
+yampa optimise net | ‹sum doubled› => yampa 1␤input Int␤(arr (then (add x 1) (mul x 2)))␤
+yampa optimise --certificate net | ‹sum doubled› => laws 1␤(step L4 forward (at))␤
+yampa optimise net --certificate | ‹sum doubled› => laws 1␤(step L4 forward (at))␤
+yampa optimise net --certificate | ‹late switch› => laws 1␤
+yampa optimise net | yampa 1 input Int (kSwitch time ‹event at one› (old 0)) => yampa 1␤input Int␤time␤
+yampa optimise net --certificate | yampa 1 input Int (kSwitch time ‹event at one› (old 0)) => laws 1␤(step L38 forward (at))␤
+yampa optimise other | ‹increment› => status 3 network: cannot be read
+yampa optimise net --certificate | yampa 1 input Int (arr => status 1 network: syntax at byte 22
+yampa optimise net | ‹parameter› => status 1 network: no parameter in (at 0)
+yampa optimise --help | ‹increment› => help on yampa optimise [OPTIONS] <NET>
 § Files of a derivation, in the order in which they are named.
 yampa check other other other | ‹increment› => status 3 source: cannot be read
 yampa check net other other | ‹increment› => status 3 target: cannot be read
