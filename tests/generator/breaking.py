@@ -1,4 +1,6 @@
 """Texts that are nearly right: bytes and tokens changed, trees with parts of other types, hostile sizes."""
+import re
+
 from generator.trees import EXPRESSION_WORDS, GREATEST, NETWORK_WORDS, is_network, preorder, replaced
 from generator.typed import Scope
 
@@ -21,7 +23,7 @@ class Breaker:
     def broken(self, text):
         """The text with one to three changes."""
         for _ in range(self.rng.choice([1, 1, 1, 2, 3])):
-            text = self.rng.choice([self.byte, self.byte, self.piece, self.token, self.token, self.cut])(text)
+            text = self.rng.choice(WAYS)(self, text)
         return text
 
     def place(self, text):
@@ -50,6 +52,15 @@ class Breaker:
         else:
             words[at : at + (way == "replace")] = [self.rng.choice(WORDS).encode()]
         return b" ".join(words).replace(b"( ", b"(").replace(b" )", b")")
+
+    def respelt(self, text):
+        """A number spelt otherwise."""
+        numbers = list(re.finditer(rb"(?<![^ (])-?[0-9]+(?![^ )])", text))
+        if not numbers:
+            return text
+        start, end = self.rng.choice(numbers).span()
+        other = self.rng.choice([b"0%b", b"-%b", b"+%b", b"%bx", b"%b0000000000000000000", b"-0%b"]) % text[start:end]
+        return text[:start] + self.rng.choice([other, other, b"-0"]) + text[end:]
 
     def line(self, line, value):
         """A line of a stream with another step, or with a value that may be of another type."""
@@ -106,3 +117,6 @@ class Breaker:
         for _ in range(self.rng.choice([5, 6, 7, 8])):
             tree = ("pair", tree, tree)
         return tree
+
+
+WAYS = [Breaker.byte, Breaker.byte, Breaker.piece, Breaker.token, Breaker.token, Breaker.cut, Breaker.respelt]
