@@ -145,7 +145,6 @@ yampa optimise net --certificate | yampa 1 input Int (kSwitch time ‹event at o
 yampa optimise other | ‹increment› => status 3 network: cannot be read
 yampa optimise net --certificate | yampa 1 input Int (arr => status 1 network: syntax at byte 22
 yampa optimise net | ‹parameter› => status 1 network: no parameter in (at 0)
-yampa optimise --help | ‹increment› => help on yampa optimise [OPTIONS] <NET>
 § Files of a derivation, in the order in which they are named.
 yampa check other other other | ‹increment› => status 3 source: cannot be read
 yampa check net other other | ‹increment› => status 3 target: cannot be read
