@@ -23,7 +23,8 @@ use Rattle.law_rules.proofs.RowsExact.{one-right_side}
 use Rattle.cert_check.specs.TreeAnswer.{TreeAnswer}
 use Rattle.std.specs.List.{All}
 use Rattle.std.proofs.lemmas.List.Elements.{All-nil, All-push}
-use Rattle.cert_check.specs.Derives.{Answered, Next, Steps, no_step, step_then}
+use Rattle.cert_check.proofs.Taken.{steps_more}
+use Rattle.cert_check.specs.Derives.{Answered, Next, Steps, no_step}
 use Rattle.net_opt.specs.Order.{Before}
 use Rattle.net_opt.specs.Optimising.{MayTake, NoneLeft, network_laws, expression_laws, forward_step, NoStepBy, FirstLaw, IsFirst, FirstSteps, none_first, first_then}
 use Rattle.net_opt.specs.Search.{StandsThere, ExpressionThere, NoMatchBy, Passed, PassedAt, FirstAt, FirstWithin, Takes, Found, Puts}
@@ -187,10 +188,6 @@ leaf_step t u p j e r a b (Ok o) s tried (E.forward_answer row) h = put_leaf t u
 leaf_step t u p j e r a b (Err m) s tried x h = tt
 
 -- the steps so far with one more
-steps_more : (t u v : TypedNetwork) (ss : List Step) (s : Step) → Steps t ss u → Next u s v → Steps t (ss ++ s ∷ []) v
-steps_more t u v ss s no_step x = step_then x no_step
-steps_more t u v ss s (step_then {u = w} {ss = rest} y ys) x = step_then y (steps_more w u v rest s ys x)
-
 pub one_more : (t u v : TypedNetwork) (xs : List LawStep) (x : LawStep) → Steps t (map step_of xs) u → Takes u (step_of x) v → Steps t (map step_of (xs ++ x ∷ [])) v
 one_more t u v xs x led takes = subst (λ ss. Steps t ss v) (sym (map-append step_of xs (x ∷ []))) (steps_more t u v (map step_of xs) (step_of x) led takes.next)
 
