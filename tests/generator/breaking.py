@@ -1,7 +1,7 @@
 """Texts that are nearly right: bytes and tokens changed, trees with parts of other types, hostile sizes."""
 import re
 
-from generator.trees import EXPRESSION_WORDS, GREATEST, NETWORK_WORDS, is_network, preorder, replaced
+from generator.trees import EXPRESSION_WORDS, GREATEST, NETWORK_WORDS, head, is_network, preorder, replaced
 from generator.typed import Scope
 
 SPLICED = [b"(", b")", b" ", b"\n", b";", b"-", b"0", b"9", b"+", b"=", b"\0", b"\x0b", b"\r", b"\t", b"\x80", b"\xff", b"x"]
@@ -88,6 +88,16 @@ class Breaker:
         other = self.other_network(net, tree, maker) if is_network(tree) else self.other_expression(tree, maker)
         return replaced(net, position, other)
 
+    def twin(self, net):
+        """The network with one node that is another of the same shape, or with another number or type in it."""
+        twins = {}
+        for position, tree in preorder(net):
+            for twin in twins_of(tree):
+                twins.setdefault(head(tree), []).append((position, twin))
+        words = [word for word in twins if word in SWITCHES] * self.rng.randint(0, 3) or list(twins)
+        position, twin = self.rng.choice(twins[self.rng.choice(words)] if words else [((), net)])
+        return replaced(net, position, twin)
+
     def other_network(self, net, tree, maker):
         ways = [*NETWORK_WORDS, ("old", self.rng.randint(0, 3)), ("parB",), ("arr", "x"), ("first", tree), ("hold", 0)]
         ways += [("iPre", self.rng.choice([0, "true"])), ("delay", 1, "unit"), ("accumBy", ("fst", "x"), 0)]
@@ -117,6 +127,36 @@ class Breaker:
         for _ in range(self.rng.choice([5, 6, 7, 8])):
             tree = ("pair", tree, tree)
         return tree
+
+
+SWITCHES = ["switch", "dSwitch", "rSwitch", "old"]
+TWINS = [
+    ["switch", "dSwitch"],
+    ["rSwitch", ">>>"],
+    ["after", "repeatedly", "delay"],
+    ["iPre", "hold"],
+    ["add", "sub", "mul", "less"],
+    ["and", "or"],
+    ["fst", "snd", "neg", "not", "event", "len"],
+    ["if", "on", "nth"],
+    ["none", "list"],
+    ["true", "false"],
+    ["time", "integral"],
+]
+
+
+def twins_of(tree):
+    """Trees that differ from this one in its word, or in a number or a type behind it."""
+    word = head(tree)
+    others = [other for words in TWINS if word in words for other in words if other != word]
+    if not isinstance(tree, tuple):
+        return others + ([tree + 1, -tree] if word == "number" else [])
+    found = [(other, *tree[1:]) for other in others]
+    if word in ("p", "old", "after", "repeatedly", "delay"):
+        found += [(word, tree[1] + 1, *tree[2:]), (word, tree[1] - 1, *tree[2:])]
+    if word in ("none", "list"):
+        found += [(word, other, *tree[2:]) for other in ("Int", "Unit", ("Event", tree[1])) if other != tree[1]]
+    return found
 
 
 WAYS = [Breaker.byte, Breaker.byte, Breaker.piece, Breaker.token, Breaker.token, Breaker.cut, Breaker.respelt]

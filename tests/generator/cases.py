@@ -161,7 +161,8 @@ class Case:
             ill = self.steps.ill_typed_step(typeds[at])
             certificate = certificate_text([*steps[:at], ill, *steps[at:]]).encode()
         elif self.maker.chance(0.3):
-            net = self.breaker.tree(typeds[-1].places[()].tree, self.maker)
+            net = typeds[-1].places[()].tree
+            net = self.breaker.twin(net) if self.maker.chance(0.6) else self.breaker.tree(net, self.maker)
             target = network_text(typeds[-1].input, expanded(net)).encode()
         else:
             certificate = certificate_text(self.changed(steps)).encode()
@@ -187,7 +188,8 @@ class Case:
         if step.given is None:
             ways.append([Step(step.law, step.direction, step.position, "time" if law[0] == "L" else "x")])
         else:
-            given = expanded(self.breaker.tree(step.given, self.maker))
+            given = self.breaker.twin(step.given) if self.maker.chance(0.3) else self.breaker.tree(step.given, self.maker)
+            given = expanded(given)
             ways += [[Step(step.law, step.direction, step.position)]]
             ways += [[Step(step.law, step.direction, step.position, given)]] * 3
         return steps[:at] + self.rng.choice(ways) + steps[at + 1 :]
