@@ -187,7 +187,7 @@ class Program:
 
     def __init__(self, path, longest, skipped):
         self.path, self.longest, self.skipped = Path(path).resolve(), longest, skipped
-        self.folder = Path(tempfile.mkdtemp(prefix="generated-", dir=MEMORY if MEMORY.is_dir() else None))
+        self.folder = Path(tempfile.mkdtemp(prefix="generated-", dir=MEMORY if os.access(MEMORY, os.W_OK) else None))
         self.slots = {name: Slot(self.folder / name) for name in [*FILES, "stream", "output", "error"]}
         self.tally = Counter()
 
