@@ -1,6 +1,6 @@
 -- What is known of the next line gives the answer.
-use Rattle.std.proofs.Common.{◌≡◌, ◌≤◌, ◌<◌, ◌+◌, ◌^◌, ℕ, suc, List, [], ◌∷◌, ◌++◌, append-nil, length, take, drop, Option, Some, None, Result, Ok, Err, refl, sym, ap, ◌∙◌, subst, arith, inl, inr}
-use Rattle.std.specs.Prelude.{◌≢◌, ◌⊎◌, IfOk, IfSome}
+use Rattle.std.proofs.Common.{◌≡◌, ◌≤◌, ◌<◌, ◌+◌, ◌^◌, ℕ, suc, List, [], ◌∷◌, append-nil, length, take, drop, Option, Some, None, Result, Ok, Err, refl, sym, ap, ◌∙◌, subst, arith, inl, inr}
+use Rattle.std.specs.Prelude.{◌≢◌, IfOk, IfSome}
 use Rattle.std.proofs.lemmas.Grind.{common_steps}
 use Rattle.std.specs.Io.KnownBytes.{IsAtEnd}
 use Rattle.std.specs.Option.{option_map, option_copied}
@@ -12,10 +12,11 @@ use Rattle.sample_core.specs.TypeTree.{TypeTree}
 use Rattle.sample_core.specs.ValueView.{datum_of}
 use Rattle.sample_core.specs.declared.sample.Sample.{Sample}
 use Rattle.stream_text.specs.Calls.{MayTakeNext, step_of}
-use Rattle.stream_text.specs.Answers.{ReaderState, SameLast, TakesLine, TakesSample, TakesNext, KnownLine, ended, shown, last, Unfinished, HasFault, IsAnswer, GivesAnswer, GivesStep}
+use Rattle.stream_text.specs.Answers.{ReaderState, SameLast, TakesLine, TakesSample, TakesNext, KnownLine, ended, shown, last, FaultyLine, known_bytes, Unfinished, HasFault, IsAnswer, GivesAnswer, GivesStep}
 use Rattle.stream_text.specs.LineAhead.{IsAhead}
 use Rattle.stream_text.specs.LineTaken.{TakesKept, TakesLast}
-use Rattle.stream_text.specs.Settling.{AsksAsNeeded, IsSettled, SettlesLine, Settles}
+use Rattle.stream_text.specs.Pieces.{ReadPieces}
+use Rattle.stream_text.specs.Settling.{AsksAsNeeded, IsSettled, IsUnsettled, SettlesLine, Settles}
 use Rattle.stream_text.specs.StreamText.{IsBefore, line_read}
 use Rattle.stream_text.specs.StreamView.{before_view, sample_view, value_behind}
 use Rattle.stream_text.specs.TextLines.{HasLine, front_lines, shows_fault}
@@ -26,7 +27,7 @@ use Rattle.stream_text.specs.declared.reader.Met.TheVariants as M
 use Rattle.stream_text.specs.declared.settle.Settled.{Settled}
 use Rattle.stream_text.specs.declared.settle.Settled.TheVariants as T
 use Rattle.stream_text.proofs.Lines.{has_line, one_line}
-use Rattle.stream_text.proofs.Settling.{consumes_none}
+use Rattle.stream_text.proofs.Settling.{none_read}
 use Rattle.stream_text.proofs.Samples.{refused_of_text, shown_no_sample, read_typed, read_step}
 
 -- the state with the bytes that are kept after reading on, and the number of reads
@@ -55,19 +56,16 @@ as_kept A n m o kept line line' r i e f h =
     seen None = refl
     seen (Some v) = refl
 
-asks_of : (s : ReaderState) (has has' : Option (List ℕ)) (n : ℕ) (got : List ℕ) → n ≡ suc s.lines → s.met ≡ M.Nothing
-    → ((got ≡ []) × (has' ≡ has)) ⊎ AsksAsNeeded n s.kept got → ((got ≡ []) × (has' ≡ has)) ⊎ ((s.met ≡ M.Nothing) × AsksAsNeeded (suc s.lines) s.kept got)
-asks_of s has has' n got e m (inl h) = inl h
-asks_of s has has' n got e m (inr h) = inr (m, subst (λ k. AsksAsNeeded k s.kept got) e h)
-
 given : (A : TypeTree) (s s' : ReaderState) (has has' : Option (List ℕ)) (n : ℕ) (kept' : List ℕ) (reads : ℕ) (settled : Result Settled StreamFault)
-    (answer : Result (Option (ℕ × Sample)) StreamFault) → n ≡ suc s.lines → s.met ≡ M.Nothing → (h : Settles has has' n s.kept kept' reads settled)
-    → IsAnswer A (IsAtEnd has') s kept' answer s' → GivesAnswer A s has answer s' has'
-given A s s' has has' n kept' reads settled answer e m h a = record {
-  got = h.got;
-  consumes = h.consumes;
-  asks = asks_of s has has' n h.got e m h.asks;
-  gives = subst (λ bytes. IsAnswer A (IsAtEnd has') s bytes answer s') h.keeps a;
+    (answer : Result (Option (ℕ × Sample)) StreamFault) → n ≡ suc s.lines → s.met ≡ M.Nothing → (h : Settles has has' n s.kept kept' s.reads reads settled)
+    → s'.reads ≡ reads → IsAnswer A (IsAtEnd has') s h.pieces answer s' → GivesAnswer A s has answer s' has'
+given A s s' has has' n kept' reads settled answer e m h r a = record {
+  pieces = h.pieces;
+  read = h.read;
+  asks = subst (λ k. AsksAsNeeded k s.kept h.pieces) e h.asks;
+  ended = λ f. absurd (f m);
+  counts = r ∙ h.counts;
+  gives = a;
 }
 
 -- the line that is settled is known
@@ -88,55 +86,65 @@ taken : (end : Type 0) (kept line rest rest' : List ℕ) (met met' : Met) → re
 taken end kept line rest rest' met met' e f h = subst (λ r. TakesLine end kept line r met') (sym e) (subst (λ m. TakesLine end kept line rest m) (sym f) h)
 
 -- the fault of a line that is known
-line_fault : (A : TypeTree) (end : Type 0) (s s' : ReaderState) (kept line : List ℕ) (fault : StreamFault) → s.met ≡ M.Nothing
-    → KnownLine end (suc s.lines) kept line → (fault ≢ S.Memory → line_read A (suc s.lines) s.before line ≡ Err fault) → HasFault A end s kept fault s'
-line_fault A end s s' kept line (S.Step k) m h r = (m, record { line = line; known = h; refuses = r (λ q. cc) })
-line_fault A end s s' kept line (S.Value k v) m h r = (m, record { line = line; known = h; refuses = r (λ q. cc) })
-line_fault A end s s' kept line (S.NothingBefore k) m h r = (m, record { line = line; known = h; refuses = r (λ q. cc) })
-line_fault A end s s' kept line (S.LineTooLong k) m h r = (m, record { line = line; known = h; refuses = r (λ q. cc) })
-line_fault A end s s' kept line (S.TooManySamples k) m h r = (m, record { line = line; known = h; refuses = r (λ q. cc) })
-line_fault A end s s' kept line S.ReadTurns m h r = absurd (refused_of_text A (suc s.lines) s.before line S.ReadTurns (r (λ q. cc)))
-line_fault A end s s' kept line S.Read m h r = absurd (refused_of_text A (suc s.lines) s.before line S.Read (r (λ q. cc)))
-line_fault A end s s' kept line S.Memory m h r = m
-line_fault A end s s' kept line S.Ended m h r = absurd (refused_of_text A (suc s.lines) s.before line S.Ended (r (λ q. cc)))
+line_fault : (A : TypeTree) (end : Type 0) (s s' : ReaderState) (pieces : ReadPieces) (kept line : List ℕ) (fault : StreamFault) → s.met ≡ M.Nothing
+    → kept ≡ known_bytes s pieces → KnownLine end (suc s.lines) kept line
+    → (fault ≢ S.Memory → line_read A (suc s.lines) s.before line ≡ Err fault) → HasFault A end s pieces fault s'
+line_fault A end s s' pieces kept line fault m k h r = go fault r
+  where
+    faulty : (f : StreamFault) → line_read A (suc s.lines) s.before line ≡ Err f → (s.met ≡ M.Nothing) × FaultyLine A end s (known_bytes s pieces) f
+    faulty f e = (m, record { line = line; known = subst (λ bytes. KnownLine end (suc s.lines) bytes line) k h; refuses = e })
+
+    go : (f : StreamFault) → (f ≢ S.Memory → line_read A (suc s.lines) s.before line ≡ Err f) → HasFault A end s pieces f s'
+    go (S.Step n) e = faulty (S.Step n) (e (λ q. cc))
+    go (S.Value n v) e = faulty (S.Value n v) (e (λ q. cc))
+    go (S.NothingBefore n) e = faulty (S.NothingBefore n) (e (λ q. cc))
+    go (S.LineTooLong n) e = faulty (S.LineTooLong n) (e (λ q. cc))
+    go (S.TooManySamples n) e = faulty (S.TooManySamples n) (e (λ q. cc))
+    go S.ReadTurns e = absurd (refused_of_text A (suc s.lines) s.before line S.ReadTurns (e (λ q. cc)))
+    go S.Read e = absurd (refused_of_text A (suc s.lines) s.before line S.Read (e (λ q. cc)))
+    go S.Memory e = m
+    go S.Ended e = absurd (refused_of_text A (suc s.lines) s.before line S.Ended (e (λ q. cc)))
 
 -- a line that is settled gives the answer
 pub line_given : (A : TypeTree) (s s' : ReaderState) (has has' : Option (List ℕ)) (n : ℕ) (kept' : List ℕ) (reads size : ℕ)
-    (answer : Result (Option (ℕ × Sample)) StreamFault) → n ≡ suc s.lines → s.met ≡ M.Nothing → Settles has has' n s.kept kept' reads (Ok (T.Line size))
+    (answer : Result (Option (ℕ × Sample)) StreamFault) → n ≡ suc s.lines → s.met ≡ M.Nothing
+    → Settles has has' n s.kept kept' s.reads reads (Ok (T.Line size))
     → TakesKept A (read_on s kept' reads) size answer s' → GivesAnswer A s has answer s' has'
 line_given A s s' has has' n kept' reads size (Ok (Some x)) e m h t =
     let settled : SettlesLine (suc s.lines) kept' size = subst (λ k. SettlesLine k kept' size) e h.tells in
     let line : HasLine kept' (take size kept') (drop (size + 1) kept') = ended_line A (suc s.lines) s.before kept' size (sample_view x) settled t.0 in
-    given A s s' has has' n kept' reads (Ok (T.Line size)) (Ok (Some x)) e m h (record {
+    given A s s' has has' n kept' reads (Ok (T.Line size)) (Ok (Some x)) e m h t.1.unread
+    (subst (λ bytes. TakesSample A (IsAtEnd has') s bytes (sample_view x) s') h.keeps (record {
       goes_on = m;
       line = take size kept';
       takes = taken (IsAtEnd has') kept' (take size kept') (drop (size + 1) kept') s'.kept M.Nothing s'.met t.1.kept (t.1.met ∙ m) line;
       reads = t.0;
       counts = t.1.counts;
       keeps = t.1.keeps;
-    })
+    }))
 line_given A s s' has has' n kept' reads size (Ok None) e m h t = absurd t
 line_given A s s' has has' n kept' reads size (Err fault) e m h t =
     let known = known_line (IsAtEnd has') (suc s.lines) kept' size (subst (λ k. SettlesLine k kept' size) e h.tells) in
-    given A s s' has has' n kept' reads (Ok (T.Line size)) (Err fault) e m h (record {
+    given A s s' has has' n kept' reads (Ok (T.Line size)) (Err fault) e m h t.1.unread (record {
       ends = t.1.ends;
       same = record { lines = t.1.same.lines; before = t.1.same.before };
-      why = line_fault A (IsAtEnd has') s s' kept' (take size kept') fault m known t.0;
+      why = line_fault A (IsAtEnd has') s s' h.pieces kept' (take size kept') fault m h.keeps known t.0;
     })
 
 -- what is kept at the end gives the answer
 pub last_given : (A : TypeTree) (s s' : ReaderState) (has has' : Option (List ℕ)) (n : ℕ) (kept' : List ℕ) (reads : ℕ)
-    (answer : Result (Option (ℕ × Sample)) StreamFault) → n ≡ suc s.lines → s.met ≡ M.Nothing → Settles has has' n s.kept kept' reads (Ok T.Last)
+    (answer : Result (Option (ℕ × Sample)) StreamFault) → n ≡ suc s.lines → s.met ≡ M.Nothing → Settles has has' n s.kept kept' s.reads reads (Ok T.Last)
     → TakesLast A (read_on s kept' reads) answer s' → GivesAnswer A s has answer s' has'
 last_given A s s' has has' n kept' reads (Ok None) e m h t =
-    given A s s' has has' n kept' reads (Ok T.Last) (Ok None) e m h (record {
+    given A s s' has has' n kept' reads (Ok T.Last) (Ok None) e m h t.4 (record {
       ends = t.2;
       same = record { lines = t.3.lines; before = t.3.before };
-      empty = inr (m, h.tells.0, t.0);
+      empty = inr (m, h.tells.0, sym h.keeps ∙ t.0);
     })
 last_given A s s' has has' n kept' reads (Ok (Some x)) e m h t =
     let all : take (length kept') kept' ≡ kept' = take_all kept' (length kept') refl in
-    given A s s' has has' n kept' reads (Ok T.Last) (Ok (Some x)) e m h (record {
+    given A s s' has has' n kept' reads (Ok T.Last) (Ok (Some x)) e m h t.1.1.unread
+    (subst (λ bytes. TakesSample A (IsAtEnd has') s bytes (sample_view x) s') h.keeps (record {
       goes_on = m;
       line = kept';
       takes = taken (IsAtEnd has') kept' kept' [] s'.kept M.End s'.met (t.1.1.kept ∙ drop_all kept' (length kept') refl) t.1.1.met
@@ -144,28 +152,28 @@ last_given A s s' has has' n kept' reads (Ok (Some x)) e m h t =
       reads = subst (λ l. line_read A (suc s.lines) s.before l ≡ Ok (sample_view x)) all t.1.0;
       counts = t.1.1.counts;
       keeps = t.1.1.keeps;
-    })
+    }))
 last_given A s s' has has' n kept' reads (Err fault) e m h t =
     let all : take (length kept') kept' ≡ kept' = take_all kept' (length kept') refl in
-    given A s s' has has' n kept' reads (Ok T.Last) (Err fault) e m h (record {
+    given A s s' has has' n kept' reads (Ok T.Last) (Err fault) e m h t.1.1.unread (record {
       ends = t.1.1.ends;
       same = record { lines = t.1.1.same.lines; before = t.1.1.same.before };
-      why = line_fault A (IsAtEnd has') s s' kept' (take (length kept') kept') fault m
+      why = line_fault A (IsAtEnd has') s s' h.pieces kept' (take (length kept') kept') fault m h.keeps
           (last h.tells.0 (one_line kept' t.0 h.tells.1 ∙ ap (λ l. l ∷ []) (sym all))) t.1.0;
     })
 
 -- a reader that could not be read on gives the fault
 pub fault_given : (A : TypeTree) (s : ReaderState) (has has' : Option (List ℕ)) (n : ℕ) (kept' : List ℕ) (reads : ℕ) (fault : StreamFault)
-    → n ≡ suc s.lines → s.met ≡ M.Nothing → Settles has has' n s.kept kept' reads (Err fault)
+    → n ≡ suc s.lines → s.met ≡ M.Nothing → Settles has has' n s.kept kept' s.reads reads (Err fault)
     → GivesAnswer A s has (Err fault) (ended_by M.Fault s kept' reads) has'
 fault_given A s has has' n kept' reads fault e m h =
-    given A s (ended_by M.Fault s kept' reads) has has' n kept' reads (Err fault) (Err fault) e m h
+    given A s (ended_by M.Fault s kept' reads) has has' n kept' reads (Err fault) (Err fault) e m h refl
     (record { ends = refl; same = record { lines = refl; before = refl }; why = why fault h.tells })
   where
-    unread : front_lines n kept' ≡ [] → Unfinished s kept' (ended_by M.Fault s kept' reads)
-    unread u = record { goes_on = m; no_line = ap (λ k. front_lines k kept') (sym e) ∙ u; keeps = refl }
+    unread : IsUnsettled n kept' h.pieces → Unfinished s h.pieces (ended_by M.Fault s kept' reads)
+    unread u = record { goes_on = m; unsettled = (ap (front_lines (suc s.lines)) (sym h.keeps) ∙ ap (λ k. front_lines k kept') (sym e) ∙ u.0, u.1); keeps = h.keeps }
 
-    why : (f : StreamFault) → IsSettled (IsAtEnd has') n kept' reads (Err f) → HasFault A (IsAtEnd has') s kept' f (ended_by M.Fault s kept' reads)
+    why : (f : StreamFault) → IsSettled (IsAtEnd has') n kept' h.pieces reads (Err f) → HasFault A (IsAtEnd has') s h.pieces f (ended_by M.Fault s kept' reads)
     why (S.Step k) t = absurd t
     why (S.Value k v) t = absurd t
     why (S.NothingBefore k) t = absurd t
@@ -204,13 +212,14 @@ before_kept law A s s' has has' (Err fault) b h = same_before A s s' h.gives.sam
 -- a line that is kept whole and holds a sample is taken
 pub next_taken : (A : TypeTree) (s s' : ReaderState) (d size : ℕ) (value : Option Sample) → s.lines < 1000000 → s.met ≡ M.Nothing → s.before ≢ None
     → IsAhead A s.kept d size value → s'.kept ≡ drop (size + 1) s.kept → s'.lines ≡ suc s.lines
-    → ((v : Datum) → s.before ≡ Some v → s'.before ≡ Some (value_behind v value)) → s'.met ≡ s.met → TakesNext A s d s'
-next_taken A s s' d size value few m some ahead kept lines keeps met = go s.before refl
+    → ((v : Datum) → s.before ≡ Some v → s'.before ≡ Some (value_behind v value)) → s'.met ≡ s.met → s'.reads ≡ s.reads → TakesNext A s d s'
+next_taken A s s' d size value few m some ahead kept lines keeps met reads = go s.before refl
   where
     go : (o : Option Datum) → s.before ≡ o → TakesNext A s d s'
     go None q = absurd (some q)
     go (Some v) q = record {
       value = value_behind v value;
+      unread = reads;
       takes = record {
         goes_on = m;
         line = take size s.kept;
@@ -227,9 +236,11 @@ next_taken A s s' d size value few m some ahead kept lines keeps met = go s.befo
 next_given : (A : TypeTree) (s s' : ReaderState) (has : Option (List ℕ)) (d : ℕ) (y : Sample) → Some (datum_of y) ≡ s'.before → TakesNext A s d s'
     → GivesAnswer A s has (Ok (Some (d, y))) s' has
 next_given A s s' has d y e h = record {
-  got = [];
-  consumes = consumes_none has;
-  asks = inl (refl, refl);
+  pieces = [];
+  read = none_read has;
+  asks = tt;
+  ended = λ f. refl;
+  counts = let r : s'.reads ≡ s.reads = h.unread in omega (arith, r);
   gives = subst (λ bytes. TakesSample A (IsAtEnd has) s bytes (d, datum_of y) s') (sym (append-nil s.kept)) (record {
     goes_on = h.takes.goes_on;
     line = h.takes.line;
@@ -258,10 +269,12 @@ pub last_answered : (A : TypeTree) (s s' : ReaderState) (has has' : Option (List
 last_answered A s s' has has' d y z h e =
     let same : datum_of y ≡ datum_of z = (let q : ◌≡◌ {A = Option Datum} (Some (datum_of y)) (Some (datum_of z)) = sym h.gives.keeps ∙ sym e in cc) in
     record {
-      got = h.got;
-      consumes = h.consumes;
+      pieces = h.pieces;
+      read = h.read;
       asks = h.asks;
-      gives = subst (λ v. TakesSample A (IsAtEnd has') s (s.kept ++ h.got) (d, v) s') same h.gives;
+      ended = h.ended;
+      counts = h.counts;
+      gives = subst (λ v. TakesSample A (IsAtEnd has') s (known_bytes s h.pieces) (d, v) s') same h.gives;
     }
 
 -- its step is in range

@@ -1,13 +1,13 @@
 -- Successive calls answer the samples of the stream in order, and then its end or its fault.
 use Rattle.std.proofs.Common.{◌≡◌, ◌+◌, ℕ, suc, List, [], ◌∷◌, ◌++◌, length, Option, Some, None, Ok, Err, refl, sym, ap, ◌∙◌, subst, arith, append_assoc, append-nil, length-append, inl, inr}
-use Rattle.std.specs.Prelude.{◌≢◌, ◌⊎◌, ⊤}
+use Rattle.std.specs.Prelude.{◌⊎◌, ⊤}
 use Rattle.std.specs.Io.KnownBytes.{Consumes, IsAtEnd}
 use Rattle.sample_core.specs.Datum.{Datum}
 use Rattle.sample_core.specs.TypeTree.{TypeTree}
 use Rattle.sample_core.specs.declared.sample.Sample.{Sample}
-use Rattle.stream_text.specs.Answers.{ReaderState, IsFresh, TakesLine, KnownLine, ended, shown, last, FaultyLine, Unfinished, HasFault, GivesAnswer}
-use Rattle.stream_text.specs.Hearing.{HoldsOfText, then_held, HoldSamples, IsWithin, Tells, Heard, HeardAll, HeardSo, HeardFront, BeginsWith, BeginLaw, MoreLaw, EndLaw, FaultyLaw, UnreadLaw}
-use Rattle.stream_text.specs.Settling.{AsksAsNeeded}
+use Rattle.stream_text.specs.Answers.{ReaderState, IsFresh, TakesLine, KnownLine, ended, shown, last, FaultyLine, known_bytes, Unfinished, HasFault, GivesAnswer}
+use Rattle.stream_text.specs.Hearing.{HoldsOfText, then_held, HoldSamples, IsWithin, Tells, Heard, HeardAll, HeardSo, HeardFront, BeginsWith, BeginLaw, MoreLaw, EndLaw, FaultyLaw, UnreadLaw, TurnsLaw}
+use Rattle.stream_text.specs.Pieces.{ArePieces, ReadBy, ReadPieces, bytes_read}
 use Rattle.stream_text.specs.StreamText.{IsOfText, samples, front, samples_from, then_samples, line_read}
 use Rattle.stream_text.specs.StreamView.{sample_view}
 use Rattle.stream_text.specs.TextLines.{HasLine, front_lines, lines_of}
@@ -17,6 +17,7 @@ use Rattle.stream_text.specs.declared.reader.Met.{Met}
 use Rattle.stream_text.specs.declared.reader.Met.TheVariants as M
 use Rattle.stream_text.proofs.Lines.{GoesOn, lines-has, lines-on, front-has}
 use Rattle.stream_text.proofs.Samples.{shown_on, shown_some}
+use Rattle.stream_text.proofs.Pieces.{never_at_end, pieces-map, read_by_map, read_by_more, read_by_none}
 use Rattle.stream_text.proofs.Settling.{consumes_none, consumes_more}
 
 -- no samples are held before the first byte
@@ -31,6 +32,7 @@ pub heard_none : (A : TypeTree) (has : Option (List ℕ)) (s : ReaderState) → 
 heard_none A has s f = record {
   read = [];
   consumes = consumes_none has;
+  reads = read_by_none (s.met ≡ M.End) s.reads f.reads;
   tells = subst (Tells A (IsAtEnd has) s [] []) (sym f.met)
       (record { consumed = []; parts = sym f.kept; hold = holds_none A s.lines s.before f.lines f.before });
   count = sym f.lines;
@@ -72,68 +74,84 @@ within : (A : TypeTree) (end : Type 0) (s : ReaderState) (read : List ℕ) (p : 
     → IsWithin A s read p
 within A end s read p m t = subst (Tells A end s read p) m t
 
+-- while nothing has ended the stream, no read met the end
+still_open : (s : ReaderState) (read : List ℕ) → s.met ≡ M.Nothing → ReadBy (s.met ≡ M.End) read s.reads → ReadBy ⊥ read s.reads
+still_open s read m h = read_by_map (s.met ≡ M.End) ⊥ read s.reads (λ e. let q : M.Nothing ≡ M.End = sym m ∙ e in cc) h
+
+-- bytes with a line are known to have it
+has_front : (n : ℕ) (bytes line rest : List ℕ) → HasLine bytes line rest → front_lines n bytes ≡ [] → ⊥
+has_front n bytes line rest h e = let some : front_lines n bytes ≡ line ∷ front_lines (suc n) rest = front-has n bytes line rest h in cc
+
 -- a call that answers a sample
 pub heard_more : (A : TypeTree) (has has' has'' : Option (List ℕ)) (s s' : ReaderState) (p : List (ℕ × Datum)) (x : ℕ × Sample) → Heard A has has' s p
     → GivesAnswer A s has' (Ok (Some x)) s' has'' → Heard A has has'' s' (p ++ sample_view x ∷ [])
 heard_more A has has' has'' s s' p x h g = record {
-  read = h.read ++ g.got;
-  consumes = consumes_more has has' has'' h.read g.got h.consumes g.consumes;
+  read = h.read ++ got;
+  consumes = consumes_more has has' has'' h.read got h.consumes g.read.consumes;
+  reads = read_by_more (s'.met ≡ M.End) h.read s.reads s'.reads g.pieces (still_open s h.read g.gives.goes_on h.reads) (met_end s'.met g.gives.takes) g.counts;
   tells = go s'.met g.gives.takes;
   count = let k : length (p ++ sample_view x ∷ []) ≡ length p + length (sample_view x ∷ []) = length-append p (sample_view x ∷ []) in
       omega (arith, k, h.count, g.gives.counts);
 }
   where
+    got : List ℕ
+    got = bytes_read g.pieces
+
+    -- behind the end nothing is open, and a line that has its line feed was read before it
+    met_end : (m : Met) → TakesLine (IsAtEnd has'') (s.kept ++ got) g.gives.line s'.kept m → ArePieces (m ≡ M.End) g.pieces
+    met_end M.Nothing t = pieces-map ⊥ (M.Nothing ≡ M.End) (λ f. absurd f) g.pieces
+        (never_at_end (IsAtEnd has'') (suc s.lines) s.kept g.pieces g.read.are g.asks (has_front (suc s.lines) (s.kept ++ got) g.gives.line s'.kept t))
+    met_end M.End t = pieces-map (IsAtEnd has'') (M.End ≡ M.End) (λ e. refl) g.pieces g.read.are
+    met_end M.Fault t = absurd t
+
     w : IsWithin A s h.read p
     w = within A (IsAtEnd has') s h.read p g.gives.goes_on h.tells
 
-    all : h.read ++ g.got ≡ w.consumed ++ (s.kept ++ g.got)
-    all = ap (λ r. r ++ g.got) w.parts ∙ append_assoc w.consumed s.kept g.got
+    all : h.read ++ got ≡ w.consumed ++ (s.kept ++ got)
+    all = ap (λ r. r ++ got) w.parts ∙ append_assoc w.consumed s.kept got
 
-    go : (m : Met) → TakesLine (IsAtEnd has'') (s.kept ++ g.got) g.gives.line s'.kept m
-        → Tells A (IsAtEnd has'') s' (h.read ++ g.got) (p ++ sample_view x ∷ []) m
+    go : (m : Met) → TakesLine (IsAtEnd has'') (s.kept ++ got) g.gives.line s'.kept m
+        → Tells A (IsAtEnd has'') s' (h.read ++ got) (p ++ sample_view x ∷ []) m
     go M.Nothing t = record {
       consumed = w.consumed ++ (g.gives.line ++ 10 ∷ []);
       parts = all ∙ ap (λ b. w.consumed ++ b) t.ended ∙ sym (behind_line w.consumed g.gives.line s'.kept);
       hold = subst (λ n. HoldSamples A (w.consumed ++ (g.gives.line ++ 10 ∷ [])) (p ++ sample_view x ∷ []) n s'.before) (sym g.gives.counts)
           (subst (λ b. HoldSamples A (w.consumed ++ (g.gives.line ++ 10 ∷ [])) (p ++ sample_view x ∷ []) (suc s.lines) b) (sym g.gives.keeps)
-          (holds_more A w.consumed p s.lines s.before (s.kept ++ g.got) g.gives.line s'.kept (sample_view x) w.hold t g.gives.reads));
+          (holds_more A w.consumed p s.lines s.before (s.kept ++ got) g.gives.line s'.kept (sample_view x) w.hold t g.gives.reads));
     }
     go M.End t = (
       t.0,
-      ap (samples A) all ∙ w.hold.whole (s.kept ++ g.got) ∙ ap (λ ls. then_held p (samples_from A (suc s.lines) s.before ls)) t.1
+      ap (samples A) all ∙ w.hold.whole (s.kept ++ got) ∙ ap (λ ls. then_held p (samples_from A (suc s.lines) s.before ls)) t.1
           ∙ grown A p s.lines s.before g.gives.line (sample_view x) [] g.gives.reads
           ∙ ap (λ ys. record { taken = ys; fault = None }) (append-nil (p ++ sample_view x ∷ [])),
     )
     go M.Fault t = absurd t
-
--- once the stream has ended, nothing is read
-nothing_read : (s : ReaderState) (has has' : Option (List ℕ)) (got : List ℕ) → s.met ≢ M.Nothing
-    → ((got ≡ []) × (has' ≡ has)) ⊎ ((s.met ≡ M.Nothing) × AsksAsNeeded (suc s.lines) s.kept got) → (got ≡ []) × (has' ≡ has)
-nothing_read s has has' got m (inl h) = h
-nothing_read s has has' got m (inr h) = absurd (m h.0)
 
 -- a call that answers that there is no line more
 pub heard_end : (A : TypeTree) (has has' has'' : Option (List ℕ)) (s s' : ReaderState) (p : List (ℕ × Datum)) → Heard A has has' s p
     → GivesAnswer A s has' (Ok None) s' has'' → HeardAll A has has'' p
 heard_end A has has' has'' s s' p h g = go g.gives.empty
   where
-    go : (s.met ≡ M.End) ⊎ ((s.met ≡ M.Nothing) × IsAtEnd has'' × (s.kept ++ g.got ≡ [])) → HeardAll A has has'' p
+    got : List ℕ
+    got = bytes_read g.pieces
+
+    go : (s.met ≡ M.End) ⊎ ((s.met ≡ M.Nothing) × IsAtEnd has'' × (s.kept ++ got ≡ [])) → HeardAll A has has'' p
     go (inl m) =
         let t = subst (Tells A (IsAtEnd has') s h.read p) m h.tells in
-        let none = nothing_read s has' has'' g.got (λ e. let q : M.Nothing ≡ M.End = sym e ∙ m in cc) g.asks in
+        let none : g.pieces ≡ [] = g.ended (λ e. let q : M.Nothing ≡ M.End = sym e ∙ m in cc) in
         record {
-          read = h.read ++ g.got;
-          consumes = consumes_more has has' has'' h.read g.got h.consumes g.consumes;
-          at_end = subst IsAtEnd (sym none.1) t.0;
-          all = ap (λ b. samples A (h.read ++ b)) none.0 ∙ ap (samples A) (append-nil h.read) ∙ t.1;
+          read = h.read ++ got;
+          consumes = consumes_more has has' has'' h.read got h.consumes g.read.consumes;
+          at_end = subst IsAtEnd (sym (g.read.unread none)) t.0;
+          all = ap (λ ps. samples A (h.read ++ bytes_read ps)) none ∙ ap (samples A) (append-nil h.read) ∙ t.1;
         }
     go (inr (m, e, empty)) =
         let w : IsWithin A s h.read p = within A (IsAtEnd has') s h.read p m h.tells in
         record {
-          read = h.read ++ g.got;
-          consumes = consumes_more has has' has'' h.read g.got h.consumes g.consumes;
+          read = h.read ++ got;
+          consumes = consumes_more has has' has'' h.read got h.consumes g.read.consumes;
           at_end = e;
-          all = ap (λ r. samples A (r ++ g.got)) w.parts ∙ ap (samples A) (append_assoc w.consumed s.kept g.got) ∙ w.hold.whole (s.kept ++ g.got)
+          all = ap (λ r. samples A (r ++ got)) w.parts ∙ ap (samples A) (append_assoc w.consumed s.kept got) ∙ w.hold.whole (s.kept ++ got)
               ∙ ap (λ b. then_held p (samples_from A (suc s.lines) s.before (lines_of b))) empty
               ∙ ap (λ ys. record { taken = ys; fault = None }) (append-nil p);
         }
@@ -218,15 +236,17 @@ heard_short A has has' has'' s p got h c m =
     }
 
 -- a call that could not read on
-pub heard_unread : (A : TypeTree) (has has' has'' : Option (List ℕ)) (s s' : ReaderState) (p : List (ℕ × Datum)) (got : List ℕ) → Heard A has has' s p
-    → Consumes has' has'' got → Unfinished s (s.kept ++ got) s' → HeardFront A has has'' p
-heard_unread A has has' has'' s s' p got h c u =
+pub heard_unread : (A : TypeTree) (has has' has'' : Option (List ℕ)) (s s' : ReaderState) (p : List (ℕ × Datum)) (pieces : ReadPieces) → Heard A has has' s p
+    → Consumes has' has'' (bytes_read pieces) → s'.reads ≡ s.reads + length pieces → Unfinished s pieces s' → HeardFront A has has'' p s'.reads
+heard_unread A has has' has'' s s' p pieces h c e u =
+    let got : List ℕ = bytes_read pieces in
     let w : IsWithin A s h.read p = within A (IsAtEnd has') s h.read p u.goes_on h.tells in
     record {
       read = h.read ++ got;
       consumes = consumes_more has has' has'' h.read got h.consumes c;
+      reads = read_by_more ⊥ h.read s.reads s'.reads pieces (still_open s h.read u.goes_on h.reads) u.unsettled.1 e;
       all = ap (λ r. front A (r ++ got)) w.parts ∙ ap (front A) (append_assoc w.consumed s.kept got) ∙ w.hold.so_far (s.kept ++ got)
-          ∙ ap (λ ls. then_held p (samples_from A (suc s.lines) s.before ls)) u.no_line ∙ ap (λ ys. record { taken = ys; fault = None }) (append-nil p);
+          ∙ ap (λ ls. then_held p (samples_from A (suc s.lines) s.before ls)) u.unsettled.0 ∙ ap (λ ys. record { taken = ys; fault = None }) (append-nil p);
     }
 
 pub begin_law : BeginLaw
@@ -241,22 +261,25 @@ end_law A has has' has'' s s' p h g = heard_end A has has' has'' s s' p h g
 pub faulty_law : FaultyLaw
 faulty_law A has has' has'' s s' p fault h g o = go fault o g.gives.why
   where
-    go : (f : StreamFault) → IsOfText f → HasFault A (IsAtEnd has'') s (s.kept ++ g.got) f s'
+    heard : (f : StreamFault) → (s.met ≡ M.Nothing) × FaultyLine A (IsAtEnd has'') s (known_bytes s g.pieces) f
         → HeardSo has has'' (λ text. samples A text ≡ record { taken = p; fault = Some f })
-    go (S.Step k) t w = heard_fault A has has' has'' s p g.got (S.Step k) h g.consumes w.0 w.1
-    go (S.Value k v) t w = heard_fault A has has' has'' s p g.got (S.Value k v) h g.consumes w.0 w.1
-    go (S.NothingBefore k) t w = heard_fault A has has' has'' s p g.got (S.NothingBefore k) h g.consumes w.0 w.1
-    go (S.LineTooLong k) t w = heard_fault A has has' has'' s p g.got (S.LineTooLong k) h g.consumes w.0 w.1
-    go (S.TooManySamples k) t w = heard_fault A has has' has'' s p g.got (S.TooManySamples k) h g.consumes w.0 w.1
+    heard f w = heard_fault A has has' has'' s p (bytes_read g.pieces) f h g.read.consumes w.0 w.1
+
+    go : (f : StreamFault) → IsOfText f → HasFault A (IsAtEnd has'') s g.pieces f s'
+        → HeardSo has has'' (λ text. samples A text ≡ record { taken = p; fault = Some f })
+    go (S.Step k) t w = heard (S.Step k) w
+    go (S.Value k v) t w = heard (S.Value k v) w
+    go (S.NothingBefore k) t w = heard (S.NothingBefore k) w
+    go (S.LineTooLong k) t w = heard (S.LineTooLong k) w
+    go (S.TooManySamples k) t w = heard (S.TooManySamples k) w
     go S.ReadTurns t w = absurd t
     go S.Read t w = absurd t
     go S.Memory t w = absurd t
     go S.Ended t w = absurd t
 
 pub unread_law : UnreadLaw
-unread_law A has has' has'' s s' p fault h g o = go fault o g.gives.why
-  where
-    go : (f : StreamFault) → (f ≡ S.Read) ⊎ (f ≡ S.ReadTurns) → HasFault A (IsAtEnd has'') s (s.kept ++ g.got) f s' → HeardFront A has has'' p
-    go f (inl e) w = heard_unread A has has' has'' s s' p g.got h g.consumes (subst (λ k. HasFault A (IsAtEnd has'') s (s.kept ++ g.got) k s') e w)
-    go f (inr e) w = let t = subst (λ k. HasFault A (IsAtEnd has'') s
-        (s.kept ++ g.got) k s') e w in heard_unread A has has' has'' s s' p g.got h g.consumes t.0
+unread_law A has has' has'' s s' p h g = heard_unread A has has' has'' s s' p g.pieces h g.read.consumes g.counts g.gives.why
+
+pub turns_law : TurnsLaw
+turns_law A has has' has'' s s' p h g =
+    subst (HeardFront A has has'' p) g.gives.why.1 (heard_unread A has has' has'' s s' p g.pieces h g.read.consumes g.counts g.gives.why.0)

@@ -1,5 +1,6 @@
 pub mod Lines
 pub mod KeptBytes
+pub mod Pieces
 pub mod Settling
 pub mod Steps
 pub mod Samples

@@ -1,10 +1,11 @@
 -- What the calls of a reader of lines answer.
-use Rattle.std.specs.Prelude.{◌≡◌, ◌≢◌, ◌⊎◌, ◌^◌, ℕ, suc, true, List, [], ◌∷◌, ◌++◌, length, Option, Some, None, Result, Ok, Err}
-use Rattle.std.specs.Io.KnownBytes.{Consumes, IsAtEnd}
+use Rattle.std.specs.Prelude.{◌≡◌, ◌≢◌, ◌⊎◌, ◌+◌, ◌^◌, ℕ, suc, true, List, [], ◌∷◌, ◌++◌, length, Option, Some, None, Result, Ok, Err}
+use Rattle.std.specs.Io.KnownBytes.{IsAtEnd}
 use Rattle.sample_core.specs.Datum.{Datum}
 use Rattle.sample_core.specs.TypeTree.{TypeTree}
 use Rattle.sample_core.specs.declared.sample.Sample.{Sample}
-use Rattle.stream_text.specs.Settling.{AsksAsNeeded}
+use Rattle.stream_text.specs.Pieces.{ReadPieces, Reads, bytes_read}
+use Rattle.stream_text.specs.Settling.{AsksAsNeeded, IsUnsettled}
 use Rattle.stream_text.specs.StreamText.{line_read}
 use Rattle.stream_text.specs.StreamView.{sample_view}
 use Rattle.stream_text.specs.TextLines.{HasLine, IsFeedFree, front_lines, lines_of, shows_fault}
@@ -74,45 +75,52 @@ pub record FaultyLine (A : TypeTree) (end : Type 0) (s : ReaderState) (bytes : L
   pub known : KnownLine end (suc s.lines) bytes line
   pub refuses : line_read A (suc s.lines) s.before line ≡ Err fault
 
--- no line of the bytes is known, and all are kept
-pub record Unfinished (s : ReaderState) (bytes : List ℕ) (s' : ReaderState) : Type 0 where
+-- the bytes that were kept, and those that were read behind them in these pieces
+abbrev pub known_bytes : ReaderState → ReadPieces → List ℕ
+known_bytes s pieces = s.kept ++ bytes_read pieces
+
+-- no line of the bytes is known, nor that there are no more, and all are kept
+pub record Unfinished (s : ReaderState) (pieces : ReadPieces) (s' : ReaderState) : Type 0 where
   pub goes_on : s.met ≡ M.Nothing
-  pub no_line : front_lines (suc s.lines) bytes ≡ []
-  pub keeps : s'.kept ≡ bytes
+  pub unsettled : IsUnsettled (suc s.lines) (known_bytes s pieces) pieces
+  pub keeps : s'.kept ≡ known_bytes s pieces
 
 -- why a fault is answered
-abbrev pub HasFault : TypeTree → Type 0 → ReaderState → List ℕ → StreamFault → ReaderState → Type 0
-HasFault A end s bytes S.Ended s' = s.met ≡ M.Fault
-HasFault A end s bytes S.Memory s' = s.met ≡ M.Nothing
-HasFault A end s bytes S.Read s' = Unfinished s bytes s'
-HasFault A end s bytes S.ReadTurns s' = Unfinished s bytes s' × (s'.reads ≡ 2 ^ 40)
-HasFault A end s bytes fault s' = (s.met ≡ M.Nothing) × FaultyLine A end s bytes fault
+abbrev pub HasFault : TypeTree → Type 0 → ReaderState → ReadPieces → StreamFault → ReaderState
+    → Type 0
+HasFault A end s pieces S.Ended s' = s.met ≡ M.Fault
+HasFault A end s pieces S.Memory s' = s.met ≡ M.Nothing
+HasFault A end s pieces S.Read s' = Unfinished s pieces s'
+HasFault A end s pieces S.ReadTurns s' = Unfinished s pieces s' × (s'.reads ≡ 2 ^ 40)
+HasFault A end s pieces fault s' = (s.met ≡ M.Nothing)
+    × FaultyLine A end s (known_bytes s pieces) fault
 
 -- a fault ends the stream
-pub record MeetsFault (A : TypeTree) (end : Type 0) (s : ReaderState) (bytes : List ℕ)
+pub record MeetsFault (A : TypeTree) (end : Type 0) (s : ReaderState) (pieces : ReadPieces)
     (fault : StreamFault) (s' : ReaderState) : Type 0 where
   pub ends : s'.met ≡ M.Fault
   pub same : SameLast s s'
-  pub why : HasFault A end s bytes fault s'
+  pub why : HasFault A end s pieces fault s'
 
--- What a call answers, where these are the bytes that were kept before and those that it read, and
--- `end` says that there are no more.
-abbrev pub IsAnswer : TypeTree → Type 0 → ReaderState → List ℕ
+-- What a call answers that read these pieces; `end` says that there are no more bytes.
+abbrev pub IsAnswer : TypeTree → Type 0 → ReaderState → ReadPieces
     → Result (Option (ℕ × Sample)) StreamFault → ReaderState → Type 0
-IsAnswer A end s bytes (Ok (Some x)) s' = TakesSample A end s bytes (sample_view x) s'
-IsAnswer A end s bytes (Ok None) s' = MeetsEnd end s bytes s'
-IsAnswer A end s bytes (Err fault) s' = MeetsFault A end s bytes fault s'
+IsAnswer A end s pieces (Ok (Some x)) s' =
+    TakesSample A end s (known_bytes s pieces) (sample_view x) s'
+IsAnswer A end s pieces (Ok None) s' = MeetsEnd end s (known_bytes s pieces) s'
+IsAnswer A end s pieces (Err fault) s' = MeetsFault A end s pieces fault s'
 
--- A call reads the bytes `got` of what the reader has, none where the stream has ended or the bytes
--- kept before settle the next line, and answers by these and those kept before.
+-- A call reads these pieces of what the reader has, none where the stream has ended, and no more
+-- than the next line needs; it counts its reads, and answers by these bytes and those kept before.
 pub record GivesAnswer (A : TypeTree) (s : ReaderState) (has : Option (List ℕ))
     (answer : Result (Option (ℕ × Sample)) StreamFault) (s' : ReaderState)
     (has' : Option (List ℕ)) : Type 0 where
-  pub got : List ℕ
-  pub consumes : Consumes has has' got
-  pub asks : ((got ≡ []) × (has' ≡ has))
-      ⊎ ((s.met ≡ M.Nothing) × AsksAsNeeded (suc s.lines) s.kept got)
-  pub gives : IsAnswer A (IsAtEnd has') s (s.kept ++ got) answer s'
+  pub pieces : ReadPieces
+  pub read : Reads has pieces has'
+  pub asks : AsksAsNeeded (suc s.lines) s.kept pieces
+  pub ended : s.met ≢ M.Nothing → pieces ≡ []
+  pub counts : s'.reads ≡ s.reads + length pieces
+  pub gives : IsAnswer A (IsAtEnd has') s pieces answer s'
 
 -- The same where a sample is answered by its step alone; its value is then the last.
 abbrev pub GivesStep : TypeTree → ReaderState → Option (List ℕ) → Result (Option ℕ) StreamFault
@@ -130,4 +138,5 @@ SettlesNext s = (s.met ≢ M.Nothing) ⊎ (front_lines (suc s.lines) s.kept ≢ 
 -- is answered: its value is then the last. Nothing is read.
 pub record TakesNext (A : TypeTree) (s : ReaderState) (d : ℕ) (s' : ReaderState) : Type 0 where
   pub value : Datum
+  pub unread : s'.reads ≡ s.reads
   pub takes : TakesSample A ⊥ s s.kept (d, value) s'

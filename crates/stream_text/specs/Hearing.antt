@@ -1,10 +1,11 @@
 -- What the answers of successive calls tell of a stream.
-use Rattle.std.specs.Prelude.{◌≡◌, ◌⊎◌, ℕ, suc, List, [], ◌∷◌, ◌++◌, length, Option, Some, None, Ok, Err}
+use Rattle.std.specs.Prelude.{◌≡◌, ◌⊎◌, ◌^◌, ℕ, suc, List, [], ◌∷◌, ◌++◌, length, Option, Some, None, Ok, Err}
 use Rattle.std.specs.Io.KnownBytes.{Consumes, IsAtEnd}
 use Rattle.sample_core.specs.Datum.{Datum}
 use Rattle.sample_core.specs.TypeTree.{TypeTree}
 use Rattle.sample_core.specs.declared.sample.Sample.{Sample}
 use Rattle.stream_text.specs.Answers.{ReaderState, IsFresh, GivesAnswer}
+use Rattle.stream_text.specs.Pieces.{ReadBy}
 use Rattle.stream_text.specs.StreamText.{IsOfText, Samples, samples, front, samples_from}
 use Rattle.stream_text.specs.StreamView.{sample_view}
 use Rattle.stream_text.specs.TextLines.{lines_of, front_lines}
@@ -44,11 +45,13 @@ Tells A end s read p M.Nothing = IsWithin A s read p
 Tells A end s read p M.End = end × (samples A read ≡ record { taken = p; fault = None })
 Tells A end s read p M.Fault = ⊥
 
--- The calls so far, since the reader had `has`, answered the samples p.
+-- The calls so far, since the reader had `has`, answered the samples p. They made as many reads as
+-- are counted, and met the end only where the stream has ended.
 pub record Heard (A : TypeTree) (has has' : Option (List ℕ)) (s : ReaderState)
     (p : List (ℕ × Datum)) : Type 0 where
   pub read : List ℕ
   pub consumes : Consumes has has' read
+  pub reads : ReadBy (s.met ≡ M.End) read s.reads
   pub tells : Tells A (IsAtEnd has') s read p s.met
   pub count : length p ≡ s.lines
 
@@ -70,12 +73,14 @@ pub record HeardSo (has has' : Option (List ℕ)) (P : List ℕ → Type 0) : Ty
 abbrev pub BeginsWith : TypeTree → List (ℕ × Datum) → List ℕ → Type 0
 BeginsWith A p text = (later : List (ℕ × Datum)) × ((samples A text).taken ≡ p ++ later)
 
--- the bytes that were read hold the samples so far, and show no fault
-pub record HeardFront (A : TypeTree) (has has' : Option (List ℕ)) (p : List (ℕ × Datum)) : Type 0
-  where
-    pub read : List ℕ
-    pub consumes : Consumes has has' read
-    pub all : front A read ≡ record { taken = p; fault = None }
+-- so many reads were made and did not meet the end; their bytes hold the samples so far, and show
+-- no fault
+pub record HeardFront (A : TypeTree) (has has' : Option (List ℕ)) (p : List (ℕ × Datum))
+    (made : ℕ) : Type 0 where
+  pub read : List ℕ
+  pub consumes : Consumes has has' read
+  pub reads : ReadBy ⊥ read made
+  pub all : front A read ≡ record { taken = p; fault = None }
 
 -- a stream of which nothing was read has answered nothing
 abbrev pub BeginLaw : Type 0
@@ -101,9 +106,14 @@ FaultyLaw = (A : TypeTree) (has has' has'' : Option (List ℕ)) (s s' : ReaderSt
     → GivesAnswer A s has' (Err fault) s' has'' → IsOfText fault
     → HeardSo has has'' (λ text. samples A text ≡ record { taken = p; fault = Some fault })
 
--- where a call could not read on, the samples so far are those of the bytes that were read
+-- where a read failed, the samples so far are those of the bytes that were read
 abbrev pub UnreadLaw : Type 0
 UnreadLaw = (A : TypeTree) (has has' has'' : Option (List ℕ)) (s s' : ReaderState)
-    (p : List (ℕ × Datum)) (fault : StreamFault) → Heard A has has' s p
-    → GivesAnswer A s has' (Err fault) s' has'' → (fault ≡ S.Read) ⊎ (fault ≡ S.ReadTurns)
-    → HeardFront A has has'' p
+    (p : List (ℕ × Datum)) → Heard A has has' s p → GivesAnswer A s has' (Err S.Read) s' has''
+    → HeardFront A has has'' p s'.reads
+
+-- and so they are where a call might read no more: then 2^40 reads were made
+abbrev pub TurnsLaw : Type 0
+TurnsLaw = (A : TypeTree) (has has' has'' : Option (List ℕ)) (s s' : ReaderState)
+    (p : List (ℕ × Datum)) → Heard A has has' s p → GivesAnswer A s has' (Err S.ReadTurns) s' has''
+    → HeardFront A has has'' p (2 ^ 40)

@@ -16,12 +16,14 @@ pub record KeepsSample (s : ReaderState) (x : ℕ × Datum) (size : ℕ) (s' : R
     pub kept : s'.kept ≡ drop (size + 1) s.kept
     pub counts : s'.lines ≡ suc s.lines
     pub keeps : s'.before ≡ Some x.1
+    pub unread : s'.reads ≡ s.reads
     pub met : s'.met ≡ s.met
 
 -- a fault ends the stream
 pub record EndsFaulty (s s' : ReaderState) : Type 0 where
   pub ends : s'.met ≡ M.Fault
   pub same : SameLast s s'
+  pub unread : s'.reads ≡ s.reads
 
 -- the sample is answered, or there is no memory for its copy
 abbrev pub KeepsCopy : ReaderState → ℕ × Datum → ℕ → Result (Option (ℕ × Sample)) StreamFault
@@ -45,5 +47,6 @@ TakesKept A s size (Err fault) s' =
 abbrev pub TakesLast : TypeTree → ReaderState → Result (Option (ℕ × Sample)) StreamFault
     → ReaderState → Type 0
 TakesLast A s (Ok None) s' = (s.kept ≡ []) × (s'.kept ≡ []) × (s'.met ≡ M.End) × SameLast s s'
+    × (s'.reads ≡ s.reads)
 TakesLast A s answer s' = (0 < length s.kept)
     × TakesKept A (record s { met = M.End }) (length s.kept) answer s'

@@ -1,6 +1,7 @@
 -- How far a reader is read to know the next line.
-use Rattle.std.specs.Prelude.{◌≡◌, ◌⊎◌, ◌≤◌, ◌^◌, ℕ, true, List, [], ◌++◌, length, Option, Result, Ok, Err}
-use Rattle.std.specs.Io.KnownBytes.{Consumes, IsAtEnd}
+use Rattle.std.specs.Prelude.{◌≡◌, ◌⊎◌, ◌+◌, ◌^◌, ℕ, true, List, [], ◌∷◌, ◌++◌, length, Option, Result, Ok, Err, ⊤}
+use Rattle.std.specs.Io.KnownBytes.{IsAtEnd}
+use Rattle.stream_text.specs.Pieces.{ArePieces, ReadPieces, Reads, bytes_read, piece_bytes}
 use Rattle.stream_text.specs.TextLines.{IsFeedFree, IsFirstFeed, front_lines, shows_fault}
 use Rattle.stream_text.specs.declared.fault.StreamFault.{StreamFault}
 use Rattle.stream_text.specs.declared.fault.StreamFault.TheVariants as S
@@ -13,29 +14,33 @@ abbrev pub SettlesLine : ℕ → List ℕ → ℕ → Type 0
 SettlesLine n kept size = IsFirstFeed kept size
     ⊎ ((size ≡ length kept) × IsFeedFree kept × (shows_fault n size ≡ true))
 
--- Bytes were read only where those before them settled no line n: those of all reads but the last,
--- which gave at most 4,096 bytes, settle none.
-pub record AsksAsNeeded (n : ℕ) (kept got : List ℕ) : Type 0 where
-  pub early : List ℕ
-  pub piece : List ℕ
-  pub parts : got ≡ early ++ piece
-  pub small : length piece ≤ 4096
-  pub unsettled : front_lines n (kept ++ early) ≡ []
+-- each read was made where the bytes before it, those that were kept and those of earlier reads,
+-- settle no line n
+abbrev pub AsksAsNeeded : ℕ → List ℕ → ReadPieces → Type 0
+AsksAsNeeded n kept [] = ⊤
+AsksAsNeeded n kept (piece ∷ later) = (front_lines n kept ≡ [])
+    × AsksAsNeeded n (kept ++ piece_bytes piece) later
 
--- what the bytes tell of line n after so many reads, where `end` says that there are no more
-abbrev pub IsSettled : Type 0 → ℕ → List ℕ → ℕ → Result Settled StreamFault → Type 0
-IsSettled end n kept reads (Ok (T.Line size)) = SettlesLine n kept size
-IsSettled end n kept reads (Ok T.Last) = end × IsFeedFree kept
-IsSettled end n kept reads (Err S.Read) = front_lines n kept ≡ []
-IsSettled end n kept reads (Err S.ReadTurns) = (front_lines n kept ≡ []) × (reads ≡ 2 ^ 40)
-IsSettled end n kept reads (Err _) = ⊥
+-- the bytes settle no line n, and none of the reads met the end
+abbrev pub IsUnsettled : ℕ → List ℕ → ReadPieces → Type 0
+IsUnsettled n bytes pieces = (front_lines n bytes ≡ []) × ArePieces ⊥ pieces
 
--- Bytes were read of what the reader has, no more than line n needs, and kept behind the others;
--- the answer is what they tell of it.
-pub record Settles (has has' : Option (List ℕ)) (n : ℕ) (kept kept' : List ℕ) (reads : ℕ)
+-- what the bytes tell of line n, of which the last came in these pieces, after so many reads; `end`
+-- says that there are no more
+abbrev pub IsSettled : Type 0 → ℕ → List ℕ → ReadPieces → ℕ → Result Settled StreamFault → Type 0
+IsSettled end n kept pieces reads (Ok (T.Line size)) = SettlesLine n kept size
+IsSettled end n kept pieces reads (Ok T.Last) = end × IsFeedFree kept
+IsSettled end n kept pieces reads (Err S.Read) = IsUnsettled n kept pieces
+IsSettled end n kept pieces reads (Err S.ReadTurns) = IsUnsettled n kept pieces × (reads ≡ 2 ^ 40)
+IsSettled end n kept pieces reads (Err _) = ⊥
+
+-- A reader was read, no further than line n needs. What it gave is kept behind the bytes before,
+-- and its reads are counted; the answer is what the bytes tell of the line.
+pub record Settles (has has' : Option (List ℕ)) (n : ℕ) (kept kept' : List ℕ) (reads reads' : ℕ)
     (answer : Result Settled StreamFault) : Type 0 where
-  pub got : List ℕ
-  pub consumes : Consumes has has' got
-  pub keeps : kept' ≡ kept ++ got
-  pub asks : ((got ≡ []) × (has' ≡ has)) ⊎ AsksAsNeeded n kept got
-  pub tells : IsSettled (IsAtEnd has') n kept' reads answer
+  pub pieces : ReadPieces
+  pub read : Reads has pieces has'
+  pub asks : AsksAsNeeded n kept pieces
+  pub keeps : kept' ≡ kept ++ bytes_read pieces
+  pub counts : reads' ≡ reads + length pieces
+  pub tells : IsSettled (IsAtEnd has') n kept' pieces reads' answer

@@ -1,10 +1,9 @@
 // Reading on until the next line is known.
 
-ghost use Rattle.std.specs.Prelude.{◌≡◌, ◌≢◌, ◌≤◌, ◌^◌, [], length, IfErr, IfNone, IfSome};
-ghost use Rattle.stream_text.specs.{Failures.Rose, Pieces.KeepsPiece, Settling.SettlesLine, Settling.Settles};
+ghost use Rattle.std.specs.Prelude.{◌≡◌, ◌≢◌, ◌≤◌, ◌^◌, [], length, IfErr, IfNone, IfSome, true};
+ghost use Rattle.stream_text.specs.{Failures.Rose, Settling.SettlesLine, Settling.Settles};
 ghost use Rattle.stream_text.specs.TextLines.{IsFeedFree, front_lines, shows_fault};
 ghost use Rattle.stream_text.specs.declared.fault.StreamFault.TheVariants as Fault;
-ghost use Rattle.stream_text.specs.declared.kept.Piece.TheVariants as P;
 
 use crate::device::Device;
 use crate::fault::StreamFault;
@@ -30,8 +29,8 @@ pub enum Settled {
 /// Reads on until line `number`, the next, is known, and no further. Counts the reads.
 ///
 /// `Read`: a read failed, so that the reader has failed more often than `failures`. `ReadTurns`:
-/// 2^40 reads were made. What is kept then settles no line. A failed read that the reader doesn't
-/// count is none: it gave no bytes.
+/// 2^40 reads were made. What is kept then settles no line. After a failed read that the reader
+/// doesn't count it is asked again.
 pub fn settle<R: Read + Device>(
     kept: &mut Kept,
     reads: &mut u64,
@@ -41,7 +40,7 @@ pub fn settle<R: Read + Device>(
 ) -> Result<Settled, StreamFault>
     requires { reads.old ≤ 2 ^ 40 }
     ensures settles { Settles (R.remaining source.old) (R.remaining source.new) number kept.old
-        kept.new reads.new result }
+        kept.new reads.old reads.new result }
     ensures unasked { front_lines number kept.old ≢ [] → source.new ≡ source.old }
     ensures few { reads.new ≤ 2 ^ 40 }
     ensures failed { IfErr result (λ fault. fault ≡ Fault.Read
@@ -55,10 +54,14 @@ pub fn settle<R: Read + Device>(
             return Err(StreamFault::ReadTurns);
         }
         *reads += 1;
-        match ask(kept, failures, source) {
+        match kept.fill(source) {
             Piece::Bytes => {}
             Piece::End => return Ok(Settled::Last),
-            Piece::Failed => return Err(StreamFault::Read),
+            Piece::Failed => {
+                if has_failed(source, failures) {
+                    return Err(StreamFault::Read);
+                }
+            }
         }
     }
 }
@@ -89,22 +92,10 @@ fn is_faulty(number: u64, size: usize) -> bool
     size > MOST_BYTES || (number > MOST_SAMPLES && size > 0)
 }
 
-/// Asks the reader for a piece. It failed where it has failed more often than that.
-fn ask<R: Read + Device>(kept: &mut Kept, failures: u64, source: &mut R) -> Piece
-    requires { length kept.old ≤ 65536 }
-    ensures piece { KeepsPiece (R.remaining source.old) (R.remaining source.new) kept.old kept.new
-        result }
-    ensures failed { result ≡ P.Failed → Rose failures (R.count source.new) }
+/// Whether the reader has failed more often than that, as far as it counts.
+fn has_failed<R: Device>(source: &R, failures: u64) -> bool
+    ensures { result ≡ true → Rose failures (R.count source.now) }
 {
-    match kept.fill(source) {
-        Piece::Failed => {
-            let after = source.failures();
-            if failures < after || after == u64::MAX {
-                Piece::Failed
-            } else {
-                Piece::Bytes
-            }
-        }
-        piece => piece,
-    }
+    let after = source.failures();
+    failures < after || after == u64::MAX
 }

@@ -57,7 +57,7 @@ module _ (A : TypeTree) (net : Network Expression) (has has' holds holds' : Opti
   stops_within (U.Stream lines (S.NothingBefore n)) s = at_fault lines (S.NothingBefore n) s
   stops_within (U.Stream lines (S.LineTooLong n)) s = at_fault lines (S.LineTooLong n) s
   stops_within (U.Stream lines (S.TooManySamples n)) s = at_fault lines (S.TooManySamples n) s
-  stops_within (U.Stream lines S.ReadTurns) s = unread lines s
+  stops_within (U.Stream lines S.ReadTurns) s = unread lines s.0
   stops_within (U.Stream lines S.Read) s = unread lines s
   stops_within (U.Stream lines S.Memory) s = at_fault lines S.Memory s
   stops_within (U.Stream lines S.Ended) s = at_fault lines S.Ended s

@@ -1,6 +1,6 @@
 -- A run, sample by sample.
 use Rattle.std.proofs.Common.{◌≡◌, ◌≤◌, ◌<◌, ◌+◌, ◌^◌, ℕ, suc, List, [], ◌∷◌, ◌++◌, length, take, drop, Option, Some, None, Ok, Err, refl, sym, ap, ◌∙◌, subst, arith, append_assoc, append-nil, take-append-drop, inl, inr}
-use Rattle.std.specs.Prelude.{◌⊎◌, map, max}
+use Rattle.std.specs.Prelude.{◌⊎◌, map, max, IfErr, Result}
 use Rattle.std.specs.Io.KnownBytes.{Appends, IsAtEnd}
 use Rattle.std.proofs.lemmas.List.{take_at}
 use Rattle.sample_core.specs.Datum.{Datum}
@@ -17,12 +17,14 @@ use Rattle.net_syntax.specs.TypedNetwork.{stream_of}
 use Rattle.net_syntax.proofs.Meanings.{outputs-take, length-outputs}
 use Rattle.net_syntax.proofs.PlainSteps.{prefixes_push}
 use Rattle.step_core.specs.RunnerState.{RunnerState, StandsFor, network_in, last_visits_of}
-use Rattle.stream_text.specs.Answers.{ReaderState, IsFresh, HasFault, GivesAnswer}
+use Rattle.stream_text.specs.Answers.{ReaderState, IsFresh, FaultyLine, known_bytes, Unfinished, HasFault, GivesAnswer}
 use Rattle.stream_text.specs.Hearing.{HoldsOfText, Heard, HeardAll, HeardSo, HeardFront, BeginsWith, Tells}
+use Rattle.stream_text.specs.Pieces.{ReadBy, bytes_read}
 use Rattle.stream_text.specs.StreamText.{IsBefore, IsOfText, samples}
 use Rattle.stream_text.specs.StreamView.{sample_view}
 use Rattle.stream_text.specs.declared.fault.StreamFault.{StreamFault}
 use Rattle.stream_text.specs.declared.fault.StreamFault.TheVariants as S
+use Rattle.stream_text.specs.declared.reader.Met.TheVariants as M
 use Rattle.stream_text.proofs.Hearing.{heard_none, heard_more, heard_end, heard_fault, heard_so_far, heard_short, heard_unread}
 use Rattle.stream_text.proofs.FeedFree.{spelling_free}
 use Rattle.stream_text.proofs.Settling.{consumes_none}
@@ -30,6 +32,7 @@ use Rattle.yampa_run.specs.FaultLines.{EndsRun}
 use Rattle.yampa_run.specs.Output.{spelled_lines, line_feeds, line_of_value, greatest, most_visits_of, output_of}
 use Rattle.yampa_run.specs.Runs.{RunsToEnd, IsOutput, StopsAtFault, StopsUnread, BeginsOutput, StopsWithin, Stops, Answers, IsPartOfLine, Breaks, run_fault_of, stream_fault_of}
 use Rattle.yampa_run.specs.declared.fault.RunFault.{RunFault}
+use Rattle.yampa_run.specs.declared.fault.RunReport.{RunReport}
 use Rattle.yampa_run.specs.declared.fault.RunFault.TheVariants as U
 use Rattle.yampa_run.specs.declared.stream_run.Stop.{Stop}
 use Rattle.yampa_run.specs.declared.stream_run.Stop.TheVariants as T
@@ -206,7 +209,7 @@ stream_stops A net has has' has'' holds holds' s s' r lines most fault g a = go 
           }) h.so;
     }
 
-    unread : HeardFront A has has'' g.p → StopsUnread A net has has'' holds holds' lines
+    unread : {reads : ℕ} → HeardFront A has has'' g.p reads → StopsUnread A net has has'' holds holds' lines
     unread h = record {
       read = h.read;
       written = spelled_lines (stream_of net g.p);
@@ -216,16 +219,23 @@ stream_stops A net has has' has'' holds holds' s s' r lines most fault g a = go 
       counted = g.counted ∙ sym g.heard.count ∙ ap (λ k. length k.taken) (sym h.all);
     }
 
-    go : (f : StreamFault) → HasFault A (IsAtEnd has'') s (s.kept ++ a.got) f s' → Stops A net has has'' holds holds' (stream_fault_of lines f)
-    go (S.Step k) w = at_fault (S.Step k) tt (heard_fault A has has' has'' s g.p a.got (S.Step k) g.heard a.consumes w.0 w.1)
-    go (S.Value k v) w = at_fault (S.Value k v) tt (heard_fault A has has' has'' s g.p a.got (S.Value k v) g.heard a.consumes w.0 w.1)
-    go (S.NothingBefore k) w = at_fault (S.NothingBefore k) tt (heard_fault A has has' has'' s g.p a.got (S.NothingBefore k) g.heard a.consumes w.0 w.1)
-    go (S.LineTooLong k) w = at_fault (S.LineTooLong k) tt (heard_fault A has has' has'' s g.p a.got (S.LineTooLong k) g.heard a.consumes w.0 w.1)
-    go (S.TooManySamples k) w = at_fault (S.TooManySamples k) tt (heard_fault A has has' has'' s g.p a.got (S.TooManySamples k) g.heard a.consumes w.0 w.1)
-    go S.ReadTurns w = unread (heard_unread A has has' has'' s s' g.p a.got g.heard a.consumes w.0)
-    go S.Read w = unread (heard_unread A has has' has'' s s' g.p a.got g.heard a.consumes w)
+    heard : Unfinished s a.pieces s' → HeardFront A has has'' g.p s'.reads
+    heard u = heard_unread A has has' has'' s s' g.p a.pieces g.heard a.read.consumes a.counts u
+
+    faulty : (f : StreamFault) → IsOfText f → (s.met ≡ M.Nothing) × FaultyLine A (IsAtEnd has'') s (known_bytes s a.pieces) f
+        → StopsAtFault A net has has'' holds holds' lines f
+    faulty f o w = at_fault f o (heard_fault A has has' has'' s g.p (bytes_read a.pieces) f g.heard a.read.consumes w.0 w.1)
+
+    go : (f : StreamFault) → HasFault A (IsAtEnd has'') s a.pieces f s' → Stops A net has has'' holds holds' (stream_fault_of lines f)
+    go (S.Step k) w = faulty (S.Step k) tt w
+    go (S.Value k v) w = faulty (S.Value k v) tt w
+    go (S.NothingBefore k) w = faulty (S.NothingBefore k) tt w
+    go (S.LineTooLong k) w = faulty (S.LineTooLong k) tt w
+    go (S.TooManySamples k) w = faulty (S.TooManySamples k) tt w
+    go S.ReadTurns w = (unread (heard w.0), subst (ReadBy ⊥ (heard w.0).read) w.1 (heard w.0).reads)
+    go S.Read w = unread (heard w)
     go S.Memory w = within A net has has'' holds holds' lines g.p (spelled_lines (stream_of net g.p)) []
-        (heard_short A has has' has'' s g.p a.got g.heard a.consumes w) g.wrote (append-nil (spelled_lines (stream_of net g.p)))
+        (heard_short A has has' has'' s g.p (bytes_read a.pieces) g.heard a.read.consumes w) g.wrote (append-nil (spelled_lines (stream_of net g.p)))
         (g.counted ∙ sym g.heard.count ∙ sym (line_count net g.p))
     go S.Ended w = absurd (subst (Tells A (IsAtEnd has') s g.heard.read g.p) w g.heard.tells)
 
@@ -273,6 +283,12 @@ pub stops : (A : TypeTree) (net : Network Expression) (has has' holds holds' : O
     → Stops A net has has' holds holds' (run_fault_of lines stop)
 stops A net has has' holds holds' lines T.Write h = h
 stops A net has has' holds holds' lines T.Memory h = h
+
+-- where the network that is run is another's, that is how the other stops
+pub stops_same : (A B : TypeTree) (net net' : Network Expression) (has has' holds holds' : Option (List ℕ)) (result : Result RunReport RunFault)
+    → A ≡ B → net ≡ net' → IfErr result (Stops A net has has' holds holds') → IfErr result (Stops B net' has has' holds holds')
+stops_same A B net net' has has' holds holds' result e f h = subst (λ C. IfErr result (Stops C net' has has' holds holds')) e
+    (subst (λ m. IfErr result (Stops A m has has' holds holds')) f h)
 
 -- what a run ends with is told by the program
 pub answered : (A : TypeTree) (net : Network Expression) (has has' holds holds' : Option (List ℕ)) (fault : RunFault)

@@ -1,5 +1,5 @@
 -- What a run does, from a reader to a writer.
-use Rattle.std.specs.Prelude.{◌≡◌, ◌⊎◌, ◌<◌, ℕ, List, [], ◌++◌, length, Option, None, Some, ⊤}
+use Rattle.std.specs.Prelude.{◌≡◌, ◌⊎◌, ◌<◌, ◌^◌, ℕ, List, [], ◌++◌, length, Option, None, Some, ⊤}
 use Rattle.std.specs.Io.KnownBytes.{Appends, Consumes, IsAtEnd}
 use Rattle.sample_core.specs.Datum.{Datum}
 use Rattle.sample_core.specs.TypeTree.{TypeTree}
@@ -8,6 +8,7 @@ use Rattle.net_syntax.specs.Network.{Network}
 use Rattle.step_core.specs.RunnerState.{RunnerState, Pushes}
 use Rattle.stream_text.specs.Failures.{Rose}
 use Rattle.stream_text.specs.Hearing.{HoldsOfText}
+use Rattle.stream_text.specs.Pieces.{ReadBy}
 use Rattle.stream_text.specs.StreamText.{IsOfText, front, samples}
 use Rattle.stream_text.specs.declared.fault.StreamFault.{StreamFault}
 use Rattle.stream_text.specs.declared.fault.StreamFault.TheVariants as S
@@ -64,6 +65,12 @@ pub record StopsUnread (A : TypeTree) (net : Network Expression)
   pub faultless : (front_output_of A net read).fault ≡ None
   pub counted : lines ≡ length (front A read).taken
 
+-- The same, after 2^40 reads: these gave the bytes that were read, and none met the end.
+abbrev pub StopsAfterTurns : TypeTree → Network Expression → Option (List ℕ) → Option (List ℕ)
+    → Option (List ℕ) → Option (List ℕ) → ℕ → Type 0
+StopsAfterTurns A net has has' holds holds' lines =
+    (stop : StopsUnread A net has has' holds holds' lines) × ReadBy ⊥ stop.read (2 ^ 40)
+
 -- the bytes begin what a run writes on a text
 abbrev pub BeginsOutput : TypeTree → Network Expression → List ℕ → List ℕ → Type 0
 BeginsOutput A net written text = (rest : List ℕ)
@@ -85,7 +92,7 @@ abbrev pub Stops : TypeTree → Network Expression → Option (List ℕ) → Opt
 Stops A net has has' holds holds' (U.Stream lines S.Read) =
     StopsUnread A net has has' holds holds' lines
 Stops A net has has' holds holds' (U.Stream lines S.ReadTurns) =
-    StopsUnread A net has has' holds holds' lines
+    StopsAfterTurns A net has has' holds holds' lines
 Stops A net has has' holds holds' (U.Stream lines fault) =
     StopsAtFault A net has has' holds holds' lines fault
 Stops A net has has' holds holds' (U.Write lines) = StopsWithin A net has has' holds holds' lines

@@ -1,4 +1,4 @@
-use Rattle.stream_text.proofs.Hearing.{begin_law, more_law, end_law, faulty_law, unread_law}
+use Rattle.stream_text.proofs.Hearing.{begin_law, more_law, end_law, faulty_law, unread_law, turns_law}
 use Rattle.stream_text.proofs.LineFaults.{line_fault_law}
 use Rattle.stream_text.proofs.LineLaws.{line_law}
 use Rattle.stream_text.proofs.StepLaws.{step_law}
@@ -13,6 +13,7 @@ returns c = record {
   ends = end_law;
   faulty = faulty_law;
   unread = unread_law;
+  turns = turns_law;
   value = whole_values c.reading_laws.ensures.found;
   step = step_law;
   line = line_law (whole_values c.reading_laws.ensures.found) step_law;

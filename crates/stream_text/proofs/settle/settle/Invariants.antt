@@ -6,7 +6,7 @@ use Rattle.stream_text.proofs.settle.settle.Given as goal
 
 abbrev pub invariant-loop-size : goal.invariant-loop-size
 invariant-loop-size g l = (l.reads ≤ 2 ^ 40)
-    × Asked (g.R.Read.remaining l.fn.source) (g.R.Read.remaining l.source) l.number l.fn.kept l.kept
+    × Asked (g.R.Read.remaining l.fn.source) (g.R.Read.remaining l.source) l.number l.fn.kept l.kept l.fn.reads l.reads
     × ((l.kept ≡ l.fn.kept × l.source ≡ l.fn.source) ⊎ (front_lines l.number l.fn.kept ≡ []))
 
 abbrev pub decreases-loop-size : goal.decreases-loop-size
