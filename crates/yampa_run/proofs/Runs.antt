@@ -1,6 +1,6 @@
 -- A run, sample by sample.
 use Rattle.std.proofs.Common.{◌≡◌, ◌≤◌, ◌<◌, ◌+◌, ◌^◌, ℕ, suc, List, [], ◌∷◌, ◌++◌, length, take, drop, Option, Some, None, Ok, Err, refl, sym, ap, ◌∙◌, subst, arith, append_assoc, append-nil, take-append-drop, inl, inr}
-use Rattle.std.specs.Prelude.{◌⊎◌, map, max, IfErr, Result}
+use Rattle.std.specs.Prelude.{◌⊎◌, max, IfErr, Result}
 use Rattle.std.specs.Io.KnownBytes.{Appends, IsAtEnd}
 use Rattle.std.proofs.lemmas.List.{take_at}
 use Rattle.sample_core.specs.Datum.{Datum}
@@ -12,11 +12,12 @@ use Rattle.leaf_core.specs.Expression.{Expression}
 use Rattle.leaf_core.specs.ExpressionValue.{value_of}
 use Rattle.net_syntax.specs.Environment.{closed}
 use Rattle.net_syntax.specs.Network.{Network}
-use Rattle.net_syntax.specs.SignalFunction.{TimedList, prefixes}
+use Rattle.net_syntax.specs.SignalFunction.{TimedList}
 use Rattle.net_syntax.specs.TypedNetwork.{stream_of}
 use Rattle.net_syntax.proofs.Meanings.{outputs-take, length-outputs}
-use Rattle.net_syntax.proofs.PlainSteps.{prefixes_push}
+use Rattle.step_core.specs.EnvironmentVisits.{visits_of}
 use Rattle.step_core.specs.RunnerState.{RunnerState, StandsFor, network_in, last_visits_of}
+use Rattle.step_core.proofs.CausalVisits.{visits-take, visits-push}
 use Rattle.stream_text.specs.Answers.{ReaderState, IsFresh, FaultyLine, known_bytes, Unfinished, HasFault, GivesAnswer}
 use Rattle.stream_text.specs.Hearing.{HoldsOfText, Heard, HeardAll, HeardSo, HeardFront, BeginsWith, Tells}
 use Rattle.stream_text.specs.Pieces.{ReadBy, bytes_read}
@@ -65,7 +66,7 @@ begins A net has holds s r f st i n = record {
   of_network = n;
   wrote = subst (λ vs. Appends holds holds (spelled_lines vs)) (sym (no_output net)) (appends_none holds);
   counted = sym f.lines;
-  visited = refl;
+  visited = sym (ap greatest (visits-take value_of net closed 0 []));
   before = subst (IsBefore A s.lines) (sym f.before) f.lines;
   few = let l : s.lines ≡ 0 = f.lines in omega (arith, l);
 }
@@ -94,16 +95,10 @@ greatest-push (m ∷ ns) n = let i : greatest (ns ++ n ∷ []) ≡ max (greatest
     max_three : (a b c : ℕ) → max a (max b c) ≡ max (max a b) c
     max_three a b c = grind arith
 
-map-push : (f : TimedList → ℕ) (xs : List TimedList) (x : TimedList) → map f (xs ++ x ∷ []) ≡ map f xs ++ f x ∷ []
-map-push f [] x = refl
-map-push f (y ∷ ys) x = ap (λ r. f y ∷ r) (map-push f ys x)
-
 most_visits-push : (net : Network Expression) (p : TimedList) (x : ℕ × Datum)
     → most_visits_of net (p ++ x ∷ []) ≡ max (most_visits_of net p) (last_visits_of net (p ++ x ∷ []))
 most_visits-push net p x =
-    ap (λ ps. greatest (map (last_visits_of net) ps)) (prefixes_push p x)
-    ∙ ap greatest (map-push (last_visits_of net) (prefixes p) (p ++ x ∷ []))
-    ∙ greatest-push (map (last_visits_of net) (prefixes p)) (last_visits_of net (p ++ x ∷ []))
+    ap greatest (visits-push value_of net closed p x) ∙ greatest-push (visits_of value_of net closed p) (last_visits_of net (p ++ x ∷ []))
 
 -- the runner may be pushed what was answered
 pub has_input : (A : TypeTree) (net : Network Expression) (has has' holds holds' : Option (List ℕ)) (s : ReaderState) (r : RunnerState)

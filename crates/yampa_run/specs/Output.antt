@@ -1,13 +1,15 @@
 -- What a run writes.
-use Rattle.std.specs.Prelude.{ℕ, suc, if◌then◌else◌, nat_eq, List, [], ◌∷◌, ◌++◌, map, max, Option}
+use Rattle.std.specs.Prelude.{ℕ, suc, if◌then◌else◌, nat_eq, List, [], ◌∷◌, ◌++◌, max, Option}
 use Rattle.sample_core.specs.Datum.{Datum}
 use Rattle.sample_core.specs.Spelling.{spelling}
 use Rattle.sample_core.specs.TypeTree.{TypeTree}
 use Rattle.leaf_core.specs.Expression.{Expression}
+use Rattle.leaf_core.specs.ExpressionValue.{value_of}
+use Rattle.net_syntax.specs.Environment.{closed}
 use Rattle.net_syntax.specs.Network.{Network}
-use Rattle.net_syntax.specs.SignalFunction.{TimedList, prefixes}
+use Rattle.net_syntax.specs.SignalFunction.{TimedList}
 use Rattle.net_syntax.specs.TypedNetwork.{stream_of}
-use Rattle.step_core.specs.RunnerState.{last_visits_of}
+use Rattle.step_core.specs.EnvironmentVisits.{visits_of}
 use Rattle.stream_text.specs.StreamText.{Samples, front, samples}
 use Rattle.stream_text.specs.declared.fault.StreamFault.{StreamFault}
 
@@ -49,6 +51,6 @@ abbrev pub greatest : List ℕ → ℕ
 greatest [] = 0
 greatest (n ∷ ns) = max n (greatest ns)
 
--- the visits of the sample that visits the most nodes, 0 where there is none
+-- the most nodes that a sample visits, 0 where there is none
 abbrev pub most_visits_of : Network Expression → TimedList → ℕ
-most_visits_of net xs = greatest (map (last_visits_of net) (prefixes xs))
+most_visits_of net xs = greatest (visits_of value_of net closed xs)
