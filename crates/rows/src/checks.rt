@@ -176,14 +176,7 @@ fn released_told(
             answer => {
                 drop(ballast);
                 answer_told(answer, out);
-                return say(
-                    out,
-                    if refused == 0 {
-                        ", never refused"
-                    } else {
-                        ", refused at first"
-                    },
-                );
+                return refused_told(refused, out);
             }
         }
     }
@@ -191,8 +184,16 @@ fn released_told(
     say(out, "always refused");
 }
 
-/// How many times a check is tried with little memory.
-const RELEASES: usize = 1_000;
+/// Tells of a call that answered in the end whether it was refused memory before, so many times.
+pub fn refused_told(refused: usize, out: &mut String) {
+    match refused {
+        0 => say(out, ", never refused"),
+        _ => say(out, ", refused at first"),
+    }
+}
+
+/// How many times a call is tried with little memory.
+pub const RELEASES: usize = 1_000;
 
 /// Sources, targets and certificates, and what is answered.
 static CHECKS: &str = "

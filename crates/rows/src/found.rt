@@ -10,6 +10,7 @@ use crate::laws::{expr_law_told, net_law_told};
 use crate::needs::need_told;
 use crate::network_types::network_told;
 use crate::networks::file_told;
+use crate::optimised::{optimised_told, scant_optimised_told};
 use crate::piecewise::failing_told;
 use crate::places::{place_told, replaced_told, rewritten_told};
 use crate::reading::{expr_at_told, expr_told, type_at_told};
@@ -126,6 +127,11 @@ pub enum LawProbe {
     ScantCheck,
     /// The same, and what both networks write: `STREAM | SOURCE | TARGET | CERTIFICATE`.
     CheckedRuns,
+    /// What the optimiser makes of a network, by which steps, and what both networks write: `STREAM |
+    /// FILE`.
+    Optimised,
+    /// What it makes of a network where growths are refused in turn.
+    ScantOptimised,
     /// What a command line leads to, on files called `src`, `tgt` and `cert`: `WORDS | SOURCE |
     /// TARGET | CERTIFICATE`.
     Command,
@@ -184,6 +190,8 @@ fn law_told(alloc: Global, probe: LawProbe, given: &str, out: &mut String) {
         LawProbe::Check => check_told(alloc, given, out),
         LawProbe::ScantCheck => scant_check_told(alloc, given, out),
         LawProbe::CheckedRuns => checked_runs_told(alloc, given, out),
+        LawProbe::Optimised => optimised_told(alloc, given, out),
+        LawProbe::ScantOptimised => scant_optimised_told(alloc, given, out),
         LawProbe::Command => derivation_told(alloc, given, out),
     }
 }

@@ -34,6 +34,8 @@ mod network_types;
 #[cfg(test)]
 mod networks;
 #[cfg(test)]
+mod optimised;
+#[cfg(test)]
 mod piecewise;
 #[cfg(test)]
 mod places;
