@@ -145,6 +145,15 @@ yampa optimise net --certificate | yampa 1 input Int (kSwitch time ‹event at o
 yampa optimise other | ‹increment› => status 3 network: cannot be read
 yampa optimise net --certificate | yampa 1 input Int (arr => status 1 network: syntax at byte 22
 yampa optimise net | ‹parameter› => status 1 network: no parameter in (at 0)
+yampa optimise net | yampa 3 input Int time => status 1 network: header
+yampa optimise --certificate net | yampa 1 input Int (arr 01) => status 1 network: number at byte 23
+yampa optimise net | ‹late truth› => status 1 network: types differ at (at 1)
+yampa optimise --certificate net | ‹too tall› => status 1 network: too deep
+yampa optimise net | yampa 1 input Int {601*(>>> } => status 1 network: nesting at byte 3018
+yampa optimise net --certificate | {1048577*~} => status 1 network: too long
+yampa optimise net --certificate | ‹heaviest› => laws 1␤(step L37 forward (at))␤
+yampa optimise --certificate net net | ‹increment› => wrong words
+yampa optimise --certificate other | ‹increment› => status 3 network: cannot be read
 § Files of a derivation, in the order in which they are named.
 yampa check other other other | ‹increment› => status 3 source: cannot be read
 yampa check net other other | ‹increment› => status 3 target: cannot be read
