@@ -1,6 +1,6 @@
 // Certificates, and what their check answers.
 
-use crate::ballast::{Ballast, take_all};
+use crate::ballast::take_all;
 use crate::certificates::steps_in;
 use crate::found::{LawProbe, Probe, all_are_found};
 use crate::networks::{printed_told, text_fault_told};
@@ -133,8 +133,8 @@ fn runs_told(alloc: Global, derivation: Derivation<'_>, stream: &str, out: &mut 
     }
 }
 
-/// Tells what checks answer with no memory left, and after each refusal with a little more, until
-/// one isn't refused; whether any was; and where the networks aren't as they were, that they aren't.
+/// Tells what a check answers, whether checks were refused memory before it, each with a little more
+/// left, and where the networks aren't as they were, that they aren't.
 fn scantly_told(alloc: Global, derivation: Derivation<'_>, out: &mut String) {
     let mut before = String::new(alloc);
     let mut behind = String::new(alloc);
@@ -158,30 +158,25 @@ fn both_told(alloc: Global, derivation: Derivation<'_>, out: &mut String) {
 }
 
 fn scant_tried(alloc: Global, derivation: Derivation<'_>, out: &mut String) {
-    match take_all(alloc, 0) {
-        Ok(ballast) => released_told(alloc, derivation, ballast, out),
-        Err(_) => say(out, "no ballast"),
-    }
-}
-
-fn released_told(
-    alloc: Global,
-    derivation: Derivation<'_>,
-    mut ballast: Ballast,
-    out: &mut String,
-) {
-    for refused in 0..RELEASES {
-        match checked(alloc, derivation) {
-            Err(CheckFault::Memory) => ballast.release(),
+    for refused in 0..MOST_TRIES {
+        let ballast = take_all(alloc, spare_behind(refused));
+        let answer = checked(alloc, derivation);
+        drop(ballast);
+        match answer {
+            Err(CheckFault::Memory) => (),
             answer => {
-                drop(ballast);
                 answer_told(answer, out);
                 return refused_told(refused, out);
             }
         }
     }
-    drop(ballast);
     say(out, "always refused");
+}
+
+/// The bytes that are left to a call behind so many tries that were refused memory: so few more at
+/// each that no growth is passed over.
+pub fn spare_behind(refused: usize) -> usize {
+    refused.saturating_mul(16)
 }
 
 /// Tells of a call that answered in the end whether it was refused memory before, so many times.
@@ -192,8 +187,8 @@ pub fn refused_told(refused: usize, out: &mut String) {
     }
 }
 
-/// How many times a call is tried with little memory.
-pub const RELEASES: usize = 1_000;
+/// How many times a call is tried with little memory, at most.
+pub const MOST_TRIES: usize = 20_000;
 
 /// Sources, targets and certificates, and what is answered.
 static CHECKS: &str = "

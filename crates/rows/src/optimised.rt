@@ -1,7 +1,7 @@
 // What the optimiser makes of networks, and the steps that lead there.
 
-use crate::ballast::{Ballast, take_all};
-use crate::checks::{RELEASES, checked_runs_told, refused_told};
+use crate::ballast::take_all;
+use crate::checks::{MOST_TRIES, checked_runs_told, refused_told, spare_behind};
 use crate::found::{LawProbe, Probe, all_are_found};
 use crate::networks::printed_told;
 use crate::runs::network;
@@ -57,8 +57,9 @@ fn derivation_told(alloc: Global, given: &str, target: &str, certificate: &str, 
     checked_runs_told(alloc, derivation.as_str(), out);
 }
 
-/// Tells how the answer for the network of a file is printed where growths are refused in turn,
-/// until none is; whether any was; and where the network isn't as it was, that it isn't.
+/// Tells how what the optimiser makes of the network of a file is printed, whether it was refused
+/// memory before, each time with a little more left, and where the network isn't as it was, that it
+/// isn't.
 pub fn scant_optimised_told(alloc: Global, file: &str, out: &mut String) {
     match network(alloc, file) {
         Some(source) => scantly_told(alloc, &source, out),
@@ -78,24 +79,18 @@ fn scantly_told(alloc: Global, source: &TypedNet, out: &mut String) {
 }
 
 fn scant_tried(alloc: Global, source: &TypedNet, out: &mut String) {
-    match take_all(alloc, 0) {
-        Ok(ballast) => released_told(alloc, source, ballast, out),
-        Err(_) => say(out, "no ballast"),
-    }
-}
-
-fn released_told(alloc: Global, source: &TypedNet, mut ballast: Ballast, out: &mut String) {
-    for refused in 0..RELEASES {
-        match optimise(alloc, source) {
-            Err(Memory) => ballast.release(),
+    for refused in 0..MOST_TRIES {
+        let ballast = take_all(alloc, spare_behind(refused));
+        let answer = optimise(alloc, source);
+        drop(ballast);
+        match answer {
+            Err(Memory) => (),
             Ok(answer) => {
-                drop(ballast);
                 both_told(alloc, source, answer, out);
                 return refused_told(refused, out);
             }
         }
     }
-    drop(ballast);
     say(out, "always refused");
 }
 
