@@ -9,9 +9,9 @@ pub struct Ballast {
     blocks: Vec<Vec<u8>>,
 }
 
-/// Takes all memory but `spare` bytes.
+/// Takes all memory but `spare` bytes, which serve growths of any size.
 pub fn take_all(alloc: Global, spare: usize) -> Result<Ballast, AllocError> {
-    let kept: Vec<u8> = Vec::with_capacity(alloc, spare)?;
+    let kept: Vec<u8> = Vec::with_capacity(alloc, spare.saturating_add(LARGE))?;
     let mut blocks = Vec::with_capacity(alloc, 60_000)?;
     let mut size = 1usize << 46;
     for _ in 0..59_000u32 {
@@ -26,15 +26,18 @@ pub fn take_all(alloc: Global, spare: usize) -> Result<Ballast, AllocError> {
         }
     }
     drop(kept);
+    let large = Vec::with_capacity(alloc, LARGE)?;
+    blocks.push(large)?;
     Ok(Ballast { blocks })
 }
 
-impl Ballast {
-    /// Lets one block go, the smallest first.
-    pub fn release(&mut self) {
-        drop(self.blocks.pop());
-    }
-}
+/// The bytes of a block that `malloc` doesn't set aside, once it is let go, for growths of its own
+/// size: of a smaller block nothing would be left to others.
+const LARGE: usize = 4_096;
+
+/// The bytes that are left to a test that then takes all memory many times: all but these are taken
+/// once.
+pub const ROOM: usize = 8_000_000;
 
 /// How many times a call is tried, with more and more bytes left.
 pub const TRIES: usize = 8;

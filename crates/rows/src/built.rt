@@ -2,12 +2,13 @@
 
 use crate::found::{Probe, all_are_found};
 use crate::network_types::{arrow_told, checked_told};
-use crate::networks::printed_told;
-use crate::texts::{numbered, say, say_at};
+use crate::networks::{printed_told, text_fault_told};
+use crate::texts::{numbered, parted, say, say_at};
 use leaf_expr::{Expr, Literal};
 use net_syntax::{
     Arrow, Members, Net, NetChild, Position, height, is_oversized, print_position, weight,
 };
+use net_text::read_net;
 use net_types::check_types;
 use sample_core::{Memory, Ty};
 use std::alloc::Global;
@@ -20,6 +21,19 @@ pub fn doubled_told(alloc: Global, given: &str, out: &mut String) {
         (Some(net), "types") => typed_told(alloc, net, out),
         (Some(net), _) => measure_told(alloc, kind, &net, out),
         (None, _) => say(out, "memory"),
+    }
+}
+
+/// Tells a measure of a file's network, whatever its types: `KIND | FILE`.
+pub fn measured_told(alloc: Global, given: &str, out: &mut String) {
+    let (kind, file) = parted(given);
+    match read_net(alloc, file.as_bytes()) {
+        Ok((input, net)) => {
+            drop(input);
+            measure_told(alloc, kind, &net, out);
+            drop(net);
+        }
+        Err(fault) => text_fault_told(fault, out),
     }
 }
 
@@ -151,6 +165,15 @@ types 19 => too heavy
 types 60 => too heavy
 ";
 
+/// Networks whose frozen ones are resumed twice at each level, measured without their types.
+static MEASURED: &str = "
+§ Weights and heights up to the limit and over it.
+weight | ‹heaviest› => 1000000
+height | ‹heaviest› => 52
+weight | yampa 1 input Int ‹first frozen› {79*‹next frozen› }(old 79){80*)} => 1000001
+height | yampa 1 input Int ‹first frozen› {79*‹next frozen› }(old 79){80*)} => 240
+";
+
 /// Forms with numbers at the ends of their ranges and past them.
 static BUILT: &str = "
 § Numbers at the ends of their ranges, and some that no file can have, two levels deep.
@@ -187,6 +210,7 @@ types => Int -> Bool
 #[test]
 fn built_networks_are_typed(rt: HostRuntime) {
     all_are_found(&rt, rt.alloc(), Probe::Doubled, DOUBLED);
+    all_are_found(&rt, rt.alloc(), Probe::Measured, MEASURED);
     all_are_found(&rt, rt.alloc(), Probe::Built, BUILT);
     all_are_found(&rt, rt.alloc(), Probe::Part, PARTS);
 }

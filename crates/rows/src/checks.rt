@@ -1,6 +1,6 @@
 // Certificates, and what their check answers.
 
-use crate::ballast::take_all;
+use crate::ballast::{ROOM, take_all};
 use crate::certificates::steps_in;
 use crate::found::{LawProbe, Probe, all_are_found};
 use crate::networks::{printed_told, text_fault_told};
@@ -139,7 +139,9 @@ fn scantly_told(alloc: Global, derivation: Derivation<'_>, out: &mut String) {
     let mut before = String::new(alloc);
     let mut behind = String::new(alloc);
     both_told(alloc, derivation, &mut before);
+    let room = take_all(alloc, ROOM);
     scant_tried(alloc, derivation, out);
+    drop(room);
     both_told(alloc, derivation, &mut behind);
     if behind.as_str() != before.as_str() {
         say(out, ", changed");

@@ -43,12 +43,17 @@ pub fn derivation_told(alloc: Global, given: &str, out: &mut String) {
 fn asked_told(alloc: Global, line: &str, files: &ThreeFiles<'_>, out: &mut String) {
     let words = words_of(alloc, line);
     let asked = prepare(alloc, &words, files);
-    match &asked {
+    answer_told(&asked, out);
+    drop(asked);
+}
+
+/// Tells what a command line leads to; of a run the network that is to be run.
+pub fn answer_told(asked: &Result<Job, Refusal>, out: &mut String) {
+    match asked {
         Ok(Job::Run(net)) => run_told(net, out),
         Ok(job) => job_told(job, out),
         Err(refusal) => refusal_told(refusal, out),
     }
-    drop(asked);
 }
 
 /// Tells the network that is to be run.
@@ -58,7 +63,7 @@ fn run_told(net: &TypedNet, out: &mut String) {
 }
 
 /// The words of the line; none where it is empty.
-fn words_of(alloc: Global, line: &str) -> Vec<&str> {
+pub fn words_of(alloc: Global, line: &str) -> Vec<&str> {
     let mut words = Vec::new(alloc);
     if !line.is_empty() {
         for word in line.split(' ') {

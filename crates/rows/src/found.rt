@@ -1,6 +1,7 @@
 // Worked rows, and the one way to ask of each whether it goes as it was worked out.
 
-use crate::built::{built_told, doubled_told, part_told};
+use crate::beginnings::beginnings_told;
+use crate::built::{built_told, doubled_told, measured_told, part_told};
 use crate::certificates::certificate_told;
 use crate::checks::{check_told, checked_runs_told, scant_check_told};
 use crate::commands::{command_told, derivation_told};
@@ -14,9 +15,13 @@ use crate::optimised::{optimised_told, scant_optimised_told};
 use crate::piecewise::failing_told;
 use crate::places::{place_told, replaced_told, rewritten_told};
 use crate::reading::{expr_at_told, expr_told, type_at_told};
-use crate::runs::{missing_told, run_told, scantly_told, visited_told, whole_run_told};
+use crate::runs::{
+    missing_told, run_told, scant_reads_told, scantly_told, visited_told, whole_run_told,
+};
+use crate::scant_commands::scant_command_told;
 use crate::scant_memory::scant_told;
 use crate::scant_networks::scant_network_told;
+use crate::scant_reads::lines_told;
 use crate::scant_runs::scant_run_told;
 use crate::shapes::shape_told;
 use crate::stream_calls::{calls_told, scant_calls_told};
@@ -59,6 +64,10 @@ pub enum Probe {
     Tree,
     /// How a network file is printed.
     File,
+    /// Of each beginning of a network file why it isn't read.
+    Beginnings,
+    /// A network's weight or height, whatever its types: `KIND | FILE`.
+    Measured,
     /// A network's types, weight and height, or why it has none.
     Network,
     /// A network's types, weight and height, and how it is printed.
@@ -95,8 +104,16 @@ pub enum Probe {
     ScantNetwork,
     /// The same of a table, and what is frozen with no memory left.
     ScantRun,
+    /// What a command line leads to, on files called `src`, `tgt` and `cert`, and whether it is refused
+    /// memory at first: `WORDS | SOURCE | TARGET | CERTIFICATE`.
+    ScantCommand,
     /// What the pushes of a stream's samples answer, with growths refused: `FILE | STREAM`.
     ScantStream,
+    /// What a network's run on a stream writes, and how runs end where all memory is taken at some
+    /// read: `FILE | STREAM`.
+    ScantReads,
+    /// The same of the calls of a reader of lines: `TYPE | STREAM`.
+    ScantLines,
     /// What successive calls of a reader of lines answer: `TYPE | STREAM`.
     Calls,
     /// The same with no memory left.
@@ -153,6 +170,8 @@ fn tell(alloc: Global, probe: Probe, given: &str, out: &mut String) {
         Probe::Number => number_told(given, out),
         Probe::Tree => tree_told(alloc, given, out),
         Probe::File => file_told(alloc, given, out),
+        Probe::Beginnings => beginnings_told(alloc, given, out),
+        Probe::Measured => measured_told(alloc, given, out),
         Probe::Network => network_told(alloc, given, out),
         Probe::Form => form_told(alloc, given, out),
         Probe::Need => need_told(alloc, given, out),
@@ -170,8 +189,11 @@ fn tell(alloc: Global, probe: Probe, given: &str, out: &mut String) {
         Probe::Called => called_told(alloc, given, out),
         Probe::Scant => scant_told(alloc, given, out),
         Probe::ScantNetwork => scant_network_told(alloc, given, out),
+        Probe::ScantCommand => scant_command_told(alloc, given, out),
         Probe::ScantRun => scant_run_told(alloc, given, out),
         Probe::ScantStream => scantly_told(alloc, given, out),
+        Probe::ScantReads => scant_reads_told(alloc, given, out),
+        Probe::ScantLines => lines_told(alloc, given, out),
         Probe::Calls => calls_told(alloc, given, out),
         Probe::ScantCalls => scant_calls_told(alloc, given, out),
         Probe::Law(probe) => law_told(alloc, probe, given, out),

@@ -4,6 +4,8 @@
 #[cfg(test)]
 mod ballast;
 #[cfg(test)]
+mod beginnings;
+#[cfg(test)]
 mod built;
 #[cfg(test)]
 mod certificates;
@@ -46,13 +48,19 @@ mod running;
 #[cfg(test)]
 mod runs;
 #[cfg(test)]
+mod scant_commands;
+#[cfg(test)]
 mod scant_memory;
 #[cfg(test)]
 mod scant_networks;
 #[cfg(test)]
 mod scant_pushes;
 #[cfg(test)]
+mod scant_reads;
+#[cfg(test)]
 mod scant_runs;
+#[cfg(test)]
+mod scarce;
 #[cfg(test)]
 mod shapes;
 #[cfg(test)]

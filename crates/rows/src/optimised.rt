@@ -1,6 +1,6 @@
 // What the optimiser makes of networks, and the steps that lead there.
 
-use crate::ballast::take_all;
+use crate::ballast::{ROOM, take_all};
 use crate::checks::{MOST_TRIES, checked_runs_told, refused_told, spare_behind};
 use crate::found::{LawProbe, Probe, all_are_found};
 use crate::networks::printed_told;
@@ -71,7 +71,9 @@ fn scantly_told(alloc: Global, source: &TypedNet, out: &mut String) {
     let mut before = String::new(alloc);
     let mut behind = String::new(alloc);
     printed_told(print_net(alloc, source.input(), source.net()), &mut before);
+    let room = take_all(alloc, ROOM);
     scant_tried(alloc, source, out);
+    drop(room);
     printed_told(print_net(alloc, source.input(), source.net()), &mut behind);
     if behind.as_str() != before.as_str() {
         say(out, ", changed");

@@ -5,7 +5,6 @@ ghost use Rattle.leaf_table.specs.Rows.{rows_of};
 ghost use Rattle.step_core.specs.Binding.{FitsTable};
 ghost use Rattle.yampa_run.specs.FaultLines.{EndsRun};
 
-use crate::ballast::{TRIES, Tally, spare_at, take_all};
 use crate::devices::{Pieces, Repeats, Shared, Sink, Small, Witness};
 use crate::found::{Probe, all_are_found};
 use crate::runs::{Trial, ended_told, file_told};
@@ -80,7 +79,6 @@ pub fn failure_tried(
         "write" => unwritten_told(alloc, bound, table, stream, (a, b, false), out),
         "quiet" => unwritten_told(alloc, bound, table, stream, (a, b, true), out),
         "most" => most_told(alloc, bound, table, stream, out),
-        "scant" => scant_told(alloc, bound, table, stream, out),
         "witness" => witness_told(alloc, bound, table, stream, out),
         _ => repeats_told(alloc, bound, table, a, out),
     }
@@ -157,54 +155,6 @@ fn lines_of(ended: &Result<RunReport, RunFault>) -> usize {
         Err(RunFault::Write { lines }) => *lines as usize,
         Err(RunFault::Memory { lines }) => *lines as usize,
     }
-}
-
-/// Tells whether runs on the stream are refused memory at first, with no line written, and go to
-/// their end once there is enough.
-fn scant_told(alloc: Global, bound: &Bound, table: &LeafTable, stream: &str, out: &mut String)
-    requires { FitsTable (rows_of table.now) bound.now }
-{
-    let mut ample = String::new(alloc);
-    unread_told(alloc, bound, table, stream, 0, &mut ample);
-    let mut tally = Tally::new();
-    for attempt in 0..TRIES {
-        let mut told = String::new(alloc);
-        scant_tried(
-            alloc,
-            bound,
-            table,
-            stream,
-            spare_at(attempt, 30_000),
-            &mut told,
-        );
-        tally = tally.with(told.as_str(), ample.as_str(), "lines 0:status 3 memory");
-    }
-    tally.tell(out);
-}
-
-/// Tells what a run on the stream writes where so many bytes are left.
-fn scant_tried(
-    alloc: Global,
-    bound: &Bound,
-    table: &LeafTable,
-    stream: &str,
-    spare: usize,
-    out: &mut String,
-)
-    requires { FitsTable (rows_of table.now) bound.now }
-{
-    let Ok(kept) = Vec::with_capacity(alloc, 1_000) else {
-        return say(out, "no room");
-    };
-    let Ok(ballast) = take_all(alloc, spare) else {
-        return say(out, "no ballast");
-    };
-    let mut reader = Counted::new(stream.as_bytes());
-    let mut writer = Counted::new(kept);
-    let ended = run(alloc, bound, table, &mut reader, &mut writer);
-    drop(ballast);
-    let written = writer.into_inner();
-    run_told(alloc, ended, &written, out);
 }
 
 /// Tells what was written before each read, each read as `.`, of a reader of single bytes.
@@ -302,6 +252,8 @@ yampa 1 input Int ‹resumed› | write 1 13 | 0␤+4 0␤+5 1␤+6 0␤+7 2␤+
 yampa 1 input Int ‹resumed› | write 1 14 | 0␤+4 0␤+5 1␤+6 0␤+7 2␤+1 0 => lines 5:0␤4␤-1␤-1␤9␤1status 3 output: cannot be written
 yampa 1 input Int ‹resumed› | write 1 15 | 0␤+4 0␤+5 1␤+6 0␤+7 2␤+1 0 => lines 5:0␤4␤-1␤-1␤9␤10status 3 output: cannot be written
 yampa 1 input Int ‹resumed› | write 1 16 | 0␤+4 0␤+5 1␤+6 0␤+7 2␤+1 0 => lines 6:0␤4␤-1␤-1␤9␤10␤
+yampa 1 input Int ‹resumed› | quiet 1 7 | 0␤+4 0␤+5 1␤+6 0␤+7 2␤+1 0 => lines 2:0␤4␤-1status 3 output: cannot be written
+yampa 1 input Int ‹resumed› | quiet 0 0 | 0␤+4 0␤+5 1␤+6 0␤+7 2␤+1 0 => lines 0:status 3 output: cannot be written
 § Each line is written before the next byte is asked for.
 ‹increment› | witness | 5␤+1 6␤+1 7 => ..0␤.....6␤.....
 § The most nodes that a sample visits.
@@ -310,9 +262,6 @@ yampa 1 input Int ‹resumed› | write 1 16 | 0␤+4 0␤+5 1␤+6 0␤+7 2␤+
 yampa 1 input Int ‹switched twice› | most | 1␤+1 20␤+1 3 => most 5
 yampa 1 input Int ‹resumed› | most | 0␤+4 0␤+5 1␤+6 0␤+7 2␤+1 0 => most 5
 yampa 1 input Int ‹routed› | most | 2␤+3 2␤+4 7␤+1 0 => most 9
-§ Growths are refused.
-‹increment› | scant | 5␤+1 6␤+1 7 => refused at first
-yampa 1 input Int ‹resumed› | scant | 0␤+4 0␤+5 1␤+6 0␤+7 2␤+1 0 => refused at first
 § The last sample that a run may have, and one line more.
 ‹increment› | repeats 4999997 | => lines 1000000:
 ‹increment› | repeats 4999998 | => lines 1000000:status 1 stream: line 1000001: too many samples

@@ -12,12 +12,14 @@ use sample_core::{Memory, Sample, Ty, has_type};
 use std::alloc::Global;
 use step_core::{Bound, Runner};
 
-/// A runner, with the type of its inputs, and how many pushes it refused.
+/// A runner, with the type of its inputs, how many pushes it refused, and whether it tells another
+/// count of samples or of visits behind a refusal.
 #[derive(Drop)]
 pub struct Running<'a> {
     runner: Runner<'a>,
     input: &'a Ty,
     refused: u64,
+    changed: bool,
     ghost same_input: { (runner_state runner).input ≡ type_of input.now } by { Prim.hlevel (props, type_code) },
 }
 
@@ -31,6 +33,7 @@ impl<'a> Running<'a> {
             runner,
             input: bound.input(),
             refused: 0,
+            changed: false,
         }
     }
 
@@ -39,8 +42,13 @@ impl<'a> Running<'a> {
     pub fn push(&mut self, step: u64, sample: &Sample) -> Result<Sample, Memory> {
         let is_step = 1 <= step && step < 1 << 63;
         if is_step && self.runner.samples() < 1_000 && has_type(sample, self.input) {
+            let before = (self.runner.samples(), self.runner.last_visits());
             let answer = self.runner.push(step, sample);
-            self.refused = self.refused.saturating_add(u64::from(answer.is_err()));
+            if answer.is_err() {
+                let behind = (self.runner.samples(), self.runner.last_visits());
+                self.refused = self.refused.saturating_add(1);
+                self.changed = self.changed || behind != before;
+            }
             answer
         } else {
             Err(Memory)
@@ -55,6 +63,11 @@ impl<'a> Running<'a> {
     /// How many pushes that the runner may be handed were refused memory.
     pub fn refused(&self) -> u64 {
         self.refused
+    }
+
+    /// Whether a refused push changed how many samples or visits are told.
+    pub fn changed(&self) -> bool {
+        self.changed
     }
 
     /// The step and the value of a line of a stream; a line without a step has step 1.

@@ -10,6 +10,7 @@ use crate::devices::Pieces;
 use crate::found::{Probe, all_are_found};
 use crate::piecewise::{failure_tried, written_told};
 use crate::scant_pushes::scant_stream_told;
+use crate::scant_reads::runs_told;
 use crate::tables::row_told;
 use crate::texts::{parted, say};
 use crate::visits::visits_told;
@@ -35,6 +36,8 @@ pub enum Trial<'a> {
     Visits(&'a str),
     /// What its pushes of this stream's samples answer, where growths are refused in turn.
     ScantStream(&'a str),
+    /// What its run on this stream writes, and how runs end where memory is taken at some read.
+    ScantReads(&'a str),
     /// What the row of this need answers on the value.
     Call(&'a LeafNeed, &'a Sample),
     /// Whether each of its expressions has a row.
@@ -66,6 +69,13 @@ pub fn visited_told(alloc: Global, given: &str, out: &mut String) {
 pub fn scantly_told(alloc: Global, given: &str, out: &mut String) {
     let (file, stream) = parted(given);
     file_told(alloc, file, Trial::ScantStream(stream), out);
+}
+
+/// Tells what the network's run on the stream writes, and how runs end where all memory is taken at
+/// some read, `FILE | STREAM`.
+pub fn scant_reads_told(alloc: Global, given: &str, out: &mut String) {
+    let (file, stream) = parted(given);
+    file_told(alloc, file, Trial::ScantReads(stream), out);
 }
 
 /// Tells what the trial of the network of a file's text finds.
@@ -186,6 +196,7 @@ fn tried(alloc: Global, bound: &Bound, table: &LeafTable, trial: Trial<'_>, out:
         }
         Trial::Visits(stream) => visits_told(alloc, bound, table, stream, out),
         Trial::ScantStream(stream) => scant_stream_told(alloc, bound, table, stream, out),
+        Trial::ScantReads(stream) => runs_told(alloc, bound, table, stream, out),
         Trial::Call(need, x) => row_told(table, need, x, out),
         Trial::Whole(_) | Trial::Rows => say(out, "a row for each"),
     }

@@ -1,6 +1,6 @@
 // What is answered where growths are refused.
 
-use crate::ballast::{Ballast, TRIES, Tally, spare_at, take_all};
+use crate::ballast::{Ballast, ROOM, TRIES, Tally, spare_at, take_all};
 use crate::found::{Probe, all_are_found};
 use crate::reading::reading_told;
 use crate::texts::{expr_in, say, type_in, value_in, written};
@@ -74,6 +74,7 @@ fn tally_told(alloc: Global, name: &str, trees: Trees<'_>, out: &mut String) {
     let mut ample = String::new(alloc);
     told(alloc, name, trees, None, &mut ample);
     let mut tally = Tally::new();
+    let room = take_all(alloc, ROOM);
     for attempt in 0..TRIES {
         let mut scant = String::new(alloc);
         if let Ok(ballast) = take_all(alloc, spare_at(attempt, 9_000)) {
@@ -82,6 +83,7 @@ fn tally_told(alloc: Global, name: &str, trees: Trees<'_>, out: &mut String) {
         tally = tally.with(scant.as_str(), ample.as_str(), "memory");
         drop(scant);
     }
+    drop(room);
     tally.tell(out);
 }
 

@@ -1,6 +1,6 @@
 // What calls on whole networks answer where growths are refused.
 
-use crate::ballast::{Ballast, Tally, take_all};
+use crate::ballast::{Ballast, ROOM, Tally, take_all};
 use crate::found::{Probe, all_are_found};
 use crate::needs::needs_told;
 use crate::network_types::checked_told;
@@ -66,12 +66,12 @@ fn needs_found(alloc: Global, given: Given<'_>, ballast: Option<Ballast>, out: &
 }
 
 /// How many times a call is tried, so that growths are refused one behind the other.
-const ATTEMPTS: usize = 64;
+const ATTEMPTS: usize = 600;
 
 /// The bytes that are left at an attempt, a few more at each; behind the last ample memory.
 fn spare_at(attempt: usize) -> usize {
     if attempt < ATTEMPTS {
-        attempt.saturating_mul(150)
+        attempt.saturating_mul(16)
     } else {
         1_000_000
     }
@@ -82,6 +82,7 @@ fn tally_told(alloc: Global, name: &str, given: Given<'_>, out: &mut String) {
     let mut ample = String::new(alloc);
     told(alloc, name, given, None, &mut ample);
     let mut tally = Tally::new();
+    let room = take_all(alloc, ROOM);
     for attempt in 0..ATTEMPTS + 1 {
         let mut scant = String::new(alloc);
         if let Ok(ballast) = take_all(alloc, spare_at(attempt)) {
@@ -90,6 +91,7 @@ fn tally_told(alloc: Global, name: &str, given: Given<'_>, out: &mut String) {
         tally = tally.with(scant.as_str(), ample.as_str(), "memory");
         drop(scant);
     }
+    drop(room);
     tally.tell(out);
 }
 

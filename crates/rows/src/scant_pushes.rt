@@ -3,18 +3,19 @@
 ghost use Rattle.leaf_table.specs.Rows.{rows_of};
 ghost use Rattle.step_core.specs.Binding.{FitsTable};
 
-use crate::ballast::take_all;
+use crate::ballast::{ROOM, take_all};
 use crate::found::{Probe, all_are_found};
 use crate::running::Running;
-use crate::texts::say;
+use crate::texts::{say, say_at};
 use crate::working::answer_told;
 use leaf_table::LeafTable;
 use sample_core::{Memory, Sample};
 use std::alloc::Global;
 use step_core::Bound;
 
-/// Tells what the network answers to each sample of the stream, where each is pushed with no memory
-/// left, and after each refusal again with a little more; and whether any push was refused.
+/// Tells what the network answers to each sample of the stream, and how many nodes that visits, where
+/// each is pushed with no memory left, and after each refusal again with a little more; and whether
+/// any push was refused, or one that was changed what is told of the samples before.
 pub fn scant_stream_told(
     alloc: Global,
     bound: &Bound,
@@ -25,24 +26,28 @@ pub fn scant_stream_told(
     requires { FitsTable (rows_of table.now) bound.now }
 {
     let mut running = Running::new(alloc, bound, table);
+    let room = take_all(alloc, ROOM);
     for line in stream.lines() {
         line_told(alloc, &mut running, line, out);
     }
-    say(
-        out,
-        if running.refused() == 0 {
-            "never refused"
-        } else {
-            "refused at first"
-        },
-    );
+    drop(room);
+    say(out, refusals_of(&running));
     drop(running);
+}
+
+fn refusals_of(running: &Running<'_>) -> &'static str {
+    match (running.changed(), running.refused()) {
+        (true, _) => "changed by a refusal",
+        (false, 0) => "never refused",
+        (false, _) => "refused at first",
+    }
 }
 
 fn line_told(alloc: Global, running: &mut Running<'_>, line: &str, out: &mut String) {
     match running.line(alloc, line) {
         (step, Some(sample)) => {
             answer_told(scant_push(alloc, running, step, &sample), out);
+            say_at(out, " visits", running.last_visits());
             say(out, "; ");
         }
         (_, None) => say(out, "no value; "),
@@ -56,33 +61,32 @@ fn scant_push(
     step: u64,
     sample: &Sample,
 ) -> Result<Sample, Memory> {
-    let mut ballast = take_all(alloc, 0)?;
-    for _ in 0..RELEASES {
-        match running.push(step, sample) {
-            Ok(answer) => {
-                drop(ballast);
-                return Ok(answer);
-            }
-            Err(Memory) => ballast.release(),
+    for attempt in 0..ATTEMPTS {
+        let ballast = take_all(alloc, attempt.saturating_mul(16));
+        let answer = running.push(step, sample);
+        drop(ballast);
+        if answer.is_ok() {
+            return answer;
         }
+        drop(answer);
     }
-    drop(ballast);
     running.push(step, sample)
 }
 
 /// How many times a push is tried with little memory, before it is tried with ample memory.
-const RELEASES: usize = 1_000;
+const ATTEMPTS: usize = 1_000;
 
 /// Networks, streams, and what is answered.
 static PUSHES: &str = "
 § Pushes with little memory, each repeated until it is answered.
-yampa 1 input Int (>>> (arr (list (Event Int){100* (event x)})) (iPre (list (Event Int)))) | 5␤+1 5 => (list); (list{100* (event 5)}); refused at first
-yampa 1 input Int (switch ‹event above nine› ‹plus event›) | 1␤+1 20␤+1 3 => 1; 40; 23; refused at first
-yampa 1 input Int (dSwitch ‹event above nine› ‹plus event›) | 1␤+1 20␤+1 3 => 1; 20; 23; refused at first
-yampa 1 input Int ‹switched twice› | 1␤+1 20␤+1 3 => 1; 0; -17; refused at first
-yampa 1 input (Pair Int (Event Int)) (rSwitch (iPre 0) (iPre (p 0))) | (pair 5 none)␤+1 (pair 6 (event 9))␤+1 (pair 7 (event 8))␤+1 (pair 4 none) => 0; 9; 8; 7; refused at first
-yampa 1 input Int ‹resumed› | 0␤+4 0␤+5 1␤+6 0␤+7 2␤+1 0 => 0; 4; -1; -1; 9; 10; refused at first
-yampa 1 input Int ‹routed› | 2␤+3 2␤+4 7␤+1 0 => (list 0 0); (list 3 6); (list 14 7); (list 21 8); refused at first
+yampa 1 input Int (>>> (arr (list (Event Int){100* (event x)})) (iPre (list (Event Int)))) | 5␤+1 5 => (list) visits 3; (list{100* (event 5)}) visits 3; refused at first
+yampa 1 input Int (switch ‹event above nine› ‹plus event›) | 1␤+1 20␤+1 3 => 1 visits 2; 40 visits 3; 23 visits 1; refused at first
+yampa 1 input Int (dSwitch ‹event above nine› ‹plus event›) | 1␤+1 20␤+1 3 => 1 visits 2; 20 visits 3; 23 visits 1; refused at first
+yampa 1 input Int ‹switched twice› | 1␤+1 20␤+1 3 => 1 visits 2; 0 visits 5; -17 visits 1; refused at first
+yampa 1 input (Pair Int (Event Int)) (rSwitch (iPre 0) (iPre (p 0))) | (pair 5 none)␤+1 (pair 6 (event 9))␤+1 (pair 7 (event 8))␤+1 (pair 4 none) => 0 visits 2; 9 visits 2; 8 visits 2; 7 visits 2; refused at first
+yampa 1 input (Pair Int (Event Int)) (rSwitch (iPre 0) (iPre (p 0))) | (pair 5 (event 3))␤+1 (pair 6 none) => 3 visits 2; 5 visits 2; refused at first
+yampa 1 input Int ‹resumed› | 0␤+4 0␤+5 1␤+6 0␤+7 2␤+1 0 => 0 visits 3; 4 visits 3; -1 visits 5; -1 visits 2; 9 visits 4; 10 visits 1; refused at first
+yampa 1 input Int ‹routed› | 2␤+3 2␤+4 7␤+1 0 => (list 0 0) visits 4; (list 3 6) visits 4; (list 14 7) visits 9; (list 21 8) visits 3; refused at first
 ";
 
 #[test]

@@ -9,10 +9,8 @@ use crate::found::{Probe, all_are_found};
 use crate::texts::{parted, say, say_at, type_in};
 use sample_core::{Sample, Ty, push_value};
 use std::alloc::Global;
-use stream_text::{Counted, LineReader, StreamFault};
-
-/// The reader of lines that is tried.
-type Lines<'a> = LineReader<Counted<Pieces<'a>>>;
+use std::io::Read;
+use stream_text::{Counted, Device, LineReader, StreamFault};
 
 /// Tells the first five answers of a reader of lines over the stream, `TYPE | STREAM`, which it
 /// gets in pieces of 4,096 bytes; and `differs`, where smaller pieces lead to others.
@@ -72,8 +70,10 @@ fn scant_told(alloc: Global, ty: &Ty, stream: &str, out: &mut String) {
     }
 }
 
-fn answers_told(reader: &mut Lines<'_>, ty: &Ty, out: &mut String)
+/// Tells five answers of the reader.
+pub fn answers_told<R: Read + Device + Drop>(reader: &mut LineReader<R>, ty: &Ty, out: &mut String)
     requires { IsBefore (type_of ty.now) (state_of reader.old).lines (state_of reader.old).before }
+    ensures { IsBefore (type_of ty.now) (state_of reader.new).lines (state_of reader.new).before }
 {
     answer_told(reader, ty, out);
     answer_told(reader, ty, out);
@@ -82,7 +82,7 @@ fn answers_told(reader: &mut Lines<'_>, ty: &Ty, out: &mut String)
     answer_told(reader, ty, out);
 }
 
-fn answer_told(reader: &mut Lines<'_>, ty: &Ty, out: &mut String)
+fn answer_told<R: Read + Device + Drop>(reader: &mut LineReader<R>, ty: &Ty, out: &mut String)
     requires { IsBefore (type_of ty.now) (state_of reader.old).lines (state_of reader.old).before }
     ensures { IsBefore (type_of ty.now) (state_of reader.new).lines (state_of reader.new).before }
 {
