@@ -1,6 +1,7 @@
 // Memory that is taken first, so that what is tested is refused it.
 
-use crate::texts::say;
+use crate::texts::{say, written};
+use net_text::read_net;
 use std::alloc::{AllocError, Global};
 
 /// Blocks that hold all the memory that this process may have, but for some that is kept free.
@@ -11,6 +12,7 @@ pub struct Ballast {
 
 /// Takes all memory but `spare` bytes, which serve growths of any size.
 pub fn take_all(alloc: Global, spare: usize) -> Result<Ballast, AllocError> {
+    grow_stack(alloc);
     let kept: Vec<u8> = Vec::with_capacity(alloc, spare.saturating_add(LARGE))?;
     let mut blocks = Vec::with_capacity(alloc, 60_000)?;
     let mut size = 1usize << 46;
@@ -29,6 +31,19 @@ pub fn take_all(alloc: Global, spare: usize) -> Result<Ballast, AllocError> {
     let large = Vec::with_capacity(alloc, LARGE)?;
     blocks.push(large)?;
     Ok(Ballast { blocks })
+}
+
+/// Lets the stack grow by some hundred kilobytes, as reading deep parentheses does. Once all memory is
+/// taken it can't grow, and a call that needs more of it is killed.
+fn grow_stack(alloc: Global) {
+    let text = written(alloc, "yampa 1 input Int {600*(>>> }");
+    match read_net(alloc, text.as_bytes()) {
+        Ok((input, net)) => {
+            drop(input);
+            drop(net);
+        }
+        Err(_fault) => (),
+    }
 }
 
 /// The bytes of a block that `malloc` doesn't set aside, once it is let go, for growths of its own
