@@ -5,6 +5,7 @@ use crate::certificates::steps_in;
 use crate::found::{LawProbe, Probe, all_are_found};
 use crate::networks::{printed_told, text_fault_told};
 use crate::runs::{Trial, network, trial_told};
+use crate::scarce::MOST_TRIES;
 use crate::texts::{parted, say, say_at};
 use cert_check::{Accepted, CheckFault, check};
 use net_syntax::{LawStep, TypedNet};
@@ -188,9 +189,6 @@ pub fn refused_told(refused: usize, out: &mut String) {
         _ => say(out, ", refused at first"),
     }
 }
-
-/// How many times a call is tried with little memory, at most.
-pub const MOST_TRIES: usize = 20_000;
 
 /// Sources, targets and certificates, and what is answered.
 static CHECKS: &str = "

@@ -1,10 +1,11 @@
 // What the optimiser makes of networks, and the steps that lead there.
 
 use crate::ballast::{ROOM, take_all};
-use crate::checks::{MOST_TRIES, checked_runs_told, refused_told, spare_behind};
+use crate::checks::{checked_runs_told, refused_told, spare_behind};
 use crate::found::{LawProbe, Probe, all_are_found};
 use crate::networks::printed_told;
 use crate::runs::network;
+use crate::scarce::MOST_TRIES;
 use crate::texts::{parted, say};
 use leaf_expr::Expr;
 use net_opt::optimise;
