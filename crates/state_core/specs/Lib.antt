@@ -4,7 +4,6 @@ pub mod CountedFunction
 pub mod CountedForms
 pub mod CountedContext
 pub mod State
-pub mod Around
 pub mod EmptyScope
 pub mod StandsByForm
 pub mod Stands
@@ -13,9 +12,7 @@ pub mod ParamsView
 pub mod CellCode
 pub mod CellsView
 pub mod StateCode
-pub mod Sizes
-pub mod StaticNetwork
-pub mod StaticKept
-pub mod StaticLending
+pub mod Tree
 pub mod StateView
 pub mod Depth
+pub mod Deep

@@ -123,10 +123,6 @@ module _ {L : Type 0} (c : Coded L) where
   abbrev pub state_code : Coded (State L)
   state_code = coded_via itself to_code to_code_inj
 
-  -- members' states told apart by their codes
-  abbrev pub states_code : Coded (States L)
-  states_code = coded_via itself to_codes to_codes_inj
-
   -- frozen networks told apart by their codes
   abbrev pub frozens_code : Coded (Frozens L)
   frozens_code = coded_via itself frozens_to_code frozens_to_code_inj

@@ -1,17 +1,15 @@
 -- What the code's states, scopes and frozen networks are as clean ones.
 use Rattle.std.specs.Prelude.{◌≡◌, ℕ, List, [], ◌∷◌, Option, Some, None}
 use Rattle.std.proofs.Common.{Bor}
-use Rattle.sample_core.specs.ValueView.{datum_of}
 use Rattle.net_syntax.specs.Network.{Network}
-use Rattle.state_core.specs.RowsView.{row_number, rows_in}
-use Rattle.state_core.specs.StaticNetwork.{static_state}
-use Rattle.state_core.specs.State.{State, States, Scope, Frozens, Frozen, seq_state, first_state, par_state, loop_state, switch_state, d_switch_state, r_switch_state, k_switch_state, p_switch_state, no_state, and_state, scope, no_frozen, and_frozen, unstarted, paused, frozen_at}
+use Rattle.state_core.specs.RowsView.{rows_in}
+use Rattle.state_core.specs.State.{State, Scope, Frozens, Frozen, par_state, no_state, scope, no_frozen, and_frozen, unstarted, paused, frozen_at}
+use Rattle.state_core.specs.Tree as T
+use Rattle.state_core.specs.Tree.{running}
 use Rattle.state_core.specs.declared.state.State.{State as CodeState}
 use Rattle.state_core.specs.declared.state.State.TheVariants as S
-use Rattle.state_core.specs.declared.state.KSwitchParts.{KSwitchParts}
-use Rattle.state_core.specs.declared.state.PSwitchParts.{PSwitchParts}
-use Rattle.state_core.specs.declared.state.Node.{Node}
-use Rattle.state_core.specs.declared.state.Node.TheVariants as N
+use Rattle.state_core.specs.declared.state.Running.{Running}
+use Rattle.state_core.specs.declared.state.Kept.{Kept}
 use Rattle.state_core.specs.declared.env.Env.{Env}
 use Rattle.state_core.specs.declared.env.Olds.{Olds}
 use Rattle.state_core.specs.declared.env.Olds.TheVariants as O
@@ -21,44 +19,24 @@ use Rattle.state_core.specs.declared.env.Frozen.TheVariants as F
 -- the frozen networks in scope
 abbrev pub olds_of : Olds → Frozens ℕ
 olds_of O.Nothing = no_frozen
-olds_of (O.All fs) = fs
+olds_of (O.All fs) = fs.0
 
 -- the scope that an `Env` is
 abbrev pub scope_of : Env → Scope ℕ
 scope_of e = scope e.params (olds_of e.olds)
 
+-- what is kept: the cells, and the states of what runs at places
+abbrev pub kept_of : Kept → T.Kept ℕ
+kept_of k = (k.cells, k.places.0)
+
+-- the state of what runs
+abbrev pub running_of : Running → State ℕ
+running_of r = running (rows_in r.net.now) (scope_of r.env) (kept_of r.kept)
+
 -- the state that a `State` is
 abbrev pub state_of : CodeState → State ℕ
 state_of S.Nothing = par_state no_state
-state_of (S.Static f k) = static_state (rows_in f.net.now) k.0 k.1
-state_of (S.Whole w) = w
-
--- the states of members
-abbrev pub states_of : List CodeState → States ℕ
-states_of [] = no_state
-states_of (a ∷ as') = and_state (state_of a) (states_of as')
-
--- the state that the parts of a `kSwitch` are
-abbrev pub k_switch_of : KSwitchParts → State ℕ
-k_switch_of k =
-    k_switch_state (state_of k.part) (state_of k.watch) (rows_in k.net.now) (scope_of k.env)
-
--- the state that the parts of a `pSwitch` are
-abbrev pub p_switch_of : PSwitchParts → State ℕ
-p_switch_of k = p_switch_state (row_number k.router) k.members (state_of k.watch)
-    (rows_in k.net.now) (scope_of k.env)
-
--- the state that a `Node` is
-abbrev pub node_of : Node → State ℕ
-node_of (N.Seq k) = seq_state (state_of k.first) (state_of k.second)
-node_of (N.First a) = first_state (state_of a)
-node_of (N.Par as') = par_state as'
-node_of (N.LoopPre k) = loop_state (datum_of k.fed_back) (state_of k.part)
-node_of (N.Switch k) = switch_state (state_of k.part) (rows_in k.net.now) (scope_of k.env)
-node_of (N.DSwitch k) = d_switch_state (state_of k.part) (rows_in k.net.now) (scope_of k.env)
-node_of (N.RSwitch k) = r_switch_state (state_of k.part) (rows_in k.net.now) (scope_of k.env)
-node_of (N.KSwitch k) = k_switch_of k
-node_of (N.PSwitch k) = p_switch_of k.value
+state_of (S.Whole w) = w.0
 
 -- the frozen network that a `Frozen` is
 abbrev pub frozen_of : CodeFrozen → Frozen ℕ

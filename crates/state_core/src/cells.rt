@@ -1,4 +1,4 @@
-// The cells of networks without switches.
+// The cells of a network.
 
 ghost use Rattle.std.specs.Prelude.{◌≡◌, ◌≤◌, ◌<◌, ◌++◌, ◌∷◌, [], IfOk, MatchOption, None, Some, length, slice_get, slice_set, take};
 ghost use Rattle.cell_core.specs.{Cell.previous, CellView.cell_of};
@@ -10,7 +10,7 @@ use sample_core::{Memory, Sample};
 use std::alloc::Global;
 use std::marker::Model;
 
-/// The cells of a network without switches, in the order of its nodes. Behind them stand cells that
+/// The cells of a network, in the order of its nodes. Behind them stand cells that
 /// are out of use, whose places are taken first. Contracts see the list of the cells in use.
 #[derive(Drop)]
 pub struct Cells {

@@ -65,31 +65,29 @@ pub enum Frozen<'n> {
 
 impl<'n> Model for OldList<'n> {
     ghost use Rattle.std.specs.Prelude.{ℕ};
-    ghost use Rattle.std.specs.Coded.{coded_ℕ};
+    ghost use Rattle.std.specs.Coded.{coded×, coded_ℕ};
     ghost use Rattle.state_core.specs.State.{Frozens};
     ghost use Rattle.state_core.specs.StateCode.{frozens_code};
-    ghost use Rattle.state_core.specs.Sizes.{frozens_size};
 
-    ghost Value = { Frozens ℕ };
+    ghost Value = { Frozens ℕ × ℕ };
 
-    ghost coded = { frozens_code coded_ℕ };
+    ghost coded = { coded× (frozens_code coded_ℕ) coded_ℕ };
 
-    ghost use Rattle.state_core.specs.StateView.{frozens_in};
+    ghost use Rattle.state_core.specs.{StateView.frozens_in, Depth.depth_frozens};
 
-    ghost view = { λ a. frozens_in a.all.value.items };
+    ghost view = { λ a. (frozens_in a.all.value.items, depth_frozens a.all.value.items) };
 
-    ghost size = { frozens_size };
+    ghost size = { λ v. v.1 };
 
-    ghost use Rattle.state_core.specs.Depth.{frozens_le};
-    ghost use Rattle.std.proofs.Common.{arith};
+    ghost use Rattle.state_core.specs.Deep.{frozens_le};
 
-    ghost size_decreases = { λ a h. Prim.omega (arith, frozens_le a.all.value.items) };
+    ghost size_decreases = { λ a h. frozens_le a.all.value.items };
 }
 
 impl<'n> OldList<'n> {
     /// Frozen networks in order. `Memory` where a growth was refused.
     fn new(alloc: Global, all: Vec<Frozen<'n>>) -> Result<OldList<'n>, Memory>
-        ensures { IfOk result (λ fs. fs ≡ frozens_in all.entry.items) }
+        ensures { IfOk result (λ fs. fs.0 ≡ frozens_in all.entry.items) }
     {
         let all = Rc::new(alloc, all)?;
         Ok(OldList { all })
@@ -97,7 +95,7 @@ impl<'n> OldList<'n> {
 
     /// The frozen networks in order.
     fn as_slice(&self) -> &[Frozen<'n>]
-        ensures { frozens_in result.now ≡ self.now }
+        ensures { frozens_in result.now ≡ self.now.0 }
     {
         self.all.as_slice()
     }

@@ -1,256 +1,272 @@
-// States of networks that run.
+// What runs, with what it keeps.
 
-ghost use Rattle.std.specs.Prelude.{◌≡◌, IfOk, OnOk};
-ghost use Rattle.state_core.specs.{State.no_state, StateView.state_of, StateView.node_of, StateView.states_of};
+ghost use Rattle.std.specs.Prelude.{◌≡◌, ◌∷◌, ◌++◌, [], IfOk, IfNone, Some, None, MatchOption, length, slice_get};
+ghost use Rattle.state_core.specs.Depth.{depth_running};
+ghost use Rattle.state_core.specs.{StateView.kept_of, StateView.state_of, StateView.running_of, StateView.scope_of, Tree.nothing};
 
+use crate::cells::Cells;
 use crate::env::Env;
-use crate::static_net::StaticNet;
-use crate::static_state::StaticState;
 use leaf_table::LeafId;
 use net_syntax::Net;
-use sample_core::{Memory, Sample};
+use sample_core::Memory;
 use std::alloc::Global;
 use std::marker::Model;
 use std::rc::Rc;
 
-/// The state of a network that runs. Copies of it share its parts.
+/// The state of a network that runs. Copies of it share all. A state that is out of use is a place:
+/// what runs next comes into its memory, as far as no one else holds that.
 #[cycle(state)]
 #[derive(Drop)]
 pub enum State<'n> {
     /// Nothing, which keeps nothing and takes no memory: a `parB` without members.
     Nothing,
-    /// A network without switches, with its parameters and its cells.
-    Static(StaticNet<'n>, StaticState),
-    /// A node round the states of its parts.
+    /// A network that runs.
     Whole(Whole<'n>),
 }
 
-/// A node, shared. Contracts see it as the clean state.
+/// A network that runs, shared. Contracts see it as the clean state.
 #[cycle(state)]
 #[derive(Drop)]
 pub struct Whole<'n> {
-    /// The node itself.
-    pub node: Rc<Node<'n>>,
+    /// What runs.
+    pub running: Rc<Running<'n>>,
 }
 
-/// A node of a state, round the states of its parts.
+/// A network that runs at a place of its own, its scope, and what it keeps.
 #[cycle(state)]
 #[derive(Drop)]
-pub enum Node<'n> {
-    /// `>>>`.
-    Seq(SeqParts<'n>),
-    /// `first`.
-    First(State<'n>),
-    /// `parB`.
-    Par(States<'n>),
-    /// `loopPre`.
-    LoopPre(LoopParts<'n>),
-    /// `switch` before its first event.
-    Switch(SwitchParts<'n>),
-    /// `dSwitch` likewise.
-    DSwitch(SwitchParts<'n>),
-    /// `rSwitch`.
-    RSwitch(SwitchParts<'n>),
-    /// `kSwitch` before its first event.
-    KSwitch(KSwitchParts<'n>),
-    /// `pSwitch` likewise.
-    PSwitch(Box<PSwitchParts<'n>>),
-}
-
-/// The parts of a `>>>`.
-#[cycle(state)]
-#[derive(Drop)]
-pub struct SeqParts<'n> {
-    /// The part that gets the sample.
-    pub first: State<'n>,
-    /// The part that gets what the first answers.
-    pub second: State<'n>,
-}
-
-/// What a `loopPre` keeps.
-#[cycle(state)]
-#[derive(Drop)]
-pub struct LoopParts<'n> {
-    /// What is fed back next.
-    pub fed_back: Sample,
-    /// The part that runs.
-    pub part: State<'n>,
-}
-
-/// The parts of a `switch`, a `dSwitch` or an `rSwitch`.
-#[cycle(state)]
-#[derive(Drop)]
-pub struct SwitchParts<'n> {
-    /// The part that runs.
-    pub part: State<'n>,
-    /// The network that takes over.
+pub struct Running<'n> {
+    /// The network.
     pub net: &'n Net<LeafId>,
     /// Its scope.
     pub env: Env<'n>,
-    // A state that is out of use: a second part comes into its place.
-    pub(crate) spare: Option<(StaticNet<'n>, StaticState)>,
+    /// What it keeps.
+    pub kept: Kept<'n>,
 }
 
-/// The parts of a `kSwitch` before its first event.
+/// What a network keeps, in the order of its nodes: a cell for each cell, `accumBy` and `loopPre`, a
+/// place for each switch and each resumed network. A switch that waits for its event keeps a place
+/// for each of its parts.
 #[cycle(state)]
 #[derive(Drop)]
-pub struct KSwitchParts<'n> {
-    /// The part that runs.
-    pub part: State<'n>,
-    /// The part that watches it.
-    pub watch: State<'n>,
-    /// The network that takes over.
-    pub net: &'n Net<LeafId>,
-    /// Its scope.
-    pub env: Env<'n>,
+pub struct Kept<'n> {
+    /// The cells.
+    pub cells: Cells,
+    /// The places, with what runs there.
+    pub places: Places<'n>,
 }
 
-/// The parts of a `pSwitch` before its first event.
+/// Places, with what runs there. Behind those in use stand others, whose memory is taken first.
+/// Contracts see the states at the places in use.
 #[cycle(state)]
 #[derive(Drop)]
-pub struct PSwitchParts<'n> {
-    /// The row that routes.
-    pub router: LeafId,
-    /// The members.
-    pub members: States<'n>,
-    /// The part that watches them.
-    pub watch: State<'n>,
-    /// The network that takes over.
-    pub net: &'n Net<LeafId>,
-    /// Its scope.
-    pub env: Env<'n>,
-}
-
-/// The states of members. Contracts see them as clean states.
-#[cycle(state)]
-#[derive(Drop)]
-pub struct States<'n> {
+pub struct Places<'n> {
     all: Vec<State<'n>>,
+    used: usize,
 }
 
 impl<'n> Model for Whole<'n> {
     ghost use Rattle.std.specs.Prelude.{ℕ};
-    ghost use Rattle.std.specs.Coded.{coded_ℕ};
+    ghost use Rattle.std.specs.Coded.{coded×, coded_ℕ};
     ghost use Rattle.state_core.specs.State.{State as CleanState};
     ghost use Rattle.state_core.specs.StateCode.{state_code};
-    ghost use Rattle.state_core.specs.Sizes.{state_size};
 
-    ghost Value = { CleanState ℕ };
+    ghost Value = { CleanState ℕ × ℕ };
 
-    ghost coded = { state_code coded_ℕ };
+    ghost coded = { coded× (state_code coded_ℕ) coded_ℕ };
 
-    ghost use Rattle.state_core.specs.StateView.{node_of};
+    ghost use Rattle.state_core.specs.{StateView.running_of, Depth.depth_running};
 
-    ghost view = { λ a. node_of a.node.value };
+    ghost view = { λ a. (running_of a.running.value, depth_running a.running.value) };
 
-    ghost size = { state_size };
+    ghost size = { λ v. v.1 };
 
-    ghost use Rattle.state_core.specs.Depth.{node_le};
+    ghost use Rattle.state_core.specs.Deep.{running_le};
 
-    ghost size_decreases = { λ a h. node_le a.node.value };
+    ghost size_decreases = { λ a h. running_le a.running.value };
 }
 
-impl<'n> Model for States<'n> {
-    ghost use Rattle.std.specs.Prelude.{ℕ};
-    ghost use Rattle.std.specs.Coded.{coded_ℕ};
-    ghost use Rattle.state_core.specs.State.{States as CleanStates};
-    ghost use Rattle.state_core.specs.StateCode.{states_code};
-    ghost use Rattle.state_core.specs.Sizes.{states_size};
+impl<'n> Model for Places<'n> {
+    ghost use Rattle.std.specs.Prelude.{ℕ, List, map, take};
+    ghost use Rattle.std.specs.Coded.{coded×, coded_list, coded_ℕ};
+    ghost use Rattle.state_core.specs.State.{State as CleanState};
+    ghost use Rattle.state_core.specs.StateCode.{state_code};
 
-    ghost Value = { CleanStates ℕ };
+    ghost Value = { List (CleanState ℕ) × ℕ };
 
-    ghost coded = { states_code coded_ℕ };
+    ghost coded = { coded× (coded_list (state_code coded_ℕ)) coded_ℕ };
 
-    ghost use Rattle.state_core.specs.StateView.{states_of};
+    ghost use Rattle.state_core.specs.{StateView.state_of, Depth.depth_states};
 
-    ghost view = { λ a. states_of a.all.items };
+    ghost view = { λ a. (map state_of (take a.used a.all.items), depth_states a.all.items) };
 
-    ghost size = { states_size };
+    ghost size = { λ v. v.1 };
 
-    ghost use Rattle.state_core.specs.Depth.{states_le};
-    ghost use Rattle.std.proofs.Common.{arith};
+    ghost use Rattle.state_core.specs.Deep.{states_le};
 
-    ghost size_decreases = { λ a h. Prim.omega (arith, states_le a.all.items) };
+    ghost size_decreases = { λ a h. states_le a.all.items };
 }
 
-impl<'n> Whole<'n> {
-    /// The node as a part of another. `Memory` where a growth was refused.
-    pub fn new(alloc: Global, node: Node<'n>) -> Result<Whole<'n>, Memory>
-        ensures { IfOk result (λ w. w ≡ node_of node.entry) }
+impl<'n> Places<'n> {
+    /// No places. It takes no memory.
+    fn none(alloc: Global) -> Places<'n>
+        ensures { result.0 ≡ [] }
     {
-        let node = Rc::new(alloc, node)?;
-        Ok(Whole { node })
-    }
-
-    /// The node itself.
-    pub fn get(&self) -> &Node<'n>
-        ensures { node_of result.now ≡ self.now }
-    {
-        &self.node
-    }
-
-    /// The new node, in the place of this one where no one else holds it, so that it takes no
-    /// memory. `Memory` where a growth was refused.
-    pub(crate) fn put(&mut self, alloc: Global, new: Node<'n>) -> Result<(), Memory>
-        ensures { OnOk result (self.new ≡ node_of new.entry) }
-    {
-        match Rc::get_mut(&mut self.node) {
-            Some(place) => {
-                drop(std::mem::replace(place, new));
-                Ok(())
-            }
-            None => {
-                let whole = Whole::new(alloc, new)?;
-                drop(std::mem::replace(self, whole));
-                Ok(())
-            }
+        Places {
+            all: Vec::new(alloc),
+            used: 0,
         }
     }
 
-    /// The same node, shared. It takes no memory; `Memory` only where a count of references is
-    /// full.
-    fn try_copy(&self) -> Result<Whole<'n>, Memory>
-        ensures { IfOk result (λ w. w ≡ self.now) }
+    /// How many there are.
+    #[inline(always)]
+    pub fn len(&self) -> usize
+        ensures { result ≡ length self.now.0 }
     {
-        let node = self.node.clone()?;
-        Ok(Whole { node })
+        self.used.min(self.all.len())
+    }
+
+    /// What runs at place i; nothing where there is none.
+    #[inline(always)]
+    pub fn get(&self, i: usize) -> Option<&State<'n>>
+        ensures { MatchOption result (slice_get self.now.0 i ≡ None)
+            (λ a. slice_get self.now.0 i ≡ Some (state_of a.now)) }
+    {
+        if i < self.used { self.all.get(i) } else { None }
+    }
+
+    /// No places any more; their memory stays.
+    #[inline(always)]
+    fn clear(&mut self)
+        ensures { self.new.0 ≡ [] }
+    {
+        self.used = 0;
+    }
+
+    /// A state that is out of use, in whose memory what runs at the next place comes; none that is in
+    /// use is touched.
+    #[inline(always)]
+    pub fn spare(&mut self) -> State<'n>
+        ensures { self.new.0 ≡ self.old.0 }
+    {
+        match self.all.get_mut(self.used) {
+            Some(place) => std::mem::replace(place, State::Nothing),
+            None => State::Nothing,
+        }
+    }
+
+    /// One place more. `Memory` where a growth was refused: the places are as they were then.
+    #[inline(always)]
+    pub fn push(&mut self, state: State<'n>) -> Result<(), Memory>
+        ensures { IfOk result (λ _. self.new.0 ≡ self.old.0 ++ state_of state.entry ∷ []) }
+    {
+        match self.all.get_mut(self.used) {
+            Some(place) => drop(std::mem::replace(place, state)),
+            None => self.all.push(state)?,
+        }
+        self.used = self.used.saturating_add(1);
+        Ok(())
+    }
+
+    /// Nothing stands behind the places in use any more.
+    #[inline(always)]
+    fn end(&mut self)
+        ensures { self.new.0 ≡ self.old.0 }
+    {
+        if self.used < self.all.len() {
+            self.all.truncate(self.used);
+        }
     }
 }
 
-impl<'n> States<'n> {
-    /// The states as those of members, in order.
-    pub fn new(all: Vec<State<'n>>) -> States<'n>
-        ensures { result ≡ states_of all.entry.items }
+impl<'n> Kept<'n> {
+    /// Nothing kept. It takes no memory.
+    fn none(alloc: Global) -> Kept<'n>
+        ensures { kept_of result ≡ nothing }
     {
-        States { all }
+        Kept {
+            cells: Cells::none(alloc),
+            places: Places::none(alloc),
+        }
     }
 
-    /// The states in order.
-    pub fn as_slice(&self) -> &[State<'n>]
-        ensures { states_of result.now ≡ self.now }
+    /// Nothing kept any more; the memory stays.
+    #[inline(always)]
+    fn clear(&mut self)
+        ensures { kept_of self.new ≡ nothing }
     {
-        self.all.as_slice()
+        self.cells.clear();
+        self.places.clear();
     }
 
-    /// The states in order, in whose place there are none then.
-    pub fn take(&mut self, alloc: Global) -> Vec<State<'n>>
-        ensures taken { states_of result.items ≡ self.old }
-        ensures left { self.new ≡ no_state }
+    /// Lets go of what stands behind what is kept.
+    #[inline(always)]
+    pub fn end(&mut self)
+        ensures { kept_of self.new ≡ kept_of self.old }
     {
-        std::mem::replace(&mut self.all, Vec::new(alloc))
+        self.places.end();
+    }
+}
+
+impl<'n> Running<'n> {
+    /// The network in its scope, which keeps nothing yet. It takes no memory; `Memory` only where a
+    /// count of references is full.
+    pub fn new(alloc: Global, net: &'n Net<LeafId>, env: &Env<'n>) -> Result<Running<'n>, Memory>
+        ensures { IfOk result (λ r. (r.net.now ≡ net.entry.now) × (scope_of r.env ≡ scope_of env.now)
+            × (kept_of r.kept ≡ nothing)) }
+    {
+        let env = env.try_copy()?;
+        let kept = Kept::none(alloc);
+        Ok(Running { net, env, kept })
+    }
+
+    /// The same in the memory of what ran before. `Memory` only where a count of references is full.
+    #[inline(always)]
+    pub fn renew(&mut self, net: &'n Net<LeafId>, env: &Env<'n>) -> Result<(), Memory>
+        ensures { IfOk result (λ _. (self.new.net.now ≡ net.entry.now)
+            × (scope_of self.new.env ≡ scope_of env.now) × (kept_of self.new.kept ≡ nothing)) }
+    {
+        self.net = net;
+        self.kept.clear();
+        self.env.renew(env)
+    }
+}
+
+impl<'n> Whole<'n> {
+    /// What runs.
+    #[inline(always)]
+    pub fn get(&self) -> &Running<'n>
+        ensures { running_of result.now ≡ self.now.0 }
+    {
+        &self.running
+    }
+
+    /// The same, shared. It takes no memory; `Memory` only where a count of references is full.
+    fn try_copy(&self) -> Result<Whole<'n>, Memory>
+        ensures { IfOk result (λ w. w ≡ self.now) }
+    {
+        let running = self.running.clone()?;
+        Ok(Whole { running })
     }
 }
 
 impl<'n> State<'n> {
-    /// A copy, whose parts are shared with it. It takes no memory; `Memory` only where a count of
+    /// What runs, as a state. `Memory` where a growth was refused.
+    pub fn new(alloc: Global, running: Running<'n>) -> Result<State<'n>, Memory>
+        ensures { IfOk result (λ a. state_of a ≡ running_of running.entry) }
+    {
+        let running = Rc::new(alloc, running)?;
+        Ok(State::Whole(Whole { running }))
+    }
+
+    /// A copy, which shares all with it. It takes no memory; `Memory` only where a count of
     /// references is full.
     pub(crate) fn try_copy(&self) -> Result<State<'n>, Memory>
-        ensures { IfOk result (λ s. state_of s ≡ state_of self.now) }
+        ensures { IfOk result (λ a. state_of a ≡ state_of self.now) }
     {
         match self {
-            State::Static(net, kept) => Ok(State::Static(*net, kept.try_copy()?)),
-            State::Whole(whole) => Ok(State::Whole(whole.try_copy()?)),
             State::Nothing => Ok(State::Nothing),
+            State::Whole(whole) => Ok(State::Whole(whole.try_copy()?)),
         }
     }
 }
