@@ -1,18 +1,13 @@
 -- Each part of what runs weighs less than it.
-use Rattle.std.proofs.Common.{◌≡◌, ℕ, suc, sym, ◌+◌, ◌<◌, ◌≤◌, max, List, [], ◌∷◌, ◌++◌, ap, ◌∙◌, arith}
+use Rattle.std.proofs.Common.{◌≡◌, ℕ, ◌+◌, ◌<◌, ◌≤◌, List, [], ◌∷◌, ◌++◌, ap, ◌∙◌, arith}
 use Rattle.sample_core.specs.Datum.{Datum}
-use Rattle.net_syntax.specs.Network.{Network, arr, seq, first, par, loop_pre, i_pre, delay, hold, accum_by, after, repeatedly, time, integral, switch, d_switch, r_switch, k_switch, p_switch, old, map_network}
-use Rattle.net_syntax.specs.NetworkView.{network_of}
-use Rattle.net_syntax.specs.declared.net.Net.{Net}
-use Rattle.net_syntax.specs.declared.net.Net.TheVariants as V
-use Rattle.leaf_table.specs.declared.table.LeafId.{LeafId}
-use Rattle.state_core.specs.RowsView.{rows_in, row_number}
+use Rattle.net_syntax.specs.Network.{Network, arr, seq, first, par, loop_pre, i_pre, delay, hold, accum_by, after, repeatedly, time, integral, switch, d_switch, r_switch, k_switch, p_switch, old}
 use Rattle.net_syntax.specs.Weight.{weight, weights, weight_at, total}
 use Rattle.state_core.specs.State.{State, Scope, Frozen, Frozens, arr_state, seq_state, first_state, par_state, loop_state, cell_state, accum_state, switch_state, d_switch_state, r_switch_state, k_switch_state, p_switch_state, no_frozen, and_frozen, unstarted, paused, push_param, push_old, push_olds, all_unstarted, all_paused}
 use Rattle.step_core.specs.Rank.{rank, ranks, ranks_in, frozen_rank, frozen_ranks}
 use Rattle.step_core.specs.Runs as R
 use Rattle.step_core.specs.Runs.{SeqBy, FirstBy, ParBy, SwitchBy, DSwitchBy, RSwitchBy, KSwitchBy, PSwitchBy, OldBy}
-use Rattle.step_core.proofs.Ranks.{ranks-param, ranks-olds, ranks-unstarted, ranks-paused, rank-in}
+use Rattle.step_core.proofs.Ranks.{ranks-olds, ranks-unstarted, ranks-paused, rank-in}
 
 weight_positive : (net : Network ℕ) (ws : List ℕ) → 1 ≤ weight net ws
 weight_positive (arr e) ws = omega arith
@@ -60,36 +55,11 @@ members_fall fs f gs e =
     let sum : total (frozen_ranks fs) ≡ frozen_rank f + total (frozen_ranks gs) = ap (λ hs. total (frozen_ranks hs)) e in
     (omega (arith, sum), omega (arith, sum, frozen_positive f))
 
-pub seq_within : (w p q : Frozen ℕ) → SeqBy w p q → frozen_rank p + frozen_rank q < frozen_rank w
-seq_within w p q R.seq_new = omega arith
-seq_within w p q R.seq_on = omega arith
-
-pub first_falls : (w p : Frozen ℕ) → FirstBy w p → frozen_rank p < frozen_rank w
-first_falls w p R.first_new = omega arith
-first_falls w p R.first_on = omega arith
-
 pub par_falls : (w : Frozen ℕ) (ms : Frozens ℕ) → ParBy w ms → total (frozen_ranks ms) < frozen_rank w
 par_falls w ms (R.par_new {fs = fs} {s = s}) = let e : total (frozen_ranks (all_unstarted fs s))
     ≡ total (weights fs (ranks_in s)) = ap total (ranks-unstarted fs s) in omega (arith, e)
 par_falls w ms (R.par_on {as' = as'} {d = d}) = let e : total (frozen_ranks (all_paused as' d))
     ≡ total (ranks as') = ap total (ranks-paused as' d) in omega (arith, e)
-
-pub loop_weighs : (n f : Net LeafId) (F : Network LeafId) (c : LeafId) (s : Scope ℕ) → n ≡ V.LoopPre c F → network_of f ≡ F
-    → frozen_rank (unstarted (rows_in f) s) < frozen_rank (unstarted (rows_in n) s)
-loop_weighs n f F c s e p = let sum : weight (rows_in n) (ranks_in s) ≡ suc (weight (rows_in f) (ranks_in s)) =
-    ap (λ z. weight z (ranks_in s)) (ap rows_in e ∙ (λ i. loop_pre (row_number c) (map_network row_number (sym p i)))) in omega (arith, sum)
-
-pub switch_within : (w p : Frozen ℕ) (t : Network ℕ) (s : Scope ℕ) → SwitchBy w p t s → frozen_rank p + weight t (ranks_in s) < frozen_rank w
-switch_within w p t s R.switch_new = omega arith
-switch_within w p t s R.switch_on = omega arith
-
-pub d_switch_within : (w p : Frozen ℕ) (t : Network ℕ) (s : Scope ℕ) → DSwitchBy w p t s → frozen_rank p + weight t (ranks_in s) < frozen_rank w
-d_switch_within w p t s R.d_switch_new = omega arith
-d_switch_within w p t s R.d_switch_on = omega arith
-
-pub r_switch_within : (w p : Frozen ℕ) (t : Network ℕ) (s : Scope ℕ) → RSwitchBy w p t s → max (frozen_rank p) (weight t (ranks_in s)) < frozen_rank w
-r_switch_within w p t s (R.r_switch_new {f = f}) = omega arith
-r_switch_within w p t s (R.r_switch_on {a = a}) = omega arith
 
 pub k_switch_within : (w p q : Frozen ℕ) (t : Network ℕ) (s : Scope ℕ) → KSwitchBy w p q t s
     → frozen_rank p + frozen_rank q + weight t (ranks_in s ++ frozen_rank p ∷ []) < frozen_rank w
@@ -113,11 +83,7 @@ p_switch_within w r ms q t s (R.p_switch_on {as' = as'} {b = b} {d = d}) =
 pub old_falls : (w f : Frozen ℕ) → OldBy w f → frozen_rank f < frozen_rank w
 old_falls w f (R.old_new {k = k} {s = s} e) = let h : frozen_rank f ≡ weight_at (ranks_in s) k = rank-in s k f e in omega (arith, h)
 
--- what takes over weighs as it did in its scope
-pub over_weighs : (t : Network ℕ) (s s' : Scope ℕ) (u : Datum) → s' ≡ push_param s u → frozen_rank (unstarted t s') ≡ weight t (ranks_in s)
-over_weighs t s s' u e = ap (λ z. weight t z) (ap ranks_in e ∙ ranks-param s u)
-
--- and with what is frozen before it
+-- what takes over weighs as it did in its scope, with what is frozen before it
 pub over_old_weighs : (t : Network ℕ) (s s' : Scope ℕ) (u : Datum) (p : Frozen ℕ) → s' ≡ push_old (push_param s u) p → frozen_rank (unstarted t s')
     ≡ weight t (ranks_in s ++ frozen_rank p ∷ [])
 over_old_weighs t s s' u p e = ap (λ z. weight t z) (ap ranks_in e ∙ ranks-olds s u (and_frozen p no_frozen))

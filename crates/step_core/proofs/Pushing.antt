@@ -1,5 +1,5 @@
 -- What a push answers is the next output of the network's stream, and the runner stands for one sample more.
-use Rattle.std.proofs.Common.{◌≡◌, ℕ, suc, ◌≤◌, List, [], ◌∷◌, ◌++◌, Option, Some, None, length, refl, sym, ap, ◌∙◌, subst, arith, length-append, add-one}
+use Rattle.std.proofs.Common.{◌≡◌, ℕ, suc, ◌≤◌, List, [], ◌∷◌, ◌++◌, Option, Some, None, Bor, option_copied, length, refl, sym, ap, ◌∙◌, subst, arith, length-append, add-one}
 use Rattle.std.proofs.Math.Logic.{∥∥₁_map}
 use Rattle.sample_core.specs.Datum.{Datum}
 use Rattle.sample_core.specs.TypeTree.{TypeTree}
@@ -22,6 +22,9 @@ use Rattle.step_core.specs.RowTyping.{row_expression}
 use Rattle.step_core.specs.RunnerState.{RunnerState, network_in, HasState, StandsAfter, StandsFor, HasPast, Pushes}
 use Rattle.step_core.specs.Runs.{Ran, RunsWhere}
 use Rattle.step_core.specs.StateTyping.{FrozenTyped, unstarted_typed, paused_typed, row_value}
+use Rattle.state_core.specs.StateView.{state_of, frozen_from}
+use Rattle.state_core.specs.declared.state.State.{State as CodeState}
+use Rattle.step_core.specs.StateOption.{state_in}
 use Rattle.step_core.specs.Stepping as G
 use Rattle.step_core.specs.Stepping.{Resumes, Starts, Steps}
 use Rattle.step_core.proofs.EnvironmentBounds.{IsCount-visited}
@@ -156,3 +159,10 @@ pushed_as r x y y' a m m' n s e k v w one =
     subst (λ o. Pushes r x y' (record { input = r.input; keys = r.keys; rows = r.rows; state = o; samples = n; visits = m' })) (sym e)
     (subst (λ o. Pushes r x y' (record { input = r.input; keys = r.keys; rows = r.rows; state = Some a; samples = o; visits = m' })) (sym k)
     (subst (λ o. Pushes r x y' (later r a o)) (sym v) (subst (λ o. Pushes r x o (later r a m)) (sym w) one)))
+
+-- the first sample, or a further one, by the state that was found
+pub pushed_from : (r : RunnerState) (x : ℕ × Datum) (y : Datum) (a : State ℕ) (m : ℕ) (rows : Network ℕ) (s : Scope ℕ) (o : Option (Bor CodeState))
+    → r.state ≡ state_in (option_copied o) → HasType x.1 r.input → rows ≡ r.rows → s ≡ scope [] no_frozen
+    → RunsWhere r.keys (frozen_from rows s o x.0) x.1 a y m → Pushes r x y (later r a m)
+pushed_from r x y a m rows s None none t same empty runs = first_pushed_from r x y a m rows s none t same empty runs
+pushed_from r x y a m rows s (Some b) some t same empty runs = next_pushed r x y (state_of b.now) a m some t runs

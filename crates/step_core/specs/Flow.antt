@@ -1,78 +1,99 @@
--- What one sample does to a network without switches, whose cells stand in one list.
-use Rattle.std.specs.Prelude.{◌≡◌, ℕ, List, [], ◌++◌, ◌∷◌, Option, Some, None, length, drop, slice_get}
+-- What one sample does to a network that keeps cells and places in lists.
+use Rattle.std.specs.Prelude.{◌≡◌, ℕ, List, [], ◌++◌, ◌∷◌, Option, Some, None, length, slice_get}
 use Rattle.std.proofs.Common.{Bor}
 use Rattle.sample_core.specs.Datum.{Datum, unit, pair}
 use Rattle.leaf_core.specs.KeyTree.{KeyTree}
 use Rattle.leaf_table.specs.declared.table.LeafId.{LeafId}
-use Rattle.net_syntax.specs.Network.{Network, Networks, i_pre, delay, hold, after, repeatedly, time, integral, no_members, and_member}
-use Rattle.net_syntax.specs.Weight.{weight, weights, total}
+use Rattle.net_syntax.specs.Network.{Network, Networks, i_pre, delay, hold, after, repeatedly, time, integral}
+use Rattle.net_syntax.specs.Typing.{members}
 use Rattle.cell_core.specs.Cell.{Cell, previous, accumulator_of}
 use Rattle.cell_core.specs.declared.form.Form.{Form}
 use Rattle.cell_core.specs.declared.form.Form.TheVariants as F
 use Rattle.state_core.specs.RowsView.{row_number}
-use Rattle.state_core.specs.State.{Scope, Frozen, Frozens, accum_state, unstarted, paused, no_frozen, and_frozen, params_of}
-use Rattle.state_core.specs.StaticNetwork.{Counts, cell_count, cells_count, static_state, static_states}
+use Rattle.state_core.specs.State.{State, Scope, Frozen, Frozens, accum_state, unstarted, paused, all_unstarted, all_paused, params_of}
+use Rattle.state_core.specs.StateView.{kept_of}
+use Rattle.state_core.specs.Tree.{Kept, Width, width_of, width, widths, behind, joined, one_place, head_state, tree, trees, member_states, running}
+use Rattle.state_core.specs.declared.state.Kept.{Kept as CodeKept}
 use Rattle.step_core.specs.Called.{Called}
-use Rattle.step_core.specs.Outcome.{nothing_yet}
-use Rattle.step_core.specs.Runs.{RunsWhere, RunEachWhere, to_all}
+use Rattle.step_core.specs.Runs.{RunsWhere, RunEachWhere, to_all, by_row}
 
--- nothing before the first sample, then the cells and the step of the next sample
+-- nothing before the first sample, then what was kept and the step of the next sample
 abbrev pub Past : Type 0
-Past = Option (List Cell × ℕ)
-
--- the past without its first n cells
-abbrev pub behind : ℕ → Past → Past
-behind n None = None
-behind n (Some p) = Some (drop n p.0, p.1)
-
--- what is frozen is this network with these parameters and this past
-pub data IsFlow : Frozen ℕ → Network ℕ → List Datum → Past → Type 0 where
-  flow_new : {net : Network ℕ} {s : Scope ℕ} → IsFlow (unstarted net s) net (params_of s) None
-  flow_on : {net : Network ℕ} {ps : List Datum} {ks : List Cell} {d : ℕ}
-      → IsFlow (paused (static_state net ps ks) d) net ps (Some (ks, d))
-
--- the same of members, one behind the other
-pub data AreFlows : Frozens ℕ → Networks ℕ → List Datum → Past → Type 0 where
-  no_flows : {ps : List Datum} {p : Past} → AreFlows no_frozen no_members ps p
-  and_flow : {w : Frozen ℕ} {ws : Frozens ℕ} {f : Network ℕ} {fs : Networks ℕ} {ps : List Datum}
-      {p : Past}
-      → IsFlow w f ps p → AreFlows ws fs ps (behind (cell_count f) p)
-      → AreFlows (and_frozen w ws) (and_member f fs) ps p
-
--- the sample x flowed through the network, y came out, and its new cells were added
-pub record Flows (keys : List KeyTree) (net : Network ℕ) (ps : List Datum) (p : Past) (x : Datum)
-    (before now : List Cell) (y : Datum) : Type 0 where
-  pub cells : List Cell
-  pub added : now ≡ before ++ cells
-  pub is_count : length cells ≡ cell_count net
-  pub runs : (w : Frozen ℕ) → IsFlow w net ps (behind (length before) p)
-      → RunsWhere keys w x (static_state net ps cells) y (weight net [])
-
--- the sample x flowed through the whole network, which now keeps these cells, and y came out
-abbrev pub FlowsThrough : List KeyTree → Network ℕ → List Datum → Past → Datum → List Cell → Datum
-    → Type 0
-FlowsThrough keys net ps p x ks y = (w : Frozen ℕ) (n : ℕ) → IsFlow w net ps p → Counts net n
-    → RunsWhere keys w x (static_state net ps ks) y n
-
--- the sample x flowed through all members, their answers and their new cells were added
-pub record AllFlow (keys : List KeyTree) (fs : Networks ℕ) (ps : List Datum) (p : Past) (x : Datum)
-    (before now : List Cell) (ys zs : List Datum) : Type 0 where
-  pub cells : List Cell
-  pub answers : List Datum
-  pub added : now ≡ before ++ cells
-  pub answered : zs ≡ ys ++ answers
-  pub is_count : length cells ≡ cells_count fs
-  pub runs : (ws : Frozens ℕ) (i : ℕ) → AreFlows ws fs ps (behind (length before) p)
-      → RunEachWhere keys to_all i ws x nothing_yet (record {
-        states = static_states fs ps cells;
-        answers = answers;
-        visits = total (weights fs []);
-      })
+Past = Option (Kept ℕ × ℕ)
 
 -- what the code's past is
-abbrev pub past_in : Option (Bor (List Cell)) → ℕ → Past
-past_in (Some ks) d = Some (ks.now, d)
+abbrev pub past_in : Option (Bor CodeKept) → ℕ → Past
+past_in (Some k) d = Some (kept_of k.now, d)
 past_in None d = None
+
+-- the past behind that much of what was kept
+abbrev pub past_behind : Width → Past → Past
+past_behind w None = None
+past_behind w (Some p) = Some (behind w p.0, p.1)
+
+-- a network with this past, as one of the nodes of a network
+abbrev pub flowed : Network ℕ → Scope ℕ → Past → Frozen ℕ
+flowed net s None = unstarted net s
+flowed net s (Some p) = paused (tree net s p.0) p.1
+
+-- the same of members
+abbrev pub all_flowed : Networks ℕ → Scope ℕ → Past → Frozens ℕ
+all_flowed fs s None = all_unstarted fs s
+all_flowed fs s (Some p) = all_paused (trees fs s p.0) p.1
+
+-- a network with this past, where it runs at a place of its own
+abbrev pub standing : Network ℕ → Scope ℕ → Past → Frozen ℕ
+standing net s None = unstarted net s
+standing net s (Some p) = paused (running net s p.0) p.1
+
+-- what runs at the first place: the network, or what it has become
+abbrev pub placed : Network ℕ → Scope ℕ → Past → Frozen ℕ
+placed net s None = unstarted net s
+placed net s (Some p) = paused (head_state p.0.1) p.1
+
+-- the same of members, a place each
+abbrev pub all_placed : Networks ℕ → Scope ℕ → Past → Frozens ℕ
+all_placed fs s None = all_unstarted fs s
+all_placed fs s (Some p) = all_paused (member_states fs p.0.1) p.1
+
+-- the sample x flowed through the network, y came out, what it keeps was added, and n nodes were
+-- visited
+pub record Flows (keys : List KeyTree) (net : Network ℕ) (s : Scope ℕ) (p : Past) (x : Datum)
+    (before now : Kept ℕ) (y : Datum) (n : ℕ) : Type 0 where
+  pub kept : Kept ℕ
+  pub added : now ≡ joined before kept
+  pub is_width : width_of kept ≡ width net
+  pub runs : RunsWhere keys (flowed net s (past_behind (width_of before) p)) x (tree net s kept) y n
+
+-- the sample x flowed through all members, and their answers were added too
+pub record AllFlow (keys : List KeyTree) (fs : Networks ℕ) (s : Scope ℕ) (p : Past) (x : Datum)
+    (before now : Kept ℕ) (ys zs : List Datum) (n : ℕ) : Type 0 where
+  pub kept : Kept ℕ
+  pub answers : List Datum
+  pub added : now ≡ joined before kept
+  pub answered : zs ≡ ys ++ answers
+  pub is_width : width_of kept ≡ widths fs
+  pub runs : (i : ℕ) → RunEachWhere keys to_all i (all_flowed fs s (past_behind (width_of before) p))
+      x (trees fs s kept) answers n
+
+-- what runs at the next place ran on x, y came out, and n nodes were visited
+pub record Runs (keys : List KeyTree) (w : Frozen ℕ) (x : Datum) (before now : Kept ℕ) (y : Datum)
+    (n : ℕ) : Type 0 where
+  pub state : State ℕ
+  pub added : now ≡ joined before (one_place state)
+  pub runs : RunsWhere keys w x state y n
+
+-- the members from i on, a place each, ran on what row r makes of the sample, and their answers were
+-- added
+pub record AllRun (keys : List KeyTree) (r : ℕ) (fs : Networks ℕ) (s : Scope ℕ) (p : Past) (i : ℕ)
+    (x : Datum) (before now : Kept ℕ) (ys zs : List Datum) (n : ℕ) : Type 0 where
+  pub states : List (State ℕ)
+  pub answers : List Datum
+  pub added : now ≡ joined before ([], states)
+  pub answered : zs ≡ ys ++ answers
+  pub is_count : length states ≡ members fs
+  pub runs : RunEachWhere keys (by_row r (params_of s)) i
+      (all_placed fs s (past_behind (width_of before) p)) x (member_states fs states) answers n
 
 -- the network is a cell of this form, with the row of its constant, if it has one
 pub data IsCell : Network ℕ → Form → Option ℕ → Type 0 where
@@ -87,7 +108,7 @@ pub data IsCell : Network ℕ → Form → Option ℕ → Type 0 where
 -- v is what a `loopPre` feeds back: what its cell keeps, at the first sample what row c answers
 abbrev pub IsKept : List KeyTree → ℕ → List Datum → Past → ℕ → Datum → Type 0
 IsKept keys c ps None i v = Called keys c ps unit v
-IsKept keys c ps (Some p) i v = slice_get p.0 i ≡ Some (previous v)
+IsKept keys c ps (Some p) i v = slice_get p.0.0 i ≡ Some (previous v)
 
 -- y is the pair of x and what is fed back, which is the next cell
 abbrev pub IsFedBack : List KeyTree → ℕ → List Datum → Past → Datum → List Cell → List Cell

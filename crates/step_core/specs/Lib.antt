@@ -9,9 +9,7 @@ pub mod Called
 pub mod Runs
 pub mod Outcome
 pub mod Flow
-pub mod Joined
-pub mod SourceView
-pub mod Handed
+pub mod Switching
 pub mod EventView
 pub mod Lookup
 pub mod Lowering

@@ -33,7 +33,3 @@ pub record RowTyped (keys : List KeyTree) (k : ℕ) (Ps : List TypeTree) (A B : 
 -- for the types at its place
 abbrev pub RowsTyped : List KeyTree → Network ℕ → TypeTree → TypeTree → Type 0
 RowsTyped keys rows A B = Typed (RowTyped keys) AnyType [] [] rows A B
-
--- each row that the network names is there, and kept for the types at its place
-abbrev pub FitsRows : List KeyTree → Network ℕ → Type 0
-FitsRows keys rows = ∥ ((A : TypeTree) × (B : TypeTree) × RowsTyped keys rows A B) ∥₁

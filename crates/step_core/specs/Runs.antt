@@ -1,6 +1,6 @@
 -- What one sample does to a network that has not started, or to a state, over the rows of a table.
-use Rattle.std.specs.Prelude.{◌≡◌, ℕ, suc, ◌+◌, ◌<◌, ◌≤◌, ◌^◌, List, [], ◌∷◌, ◌++◌, Some}
-use Rattle.sample_core.specs.Datum.{Datum, unit}
+use Rattle.std.specs.Prelude.{◌≡◌, ℕ, suc, ◌+◌, ◌<◌, ◌≤◌, ◌^◌, pos, List, [], ◌∷◌, Some}
+use Rattle.sample_core.specs.Datum.{Datum, unit, pair, int}
 use Rattle.sample_core.specs.TypeTree.{TypeTree, int_ty, pair_ty}
 use Rattle.sample_core.specs.HasType.{HasType, TypedParams}
 use Rattle.leaf_core.specs.KeyTree.{KeyTree}
@@ -100,28 +100,12 @@ pub data RunsEach (keys : List KeyTree) (h : ℕ → Datum → Datum) (x : Datum
       Resumes (row_value keys) f (h i x) a y m → RunsEach keys h x (suc i) fs as' ys n
       → RunsEach keys h x i (and_frozen f fs) (and_state a as') (y ∷ ys) (m + n)
 
--- what members led to: their states, their answers and how many nodes they visited
-pub record Gathered : Type 0 where
-  pub states : States ℕ
-  pub answers : List Datum
-  pub visits : ℕ
-
--- the states of members behind those of others
-abbrev pub append_states : States ℕ → States ℕ → States ℕ
-append_states no_state bs = bs
-append_states (and_state a as') bs = and_state a (append_states as' bs)
-
--- what the members led to was added
+-- from these the sample leads to these states and these answers, and so many nodes are visited
 pub record RanEach (keys : List KeyTree) (h : ℕ → Datum → Datum) (x : Datum) (i : ℕ)
-    (fs : Frozens ℕ)
-    (before now : Gathered) : Type 0 where
-  pub states : States ℕ
-  pub answers : List Datum
+    (fs : Frozens ℕ) (as' : States ℕ) (ys : List Datum) (counted : ℕ) : Type 0 where
   pub visits : ℕ
-  pub runs : RunsEach keys h x i fs states answers visits
-  pub states_added : now.states ≡ append_states before.states states
-  pub answers_added : now.answers ≡ before.answers ++ answers
-  pub visits_added : before.visits + visits < 2 ^ 32 → now.visits ≡ before.visits + visits
+  pub runs : RunsEach keys h x i fs as' ys visits
+  pub is_count : visits < 2 ^ 32 → counted ≡ visits
 
 -- what is handed to member i: the sample itself, or what row r makes of the sample and i
 pub data Router : Type 0 where
@@ -139,9 +123,14 @@ HandsOut keys to_all A D = A ≡ D
 HandsOut keys (by_row r ps) A D = (Ps : List TypeTree) × RowTyped keys r Ps (pair_ty A int_ty) D
     × TypedParams Ps ps
 
+-- y is what member i is handed
+abbrev pub IsRouted : List KeyTree → Router → ℕ → Datum → Datum → Type 0
+IsRouted keys to_all i x y = y ≡ x
+IsRouted keys (by_row r ps) i x y = Called keys r ps (pair x (int (pos i))) y
+
 -- the same wherever they are typed, up to member 64
-abbrev pub RunEachWhere : List KeyTree → Router → ℕ → Frozens ℕ → Datum → Gathered → Gathered
+abbrev pub RunEachWhere : List KeyTree → Router → ℕ → Frozens ℕ → Datum → States ℕ → List Datum → ℕ
     → Type 0
-RunEachWhere keys h i fs x before now = (k : ℕ) (A D B : TypeTree) → HandsOut keys h A D
+RunEachWhere keys h i fs x as' ys n = (k : ℕ) (A D B : TypeTree) → HandsOut keys h A D
     → i + k ≤ 64 → FrozensTyped keys fs (copies k (arrow D B)) → HasType x A
-    → RanEach keys (handed keys h) x i fs before now
+    → RanEach keys (handed keys h) x i fs as' ys n

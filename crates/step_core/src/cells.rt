@@ -2,13 +2,14 @@
 
 ghost use Rattle.std.specs.Prelude.{◌≡◌, ℕ, IfOk, IsTrue, map};
 ghost use Rattle.sample_core.specs.{Datum.event, ValueView.datum_of};
-ghost use Rattle.cell_core.specs.{Cell.accumulating, Cell.accumulator_of, CellView.cell_of, Start.IsWithin};
+ghost use Rattle.cell_core.specs.{Cell.accumulator_of, CellView.cell_of, Start.IsWithin};
 ghost use Rattle.net_syntax.specs.Network.{Network, accum_by};
 ghost use Rattle.state_core.specs.RowsView.{row_number};
 ghost use Rattle.state_core.specs.State.{Scope, accum_state, cell_state, params_of, unstarted};
 ghost use Rattle.step_core.specs.{Called.IsConstant, Called.IsPutIn, Flow.IsAccumAdded, Flow.IsCell, Flow.number_of};
 ghost use Rattle.step_core.specs.Runs.{RunsWhere};
 
+use crate::on::On;
 use crate::rows::Rows;
 use cell_core::{Cell, Form};
 use leaf_table::LeafId;
@@ -66,24 +67,22 @@ fn constant_value<R: Rows>(
 /// The cell of an `accumBy` after its first sample, and its answer.
 #[inline(never)]
 pub(crate) fn start_accum<R: Rows>(
-    alloc: Global,
-    rows: &R,
+    on: &On<'_, '_, R>,
     g: LeafId,
     z: LeafId,
-    params: &[Sample],
     x: &Sample,
 ) -> Result<(Cell, Sample), Memory>
-    ensures { IfOk result (λ r. (s : Scope ℕ) → params_of s ≡ map datum_of params.now
-        → RunsWhere (R.keys rows.now) (unstarted (accum_by (row_number g) (row_number z)) s)
+    ensures { IfOk result (λ r. (s : Scope ℕ) → params_of s ≡ on.now.env.now.params
+        → RunsWhere (R.keys on.now.rows.now) (unstarted (accum_by (row_number g) (row_number z)) s)
         (datum_of x.now)
-        (accum_state (row_number g) (map datum_of params.now) (accumulator_of (cell_of r.0)))
+        (accum_state (row_number g) on.now.env.now.params (accumulator_of (cell_of r.0)))
         (datum_of r.1) 1) }
 {
-    let value = rows.call(z, params, &Sample::Unit)?;
+    let value = on.rows.call(z, on.params(), &Sample::Unit)?;
     match x {
-        Sample::Event(event) => match put_event(alloc, rows, g, params, &value, event.get()) {
+        Sample::Event(event) => match put_event(on, g, &value, event.get()) {
             Ok(input) => {
-                let first = Cell::start(alloc, Form::AccumBy, value, &input);
+                let first = Cell::start(on.alloc, Form::AccumBy, value, &input);
                 drop(input);
                 first
             }
@@ -92,7 +91,7 @@ pub(crate) fn start_accum<R: Rows>(
                 Err(memory)
             }
         },
-        _ => Cell::start(alloc, Form::AccumBy, value, x),
+        _ => Cell::start(on.alloc, Form::AccumBy, value, x),
     }
 }
 
@@ -100,69 +99,44 @@ pub(crate) fn start_accum<R: Rows>(
 /// after it is one cell more.
 #[inline(always)]
 pub(crate) fn step_accum<R: Rows>(
-    alloc: Global,
-    rows: &R,
+    on: &On<'_, '_, R>,
     g: LeafId,
-    params: &[Sample],
     cell: &Cell,
     x: &Sample,
     cells: &mut Cells,
     out: &mut Sample,
 ) -> Result<(), Memory>
-    ensures { IfOk result (λ _. IsAccumAdded (R.keys rows.now) (row_number g)
-        (map datum_of params.now) (accumulator_of (cell_of cell.now)) (datum_of x.now) cells.old
+    ensures { IfOk result (λ _. IsAccumAdded (R.keys on.now.rows.now) (row_number g)
+        on.now.env.now.params (accumulator_of (cell_of cell.now)) (datum_of x.now) cells.old
         cells.new (datum_of out.new)) }
 {
     match cell.accumulator() {
         Some(held) => match x {
             Sample::Event(value) => {
-                step_event(alloc, rows, g, params, cell, held, value.get(), cells, out)
+                let input = put_event(on, g, held, value.get())?;
+                let done = cells.push_step(on.alloc, cell, 0, &input, out);
+                drop(input);
+                done
             }
-            _ => cells.push_step(alloc, cell, 0, x, out),
+            _ => cells.push_step(on.alloc, cell, 0, x, out),
         },
         None => Err(Memory),
     }
 }
 
-/// The same of an event with that value, where the accumulator is `held`.
-#[inline(never)]
-fn step_event<R: Rows>(
-    alloc: Global,
-    rows: &R,
-    g: LeafId,
-    params: &[Sample],
-    cell: &Cell,
-    held: &Sample,
-    value: &Sample,
-    cells: &mut Cells,
-    out: &mut Sample,
-) -> Result<(), Memory>
-    requires { cell_of cell.now ≡ accumulating (datum_of held.now) }
-    ensures { IfOk result (λ _. IsAccumAdded (R.keys rows.now) (row_number g)
-        (map datum_of params.now) (accumulator_of (cell_of cell.now))
-        (event (datum_of value.now)) cells.old cells.new (datum_of out.new)) }
-{
-    let input = put_event(alloc, rows, g, params, held, value)?;
-    let done = cells.push_step(alloc, cell, 0, &input, out);
-    drop(input);
-    done
-}
-
 /// The event of what the row answers to the pair of the accumulator and an event's value.
 fn put_event<R: Rows>(
-    alloc: Global,
-    rows: &R,
+    on: &On<'_, '_, R>,
     g: LeafId,
-    params: &[Sample],
     held: &Sample,
     value: &Sample,
 ) -> Result<Sample, Memory>
-    ensures { IfOk result (λ a. IsPutIn (R.keys rows.now) (row_number g)
-        (map datum_of params.now) (datum_of held.now) (event (datum_of value.now)) (datum_of a)) }
+    ensures { IfOk result (λ a. IsPutIn (R.keys on.now.rows.now) (row_number g)
+        on.now.env.now.params (datum_of held.now) (event (datum_of value.now)) (datum_of a)) }
 {
-    let input = rows.pair(alloc, held, value)?;
-    let answer = rows.call(g, params, &input);
-    rows.give_back(input);
-    let event = SampleChild::new(alloc, answer?)?;
+    let input = on.rows.pair(on.alloc, held, value)?;
+    let answer = on.rows.call(g, on.params(), &input);
+    on.rows.give_back(input);
+    let event = SampleChild::new(on.alloc, answer?)?;
     Ok(Sample::Event(event))
 }

@@ -1,19 +1,21 @@
 // What takes over from a switch.
 
-ghost use Rattle.std.specs.Prelude.{◌≡◌, ◌++◌, IfOk};
+ghost use Rattle.std.specs.Prelude.{◌≡◌, IfOk, length};
 ghost use Rattle.sample_core.specs.ValueView.{datum_of};
 ghost use Rattle.net_syntax.specs.{Network.map_networks, NetworkView.members_of};
-ghost use Rattle.state_core.specs.RowsView.{row_number};
-ghost use Rattle.state_core.specs.State.{all_unstarted, all_paused, push_param as with_param};
-ghost use Rattle.state_core.specs.StateView.{scope_of, states_of, frozen_of, frozens_in};
-ghost use Rattle.step_core.specs.{Joined.Fires, Joined.with_stopped, SourceView.source_of, SourceView.sources_of};
+ghost use Rattle.state_core.specs.RowsView.{rows_in, row_number};
+ghost use Rattle.state_core.specs.State.{append_frozens, push_param as with_param, push_old as with_old, push_olds as with_olds};
+ghost use Rattle.state_core.specs.StateView.{scope_of, frozen_of, frozens_in};
+ghost use Rattle.step_core.specs.Flow.{all_placed, past_behind, past_in, placed};
+ghost use Rattle.step_core.specs.Switching.{Fires};
 
+use crate::on::On;
 use crate::part::event_of;
-use crate::source::{Source, Sources};
+use crate::rows::Rows;
 use leaf_table::LeafId;
 use net_syntax::Net;
 use sample_core::{Memory, Sample};
-use state_core::{Env, Frozen, State, freeze, pause, push_old, push_olds, push_param};
+use state_core::{Env, Frozen, freeze, pause, push_old, push_olds, push_param};
 use std::alloc::Global;
 
 /// The scope of what takes over, with an event's value as a further parameter; nothing where what
@@ -34,28 +36,21 @@ pub(crate) fn fire<'n>(
     }
 }
 
-/// What a network takes over from, as it was before the sample: one that ran, or all members.
-#[derive(Clone, Copy)]
-pub(crate) enum Stopped<'s, 'n> {
-    One(Source<'s, 'n>),
-    All(Sources<'s, 'n>),
-}
-
-/// The same, with what ran frozen.
-#[inline(always)]
-pub(crate) fn fire_old<'n>(
-    alloc: Global,
+/// The same, with the part at the first place frozen as it was before the sample.
+#[inline(never)]
+pub(crate) fn fire_one<'n, R: Rows>(
+    on: &On<'_, 'n, R>,
     seen: &Sample,
-    env: &Env<'n>,
-    stopped: Stopped<'_, 'n>,
-    dt: u64,
+    f: &'n Net<LeafId>,
 ) -> Result<Option<Env<'n>>, Memory>
     ensures { IfOk result (λ e. Fires (datum_of seen.now)
-        (λ u. with_stopped (with_param (scope_of env.now) u) stopped.entry dt) e) }
+        (λ u. with_old (with_param (scope_of on.now.env.now) u)
+        (placed (rows_in f.entry.now) (scope_of on.now.env.now)
+        (past_in on.now.before on.now.dt))) e) }
 {
-    match fire(alloc, seen, env)? {
+    match fire(on.alloc, seen, on.env)? {
         Some(fired) => {
-            let inner = with_frozen(alloc, &fired, stopped, dt);
+            let inner = with_frozen(on, &fired, f);
             drop(fired);
             Ok(Some(inner?))
         }
@@ -63,86 +58,105 @@ pub(crate) fn fire_old<'n>(
     }
 }
 
-/// The scope with what ran frozen.
+/// The same, with all members frozen.
 #[inline(never)]
-fn with_frozen<'n>(
-    alloc: Global,
+pub(crate) fn fire_all<'n, R: Rows>(
+    on: &On<'_, 'n, R>,
+    seen: &Sample,
+    members: &'n [Net<LeafId>],
+) -> Result<Option<Env<'n>>, Memory>
+    ensures { IfOk result (λ e. Fires (datum_of seen.now)
+        (λ u. with_olds (with_param (scope_of on.now.env.now) u)
+        (all_placed (map_networks row_number (members_of members.entry.now))
+        (scope_of on.now.env.now) (past_in on.now.before on.now.dt))) e) }
+{
+    match fire(on.alloc, seen, on.env)? {
+        Some(fired) => {
+            let inner = with_all_frozen(on, &fired, members);
+            drop(fired);
+            Ok(Some(inner?))
+        }
+        None => Ok(None),
+    }
+}
+
+/// The scope with what ran at the first place frozen in it.
+fn with_frozen<'n, R: Rows>(
+    on: &On<'_, 'n, R>,
     env: &Env<'n>,
-    stopped: Stopped<'_, 'n>,
-    dt: u64,
+    f: &'n Net<LeafId>,
 ) -> Result<Env<'n>, Memory>
-    ensures { IfOk result (λ e. scope_of e ≡ with_stopped (scope_of env.now) stopped.entry dt) }
+    ensures { IfOk result (λ e. scope_of e ≡ with_old (scope_of env.now)
+        (placed (rows_in f.entry.now) (scope_of on.now.env.now)
+        (past_in on.now.before on.now.dt))) }
 {
-    match stopped {
-        Stopped::One(from) => {
-            let frozen = frozen_source(alloc, from, dt)?;
-            let inner = push_old(alloc, env, &frozen);
-            drop(frozen);
-            inner
-        }
-        Stopped::All(members) => {
-            let frozen = frozen_sources(alloc, members, dt)?;
-            let inner = push_olds(alloc, env, frozen.as_slice());
-            drop(frozen);
-            inner
-        }
-    }
+    let frozen = frozen_at(on, 0, f)?;
+    let inner = push_old(on.alloc, env, &frozen);
+    drop(frozen);
+    inner
 }
 
-/// What runs, frozen as it was before the sample, with the sample's step.
-fn frozen_source<'n>(alloc: Global, from: Source<'_, 'n>, dt: u64) -> Result<Frozen<'n>, Memory>
-    ensures { IfOk result (λ f. frozen_of f ≡ source_of from.entry dt) }
-{
-    match from {
-        Source::Net(net, env) => freeze(alloc, net, env, None, dt),
-        Source::State(state) => pause(alloc, state, dt),
-    }
-}
-
-/// The same of members.
-fn frozen_sources<'n>(
-    alloc: Global,
-    members: Sources<'_, 'n>,
-    dt: u64,
-) -> Result<Vec<Frozen<'n>>, Memory>
-    ensures { IfOk result (λ all. frozens_in all.items ≡ sources_of members.entry dt) }
-{
-    match members {
-        Sources::Nets(nets, env) => frozen_nets(alloc, nets, env, dt),
-        Sources::States(states) => frozen_states(alloc, states, dt),
-    }
-}
-
-/// Members that have not started, frozen.
-fn frozen_nets<'n>(
-    alloc: Global,
-    nets: &'n [Net<LeafId>],
+/// The same with all members.
+fn with_all_frozen<'n, R: Rows>(
+    on: &On<'_, 'n, R>,
     env: &Env<'n>,
-    dt: u64,
-) -> Result<Vec<Frozen<'n>>, Memory>
-    ensures { IfOk result (λ all. frozens_in all.items
-        ≡ all_unstarted (map_networks row_number (members_of nets.entry.now)) (scope_of env.now)) }
+    members: &'n [Net<LeafId>],
+) -> Result<Env<'n>, Memory>
+    ensures { IfOk result (λ e. scope_of e ≡ with_olds (scope_of env.now)
+        (all_placed (map_networks row_number (members_of members.entry.now))
+        (scope_of on.now.env.now) (past_in on.now.before on.now.dt))) }
 {
-    let mut all = Vec::with_capacity(alloc, nets.len())?;
-    for net in nets {
-        let frozen = freeze(alloc, net, env, None, dt)?;
-        all.push(frozen)?;
+    let mut frozen = Vec::with_capacity(on.alloc, members.len())?;
+    match freeze_from(on, members, &mut frozen) {
+        Ok(()) => {
+            let inner = push_olds(on.alloc, env, frozen.as_slice());
+            drop(frozen);
+            inner
+        }
+        Err(memory) => {
+            drop(frozen);
+            Err(memory)
+        }
     }
-    Ok(all)
 }
 
-/// Members' states, paused.
-fn frozen_states<'n>(
-    alloc: Global,
-    states: &[State<'n>],
-    dt: u64,
-) -> Result<Vec<Frozen<'n>>, Memory>
-    ensures { IfOk result (λ all. frozens_in all.items ≡ all_paused (states_of states.now) dt) }
+/// Adds the members that ran at the places behind those of as many as were frozen, frozen too.
+fn freeze_from<'n, R: Rows>(
+    on: &On<'_, 'n, R>,
+    members: &'n [Net<LeafId>],
+    frozen: &mut Vec<Frozen<'n>>,
+) -> Result<(), Memory>
+    ensures { IfOk result (λ _. frozens_in frozen.new.items
+        ≡ append_frozens (frozens_in frozen.old.items)
+        (all_placed (map_networks row_number (members_of members.entry.now))
+        (scope_of on.now.env.now)
+        (past_behind (0, length frozen.old.items) (past_in on.now.before on.now.dt)))) }
 {
-    let mut all = Vec::with_capacity(alloc, states.len())?;
-    for state in states {
-        let frozen = pause(alloc, state, dt)?;
-        all.push(frozen)?;
+    match members.split_first() {
+        Some((f, rest)) => {
+            let one = frozen_at(on, frozen.len(), f)?;
+            frozen.push(one)?;
+            freeze_from(on, rest, frozen)
+        }
+        None => Ok(()),
     }
-    Ok(all)
+}
+
+/// What ran at place `at`, frozen as it was before the sample, with the sample's step; before the
+/// first sample the network, in its scope.
+fn frozen_at<'n, R: Rows>(
+    on: &On<'_, 'n, R>,
+    at: usize,
+    net: &'n Net<LeafId>,
+) -> Result<Frozen<'n>, Memory>
+    ensures { IfOk result (λ f. frozen_of f ≡ placed (rows_in net.entry.now)
+        (scope_of on.now.env.now) (past_behind (0, at) (past_in on.now.before on.now.dt))) }
+{
+    match on.before {
+        Some(before) => match before.places.get(at) {
+            Some(state) => pause(on.alloc, state, on.dt),
+            None => Err(Memory),
+        },
+        None => freeze(on.alloc, net, on.env, None, on.dt),
+    }
 }

@@ -1,136 +1,105 @@
-// One sample through a network without switches.
+// One sample through a network, node by node.
 
-ghost use Rattle.std.specs.Prelude.{◌≡◌, ◌≤◌, ◌<◌, ◌++◌, ◌∷◌, [], None, Some, IfOk, IfSome, IsTrue, length, map, slice_get, slice_set, take};
+ghost use Rattle.std.specs.Prelude.{◌≡◌, ◌<◌, ◌++◌, ◌∷◌, [], None, Some, IfOk, IfSome, length, map, slice_get, slice_set};
 ghost use Rattle.sample_core.specs.{Datum.left, Datum.pair, Datum.right, ValueView.datum_of};
-ghost use Rattle.net_syntax.specs.Network.{map_networks, seq, first, par, loop_pre, accum_by};
+ghost use Rattle.net_syntax.specs.Network.{map_networks, seq, first, par, loop_pre, accum_by, r_switch};
 ghost use Rattle.net_syntax.specs.NetworkView.{members_of};
 ghost use Rattle.cell_core.specs.Cell.{previous};
 ghost use Rattle.state_core.specs.RowsView.{rows_in, row_number};
-ghost use Rattle.state_core.specs.StaticNetwork.{is_static, are_static};
+ghost use Rattle.state_core.specs.StateView.{kept_of, scope_of};
 ghost use Rattle.step_core.specs.Called.{Called};
 ghost use Rattle.step_core.specs.Flow.{Flows, AllFlow, IsCell, IsFedBack, number_of, past_in};
 
 use crate::cells::{start_accum, start_cell, step_accum};
-use crate::part::{first, let_parts_go, put_pair, second};
-use crate::places::{answer_places, make_place};
-use crate::round::put_first;
+use crate::on::{On, both, node};
+use crate::part::{answer_places, first, let_parts_go, make_place, put_pair, restart_of, second};
 use crate::rows::Rows;
+use crate::run::run_place;
 use cell_core::Form;
 use leaf_table::LeafId;
 use net_syntax::Net;
 use sample_core::{Memory, Sample};
-use state_core::Cells;
+use state_core::{Cells, Kept, push_param};
 use std::alloc::Global;
 
-/// What a sample flows through beside the network: the rows of its expressions, the parameters in
-/// its scope, its cells, once it has started, and the time since the sample before.
-#[derive(Drop)]
-pub(crate) struct Context<'s, R> {
-    pub(crate) alloc: Global,
-    pub(crate) rows: &'s R,
-    pub(crate) params: &'s [Sample],
-    pub(crate) before: Option<&'s Cells>,
-    pub(crate) dt: u64,
-}
-
-/// Puts what the network answers in the place of another value, and adds its new cells to those
-/// before. `Memory` where a growth was refused.
-#[cycle(flow)]
-pub(crate) fn flow<R: Rows>(
-    on: &Context<'_, R>,
-    net: &Net<LeafId>,
+/// Puts what the network answers in the place of another value, and adds what it keeps to what is
+/// kept. Answers how many nodes were visited. `Memory` where a growth was refused.
+#[cycle(run)]
+#[inline(always)]
+pub(crate) fn flow<'n, R: Rows>(
+    on: &On<'_, 'n, R>,
+    net: &'n Net<LeafId>,
     x: &Sample,
-    cells: &mut Cells,
+    kept: &mut Kept<'n>,
     out: &mut Sample,
-) -> Result<(), Memory>
-    requires { IsTrue (is_static (rows_in net.now)) }
-    ensures { IfOk result (λ _. Flows (R.keys on.now.rows.now) (rows_in net.now)
-        (map datum_of on.now.params.now) (past_in on.now.before on.now.dt) (datum_of x.now)
-        cells.old cells.new (datum_of out.new)) }
+) -> Result<u32, Memory>
+    ensures { IfOk result (λ n. Flows (R.keys on.now.rows.now) (rows_in net.entry.now)
+        (scope_of on.now.env.now) (past_in on.now.before on.now.dt) (datum_of x.now)
+        (kept_of kept.old) (kept_of kept.new) (datum_of out.new) n) }
 {
     match net {
         Net::Arr(e) => call_into(on, *e, x, out),
-        Net::Seq(f, g) => flow_seq(on, f.get(), x, cells, out, g.get()),
-        Net::First(f) => flow_first(on, f.get(), x, cells, out),
-        Net::Par(fs) => flow_par(on, fs.as_slice(), x, cells, out),
-        Net::LoopPre(c, f) => flow_loop(on, f.get(), x, cells, out, *c),
-        Net::AccumBy(g, z) => flow_accum(on, *g, x, cells, out, *z),
+        Net::Seq(f, g) => flow_seq(on, f.get(), x, kept, out, g.get()),
+        Net::First(f) => flow_first(on, f.get(), x, kept, out),
+        Net::Par(fs) => flow_par(on, fs.as_slice(), x, kept, out),
+        Net::LoopPre(c, f) => flow_loop(on, f.get(), x, kept, out, *c),
+        Net::AccumBy(g, z) => flow_accum(on, *g, x, kept, out, *z),
         Net::IPre(_)
         | Net::Delay(..)
         | Net::Hold(_)
         | Net::After(..)
         | Net::Repeatedly(..)
         | Net::Time
-        | Net::Integral => flow_cell(on, net, x, cells, out),
-        _ => unreachable!(),
+        | Net::Integral => flow_cell(on, net, x, kept, out),
+        Net::RSwitch(f, t) => flow_restart(on, f.get(), x, kept, out, t.get()),
+        Net::Switch(..) | Net::DSwitch(..) | Net::KSwitch(..) | Net::PSwitch(..) | Net::Old(_) => {
+            run_place(on, net, x, kept, out)
+        }
     }
 }
 
 /// What a row answers to the sample.
 #[inline(never)]
 fn call_into<R: Rows>(
-    on: &Context<'_, R>,
+    on: &On<'_, '_, R>,
     e: LeafId,
     x: &Sample,
     out: &mut Sample,
-) -> Result<(), Memory>
-    ensures { IfOk result (λ _. Called (R.keys on.now.rows.now) (row_number e)
-        (map datum_of on.now.params.now) (datum_of x.now) (datum_of out.new)) }
+) -> Result<u32, Memory>
+    ensures called { IfOk result (λ _. Called (R.keys on.now.rows.now) (row_number e)
+        on.now.env.now.params (datum_of x.now) (datum_of out.new)) }
+    ensures one { IfOk result (λ n. n ≡ 1) }
 {
-    match on.rows.call(e, on.params, x) {
+    match on.rows.call(e, on.params(), x) {
         Ok(Sample::Int(n)) => out.put_int(n),
         Ok(answer) => out.put(answer),
         Err(memory) => return Err(memory),
     }
-    Ok(())
+    Ok(1)
 }
 
 /// `>>>`: what the first part answers goes to the second.
-#[cycle(flow)]
-#[inline(always)]
-fn flow_seq<R: Rows>(
-    on: &Context<'_, R>,
-    f: &Net<LeafId>,
-    x: &Sample,
-    cells: &mut Cells,
-    out: &mut Sample,
-    g: &Net<LeafId>,
-) -> Result<(), Memory>
-    requires { IsTrue (is_static (seq (rows_in f.now) (rows_in g.now))) }
-    ensures { IfOk result (λ _. Flows (R.keys on.now.rows.now)
-        (seq (rows_in f.now) (rows_in g.now))
-        (map datum_of on.now.params.now) (past_in on.now.before on.now.dt) (datum_of x.now)
-        cells.old cells.new (datum_of out.new)) }
-{
-    match g {
-        Net::Seq(..) => flow_long(on, f, x, cells, out, g),
-        _ => flow_two(on, f, x, cells, out, g),
-    }
-}
-
-/// The same, where the second part is no `>>>`.
-#[cycle(flow)]
+#[cycle(run)]
 #[inline(never)]
-fn flow_two<R: Rows>(
-    on: &Context<'_, R>,
-    f: &Net<LeafId>,
+fn flow_seq<'n, R: Rows>(
+    on: &On<'_, 'n, R>,
+    f: &'n Net<LeafId>,
     x: &Sample,
-    cells: &mut Cells,
+    kept: &mut Kept<'n>,
     out: &mut Sample,
-    g: &Net<LeafId>,
-) -> Result<(), Memory>
-    requires { IsTrue (is_static (seq (rows_in f.now) (rows_in g.now))) }
-    ensures { IfOk result (λ _. Flows (R.keys on.now.rows.now)
-        (seq (rows_in f.now) (rows_in g.now))
-        (map datum_of on.now.params.now) (past_in on.now.before on.now.dt) (datum_of x.now)
-        cells.old cells.new (datum_of out.new)) }
+    g: &'n Net<LeafId>,
+) -> Result<u32, Memory>
+    ensures { IfOk result (λ n. Flows (R.keys on.now.rows.now)
+        (seq (rows_in f.entry.now) (rows_in g.entry.now))
+        (scope_of on.now.env.now) (past_in on.now.before on.now.dt) (datum_of x.now)
+        (kept_of kept.old) (kept_of kept.new) (datum_of out.new) n) }
 {
     let mut between = Sample::Int(0);
-    match flow(on, f, x, cells, &mut between) {
-        Ok(()) => {
-            let done = flow(on, g, &between, cells, out);
+    match flow(on, f, x, kept, &mut between) {
+        Ok(one) => {
+            let others = flow_rest(on, g, &mut between, kept, out);
             between.let_go();
-            done
+            Ok(node(one, others?))
         }
         Err(memory) => {
             drop(between);
@@ -139,82 +108,60 @@ fn flow_two<R: Rows>(
     }
 }
 
-/// The same, where the second part is a `>>>` in turn.
-#[cycle(flow)]
-#[inline(never)]
-fn flow_long<R: Rows>(
-    on: &Context<'_, R>,
-    f: &Net<LeafId>,
-    x: &Sample,
-    cells: &mut Cells,
-    out: &mut Sample,
-    g: &Net<LeafId>,
-) -> Result<(), Memory>
-    requires { IsTrue (is_static (seq (rows_in f.now) (rows_in g.now))) }
-    ensures { IfOk result (λ _. Flows (R.keys on.now.rows.now)
-        (seq (rows_in f.now) (rows_in g.now))
-        (map datum_of on.now.params.now) (past_in on.now.before on.now.dt) (datum_of x.now)
-        cells.old cells.new (datum_of out.new)) }
-{
-    let mut between = Sample::Int(0);
-    let mut place = Sample::Int(0);
-    let done = flow_chain(on, f, x, cells, out, g, &mut between, &mut place);
-    between.let_go();
-    place.let_go();
-    done
-}
-
-/// The same with places for what goes from one part to the next: it stands in one, and the next
-/// answer comes into the other.
-#[cycle(flow)]
+/// The rest of a chain of `>>>`: what goes along it stands in two places in turn.
+#[cycle(run)]
 #[inline(always)]
-fn flow_chain<R: Rows>(
-    on: &Context<'_, R>,
-    f: &Net<LeafId>,
-    x: &Sample,
-    cells: &mut Cells,
-    out: &mut Sample,
-    g: &Net<LeafId>,
+fn flow_rest<'n, R: Rows>(
+    on: &On<'_, 'n, R>,
+    net: &'n Net<LeafId>,
     between: &mut Sample,
-    place: &mut Sample,
-) -> Result<(), Memory>
-    requires { IsTrue (is_static (seq (rows_in f.now) (rows_in g.now))) }
-    ensures { IfOk result (λ _. Flows (R.keys on.now.rows.now)
-        (seq (rows_in f.now) (rows_in g.now))
-        (map datum_of on.now.params.now) (past_in on.now.before on.now.dt) (datum_of x.now)
-        cells.old cells.new (datum_of out.new)) }
+    kept: &mut Kept<'n>,
+    out: &mut Sample,
+) -> Result<u32, Memory>
+    ensures { IfOk result (λ n. Flows (R.keys on.now.rows.now) (rows_in net.entry.now)
+        (scope_of on.now.env.now) (past_in on.now.before on.now.dt) (datum_of between.old)
+        (kept_of kept.old) (kept_of kept.new) (datum_of out.new) n) }
 {
-    flow(on, f, x, cells, between)?;
-    let mut rest = g;
+    let mut place = Sample::Int(0);
+    let mut rest = net;
+    let mut visits: u32 = 0;
     'chain: while let Net::Seq(f, g) = rest {
-        flow(on, f.get(), between, cells, place)?;
-        std::mem::swap(between, place);
+        match flow(on, f.get(), between, kept, &mut place) {
+            Ok(one) => visits = node(visits, one),
+            Err(memory) => {
+                drop(place);
+                return Err(memory);
+            }
+        }
+        std::mem::swap(between, &mut place);
         rest = g.get();
     }
-    flow(on, rest, between, cells, out)
+    let last = flow(on, rest, between, kept, out);
+    place.let_go();
+    Ok(both(visits, last?))
 }
 
 /// `first`: the second component passes along.
-#[cycle(flow)]
+#[cycle(run)]
 #[inline(never)]
-fn flow_first<R: Rows>(
-    on: &Context<'_, R>,
-    f: &Net<LeafId>,
+fn flow_first<'n, R: Rows>(
+    on: &On<'_, 'n, R>,
+    f: &'n Net<LeafId>,
     x: &Sample,
-    cells: &mut Cells,
+    kept: &mut Kept<'n>,
     out: &mut Sample,
-) -> Result<(), Memory>
-    requires { IsTrue (is_static (rows_in f.now)) }
-    ensures { IfOk result (λ _. Flows (R.keys on.now.rows.now) (first (rows_in f.now))
-        (map datum_of on.now.params.now) (past_in on.now.before on.now.dt) (datum_of x.now)
-        cells.old cells.new (datum_of out.new)) }
+) -> Result<u32, Memory>
+    ensures { IfOk result (λ n. Flows (R.keys on.now.rows.now) (first (rows_in f.entry.now))
+        (scope_of on.now.env.now) (past_in on.now.before on.now.dt) (datum_of x.now)
+        (kept_of kept.old) (kept_of kept.new) (datum_of out.new) n) }
 {
     let mut answer = Sample::Int(0);
-    match flow(on, f, first(x), cells, &mut answer) {
-        Ok(()) => {
+    match flow(on, f, first(x), kept, &mut answer) {
+        Ok(one) => {
             let done = put_pair(on.alloc, &answer, second(x), out);
             answer.let_go();
-            done
+            done?;
+            Ok(node(one, 0))
         }
         Err(memory) => {
             drop(answer);
@@ -224,24 +171,26 @@ fn flow_first<R: Rows>(
 }
 
 /// `parB`: each member gets the sample, and their answers become one list.
-#[cycle(flow)]
+#[cycle(run)]
 #[inline(never)]
-fn flow_par<R: Rows>(
-    on: &Context<'_, R>,
-    members: &[Net<LeafId>],
+fn flow_par<'n, R: Rows>(
+    on: &On<'_, 'n, R>,
+    members: &'n [Net<LeafId>],
     x: &Sample,
-    cells: &mut Cells,
+    kept: &mut Kept<'n>,
     out: &mut Sample,
-) -> Result<(), Memory>
-    requires { IsTrue (are_static (map_networks row_number (members_of members.now))) }
-    ensures { IfOk result (λ _. Flows (R.keys on.now.rows.now)
-        (par (map_networks row_number (members_of members.now)))
-        (map datum_of on.now.params.now) (past_in on.now.before on.now.dt) (datum_of x.now)
-        cells.old cells.new (datum_of out.new)) }
+) -> Result<u32, Memory>
+    ensures { IfOk result (λ n. Flows (R.keys on.now.rows.now)
+        (par (map_networks row_number (members_of members.entry.now)))
+        (scope_of on.now.env.now) (past_in on.now.before on.now.dt) (datum_of x.now)
+        (kept_of kept.old) (kept_of kept.new) (datum_of out.new) n) }
 {
     let mut answers = answer_places(on.alloc, members.len(), out)?;
-    match flow_each(on, members, x, cells, &mut answers, 0) {
-        Ok(()) => out.put_list(on.alloc, answers),
+    match flow_each(on, members, x, kept, &mut answers) {
+        Ok(all) => {
+            out.put_list(on.alloc, answers)?;
+            Ok(node(all, 0))
+        }
         Err(memory) => {
             drop(answers);
             Err(memory)
@@ -249,82 +198,62 @@ fn flow_par<R: Rows>(
     }
 }
 
-/// Puts what the members answer, in order, in the place of the answers behind so many others.
-#[cycle(flow)]
+/// Puts what the members answer, in order, in the places of the answers.
+#[cycle(run)]
 #[inline(never)]
-fn flow_each<R: Rows>(
-    on: &Context<'_, R>,
-    members: &[Net<LeafId>],
+fn flow_each<'n, R: Rows>(
+    on: &On<'_, 'n, R>,
+    members: &'n [Net<LeafId>],
     x: &Sample,
-    cells: &mut Cells,
+    kept: &mut Kept<'n>,
     answers: &mut Vec<Sample>,
-    before: usize,
-) -> Result<(), Memory>
-    requires fixed { IsTrue (are_static (map_networks row_number (members_of members.now))) }
-    requires room { before ≤ length answers.old.items }
-    ensures { IfOk result (λ _. AllFlow (R.keys on.now.rows.now)
-        (map_networks row_number (members_of members.now))
-        (map datum_of on.now.params.now) (past_in on.now.before on.now.dt) (datum_of x.now)
-        cells.old cells.new (map datum_of (take before answers.old.items))
-        (map datum_of answers.new.items)) }
+) -> Result<u32, Memory>
+    ensures { IfOk result (λ n. AllFlow (R.keys on.now.rows.now)
+        (map_networks row_number (members_of members.entry.now))
+        (scope_of on.now.env.now) (past_in on.now.before on.now.dt) (datum_of x.now)
+        (kept_of kept.old) (kept_of kept.new) [] (map datum_of answers.new.items) n) }
 {
-    match members.split_first() {
-        Some((f, rest)) => {
-            make_place(answers, before, Sample::Int(0))?;
-            flow_member(on, f, x, cells, &mut answers[before])?;
-            flow_each(on, rest, x, cells, answers, before + 1)
-        }
-        None => {
-            answers.truncate(before);
-            Ok(())
-        }
+    let mut rest = members;
+    let mut before: usize = 0;
+    let mut visits: u32 = 0;
+    'members: while let Some((f, others)) = rest.split_first() {
+        make_place(answers, before)?;
+        let one = flow(on, f, x, kept, &mut answers[before])?;
+        visits = both(visits, one);
+        rest = others;
+        before += 1;
     }
-}
-
-/// One member, in the place of an answer before.
-#[cycle(flow)]
-#[inline(always)]
-fn flow_member<R: Rows>(
-    on: &Context<'_, R>,
-    f: &Net<LeafId>,
-    x: &Sample,
-    cells: &mut Cells,
-    out: &mut Sample,
-) -> Result<(), Memory>
-    requires { IsTrue (is_static (rows_in f.now)) }
-    ensures { IfOk result (λ _. Flows (R.keys on.now.rows.now) (rows_in f.now)
-        (map datum_of on.now.params.now) (past_in on.now.before on.now.dt) (datum_of x.now)
-        cells.old cells.new (datum_of out.new)) }
-{
-    let_parts_go(out);
-    flow(on, f, x, cells, out)
+    answers.truncate(before);
+    Ok(visits)
 }
 
 /// `loopPre`: its part gets the sample and what is fed back. What is fed back next stands in the
 /// cell before those of the part.
-#[cycle(flow)]
+#[cycle(run)]
 #[inline(never)]
-fn flow_loop<R: Rows>(
-    on: &Context<'_, R>,
-    f: &Net<LeafId>,
+fn flow_loop<'n, R: Rows>(
+    on: &On<'_, 'n, R>,
+    f: &'n Net<LeafId>,
     x: &Sample,
-    cells: &mut Cells,
+    kept: &mut Kept<'n>,
     out: &mut Sample,
     c: LeafId,
-) -> Result<(), Memory>
-    requires { IsTrue (is_static (rows_in f.now)) }
-    ensures { IfOk result (λ _. Flows (R.keys on.now.rows.now)
-        (loop_pre (row_number c) (rows_in f.now))
-        (map datum_of on.now.params.now) (past_in on.now.before on.now.dt) (datum_of x.now)
-        cells.old cells.new (datum_of out.new)) }
+) -> Result<u32, Memory>
+    ensures { IfOk result (λ n. Flows (R.keys on.now.rows.now)
+        (loop_pre (row_number c) (rows_in f.entry.now))
+        (scope_of on.now.env.now) (past_in on.now.before on.now.dt) (datum_of x.now)
+        (kept_of kept.old) (kept_of kept.new) (datum_of out.new) n) }
 {
-    let at = cells.len();
-    let input = feed(on, c, x, cells)?;
+    let at = kept.cells.len();
+    let input = feed(on, c, x, &mut kept.cells)?;
     let mut answer = Sample::Int(0);
-    let done = flow(on, f, &input, cells, &mut answer);
+    let done = flow(on, f, &input, kept, &mut answer);
     on.rows.give_back(input);
     match done {
-        Ok(()) => keep_fed(on.alloc, answer, at, cells, out),
+        Ok(one) => {
+            keep_fed(on.alloc, answer, at, &mut kept.cells, out)?;
+            Ok(node(one, 0))
+        }
         Err(memory) => {
             drop(answer);
             Err(memory)
@@ -336,22 +265,22 @@ fn flow_loop<R: Rows>(
 /// passed: what is kept, or at the first sample the constant.
 #[inline(always)]
 fn feed<R: Rows>(
-    on: &Context<'_, R>,
+    on: &On<'_, '_, R>,
     c: LeafId,
     x: &Sample,
     cells: &mut Cells,
 ) -> Result<Sample, Memory>
     ensures { IfOk result (λ y. IsFedBack (R.keys on.now.rows.now) (row_number c)
-        (map datum_of on.now.params.now) (past_in on.now.before on.now.dt) (datum_of x.now)
+        on.now.env.now.params (past_in on.now.before on.now.dt) (datum_of x.now)
         cells.old cells.new (datum_of y)) }
 {
     match on.before {
-        Some(before) => match kept_at(before, cells.len()) {
+        Some(before) => match kept_at(&before.cells, cells.len()) {
             Some(value) => feed_value(on, x, value, cells),
             None => Err(Memory),
         },
         None => {
-            let value = on.rows.call(c, on.params, &Sample::Unit)?;
+            let value = on.rows.call(c, on.params(), &Sample::Unit)?;
             let input = feed_value(on, x, &value, cells);
             drop(value);
             input
@@ -373,7 +302,7 @@ fn kept_at(before: &Cells, i: usize) -> Option<&Sample>
 /// The pair of the sample and a value, which goes into the next cell.
 #[inline(always)]
 fn feed_value<R: Rows>(
-    on: &Context<'_, R>,
+    on: &On<'_, '_, R>,
     x: &Sample,
     value: &Sample,
     cells: &mut Cells,
@@ -398,7 +327,11 @@ fn keep_fed(
         × (cells.new ≡ slice_set cells.old at (previous (right (datum_of answer))))) }
 {
     match cells.put_previous(alloc, at, second(&answer)) {
-        Ok(()) => put_first(alloc, answer, out),
+        Ok(()) => {
+            let done = out.put_copy(alloc, first(&answer));
+            drop(answer);
+            done
+        }
         Err(memory) => {
             drop(answer);
             Err(memory)
@@ -409,43 +342,47 @@ fn keep_fed(
 /// A cell: it starts, or steps.
 #[inline(never)]
 fn flow_cell<R: Rows>(
-    on: &Context<'_, R>,
+    on: &On<'_, '_, R>,
     net: &Net<LeafId>,
     x: &Sample,
-    cells: &mut Cells,
+    kept: &mut Kept<'_>,
     out: &mut Sample,
-) -> Result<(), Memory>
-    ensures { IfOk result (λ _. (form : _) (c : _) → IsCell (rows_in net.now) form c
+) -> Result<u32, Memory>
+    ensures { IfOk result (λ n. (form : _) (c : _) → IsCell (rows_in net.now) form c
         → Flows (R.keys on.now.rows.now) (rows_in net.now)
-        (map datum_of on.now.params.now) (past_in on.now.before on.now.dt) (datum_of x.now)
-        cells.old cells.new (datum_of out.new)) }
+        (scope_of on.now.env.now) (past_in on.now.before on.now.dt) (datum_of x.now)
+        (kept_of kept.old) (kept_of kept.new) (datum_of out.new) n) }
 {
     match on.before {
-        Some(before) => match before.get(cells.len()) {
-            Some(cell) => cells.push_step(on.alloc, cell, on.dt, x, out),
+        Some(before) => match before.cells.get(kept.cells.len()) {
+            Some(cell) => {
+                kept.cells.push_step(on.alloc, cell, on.dt, x, out)?;
+                Ok(1)
+            }
             None => Err(Memory),
         },
-        None => first_cell(on, net, x, cells, out),
+        None => first_cell(on, net, x, kept, out),
     }
 }
 
 /// A cell's start.
 #[inline(never)]
 fn first_cell<R: Rows>(
-    on: &Context<'_, R>,
+    on: &On<'_, '_, R>,
     net: &Net<LeafId>,
     x: &Sample,
-    cells: &mut Cells,
+    kept: &mut Kept<'_>,
     out: &mut Sample,
-) -> Result<(), Memory>
-    ensures { IfOk result (λ _. Flows (R.keys on.now.rows.now) (rows_in net.now)
-        (map datum_of on.now.params.now) None (datum_of x.now) cells.old cells.new
-        (datum_of out.new)) }
+) -> Result<u32, Memory>
+    ensures { IfOk result (λ n. Flows (R.keys on.now.rows.now) (rows_in net.now)
+        (scope_of on.now.env.now) None (datum_of x.now) (kept_of kept.old) (kept_of kept.new)
+        (datum_of out.new) n) }
 {
     let (form, constant) = form_of(net)?;
-    let (first, answer) = start_cell(on.alloc, on.rows, form, constant, on.params, x)?;
+    let (first, answer) = start_cell(on.alloc, on.rows, form, constant, on.params(), x)?;
     out.put(answer);
-    cells.push(first)
+    kept.cells.push(first)?;
+    Ok(1)
 }
 
 /// The form of a cell, and its constant, if it has one. `flow` asks for no other network; `Memory`
@@ -469,27 +406,58 @@ fn form_of(net: &Net<LeafId>) -> Result<(Form, Option<LeafId>), Memory>
 /// `accumBy`: it starts, or steps.
 #[inline(never)]
 fn flow_accum<R: Rows>(
-    on: &Context<'_, R>,
+    on: &On<'_, '_, R>,
     g: LeafId,
     x: &Sample,
-    cells: &mut Cells,
+    kept: &mut Kept<'_>,
     out: &mut Sample,
     z: LeafId,
-) -> Result<(), Memory>
-    ensures { IfOk result (λ _. Flows (R.keys on.now.rows.now)
+) -> Result<u32, Memory>
+    ensures { IfOk result (λ n. Flows (R.keys on.now.rows.now)
         (accum_by (row_number g) (row_number z))
-        (map datum_of on.now.params.now) (past_in on.now.before on.now.dt) (datum_of x.now)
-        cells.old cells.new (datum_of out.new)) }
+        (scope_of on.now.env.now) (past_in on.now.before on.now.dt) (datum_of x.now)
+        (kept_of kept.old) (kept_of kept.new) (datum_of out.new) n) }
 {
     match on.before {
-        Some(before) => match before.get(cells.len()) {
-            Some(cell) => step_accum(on.alloc, on.rows, g, on.params, cell, x, cells, out),
+        Some(before) => match before.cells.get(kept.cells.len()) {
+            Some(cell) => {
+                step_accum(on, g, cell, x, &mut kept.cells, out)?;
+                Ok(1)
+            }
             None => Err(Memory),
         },
         None => {
-            let (first, answer) = start_accum(on.alloc, on.rows, g, z, on.params, x)?;
+            let (first, answer) = start_accum(on, g, z, x)?;
             out.put(answer);
-            cells.push(first)
+            kept.cells.push(first)?;
+            Ok(1)
         }
+    }
+}
+
+/// `rSwitch`: what runs goes on, or is started anew at an event, with what that carries in scope.
+#[cycle(run)]
+#[inline(never)]
+fn flow_restart<'n, R: Rows>(
+    on: &On<'_, 'n, R>,
+    f: &'n Net<LeafId>,
+    x: &Sample,
+    kept: &mut Kept<'n>,
+    out: &mut Sample,
+    t: &'n Net<LeafId>,
+) -> Result<u32, Memory>
+    ensures { IfOk result (λ n. Flows (R.keys on.now.rows.now)
+        (r_switch (rows_in f.entry.now) (rows_in t.entry.now))
+        (scope_of on.now.env.now) (past_in on.now.before on.now.dt) (datum_of x.now)
+        (kept_of kept.old) (kept_of kept.new) (datum_of out.new) n) }
+{
+    match restart_of(x) {
+        Some((sample, value)) => {
+            let env = push_param(on.alloc, on.env, value)?;
+            let one = run_place(&on.started(&env), t, sample, kept, out);
+            drop(env);
+            Ok(node(one?, 0))
+        }
+        None => Ok(node(run_place(on, f, first(x), kept, out)?, 0)),
     }
 }

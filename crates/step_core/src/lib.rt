@@ -4,26 +4,16 @@
 mod binding;
 mod bound;
 mod cells;
-mod count;
-mod each;
 mod fault;
 mod fire;
 mod flow;
-mod handed;
 mod laws;
 mod lowering;
-mod members;
+mod on;
 mod part;
-mod places;
-mod round;
 mod rows;
 mod run;
 mod runner;
-mod seq;
-mod source;
-mod start;
-mod static_run;
-mod step;
 
 pub use binding::bind;
 pub use bound::Bound;

@@ -1,6 +1,6 @@
 // Parts of values.
 
-ghost use Rattle.std.specs.Prelude.{◌≡◌, IfOk};
+ghost use Rattle.std.specs.Prelude.{◌≡◌, ◌≤◌, ◌<◌, IfOk, length, take};
 ghost use Rattle.sample_core.specs.{Datum.left, Datum.right, Datum.pair, ValueView.datum_of};
 ghost use Rattle.step_core.specs.Stepping.{event_in, restart_in};
 ghost use Rattle.step_core.specs.EventView.{event_found, restart_found};
@@ -130,4 +130,38 @@ pub(crate) fn restart_of(value: &Sample) -> Option<(&Sample, &Sample)>
         },
         _ => None,
     }
+}
+
+/// The places of so many answers: those of the list that stands in the place, and room for more.
+/// `Memory` where a growth was refused.
+pub(crate) fn answer_places(
+    alloc: Global,
+    count: usize,
+    place: &mut Sample,
+) -> Result<Vec<Sample>, Memory> {
+    let mut places = place.take_list(alloc);
+    let more = count.saturating_sub(places.len());
+    match places.try_reserve(more) {
+        Ok(()) => Ok(places),
+        Err(_) => {
+            drop(places);
+            Err(Memory)
+        }
+    }
+}
+
+/// Sees to it that there is a place behind so many others; a value that stands there lets its parts
+/// go. `Memory` where a growth was refused.
+#[inline(always)]
+pub(crate) fn make_place(places: &mut Vec<Sample>, before: usize) -> Result<(), Memory>
+    requires { before ≤ length places.old.items }
+    ensures { IfOk result (λ _. (before < length places.new.items)
+        × (take before places.new.items ≡ take before places.old.items)) }
+{
+    if before < places.len() {
+        let_parts_go(&mut places[before]);
+        return Ok(());
+    }
+    places.push(Sample::Int(0))?;
+    Ok(())
 }

@@ -1,371 +1,257 @@
-// One sample through a network or a state.
+// One sample through what runs at a place of its own.
 
-ghost use Rattle.std.specs.Prelude.{◌≡◌, List, IfOk};
-ghost use Rattle.sample_core.specs.{Datum.Datum, ValueView.datum_of};
-ghost use Rattle.leaf_core.specs.KeyTree.{KeyTree};
-ghost use Rattle.state_core.specs.{RowsView.rows_in, RowsView.row_number};
-ghost use Rattle.state_core.specs.{Around.first_part, Around.second_part};
-ghost use Rattle.state_core.specs.StateView.{state_of, node_of, scope_of};
-ghost use Rattle.step_core.specs.Outcome.{RunsBy, StartsAnew, TakesOver, TakesOverLate, outcome};
-ghost use Rattle.step_core.specs.Handed.{IsFed};
-ghost use Rattle.step_core.specs.Runs.{RunsWhere, FirstBy, ParBy, LoopBy, SwitchBy, DSwitchBy, RSwitchBy, KSwitchBy, PSwitchBy};
-ghost use Rattle.step_core.specs.SourceView.{source_of, sources_of};
+ghost use Rattle.std.specs.Prelude.{◌≡◌, ◌≤◌, ◌<◌, ◌^◌, IfOk, length, map, pos, take};
+ghost use Rattle.sample_core.specs.{Datum.int, Datum.pair, ValueView.datum_of};
+ghost use Rattle.net_syntax.specs.Network.{map_networks, switch, d_switch, k_switch, p_switch, old};
+ghost use Rattle.net_syntax.specs.NetworkView.{members_of};
+ghost use Rattle.state_core.specs.RowsView.{rows_in, row_number};
+ghost use Rattle.state_core.specs.State.{paused};
+ghost use Rattle.state_core.specs.StateView.{frozen_of, kept_of, running_of, scope_of, state_of};
+ghost use Rattle.step_core.specs.Called.{Called};
+ghost use Rattle.step_core.specs.Flow.{AllRun, Runs, past_behind, past_in, placed, standing};
+ghost use Rattle.step_core.specs.Runs.{RunsWhere};
+ghost use Rattle.step_core.specs.Switching.{Begins, ListRuns};
 
-use crate::count;
-use crate::each::{join_par, keep_p_switch};
-use crate::fire::{Stopped, fire, fire_old};
-use crate::handed::fed;
-use crate::members::{run_all, run_members_watch};
-use crate::part::{first, paired_with, restart_of, second};
-use crate::round::{join_loop, keep_first, put_first, round};
+use crate::fire::{fire, fire_all, fire_one};
+use crate::flow::flow;
+use crate::on::{On, both, node};
+use crate::part::{answer_places, first, let_second_go, make_place, second};
 use crate::rows::Rows;
-use crate::source::{Back, Route, Source, Sources};
-use crate::start::start;
-use crate::step::step;
 use leaf_table::LeafId;
 use net_syntax::Net;
 use sample_core::{Memory, Sample};
-use state_core::{Around, Env, Node, SeqParts, State, Turn, push_param};
+use state_core::{Frozen, Kept, Running, State};
 use std::alloc::Global;
 use std::rc::Rc;
 
-/// A start or a step. `dt` is the time since the sample before, where there is one. The new state
-/// comes into the place, whose memory it takes as far as no one else holds that. `Memory` where a
-/// growth was refused.
+/// What runs at the next place: what ran there before goes on; at a start the network begins.
+/// Answers how many nodes were visited. `Memory` where a growth was refused.
 #[cycle(run)]
-pub(crate) fn run<'n, R: Rows>(
-    alloc: Global,
-    rows: &R,
-    from: &Source<'_, 'n>,
-    dt: u64,
+#[inline(never)]
+pub(crate) fn run_place<'n, R: Rows>(
+    on: &On<'_, 'n, R>,
+    net: &'n Net<LeafId>,
     x: &Sample,
-    place: &mut State<'n>,
+    kept: &mut Kept<'n>,
     out: &mut Sample,
 ) -> Result<u32, Memory>
-    ensures { IfOk result (λ n.
-        RunsWhere (R.keys rows.now) (source_of from.now dt) (datum_of x.now)
-        (state_of place.new) (datum_of out.new) n) }
+    ensures { IfOk result (λ n. Runs (R.keys on.now.rows.now)
+        (placed (rows_in net.entry.now) (scope_of on.now.env.now)
+        (past_behind (0, length (kept_of kept.old).1) (past_in on.now.before on.now.dt)))
+        (datum_of x.now) (kept_of kept.old) (kept_of kept.new) (datum_of out.new) n) }
 {
-    run_in_line(alloc, rows, from, dt, x, place, out)
-}
-
-/// The same, in line.
-#[cycle(run)]
-#[inline(always)]
-pub(crate) fn run_in_line<'n, R: Rows>(
-    alloc: Global,
-    rows: &R,
-    from: &Source<'_, 'n>,
-    dt: u64,
-    x: &Sample,
-    place: &mut State<'n>,
-    out: &mut Sample,
-) -> Result<u32, Memory>
-    ensures { IfOk result (λ n.
-        RunsWhere (R.keys rows.now) (source_of from.now dt) (datum_of x.now)
-        (state_of place.new) (datum_of out.new) n) }
-{
-    match *from {
-        Source::Net(net, env) => start(alloc, rows, net, env, x, place, out),
-        Source::State(state) => step(alloc, rows, state, dt, x, place, out),
-    }
-}
-
-/// The same for a part, in the place of the first part of what stands in that place.
-#[cycle(run)]
-#[inline(always)]
-pub(crate) fn run_part<'n, R: Rows>(
-    alloc: Global,
-    rows: &R,
-    from: &Source<'_, 'n>,
-    dt: u64,
-    x: &Sample,
-    place: &mut State<'n>,
-    out: &mut Sample,
-) -> Result<u32, Memory>
-    ensures { IfOk result (λ n.
-        RunsWhere (R.keys rows.now) (source_of from.now dt) (datum_of x.now)
-        (first_part (state_of place.new)) (datum_of out.new) n) }
-{
-    if let State::Whole(whole) = place {
-        if let Some(node) = Rc::get_mut(&mut whole.node) {
-            return run_in_first(alloc, rows, from, dt, x, node, out);
+    let at = kept.places.len();
+    let mut place = kept.places.spare();
+    match go_on(on, net, at, x, &mut place, out) {
+        Ok(visits) => {
+            kept.places.push(place)?;
+            Ok(visits)
+        }
+        Err(memory) => {
+            drop(place);
+            Err(memory)
         }
     }
-    run_apart(alloc, rows, from, dt, x, place, out)
 }
 
-/// The same where what stands in the place is no node, or someone else's.
+/// What ran at place `at` before goes on, in the memory of what stands in the place; at a start the
+/// network begins.
+#[cycle(run)]
+#[inline(always)]
+pub(crate) fn go_on<'n, R: Rows>(
+    on: &On<'_, 'n, R>,
+    net: &'n Net<LeafId>,
+    at: usize,
+    x: &Sample,
+    place: &mut State<'n>,
+    out: &mut Sample,
+) -> Result<u32, Memory>
+    ensures { IfOk result (λ n. RunsWhere (R.keys on.now.rows.now)
+        (placed (rows_in net.entry.now) (scope_of on.now.env.now)
+        (past_behind (0, at) (past_in on.now.before on.now.dt)))
+        (datum_of x.now) (state_of place.new) (datum_of out.new) n) }
+{
+    match on.before {
+        Some(before) => match before.places.get(at) {
+            Some(state) => step(on, state, x, place, out),
+            None => Err(Memory),
+        },
+        None => run_over(on, net, x, place, out),
+    }
+}
+
+/// What runs goes on, in the memory of what stands in the place. No network comes to keep a state
+/// that keeps nothing; `Memory` then.
+#[cycle(run)]
+#[inline(always)]
+pub(crate) fn step<'n, R: Rows>(
+    on: &On<'_, 'n, R>,
+    state: &State<'n>,
+    x: &Sample,
+    place: &mut State<'n>,
+    out: &mut Sample,
+) -> Result<u32, Memory>
+    ensures { IfOk result (λ n. RunsWhere (R.keys on.now.rows.now)
+        (paused (state_of state.now) on.now.dt)
+        (datum_of x.now) (state_of place.new) (datum_of out.new) n) }
+{
+    match state {
+        State::Whole(whole) => {
+            let running = whole.get();
+            run_over(&(&*on).going(running, on.dt), running.net, x, place, out)
+        }
+        State::Nothing => Err(Memory),
+    }
+}
+
+/// A network that starts or goes on, in the memory of what stands in the place, as far as no one
+/// else holds that.
+#[cycle(run)]
+#[inline(always)]
+pub(crate) fn run_over<'n, R: Rows>(
+    on: &On<'_, 'n, R>,
+    net: &'n Net<LeafId>,
+    x: &Sample,
+    place: &mut State<'n>,
+    out: &mut Sample,
+) -> Result<u32, Memory>
+    ensures { IfOk result (λ n. RunsWhere (R.keys on.now.rows.now)
+        (standing (rows_in net.entry.now) (scope_of on.now.env.now)
+        (past_in on.now.before on.now.dt))
+        (datum_of x.now) (state_of place.new) (datum_of out.new) n) }
+{
+    if let State::Whole(whole) = place {
+        if let Some(running) = Rc::get_mut(&mut whole.running) {
+            return run_in(on, net, x, running, out);
+        }
+    }
+    run_apart(on, net, x, place, out)
+}
+
+/// The same in memory of its own.
 #[cycle(run)]
 #[inline(never)]
 fn run_apart<'n, R: Rows>(
-    alloc: Global,
-    rows: &R,
-    from: &Source<'_, 'n>,
-    dt: u64,
+    on: &On<'_, 'n, R>,
+    net: &'n Net<LeafId>,
     x: &Sample,
     place: &mut State<'n>,
     out: &mut Sample,
 ) -> Result<u32, Memory>
-    ensures { IfOk result (λ n.
-        RunsWhere (R.keys rows.now) (source_of from.now dt) (datum_of x.now)
-        (first_part (state_of place.new)) (datum_of out.new) n) }
+    ensures { IfOk result (λ n. RunsWhere (R.keys on.now.rows.now)
+        (standing (rows_in net.entry.now) (scope_of on.now.env.now)
+        (past_in on.now.before on.now.dt))
+        (datum_of x.now) (state_of place.new) (datum_of out.new) n) }
 {
-    let mut part = State::Nothing;
-    match run(alloc, rows, from, dt, x, &mut part, out) {
-        Ok(one) => {
-            place.put(alloc, Node::First(part))?;
-            Ok(one)
+    let mut running = Running::new(on.alloc, net, on.env)?;
+    match run_in(on, net, x, &mut running, out) {
+        Ok(visits) => {
+            let state = State::new(on.alloc, running)?;
+            drop(std::mem::replace(place, state));
+            Ok(visits)
         }
         Err(memory) => {
-            drop(part);
+            drop(running);
             Err(memory)
         }
     }
 }
 
-/// The same for the part that follows or watches the first, which stays.
+/// The same in the memory of what ran before.
 #[cycle(run)]
 #[inline(always)]
-fn run_second<'n, R: Rows>(
-    alloc: Global,
-    rows: &R,
-    from: &Source<'_, 'n>,
-    dt: u64,
+fn run_in<'n, R: Rows>(
+    on: &On<'_, 'n, R>,
+    net: &'n Net<LeafId>,
     x: &Sample,
-    place: &mut State<'n>,
+    running: &mut Running<'n>,
     out: &mut Sample,
 ) -> Result<u32, Memory>
-    ensures { IfOk result (λ n.
-        (first_part (state_of place.new) ≡ first_part (state_of place.old))
-        × RunsWhere (R.keys rows.now) (source_of from.now dt) (datum_of x.now)
-        (second_part (state_of place.new)) (datum_of out.new) n) }
+    ensures { IfOk result (λ n. RunsWhere (R.keys on.now.rows.now)
+        (standing (rows_in net.entry.now) (scope_of on.now.env.now)
+        (past_in on.now.before on.now.dt))
+        (datum_of x.now) (running_of running.new) (datum_of out.new) n) }
 {
-    if let State::Whole(whole) = place {
-        if let Some(node) = Rc::get_mut(&mut whole.node) {
-            return run_in_second(alloc, rows, from, dt, x, node, out);
+    if let Net::Old(k) = net {
+        return run_old(on, *k, x, running, out);
+    }
+    running.renew(net, on.env)?;
+    match net {
+        Net::Switch(f, t) => run_switch(on, f.get(), x, running, out, t.get()),
+        Net::DSwitch(f, t) => run_d_switch(on, f.get(), x, running, out, t.get()),
+        Net::KSwitch(f, e, t) => {
+            let rest = Rest {
+                watch: e.get(),
+                over: t.get(),
+            };
+            run_k_switch(on, f.get(), x, running, out, rest)
         }
-    }
-    Err(Memory)
-}
-
-/// A part's sample, in the place of the first part of a node.
-#[cycle(run)]
-#[inline(always)]
-fn run_in_first<'n, R: Rows>(
-    alloc: Global,
-    rows: &R,
-    from: &Source<'_, 'n>,
-    dt: u64,
-    x: &Sample,
-    node: &mut Node<'n>,
-    out: &mut Sample,
-) -> Result<u32, Memory>
-    ensures { IfOk result (λ n.
-        RunsWhere (R.keys rows.now) (source_of from.now dt) (datum_of x.now)
-        (first_part (node_of node.new)) (datum_of out.new) n) }
-{
-    match node {
-        Node::Seq(parts) => run(alloc, rows, from, dt, x, &mut parts.first, out),
-        Node::First(part) => run(alloc, rows, from, dt, x, part, out),
-        Node::LoopPre(parts) => run(alloc, rows, from, dt, x, &mut parts.part, out),
-        Node::Switch(parts) => run(alloc, rows, from, dt, x, &mut parts.part, out),
-        Node::DSwitch(parts) => run(alloc, rows, from, dt, x, &mut parts.part, out),
-        Node::RSwitch(parts) => run(alloc, rows, from, dt, x, &mut parts.part, out),
-        Node::KSwitch(parts) => run(alloc, rows, from, dt, x, &mut parts.part, out),
-        Node::PSwitch(parts) => run(alloc, rows, from, dt, x, &mut parts.watch, out),
-        Node::Par(_) => run_alone(alloc, rows, from, dt, x, node, out),
-    }
-}
-
-/// A part's sample, in the place of a node without a first part.
-#[cycle(run)]
-#[inline(never)]
-fn run_alone<'n, R: Rows>(
-    alloc: Global,
-    rows: &R,
-    from: &Source<'_, 'n>,
-    dt: u64,
-    x: &Sample,
-    node: &mut Node<'n>,
-    out: &mut Sample,
-) -> Result<u32, Memory>
-    ensures { IfOk result (λ n.
-        RunsWhere (R.keys rows.now) (source_of from.now dt) (datum_of x.now)
-        (first_part (node_of node.new)) (datum_of out.new) n) }
-{
-    let mut part = State::Nothing;
-    let one = run(alloc, rows, from, dt, x, &mut part, out);
-    drop(std::mem::replace(node, Node::First(part)));
-    one
-}
-
-/// A part's sample, in the place of the second part of a node, whose first part stays.
-#[cycle(run)]
-#[inline(always)]
-fn run_in_second<'n, R: Rows>(
-    alloc: Global,
-    rows: &R,
-    from: &Source<'_, 'n>,
-    dt: u64,
-    x: &Sample,
-    node: &mut Node<'n>,
-    out: &mut Sample,
-) -> Result<u32, Memory>
-    ensures { IfOk result (λ n.
-        (first_part (node_of node.new) ≡ first_part (node_of node.old))
-        × RunsWhere (R.keys rows.now) (source_of from.now dt) (datum_of x.now)
-        (second_part (node_of node.new)) (datum_of out.new) n) }
-{
-    match node {
-        Node::Seq(parts) => run(alloc, rows, from, dt, x, &mut parts.second, out),
-        Node::KSwitch(parts) => run(alloc, rows, from, dt, x, &mut parts.watch, out),
-        _ => run_beside(alloc, rows, from, dt, x, node, out),
-    }
-}
-
-/// A part's sample, in the place of a node without a second part, whose first part stays.
-#[cycle(run)]
-#[inline(never)]
-fn run_beside<'n, R: Rows>(
-    alloc: Global,
-    rows: &R,
-    from: &Source<'_, 'n>,
-    dt: u64,
-    x: &Sample,
-    node: &mut Node<'n>,
-    out: &mut Sample,
-) -> Result<u32, Memory>
-    ensures { IfOk result (λ n.
-        (first_part (node_of node.new) ≡ first_part (node_of node.old))
-        × RunsWhere (R.keys rows.now) (source_of from.now dt) (datum_of x.now)
-        (second_part (node_of node.new)) (datum_of out.new) n) }
-{
-    let first = node.take_first();
-    let mut second = State::Nothing;
-    let two = run(alloc, rows, from, dt, x, &mut second, out);
-    drop(std::mem::replace(node, Node::Seq(SeqParts { first, second })));
-    two
-}
-
-/// `first` by its part.
-#[cycle(run)]
-#[inline(never)]
-pub(crate) fn run_first<'n, R: Rows>(
-    alloc: Global,
-    rows: &R,
-    f: &Source<'_, 'n>,
-    dt: u64,
-    x: &Sample,
-    place: &mut State<'n>,
-    out: &mut Sample,
-) -> Result<u32, Memory>
-    ensures { IfOk result (λ n.
-        RunsBy (R.keys rows.now)
-        (λ w. FirstBy w (source_of f.now dt))
-        (datum_of x.now) (outcome (state_of place.new) (datum_of out.new) n)) }
-{
-    let mut answer = Sample::Int(0);
-    match run_part(alloc, rows, f, dt, first(x), place, &mut answer) {
-        Ok(one) => {
-            let both = paired_with(alloc, answer, second(x))?;
-            out.put(both);
-            round(alloc, Around::First, one, 0, place)
+        Net::PSwitch(r, fs, e, t) => {
+            let members = Members {
+                router: *r,
+                nets: fs.as_slice(),
+            };
+            let rest = Rest {
+                watch: e.get(),
+                over: t.get(),
+            };
+            run_p_switch(on, members, x, running, out, rest)
         }
-        Err(memory) => {
-            drop(answer);
-            Err(memory)
+        _ => {
+            let visits = flow(on, net, x, &mut running.kept, out)?;
+            running.kept.end();
+            Ok(visits)
         }
     }
 }
 
-/// `parB` by its members.
-#[cycle(run)]
-#[inline(never)]
-pub(crate) fn run_par<'n, R: Rows>(
-    alloc: Global,
-    rows: &R,
-    fs: Sources<'_, 'n>,
-    dt: u64,
-    x: &Sample,
-    place: &mut State<'n>,
-    out: &mut Sample,
-) -> Result<u32, Memory>
-    ensures { IfOk result (λ n.
-        RunsBy (R.keys rows.now)
-        (λ w. ParBy w (sources_of fs.entry dt))
-        (datum_of x.now) (outcome (state_of place.new) (datum_of out.new) n)) }
-{
-    let all = run_all(alloc, rows, Route::ToAll, fs, dt, x, place, out)?;
-    join_par(alloc, all, place, out)
+/// What watches the parts of a switch, and what takes over from it.
+#[derive(Clone, Copy)]
+struct Rest<'n> {
+    watch: &'n Net<LeafId>,
+    over: &'n Net<LeafId>,
 }
 
-/// `loopPre` by what is fed back and its part.
-#[cycle(run)]
-#[inline(never)]
-pub(crate) fn run_loop<'n, R: Rows>(
-    alloc: Global,
-    rows: &R,
-    back: Back<'_>,
-    f: &Source<'_, 'n>,
-    dt: u64,
-    x: &Sample,
-    place: &mut State<'n>,
-    out: &mut Sample,
-) -> Result<u32, Memory>
-    ensures { IfOk result (λ n.
-        RunsBy (R.keys rows.now)
-        (λ w. (keys : List KeyTree) (u : Datum) → IsFed keys back.entry u
-        → LoopBy keys w u (source_of f.now dt))
-        (datum_of x.now) (outcome (state_of place.new) (datum_of out.new) n)) }
-{
-    let input = fed(alloc, rows, back, x)?;
-    let mut answer = Sample::Int(0);
-    let one = run_part(alloc, rows, f, dt, &input, place, &mut answer);
-    rows.give_back(input);
-    match one {
-        Ok(one) => {
-            join_loop(alloc, answer, place, out)?;
-            Ok(count::node(one, 0))
-        }
-        Err(memory) => {
-            drop(answer);
-            Err(memory)
-        }
-    }
+/// Members of a `pSwitch`, with the row that routes.
+#[derive(Clone, Copy)]
+struct Members<'n> {
+    router: LeafId,
+    nets: &'n [Net<LeafId>],
 }
 
-/// `switch` by its part, the network that takes over and its scope.
+/// `switch`: at an event the network that takes over answers.
 #[cycle(run)]
-#[inline(always)]
-pub(crate) fn run_switch<'n, R: Rows>(
-    alloc: Global,
-    rows: &R,
-    f: &Source<'_, 'n>,
+#[inline(never)]
+fn run_switch<'n, R: Rows>(
+    on: &On<'_, 'n, R>,
+    f: &'n Net<LeafId>,
+    x: &Sample,
+    running: &mut Running<'n>,
+    out: &mut Sample,
     t: &'n Net<LeafId>,
-    env: &Env<'n>,
-    dt: u64,
-    x: &Sample,
-    place: &mut State<'n>,
-    out: &mut Sample,
 ) -> Result<u32, Memory>
-    ensures { IfOk result (λ n.
-        RunsBy (R.keys rows.now)
-        (λ w. SwitchBy w (source_of f.now dt) (rows_in t.entry.now) (scope_of env.now))
-        (datum_of x.now) (outcome (state_of place.new) (datum_of out.new) n)) }
+    requires { Begins running.old (switch (rows_in f.now) (rows_in t.now))
+        (scope_of on.now.env.now) }
+    ensures { IfOk result (λ n. RunsWhere (R.keys on.now.rows.now)
+        (standing (switch (rows_in f.entry.now) (rows_in t.entry.now)) (scope_of on.now.env.now)
+        (past_in on.now.before on.now.dt))
+        (datum_of x.now) (running_of running.new) (datum_of out.new) n) }
 {
     let mut answer = Sample::Int(0);
-    match run_part(alloc, rows, f, dt, x, place, &mut answer) {
-        Ok(one) => match fire(alloc, second(&answer), env) {
-            Ok(Some(inner)) => {
-                let before = count::node(one, 0);
+    match run_place(on, f, x, &mut running.kept, &mut answer) {
+        Ok(one) => match fire(on.alloc, second(&answer), on.env) {
+            Ok(Some(env)) => {
+                let two = run_in(&on.started(&env), t, x, running, out);
                 drop(answer);
-                run_over(alloc, rows, before, t, inner, x, place, out)
+                drop(env);
+                Ok(node(one, two?))
             }
             Ok(None) => {
-                let around = Around::Switch(Turn::AtOnce, t, env);
-                keep_first(alloc, around, answer, place, out)?;
-                Ok(count::node(one, 0))
+                let done = out.put_copy(on.alloc, first(&answer));
+                drop(answer);
+                done?;
+                running.kept.end();
+                Ok(node(one, 0))
             }
             Err(memory) => {
                 drop(answer);
@@ -379,33 +265,45 @@ pub(crate) fn run_switch<'n, R: Rows>(
     }
 }
 
-/// `dSwitch` likewise.
+/// `dSwitch`: at an event its part still answers.
 #[cycle(run)]
-#[inline(always)]
-pub(crate) fn run_d_switch<'n, R: Rows>(
-    alloc: Global,
-    rows: &R,
-    f: &Source<'_, 'n>,
-    t: &'n Net<LeafId>,
-    env: &Env<'n>,
-    dt: u64,
+#[inline(never)]
+fn run_d_switch<'n, R: Rows>(
+    on: &On<'_, 'n, R>,
+    f: &'n Net<LeafId>,
     x: &Sample,
-    place: &mut State<'n>,
+    running: &mut Running<'n>,
     out: &mut Sample,
+    t: &'n Net<LeafId>,
 ) -> Result<u32, Memory>
-    ensures { IfOk result (λ n.
-        RunsBy (R.keys rows.now)
-        (λ w. DSwitchBy w (source_of f.now dt) (rows_in t.entry.now) (scope_of env.now))
-        (datum_of x.now) (outcome (state_of place.new) (datum_of out.new) n)) }
+    requires { Begins running.old (d_switch (rows_in f.now) (rows_in t.now))
+        (scope_of on.now.env.now) }
+    ensures { IfOk result (λ n. RunsWhere (R.keys on.now.rows.now)
+        (standing (d_switch (rows_in f.entry.now) (rows_in t.entry.now)) (scope_of on.now.env.now)
+        (past_in on.now.before on.now.dt))
+        (datum_of x.now) (running_of running.new) (datum_of out.new) n) }
 {
     let mut answer = Sample::Int(0);
-    match run_part(alloc, rows, f, dt, x, place, &mut answer) {
-        Ok(one) => match fire(alloc, second(&answer), env) {
-            Ok(Some(inner)) => run_late(alloc, rows, one, answer, t, inner, x, place, out),
-            Ok(None) => {
-                let around = Around::Switch(Turn::Late, t, env);
-                keep_first(alloc, around, answer, place, out)?;
-                Ok(count::node(one, 0))
+    match run_place(on, f, x, &mut running.kept, &mut answer) {
+        Ok(one) => match fire(on.alloc, second(&answer), on.env) {
+            Ok(fired) => {
+                let done = out.put_copy(on.alloc, first(&answer));
+                drop(answer);
+                match fired {
+                    Some(env) => {
+                        let mut unheard = Sample::Int(0);
+                        let two = run_in(&on.started(&env), t, x, running, &mut unheard);
+                        drop(env);
+                        drop(unheard);
+                        done?;
+                        Ok(node(one, two?))
+                    }
+                    None => {
+                        done?;
+                        running.kept.end();
+                        Ok(node(one, 0))
+                    }
+                }
             }
             Err(memory) => {
                 drop(answer);
@@ -419,97 +317,103 @@ pub(crate) fn run_d_switch<'n, R: Rows>(
     }
 }
 
-/// `rSwitch` likewise.
+/// `kSwitch`: what takes over has its part frozen in scope.
 #[cycle(run)]
-#[inline(always)]
-pub(crate) fn run_r_switch<'n, R: Rows>(
-    alloc: Global,
-    rows: &R,
-    f: &Source<'_, 'n>,
-    t: &'n Net<LeafId>,
-    env: &Env<'n>,
-    dt: u64,
+#[inline(never)]
+fn run_k_switch<'n, R: Rows>(
+    on: &On<'_, 'n, R>,
+    f: &'n Net<LeafId>,
     x: &Sample,
-    place: &mut State<'n>,
+    running: &mut Running<'n>,
     out: &mut Sample,
+    rest: Rest<'n>,
 ) -> Result<u32, Memory>
-    ensures { IfOk result (λ n.
-        RunsBy (R.keys rows.now)
-        (λ w. RSwitchBy w (source_of f.now dt) (rows_in t.entry.now) (scope_of env.now))
-        (datum_of x.now) (outcome (state_of place.new) (datum_of out.new) n)) }
+    requires { Begins running.old (k_switch (rows_in f.now) (rows_in rest.watch.now)
+        (rows_in rest.over.now)) (scope_of on.now.env.now) }
+    ensures { IfOk result (λ n. RunsWhere (R.keys on.now.rows.now)
+        (standing (k_switch (rows_in f.entry.now) (rows_in rest.entry.watch.now)
+        (rows_in rest.entry.over.now)) (scope_of on.now.env.now)
+        (past_in on.now.before on.now.dt))
+        (datum_of x.now) (running_of running.new) (datum_of out.new) n) }
 {
-    match restart_of(x) {
-        Some((u, event)) => run_restart(alloc, rows, t, env, u, event, place, out),
+    let one = run_place(on, f, x, &mut running.kept, out)?;
+    let (two, event) = run_watch(on, rest.watch, x, &mut running.kept, out)?;
+    let fired = fire_one(on, &event, f);
+    drop(event);
+    match fired? {
+        Some(env) => {
+            let three = run_in(&on.started(&env), rest.over, x, running, out);
+            drop(env);
+            Ok(both(node(one, two), three?))
+        }
         None => {
-            let one = run_part(alloc, rows, f, dt, first(x), place, out)?;
-            let around = Around::Switch(Turn::Recurring, t, env);
-            round(alloc, around, one, 0, place)
+            running.kept.end();
+            Ok(node(one, two))
         }
     }
 }
 
-/// An `rSwitch` at an event, which starts its network anew with what the event carries in scope.
+/// `pSwitch`: what takes over has all members frozen in scope.
 #[cycle(run)]
 #[inline(never)]
-fn run_restart<'n, R: Rows>(
-    alloc: Global,
-    rows: &R,
-    t: &'n Net<LeafId>,
-    env: &Env<'n>,
+fn run_p_switch<'n, R: Rows>(
+    on: &On<'_, 'n, R>,
+    members: Members<'n>,
     x: &Sample,
-    event: &Sample,
-    place: &mut State<'n>,
+    running: &mut Running<'n>,
     out: &mut Sample,
+    rest: Rest<'n>,
 ) -> Result<u32, Memory>
-    ensures { IfOk result (λ n.
-        StartsAnew (R.keys rows.now) (rows_in t.entry.now) (scope_of env.now) (datum_of x.now)
-        (datum_of event.now) (outcome (state_of place.new) (datum_of out.new) n)) }
+    requires { Begins running.old (p_switch (row_number members.router)
+        (map_networks row_number (members_of members.nets.now))
+        (rows_in rest.watch.now) (rows_in rest.over.now)) (scope_of on.now.env.now) }
+    ensures { IfOk result (λ n. RunsWhere (R.keys on.now.rows.now)
+        (standing (p_switch (row_number members.entry.router)
+        (map_networks row_number (members_of members.entry.nets.now))
+        (rows_in rest.entry.watch.now) (rows_in rest.entry.over.now)) (scope_of on.now.env.now)
+        (past_in on.now.before on.now.dt))
+        (datum_of x.now) (running_of running.new) (datum_of out.new) n) }
 {
-    let inner = push_param(alloc, env, event)?;
-    let one = run_part(alloc, rows, &Source::Net(t, &inner), 0, x, place, out);
-    drop(inner);
-    let around = Around::Switch(Turn::Recurring, t, env);
-    round(alloc, around, one?, 0, place)
+    let one = run_members(on, members, x, &mut running.kept, out)?;
+    let (two, event) = run_watch(on, rest.watch, x, &mut running.kept, out)?;
+    let fired = fire_all(on, &event, members.nets);
+    drop(event);
+    match fired? {
+        Some(env) => {
+            let three = run_in(&on.started(&env), rest.over, x, running, out);
+            drop(env);
+            Ok(both(node(one, two), three?))
+        }
+        None => {
+            running.kept.end();
+            Ok(node(one, two))
+        }
+    }
 }
 
-/// `kSwitch` likewise, with the part that watches.
+/// What watches parts, at the next place, on the sample and their answer; with what it sees.
 #[cycle(run)]
 #[inline(always)]
-pub(crate) fn run_k_switch<'n, R: Rows>(
-    alloc: Global,
-    rows: &R,
-    f: &Source<'_, 'n>,
-    e: &Source<'_, 'n>,
-    t: &'n Net<LeafId>,
-    env: &Env<'n>,
-    dt: u64,
+fn run_watch<'n, R: Rows>(
+    on: &On<'_, 'n, R>,
+    e: &'n Net<LeafId>,
     x: &Sample,
-    place: &mut State<'n>,
-    out: &mut Sample,
-) -> Result<u32, Memory>
-    ensures { IfOk result (λ n.
-        RunsBy (R.keys rows.now)
-        (λ w. KSwitchBy w (source_of f.now dt) (source_of e.now dt) (rows_in t.entry.now)
-        (scope_of env.now))
-        (datum_of x.now) (outcome (state_of place.new) (datum_of out.new) n)) }
+    kept: &mut Kept<'n>,
+    answer: &Sample,
+) -> Result<(u32, Sample), Memory>
+    ensures { IfOk result (λ r. Runs (R.keys on.now.rows.now)
+        (placed (rows_in e.entry.now) (scope_of on.now.env.now)
+        (past_behind (0, length (kept_of kept.old).1) (past_in on.now.before on.now.dt)))
+        (pair (datum_of x.now) (datum_of answer.now)) (kept_of kept.old) (kept_of kept.new)
+        (datum_of r.1) r.0) }
 {
-    let one = run_part(alloc, rows, f, dt, x, place, out)?;
-    let seen = rows.pair(alloc, x, out)?;
-    let mut event = Sample::Int(0);
-    let two = run_second(alloc, rows, e, dt, &seen, place, &mut event);
-    rows.give_back(seen);
-    match two {
-        Ok(two) => {
-            let fired = fire_old(alloc, &event, env, Stopped::One(*f), dt);
-            drop(event);
-            match fired? {
-                Some(inner) => {
-                    let before = count::node(one, two);
-                    run_over(alloc, rows, before, t, inner, x, place, out)
-                }
-                None => round(alloc, Around::KSwitch(t, env), one, two, place),
-            }
-        }
+    let mut seen = on.rows.pair(on.alloc, x, answer)?;
+    let mut event = Sample::Unit;
+    let done = run_place(on, e, &seen, kept, &mut event);
+    let_second_go(&mut seen);
+    on.rows.give_back(seen);
+    match done {
+        Ok(visits) => Ok((visits, event)),
         Err(memory) => {
             drop(event);
             Err(memory)
@@ -517,110 +421,133 @@ pub(crate) fn run_k_switch<'n, R: Rows>(
     }
 }
 
-/// `pSwitch` by the row that routes, its members, the part that watches them, the network that
-/// takes over and its scope.
+/// The members of a `pSwitch`, at a place each; their answers become one list.
 #[cycle(run)]
 #[inline(never)]
-pub(crate) fn run_p_switch<'n, R: Rows>(
-    alloc: Global,
-    rows: &R,
-    r: LeafId,
-    fs: Sources<'_, 'n>,
-    e: &Source<'_, 'n>,
-    t: &'n Net<LeafId>,
-    env: &Env<'n>,
-    dt: u64,
+fn run_members<'n, R: Rows>(
+    on: &On<'_, 'n, R>,
+    members: Members<'n>,
     x: &Sample,
-    place: &mut State<'n>,
+    kept: &mut Kept<'n>,
     out: &mut Sample,
 ) -> Result<u32, Memory>
-    ensures { IfOk result (λ n.
-        RunsBy (R.keys rows.now)
-        (λ w. PSwitchBy w (row_number r) (sources_of fs.entry dt) (source_of e.now dt)
-        (rows_in t.entry.now) (scope_of env.now))
-        (datum_of x.now) (outcome (state_of place.new) (datum_of out.new) n)) }
+    ensures { IfOk result (λ n. ListRuns (R.keys on.now.rows.now) (row_number members.entry.router)
+        (map_networks row_number (members_of members.entry.nets.now))
+        (scope_of on.now.env.now) (past_in on.now.before on.now.dt) (datum_of x.now)
+        (kept_of kept.old) (kept_of kept.new) (datum_of out.new) n) }
 {
-    let route = Route::ByRow(r, &env.params);
-    let all = run_all(alloc, rows, route, fs, dt, x, place, out)?;
-    let mut event = Sample::Int(0);
-    match run_members_watch(alloc, rows, e, dt, x, all.list(), place, &mut event) {
-        Ok(two) => {
-            let fired = fire_old(alloc, &event, env, Stopped::All(fs), dt);
-            drop(event);
-            match fired {
-                Ok(Some(inner)) => {
-                    let before = count::node(all.visits(), two);
-                    drop(all);
-                    run_over(alloc, rows, before, t, inner, x, place, out)
-                }
-                Ok(None) => keep_p_switch(alloc, r, all, two, t, env, place, out),
-                Err(memory) => {
-                    drop(all);
-                    Err(memory)
-                }
-            }
+    let mut answers = answer_places(on.alloc, members.nets.len(), out)?;
+    match run_each(on, members, x, kept, &mut answers, 0) {
+        Ok(all) => {
+            out.put_list(on.alloc, answers)?;
+            Ok(all)
         }
         Err(memory) => {
-            drop(event);
-            drop(all);
+            drop(answers);
             Err(memory)
         }
     }
 }
 
-/// The network takes over after so many visits.
+/// Puts what the members answer, in order, in the place of the answers of so many members before.
 #[cycle(run)]
 #[inline(never)]
-fn run_over<'n, R: Rows>(
-    alloc: Global,
-    rows: &R,
-    before: u32,
-    t: &'n Net<LeafId>,
-    env: Env<'n>,
+fn run_each<'n, R: Rows>(
+    on: &On<'_, 'n, R>,
+    members: Members<'n>,
     x: &Sample,
-    place: &mut State<'n>,
-    out: &mut Sample,
+    kept: &mut Kept<'n>,
+    answers: &mut Vec<Sample>,
+    before: usize,
 ) -> Result<u32, Memory>
-    ensures { IfOk result (λ n.
-        TakesOver (R.keys rows.now) before (rows_in t.entry.now) (scope_of env.entry)
-        (datum_of x.now) (outcome (state_of place.new) (datum_of out.new) n)) }
+    requires { before ≤ length answers.old.items }
+    ensures { IfOk result (λ n. AllRun (R.keys on.now.rows.now) (row_number members.entry.router)
+        (map_networks row_number (members_of members.entry.nets.now))
+        (scope_of on.now.env.now) (past_in on.now.before on.now.dt) before
+        (datum_of x.now) (kept_of kept.old) (kept_of kept.new)
+        (map datum_of (take before answers.old.items)) (map datum_of answers.new.items) n) }
 {
-    let over = run(alloc, rows, &Source::Net(t, &env), 0, x, place, out);
-    drop(env);
-    Ok(count::both(before, over?))
+    match members.nets.split_first() {
+        Some((f, nets)) => {
+            make_place(answers, before)?;
+            let input = routed(on, members.router, x, before)?;
+            let one = run_place(on, f, &input, kept, &mut answers[before]);
+            input.let_go();
+            let one = one?;
+            let router = members.router;
+            let others = run_each(on, Members { router, nets }, x, kept, answers, before + 1)?;
+            Ok(both(one, others))
+        }
+        None => {
+            answers.truncate(before);
+            Ok(0)
+        }
+    }
 }
 
-/// The network takes over from a `dSwitch`, whose part still answers.
+/// What the row makes of the sample and member i's number.
+#[inline(always)]
+fn routed<R: Rows>(
+    on: &On<'_, '_, R>,
+    router: LeafId,
+    x: &Sample,
+    i: usize,
+) -> Result<Sample, Memory>
+    requires { i < 2 ^ 63 }
+    ensures { IfOk result (λ y. Called (R.keys on.now.rows.now) (row_number router)
+        on.now.env.now.params (pair (datum_of x.now) (int (pos i))) (datum_of y)) }
+{
+    let asked = on.rows.pair(on.alloc, x, &Sample::Int(i as i64))?;
+    let input = on.rows.call(router, on.params(), &asked);
+    on.rows.give_back(asked);
+    input
+}
+
+/// `(old k)`: what was frozen goes on, or starts. What runs at a place is never an `(old k)` that has
+/// resumed, and a typed one finds what was frozen; `Memory` else.
 #[cycle(run)]
 #[inline(never)]
-fn run_late<'n, R: Rows>(
-    alloc: Global,
-    rows: &R,
-    one: u32,
-    answer: Sample,
-    t: &'n Net<LeafId>,
-    env: Env<'n>,
+fn run_old<'n, R: Rows>(
+    on: &On<'_, 'n, R>,
+    k: u32,
     x: &Sample,
-    place: &mut State<'n>,
+    running: &mut Running<'n>,
     out: &mut Sample,
 ) -> Result<u32, Memory>
-    ensures { IfOk result (λ n.
-        TakesOverLate (R.keys rows.now) (datum_of answer) one
-        (rows_in t.entry.now) (scope_of env.entry) (datum_of x.now)
-        (outcome (state_of place.new) (datum_of out.new) n)) }
+    ensures { IfOk result (λ n. RunsWhere (R.keys on.now.rows.now)
+        (standing (old k) (scope_of on.now.env.now) (past_in on.now.before on.now.dt))
+        (datum_of x.now) (running_of running.new) (datum_of out.new) n) }
 {
-    let mut unseen = Sample::Int(0);
-    let over = run(alloc, rows, &Source::Net(t, &env), 0, x, place, &mut unseen);
-    drop(env);
-    drop(unseen);
-    match over {
-        Ok(over) => {
-            put_first(alloc, answer, out)?;
-            Ok(count::node(one, over))
-        }
-        Err(memory) => {
-            drop(answer);
-            Err(memory)
-        }
+    match on.before {
+        Some(_) => Err(Memory),
+        None => match on.env.olds.get(k) {
+            Some(frozen) => Ok(node(resume(on, frozen, x, running, out)?, 0)),
+            None => Err(Memory),
+        },
+    }
+}
+
+/// What was frozen goes on with the step that it was frozen with, or starts. A state that keeps
+/// nothing isn't frozen; `Memory` then.
+#[cycle(run)]
+fn resume<'n, R: Rows>(
+    on: &On<'_, 'n, R>,
+    frozen: &Frozen<'n>,
+    x: &Sample,
+    running: &mut Running<'n>,
+    out: &mut Sample,
+) -> Result<u32, Memory>
+    ensures { IfOk result (λ n. RunsWhere (R.keys on.now.rows.now) (frozen_of frozen.now)
+        (datum_of x.now) (running_of running.new) (datum_of out.new) n) }
+{
+    match frozen {
+        Frozen::Unstarted { net, env } => run_in(&(&*on).started(env), net, x, running, out),
+        Frozen::Paused { state, step } => match state {
+            State::Whole(whole) => {
+                let paused = whole.get();
+                run_in(&(&*on).going(paused, *step), paused.net, x, running, out)
+            }
+            State::Nothing => Err(Memory),
+        },
     }
 }

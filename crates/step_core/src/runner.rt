@@ -3,14 +3,15 @@
 ghost use Rattle.std.specs.Prelude.{◌≡◌, ◌<◌, ◌≤◌, ◌+◌, ◌^◌, [], Some, IfOk, OnErr};
 ghost use Rattle.sample_core.specs.{HasType.HasType, ValueView.datum_of};
 ghost use Rattle.leaf_table.specs.Rows.{rows_of};
-ghost use Rattle.state_core.specs.StateView.{state_of};
-ghost use Rattle.step_core.specs.{Binding.FitsTable, RunnerState.HasPast, Runs.RunsWhere, SourceView.source_of, StateOption.state_in};
+ghost use Rattle.state_core.specs.{RowsView.rows_in, StateView.frozen_from, StateView.scope_of, StateView.state_of};
+ghost use Rattle.step_core.specs.{Binding.FitsTable, RunnerState.HasPast, Runs.RunsWhere, StateOption.state_in};
 
 use crate::bound::Bound;
+use crate::on::On;
 use crate::rows::{Rows, Workspace};
-use crate::run::run_in_line;
-use crate::source::Source;
-use leaf_table::LeafTable;
+use crate::run::{run_over, step};
+use leaf_table::{LeafId, LeafTable};
+use net_syntax::Net;
 use sample_core::{Memory, Sample};
 use state_core::{Env, State};
 use std::alloc::Global;
@@ -85,34 +86,21 @@ impl<'a> Runner<'a> {
         ensures unchanged { OnErr result (runner_state self.new ≡ runner_state self.old) }
     {
         let env = Env::nothing();
-        let from = match &self.state {
-            Some(state) => Source::State(state),
-            None => Source::Net(self.bound.net(), &env),
+        let on = On {
+            alloc: self.alloc,
+            rows: &self.workspace,
+            env: &env,
+            before: None,
+            dt: step,
         };
-        let place = &mut self.place;
-        let last = &mut self.answer;
-        let mut answer = Sample::Int(0);
-        match run_kept(
-            self.alloc,
-            &self.workspace,
-            &from,
-            step,
-            sample,
-            place,
-            last,
-            &mut answer,
-        ) {
-            Ok(visits) => {
-                keep(&mut self.state, &mut self.place);
-                self.samples += 1;
-                self.visits = visits;
-                Ok(answer)
-            }
-            Err(memory) => {
-                drop(answer);
-                Err(memory)
-            }
-        }
+        let (net, state) = (self.bound.net(), self.state.as_ref());
+        let done = run_next(&on, net, state, sample, &mut self.place, &mut self.answer);
+        drop(env);
+        let (visits, answer) = done?;
+        keep(&mut self.state, &mut self.place);
+        self.samples += 1;
+        self.visits = visits;
+        Ok(answer)
     }
 
     /// How many samples the network has answered. One that was refused isn't counted.
@@ -131,29 +119,45 @@ impl<'a> Runner<'a> {
     }
 }
 
-/// A start or a step. A list that it answers stays in the place of the last one, and a copy is put
-/// out; another value is put out itself.
+/// A start of the network, or a step of its state where it has one: its visits, and its answer. A
+/// list that it answers stays in the place of the last one, and a copy is answered.
 #[inline(always)]
-fn run_kept<'n, R: Rows>(
-    alloc: Global,
-    rows: &R,
-    from: &Source<'_, 'n>,
-    dt: u64,
+fn run_next<'n, R: Rows>(
+    on: &On<'_, 'n, R>,
+    net: &'n Net<LeafId>,
+    state: Option<&State<'n>>,
     x: &Sample,
     place: &mut State<'n>,
     last: &mut Sample,
-    out: &mut Sample,
-) -> Result<u32, Memory>
-    ensures { IfOk result (λ n.
-        RunsWhere (R.keys rows.now) (source_of from.now dt) (datum_of x.now)
-        (state_of place.new) (datum_of out.new) n) }
+) -> Result<(u32, Sample), Memory>
+    ensures { IfOk result (λ r. RunsWhere (R.keys on.now.rows.now)
+        (frozen_from (rows_in net.entry.now) (scope_of on.now.env.now) state.entry on.now.dt)
+        (datum_of x.now) (state_of place.new) (datum_of r.1) r.0) }
 {
-    let visits = run_in_line(alloc, rows, from, dt, x, place, last)?;
+    let visits = match state {
+        Some(state) => step(on, state, x, place, last)?,
+        None => run_over(&on.started(on.env), net, x, place, last)?,
+    };
+    let mut out = Sample::Int(0);
+    match put_out(on.alloc, last, &mut out) {
+        Ok(()) => Ok((visits, out)),
+        Err(memory) => {
+            drop(out);
+            Err(memory)
+        }
+    }
+}
+
+/// Puts out a copy of a list or of a number, or another value itself.
+#[inline(always)]
+fn put_out(alloc: Global, last: &mut Sample, out: &mut Sample) -> Result<(), Memory>
+    ensures { IfOk result (λ _. datum_of out.new ≡ datum_of last.old) }
+{
     match last {
         Sample::List(_) | Sample::Int(_) => out.put_copy(alloc, last)?,
         _ => std::mem::swap(last, out),
     }
-    Ok(visits)
+    Ok(())
 }
 
 /// Keeps the state that stands in the place; the one that was kept, if any, is the place then.

@@ -1,438 +1,324 @@
-use Rattle.std.proofs.Common.{rules, arith, sym, ap, subst, ◌∙◌, refl, length-set, take}
-use Rattle.sample_core.specs.Datum.{pair}
+use Rattle.std.proofs.Common.{rules, ◌≡◌, map, length, ap, ◌∙◌, sym, refl, subst, arith, inl, inr, length-set}
+use Rattle.std.specs.Prelude.{slice_set}
+use Rattle.sample_core.specs.Datum.{right}
 use Rattle.sample_core.specs.ValueView.{datum_of}
+use Rattle.net_syntax.specs.Network.{map_network, map_networks, seq}
+use Rattle.net_syntax.specs.NetworkView.{members_of}
+use Rattle.cell_core.specs.Cell.{previous}
 use Rattle.state_core.specs.RowsView.{rows_in, row_number}
-use Rattle.state_core.specs.State.{seq_state, paused, unstarted, par_state, no_state, push_param, push_old, push_olds}
-use Rattle.state_core.specs.StaticNetwork.{static_state}
-use Rattle.state_core.specs.Around.{first_part, second_part}
-use Rattle.state_core.specs.StateView.{scope_of, state_of, node_of, p_switch_of}
+use Rattle.state_core.specs.State.{push_param, push_old, push_olds}
+use Rattle.state_core.specs.StateView.{kept_of, running_of, scope_of, state_of}
+use Rattle.state_core.specs.Tree.{width_of}
 use Rattle.step_core.specs.EventView.{restart_found}
-use Rattle.step_core.specs.Handed.{router_of}
-use Rattle.step_core.specs.Runs as R
-use Rattle.step_core.specs.Runs.{RunsWhere, RunEachWhere, to_all, by_row, ParBy}
-use Rattle.step_core.specs.Outcome.{gathered, outcome}
-use Rattle.step_core.specs.SourceView.{source_of, sources_of}
-use Rattle.step_core.proofs.Falling.{members_fall, seq_within, first_falls, par_falls, loop_weighs, switch_within, d_switch_within, r_switch_within, k_switch_within, p_switch_within, old_falls, over_weighs, over_old_weighs, over_olds_weighs}
-use Rattle.step_core.proofs.RunJoins.{if_ok, fires_by, stays, seq_joined, first_joined, loop_joined, switch_kept, switch_over, d_switch_kept, d_switch_over, r_switch_kept, r_switch_over, k_switch_kept, k_switch_over, old_over}
-use Rattle.step_core.proofs.RunMembers.{none_run, also_run, member_ran, one_added, next_number, par_joined, p_switch_kept, p_switch_over}
-use Rattle.step_core.proofs.PartForms.{moved, flow_new_by, seq_new_by, first_new_by, par_new_by, loop_new_by, switch_new_by, d_switch_new_by, r_switch_new_by, k_switch_new_by, p_switch_new_by, par_on_by, loop_on_by, p_switch_on_by, old_by}
+use Rattle.step_core.specs.Flow as F
+use Rattle.step_core.specs.Flow.{all_placed, past_behind, past_in, placed, standing, Runs}
+use Rattle.step_core.specs.Runs.{RunsWhere}
+use Rattle.step_core.proofs.Flows.{is_switch, is_d_switch, is_k_switch, is_p_switch, is_old, placed_by, arr_flows, cell_by, seq_flows, first_flows, loop_flows, par_flows, none_flow, chain_goes, each_begins, each_goes, no_items, placed_flows, restart_goes, restart_cuts}
+use Rattle.step_core.proofs.Levels.{level_most}
+use Rattle.step_core.proofs.Plain.{plain, flows_run}
+use Rattle.step_core.proofs.RunJoins.{if_ok, both_ok, fires_by}
+use Rattle.step_core.proofs.StateLists.{one_answered}
+use Rattle.step_core.proofs.Switches.{same_rank, rest_falls, par_members_fall, one_cell_wider, placed_found, flows_width, runs_width, others_fall, others_placed_fall, loop_part_falls, k_over_falls, p_over_falls, p_members_fall, p_watch_falls, resumed_falls, switch_stays, switch_ends, d_switch_stays, d_switch_ends, k_switch_stays, k_switch_ends, none_run, also_run, p_switch_stays, p_switch_ends, old_resumes}
 use Rattle.step_core.proofs.+run.Goals as goal
 
-pub seq::run_both-returns-in_ok-two-in-Ok : goal.seq::run_both-returns-in_ok-two-in-Ok
-seq::run_both-returns-in_ok-two-in-Ok g t c = λ w h.
-    seq_joined _ w _ _ _ _ (outcome (state_of c.run.new.place) (datum_of c.run.new.out) c.in-Ok.one)
-    (outcome (state_of c.run-two.new.place) (datum_of c.run-two.new.out) c.in_ok-two-in-Ok.field-0)
-    (outcome (seq_state (state_of c.run.new.place) (state_of c.run-two.new.place)) (datum_of c.run-two.new.out) c.node.result) h
-    c.in-Ok.ensures refl c.in_ok-two-in-Ok.ensures (refl, refl, c.node.ensures)
+pub flow::flow-returns-in-Arr : goal.flow::flow-returns-in-Arr
+flow::flow-returns-in-Arr g t c =
+    both_ok c.call_into.result _ _ _ (λ n called one. arr_flows _ _ c.in-Arr.e.0 _ _ _ _ _ n (ap rows_in c.in-Arr.is) one called)
+    c.call_into.ensures.called c.call_into.ensures.one
 
-pub run::run_first-returns-in_ok-both-in-Ok : goal.run::run_first-returns-in_ok-both-in-Ok
-run::run_first-returns-in_ok-both-in-Ok g t c =
-    if_ok c.round.result _ _
-    (λ n j w h. first_joined _ w _ _ _ _ (outcome (first_part (state_of c.run_part.new.place)) (datum_of c.run_part.new.out) c.in-Ok.one)
-    (outcome (state_of c.round.new.place) (datum_of c.put.new.self) n) h c.first.ensures c.second.ensures c.in-Ok.ensures
-    (j.0, ap datum_of c.put.ensures ∙ c.in_ok-both-in-Ok.ensures, j.1)) c.round.ensures
+pub flow::flow-returns-in-Switch : goal.flow::flow-returns-in-Switch
+flow::flow-returns-in-Switch g t c = if_ok c.run_place.result _ _ (λ n h. placed_flows _ _ _ _ _ _ _ _ n (elim c.in-Switch.is [
+  | inl e ↦ placed_by _ _ (ap rows_in e.2) is_switch
+  | inr others ↦ elim others [
+    | inl e ↦ placed_by _ _ (ap rows_in e.2) is_d_switch
+    | inr others ↦ elim others [
+      | inl e ↦ placed_by _ _ (ap rows_in e.3) is_k_switch
+      | inr others ↦ elim others [
+        | inl e ↦ placed_by _ _ (ap rows_in e.4) is_p_switch
+        | inr e ↦ placed_by _ _ (ap rows_in e.1) is_old
+      ]
+    ]
+  ]
+]) h) c.run_place.ensures
 
-pub run::run_par-returns : goal.run::run_par-returns
-run::run_par-returns g t c =
-    if_ok c.join_par.result _ _
-    (λ n j w h. par_joined _ w _ _ _ _ _ (outcome (state_of c.join_par.new.place) (datum_of c.join_par.new.out) n) h refl c.in_ok-all.ensures.1
-    c.in_ok-all.ensures.2 j)
-    c.join_par.ensures
+pub flow::flow-returns-in-IPre : goal.flow::flow-returns-in-IPre
+flow::flow-returns-in-IPre g t c =
+    if_ok c.flow_cell.result _ _ (λ y h. elim c.in-IPre.is [
+      | inl e ↦ h _ _ (cell_by _ _ _ _ (ap rows_in e.1) F.is_i_pre)
+      | inr others ↦ elim others [
+        | inl e ↦ h _ _ (cell_by _ _ _ _ (ap rows_in e.2) F.is_delay)
+        | inr others ↦ elim others [
+          | inl e ↦ h _ _ (cell_by _ _ _ _ (ap rows_in e.1) F.is_hold)
+          | inr others ↦ elim others [
+            | inl e ↦ h _ _ (cell_by _ _ _ _ (ap rows_in e.2) F.is_after)
+            | inr others ↦ elim others [
+              | inl e ↦ h _ _ (cell_by _ _ _ _ (ap rows_in e.2) F.is_repeatedly)
+              | inr others ↦ elim others [
+                | inl e ↦ h _ _ (cell_by _ _ _ _ (ap rows_in e) F.is_time)
+                | inr e ↦ h _ _ (cell_by _ _ _ _ (ap rows_in e) F.is_integral)
+              ]
+            ]
+          ]
+        ]
+      ]
+    ]) c.flow_cell.ensures
 
-pub run::run_loop-returns-in_ok-join_loop-in-Ok : goal.run::run_loop-returns-in_ok-join_loop-in-Ok
-run::run_loop-returns-in_ok-join_loop-in-Ok g t c =
-    λ w h. loop_joined _ w _ _ _ _ (outcome (first_part (state_of c.run_part-one.new.place)) (datum_of c.run_part-one.new.out) c.in-Ok.one)
-    (outcome (state_of c.join_loop.new.place) (datum_of c.join_loop.new.out) c.node.result) (h _ _ c.in_ok-input.ensures.1) c.in_ok-input.ensures.2
-    c.in-Ok.ensures (c.in_ok-join_loop-in-Ok.ensures.0, c.in_ok-join_loop-in-Ok.ensures.1, c.node.ensures)
+pub flow::flow_first-returns-in_ok-done-in-Ok : goal.flow::flow_first-returns-in_ok-done-in-Ok
+flow::flow_first-returns-in_ok-done-in-Ok g t c =
+    first_flows _ _ _ _ _ _ _ _ _ _ _ _ _ c.first.ensures c.second.ensures c.in_ok-done-in-Ok.ensures c.in-Ok.ensures c.node.ensures
 
-pub run::run_switch-run_over-requires : goal.run::run_switch-run_over-requires
-run::run_switch-run_over-requires g t c κs within =
-    let fires = fires_by _ _ (push_param (scope_of c.args.env.now)) _ _ c.second.ensures c.in-Ok-Some.field-0-is c.in-Ok-Some.ensures in
-    (omega (arith, c.decreases, over_weighs (rows_in c.args.t.now) (scope_of c.args.env.now) (scope_of c.in-Ok-Some.inner) fires.0 fires.2), search rules)
-
-pub run::run_switch-returns-in-Ok-Some : goal.run::run_switch-returns-in-Ok-Some
-run::run_switch-returns-in-Ok-Some g t c =
-    let fires = fires_by _ _ (push_param (scope_of c.args.env.now)) _ _ c.second.ensures c.in-Ok-Some.field-0-is c.in-Ok-Some.ensures in
-    if_ok c.run_over.result _ _
-    (λ n k w h. switch_over _ w _ _ _ (scope_of c.in-Ok-Some.inner) _ fires.0
-    (outcome (first_part (state_of c.run_part.new.place)) (datum_of c.run_part.new.out) c.in-Ok.one)
-    k.0 (outcome (state_of c.run_over.new.place) (datum_of c.run_over.new.out) n) _ h
-    c.in-Ok.ensures fires.1 fires.2 k.1 _ refl c.node-before.ensures k.2) c.run_over.ensures
-
-pub run::run_switch-returns-in_ok-keep_first-in-Ok-None : goal.run::run_switch-returns-in_ok-keep_first-in-Ok-None
-run::run_switch-returns-in_ok-keep_first-in-Ok-None g t c =
-    let fires = fires_by _ _ (push_param (scope_of c.args.env.now)) _ _ c.second.ensures c.in-Ok-None.field-0-is c.in-Ok-None.ensures in
-    let kept = c.in_ok-keep_first-in-Ok-None.ensures in
-    λ w h. switch_kept _ w _ _ _ _ (outcome (first_part (state_of c.run_part.new.place)) (datum_of c.run_part.new.out) c.in-Ok.one)
-    (outcome (state_of c.keep_first.new.place) (datum_of c.keep_first.new.out) c.node.result) h c.in-Ok.ensures fires (kept.0, kept.1, c.node.ensures)
-
-pub run::run_d_switch-run_late-requires : goal.run::run_d_switch-run_late-requires
-run::run_d_switch-run_late-requires g t c κs within =
-    let fires = fires_by _ _ (push_param (scope_of c.args.env.now)) _ _ c.second.ensures c.in-Ok-Some.field-0-is c.in-Ok-Some.ensures in
-    (omega (arith, c.decreases, over_weighs (rows_in c.args.t.now) (scope_of c.args.env.now) (scope_of c.in-Ok-Some.inner) fires.0 fires.2), search rules)
-
-pub run::run_d_switch-returns-in-Ok-Some : goal.run::run_d_switch-returns-in-Ok-Some
-run::run_d_switch-returns-in-Ok-Some g t c =
-    let fires = fires_by _ _ (push_param (scope_of c.args.env.now)) _ _ c.second.ensures c.in-Ok-Some.field-0-is c.in-Ok-Some.ensures in
-    if_ok c.run_late.result _ _
-    (λ n k w h. d_switch_over _ w _ _ _ (scope_of c.in-Ok-Some.inner) _ fires.0
-    (outcome (first_part (state_of c.run_part.new.place)) (datum_of c.run_part.new.out) c.in-Ok.one)
-    k.0 (outcome (state_of c.run_late.new.place) (datum_of c.run_late.new.out) n) h c.in-Ok.ensures fires.1 fires.2 k.1 k.2) c.run_late.ensures
-
-pub run::run_d_switch-returns-in_ok-keep_first-in-Ok-None : goal.run::run_d_switch-returns-in_ok-keep_first-in-Ok-None
-run::run_d_switch-returns-in_ok-keep_first-in-Ok-None g t c =
-    let fires = fires_by _ _ (push_param (scope_of c.args.env.now)) _ _ c.second.ensures c.in-Ok-None.field-0-is c.in-Ok-None.ensures in
-    let kept = c.in_ok-keep_first-in-Ok-None.ensures in
-    λ w h. d_switch_kept _ w _ _ _ _ (outcome (first_part (state_of c.run_part.new.place)) (datum_of c.run_part.new.out) c.in-Ok.one)
-    (outcome (state_of c.keep_first.new.place) (datum_of c.keep_first.new.out) c.node.result) h c.in-Ok.ensures fires (kept.0, kept.1, c.node.ensures)
-
-pub run::run_restart-run_part-one-requires : goal.run::run_restart-run_part-one-requires
-run::run_restart-run_part-one-requires g t c κs within =
-    (omega (arith, c.decreases, over_weighs (rows_in c.args.t.now) (scope_of c.args.env.now) _ _ c.in_ok-inner.ensures), search rules)
-
-pub run::run_restart-returns : goal.run::run_restart-returns
-run::run_restart-returns g t c =
-    if_ok c.round.result _ _
-    (λ n j. (
-      outcome (first_part (state_of c.run_part-one.new.place)) (datum_of c.run_part-one.new.out) c.in_ok-one.field-0,
-      subst (λ z. RunsWhere (g.R.Rows.keys c.args.rows.now) (unstarted (rows_in c.args.t.now) z) (datum_of c.args.x.now)
-          (first_part (state_of c.run_part-one.new.place)) (datum_of c.run_part-one.new.out) c.in_ok-one.field-0) c.in_ok-inner.ensures c.in_ok-one.ensures,
-      (j.0, refl, j.1),
-    )) c.round.ensures
-
-pub run::run_r_switch-returns-in-Some : goal.run::run_r_switch-returns-in-Some
-run::run_r_switch-returns-in-Some g t c =
-    let cut = sym c.restart_of.ensures ∙ ap restart_found c.in-Some.is in
-    if_ok c.run_restart.result _ _
-    (λ n k w h. r_switch_over _ w _ _ _ _ _ _ _ k.0 (outcome (state_of c.run_restart.new.place) (datum_of c.run_restart.new.out) n) h cut refl k.1 k.2)
-    c.run_restart.ensures
-
-pub run::run_r_switch-returns-in_ok-one-in-None : goal.run::run_r_switch-returns-in_ok-one-in-None
-run::run_r_switch-returns-in_ok-one-in-None g t c =
-    let cut = sym c.restart_of.ensures ∙ ap restart_found c.in-None.is in
-    if_ok c.round.result _ _
-    (λ n j w h. r_switch_kept _ w _ _ _ _ _
-    (outcome (first_part (state_of c.run_part.new.place)) (datum_of c.run_part.new.out) c.in_ok-one-in-None.one)
-    (outcome (state_of c.round.new.place) (datum_of c.run_part.new.out) n) h c.first.ensures cut
-    c.in_ok-one-in-None.ensures (j.0, refl, j.1)) c.round.ensures
-
-pub run::run_k_switch-run_over-requires : goal.run::run_k_switch-run_over-requires
-run::run_k_switch-run_over-requires g t c κs within =
-    let fires = fires_by _ _ (λ u. push_old (push_param (scope_of c.args.env.now) u) (source_of c.args.f.now c.args.dt)) _ _ refl
-    c.in-Some.is c.in_ok-inner-in-Ok.ensures in (
+pub flow::flow_loop-flow-done-requires : goal.flow::flow_loop-flow-done-requires
+flow::flow_loop-flow-done-requires g t c κs within =
+    let fed = c.in_ok-input.ensures in (
       omega (
         arith,
         c.decreases,
-        over_old_weighs (rows_in c.args.t.now) (scope_of c.args.env.now) (scope_of c.in-Some.inner) fires.0
-            (source_of c.args.f.now c.args.dt) fires.2,
+        level_most (rows_in c.args.f.now),
+        loop_part_falls (row_number c.args.c) (rows_in c.args.f.now) (scope_of c.args.on.now.env.now) (past_in c.args.on.now.before c.args.on.now.dt)
+            (kept_of c.args.kept.now) _ (one_cell_wider _ _ _ _ fed.3),
       ),
       search rules,
     )
 
-pub run::run_k_switch-returns-in-Some : goal.run::run_k_switch-returns-in-Some
-run::run_k_switch-returns-in-Some g t c =
-    let fires = fires_by _ _ (λ u. push_old (push_param (scope_of c.args.env.now) u) (source_of c.args.f.now c.args.dt)) _ _ refl
-    c.in-Some.is c.in_ok-inner-in-Ok.ensures in
-    if_ok c.run_over.result _ _
-    (λ n k w h. k_switch_over _ w _ _ _ _ (scope_of c.in-Some.inner) _ _ fires.0
-    (outcome (first_part (state_of c.run_second-two.new.place)) (datum_of c.run_part.new.out) c.in_ok-one.one)
-    (outcome (second_part (state_of c.run_second-two.new.place)) (datum_of c.run_second-two.new.out) c.in-Ok.two)
-    k.0 (outcome (state_of c.run_over.new.place) (datum_of c.run_over.new.out) n) _ h (stays _ _ _ _ _ _ _ c.in-Ok.ensures.0 c.in_ok-one.ensures)
-    c.in_ok-seen.ensures c.in-Ok.ensures.1 fires.1 fires.2 k.1 _ refl _ refl
-    c.node-before.ensures k.2) c.run_over.ensures
+pub flow::flow_loop-returns-in_ok-keep_fed-in-Ok : goal.flow::flow_loop-returns-in_ok-keep_fed-in-Ok
+flow::flow_loop-returns-in_ok-keep_fed-in-Ok g t c =
+    loop_flows _ _ _ _ _ _ _ _ _ _ _ _ _ _ _ c.in_ok-input.ensures c.in-Ok.ensures c.in_ok-keep_fed-in-Ok.ensures.0
+    (c.in_ok-keep_fed-in-Ok.ensures.1 ∙ ap (λ n. slice_set c.flow-done.new.kept.cells n (previous (right (datum_of c.flow-done.new.out)))) c.len-at.ensures)
+    c.node.ensures
+
+pub flow::flow_par-flow_each-requires : goal.flow::flow_par-flow_each-requires
+flow::flow_par-flow_each-requires g t c κs within = (
+  omega (
+    arith,
+    c.decreases,
+    par_members_fall (map_networks row_number (members_of c.args.members.now)) (scope_of c.args.on.now.env.now)
+        (past_behind (width_of (kept_of c.args.kept.now)) (past_in c.args.on.now.before c.args.on.now.dt)),
+  ),
+  search rules,
+)
+
+pub flow::flow_rest-chain-preserved : goal.flow::flow_rest-chain-preserved
+flow::flow_rest-chain-preserved g t c =
+    let form : rows_in c.chain.rest.now ≡ seq (rows_in c.get.result.now) (rows_in c.get-rest.result.now) = ap rows_in c.in-Seq.is ∙ (λ i. seq
+    (map_network row_number (sym c.get.ensures i)) (map_network row_number (sym c.get-rest.ensures i))) in
+    let falls = rest_falls (g.R.Rows.keys c.args.on.now.rows.now) (rows_in c.chain.rest.now) (rows_in c.get.result.now) (rows_in c.get-rest.result.now)
+    (scope_of c.args.on.now.env.now) (past_in c.args.on.now.before c.args.on.now.dt) (datum_of c.chain.between) (datum_of c.flow.new.out) (kept_of c.chain.kept)
+    (kept_of c.flow.new.kept) c.in-Ok.one form c.in-Ok.ensures in (
+      omega (arith, falls.1, c.chain.invariant.0),
+      chain_goes _ _ _ _ _ _ _ _ _ _ _ _ _ _ _ _ _ form (ap datum_of c.swap.ensures.x_after) c.chain.invariant.1 c.in-Ok.ensures c.node-visits.ensures,
+    )
+
+pub flow::flow_seq-returns-in_ok-others-in-Ok : goal.flow::flow_seq-returns-in_ok-others-in-Ok
+flow::flow_seq-returns-in_ok-others-in-Ok g t c = seq_flows _ _ _ _ _ _ _ _ _ _ _ _ _ _ c.in-Ok.ensures c.in_ok-others-in-Ok.ensures c.node.ensures
+
+pub flow::flow_each-returns : goal.flow::flow_each-returns
+flow::flow_each-returns g t c =
+    c.members.invariant.2 (kept_of c.members.kept) _ 0 c.members.visits
+    (none_flow _ _ _ _ _ _ _ _ (ap (λ fs. map_networks row_number (members_of fs)) (no_items _ c.in_default.ensures.cases))
+    (ap (map datum_of) c.truncate.ensures.items)) (λ _. omega arith)
+
+pub flow::flow_each-members-init : goal.flow::flow_each-members-init
+flow::flow_each-members-init g t c = (omega arith, omega arith, each_begins _ _ _ _ _ _ _ refl)
+
+pub flow::flow_each-members-preserved : goal.flow::flow_each-members-preserved
+flow::flow_each-members-preserved g t c =
+    let form = ap (λ fs. map_networks row_number (members_of fs)) c.in-Some.ensures.cases.0 in
+    let room = c.in_ok-make_place.ensures in
+    let answered = one_answered c.members.answers.items c.make_place.new.places.items c.members.before c.flow.new.out room.0 room.1 in (
+      omega (
+        arith,
+        c.members.invariant.0,
+        others_fall (map_networks row_number (members_of c.members.rest.now)) (rows_in c.in-Some.f.now) (map_networks row_number (members_of c.in-Some.others.now)) (scope_of c.args.on.now.env.now) (past_in c.args.on.now.before c.args.on.now.dt)
+            (kept_of c.members.kept) (kept_of c.flow.new.kept) form (flows_width _ _ _ _ _ _ _ _ _ c.in_ok-one.ensures),
+      ),
+      omega (arith, room.0, length-set c.make_place.new.places.items c.members.before c.flow.new.out),
+      each_goes _ _ _ _ _ _ _ _ _ _ _ _ _ _ _ _ _ form c.members.invariant.2 c.in_ok-one.ensures answered c.both-visits.ensures,
+    )
+
+pub flow::flow_par-returns-in_ok-put_list-in-Ok : goal.flow::flow_par-returns-in_ok-put_list-in-Ok
+flow::flow_par-returns-in_ok-put_list-in-Ok g t c = par_flows _ _ _ _ _ _ _ _ _ _ _ _ c.in-Ok.ensures refl c.in_ok-put_list-in-Ok.ensures c.node.ensures
+
+pub flow::flow_restart-returns-in_ok-one-in-Some : goal.flow::flow_restart-returns-in_ok-one-in-Some
+flow::flow_restart-returns-in_ok-one-in-Some g t c =
+    restart_cuts _ _ _ _ _ _ _ _ _ _ _ _ _ _ _ (sym c.restart_of.ensures ∙ ap restart_found c.in-Some.is) (c.started.ensures.scope ∙ c.in_ok-env-in-Some.ensures)
+    c.started.ensures.past (subst (λ r. Runs (g.R.Rows.keys r) (placed (rows_in c.args.t.now) (scope_of c.started.result.env.now)
+    (past_behind (0, length (kept_of c.args.kept.now).1) (past_in c.started.result.before c.started.result.dt))) (datum_of c.in-Some.sample.now)
+    (kept_of c.args.kept.now) (kept_of c.run_place-one.new.kept) (datum_of c.run_place-one.new.out) c.in_ok-one-in-Some.field-0) c.started.ensures.rows
+    c.in_ok-one-in-Some.ensures) c.node.ensures
+
+pub flow::flow_restart-returns-in_ok-run_place-in-None : goal.flow::flow_restart-returns-in_ok-run_place-in-None
+flow::flow_restart-returns-in_ok-run_place-in-None g t c =
+    restart_goes _ _ _ _ _ _ _ _ _ _ _ _ c.first.ensures (sym c.restart_of.ensures ∙ ap restart_found c.in-None.is) c.in_ok-run_place-in-None.ensures
+    c.node-in-None.ensures
+
+pub run::go_on-step-requires : goal.run::go_on-step-requires
+run::go_on-step-requires g t c κs within =
+    let here = placed_found (rows_in c.args.net.now) (scope_of c.args.on.now.env.now) _ _ _ c.args.at _ (ap (λ b. past_in b c.args.on.now.dt) c.in-Some.is)
+    c.in-Some-get.ensures in
+    (omega (arith, c.decreases, same_rank _ _ here), search rules)
+
+pub run::go_on-returns-in-Some-get : goal.run::go_on-returns-in-Some-get
+run::go_on-returns-in-Some-get g t c =
+    let here = placed_found (rows_in c.args.net.now) (scope_of c.args.on.now.env.now) _ _ _ c.args.at _ (ap (λ b. past_in b c.args.on.now.dt) c.in-Some.is)
+    c.in-Some-get.ensures in
+    if_ok c.step.result _ _ (λ n h. subst (λ w. RunsWhere (g.R.Rows.keys c.args.on.now.rows.now) w (datum_of c.args.x.now) (state_of c.step.new.place)
+    (datum_of c.step.new.out) n) (sym here) h) c.step.ensures
+
+pub run::run_in-returns-in_ok-visits-in_default-net : goal.run::run_in-returns-in_ok-visits-in_default-net
+run::run_in-returns-in_ok-visits-in_default-net g t c =
+    let begins = c.in_ok-renew.ensures in
+    flows_run _ _ _ _ _ _ _ _ _ _ _ _ (plain c.args.net.now c.in_default.not-Old c.in_default-net.not-Switch c.in_default-net.not-DSwitch
+    c.in_default-net.not-KSwitch c.in_default-net.not-PSwitch (scope_of c.args.on.now.env.now)) (ap rows_in begins.0, begins.1, begins.2) c.end.ensures
+    c.in_ok-visits-in_default-net.ensures
+
+pub run::run_switch-returns-in_ok-done-in-Ok-None : goal.run::run_switch-returns-in_ok-done-in-Ok-None
+run::run_switch-returns-in_ok-done-in-Ok-None g t c =
+    let fires = fires_by _ _ (push_param (scope_of c.args.on.now.env.now)) _ _ c.second.ensures c.in-Ok-None.field-0-is c.in-Ok-None.ensures in
+    switch_stays _ _ _ _ _ _ _ _ _ _ _ _ _ _ _ _ c.requires c.end.ensures c.in-Ok.ensures fires c.first.ensures c.in_ok-done-in-Ok-None.ensures c.node-in-Ok-None.ensures
+
+pub run::run_switch-returns-in_ok-two-in-Ok-Some : goal.run::run_switch-returns-in_ok-two-in-Ok-Some
+run::run_switch-returns-in_ok-two-in-Ok-Some g t c =
+    let fires = fires_by _ _ (push_param (scope_of c.args.on.now.env.now)) _ _ c.second.ensures c.in-Ok-Some.field-0-is c.in-Ok-Some.ensures in
+    switch_ends _ _ _ _ _ _ _ _ _ _ _ _ _ _ _ _ _ _ c.requires.2 c.in-Ok.ensures fires.1 fires.2 c.started.ensures.scope c.started.ensures.past
+    (subst (λ r. RunsWhere (g.R.Rows.keys r) (standing (rows_in c.args.t.now) (scope_of c.started.result.env.now)
+    (past_in c.started.result.before c.started.result.dt)) (datum_of c.args.x.now) (running_of c.run_in-two.new.running) (datum_of c.run_in-two.new.out) c.in_ok-two-in-Ok-Some.field-0)
+    c.started.ensures.rows c.in_ok-two-in-Ok-Some.ensures) c.node.ensures
+
+pub run::run_d_switch-returns-in_ok-done-in-None : goal.run::run_d_switch-returns-in_ok-done-in-None
+run::run_d_switch-returns-in_ok-done-in-None g t c =
+    let fires = fires_by _ _ (push_param (scope_of c.args.on.now.env.now)) _ _ c.second.ensures c.in-None.is c.in-Ok-fire.ensures in
+    d_switch_stays _ _ _ _ _ _ _ _ _ _ _ _ _ _ _ _ c.requires c.end.ensures c.in-Ok.ensures fires c.first.ensures c.in_ok-done-in-None.ensures c.node-in-None.ensures
+
+pub run::run_d_switch-returns-in_ok-two-in-Some : goal.run::run_d_switch-returns-in_ok-two-in-Some
+run::run_d_switch-returns-in_ok-two-in-Some g t c =
+    let fires = fires_by _ _ (push_param (scope_of c.args.on.now.env.now)) _ _ c.second.ensures c.in-Some.is c.in-Ok-fire.ensures in
+    d_switch_ends _ _ _ _ _ _ _ _ _ _ _ _ _ _ _ _ _ _ _ _ c.requires.2 c.in-Ok.ensures fires.1 fires.2 c.started.ensures.scope c.started.ensures.past
+    (subst (λ r. RunsWhere (g.R.Rows.keys r) (standing (rows_in c.args.t.now) (scope_of c.started.result.env.now)
+    (past_in c.started.result.before c.started.result.dt)) (datum_of c.args.x.now) (running_of c.run_in-two.new.running) (datum_of c.run_in-two.new.out) c.in_ok-two-in-Some.field-0)
+    c.started.ensures.rows c.in_ok-two-in-Some.ensures) c.first.ensures c.in_ok-done-in-Some.ensures c.node.ensures
+
+pub run::run_k_switch-run_in-three-requires : goal.run::run_k_switch-run_in-three-requires
+run::run_k_switch-run_in-three-requires g t c κs within =
+    let s = scope_of c.args.on.now.env.now in
+    let p = past_in c.args.on.now.before c.args.on.now.dt in
+    let fires = fires_by _ _ (λ u. push_old (push_param s u) (placed (rows_in c.args.f.now) s p)) _ _ refl c.in-Some.is c.in_ok-env.ensures in (
+      omega (
+        arith,
+        c.decreases,
+        k_over_falls (rows_in c.args.f.now) (rows_in c.args.rest.watch.now) (rows_in c.args.rest.over.now) s _ _ p _ fires.0 fires.2
+            c.started.ensures.scope c.started.ensures.past,
+      ),
+      search rules,
+    )
+
+pub run::run_k_switch-returns-in_ok-three-in-Some : goal.run::run_k_switch-returns-in_ok-three-in-Some
+run::run_k_switch-returns-in_ok-three-in-Some g t c =
+    let s = scope_of c.args.on.now.env.now in
+    let p = past_in c.args.on.now.before c.args.on.now.dt in
+    let fires = fires_by _ _ (λ u. push_old (push_param s u) (placed (rows_in c.args.f.now) s p)) _ _ refl c.in-Some.is c.in_ok-env.ensures in
+    k_switch_ends _ _ _ _ _ _ _ _ _ _ _ _ _ _ _ _ _ _ _ _ _ _ _ c.requires.2 c.in_ok-one.ensures c.in_ok-two.ensures fires.1 fires.2 c.started.ensures.scope
+    c.started.ensures.past (subst (λ r. RunsWhere (g.R.Rows.keys r) (standing (rows_in c.args.rest.over.now) (scope_of c.started.result.env.now)
+    (past_in c.started.result.before c.started.result.dt)) (datum_of c.args.x.now) (running_of c.run_in-three.new.running) (datum_of c.run_in-three.new.out) c.in_ok-three-in-Some.field-0)
+    c.started.ensures.rows c.in_ok-three-in-Some.ensures) c.node.ensures c.both.ensures
 
 pub run::run_k_switch-returns-in-None : goal.run::run_k_switch-returns-in-None
 run::run_k_switch-returns-in-None g t c =
-    let fires = fires_by _ _ (λ u. push_old (push_param (scope_of c.args.env.now) u) (source_of c.args.f.now c.args.dt)) _ _ refl
-    c.in-None.is c.in_ok-inner-in-Ok.ensures in
-    if_ok c.round.result _ _
-    (λ n j w h. k_switch_kept _ w _ _ _ _ _ _ (outcome (first_part (state_of c.run_second-two.new.place)) (datum_of c.run_part.new.out) c.in_ok-one.one)
-    (outcome (second_part (state_of c.run_second-two.new.place)) (datum_of c.run_second-two.new.out) c.in-Ok.two)
-    (outcome (state_of c.round.new.place) (datum_of c.run_part.new.out) n) h (stays _ _ _ _ _ _ _ c.in-Ok.ensures.0 c.in_ok-one.ensures) c.in_ok-seen.ensures
-    c.in-Ok.ensures.1 fires (j.0, refl, j.1)) c.round.ensures
+    let s = scope_of c.args.on.now.env.now in
+    let p = past_in c.args.on.now.before c.args.on.now.dt in
+    let fires = fires_by _ _ (λ u. push_old (push_param s u) (placed (rows_in c.args.f.now) s p)) _ _ refl c.in-None.is c.in_ok-env.ensures in
+    k_switch_stays _ _ _ _ _ _ _ _ _ _ _ _ _ _ _ _ _ _ c.requires c.end.ensures c.in_ok-one.ensures c.in_ok-two.ensures fires c.node-in-None.ensures
 
-pub run::run_p_switch-run_over-requires : goal.run::run_p_switch-run_over-requires
-run::run_p_switch-run_over-requires g t c κs within =
-    let fires = fires_by _ _ (λ u. push_olds (push_param (scope_of c.args.env.now) u) (sources_of c.args.fs c.args.dt)) _ _ refl
-    c.in-Ok-Some.field-0-is c.in-Ok-Some.ensures in (
+pub run::run_p_switch-run_members-requires : goal.run::run_p_switch-run_members-requires
+run::run_p_switch-run_members-requires g t c κs within = (
+  omega (
+    arith,
+    c.decreases,
+    p_members_fall (row_number c.args.members.router) (map_networks row_number (members_of c.args.members.nets.now))
+        (rows_in c.args.rest.watch.now) (rows_in c.args.rest.over.now) (scope_of c.args.on.now.env.now) (past_in c.args.on.now.before c.args.on.now.dt) _ c.requires.2,
+  ),
+  search rules,
+)
+
+pub run::run_p_switch-run_watch-requires : goal.run::run_p_switch-run_watch-requires
+run::run_p_switch-run_watch-requires g t c κs within = (
+  omega (arith, c.decreases, p_watch_falls _ _ _ (rows_in c.args.rest.watch.now) (rows_in c.args.rest.over.now) _ _ _ _ _ _ _ c.requires.2 c.in_ok-one.ensures),
+  search rules,
+)
+
+pub run::run_p_switch-run_in-three-requires : goal.run::run_p_switch-run_in-three-requires
+run::run_p_switch-run_in-three-requires g t c κs within =
+    let s = scope_of c.args.on.now.env.now in
+    let p = past_in c.args.on.now.before c.args.on.now.dt in
+    let fs = map_networks row_number (members_of c.args.members.nets.now) in
+    let fires = fires_by _ _ (λ u. push_olds (push_param s u) (all_placed fs s p)) _ _ refl c.in-Some.is c.in_ok-env.ensures in (
       omega (
         arith,
         c.decreases,
-        over_olds_weighs (rows_in c.args.t.now) (scope_of c.args.env.now) (scope_of c.in-Ok-Some.inner) fires.0
-            (sources_of c.args.fs c.args.dt) fires.2,
+        p_over_falls (row_number c.args.members.router) fs (rows_in c.args.rest.watch.now) (rows_in c.args.rest.over.now) s _ _ p _ fires.0
+            fires.2 c.started.ensures.scope c.started.ensures.past,
       ),
       search rules,
     )
 
-pub run::run_p_switch-returns-in-Ok-Some : goal.run::run_p_switch-returns-in-Ok-Some
-run::run_p_switch-returns-in-Ok-Some g t c =
-    let fires = fires_by _ _ (λ u. push_olds (push_param (scope_of c.args.env.now) u) (sources_of c.args.fs c.args.dt)) _ _ refl
-    c.in-Ok-Some.field-0-is c.in-Ok-Some.ensures in
-    if_ok c.run_over.result _ _
-    (λ n k w h. p_switch_over _ w _ _ _ _ _ _ (scope_of c.in-Ok-Some.inner) _ _ fires.0 _ _ _
-    (outcome (first_part (state_of c.run_members_watch.new.place)) (datum_of c.run_members_watch.new.out) c.in-Ok.two) k.0
-    (outcome (state_of c.run_over.new.place) (datum_of c.run_over.new.out) n) _ h refl refl
-    c.in_ok-all.ensures.1 c.in_ok-all.ensures.2 (ap (pair (datum_of c.args.x.now)) c.list.ensures) c.in-Ok.ensures fires.1 fires.2 k.1 _ c.visits.ensures _
-    refl c.node-before.ensures k.2) c.run_over.ensures
+pub run::run_p_switch-returns-in_ok-three-in-Some : goal.run::run_p_switch-returns-in_ok-three-in-Some
+run::run_p_switch-returns-in_ok-three-in-Some g t c =
+    let s = scope_of c.args.on.now.env.now in
+    let p = past_in c.args.on.now.before c.args.on.now.dt in
+    let fs = map_networks row_number (members_of c.args.members.nets.now) in
+    let fires = fires_by _ _ (λ u. push_olds (push_param s u) (all_placed fs s p)) _ _ refl c.in-Some.is c.in_ok-env.ensures in
+    p_switch_ends _ _ _ _ _ _ _ _ _ _ _ _ _ _ _ _ _ _ _ _ _ _ _ _ c.requires.2 c.in_ok-one.ensures c.in_ok-two.ensures fires.1 fires.2 c.started.ensures.scope
+    c.started.ensures.past (subst (λ r. RunsWhere (g.R.Rows.keys r) (standing (rows_in c.args.rest.over.now) (scope_of c.started.result.env.now)
+    (past_in c.started.result.before c.started.result.dt)) (datum_of c.args.x.now) (running_of c.run_in-three.new.running) (datum_of c.run_in-three.new.out) c.in_ok-three-in-Some.field-0)
+    c.started.ensures.rows c.in_ok-three-in-Some.ensures) c.node.ensures c.both.ensures
 
-pub run::run_p_switch-returns-in-Ok-None : goal.run::run_p_switch-returns-in-Ok-None
-run::run_p_switch-returns-in-Ok-None g t c =
-    let fires = fires_by _ _ (λ u. push_olds (push_param (scope_of c.args.env.now) u) (sources_of c.args.fs c.args.dt)) _ _ refl
-    c.in-Ok-None.field-0-is c.in-Ok-None.ensures in
-    if_ok c.keep_p_switch.result _ _
-    (λ n j w h. p_switch_kept _ w _ _ _ _ _ _ _ _ _ _ _ (outcome (first_part (state_of c.run_members_watch.new.place))
-    (datum_of c.run_members_watch.new.out) c.in-Ok.two) (outcome (state_of c.keep_p_switch.new.place) (datum_of c.keep_p_switch.new.out) n) h refl refl
-    c.in_ok-all.ensures.1 c.in_ok-all.ensures.2 (ap (pair (datum_of c.args.x.now)) c.list.ensures) c.in-Ok.ensures fires j) c.keep_p_switch.ensures
+pub run::run_p_switch-returns-in-None : goal.run::run_p_switch-returns-in-None
+run::run_p_switch-returns-in-None g t c =
+    let s = scope_of c.args.on.now.env.now in
+    let p = past_in c.args.on.now.before c.args.on.now.dt in
+    let fs = map_networks row_number (members_of c.args.members.nets.now) in
+    let fires = fires_by _ _ (λ u. push_olds (push_param s u) (all_placed fs s p)) _ _ refl c.in-None.is c.in_ok-env.ensures in
+    p_switch_stays _ _ _ _ _ _ _ _ _ _ _ _ _ _ _ _ _ _ _ c.requires c.end.ensures c.in_ok-one.ensures c.in_ok-two.ensures fires c.node-in-None.ensures
 
-pub run::run_over-returns : goal.run::run_over-returns
-run::run_over-returns g t c = (
-  outcome (state_of c.run-over.new.place) (datum_of c.run-over.new.out) c.in_ok-over.field-0,
-  c.in_ok-over.ensures,
-  (refl, refl, c.both.ensures),
-)
-
-pub run::run_late-returns-in_ok-put_first-in-Ok : goal.run::run_late-returns-in_ok-put_first-in-Ok
-run::run_late-returns-in_ok-put_first-in-Ok g t c = (
-  outcome (state_of c.run-over.new.place) (datum_of c.run-over.new.out) c.in-Ok.over,
-  c.in-Ok.ensures,
-  (refl, c.in_ok-put_first-in-Ok.ensures, c.node.ensures),
-)
-
-pub members::run_member-returns-in-ToAll-clause-runs : goal.members::run_member-returns-in-ToAll-clause-runs
-members::run_member-returns-in-ToAll-clause-runs g t c =
-    if_ok c.run.result _ _ (λ r k. member_ran _ to_all _ c.args.i _ _ _
-    (outcome (state_of c.run.new.place) (datum_of c.run.new.out) r) (ap router_of c.in-ToAll.is) refl k) c.run.ensures
-
-pub members::run_member-returns-in_ok-input-in-ByRow-clause-runs : goal.members::run_member-returns-in_ok-input-in-ByRow-clause-runs
-members::run_member-returns-in_ok-input-in-ByRow-clause-runs g t c =
-    if_ok c.run-one.result _ _
-    (λ r k. member_ran _ (by_row (row_number c.in-ByRow.r) c.in-ByRow.params.now) _ c.args.i _ _ _
-    (outcome (state_of c.run-one.new.place) (datum_of c.run-one.new.out) r) (ap router_of c.in-ByRow.is) c.in_ok-input-in-ByRow.ensures.called
-    k)
-    c.run-one.ensures
-
-pub members::run_each-members-smaller : goal.members::run_each-members-smaller
-members::run_each-members-smaller g t c = (members_fall _ _ _ (c.in-Some.ensures c.args.on.now.dt)).1
-
-pub members::run_each-members-preserved : goal.members::run_each-members-preserved
-members::run_each-members-preserved g t c =
-    let fall = members_fall _ _ _ (c.in-Some.ensures c.args.on.now.dt) in
-    let states = c.in_ok-make_place-in-Some.ensures in
-    let answers = c.in_ok-make_place-in-Some-2.ensures in
-    let added = one_added c.members.places.items c.make_place.new.places.items c.members.answers.items c.make_place-in-Some.new.places.items
-    c.run_member.new.place c.run_member.new.out c.members.visits c.in_ok-one-in-Some.one c.both-visits.result c.members.before states.0 states.1 answers.0
-    answers.1 c.both-visits.ensures in (
-      omega (arith, fall.1, c.members.invariant.0),
-      omega (arith, states.0, length-set c.make_place.new.places.items c.members.before c.run_member.new.place),
-      omega (arith, answers.0, length-set c.make_place-in-Some.new.places.items c.members.before c.run_member.new.out),
-      (λ all h. c.members.invariant.3 all (also_run _ (router_of c.args.on.now.router) c.members.i _ _ _ _ _ c.in_ok-one-in-Some.ensures.runs.0
-          (outcome (state_of c.run_member.new.place) (datum_of c.run_member.new.out) c.in_ok-one-in-Some.one) _ _ _ (c.in-Some.ensures c.args.on.now.dt)
-          c.in_ok-one-in-Some.ensures.runs.1 c.in_ok-one-in-Some.ensures.runs.2 added (next_number c.members.i) h)),
-      c.run_member.ensures.asked,
+pub run::run_each-run_each-requires : goal.run::run_each-run_each-requires
+run::run_each-run_each-requires g t c κs within =
+    let form = ap (λ fs. map_networks row_number (members_of fs)) c.in-Some.ensures.cases.0 in
+    let room = c.in_ok-make_place-in-Some.ensures in (
+      omega (
+        arith,
+        c.decreases,
+        others_placed_fall (map_networks row_number (members_of c.args.members.nets.now)) (rows_in c.in-Some.f.now) (map_networks row_number (members_of c.in-Some.nets.now)) (scope_of c.args.on.now.env.now) (past_in c.args.on.now.before c.args.on.now.dt)
+            (kept_of c.args.kept.now) (kept_of c.run_place-one.new.kept) form (runs_width _ _ _ _ _ _ _ c.in_ok-one-in-Some.ensures),
+      ),
+      (
+        search rules,
+        omega (arith, room.0, length-set c.make_place.new.places.items c.args.before c.run_place-one.new.out),
+      ),
     )
 
-pub members::run_each-returns-in-None : goal.members::run_each-returns-in-None
-members::run_each-returns-in-None g t c =
-    let states = take c.members.before c.members.places.items in
-    let answers = take c.members.before c.members.answers.items in
-    c.members.invariant.3 _
-    (subst (λ all. RunEachWhere (g.R.Rows.keys c.args.on.now.rows.now) (router_of c.args.on.now.router) c.members.i
-    (sources_of c.members.rest c.args.on.now.dt) (datum_of c.args.on.now.x.now) (gathered states answers c.members.visits) all)
-    (λ i. gathered (sym c.truncate.ensures.items i) (sym c.truncate-in-None.ensures.items i) c.members.visits)
-    (none_run _ (router_of c.args.on.now.router) c.members.i _ _ _ (c.in-None.ensures c.args.on.now.dt)))
+pub run::run_each-returns-in_ok-others-in-Some : goal.run::run_each-returns-in_ok-others-in-Some
+run::run_each-returns-in_ok-others-in-Some g t c =
+    let form = ap (λ fs. map_networks row_number (members_of fs)) c.in-Some.ensures.cases.0 in
+    let room = c.in_ok-make_place-in-Some.ensures in
+    let answered = one_answered c.args.answers.now.items c.make_place.new.places.items c.args.before c.run_place-one.new.out room.0 room.1 in
+    also_run _ _ _ _ _ _ _ _ _ _ _ _ _ _ _ _ _ _ _ _ form c.in_ok-input-in-Some.ensures c.in_ok-one-in-Some.ensures answered c.in_ok-others-in-Some.ensures
+    c.both.ensures
 
-pub members::run_all-returns-in-Ok-run_each : goal.members::run_all-returns-in-Ok-run_each
-members::run_all-returns-in-Ok-run_each g t c =
-    if_ok c.new.result _ _ (λ all l. (_, c.in-Ok-run_each.ensures, l)) c.new.ensures
+pub run::run_each-returns-in-None : goal.run::run_each-returns-in-None
+run::run_each-returns-in-None g t c =
+    none_run _ _ _ _ _ _ _ _ _ _ (ap (λ fs. map_networks row_number (members_of fs)) (no_items _ c.in-None.ensures.cases))
+    (ap (map datum_of) c.truncate.ensures.items)
 
-pub step::step-returns-in-Static : goal.step::step-returns-in-Static
-step::step-returns-in-Static g t c = if_ok c.step_static.result _ _
-    (λ n h. moved _ _ _ _ _ _ _ _
-    (ap (λ k. static_state (rows_in c.in-Static.net.net.now) k.0 k.1) c.get.ensures ∙ sym (ap state_of c.in-Static.is)) h) c.step_static.ensures
+pub run::run_old-resume-requires : goal.run::run_old-resume-requires
+run::run_old-resume-requires g t c κs within = (
+  omega (
+    arith,
+    c.decreases,
+    resumed_falls c.args.k (scope_of c.args.on.now.env.now) (past_in c.args.on.now.before c.args.on.now.dt) _
+        (ap (λ b. past_in b c.args.on.now.dt) c.in-None.is) c.in-Some-get.ensures,
+  ),
+  search rules,
+)
 
-pub step::step-returns-in-Whole : goal.step::step-returns-in-Whole
-step::step-returns-in-Whole g t c = if_ok c.step_node.result _ _
-    (λ n h. moved _ _ _ _ _ _ _ _ (c.get-in-Whole.ensures ∙ sym (ap state_of c.in-Whole.is)) h) c.step_node.ensures
-
-pub step::step-returns-in-Nothing : goal.step::step-returns-in-Nothing
-step::step-returns-in-Nothing g t c = if_ok c.run_par.result _ _
-    (λ n by. by _ (subst (λ z. ParBy (paused z c.args.dt) (sources_of c.no_members.result c.args.dt)) (sym (ap state_of c.in-Nothing.is))
-    (subst (ParBy (paused (par_state no_state) c.args.dt)) (sym (c.no_members.ensures c.args.dt)) R.par_on))) c.run_par.ensures
-
-pub step::step_node-returns-in-Seq : goal.step::step_node-returns-in-Seq
-step::step_node-returns-in-Seq g t c = if_ok c.step_seq.result _ _
-    (λ n h. moved _ _ _ _ _ _ _ _ (sym (ap node_of c.in-Seq.is)) h) c.step_seq.ensures
-
-pub step::step_node-returns-in-First : goal.step::step_node-returns-in-First
-step::step_node-returns-in-First g t c = if_ok c.step_first.result _ _
-    (λ n h. moved _ _ _ _ _ _ _ _ (sym (ap node_of c.in-First.is)) h) c.step_first.ensures
-
-pub step::step_node-returns-in-Par : goal.step::step_node-returns-in-Par
-step::step_node-returns-in-Par g t c = if_ok c.step_par.result _ _
-    (λ n h. moved _ _ _ _ _ _ _ _ (sym (ap node_of c.in-Par.is)) h) c.step_par.ensures
-
-pub step::step_node-returns-in-LoopPre : goal.step::step_node-returns-in-LoopPre
-step::step_node-returns-in-LoopPre g t c = if_ok c.step_loop.result _ _
-    (λ n h. moved _ _ _ _ _ _ _ _ (sym (ap node_of c.in-LoopPre.is)) h) c.step_loop.ensures
-
-pub step::step_node-returns-in-Switch : goal.step::step_node-returns-in-Switch
-step::step_node-returns-in-Switch g t c = if_ok c.step_switch.result _ _
-    (λ n h. moved _ _ _ _ _ _ _ _ (sym (ap node_of c.in-Switch.is)) h) c.step_switch.ensures
-
-pub step::step_node-returns-in-DSwitch : goal.step::step_node-returns-in-DSwitch
-step::step_node-returns-in-DSwitch g t c = if_ok c.step_d_switch.result _ _
-    (λ n h. moved _ _ _ _ _ _ _ _ (sym (ap node_of c.in-DSwitch.is)) h) c.step_d_switch.ensures
-
-pub step::step_node-returns-in-RSwitch : goal.step::step_node-returns-in-RSwitch
-step::step_node-returns-in-RSwitch g t c = if_ok c.step_r_switch.result _ _
-    (λ n h. moved _ _ _ _ _ _ _ _ (sym (ap node_of c.in-RSwitch.is)) h) c.step_r_switch.ensures
-
-pub step::step_node-returns-in-KSwitch : goal.step::step_node-returns-in-KSwitch
-step::step_node-returns-in-KSwitch g t c = if_ok c.step_k_switch.result _ _
-    (λ n h. moved _ _ _ _ _ _ _ _ (sym (ap node_of c.in-KSwitch.is)) h) c.step_k_switch.ensures
-
-pub step::step_node-returns-in-PSwitch : goal.step::step_node-returns-in-PSwitch
-step::step_node-returns-in-PSwitch g t c = if_ok c.step_p_switch.result _ _
-    (λ n h. moved _ _ _ _ _ _ _ _ (ap p_switch_of c.deref.ensures ∙ sym (ap node_of c.in-PSwitch.is)) h) c.step_p_switch.ensures
-
-pub step::step_seq-returns : goal.step::step_seq-returns
-step::step_seq-returns g t c = if_ok c.run_seq.result _ _ (λ n by. by _ R.seq_on) c.run_seq.ensures
-
-pub step::step_first-returns : goal.step::step_first-returns
-step::step_first-returns g t c = if_ok c.run_first.result _ _ (λ n by. by _ R.first_on) c.run_first.ensures
-
-pub step::step_par-returns : goal.step::step_par-returns
-step::step_par-returns g t c = if_ok c.run_par.result _ _ (λ n by. by _ (par_on_by _ _ c.args.dt c.as_slice.ensures)) c.run_par.ensures
-
-pub step::step_loop-returns : goal.step::step_loop-returns
-step::step_loop-returns g t c = if_ok c.run_loop.result _ _ (λ n by. by _ (loop_on_by _ _ c.args.dt)) c.run_loop.ensures
-
-pub step::step_switch-returns : goal.step::step_switch-returns
-step::step_switch-returns g t c = if_ok c.run_switch.result _ _ (λ n by. by _ R.switch_on) c.run_switch.ensures
-
-pub step::step_d_switch-returns : goal.step::step_d_switch-returns
-step::step_d_switch-returns g t c = if_ok c.run_d_switch.result _ _ (λ n by. by _ R.d_switch_on) c.run_d_switch.ensures
-
-pub step::step_r_switch-returns : goal.step::step_r_switch-returns
-step::step_r_switch-returns g t c = if_ok c.run_r_switch.result _ _ (λ n by. by _ R.r_switch_on) c.run_r_switch.ensures
-
-pub step::step_k_switch-returns : goal.step::step_k_switch-returns
-step::step_k_switch-returns g t c = if_ok c.run_k_switch.result _ _ (λ n by. by _ R.k_switch_on) c.run_k_switch.ensures
-
-pub step::step_p_switch-returns : goal.step::step_p_switch-returns
-step::step_p_switch-returns g t c = if_ok c.run_p_switch.result _ _ (λ n by. by _ (p_switch_on_by _ _ _ _ _ _ c.args.dt c.as_slice.ensures)) c.run_p_switch.ensures
-
-pub start::start_form-run_seq-requires : goal.start::start_form-run_seq-requires
-start::start_form-run_seq-requires g t c κs within =
-    let h = seq_new_by _ _ _ _ _ (scope_of c.args.env.now) c.in-Seq.is c.get.ensures c.get-in-Seq.ensures in
-    (omega (arith, c.decreases, seq_within _ _ _ h), search rules)
-
-pub start::start_form-returns-in-Seq : goal.start::start_form-returns-in-Seq
-start::start_form-returns-in-Seq g t c = if_ok c.run_seq.result _ _
-    (λ n by. by _ (seq_new_by _ _ _ _ _ (scope_of c.args.env.now) c.in-Seq.is c.get.ensures c.get-in-Seq.ensures))
-    c.run_seq.ensures
-
-pub start::start_form-run_first-requires : goal.start::start_form-run_first-requires
-start::start_form-run_first-requires g t c κs within =
-    let h = first_new_by _ _ _ (scope_of c.args.env.now) c.in-First.is c.get-in-First.ensures in
-    (omega (arith, c.decreases, first_falls _ _ h), search rules)
-
-pub start::start_form-returns-in-First : goal.start::start_form-returns-in-First
-start::start_form-returns-in-First g t c = if_ok c.run_first.result _ _
-    (λ n by. by _ (first_new_by _ _ _ (scope_of c.args.env.now) c.in-First.is c.get-in-First.ensures))
-    c.run_first.ensures
-
-pub start::start_form-run_par-requires : goal.start::start_form-run_par-requires
-start::start_form-run_par-requires g t c κs within =
-    let h = par_new_by _ _ _ (scope_of c.args.env.now) c.in-Par.is c.as_slice.ensures in
-    (omega (arith, c.decreases, par_falls _ _ h), search rules)
-
-pub start::start_form-returns-in-Par : goal.start::start_form-returns-in-Par
-start::start_form-returns-in-Par g t c = if_ok c.run_par.result _ _
-    (λ n by. by _ (par_new_by _ _ _ (scope_of c.args.env.now) c.in-Par.is c.as_slice.ensures))
-    c.run_par.ensures
-
-pub start::start_form-run_loop-requires : goal.start::start_form-run_loop-requires
-start::start_form-run_loop-requires g t c κs within =
-    let h = loop_weighs _ _ _ _ (scope_of c.args.env.now) c.in-LoopPre.is c.get-in-LoopPre.ensures in
-    (omega (arith, c.decreases, h), search rules)
-
-pub start::start_form-returns-in-LoopPre : goal.start::start_form-returns-in-LoopPre
-start::start_form-returns-in-LoopPre g t c = if_ok c.run_loop.result _ _
-    (λ n by. by _ (loop_new_by _ _ _ _ (scope_of c.args.env.now) c.in-LoopPre.is c.get-in-LoopPre.ensures))
-    c.run_loop.ensures
-
-pub start::start_form-run_switch-requires : goal.start::start_form-run_switch-requires
-start::start_form-run_switch-requires g t c κs within =
-    let h = switch_new_by _ _ _ _ _ (scope_of c.args.env.now) c.in-Switch.is c.get-in-Switch.ensures c.get-in-Switch-2.ensures in
-    (omega (arith, c.decreases, switch_within _ _ _ _ h), search rules)
-
-pub start::start_form-returns-in-Switch : goal.start::start_form-returns-in-Switch
-start::start_form-returns-in-Switch g t c = if_ok c.run_switch.result _ _
-    (λ n by. by _ (switch_new_by _ _ _ _ _ (scope_of c.args.env.now) c.in-Switch.is c.get-in-Switch.ensures c.get-in-Switch-2.ensures))
-    c.run_switch.ensures
-
-pub start::start_form-run_d_switch-requires : goal.start::start_form-run_d_switch-requires
-start::start_form-run_d_switch-requires g t c κs within =
-    let h = d_switch_new_by _ _ _ _ _ (scope_of c.args.env.now) c.in-DSwitch.is c.get-in-DSwitch.ensures c.get-in-DSwitch-2.ensures in
-    (omega (arith, c.decreases, d_switch_within _ _ _ _ h), search rules)
-
-pub start::start_form-returns-in-DSwitch : goal.start::start_form-returns-in-DSwitch
-start::start_form-returns-in-DSwitch g t c = if_ok c.run_d_switch.result _ _
-    (λ n by. by _ (d_switch_new_by _ _ _ _ _ (scope_of c.args.env.now) c.in-DSwitch.is c.get-in-DSwitch.ensures c.get-in-DSwitch-2.ensures))
-    c.run_d_switch.ensures
-
-pub start::start_form-run_r_switch-requires : goal.start::start_form-run_r_switch-requires
-start::start_form-run_r_switch-requires g t c κs within =
-    let h = r_switch_new_by _ _ _ _ _ (scope_of c.args.env.now) c.in-RSwitch.is c.get-in-RSwitch.ensures c.get-in-RSwitch-2.ensures in
-    (omega (arith, c.decreases, r_switch_within _ _ _ _ h), search rules)
-
-pub start::start_form-returns-in-RSwitch : goal.start::start_form-returns-in-RSwitch
-start::start_form-returns-in-RSwitch g t c = if_ok c.run_r_switch.result _ _
-    (λ n by. by _ (r_switch_new_by _ _ _ _ _ (scope_of c.args.env.now) c.in-RSwitch.is c.get-in-RSwitch.ensures c.get-in-RSwitch-2.ensures))
-    c.run_r_switch.ensures
-
-pub start::start_form-run_k_switch-requires : goal.start::start_form-run_k_switch-requires
-start::start_form-run_k_switch-requires g t c κs within =
-    let h = k_switch_new_by _ _ _ _ _ _ _ (scope_of c.args.env.now) c.in-KSwitch.is c.get-in-KSwitch.ensures c.get-in-KSwitch-2.ensures c.get-in-KSwitch-3.ensures in
-    (omega (arith, c.decreases, k_switch_within _ _ _ _ _ h), search rules)
-
-pub start::start_form-returns-in-KSwitch : goal.start::start_form-returns-in-KSwitch
-start::start_form-returns-in-KSwitch g t c = if_ok c.run_k_switch.result _ _
-    (λ n by. by _ (k_switch_new_by _ _ _ _ _ _ _ (scope_of c.args.env.now) c.in-KSwitch.is c.get-in-KSwitch.ensures c.get-in-KSwitch-2.ensures c.get-in-KSwitch-3.ensures))
-    c.run_k_switch.ensures
-
-pub start::start_form-run_p_switch-requires : goal.start::start_form-run_p_switch-requires
-start::start_form-run_p_switch-requires g t c κs within =
-    let h = p_switch_new_by _ _ _ _ _ _ _ _ (scope_of c.args.env.now) c.in-PSwitch.is c.as_slice-in-PSwitch.ensures c.get-in-PSwitch.ensures c.get-in-PSwitch-2.ensures in
-    (omega (arith, c.decreases, p_switch_within _ _ _ _ _ _ h), search rules)
-
-pub start::start_form-returns-in-PSwitch : goal.start::start_form-returns-in-PSwitch
-start::start_form-returns-in-PSwitch g t c = if_ok c.run_p_switch.result _ _
-    (λ n by. by _ (p_switch_new_by _ _ _ _ _ _ _ _ (scope_of c.args.env.now) c.in-PSwitch.is c.as_slice-in-PSwitch.ensures c.get-in-PSwitch.ensures c.get-in-PSwitch-2.ensures))
-    c.run_p_switch.ensures
-
-pub start::start_form-run-requires : goal.start::start_form-run-requires
-start::start_form-run-requires g t c κs within =
-    let h = old_by _ _ (scope_of c.args.env.now) _ _ (ap rows_in c.in-Old.is) c.in-Some.ensures c.resumed-dt.ensures in
-    (omega (arith, c.decreases, old_falls _ _ h), search rules)
-
-pub start::start_form-returns-in_ok-over-in-Some : goal.start::start_form-returns-in_ok-over-in-Some
-start::start_form-returns-in_ok-over-in-Some g t c =
-    let h = old_by _ _ (scope_of c.args.env.now) _ _ (ap rows_in c.in-Old.is) c.in-Some.ensures c.resumed-dt.ensures in
-    old_over _ _ _ _ (outcome (state_of c.run.new.place) (datum_of c.run.new.out) c.in_ok-over-in-Some.over)
-    (outcome (state_of c.run.new.place) (datum_of c.run.new.out) c.node.result) h c.in_ok-over-in-Some.ensures (refl, refl, c.node.ensures)
-
-pub start::start-returns-in-Some : goal.start::start-returns-in-Some
-start::start-returns-in-Some g t c = if_ok c.run_static.result _ _
-    (λ n by. by _ (flow_new_by _ _ _ (ap rows_in (sym c.in-Some.ensures.same)))) c.run_static.ensures
-
-pub step::step_par-run_par-requires : goal.step::step_par-run_par-requires
-step::step_par-run_par-requires g t c κs within =
-    (omega (arith, c.decreases, par_falls _ _ (par_on_by _ _ c.args.dt c.as_slice.ensures)), search rules)
-
-pub step::step_p_switch-run_p_switch-requires : goal.step::step_p_switch-run_p_switch-requires
-step::step_p_switch-run_p_switch-requires g t c κs within =
-    let h = p_switch_on_by (row_number c.args.parts.now.router) _ _ (state_of c.args.parts.now.watch) (rows_in c.args.parts.now.net.now)
-    (scope_of c.args.parts.now.env) c.args.dt c.as_slice.ensures in
-    (omega (arith, c.decreases, p_switch_within _ _ _ _ _ _ h), search rules)
+pub run::run_old-returns-in_ok-resume-in-Some-get : goal.run::run_old-returns-in_ok-resume-in-Some-get
+run::run_old-returns-in_ok-resume-in-Some-get g t c =
+    old_resumes _ _ _ _ _ _ _ _ _ _ (ap (λ b. past_in b c.args.on.now.dt) c.in-None.is) c.in-Some-get.ensures c.in_ok-resume-in-Some-get.ensures c.node.ensures
