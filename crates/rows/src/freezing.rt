@@ -6,9 +6,7 @@ use cell_core::{Cell, Form};
 use leaf_table::LeafId;
 use net_syntax::Net;
 use sample_core::{Memory, Sample};
-use state_core::{
-    Env, Frozen, Node, State, States, StaticNet, StaticParts, StaticState, Whole, freeze,
-};
+use state_core::{Env, Frozen, Places, Running, State, freeze};
 use std::alloc::Global;
 
 /// Tells what `freeze` answers on the state of `(delay 4096 0)` after 4,096 samples with step 1.
@@ -36,17 +34,14 @@ fn full_delay<'n>(alloc: Global, net: &'n Net<LeafId>) -> Result<State<'n>, Memo
 
 /// The state of a network that keeps one cell.
 fn alone<'n>(alloc: Global, net: &'n Net<LeafId>, cell: Cell) -> Result<State<'n>, Memory> {
-    let Some(fixed) = StaticNet::of(net) else {
-        return Err(Memory);
-    };
-    let mut parts = StaticParts::none(alloc);
-    match parts.cells.push(cell) {
-        Ok(()) => {
-            let kept = StaticState::new(alloc, parts)?;
-            Ok(State::Static(fixed, kept))
-        }
+    let env = Env::nothing();
+    let running = Running::new(alloc, net, &env);
+    drop(env);
+    let mut running = running?;
+    match running.kept.cells.push(cell) {
+        Ok(()) => State::new(alloc, running),
         Err(memory) => {
-            drop(parts);
+            drop(running);
             Err(memory)
         }
     }
@@ -56,8 +51,7 @@ fn alone<'n>(alloc: Global, net: &'n Net<LeafId>, cell: Cell) -> Result<State<'n
 pub fn members_told(alloc: Global, out: &mut String) {
     let net = Net::Time;
     match members(alloc, &net) {
-        Ok(whole) => {
-            let state = State::Whole(whole);
+        Ok(state) => {
             freeze_told(alloc, &net, &state, out);
             drop(state);
         }
@@ -66,12 +60,30 @@ pub fn members_told(alloc: Global, out: &mut String) {
     drop(net);
 }
 
-fn members<'n>(alloc: Global, net: &'n Net<LeafId>) -> Result<Whole<'n>, Memory> {
-    let mut all = Vec::with_capacity(alloc, 64)?;
-    for _ in 0..64u32 {
-        all.push(alone(alloc, net, Cell::Time(0))?)?;
+/// A state that keeps those of 64 members.
+fn members<'n>(alloc: Global, net: &'n Net<LeafId>) -> Result<State<'n>, Memory> {
+    let env = Env::nothing();
+    let running = Running::new(alloc, net, &env);
+    drop(env);
+    let mut running = running?;
+    match add_members(alloc, net, &mut running.kept.places) {
+        Ok(()) => State::new(alloc, running),
+        Err(memory) => {
+            drop(running);
+            Err(memory)
+        }
     }
-    Whole::new(alloc, Node::Par(States::new(all)))
+}
+
+fn add_members<'n>(
+    alloc: Global,
+    net: &'n Net<LeafId>,
+    places: &mut Places<'n>,
+) -> Result<(), Memory> {
+    for _ in 0..64u32 {
+        places.push(alone(alloc, net, Cell::Time(0))?)?;
+    }
+    Ok(())
 }
 
 /// Tells whether there is room for anything, and what the state is frozen to.
