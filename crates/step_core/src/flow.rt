@@ -59,7 +59,7 @@ pub(crate) fn flow<'n, R: Rows>(
 }
 
 /// What a row answers to the sample.
-#[inline(never)]
+#[inline(always)]
 fn call_into<R: Rows>(
     on: &On<'_, '_, R>,
     e: LeafId,
@@ -340,7 +340,7 @@ fn keep_fed(
 }
 
 /// A cell: it starts, or steps.
-#[inline(never)]
+#[inline(always)]
 fn flow_cell<R: Rows>(
     on: &On<'_, '_, R>,
     net: &Net<LeafId>,
