@@ -304,6 +304,39 @@ module _ (keys : List KeyTree) where
             called here others hc);
       })
 
+  -- what the members to come lead to, all lead to, after so many visits
+  abbrev pub EachRun : ℕ → Networks ℕ → Networks ℕ → Scope ℕ → Past → ℕ → Datum → Kept ℕ → Kept ℕ → List Datum → ℕ → Type 0
+  EachRun r all rest s p i x before mid ys m = (now : Kept ℕ) (zs : List Datum) (n c : ℕ) → AllRun keys r rest s p i x mid now ys zs n
+      → (m + n < 2 ^ 32 → c ≡ m + n) → AllRun keys r all s p 0 x before now [] zs c
+
+  pub each_run_begins : (r : ℕ) (all : Networks ℕ) (s : Scope ℕ) (p : Past) (x : Datum) (before : Kept ℕ) (ys : List Datum) → ys ≡ []
+      → EachRun r all all s p 0 x before before ys 0
+  each_run_begins r all s p x before ys ey now zs n c f e =
+      let g : AllRun keys r all s p 0 x before now [] zs n = subst (λ vs. AllRun keys r all s p 0 x before now vs zs n) ey f in
+      record {
+        states = g.states;
+        answers = g.answers;
+        added = g.added;
+        answered = g.answered;
+        is_count = g.is_count;
+        runs = λ k A D B hd l tf t.
+            let w = g.runs k A D B hd l tf t in
+            record {
+              visits = w.visits;
+              runs = w.runs;
+              is_count = λ b. let h : n ≡ w.visits = w.is_count b in e (omega (arith, h, b)) ∙ omega (arith, h);
+            };
+      }
+
+  -- one member more, by an equation
+  pub each_run_goes : (r : ℕ) (all rest : Networks ℕ) (f : Network ℕ) (fs : Networks ℕ) (s : Scope ℕ) (p : Past) (i : ℕ) (x z y : Datum) (before mid last : Kept ℕ)
+      (ys vs : List Datum) (m k j : ℕ) → rest ≡ and_member f fs → EachRun r all rest s p i x before mid ys m → Called keys r (params_of s) (pair x (int (pos i))) z
+      → Runs keys (placed f s (past_behind (0, length mid.1) p)) z mid last y k → vs ≡ ys ++ y ∷ [] → (m + k < 2 ^ 32 → j ≡ m + k)
+      → EachRun r all fs s p (i + 1) x before last vs j
+  each_run_goes r all rest f fs s p i x z y before mid last ys vs m k j e go called one ey ej now zs n c others hc =
+      go now zs (k + n) c (also_run r rest f fs s p i x z y mid last now ys vs zs k n (k + n) e called one ey others (λ _. refl))
+      (λ l. let a : j ≡ m + k = ej (omega (arith, l)) in let b : c ≡ j + n = hc (omega (arith, l, a)) in omega (arith, a, b))
+
   -- the members of what begins, and what watches them
   record Watched (r : ℕ) (fs : Networks ℕ) (e : Network ℕ) (s : Scope ℕ) (p : Past) (x y w : Datum) (now : Kept ℕ) (m n : ℕ) : Type 0 where
     states : List (State ℕ)

@@ -12,7 +12,8 @@ use sample_core::{Memory, Sample};
 use std::alloc::Global;
 use std::cell::Cell;
 
-/// Rows that can be called by their numbers, and memory for the pairs that they are handed.
+/// Rows that can be called by their numbers, and memory for the pairs that they are handed. A trait,
+/// though `Workspace` alone has it: so the walk's proof doesn't see the table of closures.
 pub(crate) trait Rows {
     ghost keys: { Self → List KeyTree };
 

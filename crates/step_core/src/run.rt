@@ -1,6 +1,6 @@
 // One sample through what runs at a place of its own.
 
-ghost use Rattle.std.specs.Prelude.{◌≡◌, ◌≤◌, ◌<◌, ◌^◌, IfOk, length, map, pos, take};
+ghost use Rattle.std.specs.Prelude.{◌≡◌, ◌<◌, ◌^◌, [], IfOk, length, map, pos};
 ghost use Rattle.sample_core.specs.{Datum.int, Datum.pair, ValueView.datum_of};
 ghost use Rattle.net_syntax.specs.Network.{map_networks, switch, d_switch, k_switch, p_switch, old};
 ghost use Rattle.net_syntax.specs.NetworkView.{members_of};
@@ -437,7 +437,7 @@ fn run_members<'n, R: Rows>(
         (kept_of kept.old) (kept_of kept.new) (datum_of out.new) n) }
 {
     let mut answers = answer_places(on.alloc, members.nets.len(), out)?;
-    match run_each(on, members, x, kept, &mut answers, 0) {
+    match run_each(on, members, x, kept, &mut answers) {
         Ok(all) => {
             out.put_list(on.alloc, answers)?;
             Ok(all)
@@ -449,7 +449,7 @@ fn run_members<'n, R: Rows>(
     }
 }
 
-/// Puts what the members answer, in order, in the place of the answers of so many members before.
+/// Puts what the members answer, in order, in the places of the answers.
 #[cycle(run)]
 #[inline(never)]
 fn run_each<'n, R: Rows>(
@@ -458,31 +458,27 @@ fn run_each<'n, R: Rows>(
     x: &Sample,
     kept: &mut Kept<'n>,
     answers: &mut Vec<Sample>,
-    before: usize,
 ) -> Result<u32, Memory>
-    requires { before ≤ length answers.old.items }
     ensures { IfOk result (λ n. AllRun (R.keys on.now.rows.now) (row_number members.entry.router)
         (map_networks row_number (members_of members.entry.nets.now))
-        (scope_of on.now.env.now) (past_in on.now.before on.now.dt) before
-        (datum_of x.now) (kept_of kept.old) (kept_of kept.new)
-        (map datum_of (take before answers.old.items)) (map datum_of answers.new.items) n) }
+        (scope_of on.now.env.now) (past_in on.now.before on.now.dt) 0
+        (datum_of x.now) (kept_of kept.old) (kept_of kept.new) [] (map datum_of answers.new.items)
+        n) }
 {
-    match members.nets.split_first() {
-        Some((f, nets)) => {
-            make_place(answers, before)?;
-            let input = routed(on, members.router, x, before)?;
-            let one = run_place(on, f, &input, kept, &mut answers[before]);
-            input.let_go();
-            let one = one?;
-            let router = members.router;
-            let others = run_each(on, Members { router, nets }, x, kept, answers, before + 1)?;
-            Ok(both(one, others))
-        }
-        None => {
-            answers.truncate(before);
-            Ok(0)
-        }
+    let mut rest = members.nets;
+    let mut before: usize = 0;
+    let mut visits: u32 = 0;
+    'members: while let Some((f, others)) = rest.split_first() {
+        make_place(answers, before)?;
+        let input = routed(on, members.router, x, before)?;
+        let one = run_place(on, f, &input, kept, &mut answers[before]);
+        input.let_go();
+        visits = both(visits, one?);
+        rest = others;
+        before += 1;
     }
+    answers.truncate(before);
+    Ok(visits)
 }
 
 /// What the row makes of the sample and member i's number.

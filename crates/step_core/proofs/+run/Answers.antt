@@ -18,7 +18,7 @@ use Rattle.step_core.proofs.Levels.{level_most}
 use Rattle.step_core.proofs.Plain.{plain, flows_run}
 use Rattle.step_core.proofs.RunJoins.{if_ok, both_ok, fires_by}
 use Rattle.step_core.proofs.StateLists.{one_answered}
-use Rattle.step_core.proofs.Switches.{same_rank, rest_falls, par_members_fall, one_cell_wider, placed_found, flows_width, runs_width, others_fall, others_placed_fall, loop_part_falls, k_over_falls, p_over_falls, p_members_fall, p_watch_falls, resumed_falls, switch_stays, switch_ends, d_switch_stays, d_switch_ends, k_switch_stays, k_switch_ends, none_run, also_run, p_switch_stays, p_switch_ends, old_resumes}
+use Rattle.step_core.proofs.Switches.{same_rank, rest_falls, par_members_fall, one_cell_wider, placed_found, flows_width, runs_width, others_fall, others_placed_fall, loop_part_falls, k_over_falls, p_over_falls, p_members_fall, p_watch_falls, resumed_falls, switch_stays, switch_ends, d_switch_stays, d_switch_ends, k_switch_stays, k_switch_ends, none_run, each_run_begins, each_run_goes, p_switch_stays, p_switch_ends, old_resumes}
 use Rattle.step_core.proofs.+run.Goals as goal
 
 pub flow::flow-returns-in-Arr : goal.flow::flow-returns-in-Arr
@@ -279,34 +279,29 @@ run::run_p_switch-returns-in-None g t c =
     let fires = fires_by _ _ (λ u. push_olds (push_param s u) (all_placed fs s p)) _ _ refl c.in-None.is c.in_ok-env.ensures in
     p_switch_stays _ _ _ _ _ _ _ _ _ _ _ _ _ _ _ _ _ _ _ c.requires c.end.ensures c.in_ok-one.ensures c.in_ok-two.ensures fires c.node-in-None.ensures
 
-pub run::run_each-run_each-requires : goal.run::run_each-run_each-requires
-run::run_each-run_each-requires g t c κs within =
+pub run::run_each-returns : goal.run::run_each-returns
+run::run_each-returns g t c =
+    c.members.invariant.2 (kept_of c.members.kept) _ 0 c.members.visits
+    (none_run _ _ _ _ _ _ _ _ _ _ (ap (λ fs. map_networks row_number (members_of fs)) (no_items _ c.in_default.ensures.cases))
+    (ap (map datum_of) c.truncate.ensures.items)) (λ _. omega arith)
+
+pub run::run_each-members-init : goal.run::run_each-members-init
+run::run_each-members-init g t c = (omega arith, omega arith, each_run_begins _ _ _ _ _ _ _ _ refl)
+
+pub run::run_each-members-preserved : goal.run::run_each-members-preserved
+run::run_each-members-preserved g t c =
     let form = ap (λ fs. map_networks row_number (members_of fs)) c.in-Some.ensures.cases.0 in
-    let room = c.in_ok-make_place-in-Some.ensures in (
+    let room = c.in_ok-make_place.ensures in
+    let answered = one_answered c.members.answers.items c.make_place.new.places.items c.members.before c.run_place-one.new.out room.0 room.1 in (
       omega (
         arith,
-        c.decreases,
-        others_placed_fall (map_networks row_number (members_of c.args.members.nets.now)) (rows_in c.in-Some.f.now) (map_networks row_number (members_of c.in-Some.nets.now)) (scope_of c.args.on.now.env.now) (past_in c.args.on.now.before c.args.on.now.dt)
-            (kept_of c.args.kept.now) (kept_of c.run_place-one.new.kept) form (runs_width _ _ _ _ _ _ _ c.in_ok-one-in-Some.ensures),
+        c.members.invariant.0,
+        others_placed_fall (map_networks row_number (members_of c.members.rest.now)) (rows_in c.in-Some.f.now) (map_networks row_number (members_of c.in-Some.others.now)) (scope_of c.args.on.now.env.now) (past_in c.args.on.now.before c.args.on.now.dt)
+            (kept_of c.members.kept) (kept_of c.run_place-one.new.kept) form (runs_width _ _ _ _ _ _ _ c.in_ok-one.ensures),
       ),
-      (
-        search rules,
-        omega (arith, room.0, length-set c.make_place.new.places.items c.args.before c.run_place-one.new.out),
-      ),
+      omega (arith, room.0, length-set c.make_place.new.places.items c.members.before c.run_place-one.new.out),
+      each_run_goes _ _ _ _ _ _ _ _ _ _ _ _ _ _ _ _ _ _ _ _ form c.members.invariant.2 c.in_ok-input.ensures c.in_ok-one.ensures answered c.both-visits.ensures,
     )
-
-pub run::run_each-returns-in_ok-others-in-Some : goal.run::run_each-returns-in_ok-others-in-Some
-run::run_each-returns-in_ok-others-in-Some g t c =
-    let form = ap (λ fs. map_networks row_number (members_of fs)) c.in-Some.ensures.cases.0 in
-    let room = c.in_ok-make_place-in-Some.ensures in
-    let answered = one_answered c.args.answers.now.items c.make_place.new.places.items c.args.before c.run_place-one.new.out room.0 room.1 in
-    also_run _ _ _ _ _ _ _ _ _ _ _ _ _ _ _ _ _ _ _ _ form c.in_ok-input-in-Some.ensures c.in_ok-one-in-Some.ensures answered c.in_ok-others-in-Some.ensures
-    c.both.ensures
-
-pub run::run_each-returns-in-None : goal.run::run_each-returns-in-None
-run::run_each-returns-in-None g t c =
-    none_run _ _ _ _ _ _ _ _ _ _ (ap (λ fs. map_networks row_number (members_of fs)) (no_items _ c.in-None.ensures.cases))
-    (ap (map datum_of) c.truncate.ensures.items)
 
 pub run::run_old-resume-requires : goal.run::run_old-resume-requires
 run::run_old-resume-requires g t c κs within = (

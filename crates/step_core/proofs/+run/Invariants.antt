@@ -12,6 +12,7 @@ use Rattle.net_syntax.proofs.Sizes.{net_size}
 use Rattle.sample_core.specs.ValueView.{datum_of}
 use Rattle.step_core.proofs.Flows.{ChainFlows, EachFlows}
 use Rattle.step_core.proofs.Levels.{level}
+use Rattle.step_core.proofs.Switches.{EachRun}
 use Rattle.step_core.proofs.+run.Given as goal
 
 abbrev pub decreases-flow::flow : goal.decreases-flow::flow
@@ -105,6 +106,21 @@ decreases-run::run_members g l =
 abbrev pub decreases-run::run_each : goal.decreases-run::run_each
 decreases-run::run_each g l =
     20 * total (frozen_ranks (all_placed (map_networks row_number (members_of l.members.nets.now)) (scope_of l.on.now.env.now) (past_behind (width_of (kept_of l.kept.now)) (past_in l.on.now.before l.on.now.dt)))) + 20
+
+-- the same of members that run at a place each
+abbrev pub invariant-run::run_each-members : goal.invariant-run::run_each-members
+invariant-run::run_each-members g l =
+    (total (frozen_ranks (all_placed (map_networks row_number (members_of l.rest)) (scope_of l.on.env.now)
+    (past_behind (width_of (kept_of l.kept)) (past_in l.on.before l.on.dt))))
+    ≤ total (frozen_ranks (all_placed (map_networks row_number (members_of l.members.nets.now)) (scope_of l.on.env.now)
+    (past_behind (width_of (kept_of l.fn.kept)) (past_in l.on.before l.on.dt)))))
+    × (l.before ≤ length l.answers.items)
+    × EachRun (g.R.Rows.keys l.on.rows.now) (row_number l.members.router) (map_networks row_number (members_of l.members.nets.now))
+    (map_networks row_number (members_of l.rest)) (scope_of l.on.env.now) (past_in l.on.before l.on.dt) l.before (datum_of l.x) (kept_of l.fn.kept)
+    (kept_of l.kept) (map datum_of (take l.before l.answers.items)) l.visits
+
+abbrev pub decreases-run::run_each-members : goal.decreases-run::run_each-members
+decreases-run::run_each-members g l = length l.rest
 
 -- what the rest of the chain leads to from here, the whole leads to from the start
 abbrev pub invariant-flow::flow_rest-chain : goal.invariant-flow::flow_rest-chain
