@@ -5,7 +5,7 @@ use Rattle.std.specs.List.{HoldsAt}
 use denote.Bor.{Bor}
 use Rattle.leaf_core.specs.Expression.{Expression}
 use Rattle.leaf_core.specs.declared.expr.Expr.{Expr}
-use Rattle.net_syntax.specs.Network.{Network, Networks, arr, seq, first, par, loop_pre, i_pre, delay, hold, accum_by, after, repeatedly, time, integral, switch, d_switch, r_switch, k_switch, p_switch, old, no_members, and_member}
+use Rattle.net_syntax.specs.Network.{Network, Networks, arr, seq, first, par, loop_pre, i_pre, delay, hold, accum_by, after, repeatedly, time, integral, switch, d_switch, r_switch, k_switch, p_switch, old, initial_out, initial_in, dr_switch, rp_switch, no_members, and_member}
 use Rattle.net_syntax.specs.NetworkView.{members_of, tree_of, trees}
 use Rattle.net_syntax.specs.Place.{child, member, member_child, continuation_child, p_switch_child, child_network}
 use Rattle.net_syntax.specs.Placed.{bound, bound_behind, bound_in}
@@ -58,6 +58,16 @@ child_is (k_switch f e t) (suc (suc (suc k))) = refl
 child_is (p_switch r fs e t) zero = refl
 child_is (p_switch r fs e t) (suc k) = refl
 child_is (old j) k = refl
+child_is (initial_out c f) zero = refl
+child_is (initial_out c f) (suc zero) = refl
+child_is (initial_out c f) (suc (suc k)) = refl
+child_is (initial_in c f) zero = refl
+child_is (initial_in c f) (suc zero) = refl
+child_is (initial_in c f) (suc (suc k)) = refl
+child_is (dr_switch f t) zero = refl
+child_is (dr_switch f t) (suc zero) = refl
+child_is (dr_switch f t) (suc (suc k)) = refl
+child_is (rp_switch fs m t) k = refl
 
 counted : (all : List (Net Expr)) → members (trees (members_of all)) ≡ length all
 counted [] = refl

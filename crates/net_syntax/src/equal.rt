@@ -33,6 +33,8 @@ pub(crate) enum Parts<'n> {
     Row(&'n Members<Expr>),
     /// A route, members and two networks.
     Routed(&'n Expr, &'n Members<Expr>, &'n NetChild<Expr>, &'n NetChild<Expr>),
+    /// Members, an expression and a network.
+    Collection(&'n Members<Expr>, &'n Expr, &'n NetChild<Expr>),
 }
 
 /// The number of the network's form.
@@ -59,6 +61,10 @@ fn form_number(net: &Net<Expr>) -> u8
         Net::KSwitch(..) => 16,
         Net::PSwitch(..) => 17,
         Net::Old(_) => 18,
+        Net::InitialOut(..) => 19,
+        Net::InitialIn(..) => 20,
+        Net::DrSwitch(..) => 21,
+        Net::RpSwitch(..) => 22,
     }
 }
 
@@ -72,14 +78,17 @@ pub(crate) fn parts_inside(net: &Net<Expr>) -> Parts<'_>
         Net::AccumBy(g, z) => Parts::Leaves(g, z),
         Net::Time | Net::Integral => Parts::Nothing,
         Net::First(f) => Parts::One(f),
-        Net::LoopPre(c, f) => Parts::Fed(c, f),
-        Net::Seq(f, g) | Net::Switch(f, g) | Net::DSwitch(f, g) | Net::RSwitch(f, g) => Parts::Two(
-            f, g,
-        ),
+        Net::LoopPre(c, f) | Net::InitialOut(c, f) | Net::InitialIn(c, f) => Parts::Fed(c, f),
+        Net::Seq(f, g)
+        | Net::Switch(f, g)
+        | Net::DSwitch(f, g)
+        | Net::RSwitch(f, g)
+        | Net::DrSwitch(f, g) => Parts::Two(f, g),
         Net::KSwitch(f, e, t) => Parts::Three(f, e, t),
         Net::Par(fs) => Parts::Row(fs),
         Net::PSwitch(r, fs, e, t) => Parts::Routed(r, fs, e, t),
         Net::Old(k) => Parts::Index(*k),
+        Net::RpSwitch(fs, m, t) => Parts::Collection(fs, m, t),
     }
 }
 
@@ -112,6 +121,9 @@ fn same_inside(a: &Net<Expr>, b: &Net<Expr>) -> bool
         (Parts::Row(fs), Parts::Row(gs)) => same_members(fs, gs),
         (Parts::Routed(q, fs, f, g), Parts::Routed(r, gs, h, i)) => {
             same_expr(q, r) && same_members(fs, gs) && same_two(f, g, h, i)
+        }
+        (Parts::Collection(fs, l, f), Parts::Collection(gs, m, g)) => {
+            same_members(fs, gs) && same_expr(l, m) && same_child(f, g)
         }
         _ => false,
     }

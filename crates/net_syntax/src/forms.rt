@@ -1,7 +1,7 @@
 // Forms of networks that hold the same parts, and copies.
 
 ghost use Rattle.std.specs.Prelude.{◌≡◌, IfOk};
-ghost use Rattle.net_syntax.specs.FormView.{leaf_form_of, pair_form_of};
+ghost use Rattle.net_syntax.specs.FormView.{fed_form_of, leaf_form_of, pair_form_of};
 ghost use Rattle.net_syntax.specs.declared.net.Net.TheVariants as V;
 
 use crate::net::{Members, Net, NetChild};
@@ -27,6 +27,15 @@ pub enum PairForm {
     Switch,
     DSwitch,
     RSwitch,
+    DrSwitch,
+}
+
+/// A form of an expression and a network.
+#[derive(Clone, Copy)]
+pub enum FedForm {
+    LoopPre,
+    InitialOut,
+    InitialIn,
 }
 
 impl LeafForm {
@@ -55,6 +64,20 @@ impl PairForm {
             PairForm::Switch => Net::Switch(f, g),
             PairForm::DSwitch => Net::DSwitch(f, g),
             PairForm::RSwitch => Net::RSwitch(f, g),
+            PairForm::DrSwitch => Net::DrSwitch(f, g),
+        }
+    }
+}
+
+impl FedForm {
+    /// The network of this form.
+    pub fn of<L>(self, c: L, f: NetChild<L>) -> Net<L>
+        ensures { result ≡ fed_form_of self c f }
+    {
+        match self {
+            FedForm::LoopPre => Net::LoopPre(c, f),
+            FedForm::InitialOut => Net::InitialOut(c, f),
+            FedForm::InitialIn => Net::InitialIn(c, f),
         }
     }
 }
@@ -81,10 +104,14 @@ impl Net<Expr> {
             Net::DSwitch(f, t) => copied_pair(PairForm::DSwitch, f, t),
             Net::RSwitch(f, t) => copied_pair(PairForm::RSwitch, f, t),
             Net::First(f) => copied_first(f),
-            Net::LoopPre(c, f) => copied_loop(alloc, c, f),
+            Net::LoopPre(c, f) => copied_fed(alloc, FedForm::LoopPre, c, f),
             Net::Par(fs) => copied_par(fs),
             Net::KSwitch(f, e, t) => copied_freeze(f, e, t),
             Net::PSwitch(r, fs, e, t) => copied_freeze_all(alloc, r, fs, e, t),
+            Net::InitialOut(c, f) => copied_fed(alloc, FedForm::InitialOut, c, f),
+            Net::InitialIn(c, f) => copied_fed(alloc, FedForm::InitialIn, c, f),
+            Net::DrSwitch(f, t) => copied_pair(PairForm::DrSwitch, f, t),
+            Net::RpSwitch(fs, m, t) => copied_collection(alloc, fs, m, t),
         }
     }
 }
@@ -127,13 +154,18 @@ fn copied_first(f: &NetChild<Expr>) -> Result<Net<Expr>, Memory>
     Ok(Net::First(f))
 }
 
-/// A copy of `loopPre`.
-fn copied_loop(alloc: Global, c: &Expr, f: &NetChild<Expr>) -> Result<Net<Expr>, Memory>
-    ensures { IfOk result (λ n. n ≡ V.LoopPre c.now f.now) }
+/// A copy of a form of an expression and a network.
+fn copied_fed(
+    alloc: Global,
+    form: FedForm,
+    c: &Expr,
+    f: &NetChild<Expr>,
+) -> Result<Net<Expr>, Memory>
+    ensures { IfOk result (λ n. n ≡ fed_form_of form c.now f.now) }
 {
     let f = f.try_copy()?;
     match c.try_copy(alloc) {
-        Ok(c) => Ok(Net::LoopPre(c, f)),
+        Ok(c) => Ok(form.of(c, f)),
         Err(refused) => {
             drop(f);
             Err(refused)
@@ -188,6 +220,25 @@ fn copied_freeze_all(
     }
 }
 
+/// A copy of `rpSwitchB`.
+fn copied_collection(
+    alloc: Global,
+    fs: &Members<Expr>,
+    m: &Expr,
+    t: &NetChild<Expr>,
+) -> Result<Net<Expr>, Memory>
+    ensures { IfOk result (λ n. n ≡ V.RpSwitch fs.now m.now t.now) }
+{
+    let t = t.try_copy()?;
+    match copied_route(alloc, m, fs) {
+        Ok((m, fs)) => Ok(Net::RpSwitch(fs, m, t)),
+        Err(refused) => {
+            drop(t);
+            Err(refused)
+        }
+    }
+}
+
 /// Copies of two networks.
 pub(crate) fn copied_children(
     e: &NetChild<Expr>,
@@ -205,7 +256,7 @@ pub(crate) fn copied_children(
     }
 }
 
-/// Copies of a route and of members.
+/// Copies of an expression and of members.
 fn copied_route(
     alloc: Global,
     r: &Expr,

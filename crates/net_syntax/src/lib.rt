@@ -20,7 +20,7 @@ mod typed_net;
 
 pub use arrow::Arrow;
 pub use equal::same_net;
-pub use forms::{LeafForm, PairForm};
+pub use forms::{FedForm, LeafForm, PairForm};
 pub use law_step::{Direction, Law, LawStep, Tree};
 pub use laws::{
     congruence_laws, output_examples, replacing_laws, stream_laws, switching_laws, typing_laws,

@@ -51,6 +51,15 @@ pub enum Net<L> {
     PSwitch(L, Members<L>, NetChild<L>, NetChild<L>),
     /// `(old k)`: frozen network k, from 0, the outermost first, resumed.
     Old(u32),
+    /// `(--> c f)`: f, with c in the place of its first output.
+    InitialOut(L, NetChild<L>),
+    /// `(>-- c f)`: f, with c in the place of its first input.
+    InitialIn(L, NetChild<L>),
+    /// `(drSwitch f t)`: like `rSwitch`, but at an event's sample what ran before still outputs.
+    DrSwitch(NetChild<L>, NetChild<L>),
+    /// `(rpSwitchB (col f1 .. fn) m t)`: the members; at each event in the input m chooses which of
+    /// them go on, and starts t for each of its values.
+    RpSwitch(Members<L>, L, NetChild<L>),
 }
 
 /// A network inside a network. Contracts see it as the network's tree; copies share it.
@@ -79,8 +88,8 @@ impl<L> Model for NetChild<L> {
     ghost size_decreases = { λ a h. depth_le a.inner.value };
 }
 
-/// The members of `parB` or `pSwitch`, in order. Contracts see them as the members' trees; copies
-/// share them.
+/// The members of `parB`, `pSwitch` or `rpSwitchB`, in order. Contracts see them as the members'
+/// trees; copies share them.
 #[cycle(net)]
 #[derive(Drop)]
 pub struct Members<L> {
