@@ -4,18 +4,18 @@ ghost use Rattle.std.specs.Prelude.{◌≡◌, ◌≢◌, ◌+◌, ◌≤◌, �
 ghost use Rattle.sample_core.specs.TypeTree.{TypeTree, unit_ty, int_ty, pair_ty, event_ty, list_ty};
 ghost use Rattle.sample_core.specs.TypeView.{type_of};
 ghost use Rattle.leaf_core.specs.{ExpressionView.expression_of, ExpressionCheck.type_answer};
-ghost use Rattle.net_syntax.specs.Network.{first, par, loop_pre, i_pre, hold, accum_by, after, r_switch, p_switch, old};
+ghost use Rattle.net_syntax.specs.Network.{first, par, loop_pre, i_pre, hold, accum_by, after, r_switch, p_switch, rp_switch, old};
 ghost use Rattle.net_syntax.specs.NetworkView.{members_of, tree, tree_of, trees};
 ghost use Rattle.net_syntax.specs.{NeedView.need_of, ArrowView.arrow_of, Typing.arrow, Typing.copies, Typing.members};
 ghost use Rattle.net_syntax.specs.Leaves.{need_at, LeavesOf};
-ghost use Rattle.net_syntax.specs.LeafWalk.{Finds, and_then, event_of, find_at, find_child, find_leaf_at, find_members_at, find_others_at, find_resuming, find_routed_at, find_type, find_under};
+ghost use Rattle.net_syntax.specs.LeafWalk.{Finds, and_then, event_of, find_at, find_child, find_choice_at, find_leaf_at, find_members_at, find_others_at, find_resuming, find_routed_at, find_type, find_under};
 
 use crate::arrow::Arrow;
 use crate::need::LeafNeed;
 use crate::net::{Members, Net, NetChild};
 use crate::part_types::{
     add_copies, arrow_from, event_value, event_with, left_part, list_of, old_output, pair_of,
-    pair_under, right_event_value,
+    pair_under, right_event_value, started_value,
 };
 use crate::position::Position;
 use crate::typed_net::TypedNet;
@@ -78,7 +78,7 @@ fn add_leaves(alloc: Global, net: &Net<Expr>, input: &Ty, walk: &mut Walk) -> Re
             drop(output);
             add_continuation(alloc, 1, t.get(), event?, input, walk)
         }
-        Net::RSwitch(f, t) => add_restart(alloc, f, t, input, walk),
+        Net::RSwitch(f, t) | Net::DrSwitch(f, t) => add_restart(alloc, f, t, input, walk),
         Net::KSwitch(f, e, t) => {
             let output = add_child(alloc, 0, f.get(), input, walk)?;
             let frozen = arrow_from(alloc, input, output)?;
@@ -87,6 +87,11 @@ fn add_leaves(alloc: Global, net: &Net<Expr>, input: &Ty, walk: &mut Walk) -> Re
         }
         Net::PSwitch(r, fs, e, t) => add_routed(alloc, r, fs, e, t, input, walk),
         Net::Old(k) => old_output(alloc, &walk.olds, *k),
+        Net::InitialOut(c, f) | Net::InitialIn(c, f) => {
+            drop(add_leaf(alloc, 0, c, &Ty::Unit, walk)?);
+            add_child(alloc, 1, f.get(), input, walk)
+        }
+        Net::RpSwitch(fs, m, t) => add_collection(alloc, fs, m, t, input, walk),
     }
 }
 
@@ -289,7 +294,7 @@ fn add_timer(alloc: Global, c: &Expr, input: &Ty, walk: &mut Walk) -> Result<Ty,
     event_with(alloc, value)
 }
 
-/// Adds the expressions of `rSwitch`.
+/// Adds the expressions of `rSwitch` or `drSwitch`.
 #[cycle(add_leaves)]
 fn add_restart(
     alloc: Global,
@@ -310,6 +315,50 @@ fn add_restart(
         }
         _ => unreachable!(),
     }
+}
+
+/// Adds the expressions of `rpSwitchB`.
+#[cycle(add_leaves)]
+fn add_collection(
+    alloc: Global,
+    fs: &Members<Expr>,
+    m: &Expr,
+    t: &NetChild<Expr>,
+    input: &Ty,
+    walk: &mut Walk,
+) -> Result<Ty, Memory>
+    requires { find_at walk.old (rp_switch (trees fs.now) (expression_of m.now) (tree t.now))
+        (type_of input.now) ≢ None }
+    ensures { IfOk result (Finds walk.old walk.new
+        (find_at walk.old (rp_switch (trees fs.now) (expression_of m.now) (tree t.now))
+        (type_of input.now))) }
+{
+    match input {
+        Ty::Pair(sample, event) => {
+            let count = count_members(fs);
+            let output = add_members(alloc, 0, fs.as_slice(), sample.get(), walk)?;
+            let started = add_choice(alloc, count, m, event.get(), walk)?;
+            drop(add_continuation(alloc, 1 + count, t.get(), started, sample.get(), walk)?);
+            list_of(alloc, output)
+        }
+        _ => unreachable!(),
+    }
+}
+
+/// Adds the choice of an `rpSwitchB`, which is child k of the node and gets what the event carries.
+/// The answer is the type of what new members are started with.
+fn add_choice(alloc: Global, k: u32, m: &Expr, event: &Ty, walk: &mut Walk) -> Result<Ty, Memory>
+    requires { find_choice_at walk.old k (expression_of m.now) (type_of event.now) ≢ None }
+    ensures { IfOk result (Finds walk.old walk.new
+        (find_choice_at walk.old k (expression_of m.now) (type_of event.now))) }
+{
+    let event = event_value(alloc, event)?;
+    let chosen = add_leaf(alloc, k, m, &event, walk);
+    drop(event);
+    let chosen = chosen?;
+    let started = started_value(alloc, &chosen);
+    drop(chosen);
+    started
 }
 
 /// Adds the expressions of a network that is child k of the node, and gets pairs of the input and

@@ -5,9 +5,9 @@ ghost use Rattle.sample_core.specs.TypeTree.{int_ty, list_ty, pair_ty};
 ghost use Rattle.sample_core.specs.TypeView.{type_of};
 ghost use Rattle.leaf_core.specs.ExpressionView.{expression_of};
 ghost use Rattle.net_syntax.specs.{ArrowView.arrow_of, FoundType.Finds};
-ghost use Rattle.net_syntax.specs.Network.{first as first_of, loop_pre};
+ghost use Rattle.net_syntax.specs.Network.{first as first_of, loop_pre, rp_switch};
 ghost use Rattle.net_syntax.specs.NetworkView.{tree, tree_of, trees};
-ghost use Rattle.net_syntax.specs.StandingWalk.{carried_of, first_output, leaf_type, left_of, old_output, output_in, right_carried_of, routed, standing_of, taking};
+ghost use Rattle.net_syntax.specs.StandingWalk.{carried_of, first_output, leaf_type, left_of, old_output, output_in, right_carried_of, right_listed_of, routed, standing_of, taking};
 ghost use Rattle.net_syntax.specs.declared.output.Untyped.TheVariants as U;
 
 use crate::arrow::Arrow;
@@ -72,11 +72,13 @@ pub(crate) fn output_in(
             drop(output);
             left
         }
-        Net::RSwitch(f, _) => match input {
+        Net::RSwitch(f, _) | Net::DrSwitch(f, _) => match input {
             Ty::Pair(sample, _) => output_in(alloc, at, sample.get(), f.get()),
             _ => Err(Untyped::NoType),
         },
-        Net::KSwitch(f, _, _) => output_in(alloc, at, input, f.get()),
+        Net::KSwitch(f, _, _) | Net::InitialOut(_, f) | Net::InitialIn(_, f) => {
+            output_in(alloc, at, input, f.get())
+        }
         Net::PSwitch(r, fs, _, _) => {
             let types = routed_types(alloc, at, input, r, fs)?;
             let outputs = list_under(alloc, &types);
@@ -84,6 +86,7 @@ pub(crate) fn output_in(
             Ok(outputs?)
         }
         Net::Old(k) => old_output(alloc, &at.olds, *k),
+        Net::RpSwitch(fs, _, _) => output_of_collection(alloc, at, input, fs),
     }
 }
 
@@ -126,6 +129,24 @@ fn output_fed_back(
     let left = left_in(alloc, &output);
     drop(output);
     left
+}
+
+/// The output type of members that get the left parts of pairs: a list of the first one's.
+#[cycle(output)]
+fn output_of_collection(
+    alloc: Global,
+    at: &Standing,
+    input: &Ty,
+    fs: &Members<Expr>,
+) -> Result<Ty, Untyped>
+    ensures { (m : Expression) (t : Network Expression) → Finds type_of result
+        (output_in (taking (standing_of at.now) (type_of input.now)) (rp_switch (trees fs.now) m t)) }
+{
+    let Ty::Pair(sample, _) = input else {
+        return Err(Untyped::NoType);
+    };
+    let element = first_output(alloc, at, sample.get(), fs)?;
+    Ok(list_of(alloc, element)?)
 }
 
 /// The types of members on what the route gives them.
@@ -224,6 +245,19 @@ pub(crate) fn right_carried_in(alloc: Global, ty: &Ty) -> Result<Ty, Untyped>
 {
     match ty {
         Ty::Pair(_, right) => carried_in(alloc, right.get()),
+        _ => Err(Untyped::NoType),
+    }
+}
+
+/// The type of what the list in the right part of a pair holds.
+pub(crate) fn right_listed_in(alloc: Global, ty: &Ty) -> Result<Ty, Untyped>
+    ensures { Finds type_of result (right_listed_of (type_of ty.now)) }
+{
+    let Ty::Pair(_, right) = ty else {
+        return Err(Untyped::NoType);
+    };
+    match right.get() {
+        Ty::List(element) => Ok(element.get().try_copy(alloc)?),
         _ => Err(Untyped::NoType),
     }
 }

@@ -3,7 +3,7 @@
 ghost use Rattle.std.specs.Prelude.{◌≡◌, ◌≢◌, ◌++◌, IfOk, OnOk, None, map, replicate};
 ghost use Rattle.sample_core.specs.{TypeTree.pair_ty, TypeTree.event_ty, TypeTree.list_ty, TypeView.type_of};
 ghost use Rattle.net_syntax.specs.ArrowView.{arrow_of};
-ghost use Rattle.net_syntax.specs.LeafWalk.{event_of, left_of, old_of, only, right_event_of};
+ghost use Rattle.net_syntax.specs.LeafWalk.{event_of, left_of, old_of, only, right_event_of, started_of};
 ghost use Rattle.net_syntax.specs.Typing.{arrow};
 
 use crate::arrow::Arrow;
@@ -79,6 +79,20 @@ pub(crate) fn right_event_value(alloc: Global, ty: &Ty) -> Result<Ty, Memory>
 {
     match ty {
         Ty::Pair(_, right) => event_value(alloc, right.get()),
+        _ => unreachable!(),
+    }
+}
+
+/// The type of the values that a choice of members starts new ones with.
+pub(crate) fn started_value(alloc: Global, ty: &Ty) -> Result<Ty, Memory>
+    requires { started_of (type_of ty.now) ≢ None }
+    ensures { IfOk result (λ t. started_of (type_of ty.now) ≡ only (type_of t)) }
+{
+    let Ty::Pair(_, values) = ty else {
+        unreachable!();
+    };
+    match values.get() {
+        Ty::List(value) => value.get().try_copy(alloc),
         _ => unreachable!(),
     }
 }

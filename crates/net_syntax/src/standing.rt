@@ -7,13 +7,13 @@ ghost use Rattle.net_syntax.specs.{ArrowView.arrow_of, BehindRoute.behind_of, Ch
 ghost use Rattle.net_syntax.specs.NetworkView.{tree, tree_of, trees};
 ghost use Rattle.net_syntax.specs.Place.{a_leaf, a_network, continuation_child, p_switch_child};
 ghost use Rattle.net_syntax.specs.{Placed.placed_at, Standing.ChildFound, Standing.TypeAt, Standing.alone};
-ghost use Rattle.net_syntax.specs.StandingWalk.{child_input, child_scope, fed_input, freezing, frozen, frozen_members, frozen_of, frozen_types, inside, k_switch_scope, members_scope, r_switch_scope, routed_input, standing_of, step_input, switch_event, switch_scope, taking, type_walk_at, under, watched_event, watched_input};
+ghost use Rattle.net_syntax.specs.StandingWalk.{child_input, child_scope, collection_input, fed_input, freezing, frozen, frozen_members, frozen_of, frozen_types, inside, k_switch_scope, members_scope, r_switch_scope, routed_input, standing_of, started_scope, started_type, step_input, switch_event, switch_scope, taking, type_walk_at, under, watched_event, watched_input};
 
 use crate::arrow::Arrow;
 use crate::net::{Members, Net, NetChild};
 use crate::output::{
-    Untyped, carried_in, leaf_type, left_in, list_under, output_in, right_carried_in, route_type,
-    routed_types,
+    Untyped, carried_in, leaf_type, left_in, list_under, output_in, right_carried_in,
+    right_listed_in, route_type, routed_types,
 };
 use crate::part_types::{add_copies, arrow_from, pair_of, pair_under};
 use crate::place::{TreeRef, child};
@@ -150,9 +150,10 @@ fn child_input(alloc: Global, at: &Standing, net: &Net<Expr>, k: u32) -> Result<
 {
     match net {
         Net::Seq(f, _) if k > 0 => output_in(alloc, at, &at.input, f.get()),
-        Net::First(_) | Net::RSwitch(..) => left_in(alloc, &at.input),
+        Net::First(_) | Net::RSwitch(..) | Net::DrSwitch(..) => left_in(alloc, &at.input),
         Net::LoopPre(c, _) if k > 0 => fed_input(alloc, at, c),
         Net::AccumBy(_, z) if k == 0 => step_input(alloc, at, z),
+        Net::InitialOut(..) | Net::InitialIn(..) if k == 0 => Ok(Ty::Unit),
         Net::LoopPre(..)
         | Net::AccumBy(..)
         | Net::IPre(_)
@@ -162,6 +163,7 @@ fn child_input(alloc: Global, at: &Standing, net: &Net<Expr>, k: u32) -> Result<
         | Net::Repeatedly(..) => Ok(Ty::Unit),
         Net::KSwitch(f, _, _) if k == 1 => watched_input(alloc, at, f),
         Net::PSwitch(r, fs, _, _) => input_in_p_switch(alloc, at, r, fs, k),
+        Net::RpSwitch(fs, _, _) => input_in_collection(alloc, at, fs, k),
         _ => Ok(at.input.try_copy(alloc)?),
     }
 }
@@ -220,7 +222,25 @@ fn input_in_p_switch(
     }
 }
 
-/// What stands at a number behind the route of a `pSwitch`.
+/// What child k of an `rpSwitchB` gets.
+fn input_in_collection(
+    alloc: Global,
+    at: &Standing,
+    fs: &Members<Expr>,
+    k: u32,
+) -> Result<Ty, Untyped>
+    ensures { Finds type_of result
+        (collection_input (standing_of at.now) (p_switch_child (trees fs.now) k)) }
+{
+    match kind_behind(fs, k) {
+        Behind::Member | Behind::Continuation => left_in(alloc, &at.input),
+        Behind::Event => right_carried_in(alloc, &at.input),
+        Behind::Nothing => Err(Untyped::NoType),
+    }
+}
+
+/// What stands at a number behind the route of a `pSwitch`, or in an `rpSwitchB`, where the choice
+/// stands as the event does there.
 #[derive(Clone, Copy)]
 pub(crate) enum Behind {
     Member,
@@ -229,7 +249,7 @@ pub(crate) enum Behind {
     Nothing,
 }
 
-/// What stands at number k behind the route.
+/// What stands at number k behind the route, or in the `rpSwitchB`.
 fn kind_behind(fs: &Members<Expr>, k: u32) -> Behind
     ensures { p_switch_child (trees fs.now) k ≡ behind_of result }
 {
@@ -252,10 +272,14 @@ fn child_scope(alloc: Global, at: Standing, net: &Net<Expr>, k: u32) -> Result<S
 {
     match net {
         Net::Switch(f, _) | Net::DSwitch(f, _) if k > 0 => scope_in_switch(alloc, at, f),
-        Net::RSwitch(..) if k > 0 => scope_in_r_switch(alloc, at),
+        Net::RSwitch(..) | Net::DrSwitch(..) if k > 0 => scope_in_r_switch(alloc, at),
         Net::KSwitch(f, e, _) if k > 1 => scope_in_k_switch(alloc, at, f, e),
         Net::PSwitch(r, fs, e, _) if k > 0 => match kind_behind(fs, k - 1) {
             Behind::Continuation => scope_in_p_switch(alloc, at, r, fs, e, k - 1),
+            _ => Ok(at),
+        },
+        Net::RpSwitch(fs, m, _) => match kind_behind(fs, k) {
+            Behind::Continuation => scope_in_collection(alloc, at, m),
             _ => Ok(at),
         },
         _ => Ok(at),
@@ -285,7 +309,7 @@ fn switch_event(alloc: Global, at: &Standing, f: &NetChild<Expr>) -> Result<Ty, 
     event
 }
 
-/// What the continuation of an `rSwitch` has in scope.
+/// What the continuation of an `rSwitch` or `drSwitch` has in scope.
 fn scope_in_r_switch(alloc: Global, at: Standing) -> Result<Standing, Untyped>
     ensures { Finds (λ s. standing_of s) result (r_switch_scope (standing_of at)) }
 {
@@ -296,6 +320,33 @@ fn scope_in_r_switch(alloc: Global, at: Standing) -> Result<Standing, Untyped>
             Err(untyped)
         }
     }
+}
+
+/// What the continuation of an `rpSwitchB` has in scope.
+fn scope_in_collection(alloc: Global, at: Standing, m: &Expr) -> Result<Standing, Untyped>
+    ensures { Finds (λ s. standing_of s) result
+        (started_scope (standing_of at) (expression_of m.now)) }
+{
+    match started_type(alloc, &at, m) {
+        Ok(started) => with_param(at, started),
+        Err(untyped) => {
+            drop(at);
+            Err(untyped)
+        }
+    }
+}
+
+/// The type of the values that the choice of an `rpSwitchB` starts new members with.
+fn started_type(alloc: Global, at: &Standing, m: &Expr) -> Result<Ty, Untyped>
+    ensures { Finds type_of result (started_type (standing_of at.now) (expression_of m.now)) }
+{
+    let event = right_carried_in(alloc, &at.input)?;
+    let chosen = leaf_type(alloc, at, &event, m);
+    drop(event);
+    let chosen = chosen?;
+    let started = right_listed_in(alloc, &chosen);
+    drop(chosen);
+    started
 }
 
 /// What the continuation of a `kSwitch` has in scope.
