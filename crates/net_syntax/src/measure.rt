@@ -1,6 +1,6 @@
 // How heavy and how high a network is.
 
-ghost use Rattle.std.specs.Prelude.{◌≡◌, ◌+◌, ◌<◌, nat_lt, ◌++◌, ◌∷◌, get_or, min, max, suc, [], IfOk, OnOk, MatchOption};
+ghost use Rattle.std.specs.Prelude.{◌≡◌, ◌+◌, ◌*◌, ◌<◌, ◌≤◌, nat_lt, ◌++◌, ◌∷◌, get_or, min, max, suc, [], IfOk, OnOk, MatchOption};
 ghost use Rattle.net_syntax.specs.Height.{height as height_of, heights as heights_of, greatest};
 ghost use Rattle.net_syntax.specs.{Left.Left, Left.Within, Network.network_size, Network.networks_size};
 ghost use Rattle.net_syntax.specs.NetworkView.{network_of, members_of, tree_of};
@@ -15,8 +15,9 @@ use std::alloc::Global;
 /// The greatest weight of a network that is run.
 pub const MOST_WEIGHT: u32 = 1_000_000;
 
-/// The greatest size of a network that is walked: one of more weighs more than the greatest weight.
-const MOST_SIZE: u32 = 2_000_000;
+/// The greatest size of a network that is walked: a typed one of more weighs more than the greatest
+/// weight.
+const MOST_SIZE: u32 = 5_000_000;
 
 /// The greatest height of a network that is run.
 pub const MOST_HEIGHT: u32 = 256;
@@ -93,13 +94,17 @@ fn weight_left<L>(alloc: Global, net: &Net<L>, scope: &[u32], most: u32) -> Resu
         | Net::Repeatedly(_, _)
         | Net::Time
         | Net::Integral => less(most, 1),
-        Net::First(f) | Net::LoopPre(_, f) => weight_left_of_one(alloc, f, scope, most),
+        Net::First(f) | Net::LoopPre(_, f) | Net::InitialOut(_, f) | Net::InitialIn(_, f) => {
+            weight_left_of_one(alloc, f, scope, most)
+        }
         Net::Seq(f, g) | Net::RSwitch(f, g) | Net::Switch(f, g) | Net::DSwitch(f, g) => {
             weight_left_of_two(alloc, f, g, scope, most)
         }
+        Net::DrSwitch(f, t) => weight_left_of_late(alloc, f, t, scope, most),
         Net::Par(fs) => weight_left_of_all(alloc, fs, scope, most),
         Net::KSwitch(f, e, t) => weight_left_of_freeze(alloc, f, e, t, scope, most),
         Net::PSwitch(_, fs, e, t) => weight_left_of_freeze_all(alloc, fs, e, t, scope, most),
+        Net::RpSwitch(fs, _, t) => weight_left_of_collection(alloc, fs, t, scope, most),
         Net::Old(k) => weight_left_of_old(scope, *k, most),
     }
 }
@@ -131,6 +136,22 @@ fn weight_left_of_two<L>(
 {
     let rest = weight_left_of_one(alloc, f, scope, most)?;
     weight_left(alloc, g.get(), scope, rest)
+}
+
+/// The same of `drSwitch`, in which what starts may run twice in one sample.
+#[cycle(weight)]
+fn weight_left_of_late<L>(
+    alloc: Global,
+    f: &NetChild<L>,
+    t: &NetChild<L>,
+    scope: &[u32],
+    most: u32,
+) -> Result<u32, Stop>
+    ensures { Left result most (suc (weight_of f.now scope.now + 2 * weight_of t.now scope.now)) }
+{
+    let rest = weight_left_of_one(alloc, f, scope, most)?;
+    let start = weight_within(alloc, t.get(), scope, rest / 2)?;
+    Ok(rest - 2 * start)
 }
 
 /// The same of a network under further frozen ones.
@@ -225,6 +246,54 @@ fn weight_left_of_members<L>(
     weight_left_of_members(alloc, rest, scope, weights, left)
 }
 
+/// The same of `rpSwitchB`, which counts 64 times the greatest of its own.
+#[cycle(weight)]
+fn weight_left_of_collection<L>(
+    alloc: Global,
+    fs: &Members<L>,
+    t: &NetChild<L>,
+    scope: &[u32],
+    most: u32,
+) -> Result<u32, Stop>
+    ensures { Left result most
+        (suc (64 * greatest (weight_of t.now scope.now ∷ weights_of fs.now scope.now))) }
+{
+    let rest = less(most, 1)?;
+    let room = rest / 64;
+    let start = weight_within(alloc, t.get(), scope, room)?;
+    let each = greatest_weight(alloc, fs.as_slice(), scope, start, room)?;
+    Ok(rest - 64 * each)
+}
+
+/// The network's weight, where it is within the room.
+#[cycle(weight)]
+fn weight_within<L>(alloc: Global, net: &Net<L>, scope: &[u32], room: u32) -> Result<u32, Stop>
+    ensures { Within result room (weight_of (network_of net.now) scope.now) }
+{
+    let left = weight_left(alloc, net, scope, room)?;
+    Ok(room - left)
+}
+
+/// The greatest of a number and the members' weights, where these are within the room.
+#[cycle(weight)]
+fn greatest_weight<L>(
+    alloc: Global,
+    fs: &[Net<L>],
+    scope: &[u32],
+    start: u32,
+    room: u32,
+) -> Result<u32, Stop>
+    requires { start ≤ room }
+    ensures { Within result room
+        (greatest (start ∷ weights_of (members_of fs.now) scope.now)) }
+{
+    let Some((f, rest)) = fs.split_first() else {
+        return Ok(start);
+    };
+    let weight = weight_within(alloc, f, scope, room)?;
+    greatest_weight(alloc, rest, scope, start.max(weight), room)
+}
+
 /// Adds a number to the list.
 pub(crate) fn pushed(numbers: &mut Vec<u32>, number: u32) -> Result<(), Memory>
     ensures { OnOk result (numbers.new.items ≡ numbers.old.items ++ number ∷ []) }
@@ -267,13 +336,18 @@ fn height_within<L>(alloc: Global, net: &Net<L>, scope: &[u32], room: u32) -> Re
         | Net::Repeatedly(_, _)
         | Net::Time
         | Net::Integral => higher(room, 0),
-        Net::First(f) | Net::LoopPre(_, f) => height_of_one(alloc, f, scope, room),
-        Net::Seq(f, g) | Net::Switch(f, g) | Net::DSwitch(f, g) | Net::RSwitch(f, g) => {
-            height_of_two(alloc, f, g, scope, room)
+        Net::First(f) | Net::LoopPre(_, f) | Net::InitialOut(_, f) | Net::InitialIn(_, f) => {
+            height_of_one(alloc, f, scope, room)
         }
+        Net::Seq(f, g)
+        | Net::Switch(f, g)
+        | Net::DSwitch(f, g)
+        | Net::RSwitch(f, g)
+        | Net::DrSwitch(f, g) => height_of_two(alloc, f, g, scope, room),
         Net::Par(fs) => height_of_all(alloc, fs, scope, room),
         Net::KSwitch(f, e, t) => height_of_freeze(alloc, f, e, t, scope, room),
         Net::PSwitch(_, fs, e, t) => height_of_freeze_all(alloc, fs, e, t, scope, room),
+        Net::RpSwitch(fs, _, t) => height_of_collection(alloc, fs, t, scope, room),
         Net::Old(k) => higher(room, frozen_at(scope, *k)),
     }
 }
@@ -381,6 +455,24 @@ fn height_of_freeze_all<L>(
     higher(room, frozen.max(watch).max(next))
 }
 
+/// The same of `rpSwitchB`.
+#[cycle(height)]
+fn height_of_collection<L>(
+    alloc: Global,
+    fs: &Members<L>,
+    t: &NetChild<L>,
+    scope: &[u32],
+    room: u32,
+) -> Result<u32, Stop>
+    ensures { Within result room
+        (suc (max (greatest (heights_of fs.now scope.now)) (height_of t.now scope.now))) }
+{
+    let mut heights = Vec::new(alloc);
+    let members = height_of_members(alloc, fs.as_slice(), scope, &mut heights, room)?;
+    let start = height_within(alloc, t.get(), scope, room)?;
+    higher(room, members.max(start))
+}
+
 /// The greatest height of members, whose heights it adds to the list.
 #[cycle(height)]
 fn height_of_members<L>(
@@ -403,10 +495,10 @@ fn height_of_members<L>(
     Ok(height.max(others))
 }
 
-/// Whether more than 2,000,000 networks and lists of members stand inside one another in the
-/// network. Its weight is then over its limit too. Only a network with shared parts can be so, no
-/// file is long enough; this stops at the first part too many, where a walk over all parts might
-/// never end.
+/// Whether more than 5,000,000 networks and lists of members stand inside one another in the
+/// network. Where it is typed, its weight is then over its limit too. No file is long enough for it:
+/// it has shared parts, or as many members; this stops at the first part too many, where a walk over
+/// all parts might never end.
 pub fn is_oversized(net: &Net<Expr>) -> bool
     ensures { result ≡ nat_lt MOST_SIZE (network_size (tree_of net.now)) }
 {
@@ -431,8 +523,14 @@ fn size_left<L>(net: &Net<L>, most: u32) -> Option<u32>
         | Net::Time
         | Net::Integral
         | Net::Old(_) => Some(most),
-        Net::First(f) | Net::LoopPre(_, f) => size_left(f.get(), most.checked_sub(1)?),
-        Net::Seq(f, g) | Net::Switch(f, g) | Net::DSwitch(f, g) | Net::RSwitch(f, g) => {
+        Net::First(f) | Net::LoopPre(_, f) | Net::InitialOut(_, f) | Net::InitialIn(_, f) => {
+            size_left(f.get(), most.checked_sub(1)?)
+        }
+        Net::Seq(f, g)
+        | Net::Switch(f, g)
+        | Net::DSwitch(f, g)
+        | Net::RSwitch(f, g)
+        | Net::DrSwitch(f, g) => {
             let rest = size_left(f.get(), most.checked_sub(1)?)?;
             size_left(g.get(), rest)
         }
@@ -445,6 +543,10 @@ fn size_left<L>(net: &Net<L>, most: u32) -> Option<u32>
         Net::PSwitch(_, fs, e, t) => {
             let rest = size_left_of_members(fs.as_slice(), most.checked_sub(1)?)?;
             let rest = size_left(e.get(), rest)?;
+            size_left(t.get(), rest)
+        }
+        Net::RpSwitch(fs, _, t) => {
+            let rest = size_left_of_members(fs.as_slice(), most.checked_sub(1)?)?;
             size_left(t.get(), rest)
         }
     }

@@ -4,8 +4,8 @@ ghost use Rattle.std.specs.Prelude.{◌≡◌, option_map};
 ghost use Rattle.leaf_core.specs.{Expression.Expression, ExpressionView.expression_of};
 ghost use Rattle.net_syntax.specs.Network.{Network, p_switch};
 ghost use Rattle.net_syntax.specs.NetworkView.{tree, tree_of, trees};
-ghost use Rattle.net_syntax.specs.Place.{a_network, child, child_network, member, p_switch_child};
-ghost use Rattle.net_syntax.specs.{ChildParts.seen, ChildParts.seen_place, Placed.bound, Placed.bound_in, Placed.placed_at, Placed.FewBound};
+ghost use Rattle.net_syntax.specs.Place.{a_network, child, child_network, collection_child, member, p_switch_child};
+ghost use Rattle.net_syntax.specs.{ChildParts.seen, ChildParts.seen_place, Placed.bound, Placed.bound_in, Placed.bound_started, Placed.placed_at, Placed.FewBound};
 
 use crate::equal::{Parts, parts_inside};
 use crate::net::{Members, Net, NetChild};
@@ -121,6 +121,7 @@ pub fn child(net: &Net<Expr>, k: u32) -> Option<TreeRef<'_>>
             0 => Some(TreeRef::Expr(r)),
             _ => Some(TreeRef::Net(behind_route(fs, e, t, k - 1)?)),
         },
+        Parts::Collection(fs, m, t) => in_collection(fs, m, t, k),
         Parts::Nothing | Parts::Index(_) => None,
     }
 }
@@ -156,6 +157,29 @@ fn behind_route<'n>(
     }
 }
 
+/// What stands at number k of an `rpSwitchB`: the members, then its choice, then its continuation.
+fn in_collection<'n>(
+    fs: &'n Members<Expr>,
+    m: &'n Expr,
+    t: &'n NetChild<Expr>,
+    k: u32,
+) -> Option<TreeRef<'n>>
+    ensures { option_map seen result
+        ≡ collection_child (p_switch_child (trees fs.now) k) (trees fs.now) (expression_of m.now)
+        (tree t.now) k }
+{
+    let members = fs.as_slice();
+    let k = k as usize;
+    if k < members.len() {
+        return Some(TreeRef::Net(&members[k]));
+    }
+    match k - members.len() {
+        0 => Some(TreeRef::Expr(m)),
+        1 => Some(TreeRef::Net(t.get())),
+        _ => None,
+    }
+}
+
 /// How many parameters and frozen networks a network binds in a child.
 #[derive(Clone, Copy)]
 pub(crate) struct Bound {
@@ -168,7 +192,7 @@ fn bound_in(net: &Net<Expr>, k: u32) -> Bound
     ensures { bound_in (tree_of net.now) k ≡ bound result.params result.olds }
 {
     match net {
-        Net::Switch(..) | Net::DSwitch(..) | Net::RSwitch(..) => match k {
+        Net::Switch(..) | Net::DSwitch(..) | Net::RSwitch(..) | Net::DrSwitch(..) => match k {
             1 => Bound { params: 1, olds: 0 },
             _ => Bound { params: 0, olds: 0 },
         },
@@ -177,6 +201,7 @@ fn bound_in(net: &Net<Expr>, k: u32) -> Bound
             _ => Bound { params: 0, olds: 0 },
         },
         Net::PSwitch(_, fs, _, _) => bound_in_p_switch(fs, k),
+        Net::RpSwitch(fs, _, _) => bound_in_collection(fs, k),
         _ => Bound { params: 0, olds: 0 },
     }
 }
@@ -192,6 +217,17 @@ fn bound_in_p_switch(fs: &Members<Expr>, k: u32) -> Bound
             params: 1,
             olds: k - 2,
         };
+    }
+    Bound { params: 0, olds: 0 }
+}
+
+/// How many an `rpSwitchB` of these members binds in its child k.
+fn bound_in_collection(fs: &Members<Expr>, k: u32) -> Bound
+    ensures { bound_started (p_switch_child (trees fs.now) k) ≡ bound result.params result.olds }
+{
+    let count = fs.as_slice().len();
+    if k as usize == count + 1 {
+        return Bound { params: 1, olds: 0 };
     }
     Bound { params: 0, olds: 0 }
 }

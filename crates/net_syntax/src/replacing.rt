@@ -2,12 +2,12 @@
 
 ghost use Rattle.std.specs.Prelude.{◌≡◌, ◌<◌, [], IfOk, Some, length, option_map, set};
 ghost use Rattle.leaf_core.specs.{Expression.Expression, ExpressionView.expression_of};
-ghost use Rattle.net_syntax.specs.Network.{Network, accum_by, first, k_switch, loop_pre, p_switch, par};
+ghost use Rattle.net_syntax.specs.Network.{Network, accum_by, first, k_switch, p_switch, par, rp_switch};
 ghost use Rattle.net_syntax.specs.NetworkView.{tree, tree_of, trees};
-ghost use Rattle.net_syntax.specs.{ChildParts.with_behind, FormView.pair_form_of, LawStep.part_of};
+ghost use Rattle.net_syntax.specs.{ChildParts.with_behind, FormView.fed_form_of, FormView.pair_form_of, LawStep.part_of};
 ghost use Rattle.net_syntax.specs.{Place.a_leaf, Place.a_network, Placed.replaced, Placed.with_child, Placed.with_member};
 
-use crate::forms::{PairForm, copied_children};
+use crate::forms::{FedForm, PairForm, copied_children};
 use crate::law_step::Tree;
 use crate::net::{Members, Net, NetChild};
 use crate::place::{TreeRef, child};
@@ -89,7 +89,6 @@ fn replaced_in(
 }
 
 /// The network with the expression as child k; `None` where child k is no expression.
-#[tactic(auto, using(std::proofs::lemmas::Grind::common_steps, crate::proofs::ChangedChildren::no_third_leaf))]
 fn with_leaf(
     alloc: Global,
     net: &Net<Expr>,
@@ -99,13 +98,10 @@ fn with_leaf(
     ensures { IfOk result (λ found. option_map tree_of found
         ≡ with_child (tree_of net.now) k (a_leaf (expression_of other))) }
 {
-    match k {
-        0 => with_first_leaf(alloc, net, other),
-        1 => with_second_leaf(alloc, net, other),
-        _ => {
-            drop(other);
-            Ok(None)
-        }
+    if k == 0 {
+        with_first_leaf(alloc, net, other)
+    } else {
+        with_later_leaf(alloc, net, k, other)
     }
 }
 
@@ -122,8 +118,11 @@ fn with_first_leaf(alloc: Global, net: &Net<Expr>, other: Expr) -> Result<Option
         Net::After(q, _) => Ok(Some(Net::After(*q, other))),
         Net::Repeatedly(q, _) => Ok(Some(Net::Repeatedly(*q, other))),
         Net::AccumBy(_, z) => with_step(alloc, other, z),
-        Net::LoopPre(_, f) => with_constant(other, f),
+        Net::LoopPre(_, f) => with_constant(FedForm::LoopPre, other, f),
+        Net::InitialOut(_, f) => with_constant(FedForm::InitialOut, other, f),
+        Net::InitialIn(_, f) => with_constant(FedForm::InitialIn, other, f),
         Net::PSwitch(_, fs, e, t) => with_route(other, fs, e, t),
+        Net::RpSwitch(fs, _, t) => with_choice(other, fs, t, 0),
         _ => {
             drop(other);
             Ok(None)
@@ -131,19 +130,33 @@ fn with_first_leaf(alloc: Global, net: &Net<Expr>, other: Expr) -> Result<Option
     }
 }
 
-/// The same of child 1.
-fn with_second_leaf(
+/// The same of a child behind the first.
+#[tactic(auto, using(std::proofs::lemmas::Grind::common_steps, crate::proofs::ChangedChildren::no_later_leaf))]
+fn with_later_leaf(
     alloc: Global,
     net: &Net<Expr>,
+    k: u32,
     other: Expr,
 ) -> Result<Option<Net<Expr>>, Memory>
+    requires { 0 < k }
     ensures { IfOk result (λ found. option_map tree_of found
-        ≡ with_child (tree_of net.now) 1 (a_leaf (expression_of other))) }
+        ≡ with_child (tree_of net.now) k (a_leaf (expression_of other))) }
 {
-    let Net::AccumBy(g, _) = net else {
-        drop(other);
-        return Ok(None);
-    };
+    match net {
+        Net::AccumBy(g, _) if k == 1 => with_start(alloc, g, other),
+        Net::RpSwitch(fs, _, t) => with_choice(other, fs, t, k),
+        _ => {
+            drop(other);
+            Ok(None)
+        }
+    }
+}
+
+/// An `accumBy` with the expression as its start.
+fn with_start(alloc: Global, g: &Expr, other: Expr) -> Result<Option<Net<Expr>>, Memory>
+    ensures { IfOk result (λ found. option_map tree_of found
+        ≡ Some (accum_by (expression_of g.now) (expression_of other))) }
+{
     match g.try_copy(alloc) {
         Ok(g) => Ok(Some(Net::AccumBy(g, other))),
         Err(refused) => {
@@ -167,13 +180,17 @@ fn with_step(alloc: Global, other: Expr, z: &Expr) -> Result<Option<Net<Expr>>, 
     }
 }
 
-/// A `loopPre` with the expression as its constant.
-fn with_constant(other: Expr, f: &NetChild<Expr>) -> Result<Option<Net<Expr>>, Memory>
+/// A form of an expression and a network, with the expression as its constant.
+fn with_constant(
+    form: FedForm,
+    other: Expr,
+    f: &NetChild<Expr>,
+) -> Result<Option<Net<Expr>>, Memory>
     ensures { IfOk result (λ found. option_map tree_of found
-        ≡ Some (loop_pre (expression_of other) (tree f.now))) }
+        ≡ Some (tree_of (fed_form_of form other f.now))) }
 {
     match f.try_copy() {
-        Ok(f) => Ok(Some(Net::LoopPre(other, f))),
+        Ok(f) => Ok(Some(form.of(other, f))),
         Err(refused) => {
             drop(other);
             Err(refused)
@@ -198,6 +215,41 @@ fn with_route(
             Err(refused)
         }
     }
+}
+
+/// An `rpSwitchB` with the expression as child k; `None` where child k is not its choice.
+fn with_choice(
+    other: Expr,
+    fs: &Members<Expr>,
+    t: &NetChild<Expr>,
+    k: u32,
+) -> Result<Option<Net<Expr>>, Memory>
+    ensures { (m : Expression) → IfOk result (λ found. option_map tree_of found
+        ≡ with_child (rp_switch (trees fs.now) m (tree t.now)) k (a_leaf (expression_of other))) }
+{
+    if k as usize != fs.as_slice().len() {
+        drop(other);
+        return Ok(None);
+    }
+    match copied_collection(fs, t) {
+        Ok((fs, t)) => Ok(Some(Net::RpSwitch(fs, other, t))),
+        Err(refused) => {
+            drop(other);
+            Err(refused)
+        }
+    }
+}
+
+/// Copies of members and of a network.
+fn copied_collection(
+    fs: &Members<Expr>,
+    t: &NetChild<Expr>,
+) -> Result<(Members<Expr>, NetChild<Expr>), Memory>
+    ensures { IfOk result (λ p. (p.0 ≡ fs.now) × (p.1 ≡ t.now)) }
+{
+    let fs = fs.try_copy()?;
+    let t = t.try_copy()?;
+    Ok((fs, t))
 }
 
 /// Copies of members and of two networks.
@@ -225,17 +277,21 @@ fn with_net(
 {
     match net {
         Net::First(_) => with_first(alloc, k, other),
-        Net::LoopPre(c, _) => with_fed_back(alloc, c, k, other),
+        Net::LoopPre(c, _) => with_fed(alloc, FedForm::LoopPre, c, k, other),
+        Net::InitialOut(c, _) => with_fed(alloc, FedForm::InitialOut, c, k, other),
+        Net::InitialIn(c, _) => with_fed(alloc, FedForm::InitialIn, c, k, other),
         Net::Seq(f, g) => with_pair(alloc, PairForm::Seq, f, g, k, other),
         Net::Switch(f, t) => with_pair(alloc, PairForm::Switch, f, t, k, other),
         Net::DSwitch(f, t) => with_pair(alloc, PairForm::DSwitch, f, t, k, other),
         Net::RSwitch(f, t) => with_pair(alloc, PairForm::RSwitch, f, t, k, other),
+        Net::DrSwitch(f, t) => with_pair(alloc, PairForm::DrSwitch, f, t, k, other),
         Net::KSwitch(f, e, t) => with_k_switch(alloc, f, e, t, k, other),
         Net::Par(fs) => with_par(alloc, fs, k, other),
         Net::PSwitch(r, fs, e, t) => {
             let parts = Routed { r, fs, e, t };
             with_p_switch(alloc, parts, k, other)
         }
+        Net::RpSwitch(fs, m, t) => with_collection(alloc, fs, m, t, k, other),
         _ => {
             drop(other);
             Ok(None)
@@ -256,15 +312,16 @@ fn with_first(alloc: Global, k: u32, other: Net<Expr>) -> Result<Option<Net<Expr
     Ok(Some(Net::First(other)))
 }
 
-/// The same of `loopPre`.
-fn with_fed_back(
+/// The same of a form of an expression and a network.
+fn with_fed(
     alloc: Global,
+    form: FedForm,
     c: &Expr,
     k: u32,
     other: Net<Expr>,
 ) -> Result<Option<Net<Expr>>, Memory>
-    ensures { (f : Network Expression) → IfOk result (λ found. option_map tree_of found
-        ≡ with_child (loop_pre (expression_of c.now) f) k (a_network (tree_of other))) }
+    ensures { (f : Network Expr) → IfOk result (λ found. option_map tree_of found
+        ≡ with_child (tree_of (fed_form_of form c.now f)) k (a_network (tree_of other))) }
 {
     if k != 1 {
         drop(other);
@@ -272,7 +329,7 @@ fn with_fed_back(
     }
     let other = NetChild::new(alloc, other)?;
     let c = c.try_copy(alloc)?;
-    Ok(Some(Net::LoopPre(c, other)))
+    Ok(Some(form.of(c, other)))
 }
 
 /// The same of a form of two networks.
@@ -445,6 +502,69 @@ fn p_switch_of(
 {
     let r = r.try_copy(alloc)?;
     Ok(Some(Net::PSwitch(r, fs, e, t)))
+}
+
+/// The same of `rpSwitchB`.
+fn with_collection(
+    alloc: Global,
+    fs: &Members<Expr>,
+    m: &Expr,
+    t: &NetChild<Expr>,
+    k: u32,
+    other: Net<Expr>,
+) -> Result<Option<Net<Expr>>, Memory>
+    ensures { IfOk result (λ found. option_map tree_of found
+        ≡ with_child (rp_switch (trees fs.now) (expression_of m.now) (tree t.now)) k
+        (a_network (tree_of other))) }
+{
+    let number = k as usize;
+    let count = fs.as_slice().len();
+    if number < count {
+        return with_collected_member(alloc, fs, m, t, number, other);
+    }
+    if number != count + 1 {
+        drop(other);
+        return Ok(None);
+    }
+    let other = NetChild::new(alloc, other)?;
+    let fs = fs.try_copy()?;
+    rp_switch_of(alloc, fs, m, other)
+}
+
+/// The same of member k.
+fn with_collected_member(
+    alloc: Global,
+    fs: &Members<Expr>,
+    m: &Expr,
+    t: &NetChild<Expr>,
+    k: usize,
+    other: Net<Expr>,
+) -> Result<Option<Net<Expr>>, Memory>
+    ensures { IfOk result (λ found. option_map tree_of found
+        ≡ option_map (λ gs. rp_switch gs (expression_of m.now) (tree t.now))
+        (with_member (trees fs.now) k (tree_of other))) }
+{
+    match with_member(alloc, fs, k, other)? {
+        Some(fs) => {
+            let t = t.try_copy()?;
+            rp_switch_of(alloc, fs, m, t)
+        }
+        None => Ok(None),
+    }
+}
+
+/// An `rpSwitchB` with a copy of the choice.
+fn rp_switch_of(
+    alloc: Global,
+    fs: Members<Expr>,
+    m: &Expr,
+    t: NetChild<Expr>,
+) -> Result<Option<Net<Expr>>, Memory>
+    ensures { IfOk result (λ found. option_map tree_of found
+        ≡ Some (rp_switch (trees fs) (expression_of m.now) (tree t))) }
+{
+    let m = m.try_copy(alloc)?;
+    Ok(Some(Net::RpSwitch(fs, m, t)))
 }
 
 /// The members with the network in the place of member k; `None` where there is no such member.

@@ -26,3 +26,6 @@ decreases-height_of_freeze g l = 4 * (network_size l.f.now + network_size l.e.no
 
 abbrev pub decreases-height_of_freeze_all : goal.decreases-height_of_freeze_all
 decreases-height_of_freeze_all g l = 4 * (networks_size l.fs.now + network_size l.e.now + network_size l.t.now) + 3
+
+abbrev pub decreases-height_of_collection : goal.decreases-height_of_collection
+decreases-height_of_collection g l = 4 * (networks_size l.fs.now + network_size l.t.now) + 3

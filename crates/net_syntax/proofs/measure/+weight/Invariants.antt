@@ -26,3 +26,15 @@ decreases-weight_left_of_all g l = 4 * networks_size l.fs.now + 3
 
 abbrev pub decreases-weight_left_of_members : goal.decreases-weight_left_of_members
 decreases-weight_left_of_members g l = 4 * nets_size l.fs.now + 2
+
+abbrev pub decreases-weight_left_of_late : goal.decreases-weight_left_of_late
+decreases-weight_left_of_late g l = 4 * (network_size l.f.now + network_size l.t.now) + 3
+
+abbrev pub decreases-weight_left_of_collection : goal.decreases-weight_left_of_collection
+decreases-weight_left_of_collection g l = 4 * (networks_size l.fs.now + network_size l.t.now) + 3
+
+abbrev pub decreases-weight_within : goal.decreases-weight_within
+decreases-weight_within g l = 4 * net_size l.net.now + 2
+
+abbrev pub decreases-greatest_weight : goal.decreases-greatest_weight
+decreases-greatest_weight g l = 4 * nets_size l.fs.now + 2
