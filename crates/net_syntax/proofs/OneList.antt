@@ -5,7 +5,7 @@ use Rattle.leaf_core.specs.Expression.{Expression}
 use Rattle.leaf_core.specs.ExpressionTyping.{ExpressionTyped}
 use Rattle.leaf_core.proofs.Uniqueness.{one_type}
 use Rattle.net_syntax.specs.Network.{Network, Networks}
-use Rattle.net_syntax.specs.Typing.{Arrow, copies, members, LeafTyping, Typed, AllTyped, AnyType, arr_typed, seq_typed, first_typed, par_typed, loop_typed, i_pre_typed, delay_typed, hold_typed, accum_typed, after_typed, repeatedly_typed, time_typed, integral_typed, switch_typed, d_switch_typed, r_switch_typed, k_switch_typed, p_switch_typed, old_typed, no_members_typed, and_member_typed}
+use Rattle.net_syntax.specs.Typing.{Arrow, copies, members, LeafTyping, Typed, AllTyped, AnyType, arr_typed, seq_typed, first_typed, par_typed, loop_typed, i_pre_typed, delay_typed, hold_typed, accum_typed, after_typed, repeatedly_typed, time_typed, integral_typed, switch_typed, d_switch_typed, r_switch_typed, k_switch_typed, p_switch_typed, old_typed, initial_out_typed, initial_in_typed, dr_switch_typed, rp_switch_typed, no_members_typed, and_member_typed}
 use Rattle.net_syntax.specs.Leaves.{Need, need_at, leaves_by, member_leaves_by}
 use Rattle.net_syntax.specs.Laws.{OneListLaw}
 use Rattle.net_syntax.proofs.Unique.{unique, all_unique}
@@ -17,6 +17,10 @@ pair_right A = A
 abbrev event_part : TypeTree → TypeTree
 event_part (event_ty A) = A
 event_part A = A
+
+abbrev list_part : TypeTree → TypeTree
+list_part (list_ty A) = A
+list_part A = A
 
 -- what is read off a thing stays the same as the thing goes along an equation
 carried : {X : Type 0} {F : X → Type 0} {x y : X} (read : (z : X) → F z → List Need) → x ≡ y → (k : F x) → (m : F y) × (read x k ≡ read y m)
@@ -99,6 +103,21 @@ module _ (T : LeafTyping Expression) (M : TypeTree → Type 0) (one : (e : Expre
         (list_ty X) dt q))) in
         λ i. need_at at 0 r Ps (pair_ty A int_ty) (routed i) ∷ all i ++ events i ++ rest i
     listed Ps Os at net A B B' (old_typed i) (old_typed j) = refl
+    listed Ps Os at net A B B' (initial_out_typed {c = c} {f = f} h df) (initial_out_typed k kf) =
+        ap₂ (λ Z ns. need_at at 0 c Ps unit_ty Z ∷ ns) (one c Ps unit_ty B' B k h) (listed Ps Os (at ++ 1 ∷ []) f A B B' df kf)
+    listed Ps Os at net A B B' (initial_in_typed {c = c} {f = f} h df) (initial_in_typed k kf) =
+        ap (λ ns. need_at at 0 c Ps unit_ty A ∷ ns) (listed Ps Os (at ++ 1 ∷ []) f A B B' df kf)
+    listed Ps Os at net A B B' (dr_switch_typed {f = f} {t = t} {D = D} {C = C} df dt) (dr_switch_typed kf kt) =
+        ap₂ ◌++◌ (listed Ps Os (at ++ 0 ∷ []) f D B B' df kf) (listed (Ps ++ C ∷ []) Os (at ++ 1 ∷ []) t D B B' dt kt)
+    listed Ps Os at net A B B' (rp_switch_typed {fs = fs} {m = m} {t = t} {D = D} {B = X} {C = C} {V = V} l u ds h dt n)
+        (rp_switch_typed {B = Y} {V = W} l' u' ks k kt n') =
+        let same : W ≡ V = ap (λ Z. list_part (pair_right Z))
+        (one m Ps C (pair_ty (list_ty int_ty) (list_ty W)) (pair_ty (list_ty int_ty) (list_ty V)) k h) in
+        let rest : leaves_by (at ++ suc (members fs) ∷ []) kt ≡ leaves_by (at ++ suc (members fs) ∷ []) dt =
+        through {F = λ Z. At (Ps ++ Z ∷ []) Os t D Y} (λ Z d. leaves_by (at ++ suc (members fs) ∷ []) d) same kt
+        (λ o. listed (Ps ++ V ∷ []) Os (at ++ suc (members fs) ∷ []) t D X Y dt o) in
+        λ i. all_listed Ps Os at 0 fs D X Y ds ks i
+        ++ need_at at (members fs) m Ps C (pair_ty (list_ty int_ty) (list_ty (same i))) ∷ rest i
 
     all_listed : (Ps : List TypeTree) (Os : List Arrow) (at : List ℕ) (k : ℕ) (fs : Networks Expression) (A B B' : TypeTree)
         (ds : AllTyped T M Ps Os fs A B) (ks : AllTyped T M Ps Os fs A B') → member_leaves_by at k ks ≡ member_leaves_by at k ds

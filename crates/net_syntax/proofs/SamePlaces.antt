@@ -10,20 +10,20 @@ use Rattle.leaf_core.specs.Parts.{part_at, with_part_at, InputAt}
 use Rattle.leaf_core.proofs.Soundness.{typed_value}
 use Rattle.leaf_core.proofs.Uniqueness.{one_type}
 use Rattle.leaf_core.proofs.SameParts.{same_part}
-use Rattle.net_syntax.specs.Network.{Network, Networks, arr, seq, first, par, loop_pre, i_pre, delay, hold, accum_by, after, repeatedly, switch, d_switch, r_switch, k_switch, p_switch, no_members, and_member}
-use Rattle.net_syntax.specs.Typing.{Arrow, arrow, copies, members, arr_typed, seq_typed, first_typed, par_typed, loop_typed, i_pre_typed, delay_typed, hold_typed, accum_typed, after_typed, repeatedly_typed, time_typed, integral_typed, switch_typed, d_switch_typed, r_switch_typed, k_switch_typed, p_switch_typed, old_typed, no_members_typed, and_member_typed}
+use Rattle.net_syntax.specs.Network.{Network, Networks, arr, seq, first, par, loop_pre, initial_out, initial_in, i_pre, delay, hold, accum_by, after, repeatedly, switch, d_switch, r_switch, dr_switch, rp_switch, k_switch, p_switch, no_members, and_member}
+use Rattle.net_syntax.specs.Typing.{Arrow, arrow, copies, members, arr_typed, seq_typed, first_typed, par_typed, loop_typed, i_pre_typed, delay_typed, hold_typed, accum_typed, after_typed, repeatedly_typed, time_typed, integral_typed, switch_typed, d_switch_typed, r_switch_typed, k_switch_typed, p_switch_typed, old_typed, initial_out_typed, initial_in_typed, dr_switch_typed, rp_switch_typed, no_members_typed, and_member_typed}
 use Rattle.net_syntax.specs.TypedNetwork.{NetTyped}
 use Rattle.net_syntax.specs.Sameness.{SameLeaf, SameNet}
 use Rattle.net_syntax.specs.AlikeEnvironments.{SameOutputs}
 use Rattle.net_syntax.specs.Place as P
-use Rattle.net_syntax.specs.Place.{Tree, a_network, a_leaf, member, child, child_network, PSwitchChild, p_switch_child, member_child, event_child, continuation_child}
-use Rattle.net_syntax.specs.Placed.{with_member, with_child, with_p_switch_child, replaced}
-use Rattle.net_syntax.specs.Standing.{Standing, standing, TreeTyped, MembersTyped, ChildStands, in_arr, first_in_seq, second_in_seq, in_first, in_par, constant_in_loop, network_in_loop, in_i_pre, in_delay, in_hold, step_in_accum, start_in_accum, in_after, in_repeatedly, network_in_switch, continuation_in_switch, network_in_d_switch, continuation_in_d_switch, network_in_r_switch, continuation_in_r_switch, network_in_k_switch, event_in_k_switch, continuation_in_k_switch, route_in_p_switch, member_in_p_switch, event_in_p_switch, continuation_in_p_switch, at_network, inside_network, inside_expression}
-use Rattle.net_syntax.specs.Congruence.{TwinMembers, no_twins, and_twins}
+use Rattle.net_syntax.specs.Place.{Tree, a_network, a_leaf, member, child, child_network, collection_child, PSwitchChild, p_switch_child, member_child, event_child, continuation_child}
+use Rattle.net_syntax.specs.Placed.{with_member, with_child, with_p_switch_child, with_collection_child, replaced}
+use Rattle.net_syntax.specs.Standing.{Standing, standing, TreeTyped, MembersTyped, ChildStands, in_arr, first_in_seq, second_in_seq, in_first, in_par, constant_in_loop, network_in_loop, in_i_pre, in_delay, in_hold, step_in_accum, start_in_accum, in_after, in_repeatedly, network_in_switch, continuation_in_switch, network_in_d_switch, continuation_in_d_switch, network_in_r_switch, continuation_in_r_switch, network_in_k_switch, event_in_k_switch, continuation_in_k_switch, route_in_p_switch, member_in_p_switch, event_in_p_switch, continuation_in_p_switch, constant_in_initial_out, network_in_initial_out, constant_in_initial_in, network_in_initial_in, network_in_dr_switch, continuation_in_dr_switch, member_in_rp_switch, choice_in_rp_switch, continuation_in_rp_switch, at_network, inside_network, inside_expression}
+use Rattle.net_syntax.specs.Congruence.{TwinLeaf, Twin, TwinMembers, no_twins, and_twins}
 use Rattle.net_syntax.specs.SamePlace.{SameThere, SamePlaceLaw}
 use Rattle.net_syntax.proofs.Children.{event_is, continuation_is}
 use Rattle.net_syntax.proofs.SameNets.{same-arr, same-loop_pre, same-i_pre, same-delay, same-hold, same-accum_by, same-after, same-repeatedly, same-p_switch, same-typed, same-all_typed}
-use Rattle.net_syntax.proofs.SameForms.{seq_same, first_same, loop_same, switch_same, d_switch_same, r_switch_same, k_switch_same, par_same, p_switch_same}
+use Rattle.net_syntax.proofs.SameForms.{seq_same, first_same, loop_same, switch_same, d_switch_same, r_switch_same, k_switch_same, par_same, p_switch_same, initial_out_congruent, initial_in_congruent, late_restart_congruent, collection_congruent}
 use Rattle.net_syntax.proofs.Unique.{all_unique}
 use Rattle.net_syntax.proofs.StreamLaws.{same-outputs, alike-outputs, one-output-type}
 
@@ -102,8 +102,31 @@ event_in (pair_ty A (event_ty B)) = B
 event_in (event_ty B) = B
 event_in A = A
 
+abbrev started_in : TypeTree → TypeTree
+started_in (pair_ty A (list_ty B)) = B
+started_in A = A
+
 pub leaf_same : (Ps : List TypeTree) (A B : TypeTree) (e s : Expression) → ExpressionTyped e Ps A B → SameValue Ps A e s → SameLeaf value_of Ps A B e s
 leaf_same Ps A B e s d q = record { leaf_same = q; leaf_typed = typed_value e Ps A B d }
+
+-- twins, and a part that stays as it is
+as_twin_leaf : (Ps : List TypeTree) (A B : TypeTree) (e s : Expression) → ExpressionTyped e Ps A B → ExpressionTyped s Ps A B → SameValue Ps A e s
+    → TwinLeaf Ps A B e s
+as_twin_leaf Ps A B e s d k q = record { one_typed = d; other_typed = k; same = q }
+
+own_leaf : (Ps : List TypeTree) (A B : TypeTree) (e : Expression) → ExpressionTyped e Ps A B → TwinLeaf Ps A B e e
+own_leaf Ps A B e d = as_twin_leaf Ps A B e e d d (λ ps x k j. refl)
+
+as_twin : (Ps : List TypeTree) (Os : List Arrow) (A B : TypeTree) (f g : Network Expression) → NetTyped Ps Os f A B → NetTyped Ps Os g A B
+    → SameOutputs Ps Os A f g → Twin Ps Os A B f g
+as_twin Ps Os A B f g d k q = record { one_typed = d; other_typed = k; same = q }
+
+own_twin : (Ps : List TypeTree) (Os : List Arrow) (A B : TypeTree) (f : Network Expression) → NetTyped Ps Os f A B → Twin Ps Os A B f f
+own_twin Ps Os A B f d = as_twin Ps Os A B f f d d (alike-outputs Ps Os f A B d)
+
+-- what the choice of an `rpSwitchB` outputs: numbers, and values of what it starts
+abbrev choice_ty : TypeTree → TypeTree
+choice_ty V = pair_ty (list_ty int_ty) (list_ty V)
 
 module _ (Ps : List TypeTree) (Os : List Arrow) where
   -- leaves
@@ -446,6 +469,109 @@ module _ (Ps : List TypeTree) (Os : List Arrow) where
         whole_same = λ n i q. p_switch_same Ps Os A X C D r fs fs h few (twins_of Ps Os D X fs ds) e e t n de dt
             (alike e (pair_ty A (list_ty X)) (event_ty C) de) q;
       }))))
+  hole A B net k c R (initial_out_typed {c = z} {f = f} h df) p constant_in_initial_out =
+      subst (λ y. HoleAt A B net 0 y R) (same_Some (a_leaf z) c p)
+      (record {
+        out = B;
+        child_typed = h;
+        whole = λ n. initial_out n f;
+        whole_is = λ n. refl;
+        whole_typed = λ n t. initial_out_typed t df;
+        whole_same = λ n t q. initial_out_congruent Ps Os A B z n f f (as_twin_leaf Ps unit_ty B z n h t q) (own_twin Ps Os A B f df);
+      })
+  hole A B net k c R (initial_out_typed {c = z} {f = f} h df) p network_in_initial_out =
+      subst (λ y. HoleAt A B net 1 y R) (same_Some (a_network f) c p)
+      (record {
+        out = B;
+        child_typed = df;
+        whole = λ n. initial_out z n;
+        whole_is = λ n. refl;
+        whole_typed = λ n t. initial_out_typed h t;
+        whole_same = λ n t q. initial_out_congruent Ps Os A B z z f n (own_leaf Ps unit_ty B z h) (as_twin Ps Os A B f n df t q);
+      })
+  hole A B net k c R (initial_in_typed {c = z} {f = f} h df) p constant_in_initial_in =
+      subst (λ y. HoleAt A B net 0 y R) (same_Some (a_leaf z) c p)
+      (record {
+        out = A;
+        child_typed = h;
+        whole = λ n. initial_in n f;
+        whole_is = λ n. refl;
+        whole_typed = λ n t. initial_in_typed t df;
+        whole_same = λ n t q. initial_in_congruent Ps Os A B z n f f (as_twin_leaf Ps unit_ty A z n h t q) (own_twin Ps Os A B f df);
+      })
+  hole A B net k c R (initial_in_typed {c = z} {f = f} h df) p network_in_initial_in =
+      subst (λ y. HoleAt A B net 1 y R) (same_Some (a_network f) c p)
+      (record {
+        out = B;
+        child_typed = df;
+        whole = λ n. initial_in z n;
+        whole_is = λ n. refl;
+        whole_typed = λ n t. initial_in_typed h t;
+        whole_same = λ n t q. initial_in_congruent Ps Os A B z z f n (own_leaf Ps unit_ty A z h) (as_twin Ps Os A B f n df t q);
+      })
+  hole A B net k c R (dr_switch_typed {f = f} {t = t} {D = D} {C = C} df dt) p network_in_dr_switch =
+      subst (λ y. HoleAt A B net 0 y R) (same_Some (a_network f) c p)
+      (record {
+        out = B;
+        child_typed = df;
+        whole = λ n. dr_switch n t;
+        whole_is = λ n. refl;
+        whole_typed = λ n i. dr_switch_typed i dt;
+        whole_same = λ n i q. late_restart_congruent Ps Os D B C f n t t (as_twin Ps Os D B f n df i q) (own_twin (Ps ++ C ∷ []) Os D B t dt);
+      })
+  hole A B net k c R (dr_switch_typed {f = f} {t = t} {D = D} {C = C} df dt) p continuation_in_dr_switch =
+      subst (λ y. HoleAt A B net 1 y R) (same_Some (a_network t) c p)
+      (record {
+        out = B;
+        child_typed = dt;
+        whole = λ n. dr_switch f n;
+        whole_is = λ n. refl;
+        whole_typed = λ n i. dr_switch_typed df i;
+        whole_same = λ n i q. late_restart_congruent Ps Os D B C f f t n (own_twin Ps Os D B f df) (as_twin (Ps ++ C ∷ []) Os D B t n dt i q);
+      })
+  hole A B net k c R (rp_switch_typed {fs = fs} {m = m} {t = t} {D = D} {B = X} {C = C} {V = V} some few ds h dt n') p (member_in_rp_switch {k = j} l) =
+      let b : p_switch_child fs j ≡ member_child = member_below fs j l in
+      let o : Found (member fs j) c = found_network (member fs j) c (ap (λ w. collection_child w fs m t j) (sym b) ∙ p) in
+      let v : MemberHole Ps Os D X fs j o.found = member_hole Ps Os D X fs j o.found ds o.found_is in
+      subst (λ y. HoleAt A B net j y (standing Ps Os D)) o.found_tree
+      (record {
+        out = X;
+        child_typed = v.member_typed;
+        whole = λ n. rp_switch (v.others n) m t;
+        whole_is = λ n. ap (λ w. with_collection_child w fs m t j (a_network n)) b ∙ ap (option_map (λ gs. rp_switch gs m t)) (v.others_is n);
+        whole_typed = λ n i. let same : members (v.others n) ≡ members fs = v.others_count n in
+            rp_switch_typed (omega arith) (omega arith) (v.others_typed n i) h dt tt;
+        whole_same = λ n i q. collection_congruent Ps Os D X C V fs (v.others n) m m t t (v.others_same n i q) (own_leaf Ps C (choice_ty V) m h)
+            (own_twin (Ps ++ V ∷ []) Os D X t dt);
+      })
+  hole A B net k c R (rp_switch_typed {fs = fs} {m = m} {t = t} {D = D} {B = X} {C = C} {V = V} some few ds h dt n') p choice_in_rp_switch =
+      let b : p_switch_child fs (members fs) ≡ event_child = event_is fs in
+      subst (λ y. HoleAt A B net (members fs) y (standing Ps Os C)) (same_Some (a_leaf m) c (ap (λ w. collection_child w fs m t (members fs)) (sym b) ∙ p))
+      (record {
+        out = choice_ty V;
+        child_typed = h;
+        whole = λ n. rp_switch fs n t;
+        whole_is = λ n. ap (λ w. with_collection_child w fs m t (members fs) (a_leaf n)) b;
+        whole_typed = λ n i. rp_switch_typed some few ds i dt tt;
+        whole_same = λ n i q. collection_congruent Ps Os D X C V fs fs m n t t (twins_of Ps Os D X fs ds) (as_twin_leaf Ps C (choice_ty V) m n h i q)
+            (own_twin (Ps ++ V ∷ []) Os D X t dt);
+      })
+  hole A B net k c R (rp_switch_typed {fs = fs} {m = m} {t = t} {D = D} {B = X} {C = C} {V = V} some few ds h dt n') p
+      (continuation_in_rp_switch {V = W} hm) =
+      let b : p_switch_child fs (suc (members fs)) ≡ continuation_child = continuation_is fs in
+      subst (λ Z. HoleAt A B net (suc (members fs)) c (standing (Ps ++ Z ∷ []) Os D))
+      (ap started_in (one_type m Ps C (choice_ty V) (choice_ty W) h hm))
+      (subst (λ y. HoleAt A B net (suc (members fs)) y (standing (Ps ++ V ∷ []) Os D))
+      (same_Some (a_network t) c (ap (λ w. collection_child w fs m t (suc (members fs))) (sym b) ∙ p))
+      (record {
+        out = X;
+        child_typed = dt;
+        whole = λ n. rp_switch fs m n;
+        whole_is = λ n. ap (λ w. with_collection_child w fs m t (suc (members fs)) (a_network n)) b;
+        whole_typed = λ n i. rp_switch_typed some few ds h i tt;
+        whole_same = λ n i q. collection_congruent Ps Os D X C V fs fs m m t n (twins_of Ps Os D X fs ds) (own_leaf Ps C (choice_ty V) m h)
+            (as_twin (Ps ++ V ∷ []) Os D X t n dt i q);
+      }))
 
 -- what goes on from what was found
 record Onward (X Y : Type 0) (o : Option X) (f : X → Option Y) (y : Y) : Type 0 where
