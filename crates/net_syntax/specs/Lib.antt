@@ -18,6 +18,7 @@ pub mod AlikeEnvironments
 pub mod Laws
 pub mod SwitchLaws
 pub mod Examples
+pub mod GoingOn
 pub mod Position
 pub mod Place
 pub mod Leaves

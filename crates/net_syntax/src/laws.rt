@@ -25,6 +25,8 @@ ghost use Rattle.net_syntax.specs.SwitchLaws.{
   FreezeMembersLaw,
   ResumeLaw,
   KeptNumbersLaw,
+  LateRestartLaw,
+  CollectionLaw,
 };
 ghost use Rattle.net_syntax.specs.Examples.{
   AddThenDelay,
@@ -59,6 +61,37 @@ ghost use Rattle.net_syntax.specs.Examples.{
   HeaviestHeight,
   JustTooHeavy,
   TooHeavy,
+  FirstOutput,
+  FirstInput,
+  RestartLate,
+  RestartLateAtFirst,
+  RestartTwoLate,
+  Collection,
+  CollectionEmpty,
+  CollectionFull,
+  RestartLateWeight,
+  RestartTwoLateWeight,
+  CollectionWeight,
+  CollectionHeight,
+};
+ghost use Rattle.net_syntax.specs.GoingOn.{
+  RestartAtEach,
+  ChooseAndStart,
+  RestartedCollection,
+  ResumedOpenings,
+  OpeningsFrozenFirst,
+  LateUnder,
+  ResumedCollection,
+  ResumedTwice,
+  RestartedMember,
+  RestartAtEachWeight,
+  ChooseAndStartWeight,
+  RestartedCollectionWeight,
+  ResumedOpeningsWeight,
+  LateUnderWeight,
+  ResumedCollectionWeight,
+  ResumedTwiceWeight,
+  RestartedMemberWeight,
 };
 
 /// A network outputs one value for each sample, doesn't look ahead, and doesn't see the first
@@ -94,6 +127,8 @@ pub fn switching_laws()
     ensures freeze_members { FreezeMembersLaw }
     ensures resume { ResumeLaw }
     ensures kept_numbers { KeptNumbersLaw }
+    ensures late_restart { LateRestartLaw }
+    ensures collection { CollectionLaw }
 {}
 
 /// What some networks output, computed by the definitions.
@@ -125,6 +160,23 @@ pub fn output_examples()
     ensures integral_wraps { IntegralWraps }
     ensures restart_clock { RestartClock }
     ensures sums_at_events { SumsAtEvents }
+    ensures first_output { FirstOutput }
+    ensures first_input { FirstInput }
+    ensures restart_late { RestartLate }
+    ensures restart_late_at_first { RestartLateAtFirst }
+    ensures restart_two_late { RestartTwoLate }
+    ensures collection { Collection }
+    ensures collection_empty { CollectionEmpty }
+    ensures collection_full { CollectionFull }
+    ensures restart_at_each { RestartAtEach }
+    ensures choose_and_start { ChooseAndStart }
+    ensures restarted_collection { RestartedCollection }
+    ensures resumed_openings { ResumedOpenings }
+    ensures openings_frozen_first { OpeningsFrozenFirst }
+    ensures late_under { LateUnder }
+    ensures resumed_collection { ResumedCollection }
+    ensures resumed_twice { ResumedTwice }
+    ensures restarted_member { RestartedMember }
 {}
 
 /// What some networks weigh and how high one is, computed by the definitions.
@@ -134,6 +186,18 @@ pub fn weight_examples()
     ensures heaviest_height { HeaviestHeight }
     ensures just_too_heavy { JustTooHeavy }
     ensures too_heavy { TooHeavy }
+    ensures restart_late_weight { RestartLateWeight }
+    ensures restart_two_late_weight { RestartTwoLateWeight }
+    ensures collection_weight { CollectionWeight }
+    ensures collection_height { CollectionHeight }
+    ensures restart_at_each_weight { RestartAtEachWeight }
+    ensures choose_and_start_weight { ChooseAndStartWeight }
+    ensures restarted_collection_weight { RestartedCollectionWeight }
+    ensures resumed_openings_weight { ResumedOpeningsWeight }
+    ensures late_under_weight { LateUnderWeight }
+    ensures resumed_collection_weight { ResumedCollectionWeight }
+    ensures resumed_twice_weight { ResumedTwiceWeight }
+    ensures restarted_member_weight { RestartedMemberWeight }
 {}
 
 /// Each form outputs the same in alike environments where its parts do: one law a form.
@@ -154,6 +218,10 @@ pub fn congruence_laws()
     ensures restart { Same.RestartLaw }
     ensures freeze { Same.FreezeLaw }
     ensures freeze_members { Same.FreezeMembersLaw }
+    ensures initial_out { Same.InitialOutLaw }
+    ensures initial_in { Same.InitialInLaw }
+    ensures late_restart { Same.LateRestartLaw }
+    ensures collection { Same.CollectionLaw }
 {}
 
 /// Where what stands at a position of a typed network, in continuations and in networks that will

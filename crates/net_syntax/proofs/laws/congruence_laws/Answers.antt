@@ -1,3 +1,4 @@
+use Rattle.net_syntax.proofs.SameForms.{initial_out_congruent, initial_in_congruent, late_restart_congruent, collection_congruent}
 use Rattle.net_syntax.proofs.Congruence.{arr_congruent, sequence_congruent, first_congruent, parallel_congruent, loop_congruent, previous_congruent, delay_congruent, hold_congruent, accumulate_congruent, after_congruent, repeatedly_congruent, switch_congruent, late_switch_congruent, restart_congruent, freeze_congruent, freeze_members_congruent}
 use Rattle.net_syntax.proofs.laws.congruence_laws.Goals as goal
 
@@ -48,3 +49,15 @@ returns-clause-freeze c = freeze_congruent
 
 pub returns-clause-freeze_members : goal.returns-clause-freeze_members
 returns-clause-freeze_members c = freeze_members_congruent
+
+pub returns-clause-initial_out : goal.returns-clause-initial_out
+returns-clause-initial_out c = initial_out_congruent
+
+pub returns-clause-initial_in : goal.returns-clause-initial_in
+returns-clause-initial_in c = initial_in_congruent
+
+pub returns-clause-late_restart : goal.returns-clause-late_restart
+returns-clause-late_restart c = late_restart_congruent
+
+pub returns-clause-collection : goal.returns-clause-collection
+returns-clause-collection c = collection_congruent

@@ -1,4 +1,4 @@
-use Rattle.net_syntax.proofs.Computed.{add_then_delay, on_nothing, add_wraps, repeatedly_by_time, after_once, after_at_once, time_wraps, switch_at_once, switch_late, started_at_the_event, switch_twice, restart_at_events, restart_at_the_first, freeze_clock, freeze_and_resume, clock_of_six, swap_members, delay_by_time, sums_fed_back, sums_held, edge_at_true, member_numbers, routed_pasts, delay_of_many, integral_wraps, restart_clock, sums_at_events}
+use Rattle.net_syntax.proofs.Computed.{add_then_delay, on_nothing, add_wraps, repeatedly_by_time, after_once, after_at_once, time_wraps, switch_at_once, switch_late, started_at_the_event, switch_twice, restart_at_events, restart_at_the_first, freeze_clock, freeze_and_resume, clock_of_six, swap_members, delay_by_time, sums_fed_back, sums_held, edge_at_true, member_numbers, routed_pasts, delay_of_many, integral_wraps, restart_clock, sums_at_events, first_output, first_input, restart_late, restart_late_at_first, restart_two_late, collection, collection_empty, collection_full, restart_at_each, choose_and_start, restarted_collection, resumed_openings, openings_frozen_first, late_under, resumed_collection, resumed_twice, restarted_member}
 use Rattle.net_syntax.proofs.laws.output_examples.Goals as goal
 
 pub returns-clause-add_then_delay : goal.returns-clause-add_then_delay
@@ -81,3 +81,54 @@ returns-clause-restart_clock c = restart_clock
 
 pub returns-clause-sums_at_events : goal.returns-clause-sums_at_events
 returns-clause-sums_at_events c = sums_at_events
+
+pub returns-clause-first_output : goal.returns-clause-first_output
+returns-clause-first_output c = first_output
+
+pub returns-clause-first_input : goal.returns-clause-first_input
+returns-clause-first_input c = first_input
+
+pub returns-clause-restart_late : goal.returns-clause-restart_late
+returns-clause-restart_late c = restart_late
+
+pub returns-clause-restart_late_at_first : goal.returns-clause-restart_late_at_first
+returns-clause-restart_late_at_first c = restart_late_at_first
+
+pub returns-clause-restart_two_late : goal.returns-clause-restart_two_late
+returns-clause-restart_two_late c = restart_two_late
+
+pub returns-clause-collection : goal.returns-clause-collection
+returns-clause-collection c = collection
+
+pub returns-clause-collection_empty : goal.returns-clause-collection_empty
+returns-clause-collection_empty c = collection_empty
+
+pub returns-clause-collection_full : goal.returns-clause-collection_full
+returns-clause-collection_full c = collection_full
+
+pub returns-clause-restart_at_each : goal.returns-clause-restart_at_each
+returns-clause-restart_at_each c = restart_at_each
+
+pub returns-clause-choose_and_start : goal.returns-clause-choose_and_start
+returns-clause-choose_and_start c = choose_and_start
+
+pub returns-clause-restarted_collection : goal.returns-clause-restarted_collection
+returns-clause-restarted_collection c = restarted_collection
+
+pub returns-clause-resumed_openings : goal.returns-clause-resumed_openings
+returns-clause-resumed_openings c = resumed_openings
+
+pub returns-clause-openings_frozen_first : goal.returns-clause-openings_frozen_first
+returns-clause-openings_frozen_first c = openings_frozen_first
+
+pub returns-clause-late_under : goal.returns-clause-late_under
+returns-clause-late_under c = late_under
+
+pub returns-clause-resumed_collection : goal.returns-clause-resumed_collection
+returns-clause-resumed_collection c = resumed_collection
+
+pub returns-clause-resumed_twice : goal.returns-clause-resumed_twice
+returns-clause-resumed_twice c = resumed_twice
+
+pub returns-clause-restarted_member : goal.returns-clause-restarted_member
+returns-clause-restarted_member c = restarted_member

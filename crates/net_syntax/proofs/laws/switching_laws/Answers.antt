@@ -1,4 +1,4 @@
-use Rattle.net_syntax.proofs.SwitchedOutputs.{switch_outputs, switch_late_outputs, restart_outputs, freeze_outputs, freeze_members_outputs, resume_outputs, kept_numbers}
+use Rattle.net_syntax.proofs.SwitchedOutputs.{switch_outputs, switch_late_outputs, restart_outputs, freeze_outputs, freeze_members_outputs, resume_outputs, kept_numbers, late_restart_outputs, collection_outputs}
 use Rattle.net_syntax.proofs.laws.switching_laws.Goals as goal
 
 pub returns-clause-switch : goal.returns-clause-switch
@@ -21,3 +21,9 @@ returns-clause-resume c = resume_outputs
 
 pub returns-clause-kept_numbers : goal.returns-clause-kept_numbers
 returns-clause-kept_numbers c = kept_numbers
+
+pub returns-clause-late_restart : goal.returns-clause-late_restart
+returns-clause-late_restart c = late_restart_outputs
+
+pub returns-clause-collection : goal.returns-clause-collection
+returns-clause-collection c = collection_outputs
