@@ -1,6 +1,6 @@
 // What runs, with what it keeps.
 
-ghost use Rattle.std.specs.Prelude.{◌≡◌, ◌∷◌, ◌++◌, [], IfOk, IfNone, Some, None, MatchOption, length, slice_get};
+ghost use Rattle.std.specs.Prelude.{◌≡◌, ◌∷◌, ◌++◌, [], IfOk, IfNone, Some, None, MatchOption, length, map, slice_get};
 ghost use Rattle.state_core.specs.Depth.{depth_running};
 ghost use Rattle.state_core.specs.{StateView.kept_of, StateView.state_of, StateView.running_of, StateView.scope_of, Tree.nothing};
 
@@ -133,6 +133,14 @@ impl<'n> Places<'n> {
             (λ a. slice_get self.now.0 i ≡ Some (state_of a.now)) }
     {
         if i < self.used { self.all.get(i) } else { None }
+    }
+
+    /// What runs at the places, in order.
+    #[inline(always)]
+    pub fn as_slice(&self) -> &[State<'n>]
+        ensures { map state_of result.now ≡ self.now.0 }
+    {
+        &self.all[..self.len()]
     }
 
     /// No places any more; their memory stays.

@@ -2,11 +2,12 @@
 
 ghost use Rattle.std.specs.Prelude.{◌≡◌, ◌<◌, ◌++◌, ◌∷◌, [], None, Some, IfOk, IfSome, length, map, slice_get, slice_set};
 ghost use Rattle.sample_core.specs.{Datum.left, Datum.pair, Datum.right, ValueView.datum_of};
-ghost use Rattle.net_syntax.specs.Network.{map_networks, seq, first, par, loop_pre, accum_by, r_switch};
+ghost use Rattle.net_syntax.specs.Network.{map_networks, seq, first, par, loop_pre, initial_out, initial_in, accum_by, r_switch, dr_switch};
 ghost use Rattle.net_syntax.specs.NetworkView.{members_of};
 ghost use Rattle.cell_core.specs.Cell.{previous};
 ghost use Rattle.state_core.specs.RowsView.{rows_in, row_number};
 ghost use Rattle.state_core.specs.StateView.{kept_of, scope_of};
+ghost use Rattle.state_core.specs.Tree.{passed as passed_on};
 ghost use Rattle.step_core.specs.Called.{Called};
 ghost use Rattle.step_core.specs.Flow.{Flows, AllFlow, IsCell, IsFedBack, number_of, past_in};
 
@@ -14,7 +15,7 @@ use crate::cells::{start_accum, start_cell, step_accum};
 use crate::on::{On, both, node};
 use crate::part::{answer_places, first, let_parts_go, make_place, put_pair, restart_of, second};
 use crate::rows::Rows;
-use crate::run::run_place;
+use crate::run::{go_on, run_place, start_under};
 use cell_core::Form;
 use leaf_table::LeafId;
 use net_syntax::Net;
@@ -43,6 +44,8 @@ pub(crate) fn flow<'n, R: Rows>(
         Net::First(f) => flow_first(on, f.get(), x, kept, out),
         Net::Par(fs) => flow_par(on, fs.as_slice(), x, kept, out),
         Net::LoopPre(c, f) => flow_loop(on, f.get(), x, kept, out, *c),
+        Net::InitialOut(c, f) => flow_initial_out(on, f.get(), x, kept, out, *c),
+        Net::InitialIn(c, f) => flow_initial_in(on, f.get(), x, kept, out, *c),
         Net::AccumBy(g, z) => flow_accum(on, *g, x, kept, out, *z),
         Net::IPre(_)
         | Net::Delay(..)
@@ -52,15 +55,19 @@ pub(crate) fn flow<'n, R: Rows>(
         | Net::Time
         | Net::Integral => flow_cell(on, net, x, kept, out),
         Net::RSwitch(f, t) => flow_restart(on, f.get(), x, kept, out, t.get()),
-        Net::Switch(..) | Net::DSwitch(..) | Net::KSwitch(..) | Net::PSwitch(..) | Net::Old(_) => {
-            run_place(on, net, x, kept, out)
-        }
+        Net::DrSwitch(f, t) => flow_late_restart(on, f.get(), x, kept, out, t.get()),
+        Net::Switch(..)
+        | Net::DSwitch(..)
+        | Net::KSwitch(..)
+        | Net::PSwitch(..)
+        | Net::RpSwitch(..)
+        | Net::Old(_) => run_place(on, net, x, kept, out),
     }
 }
 
 /// What a row answers to the sample.
 #[inline(always)]
-fn call_into<R: Rows>(
+pub(crate) fn call_into<R: Rows>(
     on: &On<'_, '_, R>,
     e: LeafId,
     x: &Sample,
@@ -261,6 +268,70 @@ fn flow_loop<'n, R: Rows>(
     }
 }
 
+/// `-->`: at the start its part starts, and the constant is put out. From then on it is its part.
+#[cycle(run)]
+#[inline(never)]
+fn flow_initial_out<'n, R: Rows>(
+    on: &On<'_, 'n, R>,
+    f: &'n Net<LeafId>,
+    x: &Sample,
+    kept: &mut Kept<'n>,
+    out: &mut Sample,
+    c: LeafId,
+) -> Result<u32, Memory>
+    ensures { IfOk result (λ n. Flows (R.keys on.now.rows.now)
+        (initial_out (row_number c) (rows_in f.entry.now))
+        (scope_of on.now.env.now) (past_in on.now.before on.now.dt) (datum_of x.now)
+        (kept_of kept.old) (kept_of kept.new) (datum_of out.new) n) }
+{
+    match on.before {
+        Some(_) => flow(on, passed(f), x, kept, out),
+        None => {
+            let visits = flow(on, f, x, kept, out)?;
+            call_into(on, c, &Sample::Unit, out)?;
+            Ok(node(visits, 0))
+        }
+    }
+}
+
+/// `>--`: at the start its part starts on the constant. From then on it is its part.
+#[cycle(run)]
+#[inline(never)]
+fn flow_initial_in<'n, R: Rows>(
+    on: &On<'_, 'n, R>,
+    f: &'n Net<LeafId>,
+    x: &Sample,
+    kept: &mut Kept<'n>,
+    out: &mut Sample,
+    c: LeafId,
+) -> Result<u32, Memory>
+    ensures { IfOk result (λ n. Flows (R.keys on.now.rows.now)
+        (initial_in (row_number c) (rows_in f.entry.now))
+        (scope_of on.now.env.now) (past_in on.now.before on.now.dt) (datum_of x.now)
+        (kept_of kept.old) (kept_of kept.new) (datum_of out.new) n) }
+{
+    match on.before {
+        Some(_) => flow(on, passed(f), x, kept, out),
+        None => {
+            let input = on.rows.call(c, on.params(), &Sample::Unit)?;
+            let visits = flow(on, f, &input, kept, out);
+            drop(input);
+            Ok(node(visits?, 0))
+        }
+    }
+}
+
+/// The network that goes on once a network has started: of a `-->` or a `>--`, its part.
+fn passed(net: &Net<LeafId>) -> &Net<LeafId>
+    ensures { rows_in result.now ≡ passed_on (rows_in net.now) }
+{
+    let mut rest = net;
+    'openings: while let Net::InitialOut(_, f) | Net::InitialIn(_, f) = rest {
+        rest = f.get();
+    }
+    rest
+}
+
 /// The pair of the sample and what is fed back, which goes into the next cell until the sample has
 /// passed: what is kept, or at the first sample the constant.
 #[inline(always)]
@@ -457,6 +528,53 @@ fn flow_restart<'n, R: Rows>(
             let one = run_place(&on.started(&env), t, sample, kept, out);
             drop(env);
             Ok(node(one?, 0))
+        }
+        None => Ok(node(run_place(on, f, first(x), kept, out)?, 0)),
+    }
+}
+
+/// `drSwitch`: what runs goes on, and answers. At an event what starts, with what that carries in
+/// scope, takes its place, unheard.
+#[cycle(run)]
+#[inline(never)]
+fn flow_late_restart<'n, R: Rows>(
+    on: &On<'_, 'n, R>,
+    f: &'n Net<LeafId>,
+    x: &Sample,
+    kept: &mut Kept<'n>,
+    out: &mut Sample,
+    t: &'n Net<LeafId>,
+) -> Result<u32, Memory>
+    ensures { IfOk result (λ n. Flows (R.keys on.now.rows.now)
+        (dr_switch (rows_in f.entry.now) (rows_in t.entry.now))
+        (scope_of on.now.env.now) (past_in on.now.before on.now.dt) (datum_of x.now)
+        (kept_of kept.old) (kept_of kept.new) (datum_of out.new) n) }
+{
+    match restart_of(x) {
+        Some((sample, value)) => {
+            let at = kept.places.len();
+            let mut place = kept.places.spare();
+            match go_on(on, f, at, sample, &mut place, out) {
+                Ok(one) => {
+                    let mut unheard = Sample::Int(0);
+                    let two = start_under(on, t, sample, value, &mut place, &mut unheard);
+                    drop(unheard);
+                    match two {
+                        Ok(two) => {
+                            kept.places.push(place)?;
+                            Ok(node(one, two))
+                        }
+                        Err(memory) => {
+                            drop(place);
+                            Err(memory)
+                        }
+                    }
+                }
+                Err(memory) => {
+                    drop(place);
+                    Err(memory)
+                }
+            }
         }
         None => Ok(node(run_place(on, f, first(x), kept, out)?, 0)),
     }

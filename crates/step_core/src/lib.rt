@@ -4,6 +4,8 @@
 mod binding;
 mod bound;
 mod cells;
+mod choice;
+mod collection;
 mod fault;
 mod fire;
 mod flow;

@@ -33,7 +33,7 @@ impl<'s, 'n, R> On<'s, 'n, R> {
             rows: self.rows,
             env,
             before: None,
-            dt: 0,
+            dt: self.dt,
         }
     }
 

@@ -1,7 +1,8 @@
 // Parts of values.
 
-ghost use Rattle.std.specs.Prelude.{◌≡◌, ◌≤◌, ◌<◌, IfOk, length, take};
+ghost use Rattle.std.specs.Prelude.{◌≡◌, ◌≤◌, ◌<◌, IfOk, length, map, take};
 ghost use Rattle.sample_core.specs.{Datum.left, Datum.right, Datum.pair, ValueView.datum_of};
+ghost use Rattle.net_syntax.specs.SignalFunction.{items_of};
 ghost use Rattle.step_core.specs.Stepping.{event_in, restart_in};
 ghost use Rattle.step_core.specs.EventView.{event_found, restart_found};
 
@@ -129,6 +130,16 @@ pub(crate) fn restart_of(value: &Sample) -> Option<(&Sample, &Sample)>
             _ => None,
         },
         _ => None,
+    }
+}
+
+/// The elements of a list value; none of another value.
+pub(crate) fn elements(value: &Sample) -> &[Sample]
+    ensures { map datum_of result.now ≡ items_of (datum_of value.now) }
+{
+    match value {
+        Sample::List(all) => all.as_slice(),
+        _ => &[],
     }
 }
 

@@ -2,25 +2,27 @@
 
 ghost use Rattle.std.specs.Prelude.{◌≡◌, ◌<◌, ◌^◌, [], IfOk, length, map, pos};
 ghost use Rattle.sample_core.specs.{Datum.int, Datum.pair, ValueView.datum_of};
-ghost use Rattle.net_syntax.specs.Network.{map_networks, switch, d_switch, k_switch, p_switch, old};
+ghost use Rattle.net_syntax.specs.Network.{map_networks, initial_out, initial_in, switch, d_switch, k_switch, p_switch, old};
 ghost use Rattle.net_syntax.specs.NetworkView.{members_of};
 ghost use Rattle.state_core.specs.RowsView.{rows_in, row_number};
-ghost use Rattle.state_core.specs.State.{paused};
+ghost use Rattle.state_core.specs.State.{paused, push_param as with_param, unstarted};
 ghost use Rattle.state_core.specs.StateView.{frozen_of, kept_of, running_of, scope_of, state_of};
 ghost use Rattle.step_core.specs.Called.{Called};
 ghost use Rattle.step_core.specs.Flow.{AllRun, Runs, past_behind, past_in, placed, standing};
 ghost use Rattle.step_core.specs.Runs.{RunsWhere};
 ghost use Rattle.step_core.specs.Switching.{Begins, ListRuns};
 
+use crate::choice::Choice;
+use crate::collection::run_collection;
 use crate::fire::{fire, fire_all, fire_one};
-use crate::flow::flow;
+use crate::flow::{call_into, flow};
 use crate::on::{On, both, node};
 use crate::part::{answer_places, first, let_second_go, make_place, second};
 use crate::rows::Rows;
 use leaf_table::LeafId;
 use net_syntax::Net;
 use sample_core::{Memory, Sample};
-use state_core::{Frozen, Kept, Running, State};
+use state_core::{Frozen, Kept, Running, State, push_param};
 use std::alloc::Global;
 use std::rc::Rc;
 
@@ -104,6 +106,27 @@ pub(crate) fn step<'n, R: Rows>(
     }
 }
 
+/// A network starts with a further parameter in scope, in the memory of what stands in the place.
+#[cycle(run)]
+pub(crate) fn start_under<'n, R: Rows>(
+    on: &On<'_, 'n, R>,
+    net: &'n Net<LeafId>,
+    x: &Sample,
+    value: &Sample,
+    place: &mut State<'n>,
+    out: &mut Sample,
+) -> Result<u32, Memory>
+    ensures { IfOk result (λ n. RunsWhere (R.keys on.now.rows.now)
+        (unstarted (rows_in net.entry.now)
+        (with_param (scope_of on.now.env.now) (datum_of value.now)))
+        (datum_of x.now) (state_of place.new) (datum_of out.new) n) }
+{
+    let env = push_param(on.alloc, on.env, value)?;
+    let visits = run_over(&on.started(&env), net, x, place, out);
+    drop(env);
+    visits
+}
+
 /// A network that starts or goes on, in the memory of what stands in the place, as far as no one
 /// else holds that.
 #[cycle(run)]
@@ -172,10 +195,12 @@ fn run_in<'n, R: Rows>(
         (past_in on.now.before on.now.dt))
         (datum_of x.now) (running_of running.new) (datum_of out.new) n) }
 {
-    if let Net::Old(k) = net {
-        return run_old(on, *k, x, running, out);
+    match net {
+        Net::Old(k) => return run_old(on, *k, x, running, out),
+        Net::InitialOut(c, f) => return run_initial_out(on, f.get(), x, running, out, *c),
+        Net::InitialIn(c, f) => return run_initial_in(on, f.get(), x, running, out, *c),
+        _ => running.renew(net, on.env)?,
     }
-    running.renew(net, on.env)?;
     match net {
         Net::Switch(f, t) => run_switch(on, f.get(), x, running, out, t.get()),
         Net::DSwitch(f, t) => run_d_switch(on, f.get(), x, running, out, t.get()),
@@ -196,6 +221,13 @@ fn run_in<'n, R: Rows>(
                 over: t.get(),
             };
             run_p_switch(on, members, x, running, out, rest)
+        }
+        Net::RpSwitch(fs, m, t) => {
+            let choice = Choice {
+                chooser: *m,
+                starts: t.get(),
+            };
+            run_collection(on, fs.as_slice(), x, running, out, choice)
         }
         _ => {
             let visits = flow(on, net, x, &mut running.kept, out)?;
@@ -499,6 +531,61 @@ fn routed<R: Rows>(
     input
 }
 
+/// `-->`: its part starts, and the constant is put out. What runs at a place is never a `-->` that
+/// has started; `Memory` else.
+#[cycle(run)]
+#[inline(never)]
+fn run_initial_out<'n, R: Rows>(
+    on: &On<'_, 'n, R>,
+    f: &'n Net<LeafId>,
+    x: &Sample,
+    running: &mut Running<'n>,
+    out: &mut Sample,
+    c: LeafId,
+) -> Result<u32, Memory>
+    ensures { IfOk result (λ n. RunsWhere (R.keys on.now.rows.now)
+        (standing (initial_out (row_number c) (rows_in f.entry.now)) (scope_of on.now.env.now)
+        (past_in on.now.before on.now.dt))
+        (datum_of x.now) (running_of running.new) (datum_of out.new) n) }
+{
+    match on.before {
+        Some(_) => Err(Memory),
+        None => {
+            let visits = run_in(on, f, x, running, out)?;
+            call_into(on, c, &Sample::Unit, out)?;
+            Ok(node(visits, 0))
+        }
+    }
+}
+
+/// `>--`: its part starts on the constant. What runs at a place is never a `>--` that has started;
+/// `Memory` else.
+#[cycle(run)]
+#[inline(never)]
+fn run_initial_in<'n, R: Rows>(
+    on: &On<'_, 'n, R>,
+    f: &'n Net<LeafId>,
+    x: &Sample,
+    running: &mut Running<'n>,
+    out: &mut Sample,
+    c: LeafId,
+) -> Result<u32, Memory>
+    ensures { IfOk result (λ n. RunsWhere (R.keys on.now.rows.now)
+        (standing (initial_in (row_number c) (rows_in f.entry.now)) (scope_of on.now.env.now)
+        (past_in on.now.before on.now.dt))
+        (datum_of x.now) (running_of running.new) (datum_of out.new) n) }
+{
+    match on.before {
+        Some(_) => Err(Memory),
+        None => {
+            let input = on.rows.call(c, on.params(), &Sample::Unit)?;
+            let visits = run_in(on, f, &input, running, out);
+            drop(input);
+            Ok(node(visits?, 0))
+        }
+    }
+}
+
 /// `(old k)`: what was frozen goes on, or starts. What runs at a place is never an `(old k)` that has
 /// resumed, and a typed one finds what was frozen; `Memory` else.
 #[cycle(run)]
@@ -542,6 +629,31 @@ fn resume<'n, R: Rows>(
             State::Whole(whole) => {
                 let paused = whole.get();
                 run_in(&(&*on).going(paused, *step), paused.net, x, running, out)
+            }
+            State::Nothing => Err(Memory),
+        },
+    }
+}
+
+/// The same in the memory of what stands in the place.
+#[cycle(run)]
+#[inline(always)]
+pub(crate) fn resume_over<'n, R: Rows>(
+    on: &On<'_, 'n, R>,
+    frozen: &Frozen<'n>,
+    x: &Sample,
+    place: &mut State<'n>,
+    out: &mut Sample,
+) -> Result<u32, Memory>
+    ensures { IfOk result (λ n. RunsWhere (R.keys on.now.rows.now) (frozen_of frozen.now)
+        (datum_of x.now) (state_of place.new) (datum_of out.new) n) }
+{
+    match frozen {
+        Frozen::Unstarted { net, env } => run_over(&(&*on).started(env), net, x, place, out),
+        Frozen::Paused { state, step } => match state {
+            State::Whole(whole) => {
+                let paused = whole.get();
+                run_over(&(&*on).going(paused, *step), paused.net, x, place, out)
             }
             State::Nothing => Err(Memory),
         },

@@ -1,0 +1,202 @@
+// One sample through the members of an `rpSwitchB`.
+
+ghost use Rattle.std.specs.Prelude.{◌≡◌, [], IfOk, map};
+ghost use Rattle.sample_core.specs.ValueView.{datum_of};
+ghost use Rattle.net_syntax.specs.Network.{map_networks, rp_switch};
+ghost use Rattle.net_syntax.specs.NetworkView.{members_of};
+ghost use Rattle.state_core.specs.RowsView.{rows_in, row_number};
+ghost use Rattle.state_core.specs.State.{paused};
+ghost use Rattle.state_core.specs.StateView.{frozen_of, kept_of, running_of, scope_of, state_of};
+ghost use Rattle.step_core.specs.Flow.{MembersRun, Runs, past_in, standing};
+ghost use Rattle.step_core.specs.Runs.{RunsWhere};
+ghost use Rattle.step_core.specs.Switching.{Begins, TurnedRun};
+
+use crate::choice::{Choice, chosen, first_members};
+use crate::on::{On, both, node};
+use crate::part::{first, make_place, restart_of};
+use crate::rows::Rows;
+use crate::run::{resume_over, step};
+use leaf_table::LeafId;
+use net_syntax::Net;
+use sample_core::{Memory, Sample};
+use state_core::{Frozen, Kept, Running, State};
+
+/// `rpSwitchB`: each of its members answers.
+#[cycle(run)]
+#[inline(never)]
+pub(crate) fn run_collection<'n, R: Rows>(
+    on: &On<'_, 'n, R>,
+    members: &'n [Net<LeafId>],
+    x: &Sample,
+    running: &mut Running<'n>,
+    out: &mut Sample,
+    choice: Choice<'n>,
+) -> Result<u32, Memory>
+    requires { Begins running.old (rp_switch (map_networks row_number (members_of members.now))
+        (row_number choice.chooser) (rows_in choice.starts.now)) (scope_of on.now.env.now) }
+    ensures { IfOk result (λ n. RunsWhere (R.keys on.now.rows.now)
+        (standing (rp_switch (map_networks row_number (members_of members.entry.now))
+        (row_number choice.entry.chooser) (rows_in choice.entry.starts.now))
+        (scope_of on.now.env.now) (past_in on.now.before on.now.dt))
+        (datum_of x.now) (running_of running.new) (datum_of out.new) n) }
+{
+    let mut answers = out.take_list(on.alloc);
+    match run_turned(on, members, x, &mut running.kept, &mut answers, choice) {
+        Ok(all) => {
+            out.put_list(on.alloc, answers)?;
+            running.kept.end();
+            Ok(node(all, 0))
+        }
+        Err(memory) => {
+            drop(answers);
+            Err(memory)
+        }
+    }
+}
+
+/// The members go on, or begin. At an event those run that it chooses.
+#[cycle(run)]
+#[inline(never)]
+fn run_turned<'n, R: Rows>(
+    on: &On<'_, 'n, R>,
+    members: &'n [Net<LeafId>],
+    x: &Sample,
+    kept: &mut Kept<'n>,
+    answers: &mut Vec<Sample>,
+    choice: Choice<'n>,
+) -> Result<u32, Memory>
+    ensures { IfOk result (λ n. TurnedRun (R.keys on.now.rows.now)
+        (map_networks row_number (members_of members.entry.now)) (row_number choice.entry.chooser)
+        (rows_in choice.entry.starts.now) (scope_of on.now.env.now)
+        (past_in on.now.before on.now.dt) (datum_of x.now)
+        (kept_of kept.old) (kept_of kept.new) (map datum_of answers.new.items) n) }
+{
+    match restart_of(x) {
+        Some((sample, value)) => {
+            let all = chosen(on, members, choice, value)?;
+            let visits = resume_each(on, all.as_slice(), sample, kept, answers);
+            drop(all);
+            visits
+        }
+        None => match on.before {
+            Some(before) => step_each(on, before.places.as_slice(), first(x), kept, answers),
+            None => {
+                let all = first_members(on, members)?;
+                let visits = resume_each(on, all.as_slice(), first(x), kept, answers);
+                drop(all);
+                visits
+            }
+        },
+    }
+}
+
+/// Members that were frozen go on, or begin, a place each; puts what they answer, in order, in the
+/// places of the answers.
+#[cycle(run)]
+#[inline(never)]
+fn resume_each<'n, R: Rows>(
+    on: &On<'_, 'n, R>,
+    members: &[Frozen<'n>],
+    x: &Sample,
+    kept: &mut Kept<'n>,
+    answers: &mut Vec<Sample>,
+) -> Result<u32, Memory>
+    ensures { IfOk result (λ n. MembersRun (R.keys on.now.rows.now) (map frozen_of members.now)
+        (datum_of x.now) (kept_of kept.old) (kept_of kept.new) []
+        (map datum_of answers.new.items) n) }
+{
+    let mut rest = members;
+    let mut before: usize = 0;
+    let mut visits: u32 = 0;
+    'members: while let Some((member, others)) = rest.split_first() {
+        make_place(answers, before)?;
+        let one = resume_place(on, member, x, kept, &mut answers[before])?;
+        visits = both(visits, one);
+        rest = others;
+        before += 1;
+    }
+    answers.truncate(before);
+    Ok(visits)
+}
+
+/// What was frozen goes on, or begins, at the next place.
+#[cycle(run)]
+#[inline(always)]
+fn resume_place<'n, R: Rows>(
+    on: &On<'_, 'n, R>,
+    member: &Frozen<'n>,
+    x: &Sample,
+    kept: &mut Kept<'n>,
+    out: &mut Sample,
+) -> Result<u32, Memory>
+    ensures { IfOk result (λ n. Runs (R.keys on.now.rows.now) (frozen_of member.now)
+        (datum_of x.now) (kept_of kept.old) (kept_of kept.new) (datum_of out.new) n) }
+{
+    let mut place = kept.places.spare();
+    match resume_over(on, member, x, &mut place, out) {
+        Ok(visits) => {
+            kept.places.push(place)?;
+            Ok(visits)
+        }
+        Err(memory) => {
+            drop(place);
+            Err(memory)
+        }
+    }
+}
+
+/// The same of members that ran: they go on.
+#[cycle(run)]
+#[inline(never)]
+fn step_each<'n, R: Rows>(
+    on: &On<'_, 'n, R>,
+    members: &[State<'n>],
+    x: &Sample,
+    kept: &mut Kept<'n>,
+    answers: &mut Vec<Sample>,
+) -> Result<u32, Memory>
+    ensures { IfOk result (λ n. MembersRun (R.keys on.now.rows.now)
+        (map (λ a. paused (state_of a) on.now.dt) members.now)
+        (datum_of x.now) (kept_of kept.old) (kept_of kept.new) []
+        (map datum_of answers.new.items) n) }
+{
+    let mut rest = members;
+    let mut before: usize = 0;
+    let mut visits: u32 = 0;
+    'members: while let Some((member, others)) = rest.split_first() {
+        make_place(answers, before)?;
+        let one = step_place(on, member, x, kept, &mut answers[before])?;
+        visits = both(visits, one);
+        rest = others;
+        before += 1;
+    }
+    answers.truncate(before);
+    Ok(visits)
+}
+
+/// What runs goes on, at the next place.
+#[cycle(run)]
+#[inline(always)]
+fn step_place<'n, R: Rows>(
+    on: &On<'_, 'n, R>,
+    member: &State<'n>,
+    x: &Sample,
+    kept: &mut Kept<'n>,
+    out: &mut Sample,
+) -> Result<u32, Memory>
+    ensures { IfOk result (λ n. Runs (R.keys on.now.rows.now)
+        (paused (state_of member.now) on.now.dt)
+        (datum_of x.now) (kept_of kept.old) (kept_of kept.new) (datum_of out.new) n) }
+{
+    let mut place = kept.places.spare();
+    match step(on, member, x, &mut place, out) {
+        Ok(visits) => {
+            kept.places.push(place)?;
+            Ok(visits)
+        }
+        Err(memory) => {
+            drop(place);
+            Err(memory)
+        }
+    }
+}
