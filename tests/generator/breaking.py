@@ -10,7 +10,8 @@ WORDS = (
     "( ) x unit true false none time integral identity edge arr >>> first second parB col list pair event fst snd then "
     "neg add if on nth len p old 0 1 -1 007 -0 - 65535 65536 4097 9223372036854775807 9223372036854775808 "
     "-9223372036854775809 4611686018427387905 Int Bool Unit Pair Event List yampa input laws step forward backward at "
-    "E1 E18 E19 L0 L1 L42 L43 L01 switch kSwitch pSwitch delay after repeatedly never now --> drSwitch , []"
+    "E1 E18 E19 L0 L1 L42 L43 L46 L47 L01 2 3 switch kSwitch pSwitch delay after repeatedly never now --> >-- drSwitch "
+    "rpSwitchB , []"
 ).split()
 
 
@@ -104,6 +105,11 @@ class Breaker:
         ways += [("switch", tree, tree)]
         ways += [("rSwitch", tree, tree), ("kSwitch", tree, tree, tree), ("loopPre", 0, tree), ("loopPre", "unit", tree)]
         ways += [("pSwitch", "x", ("col",), tree, tree), ("pSwitch", ("fst", "x"), ("col", tree), tree, tree)]
+        if maker.version == 2:
+            ways += [("-->", self.rng.choice([0, "true"]), tree), (">--", self.rng.choice([0, "true"]), tree)]
+            ways += [("drSwitch", tree, tree)]
+            ways += [("rpSwitchB", ("col", *[tree] * self.rng.choice([0, 1, 64, 65])), "x", tree)]
+            ways += [("rpSwitchB", ("col", tree), ("pair", ("list", "Int"), ("list", "Int", "x")), tree)]
         ways += [("parB", *[tree] * self.rng.choice([2, 64, 65])), ("parB", tree, "time", tree), ("dSwitch", tree, "time")]
         part = self.rng.choice([other for _, other in preorder(net) if is_network(other)])
         return self.rng.choice([*ways, part, part, maker.network(maker.type(), maker.type(), size=1)])
@@ -129,10 +135,11 @@ class Breaker:
         return tree
 
 
-SWITCHES = ["switch", "dSwitch", "rSwitch", "old"]
+SWITCHES = ["switch", "dSwitch", "rSwitch", "drSwitch", "old"]
 TWINS = [
     ["switch", "dSwitch"],
-    ["rSwitch", ">>>"],
+    ["rSwitch", "drSwitch", ">>>"],
+    ["-->", ">--", "loopPre"],
     ["after", "repeatedly", "delay"],
     ["iPre", "hold"],
     ["add", "sub", "mul", "less"],

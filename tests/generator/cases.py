@@ -7,8 +7,8 @@ from generator.laws import taken
 from generator.limits import Limits
 from generator.making import FORM_WEIGHTS, Maker
 from generator.steps import StepMaker, reversed_steps
-from generator.texts import LAWS, Step, certificate_text, network_text
-from generator.trees import SUGAR_WORDS, child_places, expanded, head, is_network, preorder, shown
+from generator.texts import LAWS, NEW_LAWS, Step, certificate_text, network_text
+from generator.trees import NEW_FORMS, SUGAR_WORDS, child_places, expanded, head, is_network, preorder, shown
 from generator.typed import Scope, check_types
 
 
@@ -18,20 +18,24 @@ class Case:
     def __init__(self, program, seed, number):
         self.program, self.tally = program, program.tally
         self.rng = random.Random(f"{seed} {number}")
-        self.maker, self.breaker = Maker(self.rng), Breaker(self.rng)
+        self.version = 1 + number // len(KINDS) % 2
+        self.maker, self.breaker = Maker(self.rng, self.version), Breaker(self.rng)
         self.steps, self.limited = StepMaker(self.maker), Limits(self.rng)
+        self.laws = [law for law in LAWS if self.version == 2 or law not in NEW_LAWS]
         self.number = number
 
     def run(self):
         kind = KINDS[self.number % len(KINDS)]
         if kind not in self.program.skipped:
             self.tally["kinds of cases", kind] += 1
+            self.tally["versions", self.version] += 1
             getattr(self, kind)()
 
     def next_of(self, kind, words):
         """The words in turn over the cases of a kind, so that in few cases none is left out."""
+        words = [word for word in words if self.version == 2 or word not in NEW_FORMS + NEW_LAWS]
         rounds, rest = divmod(self.number, len(KINDS))
-        return words[(rounds * KINDS.count(kind) + KINDS[:rest].count(kind)) % len(words)]
+        return words[(rounds // 2 * KINDS.count(kind) + KINDS[:rest].count(kind)) % len(words)]
 
     # ---- parts
 
@@ -129,7 +133,8 @@ class Case:
         """A typed network that a left side is to be put into: one in three begins with a switch."""
         if self.maker.chance(0.7):
             return self.network(self.rng.choice([0, 2, 4, 6]))[1]
-        word, given, output = self.rng.choice(SWITCHES), self.maker.type(), self.maker.type()
+        words = [word for word in SWITCHES if self.version == 2 or word not in NEW_FORMS]
+        word, given, output = self.rng.choice(words), self.maker.type(), self.maker.type()
         given, made, _ = self.maker.of_form(word, given, output, Scope(), self.rng.choice([2, 4, 6]))
         return check_types(given, expanded(made))
 
@@ -175,7 +180,7 @@ class Case:
         """The steps with one of them changed, left out, doubled or moved."""
         at = self.rng.randrange(len(steps))
         step, other = steps[at], self.rng.choice(steps)
-        law = self.rng.choice([law for law in LAWS if law[0] == step.law[0]])
+        law = self.rng.choice([law for law in self.laws if law[0] == step.law[0]])
         position = self.rng.choice([step.position[:-1], (*step.position, self.rng.randint(0, 2)), other.position])
         turned_round = "backward" if step.direction == "forward" else "forward"
         ways = [
@@ -198,7 +203,7 @@ class Case:
         """The optimiser's network, given again, and its certificate."""
         made, typed = self.network(self.rng.choice([2, 4, 6]))
         if self.maker.chance(0.7):
-            typed, _ = self.steps.with_left_side(typed, self.rng.choice(LAWS))
+            typed, _ = self.steps.with_left_side(typed, self.rng.choice(self.laws))
             made = typed.places[()].tree
         text = self.maker.spaced(network_text(typed.input, made))
         net = self.hold("optimise", text).output
@@ -283,9 +288,9 @@ WRONG_WORDS = [
     [b"types", b"\xff"],
     [b"\xfe"],
 ]
-FORM_WORDS = [word for word in FORM_WEIGHTS if word != "old"] + ["kSwitch", "pSwitch"] * 3
-LAW_WORDS = [*LAWS, "L38", "L38"]
-SWITCHES = ["switch", "dSwitch", "rSwitch", "kSwitch", "pSwitch"]
+FORM_WORDS = [word for word in FORM_WEIGHTS if word != "old"] + ["kSwitch", "pSwitch", "rpSwitchB"] * 3
+LAW_WORDS = [*NEW_LAWS, *LAWS, "L38", "L38"]
+SWITCHES = ["switch", "dSwitch", "rSwitch", "kSwitch", "pSwitch", "drSwitch", "rpSwitchB"]
 KINDS = "ran certified hostile ran certified optimised ill_typed certified".split() * 4 + ["limits", "worded"]
 
 

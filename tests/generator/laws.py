@@ -22,7 +22,9 @@ LEFT_WORDS = {
     "on": "E13 E14",
     "add": "E15 E16 E17",
     "nth": "E18",
-    ">>>": "L1 L2 L3 L4 L7 L8 L9 L10 L11 L13 L14 L18 L19 L20 L21 L22 L23 L24 L25 L26 L27 L28 L29 L30 L35 L36 L40 L41",
+    ">>>": "L1 L2 L3 L4 L7 L8 L9 L10 L11 L13 L14 L18 L19 L20 L21 L22 L23 L24 L25 L26 L27 L28 L29 L30 L35 L36 L40 L41 L45 L46",
+    "-->": "L43",
+    ">--": "L44",
     "first": "L5 L6 L33 L34",
     "iPre": "L12",
     "loopPre": "L15 L16 L17",
@@ -63,7 +65,7 @@ def forward(law, tree, olds):
     """The right side of the law where the tree is a left side with so many frozen networks in scope; else None."""
     if law[0] == "E":
         return None if is_network(tree) else of_expressions(law, tree)
-    if law in ("L38", "L39", "L40", "L41", "L42"):
+    if law in ("L38", "L39", "L40", "L41", "L42", "L46"):
         return of_members(law, tree, olds)
     return of_switches(law, tree) if law in SWITCH_LAWS else of_networks(law, tree)
 
@@ -169,6 +171,12 @@ def of_networks(law, tree):
             return arr(("then", "unit", e))
         case "L26", (">>>", ("delay", q, c), ("arr", f)):
             return seq(arr(f), ("delay", q, ("then", c, f)))
+        case "L43", ("-->", c, ("-->", _, f)):
+            return ("-->", c, f)
+        case "L44", (">--", c, ("arr", f)):
+            return ("-->", ("then", c, f), arr(f))
+        case "L45", (">>>", ("drSwitch", f, t), ("arr", h)):
+            return ("drSwitch", seq(f, arr(h)), seq(t, arr(h)))
     return of_loops(law, tree) or of_events(law, tree)
 
 
@@ -244,6 +252,8 @@ def of_members(law, tree, olds):
             return ("parB", *[seq(h, f) for f in members])
         case "L42", ("arr", ("list", _, *elements)) if 1 <= len(elements) <= MEMBERS:
             return ("parB", *map(arr, elements))
+        case "L46", (">>>", ("arr", ("pair", e, ("none", _))), ("rpSwitchB", (_, *members), _, _)) if 1 <= len(members) <= MEMBERS:
+            return seq(arr(e), ("parB", *members))
     return None
 
 

@@ -15,6 +15,9 @@ def network(given, net):
     return network_text(given, net).encode()
 
 
+EVENTS = ("arr", ("pair", "x", ("event", "x")))
+
+
 class Limits:
     """Makes commands by a source of random numbers: each way has a limit, and is one before it, at it, or one past it."""
 
@@ -67,9 +70,30 @@ class Limits:
         ready = ("arr", ("event", "unit"))
         resumed = ("parB", ("old", 0), ("old", max(count - 1, 0)))
         collection = ("pSwitch", ("fst", "x"), ("col", *["time"] * count), ready, resumed)
-        return Command("run", [network("Int", self.rng.choice([parallel, collection]))], b"5\n+1 6\n")
+        choosing = (">>>", EVENTS, ("rpSwitchB", ("col", *["time"] * count), self.choice(), "time"))
+        return Command("run", [network("Int", self.rng.choice([parallel, collection, choosing]))], b"5\n+1 6\n")
+
+    def choice(self):
+        """A choice of 63 to 65 members, of those that run and new ones."""
+        count = self.near(64)
+        kept = self.rng.randint(0, count)
+        return ("pair", ("list", "Int", *[0] * kept), ("list", "Int", *["x"] * (count - kept)))
 
     def weight(self):
+        return self.rng.choice([self.chain_weight, self.chain_weight, self.collection_weight])()
+
+    def collection_weight(self):
+        """A collection whose member makes the weight 1,000,000, or hardly more or less."""
+        net = ("rpSwitchB", ("col", self.balanced(self.near(7_812))), ("pair", ("list", "Int"), ("list", "Int")), ("arr", "x"))
+        return Command("types", [network(("Pair", "Int", ("Event", "Int")), net)])
+
+    def balanced(self, count):
+        """So many `(arr x)` in a row."""
+        if count == 1:
+            return ("arr", "x")
+        return (">>>", self.balanced(count // 2), self.balanced(count - count // 2))
+
+    def chain_weight(self):
         """A chain in which each frozen network resumes the one before it twice."""
         depth = self.rng.choice([16, 17, 18, 20, 80])
         net = self.tail(depth)

@@ -1,20 +1,31 @@
 """Random types, values, expressions, networks and streams, all of them typed."""
-from generator.trees import GREATEST, NETWORK_FORMS, NETWORK_SUGAR, NETWORK_SUGAR_WORDS, NETWORK_WORDS, SWAP, shown
+from generator.trees import (
+    GREATEST,
+    NETWORK_FORMS,
+    NETWORK_SUGAR,
+    NETWORK_SUGAR_WORDS,
+    NETWORK_WORDS,
+    NEW_FORMS,
+    SWAP,
+    shown,
+)
 from generator.typed import Scope, event, is_form, list_of, pair
 
 FORM_WEIGHTS = {word: 2 for word in [*NETWORK_FORMS, *NETWORK_WORDS]}
 FORM_WEIGHTS |= {word: 1 for word in [*NETWORK_SUGAR, *NETWORK_SUGAR_WORDS]}
-FORM_WEIGHTS |= {"arr": 5, ">>>": 5, "switch": 3, "kSwitch": 3, "pSwitch": 3, "old": 6}
+FORM_WEIGHTS |= {"arr": 5, ">>>": 5, "switch": 3, "kSwitch": 3, "pSwitch": 3, "rpSwitchB": 4, "old": 6}
 MEMORY = "iPre delay hold accumBy after repeatedly time integral loopPre".split()
-NAMES = {">>>": "seq", "***": "both", "&&&": "fan"}
+NAMES = {">>>": "seq", "***": "both", "&&&": "fan", "-->": "first_output", ">--": "first_input"}
 UNIT_SCOPE = Scope()
 
 
 class Maker:
-    """Makes trees from a source of random numbers; a form by its method, as its input type, the tree and its output type."""
+    """Makes trees of a version from a source of random numbers; a form by its method, as its input type, the tree and its
+    output type."""
 
-    def __init__(self, rng):
-        self.rng = rng
+    def __init__(self, rng, version=2):
+        self.rng, self.version = rng, version
+        self.weights = {word: of for word, of in FORM_WEIGHTS.items() if version == 2 or word not in NEW_FORMS}
 
     def chance(self, of):
         return self.rng.random() < of
@@ -204,7 +215,7 @@ class Maker:
         return self.fitted(given, (into, tree, output), output, UNIT_SCOPE)
 
     def word(self):
-        return self.rng.choices(list(FORM_WEIGHTS), list(FORM_WEIGHTS.values()))[0]
+        return self.rng.choices(list(self.weights), list(self.weights.values()))[0]
 
     def of_form(self, word, given, output, scope, size):
         """A network that begins with this word, with the types that it has, which are these where that can be."""
@@ -264,6 +275,12 @@ class Maker:
         kept = self.rng.choice(["Int", output, self.type(2)])
         inner = self.network(pair(given, kept), pair(output, kept), scope, size)
         return given, ("loopPre", self.constant(kept, scope), inner), output
+
+    def form_first_output(self, given, output, scope, size):
+        return given, ("-->", self.constant(output, scope), self.network(given, output, scope, size)), output
+
+    def form_first_input(self, given, output, scope, size):
+        return given, (">--", self.constant(given, scope), self.network(given, output, scope, size)), output
 
     def form_iPre(self, given, _output, scope, _size):
         return given, ("iPre", self.constant(given, scope)), given
@@ -333,11 +350,42 @@ class Maker:
         return given, ("dSwitch", *self.switch_parts(given, output, scope, size)), output
 
     def form_rSwitch(self, given, output, scope, size):
-        if not (is_form("Pair", given) and is_form("Event", given[2])):
-            given = pair(given, event(self.type(2)))
+        return self.recurring("rSwitch", given, output, scope, size)
+
+    def form_drSwitch(self, given, output, scope, size):
+        return self.recurring("drSwitch", given, output, scope, size)
+
+    def recurring(self, word, given, output, scope, size):
+        given = self.with_event(given)
         _, sample, (_, value) = given
         f = self.part_of(sample, output, scope, size)
-        return given, ("rSwitch", f, self.part_of(sample, output, scope.with_param(value), size)), output
+        return given, (word, f, self.part_of(sample, output, scope.with_param(value), size)), output
+
+    def with_event(self, given):
+        """A type of pairs of a sample and an event: the given one where it is so."""
+        is_so = is_form("Pair", given) and is_form("Event", given[2])
+        return given if is_so else pair(given, event(self.type(2)))
+
+    def form_rpSwitchB(self, given, output, scope, size):
+        given = self.with_event(given)
+        _, sample, (_, value) = given
+        first, member = self.remembering(sample, output[1] if is_form("List", output) else output, scope, size)
+        members = [first, *self.members(sample, member, scope, size - 1)][:64]
+        started = self.type(2)
+        t = self.part_of(sample, member, scope.with_param(started), size)
+        return given, ("rpSwitchB", ("col", *members), self.choosing(value, started, scope), t), list_of(member)
+
+    def choosing(self, value, started, scope):
+        """What an event keeps and starts: often members that are there, more than once or in another order."""
+        way = self.rng.choice(["some", "some", "some", "any", "value"])
+        if way == "any":
+            return self.expression(value, pair(list_of("Int"), list_of(started)), scope)
+        count = self.rng.choice([0, 1, 2, 3, 4]) if self.chance(0.97) else 70
+        numbers = [self.rng.choice([0, 0, 1, 1, 2, 3, self.number()]) for _ in range(count)]
+        if way == "value":
+            numbers = [self.expression(value, "Int", scope, 1) if self.chance(0.5) else number for number in numbers]
+        values = [self.expression(value, started, scope, 1) for _ in range(self.rng.choice([0, 0, 1, 1, 2]))]
+        return ("pair", ("list", "Int", *numbers), ("list", started, *values))
 
     def form_kSwitch(self, given, output, scope, size):
         value = self.type(2)
@@ -414,7 +462,9 @@ class Maker:
     # ---- texts
 
     def spaced(self, text):
-        """The text of a file with other space between its tokens, and comments."""
+        """The text of a file with other space between its tokens, and comments; with nothing new in it sometimes of version 2."""
+        if self.version == 2 and self.chance(0.2):
+            text = text.replace("yampa 1", "yampa 2", 1).replace("laws 1", "laws 2", 1)
         if self.chance(0.5):
             return text.encode()
         gaps = [" ", " ", " ", "\n", "\t", "\r\n", "  ", " ; a comment ( \n", ";\n"]

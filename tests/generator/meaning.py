@@ -249,21 +249,65 @@ def switch(model, net, env, xs):
     return firsts(pairs)[: n + 1] + after_it[1:]
 
 
+def pieces(xs):
+    """The list cut before each sample with an event: each piece without its events, with the event's value, None before the first."""
+    cuts = [n for n, (_, x) in enumerate(xs) if x[2] != "none"]
+    samples = with_steps(xs, firsts(values(xs)))
+    values_of_events = [None, *[xs[n][1][2][1] for n in cuts]]
+    return list(zip(values_of_events, [samples[a:b] for a, b in zip([0, *cuts], [*cuts, len(xs)])]))
 
 
 def recurring(model, net, env, xs):
-    """The list is cut before each sample with an event, and each piece runs by itself."""
+    """Each piece runs by itself."""
     _, f, t = net
-    cuts = [n for n, (_, x) in enumerate(xs) if x[2] != "none"]
     found = []
-    for start, end in zip([0, *cuts], [*cuts, len(xs)]):
-        piece = xs[start:end]
-        samples = with_steps(piece, firsts(values(piece)))
-        if start in cuts and piece:
+    for happened, piece in pieces(xs):
+        if happened is None:
+            found += model.outputs(f, env, piece)
+        else:
             model.fired["rSwitch"] += 1
-            found += model.outputs(t, env.with_param(piece[0][1][2][1]), samples)
-        elif samples:
+            found += model.outputs(t, env.with_param(happened), piece)
+    return found
+
+
+def late_recurring(model, net, env, xs):
+    """Each piece runs by itself, with the first sample of the next one; what a new one first outputs isn't heard."""
+    _, f, t = net
+    cut = pieces(xs)
+    found = []
+    for (happened, piece), (_, behind) in zip(cut, [*cut[1:], (None, [])]):
+        samples = piece + behind[:1]
+        if happened is None:
             found += model.outputs(f, env, samples)
+        else:
+            model.fired["drSwitch"] += 1
+            found += model.outputs(t, env.with_param(happened), samples)[1:]
+    return found
+
+
+def first_output(model, net, env, xs):
+    _, c, f = net
+    return ([const(c, env)] if xs else []) + model.outputs(f, env, xs)[1:]
+
+
+def first_input(model, net, env, xs):
+    _, c, f = net
+    return model.outputs(f, env, [(step, x if n else const(c, env)) for n, (step, x) in enumerate(xs)])
+
+
+def choosing(model, net, env, xs):
+    """Members are networks, each with an environment and its past; before each piece its event chooses among them."""
+    _, (_, *written), m, t = net
+    members, found = [(f, env, []) for f in written], []
+    for happened, piece in pieces(xs):
+        if happened is not None:
+            model.fired["rpSwitchB"] += 1
+            _, (_, *numbers), (_, *started) = value(m, env.params, happened)
+            kept = [members[number] for number in numbers if 0 <= number < len(members)]
+            members = (kept + [(t, env.with_param(v), []) for v in started])[:64]
+        rows = [model.outputs(f, e, past + piece)[len(past) :] for f, e, past in members]
+        found += [("list", *[row[n] for row in rows]) for n in range(len(piece))]
+        members = [(f, e, past + piece) for f, e, past in members]
     return found
 
 
@@ -318,4 +362,8 @@ MEANINGS = {
     "kSwitch": freezing,
     "pSwitch": collection,
     "old": old,
+    "-->": first_output,
+    ">--": first_input,
+    "drSwitch": late_recurring,
+    "rpSwitchB": choosing,
 }

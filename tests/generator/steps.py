@@ -13,7 +13,7 @@ from generator.laws import (
     seq,
     taken,
 )
-from generator.texts import LAWS, Step
+from generator.texts import LAWS, NEW_LAWS, Step
 from generator.trees import at, children, expanded, head, is_literal, is_network, preorder, replaced
 from generator.typed import ExpressionFault, ExpressionWalk, Scope, check_types, event, is_form, list_of, pair
 
@@ -243,7 +243,12 @@ class LeftSides:
             return given, seq(ready, ("rSwitch", self.n(between, output), self.n(between, output, inner))), output
         both = pair(given, event(value_type))
         parts = [self.n(given, between), self.n(given, between, inner)]
-        return both, seq(("rSwitch", *parts), arr(self.e(between, output))), output
+        return both, seq(("rSwitch" if law == "L36" else "drSwitch", *parts), arr(self.e(between, output))), output
+
+    def opening_side(self, law, given, output):
+        if law == "L43":
+            return given, ("-->", self.c(output), ("-->", self.c(output), self.n(given, output))), output
+        return given, (">--", self.c(given), arr(self.e(given, output))), output
 
     def freezing_side(self, law, given, output):
         value_type = self.t()
@@ -263,6 +268,12 @@ class LeftSides:
             members = ("col", *[self.n(between, member) for _ in range(count)])
             made = ("pSwitch", self.e(pair(given, "Int"), between), members, arr(("none", "Int")), t)
             return given, made, list_of(member)
+        if law == "L46":
+            members, value_type, started = [self.n(between, member) for _ in range(count)], self.t(), self.t()
+            m = self.e(value_type, pair(list_of("Int"), list_of(started)))
+            ready = arr(("pair", self.e(given, between), ("none", value_type)))
+            t = self.n(between, member, self.scope.with_param(started))
+            return given, seq(ready, ("rpSwitchB", ("col", *members), m, t)), list_of(member)
         if law == "L40":
             members = [self.n(given, output) for _ in range(count)]
             choice = ("nth", "x", self.rng.randrange(count), self.e(list_of(output), output))
@@ -297,9 +308,10 @@ NETWORK_SIDES = sides(
     event_side="L18 L19 L20 L21 L22",
     mapped_side="L23 L24",
     switch_side="L27 L28 L29 L30 L31 L32 L33 L34",
-    recurring_side="L35 L36",
+    recurring_side="L35 L36 L45",
+    opening_side="L43 L44",
     freezing_side="L37 L38",
-    members_side="L39 L40 L41 L42",
+    members_side="L39 L40 L41 L42 L46",
 )
 
 
@@ -308,6 +320,8 @@ class StepMaker:
 
     def __init__(self, maker):
         self.maker, self.rng = maker, maker.rng
+        self.laws_by_word = laws_by_word([law for law in LAWS if maker.version == 2 or law not in NEW_LAWS])
+        self.network_growths = NETWORK_GROWTHS + ["L43", "L44", "L46"] * (maker.version == 2)
 
     def with_left_side(self, typed, law):
         """A network with a left side of the law at a random place of this one, and the position of that side."""
@@ -351,7 +365,7 @@ class StepMaker:
         net, found = typed.places[()].tree, []
         for position, tree in preorder(net):
             olds = len(typed.places[position].scope.olds)
-            laws = LAWS_BY_WORD.get(head(tree), [])
+            laws = self.laws_by_word.get(head(tree), [])
             found += [Step(law, "forward", position) for law in laws if forward(law, tree, olds) is not None]
         return found
 
@@ -359,7 +373,7 @@ class StepMaker:
         """A step backward from any place to a larger tree, or None."""
         position, tree = self.rng.choice(list(preorder(typed.places[()].tree)))
         place = typed.places[position]
-        law = self.rng.choice(NETWORK_GROWTHS if is_network(tree) else EXPRESSION_GROWTHS)
+        law = self.rng.choice(self.network_growths if is_network(tree) else EXPRESSION_GROWTHS)
         given = self.grown(law, tree, place)
         return None if given is None else Step(law, "backward", position, expanded(given))
 
@@ -446,6 +460,15 @@ class StepMaker:
                 return seq(("parB", tree, n()), arr(("nth", "x", 0, e(place.output, list_of(place.output)))))
             case "L42", ("parB", *members) if all(head(member) == "arr" for member in members):
                 return arr(("list", place.output[1], *[member[1] for member in members]))
+            case "L43", ("-->", c, f):
+                return ("-->", c, ("-->", self.maker.constant(place.output, place.scope), f))
+            case "L44", ("-->", ("then", c, f), ("arr", g)) if f == g:
+                return (">--", c, arr(f))
+            case "L46", (">>>", ("arr", f), ("parB", *members)):
+                between = output_of(f, place)
+                m = ("pair", ("list", "Int", self.maker.number()), ("list", t))
+                started = between and n(given=between, output=place.output[1], scope=inner)
+                return between and seq(arr(("pair", f, ("none", "Int"))), ("rpSwitchB", ("col", *members), m, started))
         return None
 
     def ill_typed_step(self, typed):
@@ -526,6 +549,5 @@ def turned(step, before):
     return Step(step.law, "backward", step.position, at(before.places[()].tree, step.position))
 
 
-LAWS_BY_WORD = laws_by_word(LAWS)
 NETWORK_GROWTHS = "L1 L2 L3 L5 L13 L17 L18 L20 L25 L31 L32 L35 L37 L38 L40 L42".split()
 EXPRESSION_GROWTHS = "E1 E2 E3 E6 E7 E8 E9 E10 E11 E12 E13 E14 E15 E16 E17 E18".split()

@@ -11,10 +11,12 @@ from generator.trees import (
     NETWORK_SUGAR,
     NETWORK_SUGAR_WORDS,
     NETWORK_WORDS,
+    NEW_FORMS,
     NUMBERS,
     TYPE_FORMS,
     TYPE_WORDS,
     expanded,
+    is_new,
     shown,
 )
 from generator.typed import at_text
@@ -22,7 +24,8 @@ from generator.typed import at_text
 FILE_BYTES = 1_048_576
 LINE_BYTES = 65_536
 OPEN = 600
-LAWS = [f"E{k}" for k in range(1, 19)] + [f"L{k}" for k in range(1, 43)]
+LAWS = [f"E{k}" for k in range(1, 19)] + [f"L{k}" for k in range(1, 47)]
+NEW_LAWS = ["L43", "L44", "L45", "L46"]
 
 
 class TextFault(Exception):
@@ -47,7 +50,7 @@ class Step:
 
 
 def network_text(input_type, net):
-    return f"yampa 1\ninput {shown(input_type)}\n{shown(net)}\n"
+    return f"yampa {2 if is_new(net) else 1}\ninput {shown(input_type)}\n{shown(net)}\n"
 
 
 def step_text(step):
@@ -56,7 +59,8 @@ def step_text(step):
 
 
 def certificate_text(steps):
-    return "".join(line + "\n" for line in ["laws 1", *map(step_text, steps)])
+    version = 2 if any(step.law in NEW_LAWS or is_new(step.given) for step in steps) else 1
+    return "".join(line + "\n" for line in [f"laws {version}", *map(step_text, steps)])
 
 
 # ---- networks and certificates
@@ -67,6 +71,7 @@ SORTS = {
     "E": (EXPRESSION_WORDS, {**EXPRESSION_FORMS, **EXPRESSION_SUGAR}),
     "N": (NETWORK_WORDS + NETWORK_SUGAR_WORDS, {**NETWORK_FORMS, **NETWORK_SUGAR}),
 }
+VERSIONS = {"1": NEW_FORMS + NEW_LAWS, "2": []}
 
 
 def tokens_of(text):
@@ -85,6 +90,7 @@ class Reader:
         self.length = len(text)
         self.read = 0
         self.open = 0
+        self.missing = []
 
     def refuse(self, why="syntax"):
         """Refuses the token that was taken last."""
@@ -111,14 +117,17 @@ class Reader:
 
     def take_one_of(self, words):
         token = self.take()
-        if token not in words:
+        if token not in words or token in self.missing:
             self.refuse()
         return token
 
-    def header(self, *words):
-        if [token for token, _ in self.tokens[: len(words)]] != list(words):
+    def header(self, before, *behind):
+        """Takes the words before the version, the version and those behind it; what the version lacks isn't read from there on."""
+        found = [token for token, _ in self.tokens[: 2 + len(behind)]]
+        if len(found) < 2 + len(behind) or [found[0], *found[2:]] != [before, *behind] or found[1] not in VERSIONS:
             raise TextFault("header")
-        self.read = len(words)
+        self.read = len(found)
+        self.missing = VERSIONS[found[1]]
 
     def number(self, token, place):
         if not re.fullmatch(r"-?[0-9]+", token):
@@ -177,7 +186,7 @@ class Reader:
 def read_network(text):
     """The input type and the network in core forms."""
     reader = Reader(text)
-    reader.header("yampa", "1", "input")
+    reader.header("yampa", "input")
     input_type, net = reader.tree("T"), reader.tree("N")
     if not reader.ended():
         reader.take()
@@ -187,7 +196,7 @@ def read_network(text):
 
 def read_certificate(text):
     reader = Reader(text)
-    reader.header("laws", "1")
+    reader.header("laws")
     steps = []
     while not reader.ended():
         steps.append(reader.step())

@@ -51,7 +51,14 @@ NETWORK_FORMS = {
     "kSwitch": ["N", "N", "N"],
     "pSwitch": ["E", "col", "N", "N"],
     "old": ["level"],
+    "-->": ["E", "N"],
+    ">--": ["E", "N"],
+    "drSwitch": ["N", "N"],
+    "rpSwitchB": ["col", "E", "N"],
 }
+# The forms that only files of version 2 have, and where the forms with members have their list.
+NEW_FORMS = ["-->", ">--", "drSwitch", "rpSwitchB"]
+COLLECTIONS = {"pSwitch": 2, "rpSwitchB": 1}
 NETWORK_SUGAR_WORDS = ["identity", "edge"]
 NETWORK_SUGAR = {
     "constant": ["E"],
@@ -93,6 +100,11 @@ def is_network(tree):
     return head(tree) in NETWORK_FORMS or tree in NETWORK_WORDS
 
 
+def is_new(tree):
+    """Whether a form of version 2 stands in the tree."""
+    return isinstance(tree, tuple) and (tree[0] in NEW_FORMS or any(map(is_new, tree[1:])))
+
+
 def is_literal(tree):
     return isinstance(tree, int) or tree in ("unit", "true", "false")
 
@@ -104,7 +116,7 @@ def child_places(tree):
     """For each child by its number, the indices that lead to it in the tuple."""
     if not isinstance(tree, tuple):
         return []
-    return places_in(tree[0], len(tree), len(tree[2]) if tree[0] == "pSwitch" else 0)
+    return places_in(tree[0], len(tree), len(tree[COLLECTIONS[tree[0]]]) if tree[0] in COLLECTIONS else 0)
 
 
 @lru_cache(maxsize=None)

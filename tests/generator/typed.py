@@ -381,6 +381,31 @@ def collection_node(node):
     return output
 
 
+def first_output_node(node):
+    kept = node.expression(0, "Unit")
+    output = node.network(1, node.input)
+    node.need(output == kept, "types differ")
+    return output
+
+
+def first_input_node(node):
+    node.need(node.expression(0, "Unit") == node.input, "types differ")
+    return node.network(1, node.input)
+
+
+def choosing_node(node):
+    count = len(node.tree[1]) - 1
+    node.need(1 <= count <= MEMBERS, "members")
+    sample, happening = node.pair_of(node.input)
+    value = node.event_of(happening)
+    member = node.members(sample, 0, count)
+    choice = node.expression(count, value)
+    node.need(is_form("Pair", choice) and choice[1] == list_of("Int") and is_form("List", choice[2]), "types differ", count)
+    scope = node.scope.with_param(choice[2][1])
+    node.need(node.network(count + 1, sample, scope) == member, "types differ", count + 1)
+    return list_of(member)
+
+
 def old_node(node):
     level = node.tree[1]
     node.need(level < len(node.scope.olds), "no old")
@@ -409,30 +434,42 @@ NODES = {
     "kSwitch": freezing_node,
     "pSwitch": collection_node,
     "old": old_node,
+    "-->": first_output_node,
+    ">--": first_input_node,
+    "drSwitch": recurring_node,
+    "rpSwitchB": choosing_node,
 }
 
 
 def measure(net, node, olds=()):
-    """The weight or the height of a network: `node` joins the measures of the child networks of one."""
+    """The weight or the height of a network: `node` joins the measures of the child networks of one, of this word."""
+    word = head(net)
     match net:
         case ("old", level):
-            return node([olds[level]])
+            return node(word, [olds[level]])
         case ("kSwitch", f, e, t):
             frozen = measure(f, node, olds)
-            return node([frozen, measure(e, node, olds), measure(t, node, (*olds, frozen))])
+            return node(word, [frozen, measure(e, node, olds), measure(t, node, (*olds, frozen))])
         case ("pSwitch", _, (_, *members), e, t):
             frozen = [measure(member, node, olds) for member in members]
-            return node([*frozen, measure(e, node, olds), measure(t, node, (*olds, *frozen))])
+            return node(word, [*frozen, measure(e, node, olds), measure(t, node, (*olds, *frozen))])
     parts = [child for child in children(net) if head(child) in NODES]
-    return node([measure(part, node, olds) for part in parts])
+    return node(word, [measure(part, node, olds) for part in parts])
+
+
+def node_weight(word, parts):
+    """A part counts as often as it may run in one sample: what a `drSwitch` starts twice, the greatest of an `rpSwitchB` 64 times."""
+    if word == "drSwitch":
+        return 1 + parts[0] + 2 * parts[1]
+    return 1 + (MEMBERS * max(parts) if word == "rpSwitchB" else sum(parts))
 
 
 def weight(net):
-    return measure(net, lambda parts: 1 + sum(parts))
+    return measure(net, node_weight)
 
 
 def height(net):
-    return measure(net, lambda parts: 1 + max(parts, default=0))
+    return measure(net, lambda _word, parts: 1 + max(parts, default=0))
 
 
 def check_types(input_type, net):
