@@ -4,7 +4,7 @@ use Rattle.std.proofs.lemmas.Bool.Decides.{Decides-eqb}
 use Rattle.leaf_core.specs.Expression.{Expression}
 use Rattle.leaf_core.specs.ExpressionCode.{expression_code}
 use Rattle.leaf_core.specs.EqualityByCode.{same_by, same_by_decides}
-use Rattle.net_syntax.specs.Network.{Network, arr, seq, first, loop_pre, i_pre, delay, hold, accum_by, after, repeatedly, switch, d_switch, r_switch, k_switch}
+use Rattle.net_syntax.specs.Network.{Network, arr, seq, first, loop_pre, initial_out, initial_in, i_pre, delay, hold, accum_by, after, repeatedly, switch, d_switch, r_switch, dr_switch, k_switch}
 use Rattle.net_syntax.specs.NetworkCode.{network_code}
 use Rattle.law_patterns.specs.declared.sym.Sym.{Sym}
 use Rattle.law_patterns.specs.declared.net_sym.NetLetter.{NetLetter}
@@ -81,12 +81,12 @@ accum-made p r y a s fs (Some d) h q c =
     leaf-made (accum_by d) y r a s fs (leaf_step p d (net_matching fs s)) (filled a.exprs r) refl
     (leaf-complete p a d fs (net_matching fs s) q (s, refl, c)) (h d)
 
-loop-made : (p : List Sym) (y : NetSym) (a : NetAssignment) (s : NetFound) (fs : List (Network Expression)) (w : Option Expression)
-    → ((e : Expression) (f : Network Expression) (gs : List (Network Expression)) → net_step y (net_matching (loop_pre e f ∷ gs) s) ≡ leaf_step p e (net_matching (f ∷ gs) s))
-    → filled a.exprs p ≡ w → NetAgrees a s → FitsMade y a s fs (leaf_around loop_pre w fs)
-loop-made p y a s fs None h q c = tt
-loop-made p y a s [] (Some e) h q c = tt
-loop-made p y a s (f ∷ fs) (Some e) h q c =
+fed-made : (form : Expression → Network Expression → Network Expression) (p : List Sym) (y : NetSym) (a : NetAssignment) (s : NetFound) (fs : List (Network Expression)) (w : Option Expression)
+    → ((e : Expression) (f : Network Expression) (gs : List (Network Expression)) → net_step y (net_matching (form e f ∷ gs) s) ≡ leaf_step p e (net_matching (f ∷ gs) s))
+    → filled a.exprs p ≡ w → NetAgrees a s → FitsMade y a s fs (leaf_around form w fs)
+fed-made form p y a s fs None h q c = tt
+fed-made form p y a s [] (Some e) h q c = tt
+fed-made form p y a s (f ∷ fs) (Some e) h q c =
     let r = leaf-complete p a e (f ∷ fs) (net_matching (f ∷ fs) s) q (s, refl, c) in
     (r.0, h e f fs ∙ r.1, r.2)
 
@@ -99,12 +99,15 @@ fits-put (S.Delay p) a s fs c = leaf-made (delay a.q) (S.Delay p) p.now a s fs (
 fits-put (S.After p) a s fs c = leaf-made (after a.q) (S.After p) p.now a s fs (number_bound s.q a.q fs s) (filled a.exprs p.now) refl (number-complete s.q a fs s c.q c) (λ e. refl)
 fits-put (S.Repeatedly p) a s fs c = leaf-made (repeatedly a.q) (S.Repeatedly p) p.now a s fs (number_bound s.q a.q fs s) (filled a.exprs p.now) refl (number-complete s.q a fs s c.q c) (λ e. refl)
 fits-put (S.AccumBy p r) a s fs c = accum-made p.now r.now (S.AccumBy p r) a s fs (filled a.exprs p.now) (λ d e. refl) refl c
-fits-put (S.LoopPre p) a s fs c = loop-made p.now (S.LoopPre p) a s fs (filled a.exprs p.now) (λ e f gs. refl) refl c
+fits-put (S.LoopPre p) a s fs c = fed-made loop_pre p.now (S.LoopPre p) a s fs (filled a.exprs p.now) (λ e f gs. refl) refl c
+fits-put (S.InitialOut p) a s fs c = fed-made initial_out p.now (S.InitialOut p) a s fs (filled a.exprs p.now) (λ e f gs. refl) refl c
+fits-put (S.InitialIn p) a s fs c = fed-made initial_in p.now (S.InitialIn p) a s fs (filled a.exprs p.now) (λ e f gs. refl) refl c
 fits-put S.First a s (f ∷ fs) c = (s, refl, c)
 fits-put S.Seq a s (f ∷ g ∷ fs) c = (s, refl, c)
 fits-put S.Switch a s (f ∷ g ∷ fs) c = (s, refl, c)
 fits-put S.DSwitch a s (f ∷ g ∷ fs) c = (s, refl, c)
 fits-put S.RSwitch a s (f ∷ g ∷ fs) c = (s, refl, c)
+fits-put S.DrSwitch a s (f ∷ g ∷ fs) c = (s, refl, c)
 fits-put S.KSwitch a s (f ∷ g ∷ h ∷ fs) c = (s, refl, c)
 fits-put _ a s _ c = tt
 
@@ -228,12 +231,12 @@ accum-writes y p o d e a fs gs s r put q c =
     let h = from-matching fs gs s l.0 l.1 in
     (put ∙ (λ j. leaves_before accum_by (l.2 j) (k.2 j) gs) ∙ ap (λ x. Some (accum_by d e ∷ x)) (sym h.0), subst (NetAgrees a) (sym h.1) l.3)
 
-loop-writes : (y : NetSym) (p : List Sym) (e : Expression) (f : Network Expression) (a : NetAssignment) (fs gs : List (Network Expression)) (s r : NetFound)
-    → ((hs : List (Network Expression)) → net_put_before a y hs ≡ leaf_around loop_pre (filled a.exprs p) hs) → leaf_step p e (net_matching (f ∷ fs) s) ≡ net_matching gs r → NetAgrees a r → Writes a y gs (loop_pre e f ∷ fs) s
-loop-writes y p e f a fs gs s r put q c =
+fed-writes : (form : Expression → Network Expression → Network Expression) (y : NetSym) (p : List Sym) (e : Expression) (f : Network Expression) (a : NetAssignment) (fs gs : List (Network Expression)) (s r : NetFound)
+    → ((hs : List (Network Expression)) → net_put_before a y hs ≡ leaf_around form (filled a.exprs p) hs) → leaf_step p e (net_matching (f ∷ fs) s) ≡ net_matching gs r → NetAgrees a r → Writes a y gs (form e f ∷ fs) s
+fed-writes form y p e f a fs gs s r put q c =
     let l = leaf-sound p e a (net_matching (f ∷ fs) s) gs r q c in
     let h = from-matching (f ∷ fs) gs s l.0 l.1 in
-    (ap (net_put_before a y) (sym h.0) ∙ put (f ∷ fs) ∙ ap (λ w. leaf_around loop_pre w (f ∷ fs)) l.2, subst (NetAgrees a) (sym h.1) l.3)
+    (ap (net_put_before a y) (sym h.0) ∙ put (f ∷ fs) ∙ ap (λ w. leaf_around form w (f ∷ fs)) l.2, subst (NetAgrees a) (sym h.1) l.3)
 
 -- a symbol writes what it has met
 met-sound : (y : NetSym) (n : Network Expression) (a : NetAssignment) (fs gs : List (Network Expression)) (s r : NetFound) → net_met y n fs s ≡ net_matching gs r → NetAgrees a r → Writes a y gs (n ∷ fs) s
@@ -245,12 +248,15 @@ met-sound (S.Delay p) (delay n e) a fs gs s r q c = timed-writes delay (S.Delay 
 met-sound (S.After p) (after n e) a fs gs s r q c = timed-writes after (S.After p) p.now n e a fs gs s r refl q c
 met-sound (S.Repeatedly p) (repeatedly n e) a fs gs s r q c = timed-writes repeatedly (S.Repeatedly p) p.now n e a fs gs s r refl q c
 met-sound (S.AccumBy p o) (accum_by d e) a fs gs s r q c = accum-writes (S.AccumBy p o) p.now o.now d e a fs gs s r refl q c
-met-sound (S.LoopPre p) (loop_pre e f) a fs gs s r q c = loop-writes (S.LoopPre p) p.now e f a fs gs s r (λ hs. refl) q c
+met-sound (S.LoopPre p) (loop_pre e f) a fs gs s r q c = fed-writes loop_pre (S.LoopPre p) p.now e f a fs gs s r (λ hs. refl) q c
+met-sound (S.InitialOut p) (initial_out e f) a fs gs s r q c = fed-writes initial_out (S.InitialOut p) p.now e f a fs gs s r (λ hs. refl) q c
+met-sound (S.InitialIn p) (initial_in e f) a fs gs s r q c = fed-writes initial_in (S.InitialIn p) p.now e f a fs gs s r (λ hs. refl) q c
 met-sound S.First (first f) a fs gs s r q c = form-sound S.First a (f ∷ fs) (first f ∷ fs) gs s r refl q c
 met-sound S.Seq (seq f g) a fs gs s r q c = form-sound S.Seq a (f ∷ g ∷ fs) (seq f g ∷ fs) gs s r refl q c
 met-sound S.Switch (switch f g) a fs gs s r q c = form-sound S.Switch a (f ∷ g ∷ fs) (switch f g ∷ fs) gs s r refl q c
 met-sound S.DSwitch (d_switch f g) a fs gs s r q c = form-sound S.DSwitch a (f ∷ g ∷ fs) (d_switch f g ∷ fs) gs s r refl q c
 met-sound S.RSwitch (r_switch f g) a fs gs s r q c = form-sound S.RSwitch a (f ∷ g ∷ fs) (r_switch f g ∷ fs) gs s r refl q c
+met-sound S.DrSwitch (dr_switch f g) a fs gs s r q c = form-sound S.DrSwitch a (f ∷ g ∷ fs) (dr_switch f g ∷ fs) gs s r refl q c
 met-sound S.KSwitch (k_switch f g h) a fs gs s r q c = form-sound S.KSwitch a (f ∷ g ∷ h ∷ fs) (k_switch f g h ∷ fs) gs s r refl q c
 met-sound _ _ a fs gs s r q c = never-failed gs r q
 

@@ -2,7 +2,7 @@
 use Rattle.std.proofs.Common.{◌≡◌, ℕ, List, [], ◌∷◌, Option, Some, None, Result, Ok, Err, IfOk, MatchOption, refl, sym, ap, ◌∙◌}
 use Rattle.leaf_core.specs.Expression.{Expression}
 use Rattle.leaf_core.specs.declared.expr.Expr.{Expr}
-use Rattle.net_syntax.specs.Network.{Network, accum_by, loop_pre}
+use Rattle.net_syntax.specs.Network.{Network, accum_by}
 use Rattle.net_syntax.specs.NetworkView.{tree_of}
 use Rattle.net_syntax.specs.declared.net.Net.{Net}
 use Rattle.law_patterns.specs.declared.sym.Sym.{Sym}
@@ -43,14 +43,15 @@ leaves-alike (Some d) (Some e) v' w' xs ys b c h = leaf-alike (accum_by d) (accu
 leaves-alike None (Some e) v' w' xs ys b c h = absurd b
 leaves-alike (Some d) None v' w' xs ys b c h = absurd b
 
-around-alike : (v w : Option Expression) (xs ys : List (Network Expression)) → BothOrNone v w → SameLength xs ys → SameLengths (leaf_around loop_pre v xs) (leaf_around loop_pre w ys)
-around-alike None None xs ys b h = tt
-around-alike (Some d) (Some e) [] [] b h = tt
-around-alike (Some d) (Some e) (x ∷ xs) (y ∷ ys) b h = h
-around-alike (Some d) (Some e) [] (y ∷ ys) b h = absurd h
-around-alike (Some d) (Some e) (x ∷ xs) [] b h = absurd h
-around-alike None (Some e) xs ys b h = absurd b
-around-alike (Some d) None xs ys b h = absurd b
+around-alike : (form : Expression → Network Expression → Network Expression) (v w : Option Expression) (xs ys : List (Network Expression)) → BothOrNone v w → SameLength xs ys
+    → SameLengths (leaf_around form v xs) (leaf_around form w ys)
+around-alike form None None xs ys b h = tt
+around-alike form (Some d) (Some e) [] [] b h = tt
+around-alike form (Some d) (Some e) (x ∷ xs) (y ∷ ys) b h = h
+around-alike form (Some d) (Some e) [] (y ∷ ys) b h = absurd h
+around-alike form (Some d) (Some e) (x ∷ xs) [] b h = absurd h
+around-alike form None (Some e) xs ys b h = absurd b
+around-alike form (Some d) None xs ys b h = absurd b
 
 put-alike : (y : NetSym) (a b : NetAssignment) (xs ys : List (Network Expression)) → SameLength xs ys → SameLengths (net_put_before a y xs) (net_put_before b y ys)
 put-alike (S.Letter k) a b xs ys h = h
@@ -62,12 +63,15 @@ put-alike (S.After p) a b xs ys h = leaf-alike _ _ _ _ xs ys (filled-both p.now 
 put-alike (S.Repeatedly p) a b xs ys h = leaf-alike _ _ _ _ xs ys (filled-both p.now a.exprs b.exprs) h
 put-alike (S.AccumBy p r) a b xs ys h =
     leaves-alike _ _ _ _ xs ys (filled-both p.now a.exprs b.exprs) (filled-both r.now a.exprs b.exprs) h
-put-alike (S.LoopPre p) a b xs ys h = around-alike _ _ xs ys (filled-both p.now a.exprs b.exprs) h
+put-alike (S.LoopPre p) a b xs ys h = around-alike _ _ _ xs ys (filled-both p.now a.exprs b.exprs) h
+put-alike (S.InitialOut p) a b xs ys h = around-alike _ _ _ xs ys (filled-both p.now a.exprs b.exprs) h
+put-alike (S.InitialIn p) a b xs ys h = around-alike _ _ _ xs ys (filled-both p.now a.exprs b.exprs) h
 put-alike S.First a b (x ∷ xs) (y ∷ ys) h = h
 put-alike S.Seq a b (x ∷ x' ∷ xs) (y ∷ y' ∷ ys) h = h
 put-alike S.Switch a b (x ∷ x' ∷ xs) (y ∷ y' ∷ ys) h = h
 put-alike S.DSwitch a b (x ∷ x' ∷ xs) (y ∷ y' ∷ ys) h = h
 put-alike S.RSwitch a b (x ∷ x' ∷ xs) (y ∷ y' ∷ ys) h = h
+put-alike S.DrSwitch a b (x ∷ x' ∷ xs) (y ∷ y' ∷ ys) h = h
 put-alike S.KSwitch a b (x ∷ x' ∷ x'' ∷ xs) (y ∷ y' ∷ y'' ∷ ys) h = h
 put-alike _ a b [] [] h = tt
 put-alike _ a b (x ∷ []) (y ∷ []) h = tt

@@ -3,7 +3,7 @@ use Rattle.std.proofs.Common.{◌≡◌, ℕ, List, [], ◌∷◌, ◌++◌, Opt
 use Rattle.std.specs.List.{All, Contains}
 use Rattle.std.proofs.lemmas.List.Elements.{All-nil, All-cons, All-head, All-tail, All-weaker, All-contains}
 use Rattle.leaf_core.specs.Expression.{Expression, no_event_expr}
-use Rattle.net_syntax.specs.Network.{Network, arr, loop_pre, i_pre, delay, hold, accum_by, after, repeatedly}
+use Rattle.net_syntax.specs.Network.{Network, arr, loop_pre, initial_out, initial_in, i_pre, delay, hold, accum_by, after, repeatedly}
 use Rattle.law_patterns.specs.declared.sym.Sym.{Sym}
 use Rattle.law_patterns.specs.declared.sym.Sym.TheVariants as S
 use Rattle.law_patterns.specs.declared.net_sym.NetSym.{NetSym}
@@ -120,11 +120,11 @@ leaves-some : (v w : Option Expression) (xs fs : List (Network Expression)) → 
 leaves-some None w xs fs p = absurd (cc)
 leaves-some (Some d) w xs fs p = let l = leaf-some (accum_by d) w xs fs p in (d, l.0, refl, l.1, l.2)
 
-loop-some : (v : Option Expression) (xs fs : List (Network Expression)) → leaf_around loop_pre v xs ≡ Some fs
-    → (e : Expression) × (f : Network Expression) × (ys : List (Network Expression)) × (v ≡ Some e) × (xs ≡ f ∷ ys) × (fs ≡ loop_pre e f ∷ ys)
-loop-some None xs fs p = absurd (cc)
-loop-some (Some e) [] fs p = absurd (cc)
-loop-some (Some e) (f ∷ ys) fs p = (e, f, ys, refl, refl, cc)
+fed-some : (form : Expression → Network Expression → Network Expression) (v : Option Expression) (xs fs : List (Network Expression)) → leaf_around form v xs ≡ Some fs
+    → (e : Expression) × (f : Network Expression) × (ys : List (Network Expression)) × (v ≡ Some e) × (xs ≡ f ∷ ys) × (fs ≡ form e f ∷ ys)
+fed-some form None xs fs p = absurd (cc)
+fed-some form (Some e) [] fs p = absurd (cc)
+fed-some form (Some e) (f ∷ ys) fs p = (e, f, ys, refl, refl, cc)
 
 module _ (a b : NetAssignment) where
   -- both choices give the letter one tree
@@ -189,15 +189,18 @@ module _ (a b : NetAssignment) where
       let e : k.1 ≡ l.1 = cc in
       (cc, every-append NetSame (letters_of p) (letters_of o) (leaf-same p k.0 l.0 k.2 l.2 d) (leaf-same o k.1 l.1 k.3 l.3 e))
 
-  loop-same : (p : List Sym) (xs ys fs : List (Network Expression)) → leaf_around loop_pre (filled a.exprs p) xs ≡ Some fs
-      → leaf_around loop_pre (filled b.exprs p) ys ≡ Some fs → (xs ≡ ys) × Every NetSame (letters_of p)
-  loop-same p xs ys fs v w =
-      let k = loop-some (filled a.exprs p) xs fs v in
-      let l = loop-some (filled b.exprs p) ys fs w in
-      let both : loop_pre k.0 k.1 ∷ k.2 ≡ loop_pre l.0 l.1 ∷ l.2 = sym k.5 ∙ l.5 in
-      let e : k.0 ≡ l.0 = cc in
-      let rest : k.1 ∷ k.2 ≡ l.1 ∷ l.2 = cc in
-      (k.4 ∙ rest ∙ sym l.4, leaf-same p k.0 l.0 k.3 l.3 e)
+  -- a form of an expression and a network, which tells both
+  fed-same : (form : Expression → Network Expression → Network Expression) (p : List Sym) (xs ys fs : List (Network Expression))
+      → ((d e : Expression) (f g : Network Expression) → form d f ≡ form e g → (d ≡ e) × (f ≡ g)) → leaf_around form (filled a.exprs p) xs ≡ Some fs
+      → leaf_around form (filled b.exprs p) ys ≡ Some fs → (xs ≡ ys) × Every NetSame (letters_of p)
+  fed-same form p xs ys fs inj v w =
+      let k = fed-some form (filled a.exprs p) xs fs v in
+      let l = fed-some form (filled b.exprs p) ys fs w in
+      let both : form k.0 k.1 ∷ k.2 ≡ form l.0 l.1 ∷ l.2 = sym k.5 ∙ l.5 in
+      let heads : form k.0 k.1 ≡ form l.0 l.1 = cc in
+      let behind : k.2 ≡ l.2 = cc in
+      let i = inj k.0 l.0 k.1 l.1 heads in
+      (k.4 ∙ (λ j. i.1 j ∷ behind j) ∙ sym l.4, leaf-same p k.0 l.0 k.3 l.3 i.0)
 
   net_put-same : (y : NetSym) (xs ys fs : List (Network Expression)) → net_put_before a y xs ≡ Some fs → net_put_before b y ys ≡ Some fs → NetPutSame y xs ys
   net_put-same (N.Letter k) xs ys fs p q = (cc, ((cc), tt))
@@ -208,12 +211,15 @@ module _ (a b : NetAssignment) where
   net_put-same (N.After o) xs ys fs p q = timed-same after o.now xs ys fs (λ m n d e h. (cc, cc)) p q
   net_put-same (N.Repeatedly o) xs ys fs p q = timed-same repeatedly o.now xs ys fs (λ m n d e h. (cc, cc)) p q
   net_put-same (N.AccumBy o r) xs ys fs p q = accum-same o.now r.now xs ys fs p q
-  net_put-same (N.LoopPre o) xs ys fs p q = loop-same o.now xs ys fs p q
+  net_put-same (N.LoopPre o) xs ys fs p q = fed-same loop_pre o.now xs ys fs (λ d e f g h. (cc, cc)) p q
+  net_put-same (N.InitialOut o) xs ys fs p q = fed-same initial_out o.now xs ys fs (λ d e f g h. (cc, cc)) p q
+  net_put-same (N.InitialIn o) xs ys fs p q = fed-same initial_in o.now xs ys fs (λ d e f g h. (cc, cc)) p q
   net_put-same N.First (x ∷ xs) (y ∷ ys) fs p q = (cc, tt)
   net_put-same N.Seq (x ∷ x' ∷ xs) (y ∷ y' ∷ ys) fs p q = (cc, tt)
   net_put-same N.Switch (x ∷ x' ∷ xs) (y ∷ y' ∷ ys) fs p q = (cc, tt)
   net_put-same N.DSwitch (x ∷ x' ∷ xs) (y ∷ y' ∷ ys) fs p q = (cc, tt)
   net_put-same N.RSwitch (x ∷ x' ∷ xs) (y ∷ y' ∷ ys) fs p q = (cc, tt)
+  net_put-same N.DrSwitch (x ∷ x' ∷ xs) (y ∷ y' ∷ ys) fs p q = (cc, tt)
   net_put-same N.KSwitch (x ∷ x' ∷ x'' ∷ xs) (y ∷ y' ∷ y'' ∷ ys) fs p q = (cc, tt)
   net_put-same _ _ _ fs p q = absurd (cc)
 
@@ -246,6 +252,8 @@ module _ (a b : NetAssignment) where
       leaves_before accum_by (leaf-equal p.now (every-front NetSame (letters_of p.now) (letters_of r.now) h) j)
       (leaf-equal r.now (every-back NetSame (letters_of p.now) (letters_of r.now) h) j) fs
   net_put-equal (N.LoopPre p) (Some fs) h = ap (λ v. leaf_around loop_pre v fs) (leaf-equal p.now h)
+  net_put-equal (N.InitialOut p) (Some fs) h = ap (λ v. leaf_around initial_out v fs) (leaf-equal p.now h)
+  net_put-equal (N.InitialIn p) (Some fs) h = ap (λ v. leaf_around initial_in v fs) (leaf-equal p.now h)
   net_put-equal _ None h = refl
   net_put-equal _ (Some fs) h = refl
 

@@ -5,7 +5,7 @@ use Rattle.leaf_core.specs.Expression.{Expression}
 use Rattle.leaf_core.specs.ExpressionCode.{expression_code}
 use Rattle.leaf_core.specs.EqualityByCode.{same_by}
 use Rattle.leaf_core.specs.declared.expr.Expr.{Expr}
-use Rattle.net_syntax.specs.Network.{Network, arr, seq, first, loop_pre, i_pre, delay, hold, accum_by, after, repeatedly, time, switch, d_switch, r_switch, k_switch}
+use Rattle.net_syntax.specs.Network.{Network, arr, seq, first, loop_pre, initial_out, initial_in, i_pre, delay, hold, accum_by, after, repeatedly, time, switch, d_switch, r_switch, dr_switch, k_switch}
 use Rattle.net_syntax.specs.NetworkCode.{network_code}
 use Rattle.net_syntax.specs.NetworkView.{tree_of}
 use Rattle.net_syntax.specs.declared.net.Net.{Net}
@@ -101,11 +101,14 @@ net_met (S.Repeatedly p) (repeatedly q e) fs s = leaf_step p.now e (number_bound
 net_met (S.AccumBy p r) (accum_by g z) fs s =
     leaf_step r.now z (leaf_step p.now g (net_matching fs s))
 net_met (S.LoopPre p) (loop_pre c f) fs s = leaf_step p.now c (net_matching (f ∷ fs) s)
+net_met (S.InitialOut p) (initial_out c f) fs s = leaf_step p.now c (net_matching (f ∷ fs) s)
+net_met (S.InitialIn p) (initial_in c f) fs s = leaf_step p.now c (net_matching (f ∷ fs) s)
 net_met S.First (first f) fs s = net_matching (f ∷ fs) s
 net_met S.Seq (seq f g) fs s = net_matching (f ∷ g ∷ fs) s
 net_met S.Switch (switch f g) fs s = net_matching (f ∷ g ∷ fs) s
 net_met S.DSwitch (d_switch f g) fs s = net_matching (f ∷ g ∷ fs) s
 net_met S.RSwitch (r_switch f g) fs s = net_matching (f ∷ g ∷ fs) s
+net_met S.DrSwitch (dr_switch f g) fs s = net_matching (f ∷ g ∷ fs) s
 net_met S.KSwitch (k_switch f g h) fs s = net_matching (f ∷ g ∷ h ∷ fs) s
 net_met _ _ fs s = net_failed
 

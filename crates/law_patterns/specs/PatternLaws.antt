@@ -41,6 +41,8 @@ net_letters_in (N.After p) = of_number ∷ letters_of p.now
 net_letters_in (N.Repeatedly p) = of_number ∷ letters_of p.now
 net_letters_in (N.AccumBy p r) = letters_of p.now ++ letters_of r.now
 net_letters_in (N.LoopPre p) = letters_of p.now
+net_letters_in (N.InitialOut p) = letters_of p.now
+net_letters_in (N.InitialIn p) = letters_of p.now
 net_letters_in _ = []
 
 -- the letters that stand in a pattern of networks

@@ -18,7 +18,8 @@ mod todo;
 
 pub use laws::pattern_laws;
 pub use net_sym::{
-    D_SWITCH, FIRST, K_SWITCH, NET_F, NET_G, NET_H, NetLetter, NetSym, R_SWITCH, SEQ, SWITCH,
+    D_SWITCH, DR_SWITCH, FIRST, K_SWITCH, NET_F, NET_G, NET_H, NetLetter, NetSym, R_SWITCH, SEQ,
+    SWITCH,
 };
 pub use rewrite::{rewrite_expr, rewrite_net};
 pub use sym::{

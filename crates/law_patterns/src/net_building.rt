@@ -2,7 +2,8 @@
 
 ghost use Rattle.std.specs.Prelude.{◌≡◌, IfOk, MatchOption, ◌∷◌, Some, None};
 ghost use Rattle.leaf_core.specs.ExpressionView.{expression_of};
-ghost use Rattle.net_syntax.specs.Network.{accum_by, loop_pre, first, k_switch};
+ghost use Rattle.net_syntax.specs.FormView.{fed_tree};
+ghost use Rattle.net_syntax.specs.Network.{accum_by, first, k_switch};
 ghost use Rattle.net_syntax.specs.NetworkView.{tree_of, tree};
 ghost use Rattle.law_patterns.specs.Building.{there};
 ghost use Rattle.law_patterns.specs.Matching.{completed, found_of};
@@ -17,7 +18,7 @@ use crate::net_stack::NetStack;
 use crate::net_sym::NetSym;
 use crate::sym::Sym;
 use leaf_core::Expr;
-use net_syntax::{LeafForm, Net, NetChild, PairForm};
+use net_syntax::{FedForm, LeafForm, Net, NetChild, PairForm};
 use sample_core::Memory;
 use std::alloc::Global;
 
@@ -67,11 +68,12 @@ fn make(
         | NetSym::After(p)
         | NetSym::Repeatedly(p) => make_leaf(alloc, sym, p, letters, stack),
         NetSym::AccumBy(p, r) => make_accum(alloc, p, r, letters, stack),
-        NetSym::LoopPre(p) => make_loop(alloc, p, letters, stack),
+        NetSym::LoopPre(p) => make_fed(alloc, FedForm::LoopPre, p, letters, stack),
+        NetSym::InitialOut(p) => make_fed(alloc, FedForm::InitialOut, p, letters, stack),
+        NetSym::InitialIn(p) => make_fed(alloc, FedForm::InitialIn, p, letters, stack),
         NetSym::First => make_first(alloc, stack),
-        NetSym::Seq | NetSym::Switch | NetSym::DSwitch | NetSym::RSwitch => {
-            make_pair(alloc, sym, stack)
-        }
+        NetSym::Seq | NetSym::Switch | NetSym::DSwitch | NetSym::RSwitch | NetSym::DrSwitch =>
+            make_pair(alloc, sym, stack),
         NetSym::KSwitch => make_freeze(alloc, stack),
     }
 }
@@ -144,23 +146,24 @@ fn make_accum(
     }
 }
 
-/// Puts `loopPre` around the network on top of the stack. Whether it was there, and the pattern is
-/// an expression.
-fn make_loop(
+/// Puts the form of an expression and a network around the network on top of the stack. Whether it
+/// was there, and the pattern is an expression.
+fn make_fed(
     alloc: Global,
+    form: FedForm,
     pattern: &[Sym],
     letters: &NetLetters,
     stack: &mut NetStack,
 ) -> Result<bool, Memory>
     ensures { IfOk result (λ b. there b stack.new
-        ≡ leaf_around loop_pre (filled (completed (nets_found_of letters.now).exprs) pattern.now)
-        stack.old) }
+        ≡ leaf_around (fed_tree form)
+        (filled (completed (nets_found_of letters.now).exprs) pattern.now) stack.old) }
 {
     let Some(c) = build(alloc, pattern, &letters.exprs)? else {
         return Ok(false);
     };
     match stack.pop() {
-        Some(f) => put(alloc, Net::LoopPre(c, f), stack),
+        Some(f) => put(alloc, form.of(c, f), stack),
         None => {
             drop(c);
             Ok(false)
@@ -196,6 +199,7 @@ fn pair(form: NetSym, f: NetChild<Expr>, g: NetChild<Expr>) -> Net<Expr>
         NetSym::Switch => PairForm::Switch.of(f, g),
         NetSym::DSwitch => PairForm::DSwitch.of(f, g),
         NetSym::RSwitch => PairForm::RSwitch.of(f, g),
+        NetSym::DrSwitch => PairForm::DrSwitch.of(f, g),
         _ => PairForm::Seq.of(f, g),
     }
 }

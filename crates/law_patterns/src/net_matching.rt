@@ -76,20 +76,23 @@ fn meet_net<'t>(
         (NetSym::After(p), Net::After(q, c)) => letters.meet_timed(alloc, p, *q, c),
         (NetSym::Repeatedly(p), Net::Repeatedly(q, c)) => letters.meet_timed(alloc, p, *q, c),
         (NetSym::AccumBy(p, r), Net::AccumBy(g, z)) => letters.meet_leaves(alloc, p, r, g, z),
-        (NetSym::LoopPre(p), Net::LoopPre(c, f)) => meet_loop(alloc, p, c, f, todo, letters),
+        (NetSym::LoopPre(p), Net::LoopPre(c, f)) => meet_fed(alloc, p, c, f, todo, letters),
+        (NetSym::InitialOut(p), Net::InitialOut(c, f)) => meet_fed(alloc, p, c, f, todo, letters),
+        (NetSym::InitialIn(p), Net::InitialIn(c, f)) => meet_fed(alloc, p, c, f, todo, letters),
         (NetSym::First, Net::First(f)) => todo.put_one(f),
         (NetSym::Seq, Net::Seq(f, g)) => todo.put_two(f, g),
         (NetSym::Switch, Net::Switch(f, t)) => todo.put_two(f, t),
         (NetSym::DSwitch, Net::DSwitch(f, t)) => todo.put_two(f, t),
         (NetSym::RSwitch, Net::RSwitch(f, t)) => todo.put_two(f, t),
+        (NetSym::DrSwitch, Net::DrSwitch(f, t)) => todo.put_two(f, t),
         (NetSym::KSwitch, Net::KSwitch(f, e, t)) => todo.put_three(f, e, t),
         _ => Ok(false),
     }
 }
 
-/// Matches the parts of `loopPre`: whether the pattern fits the expression; the network is to be
-/// matched next.
-fn meet_loop<'t>(
+/// Matches the parts of a form of an expression and a network: whether the pattern fits the
+/// expression; the network is to be matched next.
+fn meet_fed<'t>(
     alloc: Global,
     pattern: &[Sym],
     c: &'t Expr,

@@ -36,6 +36,10 @@ pub enum NetSym {
     AccumBy(&'static [Sym], &'static [Sym]),
     /// `(loopPre c f)`.
     LoopPre(&'static [Sym]),
+    /// `(--> c f)`.
+    InitialOut(&'static [Sym]),
+    /// `(>-- c f)`.
+    InitialIn(&'static [Sym]),
     /// `(first f)`.
     First,
     /// `(>>> f g)`.
@@ -46,6 +50,8 @@ pub enum NetSym {
     DSwitch,
     /// `(rSwitch f t)`.
     RSwitch,
+    /// `(drSwitch f t)`.
+    DrSwitch,
     /// `(kSwitch f e t)`.
     KSwitch,
 }
@@ -66,5 +72,7 @@ pub const SWITCH: NetSym = NetSym::Switch;
 pub const D_SWITCH: NetSym = NetSym::DSwitch;
 /// `(rSwitch f t)`.
 pub const R_SWITCH: NetSym = NetSym::RSwitch;
+/// `(drSwitch f t)`.
+pub const DR_SWITCH: NetSym = NetSym::DrSwitch;
 /// `(kSwitch f e t)`.
 pub const K_SWITCH: NetSym = NetSym::KSwitch;
