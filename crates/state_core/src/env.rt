@@ -142,7 +142,7 @@ impl<'n> Olds<'n> {
 
 impl<'n> Frozen<'n> {
     /// A copy, whose parts are shared with it. `Memory` where a growth was refused.
-    fn try_copy(&self, alloc: Global) -> Result<Frozen<'n>, Memory>
+    pub(crate) fn try_copy(&self, alloc: Global) -> Result<Frozen<'n>, Memory>
         ensures { IfOk result (λ f. frozen_of f ≡ frozen_of self.now) }
     {
         match self {
