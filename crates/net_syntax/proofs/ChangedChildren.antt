@@ -2,41 +2,52 @@
 use Rattle.std.proofs.Common.{◌≡◌, ℕ, zero, suc, ◌+◌, ◌≤◌, ◌<◌, ◌≢◌, List, [], ◌∷◌, length, set, Some, None, option_map, refl, ap, sym, ◌∙◌, subst, arith}
 use Rattle.leaf_core.specs.Expression.{Expression}
 use Rattle.leaf_core.specs.declared.expr.Expr.{Expr}
-use Rattle.net_syntax.specs.Network.{Network, Networks, arr, seq, first, par, loop_pre, i_pre, delay, hold, accum_by, after, repeatedly, time, integral, switch, d_switch, r_switch, k_switch, p_switch, old, no_members, and_member}
+use Rattle.net_syntax.specs.Network.{Network, Networks, p_switch, no_members, and_member}
 use Rattle.net_syntax.specs.NetworkView.{members_of, tree_of, trees}
 use Rattle.net_syntax.specs.Place.{a_leaf, a_network, p_switch_child}
 use Rattle.net_syntax.specs.Placed.{with_member, with_child, with_p_switch_child}
 use Rattle.net_syntax.specs.ChildParts.{with_behind}
 use Rattle.net_syntax.proofs.ChildNumbers.{below, past}
 use Rattle.net_syntax.specs.declared.net.Net.{Net}
+use Rattle.net_syntax.specs.declared.net.Net.TheVariants as V
 
--- no form has a third expression
-third : (f : Network Expression) (k : ℕ) (s : Expression) → with_child f (suc (suc k)) (a_leaf s) ≡ None
-third (arr e) k s = refl
-third (seq f g) k s = refl
-third (first f) k s = refl
-third (par fs) k s = refl
-third (loop_pre c f) k s = refl
-third (i_pre c) k s = refl
-third (delay q c) k s = refl
-third (hold c) k s = refl
-third (accum_by g z) k s = refl
-third (after q c) k s = refl
-third (repeatedly q c) k s = refl
-third time k s = refl
-third integral k s = refl
-third (switch f t) k s = refl
-third (d_switch f t) k s = refl
-third (r_switch f t) k s = refl
-third (k_switch f e t) zero s = refl
-third (k_switch f e t) (suc k) s = refl
-third (p_switch r fs e t) k s = refl
-third (old j) k s = refl
-
-pub no_third_leaf : (f : Network Expression) (k : ℕ) (s : Expression) → k ≢ 0 → k ≢ 1 → with_child f k (a_leaf s) ≡ None
-no_third_leaf f zero s h i = absurd (h refl)
-no_third_leaf f (suc zero) s h i = absurd (i refl)
-no_third_leaf f (suc (suc k)) s h i = third f k s
+-- no form but `accumBy` and `rpSwitchB` has an expression behind its first child
+pub no_later_leaf : (n : Net Expr) (k : ℕ) (s : Expression) → 0 < k → ((g z : Expr) → n ≢ V.AccumBy g z) → ((fs : Networks Expr) (m : Expr) (t : Network Expr) → n ≢ V.RpSwitch fs m t)
+    → None ≡ with_child (tree_of n) k (a_leaf s)
+no_later_leaf n zero s h ha hr = absurd (omega arith)
+no_later_leaf (V.Arr e) (suc k) s h ha hr = refl
+no_later_leaf (V.Seq f g) (suc zero) s h ha hr = refl
+no_later_leaf (V.Seq f g) (suc (suc k)) s h ha hr = refl
+no_later_leaf (V.First f) (suc k) s h ha hr = refl
+no_later_leaf (V.Par fs) (suc k) s h ha hr = refl
+no_later_leaf (V.LoopPre c f) (suc zero) s h ha hr = refl
+no_later_leaf (V.LoopPre c f) (suc (suc k)) s h ha hr = refl
+no_later_leaf (V.IPre c) (suc k) s h ha hr = refl
+no_later_leaf (V.Delay q c) (suc k) s h ha hr = refl
+no_later_leaf (V.Hold c) (suc k) s h ha hr = refl
+no_later_leaf (V.AccumBy g z) (suc k) s h ha hr = absurd (ha g z refl)
+no_later_leaf (V.After q c) (suc k) s h ha hr = refl
+no_later_leaf (V.Repeatedly q c) (suc k) s h ha hr = refl
+no_later_leaf V.Time (suc k) s h ha hr = refl
+no_later_leaf V.Integral (suc k) s h ha hr = refl
+no_later_leaf (V.Switch f t) (suc zero) s h ha hr = refl
+no_later_leaf (V.Switch f t) (suc (suc k)) s h ha hr = refl
+no_later_leaf (V.DSwitch f t) (suc zero) s h ha hr = refl
+no_later_leaf (V.DSwitch f t) (suc (suc k)) s h ha hr = refl
+no_later_leaf (V.RSwitch f t) (suc zero) s h ha hr = refl
+no_later_leaf (V.RSwitch f t) (suc (suc k)) s h ha hr = refl
+no_later_leaf (V.KSwitch f e t) (suc zero) s h ha hr = refl
+no_later_leaf (V.KSwitch f e t) (suc (suc zero)) s h ha hr = refl
+no_later_leaf (V.KSwitch f e t) (suc (suc (suc k))) s h ha hr = refl
+no_later_leaf (V.PSwitch r fs e t) (suc k) s h ha hr = refl
+no_later_leaf (V.Old j) (suc k) s h ha hr = refl
+no_later_leaf (V.InitialOut c f) (suc zero) s h ha hr = refl
+no_later_leaf (V.InitialOut c f) (suc (suc k)) s h ha hr = refl
+no_later_leaf (V.InitialIn c f) (suc zero) s h ha hr = refl
+no_later_leaf (V.InitialIn c f) (suc (suc k)) s h ha hr = refl
+no_later_leaf (V.DrSwitch f t) (suc zero) s h ha hr = refl
+no_later_leaf (V.DrSwitch f t) (suc (suc k)) s h ha hr = refl
+no_later_leaf (V.RpSwitch fs m t) (suc k) s h ha hr = absurd (hr fs m t refl)
 
 member_set : (all : List (Net Expr)) (k : ℕ) (x : Net Expr) → k < length all
     → with_member (trees (members_of all)) k (tree_of x) ≡ Some (trees (members_of (set all k x)))

@@ -74,7 +74,7 @@ counted [] = refl
 counted (f ∷ fs) = ap suc (counted fs)
 
 -- what stands among the members
-member_here : (all : List (Net Expr)) (k : ℕ) (x : Net Expr) → k < length all → member (trees (members_of all)) k ≡ Some (tree_of (get_or all k x))
+pub member_here : (all : List (Net Expr)) (k : ℕ) (x : Net Expr) → k < length all → member (trees (members_of all)) k ≡ Some (tree_of (get_or all k x))
 member_here [] k x h = absurd (omega arith)
 member_here (f ∷ fs) zero x h = refl
 member_here (f ∷ fs) (suc k) x h = member_here fs k x (omega arith)

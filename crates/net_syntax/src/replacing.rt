@@ -131,7 +131,6 @@ fn with_first_leaf(alloc: Global, net: &Net<Expr>, other: Expr) -> Result<Option
 }
 
 /// The same of a child behind the first.
-#[tactic(auto, using(std::proofs::lemmas::Grind::common_steps, crate::proofs::ChangedChildren::no_later_leaf))]
 fn with_later_leaf(
     alloc: Global,
     net: &Net<Expr>,
@@ -143,7 +142,7 @@ fn with_later_leaf(
         ≡ with_child (tree_of net.now) k (a_leaf (expression_of other))) }
 {
     match net {
-        Net::AccumBy(g, _) if k == 1 => with_start(alloc, g, other),
+        Net::AccumBy(g, _) => with_start(alloc, g, k, other),
         Net::RpSwitch(fs, _, t) => with_choice(other, fs, t, k),
         _ => {
             drop(other);
@@ -152,11 +151,16 @@ fn with_later_leaf(
     }
 }
 
-/// An `accumBy` with the expression as its start.
-fn with_start(alloc: Global, g: &Expr, other: Expr) -> Result<Option<Net<Expr>>, Memory>
-    ensures { IfOk result (λ found. option_map tree_of found
-        ≡ Some (accum_by (expression_of g.now) (expression_of other))) }
+/// An `accumBy` with the expression as child k, behind the first: its start.
+fn with_start(alloc: Global, g: &Expr, k: u32, other: Expr) -> Result<Option<Net<Expr>>, Memory>
+    requires { 0 < k }
+    ensures { (z : Expression) → IfOk result (λ found. option_map tree_of found
+        ≡ with_child (accum_by (expression_of g.now) z) k (a_leaf (expression_of other))) }
 {
+    if k > 1 {
+        drop(other);
+        return Ok(None);
+    }
     match g.try_copy(alloc) {
         Ok(g) => Ok(Some(Net::AccumBy(g, other))),
         Err(refused) => {
