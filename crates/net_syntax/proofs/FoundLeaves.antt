@@ -11,12 +11,12 @@ use Rattle.leaf_core.specs.ExpressionCheck.{type_answer}
 use Rattle.leaf_core.proofs.Exactness.{type_answer-exact}
 use Rattle.net_syntax.specs.ArrowView.{arrow_of}
 use Rattle.net_syntax.specs.Network.{Network, Networks}
-use Rattle.net_syntax.specs.Typing.{Arrow, arrow, copies, OldAt, old_here, old_after, members, LeafTyping, Typed, AllTyped, arr_typed, seq_typed, first_typed, par_typed, loop_typed, i_pre_typed, delay_typed, hold_typed, accum_typed, after_typed, repeatedly_typed, time_typed, integral_typed, switch_typed, d_switch_typed, r_switch_typed, k_switch_typed, p_switch_typed, old_typed, no_members_typed, and_member_typed}
+use Rattle.net_syntax.specs.Typing.{Arrow, arrow, copies, OldAt, old_here, old_after, members, LeafTyping, Typed, AllTyped, arr_typed, seq_typed, first_typed, par_typed, loop_typed, i_pre_typed, delay_typed, hold_typed, accum_typed, after_typed, repeatedly_typed, time_typed, integral_typed, switch_typed, d_switch_typed, r_switch_typed, k_switch_typed, p_switch_typed, old_typed, initial_out_typed, initial_in_typed, dr_switch_typed, rp_switch_typed, no_members_typed, and_member_typed}
 use Rattle.net_syntax.specs.TypedNetwork.{TypedNetwork}
 use Rattle.net_syntax.specs.NetworkLimits.{NetTypedWithin}
 use Rattle.net_syntax.specs.Place.{◌>>=◌}
 use Rattle.net_syntax.specs.Leaves.{Need, need_at, leaves_by, member_leaves_by, LeavesOf}
-use Rattle.net_syntax.specs.LeafWalk.{Found, Adds, and_then, only, type_in, find_type, find_leaf, old_of, event_of, find, find_members, find_others, find_routed, find_at}
+use Rattle.net_syntax.specs.LeafWalk.{Found, Adds, and_then, only, type_in, find_type, find_leaf, find_choice, find_restarted, started_of, old_of, event_of, find, find_members, find_others, find_routed, find_at}
 use Rattle.net_syntax.specs.NeedView.{need_of}
 use Rattle.net_syntax.specs.declared.needs.Walk.{Walk}
 use Rattle.net_syntax.proofs.LeafWalks.{few_inner}
@@ -45,6 +45,20 @@ only_is w k A B ns is js = then_is w k A B ns [] is js ∙ ap (λ o. Some (B, o)
 old_is : (Os : List Arrow) (k : ℕ) (A B : TypeTree) → OldAt Os k (arrow A B) → old_of Os k ≡ only B
 old_is Os k A B old_here = refl
 old_is Os k A B (old_after o) = old_is _ _ A B o
+
+-- of what an event in the input starts anew
+restarted_is : (Ps : List TypeTree) (Os : List Arrow) (at : List ℕ) (f t : Network Expression) (D B C : TypeTree) (ns ms : List Need)
+    → find Ps Os (at ++ 0 ∷ []) f D ≡ Some (B, ns) → find (Ps ++ C ∷ []) Os (at ++ 1 ∷ []) t D ≡ Some (B, ms)
+    → find_restarted Ps Os at f t (pair_ty D (event_ty C)) ≡ Some (B, ns ++ ms)
+restarted_is Ps Os at f t D B C ns ms is js =
+    then_is (find Ps Os (at ++ 0 ∷ []) f D) (λ X. and_then (event_of (event_ty C)) (λ Z. find (Ps ++ Z ∷ []) Os (at ++ 1 ∷ []) t D)) B B ns ms is
+    (then_is (event_of (event_ty C)) (λ Z. find (Ps ++ Z ∷ []) Os (at ++ 1 ∷ []) t D) C B [] ms refl js)
+
+choice_is : (Ps : List TypeTree) (at : List ℕ) (k : ℕ) (m : Expression) (C V : TypeTree) → ExpressionTypedWithin m Ps C (pair_ty (list_ty int_ty) (list_ty V))
+    → find_choice Ps at k m (event_ty C) ≡ Some (V, need_at at k m Ps C (pair_ty (list_ty int_ty) (list_ty V)) ∷ [])
+choice_is Ps at k m C V h =
+    then_is (event_of (event_ty C)) (λ X. and_then (find_leaf Ps at k m X) started_of) C V [] _ refl
+    (only_is _ started_of (pair_ty (list_ty int_ty) (list_ty V)) V _ (leaf_is Ps at k m C (pair_ty (list_ty int_ty) (list_ty V)) h) refl)
 
 mutual
   pub found : {Ps : List TypeTree} {Os : List Arrow} {net : Network Expression} {A B : TypeTree} (at : List ℕ) (d : NetTypedWithin Ps Os net A B)
@@ -75,9 +89,7 @@ mutual
   found at (d_switch_typed {B = B} {C = C} f t) =
       then_is _ _ C B _ _ (only_is _ _ (pair_ty B (event_ty C)) C _ (found (at ++ 0 ∷ []) f) refl) (found (at ++ 1 ∷ []) t)
   found at (r_switch_typed {Ps = Ps} {Os = Os} {f = f} {t = t} {D = D} {B = B} {C = C} df dt) =
-      then_is (find Ps Os (at ++ 0 ∷ []) f D) (λ X. and_then (event_of (event_ty C)) (λ Z. find (Ps ++ Z ∷ []) Os (at ++ 1 ∷ []) t D)) B B _ _
-      (found (at ++ 0 ∷ []) df)
-      (then_is (event_of (event_ty C)) (λ Z. find (Ps ++ Z ∷ []) Os (at ++ 1 ∷ []) t D) C B [] _ refl (found (at ++ 1 ∷ []) dt))
+      restarted_is Ps Os at f t D B C _ _ (found (at ++ 0 ∷ []) df) (found (at ++ 1 ∷ []) dt)
   found at (k_switch_typed {Ps = Ps} {Os = Os} {f = f} {e = e} {t = t} {A = A} {B = B} {C = C} df m de dt) =
       then_is (find Ps Os (at ++ 0 ∷ []) f A)
       (λ X. and_then (and_then (find Ps Os (at ++ 1 ∷ []) e (pair_ty A X)) event_of)
@@ -95,6 +107,18 @@ mutual
       ∙ ap (λ o. Some (list_ty B, need_at at 0 r Ps (pair_ty A int_ty) D ∷ o))
       (sym (append_assoc (member_leaves_by at 1 ds) (leaves_by (at ++ suc (members fs) ∷ []) de) (leaves_by (at ++ suc (suc (members fs)) ∷ []) dt)))
   found {A = A} {B = B} at (old_typed {Os = Os} {k = k} o) = old_is Os k A B o
+  found at (initial_out_typed {Ps = Ps} {Os = Os} {c = c} {f = f} {A = A} {B = B} h d) =
+      then_is _ (λ C. find Ps Os (at ++ 1 ∷ []) f A) B B _ _ (leaf_is Ps at 0 c unit_ty B h) (found (at ++ 1 ∷ []) d)
+  found at (initial_in_typed {Ps = Ps} {Os = Os} {c = c} {f = f} {A = A} {B = B} h d) =
+      then_is _ (λ C. find Ps Os (at ++ 1 ∷ []) f A) A B _ _ (leaf_is Ps at 0 c unit_ty A h) (found (at ++ 1 ∷ []) d)
+  found at (dr_switch_typed {Ps = Ps} {Os = Os} {f = f} {t = t} {D = D} {B = B} {C = C} df dt) =
+      restarted_is Ps Os at f t D B C _ _ (found (at ++ 0 ∷ []) df) (found (at ++ 1 ∷ []) dt)
+  found at (rp_switch_typed {Ps = Ps} {Os = Os} {fs = fs} {m = m} {t = t} {D = D} {B = B} {C = C} {V = V} l u ds h dt n) =
+      let started : TypeTree → TypeTree → Found = λ X W. and_then (find (Ps ++ W ∷ []) Os (at ++ suc (members fs) ∷ []) t D) (λ Y. only (list_ty X)) in
+      few_inner fs _ u ∙ then_is (find_members Ps Os at 0 fs D) (λ X. and_then (find_choice Ps at (members fs) m (event_ty C)) (started X)) B (list_ty B) _ _
+      (found_members at 0 l ds)
+      (then_is (find_choice Ps at (members fs) m (event_ty C)) (started B) V (list_ty B) _ _ (choice_is Ps at (members fs) m C V h)
+      (only_is _ (λ Y. only (list_ty B)) B (list_ty B) _ (found (at ++ suc (members fs) ∷ []) dt) refl))
 
   found_members : {Ps : List TypeTree} {Os : List Arrow} {fs : Networks Expression} {A B : TypeTree} (at : List ℕ) (k : ℕ) → 1 ≤ members fs
       → (ds : AllTyped (λ e Ps A B. ExpressionTypedWithin e Ps A B) TypeFits Ps Os fs A B) → find_members Ps Os at k fs A ≡ Some (B, member_leaves_by at k ds)
@@ -134,6 +158,11 @@ module _ {T U : LeafTyping Expression} {M N : TypeTree → Type 0} (u : (e : Exp
         need_at at 0 r Ps (pair_ty A int_ty) D ∷ same_member_leaves at 1 fs i ++ same_leaves (at ++ suc (members gs) ∷ []) e i
         ++ same_leaves (at ++ suc (suc (members gs)) ∷ []) t i
     same_leaves at (old_typed o) = refl
+    same_leaves at (initial_out_typed {Ps = Ps} {c = c} {B = B} h f) = ap (λ o. need_at at 0 c Ps unit_ty B ∷ o) (same_leaves (at ++ 1 ∷ []) f)
+    same_leaves at (initial_in_typed {Ps = Ps} {c = c} {A = A} h f) = ap (λ o. need_at at 0 c Ps unit_ty A ∷ o) (same_leaves (at ++ 1 ∷ []) f)
+    same_leaves at (dr_switch_typed f t) = λ i. same_leaves (at ++ 0 ∷ []) f i ++ same_leaves (at ++ 1 ∷ []) t i
+    same_leaves at (rp_switch_typed {Ps = Ps} {fs = gs} {m = m} {C = C} {V = V} l k fs h t n) = λ i.
+        same_member_leaves at 0 fs i ++ need_at at (members gs) m Ps C (pair_ty (list_ty int_ty) (list_ty V)) ∷ same_leaves (at ++ suc (members gs) ∷ []) t i
 
     same_member_leaves : {Ps : List TypeTree} {Os : List Arrow} {fs : Networks Expression} {A B : TypeTree} (at : List ℕ) (k : ℕ)
         (ds : AllTyped T M Ps Os fs A B) → member_leaves_by at k (map_all_typed u v ds) ≡ member_leaves_by at k ds

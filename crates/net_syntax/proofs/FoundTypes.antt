@@ -12,18 +12,18 @@ use Rattle.leaf_core.specs.ExpressionLimits.{ExpressionTypedWithin}
 use Rattle.leaf_core.specs.Parts.{part_at}
 use Rattle.leaf_core.proofs.Exactness.{type_answer-exact}
 use Rattle.leaf_core.proofs.PartTypes.{TypedThere, there_typed, nothing_there}
-use Rattle.net_syntax.specs.Network.{Network, Networks, seq, par, loop_pre, accum_by, switch, d_switch, k_switch, p_switch, no_members, and_member}
+use Rattle.net_syntax.specs.Network.{Network, Networks, seq, par, loop_pre, accum_by, switch, d_switch, k_switch, p_switch, rp_switch, no_members, and_member}
 use Rattle.net_syntax.specs.NetworkView.{tree_of}
 use Rattle.net_syntax.specs.ArrowView.{arrow_of}
 use Rattle.net_syntax.specs.declared.net.Net.{Net}
 use Rattle.net_syntax.specs.declared.arrow.Arrow as A
-use Rattle.net_syntax.specs.Typing.{Arrow, arrow, copies, members, OldAt, old_here, old_after, AllTyped, arr_typed, seq_typed, first_typed, par_typed, loop_typed, i_pre_typed, delay_typed, hold_typed, accum_typed, after_typed, repeatedly_typed, time_typed, integral_typed, switch_typed, d_switch_typed, r_switch_typed, k_switch_typed, p_switch_typed, old_typed, no_members_typed, and_member_typed}
+use Rattle.net_syntax.specs.Typing.{Arrow, arrow, copies, members, OldAt, old_here, old_after, AllTyped, arr_typed, seq_typed, first_typed, par_typed, loop_typed, i_pre_typed, delay_typed, hold_typed, accum_typed, after_typed, repeatedly_typed, time_typed, integral_typed, switch_typed, d_switch_typed, r_switch_typed, k_switch_typed, p_switch_typed, old_typed, initial_out_typed, initial_in_typed, dr_switch_typed, rp_switch_typed, no_members_typed, and_member_typed}
 use Rattle.net_syntax.specs.TypedNetwork.{TypedNetwork, NetTyped}
 use Rattle.net_syntax.specs.NetworkLimits.{NetTypedWithin, WithinLimits}
-use Rattle.net_syntax.specs.Place.{◌>>=◌, Tree, a_network, a_leaf, member, child, child_network, PSwitchChild, p_switch_child, member_child, event_child, continuation_child, no_child}
+use Rattle.net_syntax.specs.Place.{◌>>=◌, Tree, a_network, a_leaf, member, child, child_network, collection_child, PSwitchChild, p_switch_child, member_child, event_child, continuation_child, no_child}
 use Rattle.net_syntax.specs.Placed.{placed, placed_at, bound_in}
-use Rattle.net_syntax.specs.Standing.{Standing, standing, alone, MembersTyped, ChildStands, ChildFound, in_arr, first_in_seq, second_in_seq, in_first, in_par, constant_in_loop, network_in_loop, in_i_pre, in_delay, in_hold, step_in_accum, start_in_accum, in_after, in_repeatedly, network_in_switch, continuation_in_switch, network_in_d_switch, continuation_in_d_switch, network_in_r_switch, continuation_in_r_switch, network_in_k_switch, event_in_k_switch, continuation_in_k_switch, route_in_p_switch, member_in_p_switch, event_in_p_switch, continuation_in_p_switch, at_network, inside_network, inside_expression, TypeAt}
-use Rattle.net_syntax.specs.StandingWalk.{taking, under, freezing, left_of, carried_of, right_carried_of, old_output, leaf_type, output_in, first_output, routed, p_switch_input, child_input, frozen, p_switch_scope, child_scope, inside, type_walk_at}
+use Rattle.net_syntax.specs.Standing.{Standing, standing, alone, MembersTyped, ChildStands, ChildFound, in_arr, first_in_seq, second_in_seq, in_first, in_par, constant_in_loop, network_in_loop, in_i_pre, in_delay, in_hold, step_in_accum, start_in_accum, in_after, in_repeatedly, network_in_switch, continuation_in_switch, network_in_d_switch, continuation_in_d_switch, network_in_r_switch, continuation_in_r_switch, network_in_k_switch, event_in_k_switch, continuation_in_k_switch, route_in_p_switch, member_in_p_switch, event_in_p_switch, continuation_in_p_switch, constant_in_initial_out, network_in_initial_out, constant_in_initial_in, network_in_initial_in, network_in_dr_switch, continuation_in_dr_switch, member_in_rp_switch, choice_in_rp_switch, continuation_in_rp_switch, at_network, inside_network, inside_expression, TypeAt}
+use Rattle.net_syntax.specs.StandingWalk.{taking, under, freezing, left_of, carried_of, right_carried_of, right_listed_of, old_output, leaf_type, output_in, first_output, routed, p_switch_input, collection_input, child_input, frozen, p_switch_scope, collection_scope, child_scope, inside, type_walk_at}
 use Rattle.net_syntax.proofs.TypingMap.{map_typed, map_all_typed}
 
 -- where there is something, the next step is taken
@@ -67,6 +67,10 @@ mutual
       onward (λ X. option_map list_ty (first_output (standing Ps Os X) gs)) (leaf_found (standing Ps Os A) (pair_ty A int_ty) r D h)
       (ap (option_map list_ty) (first_found l fs))
   output_found (old_typed {Os = Os} {k = k} {A = A} {B = B} o) = old_found Os k A B o
+  output_found (initial_out_typed h f) = output_found f
+  output_found (initial_in_typed h f) = output_found f
+  output_found (dr_switch_typed f t) = output_found f
+  output_found (rp_switch_typed l u fs h t m) = ap (option_map list_ty) (first_found l fs)
 
   first_found : {Ps : List TypeTree} {Os : List Arrow} {fs : Networks Expression} {A B : TypeTree} → 1 ≤ members fs → MembersWithin Ps Os fs A B
       → first_output (standing Ps Os A) fs ≡ Some B
@@ -112,7 +116,7 @@ frozen_found : {Ps : List TypeTree} {Os : List Arrow} {e : Network Expression} {
     → NetTypedWithin Ps Os e (pair_ty A B) (event_ty C) → frozen (standing Ps Os A) n B e o ≡ Some (standing (Ps ++ C ∷ []) (Os ++ copies n o) A)
 frozen_found {Ps = Ps} {Os = Os} {A = A} n o d = ap (option_map (freezing (standing Ps Os A) n o)) (onward carried_of (output_found d) refl)
 
--- what stands at a number behind a route
+-- what stands at a number behind a route, or in an rpSwitchB
 data Numbered : Networks Expression → ℕ → Type 0 where
   is_member : {fs : Networks Expression} {k : ℕ} → k < members fs → p_switch_child fs k ≡ member_child → Numbered fs k
   is_event : {fs : Networks Expression} → p_switch_child fs (members fs) ≡ event_child → Numbered fs (members fs)
@@ -178,6 +182,48 @@ module _ {Ps : List TypeTree} {Os : List Arrow} {r : Expression} {fs : Networks 
       go j (is_continuation p) = seen (suc (members fs)) continuation_child p (continuation_there p)
       go j (is_none p) = seen j no_child p tt
 
+-- the children of an rpSwitchB
+module _ {Ps : List TypeTree} {Os : List Arrow} {fs : Networks Expression} {m : Expression} {t : Network Expression} {D B C V : TypeTree}
+    (ds : MembersWithin Ps Os fs D B) (h : ExpressionTypedWithin m Ps C (pair_ty (list_ty int_ty) (list_ty V)))
+    (dt : NetTypedWithin (Ps ++ V ∷ []) Os t D B) where
+  abbrev at_collection : Standing
+  at_collection = standing Ps Os (pair_ty D (event_ty C))
+
+  abbrev collection : Network Expression
+  collection = rp_switch fs m t
+
+  abbrev InCollection : ℕ → Option (Tree Expression) → Type 0
+  InCollection k o = IfSome o (ChildThere at_collection collection k)
+
+  kept_there : (k : ℕ) → k < members fs → p_switch_child fs k ≡ member_child → InCollection k (option_map a_network (member fs k))
+  kept_there k l p = go (member fs k) (member_within ds k)
+    where
+      go : (o : Option (Network Expression)) → IfSome o (λ f. NetTypedWithin Ps Os f D B) → InCollection k (option_map a_network o)
+      go None d = tt
+      go (Some f) d = there _ (member_in_rp_switch l)
+          (stands_in at_collection at_collection collection k D (ap (collection_input at_collection) p) (ap (collection_scope at_collection m) p)) d
+
+  choice_there : p_switch_child fs (members fs) ≡ event_child → ChildThere at_collection collection (members fs) (a_leaf m)
+  choice_there p = there _ choice_in_rp_switch
+      (stands_in at_collection at_collection collection (members fs) C (ap (collection_input at_collection) p) (ap (collection_scope at_collection m) p)) h
+
+  started_there : p_switch_child fs (suc (members fs)) ≡ continuation_child → ChildThere at_collection collection (suc (members fs)) (a_network t)
+  started_there p = there _ (continuation_in_rp_switch h.checked.given)
+      (stands_in at_collection (under at_collection V) collection (suc (members fs)) D (ap (collection_input at_collection) p)
+      (ap (collection_scope at_collection m) p ∙ ap (option_map (under at_collection)) (onward right_listed_of (leaf_found at_collection C m _ h) refl))) dt
+
+  pub collection_there : (k : ℕ) → InCollection k (child collection k)
+  collection_there k = go k (numbered fs k)
+    where
+      seen : (j : ℕ) (c : PSwitchChild) → p_switch_child fs j ≡ c → InCollection j (collection_child c fs m t j) → InCollection j (child collection j)
+      seen j c p d = subst (λ z. InCollection j (collection_child z fs m t j)) (sym p) d
+
+      go : (j : ℕ) → Numbered fs j → InCollection j (child collection j)
+      go j (is_member l p) = seen j member_child p (kept_there j l p)
+      go j (is_event p) = seen (members fs) event_child p (choice_there p)
+      go j (is_continuation p) = seen (suc (members fs)) continuation_child p (started_there p)
+      go j (is_none p) = seen j no_child p tt
+
 -- each child is there
 pub child_there : {Ps : List TypeTree} {Os : List Arrow} {f : Network Expression} {A B : TypeTree} → NetTypedWithin Ps Os f A B → (k : ℕ)
     → IfSome (child f k) (ChildThere (standing Ps Os A) f k)
@@ -225,6 +271,13 @@ child_there (k_switch_typed {Ps = Ps} {Os = Os} {f = f} {e = e} {t = t} {A = A} 
     (onward (λ (q : Arrow × TypeTree). frozen (standing Ps Os A) 1 q.1 e q.0) (ap (option_map (λ X. (arrow A X, X))) (output_found df)) (frozen_found 1 (arrow A B) de))) dt
 child_there (p_switch_typed l u m h ds n e t) zero = there _ route_in_p_switch refl h
 child_there (p_switch_typed l u m h ds n e t) (suc k) = behind_there l h ds e t k
+child_there (initial_out_typed h f) zero = there _ constant_in_initial_out refl h
+child_there (initial_out_typed h f) (suc zero) = there _ network_in_initial_out refl f
+child_there (initial_in_typed h f) zero = there _ constant_in_initial_in refl h
+child_there (initial_in_typed h f) (suc zero) = there _ network_in_initial_in refl f
+child_there (dr_switch_typed f t) zero = there _ network_in_dr_switch refl f
+child_there (dr_switch_typed f t) (suc zero) = there _ continuation_in_dr_switch refl t
+child_there (rp_switch_typed l u ds h t n) k = collection_there ds h t k
 child_there _ k = tt
 
 -- so where a child stands is found

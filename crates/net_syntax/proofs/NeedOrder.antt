@@ -11,14 +11,14 @@ use Rattle.std.proofs.lemmas.List.Elements.{Contains-append_left, Contains-appen
 use Rattle.std.proofs.lemmas.Option.{none-some}
 use Rattle.sample_core.specs.TypeTree.{TypeTree}
 use Rattle.leaf_core.specs.Expression.{Expression}
-use Rattle.net_syntax.specs.Network.{Network, Networks, par, p_switch, no_members, and_member}
-use Rattle.net_syntax.specs.Typing.{Arrow, members, LeafTyping, Typed, AllTyped, arr_typed, seq_typed, first_typed, par_typed, loop_typed, i_pre_typed, delay_typed, hold_typed, accum_typed, after_typed, repeatedly_typed, time_typed, integral_typed, switch_typed, d_switch_typed, r_switch_typed, k_switch_typed, p_switch_typed, old_typed, no_members_typed, and_member_typed}
+use Rattle.net_syntax.specs.Network.{Network, Networks, par, p_switch, rp_switch, no_members, and_member}
+use Rattle.net_syntax.specs.Typing.{Arrow, members, LeafTyping, Typed, AllTyped, arr_typed, seq_typed, first_typed, par_typed, loop_typed, i_pre_typed, delay_typed, hold_typed, accum_typed, after_typed, repeatedly_typed, time_typed, integral_typed, switch_typed, d_switch_typed, r_switch_typed, k_switch_typed, p_switch_typed, old_typed, initial_out_typed, initial_in_typed, dr_switch_typed, rp_switch_typed, no_members_typed, and_member_typed}
 use Rattle.net_syntax.specs.Place as P
-use Rattle.net_syntax.specs.Place.{Tree, a_network, a_leaf, child, member, p_switch_child, child_network, no_child}
+use Rattle.net_syntax.specs.Place.{Tree, a_network, a_leaf, child, member, p_switch_child, child_network, collection_child, no_child}
 use Rattle.net_syntax.specs.Leaves.{Need, leaves_by, member_leaves_by}
 use Rattle.net_syntax.specs.Laws.{AllReachedLaw, InOrderLaw}
 use Rattle.net_syntax.proofs.Children.{event_is, continuation_is}
-use Rattle.net_syntax.proofs.NeedPlaces.{child_is_member}
+use Rattle.net_syntax.proofs.NeedPlaces.{child_is_member, child_in_collection, choice_is_child, started_is_child}
 
 abbrev positions : List Need → List (List ℕ)
 positions ns = map (λ n. n.position) ns
@@ -204,6 +204,9 @@ p_switch_ends : (r : Expression) (fs : Networks Expression) (e t : Network Expre
 p_switch_ends r fs e t zero l = absurd (omega arith)
 p_switch_ends r fs e t (suc k) l = ap (λ o. option_map a_network (child_network o fs e t k)) (is_no_child fs k (omega arith))
 
+rp_switch_ends : (fs : Networks Expression) (m : Expression) (t : Network Expression) (k : ℕ) → suc (suc (members fs)) ≤ k → child (rp_switch fs m t) k ≡ None
+rp_switch_ends fs m t k l = ap (λ o. collection_child o fs m t k) (is_no_child fs k l)
+
 one_more : (j : ℕ) → 1 + j ≡ suc j
 one_more j = omega arith
 
@@ -253,6 +256,20 @@ module _ {T : LeafTyping Expression} {M : TypeTree → Type 0} where
         (child_lists net (a_network t) at (suc past) _ (ap (λ o. option_map a_network (child_network o fs e t (suc (members fs)))) (continuation_is fs))
         (listed (at ++ suc past ∷ []) dt)))
     listed {net = net} at (old_typed o) = none net at (λ k. refl)
+    listed {net = net} at (initial_out_typed {c = c} {f = f} h df) =
+        two net (a_leaf c) (a_network f) at (_ ∷ []) _ refl refl (λ k. refl) (leaf_lists c _ _ refl) (listed (at ++ 1 ∷ []) df)
+    listed {net = net} at (initial_in_typed {c = c} {f = f} h df) =
+        two net (a_leaf c) (a_network f) at (_ ∷ []) _ refl refl (λ k. refl) (leaf_lists c _ _ refl) (listed (at ++ 1 ∷ []) df)
+    listed {net = net} at (dr_switch_typed {f = f} {t = t} df dt) =
+        two net (a_network f) (a_network t) at _ _ refl refl (λ k. refl) (listed (at ++ 0 ∷ []) df) (listed (at ++ 1 ∷ []) dt)
+    listed {net = net} at (rp_switch_typed {fs = fs} {m = m} {t = t} l u ds h dt n) =
+        let past : ℕ = suc (members fs) in
+        whole_lists net at (suc past) _ (rp_switch_ends fs m t)
+        (append_lists net at 0 (members fs) (suc past) _ _ (omega arith) (omega arith)
+        (all_listed at 0 (members fs) ds net (omega arith) (λ j f is. ap (child net) (omega arith) ∙ child_in_collection fs m t j f is))
+        (append_lists net at (members fs) past (suc past) (_ ∷ []) _ (omega arith) (omega arith)
+        (child_lists net (a_leaf m) at (members fs) (_ ∷ []) (choice_is_child fs m t) (leaf_lists m _ _ refl))
+        (child_lists net (a_network t) at past _ (started_is_child fs m t) (listed (at ++ past ∷ []) dt))))
 
     all_listed : {Ps : List TypeTree} {Os : List Arrow} {fs : Networks Expression} {A B : TypeTree} (at : List ℕ) (low high : ℕ)
         (ds : AllTyped T M Ps Os fs A B) (net : Network Expression) → high ≡ low + members fs

@@ -1,12 +1,12 @@
 -- The expressions that are listed of a network stand at their positions.
 use Rattle.std.proofs.Common.{◌≡◌, ℕ, suc, ◌+◌, List, [], ◌∷◌, ◌++◌, Some, All, option_map, refl, sym, ap, ◌∙◌, subst, append_assoc, arith}
 use Rattle.std.proofs.lemmas.List.Elements.{All-append, All-cons, All-nil}
-use Rattle.sample_core.specs.TypeTree.{TypeTree, int_ty, pair_ty}
+use Rattle.sample_core.specs.TypeTree.{TypeTree, int_ty, pair_ty, list_ty}
 use Rattle.leaf_core.specs.Expression.{Expression}
-use Rattle.net_syntax.specs.Network.{Network, Networks, par, p_switch, and_member}
-use Rattle.net_syntax.specs.Typing.{Arrow, members, LeafTyping, Typed, AllTyped, arr_typed, seq_typed, first_typed, par_typed, loop_typed, i_pre_typed, delay_typed, hold_typed, accum_typed, after_typed, repeatedly_typed, time_typed, integral_typed, switch_typed, d_switch_typed, r_switch_typed, k_switch_typed, p_switch_typed, old_typed, no_members_typed, and_member_typed}
+use Rattle.net_syntax.specs.Network.{Network, Networks, par, p_switch, rp_switch, and_member}
+use Rattle.net_syntax.specs.Typing.{Arrow, members, LeafTyping, Typed, AllTyped, arr_typed, seq_typed, first_typed, par_typed, loop_typed, i_pre_typed, delay_typed, hold_typed, accum_typed, after_typed, repeatedly_typed, time_typed, integral_typed, switch_typed, d_switch_typed, r_switch_typed, k_switch_typed, p_switch_typed, old_typed, initial_out_typed, initial_in_typed, dr_switch_typed, rp_switch_typed, no_members_typed, and_member_typed}
 use Rattle.net_syntax.specs.Place as P
-use Rattle.net_syntax.specs.Place.{a_network, a_leaf, child, member, p_switch_child, child_network}
+use Rattle.net_syntax.specs.Place.{a_network, a_leaf, child, member, p_switch_child, child_network, collection_child}
 use Rattle.net_syntax.specs.Leaves.{Need, need_at, leaves_by, member_leaves_by}
 use Rattle.net_syntax.specs.Laws.{PositionLaw}
 use Rattle.net_syntax.proofs.Children.{member_is, event_is, continuation_is}
@@ -46,6 +46,10 @@ one : (net : Network Expression) (at : List ℕ) (n : Need) (k : ℕ) → n.posi
 one net at n k p is = All-cons (Stands net at) n []
     (record { path = k ∷ []; joined = p; leads = ap (λ o. P.◌>>=◌ o (λ t. P.at t [])) is }) (All-nil (Stands net at))
 
+fed : (net f : Network Expression) (at : List ℕ) (n : Need) (ns : List Need) → n.position ≡ at ++ 0 ∷ [] → child net 0 ≡ Some (a_leaf n.key.expr)
+    → child net 1 ≡ Some (a_network f) → All (Stands f (at ++ 1 ∷ [])) ns → All (Stands net at) (n ∷ ns)
+fed net f at n ns p hc hf df = All-append (Stands net at) (n ∷ []) ns (one net at n 0 p hc) (up net f at 1 ns hf df)
+
 two : (net : Network Expression) (at : List ℕ) (j k : ℕ) (f g : Network Expression) (ns ms : List Need) → child net j ≡ Some (a_network f)
     → child net k ≡ Some (a_network g) → All (Stands f (at ++ j ∷ [])) ns → All (Stands g (at ++ k ∷ [])) ms → All (Stands net at) (ns ++ ms)
 two net at j k f g ns ms hf hg df dg = All-append (Stands net at) ns ms (up net f at j ns hf df) (up net g at k ms hg dg)
@@ -54,6 +58,17 @@ two net at j k f g ns ms hf hg df dg = All-append (Stands net at) ns ms (up net 
 pub child_is_member : (fs : Networks Expression) (j : ℕ) (f e t : Network Expression) → member fs j ≡ Some f
     → child_network (p_switch_child fs j) fs e t j ≡ Some f
 child_is_member fs j f e t h = ap (λ o. child_network o fs e t j) (member_is fs j f h) ∙ h
+
+-- a member of an rpSwitchB is its child
+pub child_in_collection : (fs : Networks Expression) (m : Expression) (t : Network Expression) (j : ℕ) (f : Network Expression) → member fs j ≡ Some f
+    → child (rp_switch fs m t) j ≡ Some (a_network f)
+child_in_collection fs m t j f h = ap (λ o. collection_child o fs m t j) (member_is fs j f h) ∙ ap (option_map a_network) h
+
+pub choice_is_child : (fs : Networks Expression) (m : Expression) (t : Network Expression) → child (rp_switch fs m t) (members fs) ≡ Some (a_leaf m)
+choice_is_child fs m t = ap (λ o. collection_child o fs m t (members fs)) (event_is fs)
+
+pub started_is_child : (fs : Networks Expression) (m : Expression) (t : Network Expression) → child (rp_switch fs m t) (suc (members fs)) ≡ Some (a_network t)
+started_is_child fs m t = ap (λ o. collection_child o fs m t (suc (members fs))) (continuation_is fs)
 
 first_member : (f : Network Expression) (fs : Networks Expression) (at : List ℕ) (k : ℕ) (n : Need) → Stands f (at ++ k ∷ []) n
     → StandsIn (and_member f fs) at k n
@@ -80,8 +95,7 @@ module _ {T : LeafTyping Expression} {M : TypeTree → Type 0} where
     stand {net = net} at (first_typed {f = f} df m) = up net f at 0 _ refl (stand (at ++ 0 ∷ []) df)
     stand {net = net} at (par_typed {fs = fs} l u ds m) =
         up_members net fs at 0 _ (λ j f h. ap (child (par fs)) (omega arith) ∙ ap (option_map a_network) h) (stand_in at 0 ds)
-    stand {net = net} at (loop_typed {f = f} h m df) =
-        All-append (Stands net at) (_ ∷ []) _ (one net at _ 0 refl refl) (up net f at 1 _ refl (stand (at ++ 1 ∷ []) df))
+    stand {net = net} at (loop_typed {f = f} h m df) = fed net f at _ _ refl refl refl (stand (at ++ 1 ∷ []) df)
     stand {net = net} at (i_pre_typed h) = one net at _ 0 refl refl
     stand {net = net} at (delay_typed l u h) = one net at _ 0 refl refl
     stand {net = net} at (hold_typed h) = one net at _ 0 refl refl
@@ -109,6 +123,17 @@ module _ {T : LeafTyping Expression} {M : TypeTree → Type 0} where
         (up net t at (suc (suc (members fs))) ts (ap (λ o. option_map a_network (child_network o fs e t (suc (members fs)))) (continuation_is fs))
         (stand (at ++ suc (suc (members fs)) ∷ []) dt))
     stand {net = net} at (old_typed o) = All-nil (Stands net at)
+    stand {net = net} at (initial_out_typed {f = f} h df) = fed net f at _ _ refl refl refl (stand (at ++ 1 ∷ []) df)
+    stand {net = net} at (initial_in_typed {f = f} h df) = fed net f at _ _ refl refl refl (stand (at ++ 1 ∷ []) df)
+    stand {net = net} at (dr_switch_typed {f = f} {t = t} df dt) = two net at 0 1 f t _ _ refl refl (stand (at ++ 0 ∷ []) df) (stand (at ++ 1 ∷ []) dt)
+    stand {net = net} at (rp_switch_typed {Ps = Ps} {fs = fs} {m = m} {t = t} {C = C} {V = V} l u ds h dt n) =
+        let n : Need = need_at at (members fs) m Ps C (pair_ty (list_ty int_ty) (list_ty V)) in
+        let ms : List Need = member_leaves_by at 0 ds in
+        let ts : List Need = leaves_by (at ++ suc (members fs) ∷ []) dt in
+        All-append (Stands net at) ms (n ∷ ts)
+        (up_members net fs at 0 ms (λ j f is. ap (child (rp_switch fs m t)) (omega arith) ∙ child_in_collection fs m t j f is) (stand_in at 0 ds))
+        (All-append (Stands net at) (n ∷ []) ts (one net at n (members fs) refl (choice_is_child fs m t))
+        (up net t at (suc (members fs)) ts (started_is_child fs m t) (stand (at ++ suc (members fs) ∷ []) dt)))
 
     stand_in : {Ps : List TypeTree} {Os : List Arrow} {fs : Networks Expression} {A B : TypeTree} (at : List ℕ) (k : ℕ) (ds : AllTyped T M Ps Os fs A B)
         → All (StandsIn fs at k) (member_leaves_by at k ds)

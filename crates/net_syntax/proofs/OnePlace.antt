@@ -8,7 +8,7 @@ use Rattle.net_syntax.specs.Network.{Network, Networks, p_switch}
 use Rattle.net_syntax.specs.Typing.{Arrow, arrow, copies, members, p_switch_typed}
 use Rattle.net_syntax.specs.TypedNetwork.{NetTyped}
 use Rattle.net_syntax.specs.NetworkLimits.{NetTypedWithin}
-use Rattle.net_syntax.specs.Standing.{Standing, standing, MembersTyped, ChildStands, in_arr, first_in_seq, second_in_seq, in_first, in_par, constant_in_loop, network_in_loop, in_i_pre, in_delay, in_hold, step_in_accum, start_in_accum, in_after, in_repeatedly, network_in_switch, continuation_in_switch, network_in_d_switch, continuation_in_d_switch, network_in_r_switch, continuation_in_r_switch, network_in_k_switch, event_in_k_switch, continuation_in_k_switch, route_in_p_switch, member_in_p_switch, event_in_p_switch, continuation_in_p_switch}
+use Rattle.net_syntax.specs.Standing.{Standing, standing, MembersTyped, ChildStands, in_arr, first_in_seq, second_in_seq, in_first, in_par, constant_in_loop, network_in_loop, in_i_pre, in_delay, in_hold, step_in_accum, start_in_accum, in_after, in_repeatedly, network_in_switch, continuation_in_switch, network_in_d_switch, continuation_in_d_switch, network_in_r_switch, continuation_in_r_switch, network_in_k_switch, event_in_k_switch, continuation_in_k_switch, route_in_p_switch, member_in_p_switch, event_in_p_switch, continuation_in_p_switch, constant_in_initial_out, network_in_initial_out, constant_in_initial_in, network_in_initial_in, network_in_dr_switch, continuation_in_dr_switch, member_in_rp_switch, choice_in_rp_switch, continuation_in_rp_switch}
 use Rattle.net_syntax.proofs.StreamLaws.{one-output-type}
 use Rattle.net_syntax.proofs.Unique.{all_unique}
 
@@ -16,6 +16,10 @@ abbrev carried : TypeTree → TypeTree
 carried (pair_ty A (event_ty B)) = B
 carried (event_ty B) = B
 carried A = A
+
+abbrev started : TypeTree → TypeTree
+started (pair_ty A (list_ty B)) = B
+started A = A
 
 one_event : {Ps : List TypeTree} {Os : List Arrow} {f : Network Expression} {A B B' C C' : TypeTree} → NetTyped Ps Os f A (pair_ty B (event_ty C))
     → NetTyped Ps Os f A (pair_ty B' (event_ty C')) → C ≡ C'
@@ -85,4 +89,18 @@ one_place i (member_in_p_switch h l) (event_in_p_switch j ds) q = absurd (omega 
 one_place i (member_in_p_switch h l) (continuation_in_p_switch j ds e) q = absurd (omega (arith, l))
 one_place i (event_in_p_switch j ds) (member_in_p_switch h l) q = absurd (omega (arith, l))
 one_place i (continuation_in_p_switch j ds e) (member_in_p_switch h l) q = absurd (omega (arith, l))
+one_place i constant_in_initial_out constant_in_initial_out q = refl
+one_place i network_in_initial_out network_in_initial_out q = refl
+one_place i constant_in_initial_in constant_in_initial_in q = refl
+one_place i network_in_initial_in network_in_initial_in q = refl
+one_place i network_in_dr_switch network_in_dr_switch q = refl
+one_place i continuation_in_dr_switch continuation_in_dr_switch q = refl
+one_place i (member_in_rp_switch l) (member_in_rp_switch u) q = refl
+one_place i choice_in_rp_switch choice_in_rp_switch q = refl
+one_place {Ps = Ps} {Os = Os} i (continuation_in_rp_switch {D = D} {C = C} {V = V} {m = m} h) (continuation_in_rp_switch {V = W} j) q =
+    ap (λ z. standing (Ps ++ started z ∷ []) Os D) (one_type m Ps C (pair_ty (list_ty int_ty) (list_ty V)) (pair_ty (list_ty int_ty) (list_ty W)) h j)
+one_place i (member_in_rp_switch l) choice_in_rp_switch q = absurd (omega (arith, l))
+one_place i (member_in_rp_switch l) (continuation_in_rp_switch h) q = absurd (omega (arith, l))
+one_place i choice_in_rp_switch (member_in_rp_switch l) q = absurd (omega (arith, l))
+one_place i (continuation_in_rp_switch h) (member_in_rp_switch l) q = absurd (omega (arith, l))
 one_place i c d q = absurd (omega arith)

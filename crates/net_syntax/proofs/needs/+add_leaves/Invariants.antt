@@ -30,6 +30,9 @@ decreases-add_loop l = 8 * network_size l.f.now + 5
 abbrev pub decreases-add_restart : goal.decreases-add_restart
 decreases-add_restart l = 8 * (network_size l.f.now + network_size l.t.now) + 5
 
+abbrev pub decreases-add_collection : goal.decreases-add_collection
+decreases-add_collection l = 8 * (networks_size l.fs.now + network_size l.t.now) + 5
+
 abbrev pub decreases-add_watch : goal.decreases-add_watch
 decreases-add_watch l = 8 * net_size l.e.now + 3
 

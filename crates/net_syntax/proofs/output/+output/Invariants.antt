@@ -15,5 +15,8 @@ decreases-output_fed_back l = 4 * network_size (tree l.f.now) + 1
 abbrev pub decreases-first_output : goal.decreases-first_output
 decreases-first_output l = 4 * networks_size (trees l.fs.now) + 1
 
+abbrev pub decreases-output_of_collection : goal.decreases-output_of_collection
+decreases-output_of_collection l = 4 * networks_size (trees l.fs.now) + 2
+
 abbrev pub decreases-routed_types : goal.decreases-routed_types
 decreases-routed_types l = 4 * networks_size (trees l.fs.now) + 2
