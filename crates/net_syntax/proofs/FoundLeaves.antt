@@ -16,7 +16,7 @@ use Rattle.net_syntax.specs.TypedNetwork.{TypedNetwork}
 use Rattle.net_syntax.specs.NetworkLimits.{NetTypedWithin}
 use Rattle.net_syntax.specs.Place.{◌>>=◌}
 use Rattle.net_syntax.specs.Leaves.{Need, need_at, leaves_by, member_leaves_by, LeavesOf}
-use Rattle.net_syntax.specs.LeafWalk.{Found, Adds, and_then, only, type_in, find_type, find_leaf, find_choice, find_restarted, started_of, old_of, event_of, find, find_members, find_others, find_routed, find_at}
+use Rattle.net_syntax.specs.LeafWalk.{Found, Adds, and_then, only, type_in, find_type, find_leaf, find_choice, started_of, old_of, event_of, find, find_members, find_others, find_routed, find_at}
 use Rattle.net_syntax.specs.NeedView.{need_of}
 use Rattle.net_syntax.specs.declared.needs.Walk.{Walk}
 use Rattle.net_syntax.proofs.LeafWalks.{few_inner}
@@ -49,7 +49,7 @@ old_is Os k A B (old_after o) = old_is _ _ A B o
 -- of what an event in the input starts anew
 restarted_is : (Ps : List TypeTree) (Os : List Arrow) (at : List ℕ) (f t : Network Expression) (D B C : TypeTree) (ns ms : List Need)
     → find Ps Os (at ++ 0 ∷ []) f D ≡ Some (B, ns) → find (Ps ++ C ∷ []) Os (at ++ 1 ∷ []) t D ≡ Some (B, ms)
-    → find_restarted Ps Os at f t (pair_ty D (event_ty C)) ≡ Some (B, ns ++ ms)
+    → and_then (find Ps Os (at ++ 0 ∷ []) f D) (λ X. and_then (event_of (event_ty C)) (λ Z. find (Ps ++ Z ∷ []) Os (at ++ 1 ∷ []) t D)) ≡ Some (B, ns ++ ms)
 restarted_is Ps Os at f t D B C ns ms is js =
     then_is (find Ps Os (at ++ 0 ∷ []) f D) (λ X. and_then (event_of (event_ty C)) (λ Z. find (Ps ++ Z ∷ []) Os (at ++ 1 ∷ []) t D)) B B ns ms is
     (then_is (event_of (event_ty C)) (λ Z. find (Ps ++ Z ∷ []) Os (at ++ 1 ∷ []) t D) C B [] ms refl js)

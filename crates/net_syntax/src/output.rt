@@ -5,9 +5,9 @@ ghost use Rattle.sample_core.specs.TypeTree.{int_ty, list_ty, pair_ty};
 ghost use Rattle.sample_core.specs.TypeView.{type_of};
 ghost use Rattle.leaf_core.specs.ExpressionView.{expression_of};
 ghost use Rattle.net_syntax.specs.{ArrowView.arrow_of, FoundType.Finds};
-ghost use Rattle.net_syntax.specs.Network.{first as first_of, loop_pre, rp_switch};
+ghost use Rattle.net_syntax.specs.Network.{first as first_of, loop_pre};
 ghost use Rattle.net_syntax.specs.NetworkView.{tree, tree_of, trees};
-ghost use Rattle.net_syntax.specs.StandingWalk.{carried_of, first_output, leaf_type, left_of, old_output, output_in, right_carried_of, right_listed_of, routed, standing_of, taking};
+ghost use Rattle.net_syntax.specs.StandingWalk.{carried_of, collection_output, first_output, leaf_type, left_of, old_output, output_in, right_carried_of, right_listed_of, routed, standing_of, taking};
 ghost use Rattle.net_syntax.specs.declared.output.Untyped.TheVariants as U;
 
 use crate::arrow::Arrow;
@@ -131,7 +131,7 @@ fn output_fed_back(
     left
 }
 
-/// The output type of members that get the left parts of pairs: a list of the first one's.
+/// The output type of an `rpSwitchB` of these members.
 #[cycle(output)]
 fn output_of_collection(
     alloc: Global,
@@ -139,8 +139,8 @@ fn output_of_collection(
     input: &Ty,
     fs: &Members<Expr>,
 ) -> Result<Ty, Untyped>
-    ensures { (m : Expression) (t : Network Expression) → Finds type_of result
-        (output_in (taking (standing_of at.now) (type_of input.now)) (rp_switch (trees fs.now) m t)) }
+    ensures { Finds type_of result
+        (collection_output (taking (standing_of at.now) (type_of input.now)) (trees fs.now)) }
 {
     let Ty::Pair(sample, _) = input else {
         return Err(Untyped::NoType);
