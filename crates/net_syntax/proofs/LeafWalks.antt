@@ -1,5 +1,5 @@
 -- What the walk over a network finds is what its parts' walks find.
-use Rattle.std.proofs.Common.{◌≡◌, ◌≢◌, ◌+◌, ℕ, zero, suc, ◌<◌, ◌≤◌, List, [], ◌∷◌, ◌++◌, length, map, replicate, leb, true, false, Some, None, get_or, refl, ap, sym, ◌∙◌, append_assoc, arith, subst, Result, Ok, Err, OnOk, IfOk, ◌-◌, Bool, if◌then◌else◌}
+use Rattle.std.proofs.Common.{◌≡◌, ◌≢◌, ◌+◌, ℕ, zero, suc, ◌<◌, ◌≤◌, List, [], ◌∷◌, ◌++◌, length, map, replicate, leb, true, false, Some, None, get_or, refl, ap, sym, ◌∙◌, append-nil, append_assoc, arith, subst, Result, Ok, Err, OnOk, IfOk, ◌-◌, Bool, if◌then◌else◌}
 use Rattle.std.proofs.lemmas.Bool.{leb-true, le-leb}
 use Rattle.std.proofs.lemmas.List.{map-append}
 use Rattle.sample_core.specs.TypeTree.{TypeTree, int_ty, pair_ty, list_ty}
@@ -9,7 +9,7 @@ use Rattle.leaf_core.specs.Expression.{Expression}
 use Rattle.leaf_core.specs.ExpressionView.{expression_of}
 use Rattle.leaf_core.specs.declared.expr.Expr.{Expr}
 use Rattle.net_syntax.specs.ArrowView.{arrow_of}
-use Rattle.net_syntax.specs.Network.{Network, Networks, par, p_switch, no_members, and_member, map_network, map_networks}
+use Rattle.net_syntax.specs.Network.{Network, Networks, par, p_switch, rp_switch, no_members, and_member, map_network, map_networks}
 use Rattle.net_syntax.specs.NetworkView.{members_of}
 use Rattle.net_syntax.specs.Typing.{arrow, copies, members}
 use Rattle.net_syntax.specs.declared.net.Net.{Net}
@@ -18,7 +18,7 @@ use Rattle.net_syntax.specs.declared.needs.Walk.{Walk}
 use Rattle.net_syntax.specs.NeedView.{need_of}
 use Rattle.net_syntax.specs.Place.{◌>>=◌}
 use Rattle.net_syntax.specs.Leaves.{Need}
-use Rattle.net_syntax.specs.LeafWalk.{Found, and_then, only, event_of, find, few, old_of, find_at, find_child, find_leaf_at, find_members_at, find_routed, find_routed_at, find_resuming, Adds, SamePlace}
+use Rattle.net_syntax.specs.LeafWalk.{Found, and_then, only, event_of, of_pair, find, few, old_of, find_choice, find_at, find_child, find_under, find_leaf_at, find_choice_at, find_members_at, find_routed, find_routed_at, find_resuming, Adds, SamePlace}
 
 pub old_there : (os : List Arrow) (k : ℕ) (o : Arrow) → k < length os → old_of (map arrow_of os) k ≡ only (type_of (get_or os k o).output)
 old_there [] k o h = absurd (omega arith)
@@ -202,6 +202,103 @@ module _ (w b : Walk) (fs gs : Networks Expr) (e g : Network Expr) (t : Network 
     pub code_routed_adds : (T : TypeTree) (d : Walk) → Adds code_rest T c d → Adds code_routed T w d
     code_routed_adds T d last =
         routed_adds w ms event after A D B b added here c C saw_it there T d (subst (λ o. Adds o T c d) (sym rest_is) last)
+
+-- what is found of an rpSwitchB at pairs of a D and an M
+abbrev collected : Walk → Networks Expression → Expression → Network Expression → TypeTree → TypeTree → Found
+collected w fs m t D M =
+    and_then (find_members_at w 0 fs D)
+    (λ B. and_then (find_choice_at w (members fs) m M) (λ V. and_then (find_under w V (suc (members fs)) t D) (λ G. only (list_ty B))))
+
+-- of an rpSwitchB: its members, its choice, and what it starts
+module _ (w : Walk) (fs : Networks Expression) (m : Expression) (t : Network Expression) (D M B V : TypeTree) (b : Walk) where
+  abbrev choice : Walk → Found
+  choice c = find_choice_at c (members fs) m M
+
+  abbrev start : Walk → Found
+  start c = find_under c V (suc (members fs)) t D
+
+  choice_here : SamePlace w b → choice b ≡ choice w
+  choice_here = in_place (λ Ps Os at. find_choice (map type_of Ps) at (members fs) m M) w b
+
+  start_here : (c : Walk) → SamePlace w c → start c ≡ start w
+  start_here c = in_place (λ Ps Os at. find (map type_of Ps ++ V ∷ []) (map arrow_of Os) (at ++ suc (members fs) ∷ []) t D) w c
+
+  module _ (adds : Adds (find_members_at w 0 fs D) B w b) (here : SamePlace w b) where
+    module _ (c : Walk) (chose : Adds (choice b) V b c) (there : SamePlace b c) where
+      chose_here : Adds (choice w) V b c
+      chose_here = subst (λ o. Adds o V b c) (choice_here here) chose
+
+      start_found : collected w fs m t D M ≢ None → start c ≢ None
+      start_found h = subst (λ o. o ≢ None) (sym (start_here c (still w b c here there)))
+          (finds_first (start w) (λ G. only (list_ty B)) (finds_rest (choice w) _ V chose_here.0 chose_here.1 (finds_rest _ _ B adds.0 adds.1 h)))
+
+      collected_adds : (T : TypeTree) (d : Walk) → Adds (start c) T c d → Adds (collected w fs m t D M) (list_ty B) w d
+      collected_adds T d last =
+          adds_then _ _ B (list_ty B) w b d adds
+          (adds_then (choice w) (λ U. and_then (find_under w U (suc (members fs)) t D) (λ G. only (list_ty B))) V (list_ty B) b c d chose_here
+          (adds_then (start w) (λ G. only (list_ty B)) T (list_ty B) c d d (subst (λ o. Adds o T c d) (start_here c (still w b c here there)) last)
+          ([], refl, sym (append-nil (map need_of d.needs.items)))))
+
+-- the same of an rpSwitchB in the code, which has its members, what it starts and the parts of its input under other names
+module _ (w : Walk) (fs gs : Networks Expr) (m : Expression) (t : Network Expr) (A D M : TypeTree) (count : ℕ) (many : count ≡ members fs) (slice : gs ≡ fs)
+    (pairs : A ≡ pair_ty D M) where
+  abbrev kept : Networks Expression
+  kept = map_networks expression_of fs
+
+  abbrev begun : Network Expression
+  begun = map_network expression_of t
+
+  abbrev code_collection : Found
+  code_collection = find_at w (rp_switch kept m begun) A
+
+  pub collection_few : code_collection ≢ None → members fs ≤ 64
+  collection_few h = omega (arith, few_members kept _ h, members_map expression_of fs)
+
+  within : members fs ≤ 64 → code_collection ≡ collected w kept m begun D M
+  within l =
+      few_inner kept _ (omega (arith, l, members_map expression_of fs))
+      ∙ ap (λ X. of_pair X (λ E N. collected w kept m begun E N)) pairs
+
+  found_within : code_collection ≢ None → collected w kept m begun D M ≢ None
+  found_within h = subst (λ o. o ≢ None) (within (collection_few h)) h
+
+  module _ (S : TypeTree) (sample : S ≡ D) where
+    members_are : find_members_at w 0 kept D ≡ find_members_at w 0 (map_networks expression_of gs) S
+    members_are i = find_members_at w 0 (map_networks expression_of (sym slice i)) (sym sample i)
+
+    pub code_members_found : code_collection ≢ None → (find_members_at w 0 (map_networks expression_of gs) S ≢ None) × (0 + members gs ≤ 65)
+    code_members_found h = (
+      subst (λ o. o ≢ None) members_are (finds_first _ _ (found_within h)),
+      omega (arith, collection_few h, ap (λ hs. members hs) slice),
+    )
+
+    module _ (B : TypeTree) (b : Walk) (adds : Adds (find_members_at w 0 (map_networks expression_of gs) S) B w b) (here : SamePlace w b) (N : TypeTree)
+        (event : N ≡ M) where
+      kept_add : Adds (find_members_at w 0 kept D) B w b
+      kept_add = subst (λ o. Adds o B w b) (sym members_are) adds
+
+      choice_is : find_choice_at b (members kept) m M ≡ find_choice_at b count m N
+      choice_is = let n : members kept ≡ count = counted fs count many in λ i. find_choice_at b (n i) m (sym event i)
+
+      module _ (V : TypeTree) (c : Walk) (chose : Adds (find_choice_at b count m N) V b c) (there : SamePlace b c) (u : Network Expr) (next : u ≡ t) (R : TypeTree)
+          (again : R ≡ D) where
+        chose_it : Adds (find_choice_at b (members kept) m M) V b c
+        chose_it = subst (λ o. Adds o V b c) (sym choice_is) chose
+
+        start_is : find_under c V (suc (members kept)) begun D ≡ find_under c V (1 + count) (map_network expression_of u) R
+        start_is =
+            let k : suc (members kept) ≡ 1 + count = omega (arith, counted fs count many) in
+            λ i. find_under c V (k i) (map_network expression_of (sym next i)) (sym again i)
+
+        pub code_start_found : code_collection ≢ None → find_under c V (1 + count) (map_network expression_of u) R ≢ None
+        code_start_found h = subst (λ o. o ≢ None) start_is (start_found w kept m begun D M B V b kept_add here c chose_it there (found_within h))
+
+        pub code_collection_adds : (T L : TypeTree) (d : Walk) → L ≡ list_ty B → code_collection ≢ None
+            → Adds (find_under c V (1 + count) (map_network expression_of u) R) T c d → Adds code_collection L w d
+        code_collection_adds T L d list h last =
+            subst (λ o. Adds o L w d) (sym (within (collection_few h)))
+            (subst (λ X. Adds (collected w kept m begun D M) X w d) (sym list)
+            (collected_adds w kept m begun D M B V b kept_add here c chose_it there T d (subst (λ o. Adds o T c d) (sym start_is) last)))
 
 pub on_ok : {X E : Type 0} (r : Result X E) (P Q : Type 0) → (P → Q) → OnOk r P → OnOk r Q
 on_ok (Ok x) P Q f h = f h

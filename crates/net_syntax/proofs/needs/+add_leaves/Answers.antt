@@ -1,4 +1,4 @@
-use Rattle.std.proofs.Common.{rules, arith, ◌≡◌, ◌≢◌, [], ◌∷◌, ◌++◌, None, Some, map, subst, sym, List}
+use Rattle.std.proofs.Common.{rules, arith, ◌≡◌, ◌≢◌, [], ◌∷◌, ◌++◌, None, Some, map, subst, sym, List, ap, refl}
 use Rattle.std.proofs.lemmas.Grind.{common_steps}
 use Rattle.sample_core.specs.TypeView.{type_of}
 use Rattle.leaf_core.specs.ExpressionView.{expression_of}
@@ -7,7 +7,7 @@ use Rattle.net_syntax.specs.Network.{map_network}
 use Rattle.net_syntax.specs.NetworkView.{tree_of}
 use Rattle.net_syntax.specs.NeedView.{need_of}
 use Rattle.net_syntax.specs.LeafWalk.{find}
-use Rattle.net_syntax.proofs.LeafWalks.{code_rest_found, code_routed_adds, code_watch_found, if_ok, joined_copies, par_members, route_found, still}
+use Rattle.net_syntax.proofs.LeafWalks.{code_collection_adds, code_members_found, code_rest_found, code_routed_adds, code_start_found, code_watch_found, collection_few, if_ok, joined_copies, par_members, route_found, still}
 use Rattle.net_syntax.proofs.needs.+add_leaves.Goals as goal
 
 pub add_resuming-add_continuation-requires : goal.add_resuming-add_continuation-requires
@@ -72,3 +72,46 @@ add_behind_route-returns t c =
           c.in_ok-event.ensures.1 (type_of o) last h.0,
       still w d last (still w b d c.in_ok-output.ensures.1 c.in_ok-event.ensures.1) h.1,
     )) c.add_resuming.ensures
+
+pub add_collection-count_members-count-requires : goal.add_collection-count_members-count-requires
+add_collection-count_members-count-requires t c =
+    collection_few c.args.walk.now c.args.fs.now c.args.fs.now (expression_of c.args.m.now) c.args.t.now _ c.in-Pair.sample c.in-Pair.event _ refl refl
+    (ap type_of c.in-Pair.is) c.requires
+
+pub add_collection-add_members-requires : goal.add_collection-add_members-requires
+add_collection-add_members-requires t c = (
+  search rules,
+  code_members_found c.args.walk.now c.args.fs.now _ (expression_of c.args.m.now) c.args.t.now _ c.in-Pair.sample c.in-Pair.event c.count_members-count.result
+      c.count_members-count.ensures c.as_slice.ensures (ap type_of c.in-Pair.is) _ c.get.ensures c.requires,
+)
+
+pub add_collection-overflow_add-count : goal.add_collection-overflow_add-count
+add_collection-overflow_add-count t c =
+    let few = collection_few c.args.walk.now c.args.fs.now c.args.fs.now (expression_of c.args.m.now) c.args.t.now _ c.in-Pair.sample c.in-Pair.event _ refl refl
+    (ap type_of c.in-Pair.is) c.requires in
+    omega (arith, few, c.count_members-count.ensures)
+
+pub add_collection-add_continuation-requires : goal.add_collection-add_continuation-requires
+add_collection-add_continuation-requires t c = (
+  search rules,
+  code_start_found c.args.walk.now c.args.fs.now _ (expression_of c.args.m.now) c.args.t.now _ c.in-Pair.sample c.in-Pair.event c.count_members-count.result
+      c.count_members-count.ensures c.as_slice.ensures (ap type_of c.in-Pair.is) _ c.get.ensures (type_of c.in_ok-output-in-Pair.output) c.add_members.new.walk
+      c.in_ok-output-in-Pair.ensures.0 c.in_ok-output-in-Pair.ensures.1 _ c.get-in-Pair.ensures (type_of c.in_ok-started-in-Pair.started) c.add_choice.new.walk
+      c.in_ok-started-in-Pair.ensures.0 c.in_ok-started-in-Pair.ensures.1 _ c.get-in-Pair-2.ensures _ c.get-in-Pair-3.ensures c.requires,
+)
+
+pub add_collection-returns : goal.add_collection-returns
+add_collection-returns t c =
+    let w = c.args.walk.now in
+    let b = c.add_members.new.walk in
+    let d = c.add_choice.new.walk in
+    let last = c.add_continuation.new.walk in
+    if_ok c.list_of.result _ _
+    (λ o h. (
+      code_collection_adds w c.args.fs.now _ (expression_of c.args.m.now) c.args.t.now _ c.in-Pair.sample c.in-Pair.event c.count_members-count.result
+          c.count_members-count.ensures c.as_slice.ensures (ap type_of c.in-Pair.is) _ c.get.ensures (type_of c.in_ok-output-in-Pair.output) b
+          c.in_ok-output-in-Pair.ensures.0 c.in_ok-output-in-Pair.ensures.1 _ c.get-in-Pair.ensures (type_of c.in_ok-started-in-Pair.started) d
+          c.in_ok-started-in-Pair.ensures.0 c.in_ok-started-in-Pair.ensures.1 _ c.get-in-Pair-2.ensures _ c.get-in-Pair-3.ensures
+          (type_of c.in_ok-add_continuation-in-Pair.field-0) (type_of o) last h c.requires c.in_ok-add_continuation-in-Pair.ensures.0,
+      still w d last (still w b d c.in_ok-output-in-Pair.ensures.1 c.in_ok-started-in-Pair.ensures.1) c.in_ok-add_continuation-in-Pair.ensures.1,
+    )) c.list_of.ensures
