@@ -13,6 +13,9 @@ pub mod RestartCounts
 pub mod MemberCounts
 pub mod CountedContexts
 pub mod OldCounts
+pub mod OpeningCounts
+pub mod LateRestartCounts
+pub mod CollectionCounts
 pub mod CellCounts
 pub mod Forms
 pub mod EngineMeets

@@ -78,7 +78,7 @@ answers-route : (r : Datum → Datum) (i : ℕ) (cs : List CountedFunction) (p :
 answers-route r i [] p x = refl
 answers-route r i (c ∷ cs) p x = ap₂ (λ y ys. y ∷ ys) (sym (answer-before (route_by r i) c.function p x)) (answers-route r (suc i) cs p x)
 
-tally-zeros : (p : TimedList) (x : ℕ × Datum) → visits_at zeros p x ≡ 0
+pub tally-zeros : (p : TimedList) (x : ℕ × Datum) → visits_at zeros p x ≡ 0
 tally-zeros p x = ap (last_or 0) (map_push (λ y. 0) p x) ∙ last_number (map (λ y. 0) p)
   where
     last_number : (ns : List ℕ) → last_or 0 (ns ++ 0 ∷ []) ≡ 0

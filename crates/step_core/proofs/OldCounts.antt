@@ -13,12 +13,12 @@ use Rattle.step_core.proofs.CountedFunctions.{Via-continues}
 abbrev pub old_counted : CountedFunction → CountedFunction
 old_counted o = record { function = o.function; visits = λ xs. first_and_one (o.visits xs) }
 
-first_counted : (ns : List ℕ) → length ns ≡ 1 → last_or 0 (first_and_one ns) ≡ suc (last_or 0 ns)
+pub first_counted : (ns : List ℕ) → length ns ≡ 1 → last_or 0 (first_and_one ns) ≡ suc (last_or 0 ns)
 first_counted [] l = absurd (omega arith)
 first_counted (n ∷ []) l = refl
 first_counted (n ∷ m ∷ ns) l = absurd (omega arith)
 
-later_counted : (ns : List ℕ) → 1 < length ns → last_or 0 (first_and_one ns) ≡ last_or 0 ns
+pub later_counted : (ns : List ℕ) → 1 < length ns → last_or 0 (first_and_one ns) ≡ last_or 0 ns
 later_counted [] l = absurd (omega arith)
 later_counted (n ∷ []) l = absurd (omega arith)
 later_counted (n ∷ m ∷ ns) l = refl
