@@ -1,8 +1,8 @@
 """Texts that are nearly right: bytes and tokens changed, trees with parts of other types, hostile sizes."""
 import re
 
-from generator.trees import EXPRESSION_WORDS, GREATEST, NETWORK_WORDS, head, is_network, preorder, replaced
-from generator.typed import Scope
+from model.trees import EXPRESSION_WORDS, GREATEST, NETWORK_WORDS, head, is_network, preorder, replaced
+from model.typed import Scope
 
 SPLICED = [b"(", b")", b" ", b"\n", b";", b"-", b"0", b"9", b"+", b"=", b"\0", b"\x0b", b"\r", b"\t", b"\x80", b"\xff", b"x"]
 STEPS = b"+0 +00 +01 +-1 + 1 ++1 +1a +9223372036854775807 +9223372036854775808 +99999999999999999999".split()

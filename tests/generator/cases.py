@@ -3,13 +3,13 @@ import random
 
 from generator.breaking import Breaker
 from generator.holding import Command, Find
-from generator.laws import taken
+from model.laws import taken
 from generator.limits import Limits
 from generator.making import FORM_WEIGHTS, Maker
 from generator.steps import StepMaker, reversed_steps
-from generator.texts import LAWS, NEW_LAWS, Step, certificate_text, network_text
-from generator.trees import NEW_FORMS, SUGAR_WORDS, child_places, expanded, head, is_network, preorder, shown
-from generator.typed import Scope, check_types
+from model.texts import LAWS, NEW_LAWS, Step, certificate_text, network_text
+from model.trees import NEW_FORMS, SUGAR_WORDS, child_places, expanded, head, is_network, preorder, shown
+from model.typed import Scope, check_types
 
 
 class Case:

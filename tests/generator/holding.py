@@ -9,11 +9,11 @@ from dataclasses import dataclass, field
 from functools import lru_cache
 from pathlib import Path
 
-from generator.laws import StepFault, checked, optimised
-from generator.meaning import Environment, Model, TooSlow
-from generator.texts import TextFault, certificate_text, network_text, read_certificate, read_network, read_stream
-from generator.trees import children, is_network, shown
-from generator.typed import TypeFault, check_types
+from model.laws import StepFault, checked, optimised
+from model.meaning import Environment, Model, TooSlow
+from model.texts import TextFault, certificate_text, network_text, read_certificate, read_network, read_stream
+from model.trees import children, is_network, shown
+from model.typed import TypeFault, check_types
 
 ROLES = {
     "types": ["network"],

@@ -1,8 +1,8 @@
 """Files and streams at the limits, and one past them."""
 from generator.holding import Command
-from generator.texts import Step, certificate_text, network_text
-from generator.trees import NUMBERS
-from generator.typed import event, pair
+from model.texts import Step, certificate_text, network_text
+from model.trees import NUMBERS
+from model.typed import event, pair
 
 
 def nested(times, around, tree):

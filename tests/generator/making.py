@@ -1,5 +1,5 @@
 """Random types, values, expressions, networks and streams, all of them typed."""
-from generator.trees import (
+from model.trees import (
     GREATEST,
     NETWORK_FORMS,
     NETWORK_SUGAR,
@@ -9,7 +9,7 @@ from generator.trees import (
     SWAP,
     shown,
 )
-from generator.typed import Scope, event, is_form, list_of, pair
+from model.typed import Scope, event, is_form, list_of, pair
 
 FORM_WEIGHTS = {word: 2 for word in [*NETWORK_FORMS, *NETWORK_WORDS]}
 FORM_WEIGHTS |= {word: 1 for word in [*NETWORK_SUGAR, *NETWORK_SUGAR_WORDS]}

@@ -1,5 +1,5 @@
 """Random steps of certificates: left sides of the laws, put into random networks, and rows of steps in both directions."""
-from generator.laws import (
+from model.laws import (
     ASSOC,
     DISTRIBUTED,
     FOLDED,
@@ -13,9 +13,9 @@ from generator.laws import (
     seq,
     taken,
 )
-from generator.texts import LAWS, NEW_LAWS, Step
-from generator.trees import at, children, expanded, head, is_literal, is_network, preorder, replaced
-from generator.typed import ExpressionFault, ExpressionWalk, Scope, check_types, event, is_form, list_of, pair
+from model.texts import LAWS, NEW_LAWS, Step
+from model.trees import at, children, expanded, head, is_literal, is_network, preorder, replaced
+from model.typed import ExpressionFault, ExpressionWalk, Scope, check_types, event, is_form, list_of, pair
 
 
 class LeftSides:

@@ -2,7 +2,7 @@
 import re
 from dataclasses import dataclass
 
-from generator.trees import (
+from model.trees import (
     EXPRESSION_FORMS,
     EXPRESSION_SUGAR,
     EXPRESSION_WORDS,
@@ -19,7 +19,7 @@ from generator.trees import (
     is_new,
     shown,
 )
-from generator.typed import at_text
+from model.typed import at_text
 
 FILE_BYTES = 1_048_576
 LINE_BYTES = 65_536

@@ -2,7 +2,7 @@
 from collections import Counter
 from dataclasses import dataclass
 
-from generator.trees import head, is_literal
+from model.trees import head, is_literal
 
 
 class TooSlow(Exception):

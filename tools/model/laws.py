@@ -1,8 +1,8 @@
 """The laws, from left to right; what a step of a certificate makes; what the optimiser takes."""
-from generator.meaning import STRICT
-from generator.texts import Step
-from generator.trees import SWAP, at, head, is_literal, is_network, preorder, replaced
-from generator.typed import TypeFault, check_types
+from model.meaning import STRICT
+from model.texts import Step
+from model.trees import SWAP, at, head, is_literal, is_network, preorder, replaced
+from model.typed import TypeFault, check_types
 
 ASSOC = ("pair", ("fst", ("fst", "x")), ("pair", ("snd", ("fst", "x")), ("snd", "x")))
 UNASSOC = ("pair", ("pair", ("fst", "x"), ("fst", ("snd", "x"))), ("snd", ("snd", "x")))

@@ -2,7 +2,7 @@
 from dataclasses import dataclass
 from functools import lru_cache
 
-from generator.trees import child_places, children, head, is_literal
+from model.trees import child_places, children, head, is_literal
 
 TYPE_DEPTH, TYPE_NODES = 32, 256
 EXPRESSION_HEIGHT, EXPRESSION_NODES = 256, 100_000
