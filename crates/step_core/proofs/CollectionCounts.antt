@@ -31,6 +31,10 @@ abbrev pub tallies_of : List (Member CountedFunction) → ℕ × Datum → ℕ
 tallies_of [] x = 0
 tallies_of (m ∷ ms) x = visits_at m.0.visits m.1 x + tallies_of ms x
 
+pub moved-nil : (ms : List (Member CountedFunction)) → moved ms [] ≡ ms
+moved-nil [] = refl
+moved-nil (m ∷ ms) = ap₂ (λ p l. let k : Member CountedFunction = (m.0, p) in k ∷ l) (append-nil m.1) (moved-nil ms)
+
 -- the members took a sample in
 pub record AllTook (M : List (Member CountedFunction) → TimedList
     → Type 0) (ms : List (Member CountedFunction)) (x : ℕ × Datum) (ys : List Datum) (n : ℕ) : Type 0 where
@@ -265,7 +269,3 @@ module _ (r : Datum → Datum) (t : Datum → CountedFunction) where
                     ∙ sym (last_answer [] ∙ ap (last_or unit) (function_is over now) ∙ answer-members over an [] (x.0, a));
                 counted = ap suc (tm.counted ∙ sym unmoved_tally) ∙ sym (last_counts [] ∙ ap suc (tally-members over an [] (x.0, a)));
               }
-            where
-              moved-nil : (ns : List (Member CountedFunction)) → moved ns [] ≡ ns
-              moved-nil [] = refl
-              moved-nil (m ∷ ns) = ap₂ (λ p l. let k : Member CountedFunction = (m.0, p) in k ∷ l) (append-nil m.1) (moved-nil ns)

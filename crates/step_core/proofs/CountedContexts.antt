@@ -1,18 +1,20 @@
 -- What scopes denote.
-use Rattle.std.proofs.Common.{◌≡◌, ℕ, zero, suc, List, [], ◌∷◌, ◌++◌, take, drop, refl, sym, ap, ap₂, ◌∙◌, Option, Some, None}
+use Rattle.std.proofs.Common.{◌≡◌, ℕ, zero, suc, List, [], ◌∷◌, ◌++◌, map, take, drop, refl, sym, ap, ap₂, ◌∙◌, Option, Some, None}
+use Rattle.std.proofs.lemmas.List.{take-map}
 use mathlib.Core.Path.{fun_ext}
 use Rattle.sample_core.specs.Datum.{Datum}
-use Rattle.net_syntax.specs.SignalFunction.{TimedList, SignalFunction, route, par_function, switch_at, watch, first_event, pair_samples, step_of, freeze_all, resume, collect}
-use Rattle.net_syntax.specs.Network.{Network, Networks, par, k_switch, p_switch, no_members, and_member}
+use Rattle.net_syntax.specs.SignalFunction.{TimedList, SignalFunction, route, par_function, switch_at, watch, first_event, pair_samples, step_of, freeze_all, resume, collect, pieces, Member, new_members, first_members, by_members, member_outputs}
+use Rattle.net_syntax.specs.Network.{Network, Networks, par, rp_switch, k_switch, p_switch, no_members, and_member}
 use Rattle.net_syntax.specs.Meaning.{old_at, meaning, meanings}
-use Rattle.state_core.specs.Visits.{VisitCounts, counts_at, visits, visits_all, freeze_counts, and_one, add_counts, sum_of_all, sum_by_route, switch_counts, resume_counts}
+use Rattle.state_core.specs.Visits.{VisitCounts, counts_at, visits, visits_all, freeze_counts, and_one, add_counts, sum_of_all, sum_by_route, switch_counts, resume_counts, member_counts}
 use Rattle.net_syntax.specs.Weight.{weight}
 use Rattle.state_core.specs.CountedFunction.{CountedFunction, IsCountedFunction}
-use Rattle.state_core.specs.CountedForms.{functions_of, counts_of_all, route_by, counted_resume, counted_resume_each, counted_par, counted_k_switch, counted_p_switch}
+use Rattle.state_core.specs.CountedForms.{functions_of, counts_of_all, route_by, counted_resume, counted_resume_each, counted_par, counted_rp_switch, counted_k_switch, counted_p_switch}
 use Rattle.state_core.specs.CountedContext.{CountedContext, context_in, context_with_param, context_with_olds, counted_meaning, counted_meanings}
 use Rattle.state_core.specs.State.{States, Scope, Frozens, Frozen, no_state, and_state, scope, no_frozen, and_frozen, append_frozens, frozen_at, push_param, push_olds, all_unstarted, all_paused}
 use Rattle.state_core.specs.Stands.{StandDirectly, Denotes, AllDenote, FrozenDenotes}
 use Rattle.net_syntax.proofs.Meanings.{IsSignal-meaning}
+use Rattle.net_syntax.proofs.MappedMembers.{new_members-map}
 use Rattle.step_core.proofs.VisitBounds.{IsCount-visits}
 use Rattle.step_core.proofs.VisitSums.{AllCounts}
 use Rattle.step_core.proofs.MemberCounts.{AllCounted, no_counted, and_counted, AllCounted-signals, heaviest_of, IsCounted-resume, together}
@@ -24,6 +26,9 @@ signals-append (c ∷ cs) ds = ap (λ fs. c.function ∷ fs) (signals-append cs 
 pub counts-append : (cs ds : List CountedFunction) → counts_of_all (cs ++ ds) ≡ counts_of_all cs ++ counts_of_all ds
 counts-append [] ds = refl
 counts-append (c ∷ cs) ds = ap (λ fs. c.visits ∷ fs) (counts-append cs ds)
+
+first-mapped : {X Y : Type 0} (h : X → Y) (xs : List X) → map (λ m. (h m.0, m.1)) (first_members xs) ≡ first_members (map h xs)
+first-mapped h xs = sym (take-map (λ m. (h m.0, m.1)) 64 (new_members xs)) ∙ ap (take 64) (new_members-map h xs)
 
 module _ {L : Type 0} (val : L → List Datum → Datum → Datum) where
   pub IsCounted-counted : (net : Network L) (S : CountedContext) → AllCounted S.olds → IsCountedFunction (counted_meaning val net S)
@@ -121,6 +126,20 @@ module _ {L : Type 0} (val : L → List Datum → Datum → Datum) where
   pub counted-par : (fs : Networks L) (S : CountedContext) → counted_meaning val (par fs) S ≡ counted_par (counted_meanings val fs S)
   counted-par fs S = ap₂ (λ gs vs. let c : CountedFunction = record { function = par_function gs; visits = λ xs. and_one (sum_of_all vs xs) } in c)
       (sym (signals-counted_each fs S)) (sym (counts-counted_each fs S))
+
+  pub counted-rp_switch : (fs : Networks L) (m : L) (t : Network L) (S : CountedContext)
+      → counted_meaning val (rp_switch fs m t) S
+      ≡ counted_rp_switch (val m S.params) (counted_meanings val fs S) (λ v. counted_meaning val t (context_with_param S v))
+  counted-rp_switch fs m t S =
+      let r : Datum → Datum = val m S.params in
+      let cs : List CountedFunction = counted_meanings val fs S in
+      let tc : Datum → CountedFunction = λ v. counted_meaning val t (context_with_param S v) in
+      let F : List (Member SignalFunction) → List (Member VisitCounts) → CountedFunction = λ gs vs. record {
+        function = λ xs. by_members member_outputs r (λ v. (tc v).function) gs (pieces xs).0 (pieces xs).1;
+        visits = λ xs. and_one (by_members member_counts r (λ v. (tc v).visits) vs (pieces xs).0 (pieces xs).1);
+      } in
+      ap₂ F (ap first_members (sym (signals-counted_each fs S)) ∙ sym (first-mapped (λ c. c.function) cs))
+      (ap first_members (sym (counts-counted_each fs S)) ∙ sym (first-mapped (λ c. c.visits) cs))
 
   -- a switch of f and e to t, under what the frozen networks are
   abbrev frozen_counted : CountedFunction → CountedFunction → Network L → CountedContext → (TimedList → ℕ → List SignalFunction)

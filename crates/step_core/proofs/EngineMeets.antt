@@ -1,18 +1,18 @@
 -- What starts stands for the network's meaning, and what steps goes on standing for it.
 use Rattle.std.proofs.Common.{◌≡◌, ℕ, suc, ◌+◌, List, [], ◌∷◌, map, refl, sym, ap, ap₂, subst, None}
 use Rattle.sample_core.specs.Datum.{Datum, unit, left, right, pair, list, list_of, no_event}
-use Rattle.net_syntax.specs.SignalFunction.{TimedList, SignalFunction, last_or, each_value, first_event, rights, watch, collect, i_pre_value, latest_event, values, if_event, IsSignalFunction}
-use Rattle.net_syntax.specs.Network.{Network, Networks, arr, loop_pre, i_pre, delay, hold, accum_by, after, repeatedly, switch, d_switch, r_switch, p_switch}
+use Rattle.net_syntax.specs.SignalFunction.{TimedList, SignalFunction, last_or, each_value, first_event, rights, watch, collect, i_pre_value, latest_event, values, if_event, Member, first_members, IsSignalFunction}
+use Rattle.net_syntax.specs.Network.{Network, Networks, arr, loop_pre, i_pre, delay, hold, accum_by, after, repeatedly, switch, d_switch, r_switch, initial_out, initial_in, dr_switch, rp_switch, p_switch}
 use Rattle.state_core.specs.Visits.{first_and_one}
 use Rattle.std.proofs.lemmas.List.{map_push}
 use Rattle.state_core.specs.CountedFunction.{CountedFunction, IsCountedFunction, StandsVia, TakesSample}
-use Rattle.state_core.specs.CountedForms.{functions_of, same_input, route_by, counted_k_switch, counted_p_switch, counted_resume, counted_resume_each}
+use Rattle.state_core.specs.CountedForms.{functions_of, same_input, route_by, counted_rp_switch, counted_k_switch, counted_p_switch, counted_resume, counted_resume_each}
 use Rattle.state_core.specs.CountedContext.{CountedContext, context_with_param, context_with_olds, counted_meaning, counted_meanings}
 use Rattle.cell_core.specs.Cell.{previous, queue, latest, recurring}
-use Rattle.state_core.specs.State.{State, States, Scope, Frozen, scope, no_frozen, and_frozen, unstarted, paused, params_of, frozens_of, push_param, all_unstarted, all_paused, arr_state, par_state, loop_state, cell_state, accum_state, k_switch_state, p_switch_state}
-use Rattle.state_core.specs.Stands.{StandsDirectly, StandDirectly, Denotes, AllDenote, FrozenDenotes, Stands}
+use Rattle.state_core.specs.State.{State, States, Scope, Frozen, scope, no_frozen, and_frozen, unstarted, paused, params_of, frozens_of, push_param, all_unstarted, all_paused, arr_state, par_state, loop_state, cell_state, accum_state, k_switch_state, p_switch_state, rp_switch_state, first_frozen}
+use Rattle.state_core.specs.Stands.{StandsDirectly, StandDirectly, StandEach, Denotes, AllDenote, FrozenDenotes, Stands}
 use Rattle.step_core.specs.Stepping
-use Rattle.step_core.specs.Stepping.{Starts, StartsEach, Resumes, Steps, StepsEach, event_in, restart_in}
+use Rattle.step_core.specs.Stepping.{Starts, StartsEach, Resumes, ResumesEach, Steps, StepsEach, event_in, restart_in}
 use Rattle.net_syntax.proofs.Steps.{signal-nil}
 use Rattle.step_core.proofs.CountedFunctions.{Took-continues}
 use Rattle.step_core.proofs.PlainCounts.{arr_took, seq_took, first_took, loop_took}
@@ -20,9 +20,13 @@ use Rattle.step_core.proofs.CellCounts.{cell_starts, accum_took, delay_starts, a
 use Rattle.step_core.proofs.SwitchCounts.{switch_took, switch_over_took, d_switch_took, d_switch_over_took, k_switch_took, k_switch_over_took}
 use Rattle.step_core.proofs.RestartCounts.{r_switch_took, r_switch_over_took, cut_is, Uncut-nil}
 use Rattle.step_core.proofs.MemberCounts.{AllCounted, no_counted, and_counted, AllCounted-append, AllCounted-resume, IsCounted-resume, EachTook, par_took, p_switch_took, p_switch_over_took}
+use Rattle.step_core.proofs.OpeningCounts.{initial_out_took, initial_in_took}
+use Rattle.step_core.proofs.LateRestartCounts.{dr_switch_took, dr_switch_over_took}
+use Rattle.step_core.proofs.CollectionCounts.{AllTook}
+use Rattle.step_core.proofs.CollectionStands.{AllPaired, no_pair, and_pair, GoesAs, goes-counted, first-go, first-counted, collection_took, collection_moves}
 use Rattle.step_core.proofs.OldCounts.{old_counted, resume_took}
-use Rattle.step_core.proofs.CountedContexts.{IsCounted-counted, AllCounted-counted_each, Denotes-counted_each, Denotes-push_param, Denotes-push_olds, AllDenote-unstarted, AllDenote-paused, StandDirectly-counted_each, Found, found, counted-par, counted-k_switch, counted-p_switch}
-use Rattle.step_core.proofs.Forms.{arr_moves, seq_moves, first_moves, par_moves, loop_moves, cell_moves, accum_moves, switch_moves, switch_over_moves, d_switch_moves, d_switch_over_moves, r_switch_moves, r_switch_over_moves, k_switch_moves, k_switch_over_moves, p_switch_moves, p_switch_over_moves}
+use Rattle.step_core.proofs.CountedContexts.{IsCounted-counted, AllCounted-counted_each, Denotes-counted_each, Denotes-push_param, Denotes-push_olds, AllDenote-unstarted, AllDenote-paused, StandDirectly-counted_each, Found, found, counted-par, counted-rp_switch, counted-k_switch, counted-p_switch}
+use Rattle.step_core.proofs.Forms.{arr_moves, seq_moves, first_moves, par_moves, loop_moves, cell_moves, accum_moves, switch_moves, switch_over_moves, d_switch_moves, d_switch_over_moves, r_switch_moves, r_switch_over_moves, dr_switch_moves, dr_switch_over_moves, k_switch_moves, k_switch_over_moves, p_switch_moves, p_switch_over_moves}
 
 pub Took-weaker : {P Q : CountedFunction → TimedList → Type 0} (c : CountedFunction) (p : TimedList) (x : ℕ × Datum) (y : Datum) (n : ℕ)
     → ((d : CountedFunction) (q : TimedList) → P d q → Q d q) → TakesSample (StandsVia P) c p x y n → TakesSample (StandsVia Q) c p x y n
@@ -209,6 +213,36 @@ module _ {L : Type 0} (val : L → List Datum → Datum → Datum) where
         subst (λ c. TakesSample (Stands val a) c [] (d, x) y (suc n))
         (sym (ap₂ (λ g v. let c : CountedFunction = record { function = g; visits = λ xs. first_and_one (v xs) } in c) at.same_signal at.same_counts))
         (resumes kr at.counted_of d at.denoted)
+    starts (Stepping.start_initial_out {c = c} {f = f} {s = s} {x = x} {a = a} {v = v} {n = n} kf) S d h =
+        let u : Datum = val c (params_of s) unit in
+        by_own (initial_out c f) s S a (d, x) u (suc n) h
+        (initial_out_took u (counted_meaning val f (own s S)) (part_of f s (own s S) (Denotes-own s S h)) (d, x) {P = StandsDirectly val a} v n
+        (starts kf (own s S) d (Denotes-own s S h)))
+    starts (Stepping.start_initial_in {c = c} {f = f} {s = s} {x = x} {a = a} {y = y} {n = n} kf) S d h =
+        let u : Datum = val c (params_of s) unit in
+        by_own (initial_in c f) s S a (d, x) y (suc n) h
+        (initial_in_took u (counted_meaning val f (own s S)) (part_of f s (own s S) (Denotes-own s S h)) (d, x) {P = StandsDirectly val a} y n
+        (starts kf (own s S) d (Denotes-own s S h)))
+    starts (Stepping.start_dr_switch {f = f} {t = t} {s = s} {x = x} {y = y} {n = n} e kf) S d h =
+        Took-weaker (counted_meaning val (dr_switch f t) S) [] (d, x) y (suc n) (λ c q sh. (S, h, sh))
+        (dr_switch_took (λ v. counted_meaning val t (context_with_param S v)) (counted-over t S (Denotes-counted_each val s S h)) (counted_meaning val f S)
+        (part_of f s S h) [] (d, x) Uncut-nil y n e (starts kf S d h))
+    starts (Stepping.cut_dr_switch {f = f} {t = t} {s = s} {x = x} {a = a} {u = u} {c = c} {y = y} {z = z} {m = m} {n = n} e kf kt) S d h =
+        Took-weaker (counted_meaning val (dr_switch f t) S) [] (d, x) y (suc (m + n)) (λ c q sh. (S, h, sh))
+        (dr_switch_over_took (λ v. counted_meaning val t (context_with_param S v)) (counted-over t S (Denotes-counted_each val s S h)) (counted_meaning val f S)
+        (part_of f s S h) [] (d, x) Uncut-nil u c (cut_is x u c e) {A = Stands val a} y z m n (starts kf S d h)
+        (starts kt (context_with_param S c) d (Denotes-push_param val s S c h)))
+    starts (Stepping.start_rp_switch {fs = fs} {m = m} {t = t} {s = s} {x = x} {as' = as'} {ys = ys} {n = n} ks) S d h =
+        let own_S : CountedContext = own s S in
+        let own_h : Denotes val s own_S = Denotes-own s S h in
+        let r : Datum → Datum = val m (params_of s) in
+        let cs : List CountedFunction = counted_meanings val fs own_S in
+        let tc : Datum → CountedFunction = λ v. counted_meaning val t (context_with_param own_S v) in
+        by_own (rp_switch fs m t) s S (rp_switch_state m as' t s) (d, x) (list (list_of ys)) (suc n) h
+        (subst (λ c. TakesSample (Stands val (rp_switch_state m as' t s)) c [] (d, x) (list (list_of ys)) (suc n)) (sym (counted-rp_switch val fs m t own_S))
+        (Took-weaker (counted_rp_switch r cs tc) [] (d, x) (list (list_of ys)) (suc n) (λ c q sh. (own_S, own_h, sh))
+        (collection_took val r t s tc (d, x) (λ v. (context_with_param own_S v, Denotes-push_param val s own_S v own_h, refl)) as' ys n (first_frozen fs s)
+        (first_members cs) (first-counted val fs s own_S own_h) [] Uncut-nil (first-go val d fs s own_S own_h) (λ ns w. resumes_each ks ns d w))))
 
     pub starts_each : {h : ℕ → Datum → Datum} {i : ℕ} {fs : Networks L} {s : Scope L} {x : Datum} {as' : States L} {ys : List Datum} {n : ℕ}
         → StartsEach val h i fs s x as' ys n → (S : CountedContext) (d : ℕ) → Denotes val s S
@@ -328,6 +362,46 @@ module _ {L : Type 0} (val : L → List Datum → Datum → Datum) where
         (λ cs ms. starts kt (context_with_olds (context_with_param S e) (counted_resume_each rv 0 cs st.past x.0)) x.0
         (Denotes-push_olds val (push_param s e) (context_with_param S e) (all_paused as' x.0) (counted_resume_each rv 0 cs st.past x.0)
         (Denotes-push_param val s S e st.holds.1) (AllDenote-paused val rv 0 as' cs st.past x.0 ms))))
+    steps (Stepping.step_dr_switch {t = t} {s = s} {x = x} {y = y} {n = n} e ka) c p st =
+        let S : CountedContext = st.holds.0 in
+        Took-continues c st.other p st.past x y (suc n) st.goes_on
+        (Took-weaker st.other st.past x y (suc n) (λ c q sh. (S, st.holds.1, sh))
+        (dr_switch_moves x st.other st.past (λ v. counted_meaning val t (context_with_param S v)) (counted-over t S (Denotes-counted_each val s S st.holds.1)) y
+        n st.holds.2 e (λ f q a. steps ka f q a)))
+    steps (Stepping.step_dr_switch_over {a' = a'} {t = t} {s = s} {x = x} {u = u} {c = e} {y = y} {z = z} {m = m} {n = n} i ka kt) c p st =
+        let S : CountedContext = st.holds.0 in
+        Took-continues c st.other p st.past x y (suc (m + n)) st.goes_on
+        (Took-weaker st.other st.past x y (suc (m + n)) (λ c q sh. (S, st.holds.1, sh))
+        (dr_switch_over_moves x st.other st.past (λ v. counted_meaning val t (context_with_param S v))
+        (counted-over t S (Denotes-counted_each val s S st.holds.1)) {A' = Stands val a'} u e y z m n st.holds.2 i (λ f q a. steps ka f q a)
+        (starts kt (context_with_param S e) x.0 (Denotes-push_param val s S e st.holds.1))))
+    steps (Stepping.step_rp_switch {r = r} {as' = as'} {bs = bs} {t = t} {s = s} {x = x} {ys = ys} {n = n} ks) c p st =
+        let S : CountedContext = st.holds.0 in
+        let y : Datum = list (list_of ys) in
+        Took-continues c st.other p st.past x y (suc n) st.goes_on
+        (Took-weaker st.other st.past x y (suc n) (λ c q sh. (S, st.holds.1, sh))
+        (collection_moves val (val r (params_of s)) t s (λ v. counted_meaning val t (context_with_param S v)) x
+        (λ v. (context_with_param S v, Denotes-push_param val s S v st.holds.1, refl)) bs ys n as' st.other st.past st.holds.2 (λ ns w. resumes_each ks ns x.0 w)))
+
+    -- what a frozen network goes on as takes the sample in that it resumes with
+    goes_on : {f : Frozen L} {x : Datum} {a : State L} {y : Datum} {n : ℕ} → Resumes val f x a y n → (m : Member CountedFunction) (d : ℕ)
+        → GoesAs val d f m → TakesSample (Stands val a) m.0 m.1 (d, x) y n
+    goes_on (Stepping.resume_unstarted {x = x} {a = a} {y = y} {n = n} k) m d w =
+        subst (λ (l : Member CountedFunction). TakesSample (Stands val a) l.0 l.1 (d, x) y n) (sym w.2) (starts k w.0 d w.1)
+    goes_on (Stepping.resume_paused {b = b} {x = x} {y = y} {n = n} k) m d w =
+        subst (λ e. TakesSample (Stands val b) m.0 m.1 (e, x) y n) w.1 (steps k m.0 m.1 w.2)
+
+    pub resumes_each : {fs : List (Frozen L)} {x : Datum} {as' : States L} {ys : List Datum} {n : ℕ} → ResumesEach val fs x as' ys n
+        → (ms : List (Member CountedFunction)) (d : ℕ) → AllPaired (GoesAs val d) fs ms → AllTook (StandEach val as') ms (d, x) ys n
+    resumes_each Stepping.resume_none ms d no_pair = record { stand = tt; answered = refl; counted = refl }
+    resumes_each (Stepping.resume_also {f = f} {x = x} {a = a} {as' = as'} {y = y} {ys = ys} {m = k} {n = n} kf ks) ms d (and_pair {b = m} {ys = ns} w ws) =
+        let one : TakesSample (Stands val a) m.0 m.1 (d, x) y k = goes_on kf m d w in
+        let rest : AllTook (StandEach val as') ns (d, x) ys n = resumes_each ks ns d ws in
+        record {
+          stand = (goes-counted val d f m w, one.stands, rest.stand);
+          answered = ap₂ (λ v vs. v ∷ vs) one.answered rest.answered;
+          counted = ap₂ (λ m n. m + n) one.counted rest.counted;
+        }
 
     pub steps_each : {h : ℕ → Datum → Datum} {i : ℕ} {as' : States L} {x : ℕ × Datum} {bs : States L} {ys : List Datum} {n : ℕ}
         → StepsEach val h i as' x bs ys n → (cs : List CountedFunction) (p : TimedList) → StandDirectly val as' h i cs p

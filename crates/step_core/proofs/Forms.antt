@@ -4,13 +4,14 @@ use Rattle.sample_core.specs.Datum.{Datum, left, right, pair, list, list_of}
 use Rattle.net_syntax.specs.SignalFunction.{TimedList, if_event, fold_events}
 use Rattle.state_core.specs.CountedFunction.{CountedFunction, IsCountedFunction, StandsVia, TakesSample}
 use Rattle.state_core.specs.CountedForms.{counted_cell, counted_switch, counted_d_switch, same_input, route_by, counted_resume, counted_resume_each}
-use Rattle.state_core.specs.StandsByForm.{ArrStands, SeqStands, FirstStands, ParStands, LoopStands, AccumStands, SwitchStands, RSwitchStands, KSwitchStands, PSwitchStands, CellStands}
+use Rattle.state_core.specs.StandsByForm.{ArrStands, SeqStands, FirstStands, ParStands, LoopStands, AccumStands, SwitchStands, RSwitchStands, DrSwitchStands, KSwitchStands, PSwitchStands, CellStands}
 use Rattle.step_core.specs.Stepping.{event_in, restart_in}
 use Rattle.step_core.proofs.PlainCounts.{arr_took, seq_took, first_took, loop_took}
 use Rattle.cell_core.specs.Cell.{Cell, cell_step}
 use Rattle.step_core.proofs.CellCounts.{accum_took, cell_took}
 use Rattle.step_core.proofs.SwitchCounts.{switch_took, switch_over_took, d_switch_took, d_switch_over_took, k_switch_took, k_switch_over_took}
 use Rattle.step_core.proofs.RestartCounts.{r_switch_took, r_switch_over_took, cut_is}
+use Rattle.step_core.proofs.LateRestartCounts.{dr_switch_took, dr_switch_over_took}
 use Rattle.step_core.proofs.MemberCounts.{AllCounted, AllCounted-resume, IsCounted-resume, EachTook, par_took, p_switch_took, p_switch_over_took}
 
 -- on x a part that has A answers y, visits n nodes and then has B
@@ -99,6 +100,19 @@ module _ (x : ℕ × Datum) (c : CountedFunction) (p : TimedList) where
     r_switch_over_moves {A} {B} u e y n s h tt' =
         subst (λ d. TakesSample (StandsVia (RSwitchStands B t)) d p x y (suc n)) (sym s.same)
         (r_switch_over_took s.f t s.is_f p x s.uncut u e (cut_is x.1 u e h) (ct e) {A = B} y n tt')
+
+    pub dr_switch_moves : {A A' : CountedFunction → TimedList → Type 0} (y : Datum) (n : ℕ) → DrSwitchStands A t c p → restart_in x.1 ≡ None
+        → Moves A A' (x.0, left x.1) y n → TakesSample (StandsVia (DrSwitchStands A' t)) c p x y (suc n)
+    dr_switch_moves {A} {A'} y n s e ka =
+        subst (λ d. TakesSample (StandsVia (DrSwitchStands A' t)) d p x y (suc n)) (sym s.same)
+        (dr_switch_took t ct s.f s.is_f p x s.uncut {A = A'} y n e (ka s.f _ s.first_part))
+
+    pub dr_switch_over_moves : {A A' B : CountedFunction → TimedList → Type 0} (u e y z : Datum) (m n : ℕ) → DrSwitchStands A t c p
+        → restart_in x.1 ≡ Some (u, e) → Moves A A' (x.0, u) y m → TakesSample B (t e) [] (x.0, u) z n
+        → TakesSample (StandsVia (DrSwitchStands B t)) c p x y (suc (m + n))
+    dr_switch_over_moves {A} {A'} {B} u e y z m n s h ka tt' =
+        subst (λ d. TakesSample (StandsVia (DrSwitchStands B t)) d p x y (suc (m + n))) (sym s.same)
+        (dr_switch_over_took t ct s.f s.is_f p x s.uncut u e (cut_is x.1 u e h) {A = A'} {B = B} y z m n (ka s.f _ s.first_part) tt')
 
   module _ (t : Datum → CountedFunction → CountedFunction) (ct : (v : Datum) (o : CountedFunction) → IsCountedFunction o → IsCountedFunction (t v o)) where
     pub k_switch_moves : {A B A' B' : CountedFunction → TimedList → Type 0} (v w : Datum) (m n : ℕ) → KSwitchStands A B t c p → Moves A A' x v m

@@ -80,9 +80,15 @@ module _ (t : Datum → CountedFunction) (ct : (c : Datum) → IsCountedFunction
       let heard : List ℕ = drop 1 ((t q.0).visits r) in
       let ih : length (next_sample qs') + length (each_late (λ c. (t c).visits) qs') ≡ length (starts_on (λ c. (t c).visits) qs') = heard-started qs' b in
       let lr : length ((t q.0).visits r) ≡ length r = (ct q.0).is_count.counted r in
-      omega (arith, length-take 1 q.1, length-append q.1 (next_sample qs'), length-drop 1 ((t q.0).visits r),
-      length-append heard (each_late (λ c. (t c).visits) qs'), length-at_first q.0 q.1,
-      length-append (at_first (t q.0).visits q.1) (starts_on (λ c. (t c).visits) qs'))
+      omega (
+        arith,
+        length-take 1 q.1,
+        length-append q.1 (next_sample qs'),
+        length-drop 1 ((t q.0).visits r),
+        length-append heard (each_late (λ c. (t c).visits) qs'),
+        length-at_first q.0 q.1,
+        length-append (at_first (t q.0).visits q.1) (starts_on (λ c. (t c).visits) qs'),
+      )
 
   module _ (f : CountedFunction) (cf : IsCountedFunction f) where
     seen : (q : TimedList) → Uncut q → (counted_dr_switch f t).function q ≡ f.function (each_value left q)
@@ -170,9 +176,15 @@ module _ (t : Datum → CountedFunction) (ct : (c : Datum) → IsCountedFunction
         length-heard rest =
             let p : Pieces = pieces rest in
             let l : length ((t c).visits (new rest)) ≡ length (new rest) = (ct c).is_count.counted (new rest) in
-            omega (arith, length-append (drop 1 ((t c).visits (new rest))) (each_late (λ c. (t c).visits) p.1), length-drop 1 ((t c).visits (new rest)),
-            length-append p.0 (next_sample p.1), heard-started p.1 (pieces-begun rest), length-append (zeros p.0) (starts_on (λ c. (t c).visits) p.1),
-            length-zeros p.0)
+            omega (
+              arith,
+              length-append (drop 1 ((t c).visits (new rest))) (each_late (λ c. (t c).visits) p.1),
+              length-drop 1 ((t c).visits (new rest)),
+              length-append p.0 (next_sample p.1),
+              heard-started p.1 (pieces-begun rest),
+              length-append (zeros p.0) (starts_on (λ c. (t c).visits) p.1),
+              length-zeros p.0,
+            )
 
         length-first_start : (rest : TimedList) → length (first_start rest) ≡ 1
         length-first_start rest =

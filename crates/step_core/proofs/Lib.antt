@@ -16,6 +16,7 @@ pub mod OldCounts
 pub mod OpeningCounts
 pub mod LateRestartCounts
 pub mod CollectionCounts
+pub mod CollectionStands
 pub mod CellCounts
 pub mod Forms
 pub mod EngineMeets
