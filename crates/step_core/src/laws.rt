@@ -10,6 +10,16 @@ ghost use Rattle.step_core.specs.VisitExamples.{
   FreezeClockVisits,
   SwapMembersVisits,
   SwapMembersWeight,
+  FirstOutputVisits,
+  RestartLateVisits,
+  RestartTwoLateVisits,
+  CollectionVisits,
+  CollectionEmptyVisits,
+  CollectionFullVisits,
+  RestartEachVisits,
+  FreezeOpenedVisits,
+  FreezeCollectionVisits,
+  KeepTwiceVisits,
 };
 
 /// What is bound to a table fits that table with more rows, and is the same network there.
@@ -39,4 +49,14 @@ pub fn visit_examples()
     ensures freeze_clock { FreezeClockVisits }
     ensures swap_members { SwapMembersVisits }
     ensures swap_members_weight { SwapMembersWeight }
+    ensures first_output { FirstOutputVisits }
+    ensures restart_late { RestartLateVisits }
+    ensures restart_two_late { RestartTwoLateVisits }
+    ensures collection { CollectionVisits }
+    ensures collection_empty { CollectionEmptyVisits }
+    ensures collection_full { CollectionFullVisits }
+    ensures restart_each { RestartEachVisits }
+    ensures freeze_opened { FreezeOpenedVisits }
+    ensures freeze_collection { FreezeCollectionVisits }
+    ensures keep_twice { KeepTwiceVisits }
 {}
