@@ -6,8 +6,8 @@ use Rattle.net_syntax.specs.Network.{Network, Networks, no_members, and_member}
 use Rattle.net_syntax.specs.Typing.{Arrow, arrow, copies, members}
 use Rattle.net_syntax.specs.Place as P
 use Rattle.net_syntax.specs.Place.{Tree, a_network, a_leaf, p_switch_child, member_child, event_child, continuation_child}
-use Rattle.net_syntax.specs.Placed.{Bound, bound_in, bound_behind, placed, placed_at}
-use Rattle.net_syntax.specs.Standing.{Standing, ChildStands, continuation_in_switch, continuation_in_d_switch, continuation_in_r_switch, continuation_in_k_switch, member_in_p_switch, event_in_p_switch, continuation_in_p_switch, StandsAt, at_network, inside_network, inside_expression}
+use Rattle.net_syntax.specs.Placed.{Bound, bound_in, bound_behind, bound_started, placed, placed_at}
+use Rattle.net_syntax.specs.Standing.{Standing, ChildStands, continuation_in_switch, continuation_in_d_switch, continuation_in_r_switch, continuation_in_k_switch, member_in_p_switch, event_in_p_switch, continuation_in_p_switch, continuation_in_dr_switch, member_in_rp_switch, choice_in_rp_switch, continuation_in_rp_switch, StandsAt, at_network, inside_network, inside_expression}
 use Rattle.net_syntax.proofs.Children.{event_is, continuation_is}
 
 -- R has as much more in scope than the types Ps and Os as b says
@@ -43,6 +43,15 @@ child_counts Ps Os A net k R (continuation_in_p_switch {B = B} {C = C} {D = D} {
       params_are = omega (arith, length-append Ps (C ∷ []));
       olds_are = omega (arith, length-append Os (copies (members fs) (arrow D B)), length-copies (members fs) (arrow D B));
     })
+child_counts Ps Os A net k R (continuation_in_dr_switch {C = C}) =
+    record { params_are = omega (arith, length-append Ps (C ∷ [])); olds_are = omega arith }
+child_counts Ps Os A net k R (member_in_rp_switch {fs = fs} {k = j} l) =
+    subst (λ c. Counts Ps Os (bound_started c) R) (sym (member_below fs j l)) (record { params_are = omega arith; olds_are = omega arith })
+child_counts Ps Os A net k R (choice_in_rp_switch {fs = fs}) =
+    subst (λ c. Counts Ps Os (bound_started c) R) (sym (event_is fs)) (record { params_are = omega arith; olds_are = omega arith })
+child_counts Ps Os A net k R (continuation_in_rp_switch {V = V} {fs = fs} h) =
+    subst (λ c. Counts Ps Os (bound_started c) R) (sym (continuation_is fs))
+    (record { params_are = omega (arith, length-append Ps (V ∷ [])); olds_are = omega arith })
 child_counts Ps Os A net k R _ = record { params_are = omega arith; olds_are = omega arith }
 
 -- what stands at a position is found there, with as much in scope as it stands in

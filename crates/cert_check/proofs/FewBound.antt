@@ -3,12 +3,12 @@ use Rattle.std.proofs.Common.{◌≡◌, ℕ, zero, suc, ◌+◌, ◌*◌, ◌^�
 use Rattle.std.specs.Prelude.{IfSome}
 use Rattle.std.proofs.lemmas.Option.{none-some, same_Some}
 use Rattle.leaf_core.specs.Expression.{Expression}
-use Rattle.net_syntax.specs.Network.{Network, Networks, network_size, networks_size, arr, seq, first, par, loop_pre, i_pre, delay, hold, accum_by, after, repeatedly, time, integral, switch, d_switch, r_switch, k_switch, p_switch, old, no_members, and_member}
+use Rattle.net_syntax.specs.Network.{Network, Networks, network_size, networks_size, arr, seq, first, par, loop_pre, i_pre, delay, hold, accum_by, after, repeatedly, time, integral, switch, d_switch, r_switch, k_switch, p_switch, old, initial_out, initial_in, dr_switch, rp_switch, no_members, and_member}
 use Rattle.net_syntax.specs.Typing.{members}
 use Rattle.net_syntax.specs.NetworkLimits.{WithinLimits}
 use Rattle.net_syntax.specs.TypedNetwork.{TypedNetwork}
-use Rattle.net_syntax.specs.Place.{Tree, a_network, a_leaf, member, child, child_network, PSwitchChild, p_switch_child, member_child, event_child, continuation_child, no_child}
-use Rattle.net_syntax.specs.Placed.{Bound, bound, bound_in, bound_behind, FewBound}
+use Rattle.net_syntax.specs.Place.{Tree, a_network, a_leaf, member, child, child_network, collection_child, PSwitchChild, p_switch_child, member_child, event_child, continuation_child, no_child}
+use Rattle.net_syntax.specs.Placed.{Bound, bound, bound_in, bound_behind, bound_started, FewBound}
 use Rattle.net_syntax.proofs.Children.{members_few}
 use Rattle.net_types.proofs.Sizes.{few_inside}
 
@@ -43,6 +43,16 @@ p_switch_smaller r fs e t k c continuation_child h =
     let l : members fs ≤ networks_size fs = members_few fs in
     at_child (network_size (p_switch r fs e t)) (bound 1 (members fs)) (a_network t) c h (record { params_fit = omega arith; olds_fit = omega arith })
 p_switch_smaller r fs e t k c no_child h = at_none (network_size (p_switch r fs e t)) (bound 0 0) c h
+
+collection_smaller : (fs : Networks Expression) (m : Expression) (t : Network Expression) (k : ℕ) (c : Tree Expression) (w : PSwitchChild)
+    → collection_child w fs m t k ≡ Some c → Smaller (network_size (rp_switch fs m t)) (bound_started w) c
+collection_smaller fs m t k c member_child h =
+    let l : networks_size fs ≤ network_size (rp_switch fs m t) = omega arith in member_size fs k (network_size (rp_switch fs m t)) c l h
+collection_smaller fs m t k c event_child h =
+    at_child (network_size (rp_switch fs m t)) (bound 0 0) (a_leaf m) c h (record { params_fit = omega arith; olds_fit = omega arith })
+collection_smaller fs m t k c continuation_child h =
+    at_child (network_size (rp_switch fs m t)) (bound 1 0) (a_network t) c h (record { params_fit = omega arith; olds_fit = omega arith })
+collection_smaller fs m t k c no_child h = at_none (network_size (rp_switch fs m t)) (bound 0 0) c h
 
 smaller : (f : Network Expression) (k : ℕ) (c : Tree Expression) → child f k ≡ Some c → Smaller (network_size f) (bound_in f k) c
 smaller (arr x) zero c e = at_child (network_size (arr x)) (bound 0 0) (a_leaf x) c e (record { params_fit = omega arith; olds_fit = omega arith })
@@ -87,6 +97,16 @@ smaller (k_switch f e' t) (suc (suc (suc k))) c e = at_none (network_size (k_swi
 smaller (p_switch r fs e' t) zero c e = at_child (network_size (p_switch r fs e' t)) (bound 0 0) (a_leaf r) c e (record { params_fit = omega arith; olds_fit = omega arith })
 smaller (p_switch r fs e' t) (suc k) c e = p_switch_smaller r fs e' t k c (p_switch_child fs k) e
 smaller (old j) k c e = at_none 0 (bound 0 0) c e
+smaller (initial_out x f) zero c e = at_child (network_size (initial_out x f)) (bound 0 0) (a_leaf x) c e (record { params_fit = omega arith; olds_fit = omega arith })
+smaller (initial_out x f) (suc zero) c e = at_child (network_size (initial_out x f)) (bound 0 0) (a_network f) c e (record { params_fit = omega arith; olds_fit = omega arith })
+smaller (initial_out x f) (suc (suc k)) c e = at_none (network_size (initial_out x f)) (bound 0 0) c e
+smaller (initial_in x f) zero c e = at_child (network_size (initial_in x f)) (bound 0 0) (a_leaf x) c e (record { params_fit = omega arith; olds_fit = omega arith })
+smaller (initial_in x f) (suc zero) c e = at_child (network_size (initial_in x f)) (bound 0 0) (a_network f) c e (record { params_fit = omega arith; olds_fit = omega arith })
+smaller (initial_in x f) (suc (suc k)) c e = at_none (network_size (initial_in x f)) (bound 0 0) c e
+smaller (dr_switch f t) zero c e = at_child (network_size (dr_switch f t)) (bound 0 0) (a_network f) c e (record { params_fit = omega arith; olds_fit = omega arith })
+smaller (dr_switch f t) (suc zero) c e = at_child (network_size (dr_switch f t)) (bound 1 0) (a_network t) c e (record { params_fit = omega arith; olds_fit = omega arith })
+smaller (dr_switch f t) (suc (suc k)) c e = at_none (network_size (dr_switch f t)) (bound 0 0) c e
+smaller (rp_switch fs m t) k c e = collection_smaller fs m t k c (p_switch_child fs k) e
 
 few_behind : (f : Network Expression) (k m n : ℕ) (p : List ℕ) (o : Option (Tree Expression)) → child f k ≡ o → m + network_size f < 2 ^ 32
     → n + network_size f < 2 ^ 32

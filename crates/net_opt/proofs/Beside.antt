@@ -7,9 +7,9 @@ use Rattle.leaf_core.specs.Expression.{Expression, Expressions, no_more, and_the
 use Rattle.leaf_core.specs.Inside.{Inside, one, two, three, row, inside_of}
 use Rattle.leaf_core.specs.Parts.{element, with_element, part_inside, inside_with, refilled, part, with_part, part_at, with_part_at}
 use Rattle.leaf_core.proofs.PartTypes.{inner}
-use Rattle.net_syntax.specs.Network.{Network, Networks, arr, seq, first, par, loop_pre, i_pre, delay, hold, accum_by, after, repeatedly, switch, d_switch, r_switch, k_switch, p_switch, no_members, and_member}
-use Rattle.net_syntax.specs.Place.{◌>>=◌, Tree, a_network, a_leaf, member, child, child_network, PSwitchChild, p_switch_child, member_child, event_child, continuation_child, no_child}
-use Rattle.net_syntax.specs.Placed.{Bound, Placed, placed, placed_at, bound_in, bound_behind, with_member, with_child, with_p_switch_child, replaced}
+use Rattle.net_syntax.specs.Network.{Network, Networks, arr, seq, first, par, loop_pre, i_pre, delay, hold, accum_by, after, repeatedly, switch, d_switch, r_switch, k_switch, p_switch, initial_out, initial_in, dr_switch, rp_switch, no_members, and_member}
+use Rattle.net_syntax.specs.Place.{◌>>=◌, Tree, a_network, a_leaf, member, child, child_network, collection_child, PSwitchChild, p_switch_child, member_child, event_child, continuation_child, no_child}
+use Rattle.net_syntax.specs.Placed.{Bound, Placed, placed, placed_at, bound_in, bound_behind, bound_started, with_member, with_child, with_p_switch_child, with_collection_child, replaced}
 use Rattle.net_opt.specs.Order.{LeftOf, lower, deeper}
 
 -- what holds of the numbers below 1, 2
@@ -181,7 +181,7 @@ member_put (and_member f fs) (suc k) s = go (with_member fs k s) (member_put fs 
     go None h = tt
     go (Some gs) h = more gs h
 
--- before the event of a pSwitch there are members, before its continuation members and its event
+-- before the event of a pSwitch, or the choice of an rpSwitchB, there are members, before its continuation members and the event or choice
 before_event : (fs : Networks Expression) (k j : ℕ) → p_switch_child fs k ≡ event_child → j < k → p_switch_child fs j ≡ member_child
 before_event fs zero j is lt = absurd (omega arith)
 before_event no_members (suc zero) j is lt = absurd (cc)
@@ -207,6 +207,13 @@ early_same member_child h fs e s t j = refl
 early_same event_child h fs e s t j = refl
 early_same continuation_child h fs e s t j = absurd h
 early_same no_child h fs e s t j = absurd h
+
+early_chosen : (c : PSwitchChild) → IsEarly c → (fs : Networks Expression) (m : Expression) (s t : Network Expression) (j : ℕ)
+    → collection_child c fs m s j ≡ collection_child c fs m t j
+early_chosen member_child h fs m s t j = refl
+early_chosen event_child h fs m s t j = refl
+early_chosen continuation_child h fs m s t j = absurd h
+early_chosen no_child h fs m s t j = absurd h
 
 put_first : (f g : Network Expression) (s : Tree Expression) → child g 0 ≡ Some s → bound_in g 0 ≡ bound_in f 0 → ChildPut s 0 f g
 put_first f g s h b = record { here = h; bound_here = b; left = none_below (SameChild f g) }
@@ -259,6 +266,46 @@ module _ (r : Expression) (fs : Networks Expression) (e t : Network Expression) 
   behind_put continuation_child is = at_continuation is
   behind_put no_child is = tt
 
+-- in an rpSwitchB
+module _ (fs : Networks Expression) (m : Expression) (t : Network Expression) (k : ℕ) where
+  among_kept : (s : Network Expression) (o : Option (Networks Expression)) → IfSome o (MemberPut s k fs)
+      → IfSome (option_map (λ gs. rp_switch gs m t) o) (ChildPut (a_network s) k (rp_switch fs m t))
+  among_kept s None h = tt
+  among_kept s (Some gs) h = record {
+    here = ap (λ c. collection_child c gs m t k) (h.kinds k ∙ h.among k (omega arith)) ∙ ap (option_map a_network) h.here;
+    bound_here = ap bound_started (h.kinds k);
+    left = left;
+  }
+    where
+      left : (j : ℕ) → j < k → SameChild (rp_switch fs m t) (rp_switch gs m t) j
+      left j i =
+          let is : p_switch_child fs j ≡ member_child = h.among j (omega arith) in (
+            ap (λ c. collection_child c gs m t j) (h.kinds j ∙ is)
+                ∙ (ap (option_map a_network) (h.left j i) ∙ sym (ap (λ c. collection_child c fs m t j) is)),
+            ap bound_started (h.kinds j),
+          )
+
+  at_choice : (s : Expression) → p_switch_child fs k ≡ event_child → ChildPut (a_leaf s) k (rp_switch fs m t) (rp_switch fs s t)
+  at_choice s is = record { here = ap (λ c. collection_child c fs s t k) is; bound_here = refl; left = left }
+    where
+      left : (j : ℕ) → j < k → SameChild (rp_switch fs m t) (rp_switch fs s t) j
+      left j i =
+          let among : p_switch_child fs j ≡ member_child = before_event fs k j is i in
+          (ap (λ c. collection_child c fs s t j) among ∙ sym (ap (λ c. collection_child c fs m t j) among), refl)
+
+  at_start : (s : Network Expression) → p_switch_child fs k ≡ continuation_child → ChildPut (a_network s) k (rp_switch fs m t) (rp_switch fs m s)
+  at_start s is = record { here = ap (λ c. collection_child c fs m s k) is; bound_here = refl; left = left }
+    where
+      left : (j : ℕ) → j < k → SameChild (rp_switch fs m t) (rp_switch fs m s) j
+      left j i = (early_chosen (p_switch_child fs j) (before_continuation fs k j is i) fs m s t j, refl)
+
+  collection_put : (c : PSwitchChild) → p_switch_child fs k ≡ c → (s : Tree Expression)
+      → IfSome (with_collection_child c fs m t k s) (ChildPut s k (rp_switch fs m t))
+  collection_put member_child is (a_network s) = among_kept s (with_member fs k s) (member_put fs k s)
+  collection_put event_child is (a_leaf s) = at_choice s is
+  collection_put continuation_child is (a_network s) = at_start s is
+  collection_put _ is s = tt
+
 par_put : (fs : Networks Expression) (k : ℕ) (s : Network Expression) (o : Option (Networks Expression)) → IfSome o (MemberPut s k fs)
     → IfSome (option_map par o) (ChildPut (a_network s) k (par fs))
 par_put fs k s None h = tt
@@ -290,6 +337,13 @@ child_put (k_switch f e t) (suc zero) (a_network s) = put_second (k_switch f e t
 child_put (k_switch f e t) (suc (suc zero)) (a_network s) = put_third (k_switch f e t) (k_switch f e s) (a_network s) refl refl (refl, refl) (refl, refl)
 child_put (p_switch r fs e t) zero (a_leaf s) = put_first (p_switch r fs e t) (p_switch s fs e t) (a_leaf s) refl refl
 child_put (p_switch r fs e t) (suc k) (a_network s) = behind_put r fs e t k s (p_switch_child fs k) refl
+child_put (initial_out c f) zero (a_leaf s) = put_first (initial_out c f) (initial_out s f) (a_leaf s) refl refl
+child_put (initial_out c f) (suc zero) (a_network s) = put_second (initial_out c f) (initial_out c s) (a_network s) refl refl (refl, refl)
+child_put (initial_in c f) zero (a_leaf s) = put_first (initial_in c f) (initial_in s f) (a_leaf s) refl refl
+child_put (initial_in c f) (suc zero) (a_network s) = put_second (initial_in c f) (initial_in c s) (a_network s) refl refl (refl, refl)
+child_put (dr_switch f t) zero (a_network s) = put_first (dr_switch f t) (dr_switch s t) (a_network s) refl refl
+child_put (dr_switch f t) (suc zero) (a_network s) = put_second (dr_switch f t) (dr_switch f s) (a_network s) refl refl (refl, refl)
+child_put (rp_switch fs m t) k s = collection_put fs m t k (p_switch_child fs k) refl s
 child_put _ k s = tt
 
 -- a tree that is replaced, split at the first number of the position

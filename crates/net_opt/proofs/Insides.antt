@@ -5,10 +5,10 @@ use Rattle.leaf_core.specs.Expression.{Expression, Expressions, no_more, and_the
 use Rattle.leaf_core.specs.Inside.{Inside, one, two, three, row, inside_of, inside_nodes}
 use Rattle.leaf_core.specs.Parts.{element, part_inside, part}
 use Rattle.leaf_core.proofs.InsideLaws.{nodes_inside}
-use Rattle.net_syntax.specs.Network.{Network, Networks, network_size, networks_size, arr, seq, first, par, loop_pre, i_pre, delay, hold, accum_by, after, repeatedly, switch, d_switch, r_switch, k_switch, p_switch, no_members, and_member}
+use Rattle.net_syntax.specs.Network.{Network, Networks, network_size, networks_size, arr, seq, first, par, loop_pre, i_pre, delay, hold, accum_by, after, repeatedly, switch, d_switch, r_switch, k_switch, p_switch, initial_out, initial_in, dr_switch, rp_switch, no_members, and_member}
 use Rattle.net_syntax.specs.Typing.{members}
-use Rattle.net_syntax.specs.Place.{Tree, a_network, a_leaf, member, child, child_network, PSwitchChild, p_switch_child, member_child, event_child, continuation_child, no_child}
-use Rattle.net_syntax.specs.FormParts.{FormParts, leaves, fed, routed, parts_of}
+use Rattle.net_syntax.specs.Place.{Tree, a_network, a_leaf, member, child, child_network, collection_child, PSwitchChild, p_switch_child, member_child, event_child, continuation_child, no_child}
+use Rattle.net_syntax.specs.FormParts.{FormParts, leaves, fed, routed, collection, parts_of}
 use Rattle.net_syntax.specs.FormParts as F
 use Rattle.net_syntax.specs.ChildParts.{child_inside}
 use Rattle.net_syntax.proofs.ChildNumbers.{child_is}
@@ -39,7 +39,7 @@ par_fits : (fs : Networks Expression) (k : ℕ) (o : Option (Network Expression)
 par_fits fs k None h = tt
 par_fits fs k (Some g) h = (omega (arith, h), omega (arith, h))
 
--- what stands at number k behind the route of a pSwitch, by its kind
+-- what stands at number k behind the route of a pSwitch, or in an rpSwitchB, by its kind
 data Behind (fs : Networks Expression) (k : ℕ) : PSwitchChild → Type 0 where
   at_member : Behind fs k member_child
   at_event : k ≡ members fs → Behind fs k event_child
@@ -73,6 +73,18 @@ behind_fits fs e t k continuation_child (at_continuation i) =
     (omega arith, omega (arith, i, members_few fs))
 behind_fits fs e t k no_child at_none = tt
 
+collection_fits : (fs : Networks Expression) (m : Expression) (t : Network Expression) (k : ℕ) (c : PSwitchChild) → Behind fs k c
+    → IfSome (collection_child c fs m t k) (ChildFits (suc (networks_size fs + network_size t)) k)
+collection_fits fs m t k member_child at_member = go (member fs k) (member_fits fs k)
+  where
+    go : (o : Option (Network Expression)) → IfSome o (λ g. suc (network_size g + k) ≤ networks_size fs)
+        → IfSome (option_map a_network o) (ChildFits (suc (networks_size fs + network_size t)) k)
+    go None h = tt
+    go (Some g) h = (omega (arith, h), omega (arith, h))
+collection_fits fs m t k event_child (at_event i) = omega (arith, i, members_few fs)
+collection_fits fs m t k continuation_child (at_continuation i) = (omega arith, omega (arith, i, members_few fs))
+collection_fits fs m t k no_child at_none = tt
+
 pub child_fits : (f : Network Expression) (k : ℕ) → IfSome (child f k) (ChildFits (network_size f) k)
 child_fits (arr e) zero = omega arith
 child_fits (seq f g) zero = (omega arith, omega arith)
@@ -99,6 +111,13 @@ child_fits (k_switch f e t) (suc zero) = (omega arith, omega arith)
 child_fits (k_switch f e t) (suc (suc zero)) = (omega arith, omega arith)
 child_fits (p_switch r fs e t) zero = omega arith
 child_fits (p_switch r fs e t) (suc k) = behind_fits fs e t k (p_switch_child fs k) (behind fs k)
+child_fits (initial_out c f) zero = omega arith
+child_fits (initial_out c f) (suc zero) = (omega arith, omega arith)
+child_fits (initial_in c f) zero = omega arith
+child_fits (initial_in c f) (suc zero) = (omega arith, omega arith)
+child_fits (dr_switch f t) zero = (omega arith, omega arith)
+child_fits (dr_switch f t) (suc zero) = (omega arith, omega arith)
+child_fits (rp_switch fs m t) k = collection_fits fs m t k (p_switch_child fs k) (behind fs k)
 child_fits _ k = tt
 
 -- a part of an expression is smaller, and its number is low
@@ -197,6 +216,24 @@ behind_in_a_row (and_member f fs) e t (suc k) = go (p_switch_child fs (suc k)) (
     go continuation_child no_child h = h
     go no_child d h = h
 
+one_further : (c : PSwitchChild) (f : Network Expression) (fs : Networks Expression) (m : Expression) (t : Network Expression) (k : ℕ)
+    → collection_child c fs m t k ≡ collection_child c (and_member f fs) m t (suc k)
+one_further member_child f fs m t k = refl
+one_further event_child f fs m t k = refl
+one_further continuation_child f fs m t k = refl
+one_further no_child f fs m t k = refl
+
+collection_in_a_row : (fs : Networks Expression) (m : Expression) (t : Network Expression) (k : ℕ)
+    → IfSome (collection_child (p_switch_child fs (suc k)) fs m t (suc k)) (λ a. Present (collection_child (p_switch_child fs k) fs m t k))
+collection_in_a_row no_members m t zero = tt
+collection_in_a_row no_members m t (suc zero) = tt
+collection_in_a_row no_members m t (suc (suc k)) = tt
+collection_in_a_row (and_member f fs) m t zero = always (collection_child (p_switch_child fs zero) (and_member f fs) m t (suc zero))
+collection_in_a_row (and_member f fs) m t (suc k) =
+    subst (λ o. IfSome o (λ a. Present (collection_child (p_switch_child fs k) (and_member f fs) m t (suc k)))) (one_further (p_switch_child fs (suc k)) f fs m t (suc k))
+    (subst (λ o. IfSome (collection_child (p_switch_child fs (suc k)) fs m t (suc k)) (λ a. Present o)) (one_further (p_switch_child fs k) f fs m t k)
+    (collection_in_a_row fs m t k))
+
 parts_in_a_row : (p : FormParts) → InARow (child_inside p)
 parts_in_a_row (leaves e d) zero = tt
 parts_in_a_row (leaves e d) (suc k) = tt
@@ -210,6 +247,7 @@ parts_in_a_row (F.three f g h) (suc (suc k)) = tt
 parts_in_a_row (F.row fs) k = members_in_a_row fs k
 parts_in_a_row (routed r fs e t) zero = always (option_map a_network (child_network (p_switch_child fs zero) fs e t zero))
 parts_in_a_row (routed r fs e t) (suc k) = behind_in_a_row fs e t k
+parts_in_a_row (collection fs m t) k = collection_in_a_row fs m t k
 parts_in_a_row _ k = tt
 
 elements_in_a_row : (es : Expressions) → InARow (element es)

@@ -122,9 +122,9 @@ rank (a_leaf e) = nodes_in e
 record Within (k : ℕ) (u c : Tree Expression) : Type 0 where
   limited : Limited c
   lower : rank c < rank u
-  low : k ≤ 2000001
+  low : k ≤ 5000001
 
-child_within : (k : ℕ) (f : Network Expression) (c : Tree Expression) → network_size f ≤ 2000000 → (S : Standing) → ChildFits (network_size f) k c → ChildThere S f k c
+child_within : (k : ℕ) (f : Network Expression) (c : Tree Expression) → network_size f ≤ 5000000 → (S : Standing) → ChildFits (network_size f) k c → ChildThere S f k c
     → Within k (a_network f) c
 child_within k f (a_network g) l S s d = record {
   limited = (omega (arith, l, s.0), record { params = d.place.params; olds = d.place.olds; input = d.place.input; output = d.output; typed = d.typed });
@@ -163,7 +163,7 @@ reached_inside t p k c d r h = record {
 pub lower_inside : (k : ℕ) (c d : Placed) → Limited c.tree → placed_at c.params c.olds c.tree (k ∷ []) ≡ Some d → rank d.tree < rank c.tree
 lower_inside k c d l h = (within k c.tree d.tree l (found_inside c d k h)).lower
 
-pub low_number : (k : ℕ) (c d : Placed) → Limited c.tree → placed_at c.params c.olds c.tree (k ∷ []) ≡ Some d → k ≤ 2000001
+pub low_number : (k : ℕ) (c d : Placed) → Limited c.tree → placed_at c.params c.olds c.tree (k ∷ []) ≡ Some d → k ≤ 5000001
 low_number k c d l h = (within k c.tree d.tree l (found_inside c d k h)).low
 
 -- the walk begins at the root

@@ -20,7 +20,7 @@ pub record TypedSomewhere (f : Network Expression) : Type 0 where
 
 -- a network with few others inside; an expression with few parts
 abbrev pub Limited : Tree Expression → Type 0
-Limited (a_network f) = (network_size f ≤ 2000000) × TypedSomewhere f
+Limited (a_network f) = (network_size f ≤ 5000000) × TypedSomewhere f
 Limited (a_leaf e) = nodes_in e ≤ 100000
 
 -- this stands at the position of the network, which is within the limits

@@ -1,5 +1,5 @@
 -- What stands at a position of a typed network has one type there.
-use Rattle.std.proofs.Common.{◌≡◌, List, [], ◌∷◌, ℕ, Option, Some, IfSome, refl, sym, ap, ◌∙◌, subst}
+use Rattle.std.proofs.Common.{◌≡◌, List, [], ◌∷◌, ℕ, Option, Some, IfSome, refl, sym, ◌∙◌, subst}
 use Rattle.std.proofs.lemmas.Option.{same_Some}
 use Rattle.sample_core.specs.TypeTree.{TypeTree}
 use Rattle.leaf_core.specs.Expression.{Expression}
@@ -8,9 +8,8 @@ use Rattle.leaf_core.proofs.PartTypes.{one_input}
 use Rattle.leaf_core.proofs.Uniqueness.{one_type}
 use Rattle.net_syntax.specs.Network.{Network}
 use Rattle.net_syntax.specs.Place.{Tree, a_network, a_leaf, child}
-use Rattle.net_syntax.specs.Standing.{Standing, standing, alone, ChildStands, TreeTyped, StandsAt, at_network, inside_network, inside_expression, TypeAt}
-use Rattle.net_syntax.specs.TypedNetwork.{TypedNetwork, NetTyped}
-use Rattle.net_syntax.specs.NetworkLimits.{NetTypedWithin, WithinLimits}
+use Rattle.net_syntax.specs.Standing.{Standing, ChildStands, TreeTyped, StandsAt, at_network, inside_network, inside_expression}
+use Rattle.net_syntax.specs.NetworkLimits.{NetTypedWithin}
 use Rattle.net_syntax.specs.Laws.{OneTypeAtLaw}
 use Rattle.net_syntax.proofs.StreamLaws.{one-output-type}
 use Rattle.net_syntax.proofs.FoundTypes.{TreeWithin, ChildThere, child_there}

@@ -17,4 +17,4 @@ invariant-loop-inner l = record {
 }
 
 abbrev pub decreases-loop-inner : goal.decreases-loop-inner
-decreases-loop-inner l = 2000003 - l.k
+decreases-loop-inner l = 5000003 - l.k
