@@ -10,7 +10,7 @@ use Rattle.net_syntax.specs.NetworkView.{members_of, tree_of, trees}
 use Rattle.net_syntax.specs.declared.net.Net.{Net}
 use Rattle.net_syntax.specs.Typing.{members}
 use Rattle.law_rules.specs.NetworkRow.{each_after, each_arr, count, route_to, behind_routes}
-use Rattle.law_rules.specs.Forward.{one_to_64, law41, law42, routed_apart, routed_each}
+use Rattle.law_rules.specs.Forward.{one_to_64, law41, law42, routed_apart, routed_each, kept_apart}
 
 pub trees-of : (fs : List (Net Expr)) → trees (members_of fs) ≡ networks_of (map tree_of fs)
 trees-of [] = refl
@@ -74,3 +74,12 @@ pub gathered-routed : (r s : Expression) (fs : Networks Expr) (all : List (Net E
 gathered-routed r s fs all done e b q d =
     ap (λ gs. Some (par (networks_of gs))) d ∙ ap (λ t. Some (par (networks_of (routed_each t 0 (map tree_of all))))) q ∙ ap (λ gs. Some (par gs)) (route-each r 0 all)
     ∙ ap (λ x. cond x (Some (par (behind_routes r 0 (trees (members_of all))))) None) (b ∙ ap one_to_64 (sym (members-of all))) ∙ ap (λ gs. routed_apart r (trees gs)) e
+
+pub not_kept : (e : Expression) (fs : Networks Expr) (all : List (Net Expr)) → members_of all ≡ fs → false ≡ one_to_64 (length all) → None ≡ kept_apart (trees fs) (Some e)
+not_kept e fs all q b =
+    ap (λ x. cond x (Some (seq (arr e) (par (trees (members_of all))))) None) (b ∙ ap one_to_64 (sym (members-of all))) ∙ ap (λ gs. kept_apart (trees gs) (Some e)) q
+
+pub gathered-kept : (e : Expression) (fs : Networks Expr) (all : List (Net Expr)) → members_of all ≡ fs → true ≡ one_to_64 (length all) → Some (seq (arr e) (par (trees fs))) ≡ kept_apart (trees fs) (Some e)
+gathered-kept e fs all q b =
+    ap (λ gs. Some (seq (arr e) (par (trees gs)))) (sym q)
+    ∙ ap (λ x. cond x (Some (seq (arr e) (par (trees (members_of all))))) None) (b ∙ ap one_to_64 (sym (members-of all))) ∙ ap (λ gs. kept_apart (trees gs) (Some e)) q

@@ -1,10 +1,11 @@
 -- Each row's two sides have one meaning: most in every context, the rest where both are typed.
-use Rattle.std.proofs.Common.{Some, [], ap, ap₂, pos, refl, suc, sym, ℕ, ◌∙◌, ◌∷◌, ◌≡◌}
+use Rattle.std.proofs.Common.{Some, [], ap, ap₂, pos, refl, suc, sym, length, ℕ, ◌∙◌, ◌∷◌, ◌≡◌, ◌≤◌, subst}
 use Rattle.law_rules.specs.NetworkRow.{SeesSteps, after_sees, assoc, behind_routes, each_after, each_arr, event_by, event_last, left_by, repeatedly_sees, right_by, time_sees, unassoc}
 use Rattle.leaf_core.specs.Expression.{Expression, Expressions, event_expr, fst, input, int_expr, list_expr, no_event_expr, nth, pair_expr, then_expr, unit_expr}
 use Rattle.leaf_core.specs.ExpressionValue.{value_of}
 use Rattle.net_syntax.specs.Meaning.{Context, meaning, meanings, with_olds, with_param}
-use Rattle.net_syntax.specs.Network.{Network, Networks, accum_by, after, and_member, arr, d_switch, delay, first, hold, i_pre, k_switch, loop_pre, no_members, p_switch, par, r_switch, repeatedly, seq, switch}
+use Rattle.net_syntax.specs.Network.{Network, Networks, accum_by, after, and_member, arr, d_switch, delay, first, hold, i_pre, initial_in, initial_out, k_switch, loop_pre, no_members, p_switch, par, r_switch, repeatedly, rp_switch, seq, switch}
+use Rattle.net_syntax.specs.Typing.{members}
 use Rattle.net_syntax.specs.Place.{member}
 use Rattle.net_syntax.specs.SignalFunction.{IsSignalFunction, SignalFunction, TimedList, par_function, route_each}
 use Rattle.sample_core.specs.Datum.{Datum, int, pair, unit}
@@ -14,7 +15,7 @@ use Rattle.law_rules.proofs.CellLaws
 use Rattle.law_rules.proofs.LoopLaws
 use Rattle.law_rules.proofs.ParallelLaws
 use Rattle.law_rules.proofs.SomeLaws.{seq_function_assoc, sequence-feedback}
-use Rattle.law_rules.proofs.SwitchLaws.{on_left-switching, on_left-switching_late, pointwise-before, restarting-quiet, switching-quiet, switching_all-quiet, switching_late-quiet, switching_on-quiet}
+use Rattle.law_rules.proofs.SwitchLaws.{choosing-quiet, on_left-switching, on_left-switching_late, pointwise-before, restarting-quiet, switching-quiet, switching_all-quiet, switching_late-quiet, switching_on-quiet}
 use Rattle.net_syntax.proofs.Meanings.{IsSignal-meaning}
 use Rattle.net_syntax.proofs.Plain.{AllSignals, IsSignal-on_left}
 
@@ -147,3 +148,20 @@ law_41 h fs E s xs = ParallelLaws.sequence-in_parallel h fs E (signal h E s) xs
 
 pub law_42 : (t : TypeTree) (es : Expressions) → AlikeNets (arr (list_expr t es)) (par (each_arr es))
 law_42 t es E s xs = ParallelLaws.applied-list es E xs
+
+pub law_43 : (c d : Expression) (f : Network Expression) → AlikeNets (initial_out c (initial_out d f)) (initial_out c f)
+law_43 c d f E s [] = refl
+law_43 c d f E s (x ∷ xs) = refl
+
+pub law_44 : (c f : Expression) → AlikeNets (initial_in c (arr f)) (initial_out (then_expr c f) (arr f))
+law_44 c f E s [] = refl
+law_44 c f E s (x ∷ xs) = refl
+
+length-meanings : (fs : Networks Expression) (E : Context) → length (meanings value_of fs E) ≡ members fs
+length-meanings no_members E = refl
+length-meanings (and_member f fs) E = ap suc (length-meanings fs E)
+
+pub law_46 : (C : TypeTree) (e m : Expression) (fs : Networks Expression) (t : Network Expression) → members fs ≤ 64
+    → AlikeNets (seq (arr (pair_expr e (no_event_expr C))) (rp_switch fs m t)) (seq (arr e) (par fs))
+law_46 C e m fs t few E s xs =
+    at xs (choosing-quiet (value_of e E.params) (value_of m E.params) (meanings value_of fs E) (into t E) (subst (λ n. n ≤ 64) (sym (length-meanings fs E)) few))

@@ -4,11 +4,11 @@ use Rattle.std.proofs.lemmas.Bool.{leb-true, le-leb}
 use Rattle.leaf_core.specs.Expression.{Expression, input, unit_expr, int_expr, pair_expr, fst, snd, then_expr, no_event_expr, event_expr, on, list_expr, nth}
 use Rattle.leaf_core.specs.ExpressionCode.{expression_code}
 use Rattle.leaf_core.specs.EqualityByCode.{same_by, same_by_decides}
-use Rattle.net_syntax.specs.Network.{Network, Networks, arr, seq, first, par, loop_pre, i_pre, delay, hold, accum_by, after, repeatedly, time, switch, d_switch, r_switch, k_switch, p_switch, old}
+use Rattle.net_syntax.specs.Network.{Network, Networks, arr, seq, first, par, loop_pre, initial_out, initial_in, i_pre, delay, hold, accum_by, after, repeatedly, time, switch, d_switch, r_switch, dr_switch, rp_switch, k_switch, p_switch, old}
 use Rattle.net_syntax.specs.Typing.{members}
 use Rattle.net_syntax.specs.Place.{member}
-use Rattle.law_rules.specs.NetworkRow.{after_sees, repeatedly_sees, time_sees, event_by, behind_routes, each_after, each_arr, count, NetworkRow, row_l1, row_l2, row_l3, row_l4, row_l5, row_l6, row_l7, row_l8, row_l9, row_l10, row_l11, row_l12, row_l13, row_l14, row_l15, row_l16, row_l17, row_l18, row_l19, row_l20, row_l21, row_l22, row_l23, row_l24, row_l25, row_l26, row_l27, row_l28, row_l29, row_l30, row_l31, row_l32, row_l33, row_l34, row_l35, row_l36, row_l37, row_l38, row_l39, row_l40, row_l41, row_l42}
-use Rattle.law_rules.specs.Forward.{one_to_64, no_law, law1, law2, law3, law4, law5, law6, law7, law8, law9, law10, law11, law12, law13, law14, law15, law16, law17, law18, law19, law20, law21, law22, law23, law24, law25, law26, law27, law28, law29, law30, law31, law32, law33, law34, law35, law36, law37, law38, law39, law40, law41, law42, laws, forward}
+use Rattle.law_rules.specs.NetworkRow.{after_sees, repeatedly_sees, time_sees, event_by, behind_routes, each_after, each_arr, count, NetworkRow, row_l1, row_l2, row_l3, row_l4, row_l5, row_l6, row_l7, row_l8, row_l9, row_l10, row_l11, row_l12, row_l13, row_l14, row_l15, row_l16, row_l17, row_l18, row_l19, row_l20, row_l21, row_l22, row_l23, row_l24, row_l25, row_l26, row_l27, row_l28, row_l29, row_l30, row_l31, row_l32, row_l33, row_l34, row_l35, row_l36, row_l37, row_l38, row_l39, row_l40, row_l41, row_l42, row_l43, row_l44, row_l45, row_l46}
+use Rattle.law_rules.specs.Forward.{one_to_64, no_law, law1, law2, law3, law4, law5, law6, law7, law8, law9, law10, law11, law12, law13, law14, law15, law16, law17, law18, law19, law20, law21, law22, law23, law24, law25, law26, law27, law28, law29, law30, law31, law32, law33, law34, law35, law36, law37, law38, law39, law40, law41, law42, law43, law44, law45, law46, laws, forward}
 
 -- an answer, if there is one, is a right side
 abbrev Gives : ℕ → ℕ → Network Expression → Option (Network Expression) → Type 0
@@ -219,6 +219,24 @@ module _ (olds : ℕ) where
   law42-gives (arr (list_expr T es)) = gives-where 42 olds (arr (list_expr T es)) (one_to_64 (count es)) (Some (par (each_arr es))) (λ e. row_l42 (from_1 (count es) e) (to_64 (count es) e))
   law42-gives _ = tt
 
+  law43-gives : (net : Network Expression) → Gives 43 olds net (law43 net)
+  law43-gives (initial_out c (initial_out d f)) = row_l43
+  law43-gives _ = tt
+
+  law44-gives : (net : Network Expression) → Gives 44 olds net (law44 net)
+  law44-gives (initial_in c (arr f)) = row_l44
+  law44-gives _ = tt
+
+  law45-gives : (net : Network Expression) → Gives 45 olds net (law45 net)
+  law45-gives (seq (dr_switch f t) (arr h)) = row_l45
+  law45-gives _ = tt
+
+  law46-gives : (net : Network Expression) → Gives 46 olds net (law46 net)
+  law46-gives (seq (arr (pair_expr e (no_event_expr C))) (rp_switch fs m t)) =
+      gives-where 46 olds (seq (arr (pair_expr e (no_event_expr C))) (rp_switch fs m t)) (one_to_64 (members fs)) (Some (seq (arr e) (par fs)))
+      (λ q. row_l46 (from_1 (members fs) q) (to_64 (members fs) q))
+  law46-gives _ = tt
+
   -- the laws of a list, numbered from k
   abbrev AllGive : ℕ → List (Network Expression → Option (Network Expression)) → Type 0
   AllGive k [] = Unit {0}
@@ -230,7 +248,7 @@ module _ (olds : ℕ) where
   nth-gives k (l ∷ ls) (suc n) net h = nth-gives (suc k) ls n net h.1
 
   all_give : AllGive 0 (laws olds)
-  all_give = (λ net. tt, (law1-gives, (law2-gives, (law3-gives, (law4-gives, (law5-gives, (law6-gives, (law7-gives, (law8-gives, (law9-gives, (law10-gives, (law11-gives, (law12-gives, (law13-gives, (law14-gives, (law15-gives, (law16-gives, (law17-gives, (law18-gives, (law19-gives, (law20-gives, (law21-gives, (law22-gives, (law23-gives, (law24-gives, (law25-gives, (law26-gives, (law27-gives, (law28-gives, (law29-gives, (law30-gives, (law31-gives, (law32-gives, (law33-gives, (law34-gives, (law35-gives, (law36-gives, (law37-gives, (law38-gives, (law39-gives, (law40-gives, (law41-gives, (law42-gives, tt)))))))))))))))))))))))))))))))))))))))))))
+  all_give = (λ net. tt, (law1-gives, (law2-gives, (law3-gives, (law4-gives, (law5-gives, (law6-gives, (law7-gives, (law8-gives, (law9-gives, (law10-gives, (law11-gives, (law12-gives, (law13-gives, (law14-gives, (law15-gives, (law16-gives, (law17-gives, (law18-gives, (law19-gives, (law20-gives, (law21-gives, (law22-gives, (law23-gives, (law24-gives, (law25-gives, (law26-gives, (law27-gives, (law28-gives, (law29-gives, (law30-gives, (law31-gives, (law32-gives, (law33-gives, (law34-gives, (law35-gives, (law36-gives, (law37-gives, (law38-gives, (law39-gives, (law40-gives, (law41-gives, (law42-gives, (law43-gives, (law44-gives, (law45-gives, (law46-gives, tt)))))))))))))))))))))))))))))))))))))))))))))))
 
   forward-gives : (n : ℕ) (net : Network Expression) → Gives n olds net (forward n olds net)
   forward-gives n net = let q : shifted 0 n ≡ n = shifted-is 0 n ∙ omega arith in subst (λ k. Gives k olds net (forward n olds net)) q (nth-gives 0 (laws olds) n net all_give)
@@ -291,6 +309,10 @@ forward-complete {olds = olds} (row_l38 {f = f}) = ap (λ b. cond b (Some f) Non
 forward-complete (row_l39 {r = r} {fs = fs} some few) = ap (λ b. cond b (Some (par (behind_routes r 0 fs))) None) (in_bounds (members fs) some few)
 forward-complete (row_l40 {i = i} {fs = fs} few h) = ap (λ b. cond b (member fs i) None) (le-leb (members fs) 64 few) ∙ h
 forward-complete (row_l41 {h = h} {fs = fs} some few) = ap (λ b. cond b (Some (par (each_after h fs))) None) (in_bounds (members fs) some few)
+forward-complete row_l43 = refl
+forward-complete row_l44 = refl
+forward-complete row_l45 = refl
+forward-complete (row_l46 {e = e} {fs = fs} some few) = ap (λ b. cond b (Some (seq (arr e) (par fs))) None) (in_bounds (members fs) some few)
 forward-complete (row_l42 {es = es} some few) = ap (λ b. cond b (Some (par (each_arr es))) None) (in_bounds (count es) some few)
 
 -- the left side determines the right one

@@ -8,8 +8,8 @@ use Rattle.leaf_core.specs.Expression.{Expression, pair_expr}
 use Rattle.leaf_core.specs.ExpressionValue.{value_of}
 use Rattle.leaf_core.specs.ExpressionTyping.{ExpressionTyped, pair_typed}
 use Rattle.leaf_core.proofs.Soundness.{typed_value}
-use Rattle.net_syntax.specs.SignalFunction.{SignalFunction, TimedList, IsSignalFunction, seq_function, switch_function, d_switch_function, r_switch_function}
-use Rattle.net_syntax.specs.Network.{Network, arr, seq, first, i_pre, switch, d_switch, r_switch, k_switch, old}
+use Rattle.net_syntax.specs.SignalFunction.{SignalFunction, TimedList, IsSignalFunction, seq_function, switch_function, d_switch_function, r_switch_function, dr_switch_function}
+use Rattle.net_syntax.specs.Network.{Network, arr, seq, first, i_pre, switch, d_switch, r_switch, dr_switch, k_switch, old}
 use Rattle.net_syntax.specs.Meaning.{Context, meaning, with_param}
 use Rattle.net_syntax.specs.Typing.{Arrow, TypedSamples, arr_typed, seq_typed, i_pre_typed}
 use Rattle.net_syntax.specs.TypedNetwork.{NetTyped}
@@ -20,12 +20,12 @@ use Rattle.net_syntax.proofs.Plain.{AllSignals}
 use Rattle.net_syntax.proofs.Meanings.{IsSignal-meaning}
 use Rattle.net_syntax.proofs.SameNets.{signals_right, same-from_law}
 use Rattle.net_syntax.proofs.StreamLaws.{same-outputs}
-use Rattle.law_rules.specs.NetworkRow.{NetworkRow, swap, left_by, row_l1, row_l2, row_l3, row_l4, row_l5, row_l6, row_l7, row_l8, row_l9, row_l10, row_l11, row_l12, row_l13, row_l14, row_l15, row_l16, row_l17, row_l18, row_l19, row_l20, row_l21, row_l22, row_l23, row_l24, row_l25, row_l26, row_l27, row_l28, row_l29, row_l30, row_l31, row_l32, row_l33, row_l34, row_l35, row_l36, row_l37, row_l38, row_l39, row_l40, row_l41, row_l42}
+use Rattle.law_rules.specs.NetworkRow.{NetworkRow, swap, left_by, row_l1, row_l2, row_l3, row_l4, row_l5, row_l6, row_l7, row_l8, row_l9, row_l10, row_l11, row_l12, row_l13, row_l14, row_l15, row_l16, row_l17, row_l18, row_l19, row_l20, row_l21, row_l22, row_l23, row_l24, row_l25, row_l26, row_l27, row_l28, row_l29, row_l30, row_l31, row_l32, row_l33, row_l34, row_l35, row_l36, row_l37, row_l38, row_l39, row_l40, row_l41, row_l42, row_l43, row_l44, row_l45, row_l46}
 use Rattle.law_rules.proofs.Scopes.{value-stays}
 use Rattle.law_rules.proofs.SomeLaws.{switching_on-old}
 use Rattle.law_rules.proofs.CellLaws.{previous_of-pair}
-use Rattle.law_rules.proofs.SwitchLaws.{pointwise, sequence-switching, sequence-switching_late, switching-pointwise, switching_late-pointwise, restarting-pointwise}
-use Rattle.law_rules.proofs.NetworkLaws.{AlikeNets, at, into, law_1, law_2, law_3, law_4, law_5, law_6, law_7, law_8, law_9, law_10, law_11, law_13, law_14, law_15, law_16, law_17, law_18, law_19, law_20, law_21, law_22, law_23, law_24, law_25, law_26, law_31, law_32, law_33, law_34, law_35, law_37, law_39, law_40, law_41, law_42}
+use Rattle.law_rules.proofs.SwitchLaws.{pointwise, sequence-switching, sequence-switching_late, switching-pointwise, switching_late-pointwise, restarting-pointwise, restarting_late-pointwise}
+use Rattle.law_rules.proofs.NetworkLaws.{AlikeNets, at, into, law_1, law_2, law_3, law_4, law_5, law_6, law_7, law_8, law_9, law_10, law_11, law_13, law_14, law_15, law_16, law_17, law_18, law_19, law_20, law_21, law_22, law_23, law_24, law_25, law_26, law_31, law_32, law_33, law_34, law_35, law_37, law_39, law_40, law_41, law_42, law_43, law_44, law_46}
 
 -- the two networks mean the same in each scope that these types describe
 abbrev SameIn : List TypeTree → List Arrow → TypeTree → Network Expression → Network Expression → Type 0
@@ -76,6 +76,11 @@ law_36 : (h : Expression) (f t : Network Expression) (E : Context) → AllSignal
 law_36 h f t E s k =
     restarting-pointwise (value_of h E.params) (meaning value_of f E) (into t E) (signal f E s) (continues t E s)
     ∙ ap (r_switch_function (meaning value_of (seq f (arr h)) E)) (after-into h t E k)
+
+law_45 : (h : Expression) (f t : Network Expression) (E : Context) → AllSignals E.olds → Steady h E → meaning value_of (seq (dr_switch f t) (arr h)) E ≡ meaning value_of (dr_switch (seq f (arr h)) (seq t (arr h))) E
+law_45 h f t E s k =
+    restarting_late-pointwise (value_of h E.params) (meaning value_of f E) (into t E) (signal f E s) (continues t E s)
+    ∙ ap (dr_switch_function (meaning value_of (seq f (arr h)) E)) (after-into h t E k)
 
 -- the network that is frozen is the one of number n where n are in scope before
 law_38 : (n : ℕ) (f e : Network Expression) (E : Context) → AllSignals E.olds → length E.olds ≡ n → (xs : TimedList) → meaning value_of (k_switch f e (old n)) E xs ≡ meaning value_of f E xs
@@ -137,6 +142,10 @@ same-in law olds Ps Os A B l r (row_l39 {C = C} {r = c} {fs = fs} {t = t} some f
 same-in law olds Ps Os A B l r (row_l40 {i = i} {d = e} {fs = fs} few h) n d = everywhere Ps Os A l r (law_40 i e fs r h)
 same-in law olds Ps Os A B l r (row_l41 {h = h} {fs = fs} some few) n d = everywhere Ps Os A l r (law_41 h fs)
 same-in law olds Ps Os A B l r (row_l42 {T = T} {es = es} some few) n d = everywhere Ps Os A l r (law_42 T es)
+same-in law olds Ps Os A B l r (row_l43 {c = c} {d = e} {f = f}) n d = everywhere Ps Os A l r (law_43 c e f)
+same-in law olds Ps Os A B l r (row_l44 {c = c} {f = f}) n d = everywhere Ps Os A l r (law_44 c f)
+same-in law olds Ps Os A B l r (row_l45 {h = h} {f = f} {t = t}) n (seq_typed d (arr_typed {A = C} e)) = λ ps os k a xs j. at xs (law_45 h f t (context ps os) (signals_right os os a) (steady h Ps C B e ps os k))
+same-in law olds Ps Os A B l r (row_l46 {C = C} {e = e} {m = m} {fs = fs} {t = t} some few) n d = everywhere Ps Os A l r (law_46 C e m fs t few)
 
 pub same-sides : (law olds : ℕ) (Ps : List TypeTree) (Os : List Arrow) (A B : TypeTree) (l r : Network Expression) → NetworkRow law olds l r → length Os ≡ olds → NetTyped Ps Os l A B → NetTyped Ps Os r A B
     → SameNet value_of Ps Os A B l r

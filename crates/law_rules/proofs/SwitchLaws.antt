@@ -1,13 +1,15 @@
 -- The laws of switches, on signals: equations of functions.
-use Rattle.std.proofs.Common.{List, None, Option, Some, [], ap, append-nil, ap₂, arith, drop, flat_map, length, map, refl, suc, sym, take, zero, ℕ, ◌++◌, ◌∙◌, ◌∷◌, ◌≡◌}
+use Rattle.std.proofs.Common.{List, None, Option, Some, [], ap, append-nil, ap₂, arith, drop, flat_map, take_all, ◌≤◌, length, map, refl, suc, sym, take, zero, ℕ, ◌++◌, ◌∙◌, ◌∷◌, ◌≡◌}
 use Rattle.std.proofs.lemmas.List.{drop-map, length-map, map-append, take-map}
 use Rattle.std.proofs.lemmas.Simd.{map-map}
 use mathlib.Core.Path.{fun_ext}
 use Rattle.net_syntax.specs.Examples.{n}
-use Rattle.net_syntax.specs.SignalFunction.{IsSignalFunction, SignalFunction, TimedList, collect, cut_at, d_switch_function, each_value, first_event, first_function, freeze_all, k_switch_function, later, lefts, p_switch_function, pair_samples, pairs, pieces, put_sample, r_switch_function, resume, rights, seq_function, switch_function, values, watch, with_values}
+use Rattle.net_syntax.specs.SignalFunction.{IsSignalFunction, SignalFunction, TimedList, all_of, by_members, collect, cut_at, d_switch_function, dr_switch_function, each_late, each_value, first_event, first_members, gather, member_outputs, new_members, next_sample, par_function, rp_switch_function, first_function, freeze_all, k_switch_function, later, lefts, p_switch_function, pair_samples, pairs, pieces, put_sample, r_switch_function, resume, rights, seq_function, switch_function, values, watch, with_values}
 use Rattle.sample_core.specs.Datum.{Datum, left, no_event, pair, right}
 use Rattle.net_syntax.proofs.Plain.{IsSignal-on_left}
 use Rattle.net_syntax.proofs.Restarting.{IsSignal-restarting}
+use Rattle.net_syntax.proofs.LateRestarts.{IsSignal-restarting_late}
+use Rattle.net_syntax.proofs.RelatedMembers.{rows_of}
 use Rattle.net_syntax.proofs.Switched.{switch_at-none}
 use Rattle.net_syntax.proofs.Switches.{IsSignal-switching, IsSignal-switching_late}
 
@@ -224,6 +226,38 @@ restarting-pointwise h f t sf st =
     pointwise-after h (r_switch_function f t) (IsSignal-restarting t st f sf)
     ∙ (fun_ext λ xs. map-append h (f (pieces xs).0) (flat_map (λ piece. t piece.0 piece.1) (pieces xs).1) ∙ ap (λ vs. map h (f (pieces xs).0) ++ vs) (map-flat_map h (λ piece. t piece.0 piece.1) (pieces xs).1))
     ∙ sym (ap₂ r_switch_function (pointwise-after h f sf) (fun_ext λ c. pointwise-after h (t c) (st c)))
+
+-- L45
+map-each_late : (h : Datum → Datum) (t : Datum → SignalFunction) (qs : List (Datum × TimedList)) → map h (each_late t qs) ≡ each_late (λ c ys. map h (t c ys)) qs
+map-each_late h t [] = refl
+map-each_late h t (q ∷ qs) =
+    map-append h (drop 1 (t q.0 (q.1 ++ next_sample qs))) (each_late t qs)
+    ∙ ap₂ (λ vs ws. vs ++ ws) (sym (drop-map h 1 (t q.0 (q.1 ++ next_sample qs)))) (map-each_late h t qs)
+
+pub restarting_late-pointwise : (h : Datum → Datum) (f : SignalFunction) (t : Datum → SignalFunction) → IsSignalFunction f → ((c : Datum) → IsSignalFunction (t c))
+    → seq_function (dr_switch_function f t) (pointwise h) ≡ dr_switch_function (seq_function f (pointwise h)) (λ c. seq_function (t c) (pointwise h))
+restarting_late-pointwise h f t sf st =
+    pointwise-after h (dr_switch_function f t) (IsSignal-restarting_late t st f sf)
+    ∙ (fun_ext λ xs.
+    let ys : TimedList = (pieces xs).0 ++ next_sample (pieces xs).1 in
+    map-append h (f ys) (each_late t (pieces xs).1) ∙ ap (λ vs. map h (f ys) ++ vs) (map-each_late h t (pieces xs).1))
+    ∙ sym (ap₂ dr_switch_function (pointwise-after h f sf) (fun_ext λ c. pointwise-after h (t c) (st c)))
+
+-- L46: members that have got nothing yet are the members of a `parB`
+rows-new : (fs : List SignalFunction) (xs : TimedList) → rows_of (new_members fs) xs ≡ all_of fs xs
+rows-new [] xs = refl
+rows-new (f ∷ fs) xs = ap (λ rows. f xs ∷ rows) (rows-new fs xs)
+
+pub choosing-quiet : (e r : Datum → Datum) (fs : List SignalFunction) (t : Datum → SignalFunction) → length fs ≤ 64
+    → seq_function (pointwise (λ v. pair (e v) no_event)) (rp_switch_function r fs t) ≡ seq_function (pointwise e) (par_function fs)
+choosing-quiet e r fs t few =
+    let l : length (new_members fs) ≡ length fs = length-map fs (λ f. (f, [])) in
+    pointwise-before (λ v. pair (e v) no_event) (rp_switch_function r fs t)
+    ∙ (fun_ext λ xs.
+    ap (λ p. by_members member_outputs r t (first_members fs) p.0 p.1) (pieces-quiet e xs)
+    ∙ ap (λ ms. member_outputs ms (each_value e xs)) (take_all 64 (new_members fs) (omega arith))
+    ∙ ap (gather (each_value e xs)) (rows-new fs (each_value e xs)))
+    ∙ sym (pointwise-before e (par_function fs))
 
 -- L37, and the switch of L39
 pub switching_on-quiet : (f : SignalFunction) (t : Datum → SignalFunction → SignalFunction) → k_switch_function f (pointwise (λ v. no_event)) t ≡ f

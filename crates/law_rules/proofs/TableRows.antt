@@ -2,13 +2,13 @@
 use Rattle.std.proofs.Common.{◌≡◌, ℕ, List, [], ◌∷◌, Option, Some, get_or, refl, sym, ap, ◌∙◌, subst}
 use Rattle.sample_core.specs.TypeTree.{TypeTree, unit_ty}
 use Rattle.leaf_core.specs.Expression.{Expression, input, unit_expr, pair_expr, fst, then_expr, no_event_expr, event_expr}
-use Rattle.net_syntax.specs.Network.{Network, arr, seq, first, loop_pre, i_pre, delay, hold, accum_by, after, repeatedly, time, switch, d_switch, r_switch, k_switch}
+use Rattle.net_syntax.specs.Network.{Network, arr, seq, first, loop_pre, initial_out, initial_in, i_pre, delay, hold, accum_by, after, repeatedly, time, switch, d_switch, r_switch, dr_switch, k_switch}
 use Rattle.law_patterns.specs.declared.net_sym.NetSym.{NetSym}
 use Rattle.law_patterns.specs.Pattern.{Assignment}
 use Rattle.law_patterns.specs.Rule.{Related}
 use Rattle.law_patterns.specs.NetPattern.{NetAssignment, net_filled, NetRow}
 use Rattle.law_patterns.specs.NetRule.{NetRuleInstance}
-use Rattle.law_rules.specs.NetworkRow.{swap, assoc, unassoc, event_last, left_by, right_by, event_by, NetworkRow, row_l1, row_l2, row_l3, row_l4, row_l5, row_l6, row_l7, row_l8, row_l9, row_l10, row_l11, row_l12, row_l13, row_l14, row_l15, row_l16, row_l17, row_l18, row_l19, row_l20, row_l21, row_l22, row_l23, row_l24, row_l25, row_l26, row_l27, row_l28, row_l29, row_l30, row_l31, row_l32, row_l33, row_l34, row_l35, row_l36, row_l37, row_l38, row_l39, row_l40, row_l41, row_l42}
+use Rattle.law_rules.specs.NetworkRow.{swap, assoc, unassoc, event_last, left_by, right_by, event_by, NetworkRow, row_l1, row_l2, row_l3, row_l4, row_l5, row_l6, row_l7, row_l8, row_l9, row_l10, row_l11, row_l12, row_l13, row_l14, row_l15, row_l16, row_l17, row_l18, row_l19, row_l20, row_l21, row_l22, row_l23, row_l24, row_l25, row_l26, row_l27, row_l28, row_l29, row_l30, row_l31, row_l32, row_l33, row_l34, row_l35, row_l36, row_l37, row_l38, row_l39, row_l40, row_l41, row_l42, row_l43, row_l44, row_l45, row_l46}
 
 -- the two sides of a row, over a choice of trees for the letters, or a row that has no two patterns
 pub data Shape : Type 0 where
@@ -60,6 +60,10 @@ shapes =
     by_name ∷
     by_name ∷
     by_name ∷
+    by_name ∷
+    sides (λ a. initial_out a.exprs.f (initial_out a.exprs.g a.f)) (λ a. initial_out a.exprs.f a.f) ∷
+    sides (λ a. initial_in a.exprs.f (arr a.exprs.g)) (λ a. initial_out (then_expr a.exprs.f a.exprs.g) (arr a.exprs.g)) ∷
+    sides (λ a. seq (dr_switch a.f a.g) (arr a.exprs.h)) (λ a. dr_switch (seq a.f (arr a.exprs.h)) (seq a.g (arr a.exprs.h))) ∷
     by_name ∷
     []
 
@@ -123,6 +127,10 @@ makes (row_l39 some few) = tt
 makes (row_l40 few h) = tt
 makes (row_l41 some few) = tt
 makes (row_l42 some few) = tt
+makes (row_l43 {c = c} {d = d} {f = f}) = (letters f time time 0 (exprs c d input unit_ty), refl, refl)
+makes (row_l44 {c = c} {f = f}) = (letters time time time 0 (exprs c f input unit_ty), refl, refl)
+makes (row_l45 {h = h} {f = f} {t = t}) = (letters f t time 0 (exprs input input h unit_ty), refl, refl)
+makes (row_l46 some few) = tt
 
 made-row : (left right : List NetSym) (l r : NetAssignment → Network Expression) → ((a : NetAssignment) → net_filled a left ≡ Some (l a))
     → ((a : NetAssignment) → net_filled a right ≡ Some (r a)) → (x y : Network Expression) → Makes (sides l r) x y → NetRow left right x y

@@ -5,7 +5,7 @@ ghost use Rattle.net_syntax.specs.NetworkView.{tree_of};
 ghost use Rattle.law_rules.specs.NetworkRow.{NetworkRow};
 ghost use Rattle.law_rules.specs.Answer.{IsNetworkAnswer, IsRightSide, given_net};
 
-use crate::collections::{before_members, elements_apart, members_apart};
+use crate::collections::{before_members, elements_apart, members_apart, unchanging};
 use crate::parts::{one_member, resumed, without_input};
 use crate::table::{Rule, law_rule};
 use law_patterns::rewrite_net;
@@ -57,6 +57,7 @@ fn forward(
         Rule::OneMember => one_member(alloc, net),
         Rule::BeforeMembers => before_members(alloc, net),
         Rule::ElementsApart => elements_apart(alloc, net),
+        Rule::Unchanging => unchanging(alloc, net),
     }
 }
 

@@ -6,7 +6,7 @@ ghost use Rattle.leaf_core.specs.ExpressionView.{expression_of};
 ghost use Rattle.net_syntax.specs.Network.{arr, networks_of, par, seq};
 ghost use Rattle.net_syntax.specs.NetworkView.{tree, tree_of, trees};
 ghost use Rattle.law_rules.specs.NetworkRow.{route_to};
-ghost use Rattle.law_rules.specs.Forward.{is_eventless, law39, law41, law42, one_to_64, routed_apart, routed_each};
+ghost use Rattle.law_rules.specs.Forward.{beside_none, is_eventless, kept_apart, law39, law41, law42, law46, one_to_64, routed_apart, routed_each};
 
 use leaf_core::{Expr, ExprChild, Exprs, Literal};
 use net_syntax::{Members, Net, NetChild};
@@ -227,4 +227,72 @@ fn route_to(alloc: Global, r: &ExprChild, i: usize) -> Result<Expr, Memory>
     let pair = ExprChild::new(alloc, Expr::Pair(input, number))?;
     let r = r.try_copy()?;
     Ok(Expr::Then(pair, r))
+}
+
+/// Where no event comes, an `rpSwitchB` is the `parB` of the members that it begins with.
+pub(crate) fn unchanging(alloc: Global, net: &Net<Expr>) -> Result<Option<Net<Expr>>, Memory>
+    ensures { IfOk result (λ o. option_map tree_of o ≡ law46 (tree_of net.now)) }
+{
+    match net {
+        Net::Seq(before, all) => unchanged(alloc, before.get(), all.get()),
+        _ => Ok(None),
+    }
+}
+
+/// The same of what goes before, and of the `rpSwitchB`.
+fn unchanged(
+    alloc: Global,
+    before: &Net<Expr>,
+    all: &Net<Expr>,
+) -> Result<Option<Net<Expr>>, Memory>
+    ensures { IfOk result (λ o. option_map tree_of o
+        ≡ law46 (seq (tree_of before.now) (tree_of all.now))) }
+{
+    match (before, all) {
+        (Net::Arr(e), Net::RpSwitch(fs, _, _)) => match beside_none(e) {
+            Some(e) => kept_apart(alloc, e, fs),
+            None => Ok(None),
+        },
+        _ => Ok(None),
+    }
+}
+
+/// The expression that stands in a pair with `none`.
+fn beside_none(e: &Expr) -> Option<&Expr>
+    ensures { option_map (λ d. expression_of d.now) result ≡ beside_none (expression_of e.now) }
+{
+    match e {
+        Expr::Pair(one, other) => match other.get() {
+            Expr::NoEvent(_) => Some(one.get()),
+            _ => None,
+        },
+        _ => None,
+    }
+}
+
+/// The `parB` of the members behind `arr` of the expression, where there are from 1 to 64.
+fn kept_apart(alloc: Global, e: &Expr, fs: &Members<Expr>) -> Result<Option<Net<Expr>>, Memory>
+    ensures { IfOk result (λ o. option_map tree_of o
+        ≡ kept_apart (trees fs.now) (Some (expression_of e.now))) }
+{
+    if !is_1_to_64(fs.as_slice().len()) {
+        return Ok(None);
+    }
+    let fs = fs.try_copy()?;
+    let all = NetChild::new(alloc, Net::Par(fs))?;
+    match applied(alloc, e) {
+        Ok(before) => Ok(Some(Net::Seq(before, all))),
+        Err(refused) => {
+            drop(all);
+            Err(refused)
+        }
+    }
+}
+
+/// `arr` of the expression.
+fn applied(alloc: Global, e: &Expr) -> Result<NetChild<Expr>, Memory>
+    ensures { IfOk result (λ f. tree f ≡ arr (expression_of e.now)) }
+{
+    let e = e.try_copy(alloc)?;
+    NetChild::new(alloc, Net::Arr(e))
 }

@@ -3,11 +3,11 @@
 ghost use Rattle.std.specs.Prelude.{◌≤◌};
 ghost use Rattle.law_rules.specs.Table.{IsRule};
 
-use NetSym::{AccumBy, After, Arr, Delay, Hold, IPre, LoopPre, Repeatedly};
+use NetSym::{AccumBy, After, Arr, Delay, Hold, IPre, InitialIn, InitialOut, LoopPre, Repeatedly};
 use Rule::Sides;
 use law_patterns::{
-    D_SWITCH, EVENT, F, FIRST, FST, G, H, K_SWITCH, NET_F, NET_G, NET_H, NONE, NetSym, ON, PAIR,
-    R_SWITCH, SEQ, SND, SWITCH, THEN, UNIT, X,
+    D_SWITCH, DR_SWITCH, EVENT, F, FIRST, FST, G, H, K_SWITCH, NET_F, NET_G, NET_H, NONE, NetSym,
+    ON, PAIR, R_SWITCH, SEQ, SND, SWITCH, THEN, UNIT, X,
 };
 
 /// What a law is.
@@ -29,6 +29,8 @@ pub enum Rule {
     BeforeMembers,
     /// A list expression is the `parB` of its elements.
     ElementsApart,
+    /// Where no event comes, an `rpSwitchB` is the `parB` of the members that it begins with.
+    Unchanging,
 }
 
 /// `(arr x)`.
@@ -67,6 +69,8 @@ const PRE_F: NetSym = IPre(&[F]);
 const PRE_G: NetSym = IPre(&[G]);
 /// `loopPre` from f.
 const LOOP_F: NetSym = LoopPre(&[F]);
+/// `-->` with f first.
+const OUT_F: NetSym = InitialOut(&[F]);
 
 /// The law of this number: a side is written with each form before its parts.
 pub fn law_rule(number: u8) -> Rule
@@ -214,12 +218,12 @@ fn switch_rule(number: u8) -> Rule
             &[FIRST, D_SWITCH, NET_F, NET_G],
             &[D_SWITCH, SEQ, FIRST, NET_F, ARR_LAST, FIRST, NET_G],
         ),
-        _ => last_rule(number),
+        _ => restart_rule(number),
     }
 }
 
 /// The law of this number, from 35 on.
-fn last_rule(number: u8) -> Rule
+fn restart_rule(number: u8) -> Rule
     requires { 35 ≤ number }
     ensures { IsRule number result }
 {
@@ -238,6 +242,26 @@ fn last_rule(number: u8) -> Rule
         40 => Rule::OneMember,
         41 => Rule::BeforeMembers,
         42 => Rule::ElementsApart,
+        _ => last_rule(number),
+    }
+}
+
+/// The law of this number, from 43 on.
+fn last_rule(number: u8) -> Rule
+    requires { 43 ≤ number }
+    ensures { IsRule number result }
+{
+    match number {
+        43 => Sides(&[OUT_F, InitialOut(&[G]), NET_F], &[OUT_F, NET_F]),
+        44 => Sides(
+            &[InitialIn(&[F]), ARR_G],
+            &[InitialOut(&[THEN, F, G]), ARR_G],
+        ),
+        45 => Sides(
+            &[SEQ, DR_SWITCH, NET_F, NET_G, ARR_H],
+            &[DR_SWITCH, SEQ, NET_F, ARR_H, SEQ, NET_G, ARR_H],
+        ),
+        46 => Rule::Unchanging,
         _ => Rule::Nothing,
     }
 }

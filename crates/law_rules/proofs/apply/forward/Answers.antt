@@ -31,3 +31,6 @@ returns-in-BeforeMembers c = by-function c.args.number 41 c.args.olds (tree_of c
 
 pub returns-in-ElementsApart : goal.returns-in-ElementsApart
 returns-in-ElementsApart c = by-function c.args.number 42 c.args.olds (tree_of c.args.net.now) c.elements_apart.result (subst (IsRule c.args.number) c.in-ElementsApart.is c.law_rule.ensures) c.elements_apart.ensures
+
+pub returns-in-Unchanging : goal.returns-in-Unchanging
+returns-in-Unchanging c = by-function c.args.number 46 c.args.olds (tree_of c.args.net.now) c.unchanging.result (subst (IsRule c.args.number) c.in-Unchanging.is c.law_rule.ensures) c.unchanging.ensures
