@@ -10,10 +10,10 @@ use Rattle.leaf_core.specs.KeyTree.{KeyTree}
 use Rattle.leaf_core.specs.declared.expr.Expr.{Expr}
 use Rattle.leaf_table.specs.declared.table.LeafId.{LeafId}
 use Rattle.net_syntax.specs.Leaves.{Need, need_at, LeavesOf, leaves_by, member_leaves_by}
-use Rattle.net_syntax.specs.Network.{Network, Networks, arr, seq, first, par, loop_pre, i_pre, delay, hold, accum_by, after, repeatedly, time, integral, switch, d_switch, r_switch, initial_out, initial_in, dr_switch, rp_switch, k_switch, p_switch, old, networks_of, no_members, and_member, map_networks}
+use Rattle.net_syntax.specs.Network.{Network, Networks, arr, seq, first, par, loop_pre, initial_out, initial_in, i_pre, delay, hold, accum_by, after, repeatedly, time, integral, switch, d_switch, r_switch, dr_switch, rp_switch, k_switch, p_switch, old, networks_of, no_members, and_member, map_networks}
 use Rattle.net_syntax.specs.NetworkView.{members_of}
 use Rattle.net_syntax.specs.Place.{◌>>=◌}
-use Rattle.net_syntax.specs.Typing.{Arrow, arrow, copies, members, Typed, AllTyped, AnyType, arr_typed, seq_typed, first_typed, par_typed, loop_typed, i_pre_typed, delay_typed, hold_typed, accum_typed, after_typed, repeatedly_typed, time_typed, integral_typed, switch_typed, d_switch_typed, r_switch_typed, initial_out_typed, initial_in_typed, dr_switch_typed, rp_switch_typed, k_switch_typed, p_switch_typed, old_typed, no_members_typed, and_member_typed}
+use Rattle.net_syntax.specs.Typing.{Arrow, arrow, copies, members, Typed, AllTyped, AnyType, arr_typed, seq_typed, first_typed, par_typed, loop_typed, i_pre_typed, delay_typed, hold_typed, accum_typed, after_typed, repeatedly_typed, time_typed, integral_typed, switch_typed, d_switch_typed, r_switch_typed, k_switch_typed, p_switch_typed, old_typed, initial_out_typed, initial_in_typed, dr_switch_typed, rp_switch_typed, no_members_typed, and_member_typed}
 use Rattle.net_syntax.specs.TypedNetwork.{TypedNetwork, NetTyped}
 use Rattle.net_syntax.specs.Weight.{weight}
 use Rattle.net_syntax.specs.declared.net.Net.{Net}
@@ -133,36 +133,21 @@ module _ (keys : List KeyTree) where
         pair _ _ _ _ _ f t d_switch (filled (at ++ 0 ∷ []) df) (filled (at ++ 1 ∷ []) dt) (λ a b p q. (d_switch_typed p.0 q.0, ap₂ d_switch p.1 q.1))
     filled at (r_switch_typed {f = f} {t = t} df dt) =
         pair _ _ _ _ _ f t r_switch (filled (at ++ 0 ∷ []) df) (filled (at ++ 1 ∷ []) dt) (λ a b p q. (r_switch_typed p.0 q.0, ap₂ r_switch p.1 q.1))
+    filled at (dr_switch_typed {f = f} {t = t} df dt) =
+        pair _ _ _ _ _ f t dr_switch (filled (at ++ 0 ∷ []) df) (filled (at ++ 1 ∷ []) dt) (λ a b p q. (dr_switch_typed p.0 q.0, ap₂ dr_switch p.1 q.1))
     filled at (first_typed {f = f} df m) = made _ _ _ (fill f) first (filled (at ++ 0 ∷ []) df) (λ a p. (first_typed p.0 m, ap first p.1))
     filled at (loop_typed {Ps = Ps} {c = c} {f = f} {C = C} h m df) =
         one_more (need_at at 0 c Ps unit_ty C ∷ []) _ _ _ fill_leaf (λ i ks. fill f ks >>= (λ b. Some (loop_pre i b.0, b.1))) (leaf Ps at 0 c unit_ty C h)
         (λ i p. made _ _ _ (fill f) (loop_pre i) (filled (at ++ 1 ∷ []) df) (λ b q. (loop_typed p.0 m q.0, ap₂ loop_pre p.1 q.1)))
-    filled at (par_typed {fs = fs} l u ds m) =
-        made _ _ _ (fill_members fs) par (filled_members at 0 ds)
-        (λ a p. (par_typed (subst (λ n. 1 ≤ n) (sym p.2) l) (subst (λ n. n ≤ 64) (sym p.2) u) p.0 m, ap par p.1))
     filled at (initial_out_typed {Ps = Ps} {c = c} {f = f} {B = B} h df) =
         one_more (need_at at 0 c Ps unit_ty B ∷ []) _ _ _ fill_leaf (λ i ks. fill f ks >>= (λ b. Some (initial_out i b.0, b.1))) (leaf Ps at 0 c unit_ty B h)
         (λ i p. made _ _ _ (fill f) (initial_out i) (filled (at ++ 1 ∷ []) df) (λ b q. (initial_out_typed p.0 q.0, ap₂ initial_out p.1 q.1)))
     filled at (initial_in_typed {Ps = Ps} {c = c} {f = f} {A = A} h df) =
         one_more (need_at at 0 c Ps unit_ty A ∷ []) _ _ _ fill_leaf (λ i ks. fill f ks >>= (λ b. Some (initial_in i b.0, b.1))) (leaf Ps at 0 c unit_ty A h)
         (λ i p. made _ _ _ (fill f) (initial_in i) (filled (at ++ 1 ∷ []) df) (λ b q. (initial_in_typed p.0 q.0, ap₂ initial_in p.1 q.1)))
-    filled at (dr_switch_typed {f = f} {t = t} df dt) =
-        pair _ _ _ _ _ f t dr_switch (filled (at ++ 0 ∷ []) df) (filled (at ++ 1 ∷ []) dt) (λ a b p q. (dr_switch_typed p.0 q.0, ap₂ dr_switch p.1 q.1))
-    filled at (rp_switch_typed {Ps = Ps} {Os = Os} {fs = fs} {m = m} {t = t} {D = D} {B = B} {C = C} {V = V} l u ds h dt n) =
-        let K : TypeTree = pair_ty (list_ty int_ty) (list_ty V) in
-        let R : Network ℕ → Type 0 = IsRows Ps Os (rp_switch fs m t) (pair_ty D (event_ty C)) (list_ty B) in
-        let T : Network ℕ → Type 0 = IsRows (Ps ++ V ∷ []) Os t D B in
-        let here : Need = need_at at (members fs) m Ps C K in
-        let ts : List Need = leaves_by (at ++ suc (members fs) ∷ []) dt in
-        one_more (member_leaves_by at 0 ds) (here ∷ ts) (AreRows Ps Os fs D B) R (fill_members fs)
-        (λ a ks. fill_leaf ks >>= (λ b. fill t b.1 >>= (λ c. Some (rp_switch a b.0 c.0, c.1)))) (filled_members at 0 ds)
-        (λ a p. one_more (here ∷ []) ts (λ k. RowTyped keys k Ps C K × (row_expression keys k ≡ m)) R fill_leaf
-        (λ b ks. fill t ks >>= (λ c. Some (rp_switch a b c.0, c.1))) (leaf Ps at (members fs) m C K h)
-        (λ b q. made ts T R (fill t) (rp_switch a b) (filled (at ++ suc (members fs) ∷ []) dt)
-        (λ c r. (
-          rp_switch_typed (subst (λ j. 1 ≤ j) (sym p.2) l) (subst (λ j. j ≤ 64) (sym p.2) u) p.0 q.0 r.0 n,
-          λ i. rp_switch (p.1 i) (q.1 i) (r.1 i),
-        ))))
+    filled at (par_typed {fs = fs} l u ds m) =
+        made _ _ _ (fill_members fs) par (filled_members at 0 ds)
+        (λ a p. (par_typed (subst (λ n. 1 ≤ n) (sym p.2) l) (subst (λ n. n ≤ 64) (sym p.2) u) p.0 m, ap par p.1))
     filled at (k_switch_typed {Ps = Ps} {Os = Os} {f = f} {e = e} {t = t} {A = A} {B = B} {C = C} df m de dt) =
         let R : Network ℕ → Type 0 = IsRows Ps Os (k_switch f e t) A B in
         let E : Network ℕ → Type 0 = IsRows Ps Os e (pair_ty A B) (event_ty C) in
@@ -200,6 +185,21 @@ module _ (keys : List KeyTree) where
               (subst (λ j. Typed (RowTyped keys) AnyType (Ps ++ C ∷ []) (Os ++ copies j (arrow D B)) q.1 A (list_ty B)) (sym p.2) s.1.0),
           λ i. p_switch (z.1 i) (p.1 i) (s.0.1 i) (s.1.1 i),
         )))))
+    filled at (rp_switch_typed {Ps = Ps} {Os = Os} {fs = fs} {m = m} {t = t} {D = D} {B = B} {C = C} {V = V} l u ds h dt n) =
+        let R : Network ℕ → Type 0 = IsRows Ps Os (rp_switch fs m t) (pair_ty D (event_ty C)) (list_ty B) in
+        let T : Network ℕ → Type 0 = IsRows (Ps ++ V ∷ []) Os t D B in
+        let M : Networks ℕ → Type 0 = AreRows Ps Os fs D B in
+        let K : TypeTree = pair_ty (list_ty int_ty) (list_ty V) in
+        let here : Need = need_at at (members fs) m Ps C K in
+        let ts : List Need = leaves_by (at ++ suc (members fs) ∷ []) dt in
+        one_more (member_leaves_by at 0 ds) (here ∷ ts) M R (fill_members fs)
+        (λ a ks. fill_leaf ks >>= (λ b. fill t b.1 >>= (λ c. Some (rp_switch a b.0 c.0, c.1)))) (filled_members at 0 ds)
+        (λ a p. one_more (here ∷ []) ts (λ k. RowTyped keys k Ps C K × (row_expression keys k ≡ m)) R fill_leaf
+        (λ k ks. fill t ks >>= (λ c. Some (rp_switch a k c.0, c.1))) (leaf Ps at (members fs) m C K h)
+        (λ k z. made ts T R (fill t) (rp_switch a k) (filled (at ++ suc (members fs) ∷ []) dt) (λ b s. (
+          rp_switch_typed (subst (λ j. 1 ≤ j) (sym p.2) l) (subst (λ j. j ≤ 64) (sym p.2) u) p.0 z.0 s.0 n,
+          λ i. rp_switch (p.1 i) (z.1 i) (s.1 i),
+        ))))
 
     filled_members : {Ps : List TypeTree} {Os : List Arrow} {fs : Networks Expression} {A B : TypeTree} (at : List ℕ) (k : ℕ)
         (ds : AllTyped ExpressionTyped AnyType Ps Os fs A B) → Fills (member_leaves_by at k ds) (AreRows Ps Os fs A B) (fill_members fs)

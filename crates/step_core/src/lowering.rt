@@ -2,14 +2,15 @@
 
 ghost use Rattle.std.specs.Prelude.{◌≡◌, ◌≢◌, ◌++◌, [], IfOk, None, Some, map, zero};
 ghost use Rattle.leaf_core.specs.{Expression.input, ExpressionView.expression_of};
-ghost use Rattle.net_syntax.specs.Network.{first, par, loop_pre, accum_by, k_switch, p_switch, map_network, map_networks};
+ghost use Rattle.net_syntax.specs.Network.{first, par, accum_by, k_switch, p_switch, rp_switch, map_network, map_networks};
+ghost use Rattle.net_syntax.specs.FormView.{fed_tree};
 ghost use Rattle.net_syntax.specs.NetworkView.{members_of, tree_of};
 ghost use Rattle.state_core.specs.RowsView.{row_number, rows_in};
 ghost use Rattle.step_core.specs.Lowering.{AddsMembers, fill, fill_leaf, fill_members, fill_pair, fill_routed, leaf_tree, pair_tree};
 
 use leaf_core::Expr;
 use leaf_table::LeafId;
-use net_syntax::{LeafForm, Members, Net, NetChild, PairForm};
+use net_syntax::{FedForm, LeafForm, Members, Net, NetChild, PairForm};
 use sample_core::Memory;
 use std::alloc::Global;
 
@@ -38,13 +39,17 @@ pub(crate) fn lower<'a>(
         Net::Old(k) => Ok((Net::Old(*k), rows)),
         Net::First(f) => lower_first(alloc, f, rows),
         Net::Par(fs) => lower_par(alloc, fs, rows),
-        Net::LoopPre(_, f) => lower_loop(alloc, f, rows),
+        Net::LoopPre(_, f) => lower_fed(alloc, FedForm::LoopPre, f, rows),
+        Net::InitialOut(_, f) => lower_fed(alloc, FedForm::InitialOut, f, rows),
+        Net::InitialIn(_, f) => lower_fed(alloc, FedForm::InitialIn, f, rows),
         Net::Seq(f, g) => lower_pair(alloc, PairForm::Seq, f, g, rows),
         Net::Switch(f, t) => lower_pair(alloc, PairForm::Switch, f, t, rows),
         Net::DSwitch(f, t) => lower_pair(alloc, PairForm::DSwitch, f, t, rows),
         Net::RSwitch(f, t) => lower_pair(alloc, PairForm::RSwitch, f, t, rows),
+        Net::DrSwitch(f, t) => lower_pair(alloc, PairForm::DrSwitch, f, t, rows),
         Net::KSwitch(f, e, t) => lower_freeze(alloc, f, e, t, rows),
         Net::PSwitch(_, fs, e, t) => lower_routed(alloc, fs, e, t, rows),
+        Net::RpSwitch(fs, _, t) => lower_collection(alloc, fs, t, rows),
     }
 }
 
@@ -114,21 +119,22 @@ fn lower_first<'a>(
     Ok((Net::First(f), rest))
 }
 
-/// A `loopPre`.
+/// A form of an expression and a network.
 #[cycle(lower)]
-fn lower_loop<'a>(
+fn lower_fed<'a>(
     alloc: Global,
+    form: FedForm,
     f: &NetChild<Expr>,
     rows: &'a [LeafId],
 ) -> Result<(Net<LeafId>, &'a [LeafId]), Memory>
-    requires { fill (loop_pre input (map_network expression_of f.now))
+    requires { fill (fed_tree form input (map_network expression_of f.now))
         (map row_number rows.now) ≢ None }
-    ensures { IfOk result (λ r. fill (loop_pre input (map_network expression_of f.now))
+    ensures { IfOk result (λ r. fill (fed_tree form input (map_network expression_of f.now))
         (map row_number rows.now) ≡ Some (rows_in r.0, map row_number r.1.now)) }
 {
     let (start, rest) = first_row(rows);
     let (f, rest) = lower_child(alloc, f, rest)?;
-    Ok((Net::LoopPre(start, f), rest))
+    Ok((form.of(start, f), rest))
 }
 
 /// A form of two networks.
@@ -305,6 +311,31 @@ fn lower_behind_route<'a>(
     let (fs, rest) = lower_all(alloc, fs, rows)?;
     match lower_two(alloc, e, t, rest) {
         Ok((e, t, rest)) => Ok((Net::PSwitch(route, fs, e, t), rest)),
+        Err(refused) => {
+            drop(fs);
+            Err(refused)
+        }
+    }
+}
+
+/// An `rpSwitchB`.
+#[cycle(lower)]
+fn lower_collection<'a>(
+    alloc: Global,
+    fs: &Members<Expr>,
+    t: &NetChild<Expr>,
+    rows: &'a [LeafId],
+) -> Result<(Net<LeafId>, &'a [LeafId]), Memory>
+    requires { fill (rp_switch (map_networks expression_of fs.now) input
+        (map_network expression_of t.now)) (map row_number rows.now) ≢ None }
+    ensures { IfOk result (λ r. fill (rp_switch (map_networks expression_of fs.now) input
+        (map_network expression_of t.now)) (map row_number rows.now)
+        ≡ Some (rows_in r.0, map row_number r.1.now)) }
+{
+    let (fs, rest) = lower_all(alloc, fs, rows)?;
+    let (choice, rest) = first_row(rest);
+    match lower_child(alloc, t, rest) {
+        Ok((t, rest)) => Ok((Net::RpSwitch(fs, choice, t), rest)),
         Err(refused) => {
             drop(fs);
             Err(refused)

@@ -21,8 +21,11 @@ decreases-lower_behind_route l = 8 * (networks_size l.fs.now + network_size l.e.
 abbrev pub decreases-lower_first : goal.decreases-lower_first
 decreases-lower_first l = 8 * network_size l.f.now + 3
 
-abbrev pub decreases-lower_loop : goal.decreases-lower_loop
-decreases-lower_loop l = 8 * network_size l.f.now + 3
+abbrev pub decreases-lower_fed : goal.decreases-lower_fed
+decreases-lower_fed l = 8 * network_size l.f.now + 3
+
+abbrev pub decreases-lower_collection : goal.decreases-lower_collection
+decreases-lower_collection l = 8 * (networks_size l.fs.now + network_size l.t.now) + 4
 
 abbrev pub decreases-lower_two : goal.decreases-lower_two
 decreases-lower_two l = 8 * (network_size l.f.now + network_size l.g.now) + 3
