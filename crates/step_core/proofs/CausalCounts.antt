@@ -4,11 +4,12 @@ use Rattle.std.proofs.lemmas.List.{length-map, take-map, drop-take, take-append-
 use Rattle.std.proofs.lemmas.Bool.{cases_lt}
 use Rattle.sample_core.specs.Datum.{Datum, left, pair, event}
 use Rattle.net_syntax.specs.SignalFunction.{TimedList, SignalFunction, zip_with, pieces, route, first_event, step_of, IsSignalFunction}
-use Rattle.state_core.specs.Visits.{VisitCounts, add_counts, and_one, first_and_one, both_at_first, switch_counts, resume_counts, freeze_counts, sum_by_route, sum_of_all, counts_at}
+use Rattle.state_core.specs.Visits.{VisitCounts, add_counts, and_one, first_and_one, both_at_first, switch_counts, resume_counts, freeze_counts, sum_by_route, sum_of_all, counts_at, zeros, at_first, late_counts}
 use Rattle.net_syntax.proofs.Zips.{length-zip_with, take-zip_with}
 use Rattle.net_syntax.proofs.Events.{IsFirst, Outlook, never, once, outlook}
 use Rattle.net_syntax.proofs.Switched.{take_into, take_into_at}
 use Rattle.net_syntax.proofs.Restarting.{IsUncut, uncut_or_cut}
+use Rattle.net_syntax.proofs.LateRestarts.{KeepsPace, late_keeps}
 use Rattle.step_core.proofs.VisitSums.{length-taken_over}
 
 -- as many counts as samples, and no look ahead
@@ -217,6 +218,41 @@ module _ (t : Datum → VisitCounts) (ct : (c : Datum) → IsCausal (t c)) where
     counted = λ xs. length-from f cf [] xs ∙ (omega arith);
     causal = λ n xs. let e : 0 + n ≡ n = omega arith in from-take f cf [] n xs ∙ ap (λ k. take k (from f t [] xs)) e;
   }
+
+-- `drSwitch`
+length-at_first : (v : VisitCounts) → IsCausal v → (xs : TimedList) → length (at_first v xs) ≡ length xs
+length-at_first v c xs =
+    let l : length (v xs) ≡ length xs = c.counted xs in
+    let z : length (zeros (drop 1 xs)) ≡ length (drop 1 xs) = length-map (drop 1 xs) (λ x. 0) in
+    omega (arith, length-append (take 1 (v xs)) (zeros (drop 1 xs)), length-take 1 (v xs), length-drop 1 xs)
+
+take-at_first : (v : VisitCounts) → IsCausal v → (n : ℕ) (xs : TimedList) → at_first v (take n xs) ≡ take n (at_first v xs)
+take-at_first v c zero xs = nothing (at_first v []) (length-at_first v c [])
+  where
+    nothing : (ns : List ℕ) → length ns ≡ 0 → ns ≡ []
+    nothing [] e = refl
+    nothing (m ∷ ns) e = absurd (omega arith)
+take-at_first v c (suc n) [] =
+    let l : length (at_first v []) ≡ 0 = length-at_first v c [] in
+    sym (take_all (suc n) (at_first v []) (omega arith))
+take-at_first v c (suc n) (x ∷ xs) =
+    let ns : List ℕ = v (x ∷ xs) in
+    let l : length ns ≡ suc (length xs) = c.counted (x ∷ xs) in
+    let e : 1 + n ≡ suc n = omega arith in
+    ap (λ ms. take 1 ms ++ zeros (take n xs)) (c.causal (suc n) (x ∷ xs))
+    ∙ ap (λ ms. ms ++ zeros (take n xs)) (take-take 1 (suc n) ns (omega arith))
+    ∙ ap (λ ms. take 1 ns ++ ms) (sym (take-map (λ x. 0) n xs))
+    ∙ sym (take_into_at (take 1 ns) (zeros xs) 1 n (omega (arith, length-take 1 ns)))
+    ∙ ap (λ k. take k (take 1 ns ++ zeros xs)) e
+
+pub causal_keeps : (v : VisitCounts) → IsCausal v → KeepsPace v
+causal_keeps v c = record { sized = c.counted; causal = c.causal }
+
+pub IsCausal-late : (f : VisitCounts) (t : Datum → VisitCounts) → IsCausal f → ((c : Datum) → IsCausal (t c)) → IsCausal (late_counts f t)
+IsCausal-late f t cf ct =
+    let k = late_keeps t (λ c. causal_keeps (t c) (ct c)) f (causal_keeps f cf) in
+    IsCausal-added _ _ (record { counted = k.sized; causal = k.causal })
+    (IsCausal-pieces (λ c. at_first (t c)) (λ c. record { counted = length-at_first (t c) (ct c); causal = take-at_first (t c) (ct c) }) zeros (IsCausal-constant 0))
 
 length-resumed : (v : VisitCounts) → IsCausal v → (p : TimedList) (d : ℕ) (xs : TimedList) → length (resume_counts v p d xs) ≡ length xs
 length-resumed v c p d [] = refl

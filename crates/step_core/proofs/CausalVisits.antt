@@ -2,19 +2,21 @@
 use Rattle.std.proofs.Common.{◌≡◌, ℕ, List, [], ◌∷◌, ◌++◌, length, take, drop, refl, sym, ap, ◌∙◌, arith, length-append, length-drop, take-append-drop}
 use Rattle.std.proofs.lemmas.List.{take_at}
 use Rattle.sample_core.specs.Datum.{Datum, unit}
-use Rattle.net_syntax.specs.SignalFunction.{TimedList, SignalFunction, last_or, rights, watch, collect, resume, freeze_all, pair_samples, IsSignalFunction}
-use Rattle.net_syntax.specs.Network.{Network, Networks, arr, seq, first, par, loop_pre, i_pre, delay, hold, accum_by, after, repeatedly, time, integral, switch, d_switch, r_switch, k_switch, p_switch, old, no_members, and_member}
+use Rattle.net_syntax.specs.SignalFunction.{TimedList, SignalFunction, last_or, rights, watch, collect, resume, freeze_all, pair_samples, with_first, IsSignalFunction}
+use Rattle.net_syntax.specs.Network.{Network, Networks, arr, seq, first, par, loop_pre, initial_out, initial_in, i_pre, delay, hold, accum_by, after, repeatedly, time, integral, switch, d_switch, r_switch, dr_switch, rp_switch, k_switch, p_switch, old, no_members, and_member}
 use Rattle.net_syntax.specs.Meaning.{Context, with_param, with_olds, meaning, meanings}
 use Rattle.net_syntax.specs.Environment.{Environment, context_of, closed, param, frozen}
 use Rattle.state_core.specs.Visits.{VisitCounts, resume_counts, freeze_counts, sum_by_route, counts_at, visits, visits_all}
 use Rattle.step_core.specs.EnvironmentVisits.{counts_of, visits_of}
 use Rattle.net_syntax.proofs.Plain.{AllSignals, no_signal, and_signal, IsSignal-watching}
 use Rattle.net_syntax.proofs.Feedback.{fed, length-fed, fed-take}
+use Rattle.net_syntax.proofs.Openings.{length-with_first, take-with_first}
 use Rattle.net_syntax.proofs.Resumed.{IsSignal-resume}
 use Rattle.net_syntax.proofs.Switches.{IsSignal-rights, IsSignal-collect, AllSignals-frozen_all}
 use Rattle.net_syntax.proofs.Meanings.{IsSignal-meaning, AllSignals-meanings, AllSignals-append, AllSignals-context_of}
 use Rattle.net_syntax.proofs.Steps.{last_or-push}
-use Rattle.step_core.proofs.CausalCounts.{IsCausal, IsCausal-constant, IsCausal-and_one, IsCausal-first_and_one, IsCausal-added, IsCausal-before, IsCausal-each, IsCausal-beside, IsCausal-taken_over, IsCausal-pieces, IsCausal-resume, AllCausal, none_causal, and_causal, AllCausal-append, AllCausal-frozen, IsCausal-sum_of_all, IsCausal-sum_by_route, IsCausal-counts_at}
+use Rattle.step_core.proofs.CausalCounts.{IsCausal, IsCausal-constant, IsCausal-and_one, IsCausal-first_and_one, IsCausal-added, IsCausal-before, IsCausal-each, IsCausal-beside, IsCausal-taken_over, IsCausal-pieces, IsCausal-late, IsCausal-resume, AllCausal, none_causal, and_causal, AllCausal-append, AllCausal-frozen, IsCausal-sum_of_all, IsCausal-sum_by_route, IsCausal-counts_at}
+use Rattle.step_core.proofs.MemberVisits.{IsCausal-collection}
 
 mutual
   pub IsCausal-visits : {L : Type 0} (val : L → List Datum → Datum → Datum) (net : Network L) (E : Context) (C : List VisitCounts)
@@ -70,6 +72,19 @@ mutual
       (AllSignals-append E.olds _ s (AllSignals-frozen_all rv 0 (meanings val fs E) sf p d))
       (AllCausal-append C _ a (AllCausal-frozen rv 0 (visits_all val fs E C) cf p d)))
   IsCausal-visits val (old k) E C s a = IsCausal-first_and_one (counts_at C k) (IsCausal-counts_at C a k)
+  IsCausal-visits val (initial_out c f) E C s a = IsCausal-first_and_one (visits val f E C) (IsCausal-visits val f E C s a)
+  IsCausal-visits val (initial_in c f) E C s a =
+      let start : Datum = val c E.params unit in
+      IsCausal-first_and_one _
+      (IsCausal-before (with_first start) (visits val f E C) (length-with_first start) (take-with_first start) (IsCausal-visits val f E C s a))
+  IsCausal-visits val (dr_switch f t) E C s a =
+      IsCausal-and_one _
+      (IsCausal-late (visits val f E C) (λ c. visits val t (with_param E c) C) (IsCausal-visits val f E C s a)
+      (λ c. IsCausal-visits val t (with_param E c) C s a))
+  IsCausal-visits val (rp_switch fs m t) E C s a =
+      IsCausal-and_one _
+      (IsCausal-collection (val m E.params) (λ v. visits val t (with_param E v) C) (visits_all val fs E C) (λ v. IsCausal-visits val t (with_param E v) C s a)
+      (AllCausal-visits_all val fs E C s a))
   IsCausal-visits val (arr e) E C s a = IsCausal-constant 1
   IsCausal-visits val (i_pre c) E C s a = IsCausal-constant 1
   IsCausal-visits val (delay q c) E C s a = IsCausal-constant 1

@@ -1,4 +1,5 @@
 pub mod VisitSums
+pub mod MemberVisits
 pub mod VisitBounds
 pub mod VisitSteps
 pub mod EnvironmentBounds

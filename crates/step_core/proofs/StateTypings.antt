@@ -1,28 +1,26 @@
 -- What starts in a typed scope and what steps from a typed state is typed again, and so is its answer.
-use Rattle.std.proofs.Common.{◌≡◌, ℕ, zero, suc, ◌+◌, ◌≤◌, ◌<◌, List, [], ◌∷◌, ◌++◌, length, take, Bool, true, false, if◌then◌else◌, nat_le, pos, refl, sym, ap, subst, arith, Some, w64, lit<, length-take}
+use Rattle.std.proofs.Common.{◌≡◌, ℕ, ◌+◌, ◌≤◌, ◌<◌, List, [], ◌∷◌, ◌++◌, Bool, true, false, if◌then◌else◌, nat_le, pos, refl, sym, subst, arith, Some, w64, lit<}
 use Rattle.std.proofs.lemmas.Int.{fits_signed_from_abs}
-use Rattle.sample_core.specs.Datum.{Datum, Datums, int, pair, event, left, right, elements, list_of}
-use Rattle.sample_core.specs.TypeTree.{TypeTree, int_ty, pair_ty, event_ty, list_ty}
+use Rattle.sample_core.specs.Datum.{Datum, int, left, list_of}
+use Rattle.sample_core.specs.TypeTree.{TypeTree, int_ty, pair_ty, event_ty}
 use Rattle.sample_core.specs.HasType.{HasType, HaveType, unit_has, int_has, pair_has, no_event_has, event_has, list_has, end_has, more_has, TypedParams, no_params, and_param}
 use Rattle.leaf_core.specs.ExpressionValue.{value_of}
 use Rattle.leaf_core.specs.KeyTree.{KeyTree}
 use Rattle.leaf_core.proofs.Soundness.{typed_value}
 use Rattle.net_syntax.specs.Network.{Network, Networks}
-use Rattle.net_syntax.specs.SignalFunction.{item_at, item_named, items_named, items_of}
 use Rattle.net_syntax.specs.Typing as T
 use Rattle.net_syntax.specs.Typing.{Arrow, OldAt, old_here, old_after, copies, members, arrow, AnyType, Typed, AllTyped, TypedSamples, no_sample, and_sample, no_value, and_value}
 use Rattle.net_syntax.proofs.SameNets.{TypedParams-append}
 use Rattle.net_syntax.proofs.TypedLists.{typed_left, typed_right, typed_wrapped, samples_append, typed_latest_event, typed_fold_events, typed_if_event}
 use Rattle.state_core.specs.CountedForms.{route_by}
 use Rattle.cell_core.specs.Cell.{Cell, count_down, due, after_cell, cell_step}
-use Rattle.state_core.specs.State.{State, States, Scope, Frozens, Frozen, append_frozens, params_of, frozens_of, frozen_at, push_param, push_olds, all_unstarted, all_paused, frozen_list, each_started, chosen_frozen, turned, first_frozen}
+use Rattle.state_core.specs.State.{State, States, Scope, Frozens, Frozen, append_frozens, params_of, frozens_of, frozen_at, push_param, push_olds, all_unstarted, all_paused}
 use Rattle.step_core.specs.Stepping as G
-use Rattle.step_core.specs.Stepping.{Starts, StartsEach, Resumes, ResumesEach, Steps, StepsEach}
+use Rattle.step_core.specs.Stepping.{Starts, StartsEach, Resumes, Steps, StepsEach}
 use Rattle.step_core.specs.Stepping.{event_in, restart_in}
 use Rattle.state_core.specs.EmptyScope.{empty_scope}
 use Rattle.step_core.specs.RowTyping.{RowTyped, expression_in}
-use Rattle.step_core.specs.StateTyping.{row_value, CellTyped, previous_typed, queue_typed, latest_typed, accumulating_typed, waiting_typed, over_typed, recurring_typed, ticking_typed, summing_typed, StateTyped, StatesTyped, ScopeTyped, FrozensTyped, FrozenTyped, arr_state_typed, seq_state_typed, first_state_typed, par_state_typed, loop_state_typed, cell_state_typed, accum_state_typed, switch_state_typed, d_switch_state_typed, r_switch_state_typed, k_switch_state_typed, p_switch_state_typed, dr_switch_state_typed, rp_switch_state_typed, no_state_typed, and_state_typed, scope_typed, no_frozen_typed, and_frozen_typed, unstarted_typed, paused_typed}
-use Rattle.step_core.specs.Runs.{MembersTyped, no_member_typed, and_member_typed}
+use Rattle.step_core.specs.StateTyping.{row_value, CellTyped, previous_typed, queue_typed, latest_typed, accumulating_typed, waiting_typed, over_typed, recurring_typed, ticking_typed, summing_typed, StateTyped, StatesTyped, ScopeTyped, FrozensTyped, FrozenTyped, arr_state_typed, seq_state_typed, first_state_typed, par_state_typed, loop_state_typed, cell_state_typed, accum_state_typed, switch_state_typed, d_switch_state_typed, r_switch_state_typed, k_switch_state_typed, p_switch_state_typed, no_state_typed, and_state_typed, scope_typed, no_frozen_typed, and_frozen_typed, unstarted_typed, paused_typed}
 
 -- what holds of both holds of the one chosen
 chosen : {A : Type 0} (P : A → Type 0) (b : Bool) {u v : A} → P u → P v → P (if b then u else v)
@@ -142,59 +140,6 @@ module _ (keys : List KeyTree) where
       let same : r.0 ≡ f = cc in
       subst (λ g. FrozenTyped keys g o.input o.output) same r.2
 
-  -- The members of a collection.
-  listed_typed : {fs : Frozens ℕ} {D B : TypeTree} (n : ℕ) → FrozensTyped keys fs (copies n (arrow D B))
-      → MembersTyped keys D B (frozen_list fs) × (length (frozen_list fs) ≡ n)
-  listed_typed zero no_frozen_typed = (no_member_typed, refl)
-  listed_typed (suc n) (and_frozen_typed h hs) = let r = listed_typed n hs in (and_member_typed h r.0, ap suc r.1)
-
-  module _ {D B : TypeTree} where
-    members_append : {fs gs : List (Frozen ℕ)} → MembersTyped keys D B fs → MembersTyped keys D B gs → MembersTyped keys D B (fs ++ gs)
-    members_append no_member_typed k = k
-    members_append (and_member_typed h hs) k = and_member_typed h (members_append hs k)
-
-    members_take : {fs : List (Frozen ℕ)} (n : ℕ) → MembersTyped keys D B fs → MembersTyped keys D B (take n fs)
-    members_take zero h = no_member_typed
-    members_take (suc n) no_member_typed = no_member_typed
-    members_take (suc n) (and_member_typed h hs) = and_member_typed h (members_take n hs)
-
-    member_at : {fs : List (Frozen ℕ)} (k : ℕ) → MembersTyped keys D B fs → MembersTyped keys D B (item_at fs k)
-    member_at k no_member_typed = no_member_typed
-    member_at zero (and_member_typed h hs) = and_member_typed h no_member_typed
-    member_at (suc k) (and_member_typed h hs) = member_at k hs
-
-    member_named : {fs : List (Frozen ℕ)} (v : Datum) → MembersTyped keys D B fs → MembersTyped keys D B (item_named fs v)
-    member_named (int (pos k)) h = member_at k h
-    member_named _ h = no_member_typed
-
-    members_named : {fs : List (Frozen ℕ)} (vs : List Datum) → MembersTyped keys D B fs → MembersTyped keys D B (items_named fs vs)
-    members_named [] h = no_member_typed
-    members_named (v ∷ vs) h = members_append (member_named v h) (members_named vs h)
-
-    members_few : (fs : List (Frozen ℕ)) → length (take 64 fs) ≤ 64
-    members_few fs = omega (arith, length-take 64 fs)
-
-    module _ {t : Network ℕ} {s : Scope ℕ} {Ps : List TypeTree} {Os : List Arrow} {V : TypeTree} (k : ScopeTyped keys s Ps Os)
-        (h : Typed (RowTyped keys) AnyType (Ps ++ V ∷ []) Os t D B) where
-      started_typed : {vs : Datums} → HaveType vs V → MembersTyped keys D B (each_started t s (elements vs))
-      started_typed end_has = no_member_typed
-      started_typed (more_has j js) = and_member_typed (unstarted_typed h (pushed_param k j)) (started_typed js)
-
-      all_started_typed : {v : Datum} → HasType v (list_ty V) → MembersTyped keys D B (each_started t s (items_of v))
-      all_started_typed (list_has j) = started_typed j
-
-      -- those that an event chooses, or else those before, at most 64
-      pub turned_typed : {r : ℕ} {C : TypeTree} {x : Datum} {ms : List (Frozen ℕ)} → RowTyped keys r Ps C (pair_ty (list_ty int_ty) (list_ty V))
-          → HasType x (pair_ty D (event_ty C)) → MembersTyped keys D B ms → length ms ≤ 64
-          → MembersTyped keys D B (turned (row_value keys r (params_of s)) t s ms x) × (length (turned (row_value keys r (params_of s)) t s ms x) ≤ 64)
-      turned_typed r (pair_has j no_event_has) ms l = (ms, l)
-      turned_typed {r = m} {ms = fs} r (pair_has j (event_has {v = c} i)) ms l =
-          let w : Datum = row_value keys m (params_of s) c in
-          let all : List (Frozen ℕ) = items_named fs (items_of (left w)) ++ each_started t s (items_of (right w)) in
-          let d : MembersTyped keys D B all =
-          members_append (members_named (items_of (left w)) ms) (all_started_typed (typed_right (row_typed r (params_typed k) i))) in
-          (members_take 64 d, members_few all)
-
   mutual
     -- what starts in a typed scope on a typed sample
     pub starts_typed : {net : Network ℕ} {s : Scope ℕ} {x : Datum} {a : State ℕ} {y : Datum} {n : ℕ} {Ps : List TypeTree} {Os : List Arrow} {A B : TypeTree} →
@@ -272,21 +217,6 @@ module _ (keys : List KeyTree) where
         let two = starts_typed ke g h (pair_has j (list_has all.1)) in
         starts_typed kt t (pushed_olds (pushed_param h (event_typed two.1 e)) (unstarted_all fs h)) j
     starts_typed (G.start_old e kr) (T.old_typed i) h j = resumes_typed kr (old_typed h i e) j
-    starts_typed (G.start_initial_out kf) (T.initial_out_typed r f) h j = ((starts_typed kf f h j).0, row_typed r (params_typed h) unit_has)
-    starts_typed (G.start_initial_in kf) (T.initial_in_typed r f) h j = starts_typed kf f h (row_typed r (params_typed h) unit_has)
-    starts_typed (G.start_dr_switch e kf) (T.dr_switch_typed f t) h j =
-        let one = starts_typed kf f h (typed_left j) in
-        (dr_switch_state_typed one.0 h t, one.1)
-    starts_typed (G.cut_dr_switch e kf kt) (T.dr_switch_typed f t) h j =
-        let cut = cut_typed j e in
-        let one = starts_typed kf f h cut.0 in
-        let two = starts_typed kt t (pushed_param h cut.1) cut.0 in
-        (dr_switch_state_typed two.0 h t, one.1)
-    starts_typed (G.start_rp_switch {fs = gs} {s = s} ks) (T.rp_switch_typed l u fs r t _) h j =
-        let all = listed_typed (members gs) (unstarted_all fs h) in
-        let now = turned_typed h t r j (members_take 64 all.0) (members_few (frozen_list (all_unstarted gs s))) in
-        let each = each_resumes_typed ks now.0 (typed_left j) in
-        (rp_switch_state_typed now.1 r each.0 h t, list_has each.1)
 
     -- the members from i on that start, each on a typed sample
     pub each_starts_typed : {g : ℕ → Datum → Datum} {i : ℕ} {fs : Networks ℕ} {s : Scope ℕ} {x : Datum} {as' : States ℕ} {ys : List Datum} {n : ℕ}
@@ -304,15 +234,6 @@ module _ (keys : List KeyTree) where
         → FrozenTyped keys f A B → HasType x A → StateTyped keys a A B × HasType y B
     resumes_typed (G.resume_unstarted k) (unstarted_typed f h) j = starts_typed k f h j
     resumes_typed (G.resume_paused k) (paused_typed h) j = steps_typed k h j
-
-    -- the members of a collection that go on or start, each on a typed sample
-    pub each_resumes_typed : {fs : List (Frozen ℕ)} {x : Datum} {as' : States ℕ} {ys : List Datum} {n : ℕ} {D B : TypeTree} →
-        ResumesEach (row_value keys) fs x as' ys n → MembersTyped keys D B fs → HasType x D → StatesTyped keys as' (length fs) D B × HaveType (list_of ys) B
-    each_resumes_typed G.resume_none no_member_typed j = (no_state_typed, end_has)
-    each_resumes_typed (G.resume_also k ks) (and_member_typed h hs) j =
-        let one = resumes_typed k h j in
-        let all = each_resumes_typed ks hs j in
-        (and_state_typed one.0 all.0, more_has one.1 all.1)
 
     -- what steps from a typed state by a typed sample
     pub steps_typed : {a b : State ℕ} {x : ℕ × Datum} {y : Datum} {n : ℕ} {A B : TypeTree} → Steps (row_value keys) a x b y n → StateTyped keys a A B
@@ -373,19 +294,6 @@ module _ (keys : List KeyTree) where
         let all = each_steps_typed ks as' (λ i b. route_typed r (params_typed h) j u i (omega arith)) in
         let two = steps_typed kb b (pair_has j (list_has all.1)) in
         starts_typed kt t (pushed_olds (pushed_param h (event_typed two.1 e)) (paused_all x.0 as')) j
-    steps_typed (G.step_dr_switch e ka) (dr_switch_state_typed a h t) j =
-        let one = steps_typed ka a (typed_left j) in
-        (dr_switch_state_typed one.0 h t, one.1)
-    steps_typed (G.step_dr_switch_over e ka kt) (dr_switch_state_typed a h t) j =
-        let cut = cut_typed j e in
-        let one = steps_typed ka a cut.0 in
-        let two = starts_typed kt t (pushed_param h cut.1) cut.0 in
-        (dr_switch_state_typed two.0 h t, one.1)
-    steps_typed (G.step_rp_switch {x = x} ks) (rp_switch_state_typed {n = n} l r as' h t) j =
-        let all = listed_typed n (paused_all x.0 as') in
-        let now = turned_typed h t r j all.0 (subst (λ k. k ≤ 64) (sym all.1) l) in
-        let each = each_resumes_typed ks now.0 (typed_left j) in
-        (rp_switch_state_typed now.1 r each.0 h t, list_has each.1)
 
     -- the members from i on that step, each by a typed sample
     pub each_steps_typed : {g : ℕ → Datum → Datum} {i : ℕ} {as' : States ℕ} {x : ℕ × Datum} {bs : States ℕ} {ys : List Datum} {n m : ℕ} {D B : TypeTree} →

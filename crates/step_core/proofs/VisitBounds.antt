@@ -1,23 +1,23 @@
 -- Each sample visits at most as many nodes as the network weighs.
-use Rattle.std.proofs.Common.{ℕ, suc, ◌+◌, ◌-◌, ◌≤◌, List, [], ◌∷◌, ◌++◌, take, drop, sym, ap, ◌∙◌, arith, length-drop}
+use Rattle.std.proofs.Common.{ℕ, suc, ◌+◌, ◌*◌, ◌-◌, ◌≤◌, List, [], ◌∷◌, ◌++◌, take, drop, sym, ap, ◌∙◌, arith, length-drop}
 use Rattle.std.proofs.lemmas.List.{length-map}
 use Rattle.sample_core.specs.Datum.{Datum, unit, left}
-use Rattle.net_syntax.specs.SignalFunction.{TimedList, SignalFunction, with_values, pair_samples, each_value, first_event, step_of, rights, watch, collect, resume, freeze_all, IsSignalFunction}
-use Rattle.net_syntax.specs.Network.{Network, Networks, arr, seq, first, par, loop_pre, i_pre, delay, hold, accum_by, after, repeatedly, time, integral, switch, d_switch, r_switch, k_switch, p_switch, old, no_members, and_member}
+use Rattle.net_syntax.specs.SignalFunction.{TimedList, SignalFunction, with_values, pair_samples, each_value, first_event, step_of, rights, watch, collect, resume, freeze_all, with_first, IsSignalFunction}
+use Rattle.net_syntax.specs.Network.{Network, Networks, arr, seq, first, par, loop_pre, initial_out, initial_in, i_pre, delay, hold, accum_by, after, repeatedly, time, integral, switch, d_switch, r_switch, dr_switch, rp_switch, k_switch, p_switch, old, no_members, and_member}
 use Rattle.net_syntax.specs.Meaning.{Context, with_param, with_olds, meaning, meanings}
 use Rattle.state_core.specs.Visits.{VisitCounts, add_counts, and_one, switch_counts, resume_counts, freeze_counts, sum_by_route, counts_at, visits, visits_all}
+use Rattle.net_syntax.specs.Height.{greatest}
 use Rattle.net_syntax.specs.Weight.{weight, weights, weight_at, total}
 use Rattle.net_syntax.proofs.Zips.{length-zip_with}
 use Rattle.net_syntax.proofs.Events.{outlook}
 use Rattle.net_syntax.proofs.Plain.{AllSignals, no_signal, and_signal, IsSignal-watching}
 use Rattle.net_syntax.proofs.Feedback.{fed, length-fed}
+use Rattle.net_syntax.proofs.Openings.{length-with_first}
 use Rattle.net_syntax.proofs.Resumed.{IsSignal-resume}
 use Rattle.net_syntax.proofs.Switches.{IsSignal-rights, IsSignal-collect, AllSignals-frozen_all}
 use Rattle.net_syntax.proofs.Meanings.{IsSignal-meaning, AllSignals-meanings, AllSignals-append}
-use Rattle.step_core.proofs.VisitSums.{IsCount, AtMost-weaker, AtMost-taken_over, length-taken_over, IsCount-ones, IsCount-and_one, IsCount-first_and_one, IsCount-added, IsCount-before, IsCount-pieces, IsCount-resume, AllCounts, no_count, and_count, AllCounts-append, AllCounts-frozen, IsCount-sum_of_all, IsCount-sum_by_route, IsCount-counts_at}
-
-pub IsCount-weaker : (v w : ℕ) (f : VisitCounts) → v ≤ w → IsCount v f → IsCount w f
-IsCount-weaker v w f l c = record { counted = c.counted; bounded = λ xs. AtMost-weaker v w (f xs) l (c.bounded xs) }
+use Rattle.step_core.proofs.VisitSums.{IsCount, IsCount-weaker, AtMost-taken_over, length-taken_over, IsCount-ones, IsCount-and_one, IsCount-first_and_one, IsCount-added, IsCount-before, IsCount-pieces, IsCount-late, IsCount-resume, AllCounts, no_count, and_count, AllCounts-append, AllCounts-frozen, IsCount-sum_of_all, IsCount-sum_by_route, IsCount-counts_at}
+use Rattle.step_core.proofs.MemberVisits.{IsCount-collection}
 
 pub IsCount-taken_over : (e : SignalFunction) → IsSignalFunction e → (v w : ℕ) (ns : VisitCounts) → IsCount v ns → (u : Datum → TimedList → ℕ → VisitCounts)
     → ((c : Datum) (p : TimedList) (d : ℕ) → IsCount w (u c p d))
@@ -110,6 +110,20 @@ mutual
       (AllSignals-append E.olds _ s (AllSignals-frozen_all rv 0 (meanings val fs E) sf p d))
       (AllCounts-append ws (weights fs ws) C _ a (AllCounts-frozen rv 0 (weights fs ws) (visits_all val fs E C) cf p d))))
   IsCount-visits val (old k) E C ws s a = IsCount-first_and_one (weight_at ws k) (counts_at C k) (IsCount-counts_at ws C a k)
+  IsCount-visits val (initial_out c f) E C ws s a = IsCount-first_and_one (weight f ws) (visits val f E C) (IsCount-visits val f E C ws s a)
+  IsCount-visits val (initial_in c f) E C ws s a =
+      IsCount-first_and_one (weight f ws) _
+      (IsCount-before (weight f ws) (with_first (val c E.params unit)) (visits val f E C) (length-with_first (val c E.params unit))
+      (IsCount-visits val f E C ws s a))
+  IsCount-visits val (dr_switch f t) E C ws s a =
+      IsCount-weaker (suc (weight f ws + weight t ws + weight t ws)) (suc (weight f ws + 2 * weight t ws)) _ (omega arith)
+      (IsCount-and_one (weight f ws + weight t ws + weight t ws) _
+      (IsCount-late (visits val f E C) (λ c. visits val t (with_param E c) C) (weight f ws) (weight t ws) (IsCount-visits val f E C ws s a)
+      (λ c. IsCount-visits val t (with_param E c) C ws s a)))
+  IsCount-visits val (rp_switch fs m t) E C ws s a =
+      IsCount-and_one (64 * greatest (weight t ws ∷ weights fs ws)) _
+      (IsCount-collection (val m E.params) (weight t ws) (weights fs ws) (λ v. visits val t (with_param E v) C) (visits_all val fs E C)
+      (λ v. IsCount-visits val t (with_param E v) C ws s a) (AllCounts-visits_all val fs E C ws s a))
   IsCount-visits val (arr e) E C ws s a = IsCount-ones
   IsCount-visits val (i_pre c) E C ws s a = IsCount-ones
   IsCount-visits val (delay q c) E C ws s a = IsCount-ones

@@ -2,17 +2,21 @@
 use Rattle.std.proofs.Common.{◌≡◌, ℕ, zero, suc, ◌+◌, ◌-◌, ◌≤◌, ◌<◌, List, [], ◌∷◌, ◌++◌, map, flat_map, length, take, drop, refl, sym, ap, ◌∙◌, arith, inl, inr, length-take, length-drop, length-append, le_trans}
 use Rattle.std.proofs.lemmas.List.{length-map}
 use Rattle.sample_core.specs.Datum.{Datum}
-use Rattle.net_syntax.specs.SignalFunction.{TimedList, pieces, route, first_event}
-use Rattle.state_core.specs.Visits.{VisitCounts, ones, zeros, add_counts, and_one, first_and_one, both_at_first, switch_counts, resume_counts, freeze_counts, sum_by_route, sum_of_all, counts_at}
+use Rattle.net_syntax.specs.SignalFunction.{TimedList, pieces, next_sample, each_late, route, first_event}
+use Rattle.state_core.specs.Visits.{VisitCounts, ones, zeros, add_counts, and_one, first_and_one, both_at_first, switch_counts, resume_counts, freeze_counts, sum_by_route, sum_of_all, counts_at, at_first, late_counts}
 use Rattle.net_syntax.specs.Weight.{total, weight_at}
 use Rattle.net_syntax.proofs.Zips.{length-zip_with}
 use Rattle.net_syntax.proofs.Events.{Outlook, never, once}
 use Rattle.net_syntax.proofs.Restarting.{uncut_or_cut}
+use Rattle.net_syntax.proofs.LateRestarts.{length-late}
 pub use Rattle.state_core.specs.Visits.{AtMost, no_item, and_item, IsCount}
 
 pub AtMost-weaker : (v w : ℕ) (ns : List ℕ) → v ≤ w → AtMost v ns → AtMost w ns
 AtMost-weaker v w [] l a = no_item
 AtMost-weaker v w (n ∷ ns) l (and_item h a) = and_item (le_trans h l) (AtMost-weaker v w ns l a)
+
+pub IsCount-weaker : (v w : ℕ) (f : VisitCounts) → v ≤ w → IsCount v f → IsCount w f
+IsCount-weaker v w f l c = record { counted = c.counted; bounded = λ xs. AtMost-weaker v w (f xs) l (c.bounded xs) }
 
 pub AtMost-append : (w : ℕ) (ms ns : List ℕ) → AtMost w ms → AtMost w ns → AtMost w (ms ++ ns)
 AtMost-append w [] ns a b = b
@@ -46,7 +50,7 @@ AtMost-both v w [] ns a b = no_item
 AtMost-both v w (m ∷ ms) [] a b = no_item
 AtMost-both v w (m ∷ ms) (n ∷ ns) (and_item g a) (and_item h b) = and_item (omega arith) (AtMost-weaker w (v + w) ns (omega arith) b)
 
-AtMost-map : (n w : ℕ) (xs : TimedList) → n ≤ w → AtMost w (map (λ x. n) xs)
+pub AtMost-map : (n w : ℕ) (xs : TimedList) → n ≤ w → AtMost w (map (λ x. n) xs)
 AtMost-map n w [] l = no_item
 AtMost-map n w (x ∷ xs) l = and_item l (AtMost-map n w xs l)
 
@@ -144,6 +148,35 @@ module _ (f : VisitCounts) (t : Datum → VisitCounts) (v w : ℕ) (cf : IsCount
     bounded = λ xs. AtMost-append (v + w) (f (pieces xs).0) (flat_map (λ piece. t piece.0 piece.1) (pieces xs).1)
         (AtMost-weaker v (v + w) (f (pieces xs).0) (omega arith) (cf.bounded (pieces xs).0)) (AtMost-flat (pieces xs).1);
   }
+
+-- `drSwitch`
+IsCount-at_first : (w : ℕ) (v : VisitCounts) → IsCount w v → IsCount w (at_first v)
+IsCount-at_first w v c = record {
+  counted = λ xs.
+      let l : length (v xs) ≡ length xs = c.counted xs in
+      let z : length (zeros (drop 1 xs)) ≡ length (drop 1 xs) = length-map (drop 1 xs) (λ x. 0) in
+      omega (arith, length-append (take 1 (v xs)) (zeros (drop 1 xs)), length-take 1 (v xs), length-drop 1 xs);
+  bounded = λ xs. AtMost-append w (take 1 (v xs)) (zeros (drop 1 xs)) (AtMost-take w 1 (v xs) (c.bounded xs)) (AtMost-map 0 w (drop 1 xs) (omega arith));
+}
+
+module _ (f : VisitCounts) (t : Datum → VisitCounts) (v w : ℕ) (cf : IsCount v f) (ct : (c : Datum) → IsCount w (t c)) where
+  AtMost-late : (qs : List (Datum × TimedList)) → AtMost (v + w) (each_late t qs)
+  AtMost-late [] = no_item
+  AtMost-late (q ∷ qs) =
+      let ns : List ℕ = t q.0 (q.1 ++ next_sample qs) in
+      AtMost-append (v + w) (drop 1 ns) (each_late t qs)
+      (AtMost-weaker w (v + w) (drop 1 ns) (omega arith) (AtMost-drop w 1 ns ((ct q.0).bounded (q.1 ++ next_sample qs)))) (AtMost-late qs)
+
+  -- what is heard counts as one of the two, and what starts once more
+  pub IsCount-late : IsCount (v + w + w) (late_counts f t)
+  IsCount-late =
+      let heard : IsCount (v + w) (λ xs. f ((pieces xs).0 ++ next_sample (pieces xs).1) ++ each_late t (pieces xs).1) = record {
+        counted = length-late t (λ c. (ct c).counted) f cf.counted;
+        bounded = λ xs.
+            let p : TimedList = (pieces xs).0 ++ next_sample (pieces xs).1 in
+            AtMost-append (v + w) (f p) (each_late t (pieces xs).1) (AtMost-weaker v (v + w) (f p) (omega arith) (cf.bounded p)) (AtMost-late (pieces xs).1);
+      } in
+      IsCount-added (v + w) w _ _ heard (IsCount-pieces zeros (λ c. at_first (t c)) 0 w IsCount-zeros (λ c. IsCount-at_first w (t c) (ct c)))
 
 length-resume_counts : (w : ℕ) (v : VisitCounts) → IsCount w v → (p : TimedList) (d : ℕ) (xs : TimedList) → length (resume_counts v p d xs) ≡ length xs
 length-resume_counts w v c p d [] = refl
