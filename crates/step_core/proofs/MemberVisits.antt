@@ -1,17 +1,17 @@
 -- What the members of a collection count: as many counts as samples, no look ahead, and at most 64
 -- times the greatest of them.
-use Rattle.std.proofs.Common.{◌≡◌, ℕ, zero, suc, ◌+◌, ◌*◌, ◌≤◌, max, List, [], ◌∷◌, ◌++◌, map, length, take, drop, refl, sym, ap, ap₂, ◌∙◌, arith, length-append, length-drop, length-take}
+use Rattle.std.proofs.Common.{◌≡◌, ℕ, suc, ◌+◌, ◌*◌, ◌≤◌, List, [], ◌∷◌, ◌++◌, map, length, take, drop, sym, ap, ap₂, ◌∙◌, arith, length-append, length-drop, length-take}
 use Rattle.std.proofs.Math.Nat.{mul-le-mul_right}
 use Rattle.std.proofs.lemmas.List.{length-map, take-map, drop-take}
-use Rattle.sample_core.specs.Datum.{Datum, right}
-use Rattle.net_syntax.specs.SignalFunction.{TimedList, zip_with, pieces, Member, items_of, new_members, first_members, chosen, moved, by_members}
+use Rattle.sample_core.specs.Datum.{Datum, left, right}
+use Rattle.net_syntax.specs.SignalFunction.{TimedList, zip_with, pieces, Member, items_named, items_of, new_members, first_members, chosen, moved, by_members}
 use Rattle.net_syntax.specs.Height.{greatest}
 use Rattle.net_syntax.proofs.Switched.{take_into}
 use Rattle.net_syntax.proofs.Zips.{length-zip_with, take-zip_with}
 use Rattle.net_syntax.proofs.RelatedMembers.{any_values, AllRelated, no_member, and_member, related-take, related-selected, related-moved}
 use Rattle.net_syntax.proofs.MemberPieces.{length-members, members_keep}
-use Rattle.state_core.specs.Visits.{VisitCounts, zeros, member_counts}
-use Rattle.step_core.proofs.VisitSums.{AtMost, no_item, IsCount, AtMost-weaker, AtMost-append, AtMost-drop, AtMost-added, AtMost-map, IsCount-weaker, AllCounts, no_count, and_count}
+use Rattle.state_core.specs.Visits.{VisitCounts, member_counts}
+use Rattle.step_core.proofs.VisitSums.{AtMost, IsCount, AtMost-weaker, AtMost-append, AtMost-drop, AtMost-added, AtMost-map, IsCount-weaker, AllCounts, no_count, and_count}
 use Rattle.step_core.proofs.CausalCounts.{IsCausal, AllCausal, none_causal, and_causal}
 
 -- what a member counts on a piece
@@ -34,10 +34,11 @@ Bounded g m m' = IsCount g m.0
 
 module _ (g : ℕ) where
   AtMost-member_counts : (ms : List (Member VisitCounts)) → AllRelated (Bounded g) ms ms → (q : TimedList) → AtMost (length ms * g) (member_counts ms q)
-  AtMost-member_counts [] a q = AtMost-map 0 0 q (omega arith)
+  AtMost-member_counts [] a q = AtMost-map 0 (0 * g) q (omega arith)
   AtMost-member_counts (m ∷ ms) (and_member c a) q =
-      AtMost-added g (length ms * g) (drop (length m.1) (m.0 (m.1 ++ q))) (member_counts ms q)
-      (AtMost-drop g (length m.1) (m.0 (m.1 ++ q)) (c.bounded (m.1 ++ q))) (AtMost-member_counts ms a q)
+      AtMost-weaker (g + length ms * g) (suc (length ms) * g) (member_counts (m ∷ ms) q) (omega arith)
+      (AtMost-added g (length ms * g) (drop (length m.1) (m.0 (m.1 ++ q))) (member_counts ms q)
+      (AtMost-drop g (length m.1) (m.0 (m.1 ++ q)) (c.bounded (m.1 ++ q))) (AtMost-member_counts ms a q))
 
   AtMost-few : (ms : List (Member VisitCounts)) → AllRelated (Bounded g) ms ms → length ms ≤ 64 → (q : TimedList) → AtMost (64 * g) (member_counts ms q)
   AtMost-few ms a l q = AtMost-weaker (length ms * g) (64 * g) (member_counts ms q) (mul-le-mul_right g l) (AtMost-member_counts ms a q)
@@ -55,7 +56,7 @@ module _ (g : ℕ) where
         (AtMost-by_members ns b (few (moved ms q) (r p.0)) p.1 ps)
       where
         few : (ms : List (Member VisitCounts)) (w : Datum) → length (chosen t ms w) ≤ 64
-        few ms w = omega (arith, length-take 64 _)
+        few ms w = omega (arith, length-take 64 (items_named ms (items_of (left w)) ++ new_members (map t (items_of (right w)))))
 
 -- the members that are written
 bounded-unstarted : (g : ℕ) (ws : List ℕ) (vs : List VisitCounts) → AllCounts ws vs → greatest ws ≤ g → AllRelated (Bounded g) (new_members vs) (new_members vs)

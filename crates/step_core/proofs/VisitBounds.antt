@@ -1,5 +1,5 @@
 -- Each sample visits at most as many nodes as the network weighs.
-use Rattle.std.proofs.Common.{ℕ, suc, ◌+◌, ◌*◌, ◌-◌, ◌≤◌, List, [], ◌∷◌, ◌++◌, take, drop, sym, ap, ◌∙◌, arith, length-drop}
+use Rattle.std.proofs.Common.{ℕ, suc, ◌+◌, ◌*◌, ◌-◌, List, [], ◌∷◌, ◌++◌, take, drop, sym, ap, ◌∙◌, arith, length-drop}
 use Rattle.std.proofs.lemmas.List.{length-map}
 use Rattle.sample_core.specs.Datum.{Datum, unit, left}
 use Rattle.net_syntax.specs.SignalFunction.{TimedList, SignalFunction, with_values, pair_samples, each_value, first_event, step_of, rights, watch, collect, resume, freeze_all, with_first, IsSignalFunction}

@@ -176,7 +176,8 @@ module _ (f : VisitCounts) (t : Datum → VisitCounts) (v w : ℕ) (cf : IsCount
             let p : TimedList = (pieces xs).0 ++ next_sample (pieces xs).1 in
             AtMost-append (v + w) (f p) (each_late t (pieces xs).1) (AtMost-weaker v (v + w) (f p) (omega arith) (cf.bounded p)) (AtMost-late (pieces xs).1);
       } in
-      IsCount-added (v + w) w _ _ heard (IsCount-pieces zeros (λ c. at_first (t c)) 0 w IsCount-zeros (λ c. IsCount-at_first w (t c) (ct c)))
+      IsCount-added (v + w) w _ _ heard
+      (IsCount-weaker (0 + w) w _ (omega arith) (IsCount-pieces zeros (λ c. at_first (t c)) 0 w IsCount-zeros (λ c. IsCount-at_first w (t c) (ct c))))
 
 length-resume_counts : (w : ℕ) (v : VisitCounts) → IsCount w v → (p : TimedList) (d : ℕ) (xs : TimedList) → length (resume_counts v p d xs) ≡ length xs
 length-resume_counts w v c p d [] = refl
