@@ -3,11 +3,14 @@ use Rattle.std.proofs.Common.{◌≡◌, ℕ, zero, suc, ◌+◌, ◌≤◌, ◌
 use Rattle.leaf_core.specs.Expression.{Expression}
 use Rattle.leaf_core.specs.declared.expr.Expr.{Expr}
 use Rattle.net_syntax.specs.Network.{Network, Networks, p_switch, no_members, and_member}
-use Rattle.net_syntax.specs.NetworkView.{members_of, tree_of, trees}
+use Rattle.net_syntax.specs.NetworkView.{members_of, tree, tree_of, trees}
 use Rattle.net_syntax.specs.Place.{a_leaf, a_network, p_switch_child}
 use Rattle.net_syntax.specs.Placed.{with_member, with_child, with_p_switch_child}
 use Rattle.net_syntax.specs.ChildParts.{with_behind}
 use Rattle.net_syntax.proofs.ChildNumbers.{below, past}
+use Rattle.net_syntax.specs.FormView.{fed_form_of}
+use Rattle.net_syntax.specs.declared.forms.FedForm.{FedForm}
+use Rattle.net_syntax.specs.declared.forms.FedForm.TheVariants as D
 use Rattle.net_syntax.specs.declared.net.Net.{Net}
 use Rattle.net_syntax.specs.declared.net.Net.TheVariants as V
 
@@ -90,3 +93,9 @@ behind_put all fs r e t s k n j p q h =
     ap (λ z. with_child (p_switch r (trees fs) e t) z (a_network s)) q
     ∙ (ap (λ c. with_p_switch_child c r (trees fs) e t n s) (ap (λ z. p_switch_child (trees z) n) (sym p) ∙ past all n j h)
     ∙ behind_put_at (trees fs) r e t s n j)
+
+-- a form of an expression and a network with another network
+pub fed_put : (form : FedForm) (c : Expr) (f s : Network Expr) → with_child (tree_of (fed_form_of form c f)) 1 (a_network (tree s)) ≡ Some (tree_of (fed_form_of form c s))
+fed_put D.LoopPre c f s = refl
+fed_put D.InitialOut c f s = refl
+fed_put D.InitialIn c f s = refl

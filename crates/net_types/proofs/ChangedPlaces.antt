@@ -1,11 +1,11 @@
 -- Where a part stands is one place, and is the same where the part is another.
 use Rattle.std.proofs.Common.{◌≡◌, ℕ, zero, suc, Option, Some, None, IfSome, option_map, refl, sym, ap, ◌∙◌}
 use Rattle.leaf_core.specs.Expression.{Expression}
-use Rattle.net_syntax.specs.Network.{Network, Networks, arr, seq, first, par, loop_pre, i_pre, delay, hold, accum_by, after, repeatedly, switch, d_switch, r_switch, k_switch, p_switch, no_members, and_member}
-use Rattle.net_syntax.specs.Place.{◌>>=◌, Tree, a_network, a_leaf, member, child, child_network, PSwitchChild, p_switch_child, member_child, event_child, continuation_child, no_child}
-use Rattle.net_syntax.specs.Placed.{with_member, with_child, with_p_switch_child}
+use Rattle.net_syntax.specs.Network.{Network, Networks, arr, seq, first, par, loop_pre, i_pre, delay, hold, accum_by, after, repeatedly, switch, d_switch, r_switch, k_switch, p_switch, initial_out, initial_in, dr_switch, rp_switch, no_members, and_member}
+use Rattle.net_syntax.specs.Place.{◌>>=◌, Tree, a_network, a_leaf, member, child, child_network, collection_child, PSwitchChild, p_switch_child, member_child, event_child, continuation_child, no_child}
+use Rattle.net_syntax.specs.Placed.{with_member, with_child, with_p_switch_child, with_collection_child}
 use Rattle.net_syntax.specs.Standing.{Standing}
-use Rattle.net_syntax.specs.StandingWalk.{taking, p_switch_input, p_switch_scope, inside}
+use Rattle.net_syntax.specs.StandingWalk.{taking, p_switch_input, p_switch_scope, collection_input, collection_scope, inside}
 
 -- with another part in its place, the part stands there, and the place is the same
 abbrev pub Kept : Standing → Network Expression → ℕ → Tree Expression → Type 0
@@ -77,4 +77,37 @@ kept R (p_switch r fs e t) (suc k) (a_network s) = go (p_switch_child fs k) refl
     )
     go continuation_child j = (refl, ap (λ z. option_map a_network (child_network z fs e s k)) j)
     go no_child j = tt
+kept R (initial_out c f) zero (a_leaf s) = (refl, refl)
+kept R (initial_out c f) (suc zero) (a_network s) = (refl, refl)
+kept R (initial_in c f) zero (a_leaf s) = (refl, refl)
+kept R (initial_in c f) (suc zero) (a_network s) = (refl, refl)
+kept R (dr_switch f t) zero (a_network s) = (refl, refl)
+kept R (dr_switch f t) (suc zero) (a_network s) = (refl, refl)
+kept R (rp_switch fs m t) k s = go (p_switch_child fs k) refl s
+  where
+    Changed : Tree Expression → Option (Network Expression) → Type 0
+    Changed s o = IfSome o (λ v. (inside R v k ≡ inside R (rp_switch fs m t) k) × (child v k ≡ Some s))
+
+    At : PSwitchChild → Expression → Option Standing
+    At W n = collection_input R W >>= (λ A. option_map (λ Q. taking Q A) (collection_scope R n W))
+
+    in_members : p_switch_child fs k ≡ member_child → (s : Network Expression) (o : Option (Networks Expression))
+        → IfSome o (λ gs. (member gs k ≡ Some s) × (p_switch_child gs k ≡ member_child)) → Changed (a_network s) (option_map (λ gs. rp_switch gs m t) o)
+    in_members j s None h = tt
+    in_members j s (Some gs) h = (
+      ap (λ z. At z m) h.1 ∙ ap (λ z. At z m) (sym j),
+      ap (λ z. collection_child z gs m t k) h.1 ∙ ap (option_map a_network) h.0,
+    )
+
+    go : (W : PSwitchChild) → p_switch_child fs k ≡ W → (s : Tree Expression) → Changed s (with_collection_child W fs m t k s)
+    go member_child j (a_network s) = in_members j s (with_member fs k s) (member_there fs k s)
+    go member_child j (a_leaf s) = tt
+    go event_child j (a_leaf s) = (
+      ap (λ z. At z s) j ∙ ap (λ z. At z m) (sym j),
+      ap (λ z. collection_child z fs s t k) j,
+    )
+    go event_child j (a_network s) = tt
+    go continuation_child j (a_network s) = (refl, ap (λ z. collection_child z fs m s k) j)
+    go continuation_child j (a_leaf s) = tt
+    go no_child j s = tt
 kept R _ k s = tt

@@ -50,16 +50,16 @@ first_sound A net =
 -- what the check answers is within the limits, and of what was given
 check_sound : (A : TypeTree) (net : Network Expression) → Holds (λ t. (t.input ≡ A) × (t.net ≡ net) × WithinLimits t) (check A net)
 check_sound A net =
-    either (Holds (λ t. (t.input ≡ A) × (t.net ≡ net) × WithinLimits t)) (leb (network_size net) 2000000) (first_sound A net)
+    either (Holds (λ t. (t.input ≡ A) × (t.net ≡ net) × WithinLimits t)) (leb (network_size net) 5000000) (first_sound A net)
     (next (within_tells A) (λ Z w. err_holds))
 
 -- the check of a network that isn't vast
-of_few : (A : TypeTree) (net : Network Expression) → network_size net ≤ 2000000 → check A net ≡ first_fault A net
-of_few A net h = ap (λ b. cond b (first_fault A net) (within A >> Err Fault.TooHeavy)) (le-leb (network_size net) 2000000 h)
+of_few : (A : TypeTree) (net : Network Expression) → network_size net ≤ 5000000 → check A net ≡ first_fault A net
+of_few A net h = ap (λ b. cond b (first_fault A net) (within A >> Err Fault.TooHeavy)) (le-leb (network_size net) 5000000 h)
 
 check_complete : (t : TypedNetwork) → WithinLimits t → check t.input t.net ≡ Ok t
 check_complete t h =
-    of_few t.input t.net (few_inside t.net 1000000 h.fits.light)
+    of_few t.input t.net (few_inside h.fits.typed h.fits.light)
     ∙ goes_on _ (within_passes t.input h.fits.input_fits)
     (goes_on _ (complete (λ e Qs B. type_answer Qs B e) ExpressionTypedWithin exact [] [] [] t.input t.net t.output h.fits.typed)
     (goes_on _ (passes Fault.TooDeep (le-leb (height t.net []) 256 h.fits.low))
@@ -81,6 +81,6 @@ within_limits A B net w h fits typed is_weight is_height light low =
     }
 
 -- the walk's fault is the check's, where the tests before it are passed
-pub check_faults : (A : TypeTree) (net : Network Expression) (f : TypeFault) → type_fits A ≡ true → network_size net ≤ 2000000 → net_walk [] [] [] A net ≡ Err f
+pub check_faults : (A : TypeTree) (net : Network Expression) (f : TypeFault) → type_fits A ≡ true → network_size net ≤ 5000000 → net_walk [] [] [] A net ≡ Err f
     → check A net ≡ Err f
 check_faults A net f fits small e = of_few A net small ∙ faults_on _ (within_passes A (type_fits-TypeFits A fits)) (stops _ e)

@@ -1,22 +1,22 @@
--- Each fault of the walk stands at a position of the network: an expression's at an expression, the others at a network.
+-- Each fault of the walk stands at a position of the network: an expression's at an expression, the others at a network, types that differ at a choice too.
 use Rattle.std.proofs.Common.{◌≡◌, ◌∙◌, ℕ, zero, suc, ◌^◌, Bool, true, false, leb, ◌&&◌, List, [], ◌∷◌, ◌++◌, Option, Some, option_map, Result, Ok, Err, refl, sym, ap, subst, append_assoc, append-nil}
 use Rattle.sample_core.specs.TypeTree.{TypeTree, unit_ty, int_ty, pair_ty, event_ty, list_ty}
 use Rattle.leaf_core.specs.TypeLimits.{type_fits, same_tree}
 use Rattle.leaf_core.specs.Expression.{Expression}
 use Rattle.leaf_core.specs.ExpressionCheck.{type_answer}
 use Rattle.leaf_core.specs.declared.typing.ExprFault.{ExprFault}
-use Rattle.net_syntax.specs.Network.{Network, Networks, network_size, arr, seq, first, par, loop_pre, i_pre, delay, hold, accum_by, after, repeatedly, time, integral, switch, d_switch, r_switch, k_switch, p_switch, old, no_members, and_member}
+use Rattle.net_syntax.specs.Network.{Network, Networks, network_size, arr, seq, first, par, loop_pre, i_pre, delay, hold, accum_by, after, repeatedly, time, integral, switch, d_switch, r_switch, k_switch, p_switch, old, initial_out, initial_in, dr_switch, rp_switch, no_members, and_member}
 use Rattle.net_syntax.specs.Typing.{Arrow, copies, members}
 use Rattle.net_syntax.specs.Height.{height}
 use Rattle.net_syntax.specs.Weight.{weight}
 use Rattle.net_syntax.specs.Place as place
-use Rattle.net_syntax.specs.Place.{a_network, a_leaf, member, child_network, child}
+use Rattle.net_syntax.specs.Place.{a_network, a_leaf, member, child_network, collection_child, child}
 use Rattle.net_syntax.proofs.Children.{member_is, event_is, continuation_is}
 use Rattle.net_types.specs.declared.fault.TypeFault.{TypeFault}
 use Rattle.net_types.specs.declared.fault.TypeFault.TheVariants as Fault
-use Rattle.net_types.specs.Walk.{LeafChecker, ◌>>=◌, ◌↓◌, test, within, expect_same, as_pair, as_event, test_range, test_members, old_at, all_same, one_output, leaf_fault_at, leaf, switched, walk, walk_all}
+use Rattle.net_types.specs.Walk.{LeafChecker, ◌>>=◌, ◌↓◌, test, within, expect_same, as_pair, as_event, as_choice, test_range, test_members, old_at, all_same, one_output, leaf_fault_at, leaf, switched, walk, walk_all}
 use Rattle.net_types.specs.Check.{check}
-use Rattle.net_types.specs.FaultPlaces.{FaultStandsIn, NetworkPlace, LeafPlace}
+use Rattle.net_types.specs.FaultPlaces.{FaultStandsIn, NetworkPlace, LeafPlace, JointPlace, joint_at_network, joint_at_choice}
 use Rattle.net_types.specs.TypingLaws.{FaultLaw}
 use Rattle.net_types.proofs.WalkTests.{either}
 
@@ -66,6 +66,16 @@ module _ {L : Type 0} where
   after_child : (r : L) (fs : Networks L) (e n : Network L) → child (p_switch r fs e n) (suc (suc (members fs))) ≡ Some (a_network n)
   after_child r fs e n = ap (λ w. option_map a_network (child_network w fs e n (suc (members fs)))) (continuation_is fs)
 
+  collected_child : (fs : Networks L) (m : L) (n : Network L) (i : ℕ) (f : Network L) → member fs i ≡ Some f → child (rp_switch fs m n) (from 0 i) ≡ Some (a_network f)
+  collected_child fs m n i f q =
+      ap (λ k. child (rp_switch fs m n) k) (from_zero i) ∙ (ap (λ w. collection_child w fs m n i) (member_is fs i f q) ∙ ap (option_map a_network) q)
+
+  choice_child : (fs : Networks L) (m : L) (n : Network L) → child (rp_switch fs m n) (members fs) ≡ Some (a_leaf m)
+  choice_child fs m n = ap (λ w. collection_child w fs m n (members fs)) (event_is fs)
+
+  started_child : (fs : Networks L) (m : L) (n : Network L) → child (rp_switch fs m n) (suc (members fs)) ≡ Some (a_network n)
+  started_child fs m n = ap (λ w. collection_child w fs m n (suc (members fs))) (continuation_is fs)
+
 module _ {L : Type 0} (t : LeafChecker L) where
   here : (net : Network L) (P : List ℕ) → NetworkPlace net P P
   here net P = record { path = []; rest = net; is = sym (append-nil P); there = refl }
@@ -83,10 +93,22 @@ module _ {L : Type 0} (t : LeafChecker L) where
   up_leaf : (net : Network L) (P : List ℕ) (k : ℕ) (f : Network L) → child net k ≡ Some (a_network f) → (Q : List ℕ) → LeafPlace f (P ↓ k) Q → LeafPlace net P Q
   up_leaf net P k f e Q n = record { path = k ∷ n.path; rest = n.rest; is = n.is ∙ append_assoc P (k ∷ []) n.path; there = asked _ e n.there }
 
+  up_joint : (net : Network L) (P : List ℕ) (k : ℕ) (f : Network L) → child net k ≡ Some (a_network f) → (Q : List ℕ) → JointPlace f (P ↓ k) Q
+      → JointPlace net P Q
+  up_joint net P k f e Q (joint_at_network n) = joint_at_network (up net P k f e Q n)
+  up_joint net P k f e Q (joint_at_choice n) = joint_at_choice (record {
+    path = k ∷ n.path;
+    fs = n.fs;
+    m = n.m;
+    t = n.t;
+    is = n.is ∙ append_assoc P (k ∷ []) (n.path ++ members n.fs ∷ []);
+    there = asked _ e n.there;
+  })
+
   lifted : (net : Network L) (P : List ℕ) (k : ℕ) (f : Network L) → child net k ≡ Some (a_network f) → (x : TypeFault) → FaultStandsIn f (P ↓ k) x
       → FaultStandsIn net P x
   lifted net P k f e (Fault.Expr Q x) s = up_leaf net P k f e Q s
-  lifted net P k f e (Fault.Joint Q) s = up net P k f e Q s
+  lifted net P k f e (Fault.Joint Q) s = up_joint net P k f e Q s
   lifted net P k f e (Fault.NoOld Q) s = up net P k f e Q s
   lifted net P k f e (Fault.NotEvent Q) s = up net P k f e Q s
   lifted net P k f e (Fault.NotPair Q) s = up net P k f e Q s
@@ -110,7 +132,7 @@ module _ {L : Type 0} (t : LeafChecker L) where
     by_within A = ends_next (by_test (type_fits A) Fault.TooDeep tt) (λ u v. ended tt)
 
     by_same : (Q : List ℕ) (A B : TypeTree) → NetworkPlace net P Q → Ends (FaultStandsIn net P) (λ B. Unit {0}) (expect_same Q A B)
-    by_same Q A B n = ends_next (by_test (same_tree A B) (Fault.Joint Q) n) (λ u v. ended tt)
+    by_same Q A B n = ends_next (by_test (same_tree A B) (Fault.Joint Q) (joint_at_network n)) (λ u v. ended tt)
 
     by_pair : (Q : List ℕ) (A : TypeTree) → NetworkPlace net P Q → Ends (FaultStandsIn net P) (λ q. Unit {0}) (as_pair Q A)
     by_pair Q (pair_ty A B) n = ended tt
@@ -119,6 +141,17 @@ module _ {L : Type 0} (t : LeafChecker L) where
     by_event : (Q : List ℕ) (A : TypeTree) → NetworkPlace net P Q → Ends (FaultStandsIn net P) (λ q. Unit {0}) (as_event Q A)
     by_event Q (event_ty A) n = ended tt
     by_event Q _ n = failed n
+
+    by_choice : (fs : Networks L) (m : L) (n : Network L) → net ≡ rp_switch fs m n → (K : TypeTree)
+        → Ends (FaultStandsIn net P) (λ V. Unit {0}) (as_choice (P ↓ members fs) K)
+    by_choice fs m n e K = go K
+      where
+        no_choice : JointPlace net P (P ↓ members fs)
+        no_choice = joint_at_choice (record { path = []; fs = fs; m = m; t = n; is = refl; there = ap (λ z. Some (a_network z, [])) e })
+
+        go : (K : TypeTree) → Ends (FaultStandsIn net P) (λ V. Unit {0}) (as_choice (P ↓ members fs) K)
+        go (pair_ty (list_ty int_ty) (list_ty V)) = ended tt
+        go _ = failed no_choice
 
     by_counted : {M : Type 0} (fs : Networks M) → Ends (FaultStandsIn net P) (λ u. Unit {0}) (test_members P fs)
     by_counted fs = by_test (leb 1 (members fs) && leb (members fs) 64) (Fault.Members P) (here net P)
@@ -230,6 +263,31 @@ module _ {L : Type 0} (t : LeafChecker L) where
         (λ G c. by_same (p_switch r fs e n) P (P ↓ suc (suc (members fs))) (list_ty B) G
         (at_child (p_switch r fs e n) P (suc (suc (members fs))) n (after_child r fs e n)))))))))))
     sited P Ps Os A (old k) = ends_next (by_frozen (old k) P Os k) (λ o u. ends_next (by_same (old k) P P o.input A (here (old k) P)) (λ Z v. ended tt))
+    sited P Ps Os A (initial_out c f) =
+        ends_next (by_leaf (initial_out c f) P 0 Ps unit_ty c refl)
+        (λ C u. ends_next (in_child (initial_out c f) P 1 f refl (sited (P ↓ 1) Ps Os A f))
+        (λ B v. by_same (initial_out c f) P P B C (here (initial_out c f) P)))
+    sited P Ps Os A (initial_in c f) =
+        ends_next (by_leaf (initial_in c f) P 0 Ps unit_ty c refl)
+        (λ C u. ends_next (by_same (initial_in c f) P P A C (here (initial_in c f) P))
+        (λ N v. in_child (initial_in c f) P 1 f refl (sited (P ↓ 1) Ps Os A f)))
+    sited P Ps Os A (dr_switch f n) =
+        ends_next (by_pair (dr_switch f n) P P A (here (dr_switch f n) P))
+        (λ q v. ends_next (by_event (dr_switch f n) P P q.1 (here (dr_switch f n) P))
+        (λ C w. ends_next (in_child (dr_switch f n) P 0 f refl (sited (P ↓ 0) Ps Os q.0 f))
+        (λ B u. ends_next (in_child (dr_switch f n) P 1 n refl (sited (P ↓ 1) (Ps ++ C ∷ []) Os q.0 n))
+        (λ D i. by_same (dr_switch f n) P (P ↓ 1) B D (at_child (dr_switch f n) P 1 n refl)))))
+    sited P Ps Os A (rp_switch fs m n) =
+        ends_next (by_counted (rp_switch fs m n) P fs)
+        (λ u v. ends_next (by_pair (rp_switch fs m n) P P A (here (rp_switch fs m n) P))
+        (λ q w. ends_next (by_event (rp_switch fs m n) P P q.1 (here (rp_switch fs m n) P))
+        (λ C i. ends_next (all_sited (rp_switch fs m n) P 0 Ps Os q.0 fs (collected_child fs m n))
+        (λ Bs j. ends_next (by_one_output (rp_switch fs m n) P 0 fs Bs (collected_child fs m n) j)
+        (λ B k. ends_next (by_leaf (rp_switch fs m n) P (members fs) Ps C m (choice_child fs m n))
+        (λ K a. ends_next (by_choice (rp_switch fs m n) P fs m n refl K)
+        (λ V b. ends_next (in_child (rp_switch fs m n) P (suc (members fs)) n (started_child fs m n) (sited (P ↓ suc (members fs)) (Ps ++ V ∷ []) Os q.0 n))
+        (λ E c. ends_next (by_same (rp_switch fs m n) P (P ↓ suc (members fs)) B E (at_child (rp_switch fs m n) P (suc (members fs)) n (started_child fs m n)))
+        (λ N d. by_within (rp_switch fs m n) P (list_ty B))))))))))
 
     all_sited : (net : Network L) (P : List ℕ) (k : ℕ) (Ps : List TypeTree) (Os : List Arrow) (A : TypeTree) (fs : Networks L)
         → ((i : ℕ) (f : Network L) → member fs i ≡ Some f → child net (from k i) ≡ Some (a_network f))
@@ -250,7 +308,7 @@ faulting (ended p) e = absurd (cc)
 check_sited : (A : TypeTree) (net : Network Expression) → Ends (FaultStandsIn net []) (λ t. Unit {0}) (check A net)
 check_sited A net =
     let t : LeafChecker Expression = λ e Qs B. type_answer Qs B e in
-    either (Ends (FaultStandsIn net []) (λ t. Unit {0})) (leb (network_size net) 2000000)
+    either (Ends (FaultStandsIn net []) (λ t. Unit {0})) (leb (network_size net) 5000000)
     (ends_next (by_within t net [] A)
     (λ Z u. ends_next (sited t [] [] [] A net)
     (λ B v. ends_next (by_test t net [] (leb (height net []) 256) Fault.TooDeep tt)

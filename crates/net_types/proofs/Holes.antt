@@ -3,12 +3,12 @@ use Rattle.std.proofs.Common.{◌≡◌, ℕ, zero, suc, ◌<◌, List, [], ◌�
 use Rattle.std.specs.Result.{result_ok}
 use Rattle.sample_core.specs.TypeTree.{TypeTree, unit_ty, int_ty, pair_ty, event_ty, list_ty}
 use Rattle.leaf_core.specs.Expression.{Expression}
-use Rattle.net_syntax.specs.Network.{Network, Networks, par, p_switch, no_members, and_member}
-use Rattle.net_syntax.specs.Typing.{Arrow, arrow, copies, members, arr_typed, seq_typed, first_typed, par_typed, loop_typed, i_pre_typed, delay_typed, hold_typed, accum_typed, after_typed, repeatedly_typed, switch_typed, d_switch_typed, r_switch_typed, k_switch_typed, p_switch_typed, no_members_typed, and_member_typed}
+use Rattle.net_syntax.specs.Network.{Network, Networks, par, p_switch, rp_switch, no_members, and_member}
+use Rattle.net_syntax.specs.Typing.{Arrow, arrow, copies, members, arr_typed, seq_typed, first_typed, par_typed, loop_typed, i_pre_typed, delay_typed, hold_typed, accum_typed, after_typed, repeatedly_typed, switch_typed, d_switch_typed, r_switch_typed, k_switch_typed, p_switch_typed, initial_out_typed, initial_in_typed, dr_switch_typed, rp_switch_typed, no_members_typed, and_member_typed}
 use Rattle.net_syntax.specs.NetworkLimits.{NetTypedWithin}
-use Rattle.net_syntax.specs.Place.{Tree, a_network, member, child, child_network, PSwitchChild, p_switch_child, member_child, event_child, continuation_child, no_child}
-use Rattle.net_syntax.specs.Placed.{with_member, with_child, with_p_switch_child}
-use Rattle.net_syntax.specs.Standing.{Standing, standing, ChildStands, in_arr, first_in_seq, second_in_seq, in_first, in_par, constant_in_loop, network_in_loop, in_i_pre, in_delay, in_hold, step_in_accum, start_in_accum, in_after, in_repeatedly, network_in_switch, continuation_in_switch, network_in_d_switch, continuation_in_d_switch, network_in_r_switch, continuation_in_r_switch, network_in_k_switch, event_in_k_switch, continuation_in_k_switch, route_in_p_switch, member_in_p_switch, event_in_p_switch, continuation_in_p_switch}
+use Rattle.net_syntax.specs.Place.{Tree, a_network, a_leaf, member, child, child_network, collection_child, PSwitchChild, p_switch_child, member_child, event_child, continuation_child, no_child}
+use Rattle.net_syntax.specs.Placed.{with_member, with_child, with_p_switch_child, with_collection_child}
+use Rattle.net_syntax.specs.Standing.{Standing, standing, ChildStands, in_arr, first_in_seq, second_in_seq, in_first, in_par, constant_in_loop, network_in_loop, in_i_pre, in_delay, in_hold, step_in_accum, start_in_accum, in_after, in_repeatedly, network_in_switch, continuation_in_switch, network_in_d_switch, continuation_in_d_switch, network_in_r_switch, continuation_in_r_switch, network_in_k_switch, event_in_k_switch, continuation_in_k_switch, route_in_p_switch, member_in_p_switch, event_in_p_switch, continuation_in_p_switch, constant_in_initial_out, network_in_initial_out, constant_in_initial_in, network_in_initial_in, network_in_dr_switch, continuation_in_dr_switch, member_in_rp_switch, choice_in_rp_switch, continuation_in_rp_switch}
 use Rattle.net_syntax.specs.StandingWalk.{inside}
 use Rattle.net_syntax.proofs.FoundTypes.{TreeWithin, MembersWithin, ChildThere, child_there, forget, forget_all}
 use Rattle.net_syntax.proofs.OnePlace.{populated, one_place}
@@ -264,6 +264,94 @@ hole {Ps = Ps} {Os = Os} (p_switch_typed {r = r} {fs = fs} {e = e} {t = t} {A = 
       out = list_ty B;
       typed = dt;
       put = λ n x. put_at continuation_child j n (p_switch_typed some few w h ds v de x);
+    }
+    go no_child j = tt
+hole {Ps = Ps} {Os = Os} (initial_out_typed {B = B} h d) zero = record {
+  place = standing Ps Os unit_ty;
+  stands = constant_in_initial_out;
+  out = B;
+  typed = h;
+  put = λ n i. initial_out_typed i d;
+}
+hole {Ps = Ps} {Os = Os} (initial_out_typed {A = A} {B = B} h d) (suc zero) = record {
+  place = standing Ps Os A;
+  stands = network_in_initial_out;
+  out = B;
+  typed = d;
+  put = λ n i. initial_out_typed h i;
+}
+hole {Ps = Ps} {Os = Os} (initial_in_typed {A = A} h d) zero = record {
+  place = standing Ps Os unit_ty;
+  stands = constant_in_initial_in;
+  out = A;
+  typed = h;
+  put = λ n i. initial_in_typed i d;
+}
+hole {Ps = Ps} {Os = Os} (initial_in_typed {A = A} {B = B} h d) (suc zero) = record {
+  place = standing Ps Os A;
+  stands = network_in_initial_in;
+  out = B;
+  typed = d;
+  put = λ n i. initial_in_typed h i;
+}
+hole {Ps = Ps} {Os = Os} (dr_switch_typed {D = D} {B = B} {C = C} d k) zero = record {
+  place = standing Ps Os D;
+  stands = network_in_dr_switch;
+  out = B;
+  typed = d;
+  put = λ n i. dr_switch_typed i k;
+}
+hole {Ps = Ps} {Os = Os} (dr_switch_typed {D = D} {B = B} {C = C} d k) (suc zero) = record {
+  place = standing (Ps ++ C ∷ []) Os D;
+  stands = continuation_in_dr_switch;
+  out = B;
+  typed = k;
+  put = λ n i. dr_switch_typed d i;
+}
+hole {Ps = Ps} {Os = Os} (rp_switch_typed {fs = fs} {m = m} {t = t} {D = D} {B = B} {C = C} {V = V} some few ds h dt w) k = go (p_switch_child fs k) refl
+  where
+    Whole : Network Expression → Type 0
+    Whole u = NetTypedWithin Ps Os u (pair_ty D (event_ty C)) (list_ty B)
+
+    put_on : (o : Option (Networks Expression))
+        → IfSome o (λ gs. MembersWithin Ps Os gs D B × (members gs ≡ members fs))
+        → IfSome (option_map (λ gs. rp_switch gs m t) o) Whole
+    put_on None i = tt
+    put_on (Some gs) i = let j : members gs ≡ members fs = i.1 in rp_switch_typed (omega arith) (omega arith) i.0 h dt w
+
+    put_at : (W : PSwitchChild) → p_switch_child fs k ≡ W → (s : Tree Expression)
+        → IfSome (with_collection_child W fs m t k s) Whole → IfSome (with_child (rp_switch fs m t) k s) Whole
+    put_at W j s i = subst (λ z. IfSome (with_collection_child z fs m t k s) Whole) (sym j) i
+
+    a_member : p_switch_child fs k ≡ member_child → (o : Option (Network Expression)) → IfSome o (MemberHole Ps Os D B fs k)
+        → IfSome (option_map a_network o) (Hole Ps Os (pair_ty D (event_ty C)) (list_ty B) (rp_switch fs m t) k)
+    a_member j None i = tt
+    a_member j (Some g) i = record {
+      place = standing Ps Os D;
+      stands = member_in_rp_switch (member_number fs k j);
+      out = B;
+      typed = i.0;
+      put = λ n x. put_at member_child j (a_network n) (put_on (with_member fs k n) (i.1 n x));
+    }
+
+    go : (W : PSwitchChild) → p_switch_child fs k ≡ W
+        → IfSome (collection_child W fs m t k) (Hole Ps Os (pair_ty D (event_ty C)) (list_ty B) (rp_switch fs m t) k)
+    go member_child j = a_member j (member fs k) (member_hole ds k)
+    go event_child j = record {
+      place = standing Ps Os C;
+      stands = subst (λ n. ChildStands Ps Os (pair_ty D (event_ty C)) (rp_switch fs m t) n (standing Ps Os C)) (event_number fs k j) choice_in_rp_switch;
+      out = pair_ty (list_ty int_ty) (list_ty V);
+      typed = h;
+      put = λ n x. put_at event_child j (a_leaf n) (rp_switch_typed some few ds x dt w);
+    }
+    go continuation_child j = record {
+      place = standing (Ps ++ V ∷ []) Os D;
+      stands = subst
+          (λ n. ChildStands Ps Os (pair_ty D (event_ty C)) (rp_switch fs m t) n (standing (Ps ++ V ∷ []) Os D))
+          (continuation_number fs k j) (continuation_in_rp_switch h.checked.given);
+      out = B;
+      typed = dt;
+      put = λ n x. put_at continuation_child j (a_network n) (rp_switch_typed some few ds h x w);
     }
     go no_child j = tt
 hole _ k = tt

@@ -29,7 +29,7 @@ use Rattle.net_syntax.proofs.FoundTypes.{TreeWithin, forget}
 use Rattle.net_syntax.proofs.SamePlaces.{Filler, filled}
 use Rattle.net_types.specs.KeptTypes.{checked_output, same_type, kept_in_leaf, both_there, type_kept}
 use Rattle.net_types.specs.Answered.{NoRewriting}
-use Rattle.net_types.proofs.Sizes.{size_law}
+use Rattle.net_types.proofs.Sizes.{many_weigh}
 use Rattle.net_types.proofs.Checks.{walk_exact}
 use Rattle.net_types.proofs.Holes.{output_found, Hole, hole, found_there}
 use Rattle.net_types.proofs.ChangedPlaces.{kept}
@@ -312,11 +312,12 @@ none_unkept t p s v d q i u r =
 
 -- nor where a limit is exceeded
 pub none_large : (t : TypedNetwork) (p : List ℕ) (s : Tree Expression) (v : Network Expression) → replaced (a_network t.net) p s ≡ Some (a_network v)
-    → 2000000 < network_size v → NoRewriting t p s
+    → 5000000 < network_size v → NoRewriting t p s
 none_large t p s v q h u r =
     let e : u.net ≡ v = result_is t u p s v q r in
     let l : weight v [] ≤ 1000000 = subst (λ z. weight z [] ≤ 1000000) e r.within.fits.light in
-    omega (arith, size_law v h)
+    let d : NetTypedWithin [] [] v u.input u.output = subst (λ z. NetTypedWithin [] [] z u.input u.output) e r.within.fits.typed in
+    omega (arith, many_weigh d h)
 
 pub none_heavy : (t : TypedNetwork) (p : List ℕ) (s : Tree Expression) (v : Network Expression) (w : ℕ) → replaced (a_network t.net) p s ≡ Some (a_network v)
     → w ≡ min (weight v []) 1000001 → 1000000 < w → NoRewriting t p s

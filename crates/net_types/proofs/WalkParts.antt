@@ -1,18 +1,18 @@
 -- The walk of a node is that of its parts, where the first of them are known.
-use Rattle.std.proofs.Common.{◌≡◌, ◌∙◌, ℕ, suc, List, length, Result, Ok, Err, sym, subst}
+use Rattle.std.proofs.Common.{◌≡◌, ◌∙◌, ℕ, suc, List, length, Result, Ok, Err, refl, sym, ap, subst}
 use Rattle.sample_core.specs.TypeTree.{TypeTree, int_ty, list_ty, pair_ty}
 use Rattle.leaf_core.specs.Expression.{Expression}
 use Rattle.leaf_core.specs.ExpressionView.{expression_of}
 use Rattle.leaf_core.specs.declared.expr.Expr.{Expr}
-use Rattle.net_syntax.specs.Network.{Network, Networks, map_networks, p_switch}
+use Rattle.net_syntax.specs.Network.{Network, Networks, map_networks, p_switch, rp_switch}
 use Rattle.net_syntax.specs.NetworkView.{members_of}
 use Rattle.net_syntax.specs.Typing.{Arrow, arrow, members}
 use Rattle.net_syntax.specs.declared.net.Net.{Net}
 use Rattle.net_types.specs.declared.fault.TypeFault.{TypeFault}
-use Rattle.net_types.specs.Walk.{◌>>=◌, ◌>>◌, ◌↓◌, as_event, one_output, test_members, within}
+use Rattle.net_types.specs.Walk.{◌>>=◌, ◌>>◌, ◌↓◌, as_choice, as_event, as_pair, expect_same, one_output, test_members, within}
 use Rattle.net_types.specs.Check.{Gives, net_walk_all}
 use Rattle.net_types.specs.Scopes.{InScope, and_olds, and_param}
-use Rattle.net_types.specs.WalkParts.{freezing_walk, leaf_walk, next_walk, routed_walk, walk_in, watch_walk}
+use Rattle.net_types.specs.WalkParts.{choice_walk, freezing_walk, leaf_walk, members_walk, next_walk, routed_walk, started_walk, walk_in, watch_walk}
 use Rattle.net_types.proofs.ScopeLists.{members_counted}
 
 -- an answer is given as it is written otherwise
@@ -68,6 +68,59 @@ p_switch_as : (P : List ℕ) (S : InScope) (A : TypeTree) (r : Expression) (fs :
 p_switch_as P S A r fs e t o c h =
     routed (test_members P fs) (within (pair_ty A int_ty)) (leaf_walk (P ↓ 0) S (pair_ty A int_ty) r) (λ D. net_walk_all P 1 S.params S.olds D fs)
     (λ Bs. one_output P 1 Bs) (λ q. freezing_walk P (suc (members fs)) S A (list_ty q.output) (members fs) q e t) o c h
+
+-- the walk of an `rpSwitchB`, where its members' output is known
+known : {A B : Type 0} {r : Result A TypeFault} (k : A → Result B TypeFault) {a : A} → r ≡ Ok a → (r >>= k) ≡ k a
+known k e = ap (λ r. r >>= k) e
+
+one_known : (r : Result (List TypeTree) TypeFault) (one : List TypeTree → Result TypeTree TypeFault) (k : TypeTree → Result TypeTree TypeFault) (B : TypeTree)
+    → (r >>= one) ≡ Ok B → (r >>= (λ Bs. one Bs >>= k)) ≡ k B
+one_known (Err x) one k B h = absurd (cc)
+one_known (Ok Bs) one k B h = known k h
+
+chosen : (r : Result TypeTree TypeFault) (c : TypeTree → Result TypeTree TypeFault) (f : TypeTree → InScope) (g : TypeTree → Result TypeTree TypeFault)
+    (k : InScope → Result TypeTree TypeFault) → ((V : TypeTree) → g V ≡ k (f V)) → (r >>= (λ K. c K >>= g)) ≡ ((r >>= (λ K. c K >>= (λ V. Ok (f V)))) >>= k)
+chosen (Err x) c f g k e = refl
+chosen (Ok K) c f g k e = go (c K)
+  where
+    go : (q : Result TypeTree TypeFault) → (q >>= g) ≡ ((q >>= (λ V. Ok (f V))) >>= k)
+    go (Err x) = refl
+    go (Ok V) = e V
+
+then_last : (r : Result TypeTree TypeFault) (s : TypeTree → Result TypeTree TypeFault) (w : Result TypeTree TypeFault) → (r >>= (λ E. s E >> w)) ≡ ((r >>= s) >> w)
+then_last (Err x) s w = refl
+then_last (Ok E) s w = refl
+
+rp_switch_as : (P : List ℕ) (S : InScope) (A D M C B : TypeTree) (fs : Networks Expression) (m : Expression) (t : Network Expression) → test_members P fs ≡ Ok tt
+    → as_pair P A ≡ Ok (D, M) → as_event P M ≡ Ok C → members_walk P 0 S D fs ≡ Ok B
+    → walk_in P S A (rp_switch fs m t) ≡ (choice_walk (P ↓ members fs) S C m >>= (λ R. started_walk (P ↓ suc (members fs)) R D B t))
+rp_switch_as P S A D M C B fs m t h p e w =
+    let n = P ↓ suc (members fs) in
+    known _ h
+    ∙ (known _ p
+    ∙ (known _ e
+    ∙ (one_known (net_walk_all P 0 S.params S.olds D fs) (λ Bs. one_output P 0 Bs) _ B w
+    ∙ chosen (leaf_walk (P ↓ members fs) S C m) (λ K. as_choice (P ↓ members fs) K) (λ V. and_param S V) _ (λ R. started_walk n R D B t)
+    (λ V. then_last (walk_in n (and_param S V) D t) (λ E. expect_same n B E) (within (list_ty B))))))
+
+-- an `rpSwitchB` gives what is left of it, where its members' output is known
+pub rp_switch_gives : {X : Type 0} (view : X → TypeTree) (result : Result X TypeFault) (P : List ℕ) (S : InScope) (A D M C B : TypeTree) (ms : Networks Expr)
+    (xs : List (Net Expr)) (n : ℕ) (m : Expression) (t : Network Expression) → members_of xs ≡ ms → n ≡ length xs
+    → test_members P (map_networks expression_of (members_of xs)) ≡ Ok tt → as_pair P A ≡ Ok (D, M) → as_event P M ≡ Ok C
+    → members_walk P 0 S D (map_networks expression_of (members_of xs)) ≡ Ok B
+    → Gives view result (choice_walk (P ↓ n) S C m >>= (λ R. started_walk (P ↓ suc n) R D B t))
+    → Gives view result (walk_in P S A (rp_switch (map_networks expression_of ms) m t))
+rp_switch_gives view result P S A D M C B ms xs n m t i l h p e w d =
+    subst (λ ns. Gives view result (walk_in P S A (rp_switch (map_networks expression_of ns) m t))) i
+    (gives_as view result (rp_switch_as P S A D M C B (map_networks expression_of (members_of xs)) m t h p e w)
+    (rw (l ∙ sym (members_counted xs)) at d))
+
+-- and that is the continuation's, or the fault of the choice
+pub started_gives : {X : Type 0} (view : X → TypeTree) (result : Result X TypeFault) (P : List ℕ) (k j : ℕ) (S inner : InScope) (C D B : TypeTree) (m : Expression)
+    (t : Network Expression) → j ≡ suc k → choice_walk (P ↓ k) S C m ≡ Ok inner → Gives view result (started_walk (P ↓ j) inner D B t)
+    → Gives view result (choice_walk (P ↓ k) S C m >>= (λ R. started_walk (P ↓ suc k) R D B t))
+started_gives view result P k j S inner C D B m t i h d =
+    gives_as view result (known (λ R. started_walk (P ↓ suc k) R D B t) h) (rw i at d)
 
 -- a `pSwitch` gives what is left of it, where its members' types are known
 pub p_switch_gives : {X : Type 0} (view : X → TypeTree) (result : Result X TypeFault) (P Q : List ℕ) (S : InScope) (A : TypeTree) (r : Expression)

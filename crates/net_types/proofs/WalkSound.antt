@@ -1,13 +1,13 @@
 -- What the walk answers is a type of the network within the limits.
 use Rattle.std.proofs.Common.{◌≡◌, ◌∙◌, ℕ, suc, List, [], ◌∷◌, ◌++◌, Result, Ok, Err, refl, sym, ap, subst, ◌^◌}
-use Rattle.net_syntax.specs.Network.{Network, Networks, arr, seq, first, par, loop_pre, i_pre, delay, hold, accum_by, after, repeatedly, time, integral, switch, d_switch, r_switch, k_switch, p_switch, old, no_members, and_member}
+use Rattle.net_syntax.specs.Network.{Network, Networks, arr, seq, first, par, loop_pre, i_pre, delay, hold, accum_by, after, repeatedly, time, integral, switch, d_switch, r_switch, k_switch, p_switch, old, initial_out, initial_in, dr_switch, rp_switch, no_members, and_member}
 use Rattle.sample_core.specs.TypeTree.{TypeTree, unit_ty, int_ty, pair_ty, event_ty, list_ty}
-use Rattle.net_syntax.specs.Typing.{Arrow, LeafTyping, copies, members, Typed, AllTyped, arr_typed, seq_typed, first_typed, par_typed, loop_typed, i_pre_typed, delay_typed, hold_typed, accum_typed, after_typed, repeatedly_typed, time_typed, integral_typed, switch_typed, d_switch_typed, r_switch_typed, k_switch_typed, p_switch_typed, old_typed, no_members_typed, and_member_typed}
+use Rattle.net_syntax.specs.Typing.{Arrow, LeafTyping, copies, members, Typed, AllTyped, arr_typed, seq_typed, first_typed, par_typed, loop_typed, i_pre_typed, delay_typed, hold_typed, accum_typed, after_typed, repeatedly_typed, time_typed, integral_typed, switch_typed, d_switch_typed, r_switch_typed, k_switch_typed, p_switch_typed, old_typed, initial_out_typed, initial_in_typed, dr_switch_typed, rp_switch_typed, no_members_typed, and_member_typed}
 use Rattle.leaf_core.specs.TypeLimits.{TypeFits}
 use Rattle.leaf_core.specs.declared.typing.ExprFault.{ExprFault}
 use Rattle.net_types.specs.declared.fault.TypeFault.{TypeFault}
 use Rattle.net_types.specs.Walk.{LeafChecker, ◌↓◌, within, expect_same, all_same, one_output, leaf_fault_at, leaf, switched, walk, walk_all}
-use Rattle.net_types.proofs.WalkTests.{Holds, ok_holds, err_holds, next, weaker, within_tells, same_tells, pair_tells, event_tells, between_tells, counted_tells, frozen_tells, IsExact}
+use Rattle.net_types.proofs.WalkTests.{Holds, ok_holds, err_holds, next, weaker, within_tells, same_tells, pair_tells, event_tells, choice_tells, between_tells, counted_tells, frozen_tells, IsExact}
 
 -- the outputs of the members one by one
 pub data EachTyped {L : Type 0} (T : LeafTyping L) (M : TypeTree → Type 0) (Ps : List TypeTree) (Os : List Arrow) (A : TypeTree) : Networks L → List TypeTree
@@ -130,6 +130,32 @@ module _ {L : Type 0} (t : LeafChecker L) (T : LeafTyping L) (ex : IsExact t T) 
         (P ↓ suc (suc (members fs))) (list_ty B) G k (λ m. p_switch_typed c.0 c.1 w.1 h es v.1 (turn i d) m))))))))))
     sound P Ps Os A (old k) =
         next (frozen_tells P Os k) (λ o i. next (same_tells P o.input A) (λ N s. ok_holds (under s.1 (old_typed i))))
+    sound P Ps Os A (initial_out c f) =
+        next (leaf_tells (P ↓ 0) Ps unit_ty c)
+        (λ C h. next (sound (P ↓ 1) Ps Os A f) (λ B d. same_ends (λ Z. T c Ps unit_ty Z) P B C h (λ k. initial_out_typed k d)))
+    sound P Ps Os A (initial_in c f) =
+        next (leaf_tells (P ↓ 0) Ps unit_ty c)
+        (λ C h. next (same_tells P A C)
+        (λ N s. weaker (sound (P ↓ 1) Ps Os A f) (λ B d. initial_in_typed (subst (λ Z. T c Ps unit_ty Z) s.1 h) d)))
+    sound P Ps Os A (dr_switch f n) =
+        next (pair_tells P A)
+        (λ q e.
+        next (event_tells P q.1)
+        (λ C i. next (sound (P ↓ 0) Ps Os q.0 f)
+        (λ B d. next (sound (P ↓ 1) (Ps ++ C ∷ []) Os q.0 n)
+        (λ E k. same_ends (λ Z. Typed T TypeFits (Ps ++ C ∷ []) Os n q.0 Z) (P ↓ 1) B E k (λ m. under (e ∙ ap (pair_ty q.0) i) (dr_switch_typed d m))))))
+    sound P Ps Os A (rp_switch fs m n) =
+        next (counted_tells P fs)
+        (λ u c. next (pair_tells P A)
+        (λ q e. next (event_tells P q.1)
+        (λ C i. next (all_sound P 0 Ps Os q.0 fs)
+        (λ Bs ds. next (one_output_tells P 0 Ps Os q.0 fs Bs ds)
+        (λ B es. next (leaf_tells (P ↓ members fs) Ps C m)
+        (λ K h. next (choice_tells (P ↓ members fs) K)
+        (λ V j. next (sound (P ↓ suc (members fs)) (Ps ++ V ∷ []) Os q.0 n)
+        (λ E d. next (same_tells (P ↓ suc (members fs)) B E)
+        (λ N s. within_ends (list_ty B)
+        (λ w. under (e ∙ ap (pair_ty q.0) i) (rp_switch_typed c.0 c.1 es (subst (λ Z. T m Ps C Z) j h) (turn s.1 d) w)))))))))))
 
     all_sound : (P : List ℕ) (k : ℕ) (Ps : List TypeTree) (Os : List Arrow) (A : TypeTree) (fs : Networks L)
         → Holds (λ Bs. EachTyped T TypeFits Ps Os A fs Bs) (walk_all t P k Ps Os A fs)

@@ -1,12 +1,12 @@
 -- What the walk's tests tell where they pass, and where they do.
 use Rattle.std.proofs.Common.{◌≡◌, ◌∙◌, ℕ, zero, suc, ◌≤◌, Bool, true, false, cond, ◌&&◌, leb, List, [], ◌∷◌, Result, Ok, Err, ◌↔◌, refl, sym, ap, subst, le-leb, leb-true}
 use Rattle.net_syntax.specs.Network.{Networks}
-use Rattle.sample_core.specs.TypeTree.{TypeTree, depth_of, nodes_of, pair_ty, event_ty}
+use Rattle.sample_core.specs.TypeTree.{TypeTree, depth_of, nodes_of, int_ty, pair_ty, event_ty, list_ty}
 use Rattle.net_syntax.specs.Typing.{Arrow, OldAt, old_here, old_after, members, LeafTyping}
 use Rattle.leaf_core.specs.TypeLimits.{TypeFits, type_fits, same_tree}
 use Rattle.net_types.specs.declared.fault.TypeFault.{TypeFault}
 use Rattle.net_types.specs.declared.fault.TypeFault.TheVariants as Fault
-use Rattle.net_types.specs.Walk.{LeafChecker, ◌>>=◌, ◌>>◌, test, within, expect_same, as_pair, as_event, test_range, test_members, old_at}
+use Rattle.net_types.specs.Walk.{LeafChecker, ◌>>=◌, ◌>>◌, test, within, expect_same, as_pair, as_event, as_choice, test_range, test_members, old_at}
 use Rattle.leaf_core.proofs.Exactness.{same_tree-true, same_tree-refl}
 
 -- the checker finds a leaf's type, and answers no other
@@ -106,6 +106,10 @@ pair_tells P _ = err_holds
 pub event_tells : (P : List ℕ) (A : TypeTree) → Holds (λ C. A ≡ event_ty C) (as_event P A)
 event_tells P (event_ty A) = ok_holds refl
 event_tells P _ = err_holds
+
+pub choice_tells : (P : List ℕ) (A : TypeTree) → Holds (λ V. A ≡ pair_ty (list_ty int_ty) (list_ty V)) (as_choice P A)
+choice_tells P (pair_ty (list_ty int_ty) (list_ty V)) = ok_holds refl
+choice_tells P _ = err_holds
 
 pub between_tells : (P : List ℕ) (low high q : ℕ) → Holds (λ u. (low ≤ q) × (q ≤ high)) (test_range P low high q)
 between_tells P low high q = weaker (tested (leb low q && leb q high) (Fault.Number P)) (λ u e. in_range low high q e)

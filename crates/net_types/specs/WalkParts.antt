@@ -1,12 +1,12 @@
 -- What is left of the walk of a node, where its first parts are known.
 use Rattle.std.specs.Prelude.{ℕ, suc, List, ◌^◌, Result, Ok}
-use Rattle.sample_core.specs.TypeTree.{TypeTree, int_ty, unit_ty, pair_ty, event_ty}
+use Rattle.sample_core.specs.TypeTree.{TypeTree, int_ty, unit_ty, pair_ty, event_ty, list_ty}
 use Rattle.leaf_core.specs.Expression.{Expression}
 use Rattle.leaf_core.specs.ExpressionCheck.{type_answer}
 use Rattle.net_syntax.specs.Network.{Network, Networks}
 use Rattle.net_syntax.specs.Typing.{Arrow, arrow}
 use Rattle.net_types.specs.declared.fault.TypeFault.{TypeFault}
-use Rattle.net_types.specs.Walk.{◌>>=◌, ◌>>◌, ◌↓◌, as_event, as_pair, expect_same, leaf_fault_at, one_output, switched, test_range, within}
+use Rattle.net_types.specs.Walk.{◌>>=◌, ◌>>◌, ◌↓◌, as_choice, as_event, as_pair, expect_same, leaf_fault_at, one_output, switched, test_range, within}
 use Rattle.net_types.specs.Check.{net_walk, net_walk_all}
 use Rattle.net_types.specs.Scopes.{InScope, and_param, and_olds}
 
@@ -105,3 +105,22 @@ routed_walk P S A r fs = do
   D ← route_walk P S A r
   B ← members_walk P 1 S D fs
   Ok (arrow D B)
+
+-- the scope with one more parameter, of the values that a choice of type K at P starts members with
+abbrev pub under_choice : List ℕ → InScope → TypeTree → Result InScope TypeFault
+under_choice P S K = do
+  V ← as_choice P K
+  Ok (and_param S V)
+
+-- the same of the choice m at P, which gets C
+abbrev pub choice_walk : List ℕ → InScope → TypeTree → Expression → Result InScope TypeFault
+choice_walk P S C m = do
+  K ← leaf_walk P S C m
+  under_choice P S K
+
+-- lists of what members output, where the continuation at P outputs it too
+abbrev pub started_walk : List ℕ → InScope → TypeTree → TypeTree → Network Expression
+    → Result TypeTree TypeFault
+started_walk P S A B n = do
+  next_walk P S A B n
+  within (list_ty B)

@@ -1,11 +1,12 @@
 // The tests that a node makes of types, numbers and members, and where their faults stand.
 
-ghost use Rattle.std.specs.Prelude.{◌≡◌, ◌+◌, ◌≤◌, ℕ, IfOk, length, map};
+ghost use Rattle.std.specs.Prelude.{◌≡◌, ◌+◌, ◌≤◌, ℕ, List, Err, IfOk, MatchOption, Ok, length, map};
 ghost use Rattle.sample_core.specs.TypeView.{type_of};
 ghost use Rattle.net_syntax.specs.{Network.map_networks, NetworkView.members_of};
 ghost use Rattle.leaf_core.specs.ExpressionView.{expression_of};
-ghost use Rattle.net_types.specs.Walk.{all_same, as_event, as_pair, expect_same, one_output, test_members, test_range};
+ghost use Rattle.net_types.specs.Walk.{all_same, as_choice, as_event, as_pair, expect_same, one_output, test_members, test_range};
 ghost use Rattle.net_types.specs.{Check.Gives, Sites.site_of};
+ghost use Rattle.net_types.specs.declared.fault.TypeFault.TheVariants as Fault;
 
 use crate::fault::TypeFault;
 use leaf_core::Expr;
@@ -13,7 +14,7 @@ use net_syntax::{Net, Position};
 use sample_core::{Memory, Ty, same_type};
 use std::alloc::Global;
 
-/// How many members `parB` and `pSwitch` may have.
+/// How many members `parB`, `pSwitch` and `rpSwitchB` may have.
 const MOST_MEMBERS: usize = 64;
 
 /// Where a test of a node puts its fault: at the node, or at one of its children.
@@ -102,6 +103,42 @@ pub(crate) fn event_at<'a>(
     }
     let position = position_of(alloc, path, site)?;
     Err(TypeFault::NotEvent { position })
+}
+
+/// The type of the values that a choice of this type starts members with: it is a pair of a list of
+/// numbers and a list of those; else `Joint` at the site.
+pub(crate) fn choice_at<'a>(
+    alloc: Global,
+    path: &[u32],
+    site: Site,
+    ty: &'a Ty,
+) -> Result<&'a Ty, TypeFault>
+    ensures { Gives (λ started. type_of started.now) result
+        (as_choice (site_of path.now site) (type_of ty.now)) }
+{
+    if let Some(started) = started_by(ty) {
+        return Ok(started);
+    }
+    let position = position_of(alloc, path, site)?;
+    Err(TypeFault::Joint { position })
+}
+
+/// The same, where the type is such a pair.
+fn started_by(ty: &Ty) -> Option<&Ty>
+    ensures { (P : List ℕ) → MatchOption result
+        (as_choice P (type_of ty.now) ≡ Err (Fault.Joint P))
+        (λ started. as_choice P (type_of ty.now) ≡ Ok (type_of started.now)) }
+{
+    let Ty::Pair(numbers, values) = ty else {
+        return None;
+    };
+    let Ty::List(number) = numbers.get() else {
+        return None;
+    };
+    match (number.get(), values.get()) {
+        (Ty::Int, Ty::List(value)) => Some(value.get()),
+        _ => None,
+    }
 }
 
 /// Tests that the number is from `low` to `high`; else `Number` at the node.

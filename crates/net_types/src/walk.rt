@@ -4,10 +4,10 @@ ghost use Rattle.std.specs.Prelude.{◌≡◌, ◌+◌, ◌≤◌, ◌++◌, Ok,
 ghost use Rattle.sample_core.specs.{Answer.◌>>=◌ as on_ok, TypeTree.list_ty, TypeView.type_of};
 ghost use Rattle.leaf_core.specs.ExpressionView.{expression_of};
 ghost use Rattle.net_syntax.specs.ArrowView.{arrow_of};
-ghost use Rattle.net_syntax.specs.Network.{first as first_of, k_switch, loop_pre, map_network, map_networks, p_switch, par, r_switch, seq, switch};
+ghost use Rattle.net_syntax.specs.Network.{first as first_of, initial_in, initial_out, k_switch, loop_pre, map_network, map_networks, p_switch, par, r_switch, rp_switch, seq, switch};
 ghost use Rattle.net_syntax.specs.{NetworkView.members_of, NetworkView.tree_of, Typing.arrow};
 ghost use Rattle.net_types.specs.{Walk.◌↓◌, Check.Gives, Check.net_walk_all};
-ghost use Rattle.net_types.specs.WalkParts.{freezing_walk, loop_output, loop_walk, members_walk, next_walk, routed_walk, switched_walk, under_event, walk_in, watch_walk};
+ghost use Rattle.net_types.specs.WalkParts.{choice_walk, freezing_walk, loop_output, loop_walk, members_walk, next_walk, routed_walk, started_walk, switched_walk, under_choice, under_event, walk_in, watch_walk};
 
 use crate::fault::TypeFault;
 use crate::nodes::{
@@ -15,7 +15,9 @@ use crate::nodes::{
     timer_type,
 };
 use crate::scope::{Scope, arrow_between};
-use crate::site::{Site, count_members, event_at, one_type, pair_at, same_at, wanted_at};
+use crate::site::{
+    Site, choice_at, count_members, event_at, one_type, pair_at, same_at, wanted_at,
+};
 use crate::types::{limited_list_of, list_of, pair_of};
 use leaf_core::Expr;
 use net_syntax::{Arrow, Members, Net, NetChild};
@@ -42,6 +44,8 @@ pub(crate) fn walk(
         Net::First(f) => walk_first(alloc, path, scope, input, f),
         Net::Par(fs) => walk_par(alloc, path, scope, input, fs),
         Net::LoopPre(c, f) => walk_loop(alloc, path, scope, input, c, f),
+        Net::InitialOut(c, f) => walk_initial_out(alloc, path, scope, input, c, f),
+        Net::InitialIn(c, f) => walk_initial_in(alloc, path, scope, input, c, f),
         Net::IPre(c) => constant_type(alloc, path, scope, input, c),
         Net::Delay(q, c) => delay_type(alloc, path, scope, input, *q, c),
         Net::Hold(c) => {
@@ -54,9 +58,12 @@ pub(crate) fn walk(
         Net::Time => Ok(Ty::Int),
         Net::Integral => integral_type(alloc, path, input),
         Net::Switch(f, t) | Net::DSwitch(f, t) => walk_switch(alloc, path, scope, input, f, t),
-        Net::RSwitch(f, t) => walk_r_switch(alloc, path, scope, input, f, t),
+        Net::RSwitch(f, t) | Net::DrSwitch(f, t) => {
+            walk_r_switch(alloc, path, scope, input, f, t)
+        }
         Net::KSwitch(f, e, t) => walk_k_switch(alloc, path, scope, input, f, e, t),
         Net::PSwitch(r, fs, e, t) => walk_p_switch(alloc, path, scope, input, r, fs, e, t),
+        Net::RpSwitch(fs, m, t) => walk_rp_switch(alloc, path, scope, input, fs, m, t),
         Net::Old(k) => old_type(alloc, path, scope, input, *k),
     }
 }
@@ -180,6 +187,57 @@ fn loop_output(alloc: Global, path: &[u32], back: &Ty, found: &Ty) -> Result<Ty,
     same_at(alloc, path, Site::Child(1), back, second)?;
     let output = output.try_copy(alloc)?;
     Ok(output)
+}
+
+/// The output type of a network that at first outputs the constant.
+#[cycle(walk)]
+fn walk_initial_out(
+    alloc: Global,
+    path: &mut Vec<u32>,
+    scope: &Scope,
+    input: &Ty,
+    c: &Expr,
+    f: &NetChild<Expr>,
+) -> Result<Ty, TypeFault>
+    ensures answer { Gives type_of result
+        (walk_in path.old.items scope.now (type_of input.now)
+        (initial_out (expression_of c.now) (map_network expression_of f.now))) }
+    ensures path { OnOk result (path.new.items ≡ path.old.items) }
+{
+    let first = leaf_type(alloc, path, 0, scope, &Ty::Unit, c)?;
+    match walk_child(alloc, path, 1, scope, input, f) {
+        Ok(found) => {
+            let output = wanted_at(alloc, path, Site::Node, &found, first);
+            drop(found);
+            output
+        }
+        Err(fault) => {
+            drop(first);
+            Err(fault)
+        }
+    }
+}
+
+/// The output type of a network that at first gets the constant.
+#[cycle(walk)]
+fn walk_initial_in(
+    alloc: Global,
+    path: &mut Vec<u32>,
+    scope: &Scope,
+    input: &Ty,
+    c: &Expr,
+    f: &NetChild<Expr>,
+) -> Result<Ty, TypeFault>
+    ensures answer { Gives type_of result
+        (walk_in path.old.items scope.now (type_of input.now)
+        (initial_in (expression_of c.now) (map_network expression_of f.now))) }
+    ensures path { OnOk result (path.new.items ≡ path.old.items) }
+{
+    let first = leaf_type(alloc, path, 0, scope, &Ty::Unit, c)?;
+    let tested = same_at(alloc, path, Site::Node, input, &first);
+    drop(first);
+    tested?;
+    walk_child(alloc, path, 1, scope, input, f)
 }
 
 /// The output type of a network up to its first event, and then of the continuation.
@@ -411,6 +469,99 @@ fn walk_gathered(
     let mut inner = walk_event(alloc, path, count + 1, scope, input, &list, e)?;
     inner.add_olds(alloc, count, types)?;
     walk_next(alloc, path, count + 2, &inner, input, &list, t)
+}
+
+/// The output type of members, some of which go on at each event in the input, and of the
+/// continuation, which is started for each of the values that are chosen then.
+#[cycle(walk)]
+fn walk_rp_switch(
+    alloc: Global,
+    path: &mut Vec<u32>,
+    scope: &Scope,
+    input: &Ty,
+    fs: &Members<Expr>,
+    m: &Expr,
+    t: &NetChild<Expr>,
+) -> Result<Ty, TypeFault>
+    ensures answer { Gives type_of result
+        (walk_in path.old.items scope.now (type_of input.now)
+        (rp_switch (map_networks expression_of fs.now) (expression_of m.now)
+        (map_network expression_of t.now))) }
+    ensures path { OnOk result (path.new.items ≡ path.old.items) }
+{
+    let members = fs.as_slice();
+    let count = count_members(alloc, path, members)?;
+    let (sample, event) = pair_at(alloc, path, Site::Node, input)?;
+    let carried = event_at(alloc, path, Site::Node, event)?;
+    let output = members_type(alloc, path, 0, scope, sample, members)?;
+    match scope_started(alloc, path, count, scope, carried, m) {
+        Ok(inner) => {
+            let list = walk_started(alloc, path, count + 1, &inner, sample, &output, t);
+            drop(output);
+            list
+        }
+        Err(fault) => {
+            drop(output);
+            Err(fault)
+        }
+    }
+}
+
+/// The scope with one more parameter, of the type of the values that the choice starts members
+/// with; it is child k of the node at the path, and gets what an event carries.
+fn scope_started(
+    alloc: Global,
+    path: &[u32],
+    k: u32,
+    scope: &Scope,
+    carried: &Ty,
+    m: &Expr,
+) -> Result<Scope, TypeFault>
+    ensures { Gives (λ inner. inner) result
+        (choice_walk (path.now ↓ k) scope.now (type_of carried.now) (expression_of m.now)) }
+{
+    let choice = leaf_type(alloc, path, k, scope, carried, m)?;
+    let inner = scope_chosen(alloc, path, k, scope, &choice);
+    drop(choice);
+    inner
+}
+
+/// The same, where the choice is of the type.
+fn scope_chosen(
+    alloc: Global,
+    path: &[u32],
+    k: u32,
+    scope: &Scope,
+    choice: &Ty,
+) -> Result<Scope, TypeFault>
+    ensures { Gives (λ inner. inner) result
+        (under_choice (path.now ↓ k) scope.now (type_of choice.now)) }
+{
+    let started = choice_at(alloc, path, Site::Child(k), choice)?;
+    let inner = scope.and_param(alloc, started)?;
+    Ok(inner)
+}
+
+/// The type of lists of what members output, where the continuation, child k of the node at the
+/// path, outputs it too.
+#[cycle(walk)]
+fn walk_started(
+    alloc: Global,
+    path: &mut Vec<u32>,
+    k: u32,
+    scope: &Scope,
+    input: &Ty,
+    output: &Ty,
+    t: &NetChild<Expr>,
+) -> Result<Ty, TypeFault>
+    ensures answer { Gives type_of result
+        (started_walk (path.old.items ↓ k) scope.now (type_of input.now) (type_of output.now)
+        (map_network expression_of t.now)) }
+    ensures path { OnOk result (path.new.items ≡ path.old.items) }
+{
+    let found = walk_next(alloc, path, k, scope, input, output, t)?;
+    drop(found);
+    limited_list_of(alloc, output)
 }
 
 /// The one output type of members that all get the input, the first of which is child `first` of

@@ -62,3 +62,15 @@ decreases-walk_child l = 10 * network_size l.child.now + 3
 
 abbrev pub decreases-walk_at : goal.decreases-walk_at
 decreases-walk_at l = 10 * net_size l.net.now + 2
+
+abbrev pub decreases-walk_initial_out : goal.decreases-walk_initial_out
+decreases-walk_initial_out l = 10 * network_size l.f.now + 5
+
+abbrev pub decreases-walk_initial_in : goal.decreases-walk_initial_in
+decreases-walk_initial_in l = 10 * network_size l.f.now + 5
+
+abbrev pub decreases-walk_rp_switch : goal.decreases-walk_rp_switch
+decreases-walk_rp_switch l = 10 * (networks_size l.fs.now + network_size l.t.now) + 6
+
+abbrev pub decreases-walk_started : goal.decreases-walk_started
+decreases-walk_started l = 10 * network_size l.t.now + 5
