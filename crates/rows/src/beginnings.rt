@@ -44,11 +44,14 @@ fn place_of(at: usize, end: usize, word: usize) -> &'static str {
     }
 }
 
-/// A file as it is printed, and where its beginnings are refused: in its header as long as the words
-/// `yampa 1 input` aren't whole, then at the last word where it is cut short, and else at the end.
+/// Files as they are printed, and where their beginnings are refused: in the header as long as the
+/// words `yampa 1 input` or `yampa 2 input` aren't whole, then at the last word where it is cut
+/// short, and else at the end.
 static BEGINNINGS: &str = "
 § Beginnings.
 yampa 1␤input Int␤‹routed›␤ => {13*h}eewweee{6*w}eeeww{6*e}wweewwwee{7*w}{4*e}wweeeweee{4*w}eeeww{9*e}{4*w}eewww{4*e}wwweewww{6*e}wwweeeww{6*e}ww{5*e}
+yampa 2␤input Int␤(--> 7 (>-- 9 time))␤ => {13*h}eewweeeww{5*e}ww{4*e}wwwee
+yampa 2␤input (Pair Int (Event Int))␤‹collection›␤ => {13*h}eeewwweewweee{4*w}eeww{5*e}{8*w}eeewwee{7*w}{5*e}wweeewwweeww{10*e}wwweeww{7*e}www{8*e}
 ";
 
 #[test]

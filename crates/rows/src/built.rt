@@ -172,6 +172,21 @@ weight | ‹heaviest› => 1000000
 height | ‹heaviest› => 52
 weight | yampa 1 input Int ‹first frozen› {79*‹next frozen› }(old 79){80*)} => 1000001
 height | yampa 1 input Int ‹first frozen› {79*‹next frozen› }(old 79){80*)} => 240
+§ What may run several times in a sample counts as often.
+weight | yampa 2 input Int (--> 1 (>-- 2 time)) => 3
+weight | ‹with events› ‹late stages› => 8
+weight | yampa 2 input Int {18*(drSwitch time }time{18*)} => 786430
+weight | yampa 2 input Int {19*(drSwitch time }time{19*)} => 1000001
+weight | yampa 2 input Int {255*(drSwitch time }time{255*)} => 1000001
+height | yampa 2 input Int {19*(drSwitch time }time{19*)} => 20
+weight | yampa 2 input Int (rpSwitchB (col) x time) => 65
+weight | yampa 2 input Int (rpSwitchB (col{65* time}) x time) => 65
+weight | yampa 2 input Int (rpSwitchB (col time (>>> time time)) x time) => 193
+weight | yampa 2 input Int {3*(rpSwitchB (col time) x }time{3*)} => 266305
+weight | yampa 2 input Int {3*(rpSwitchB (col }time{3*) x time)} => 266305
+weight | yampa 2 input Int {4*(rpSwitchB (col }time{4*) x time)} => 1000001
+height | yampa 2 input Int {4*(rpSwitchB (col }time{4*) x time)} => 5
+height | yampa 2 input Int (rpSwitchB (col time (>>> time time)) x time) => 3
 ";
 
 /// Forms with numbers at the ends of their ranges and past them.

@@ -51,10 +51,22 @@ laws 1 (step E18 forward (at 0) 5) (step L38 backward (at) (kSwitch time integra
 laws 1 (step L25 backward (at) (>>> identity (constant 5))) => laws 1␤(step L25 backward (at) (>>> (arr x) (arr (then unit 5))))␤
 laws 1 (step E13 backward (at 0) (tag Int x 3)) => laws 1␤(step E13 backward (at 0) (on x (none Int) (event (then (fst x) 3))))␤
 laws 1{10000* (step E7 forward (at[20* 1]))} => laws 1␤{10000*(step E7 forward (at[20* 1]))␤}
+§ Certificates of version 2: printed so where a new law or a new form stands in them.
+laws 2 => laws 1␤
+laws 2 (step L42 forward (at)) => laws 1␤(step L42 forward (at))␤
+laws 2 (step L43 forward (at)) => laws 2␤(step L43 forward (at))␤
+laws 2 (step E1 forward (at)) (step L46 backward (at 1) (>>> identity time)) => laws 2␤(step E1 forward (at))␤(step L46 backward (at 1) (>>> (arr x) time))␤
+laws 2 (step L44 forward (at 0))(step L45 forward (at)) => laws 2␤(step L44 forward (at 0))␤(step L45 forward (at))␤
+laws 2 (step L1 backward (at) (--> 1 time)) => laws 2␤(step L1 backward (at) (--> 1 time))␤
+laws 2 (step L1 backward (at) (>>> time (>-- 1 time))) (step L1 forward (at)) => laws 2␤(step L1 backward (at) (>>> time (>-- 1 time)))␤(step L1 forward (at))␤
+laws 2 (step L1 backward (at) ‹late restart›) => laws 2␤(step L1 backward (at) ‹late restart›)␤
+laws 2 (step L1 backward (at) ‹collection›) => laws 2␤(step L1 backward (at) ‹collection›)␤
 § Headers and lengths.
  => header
 laws => header
-laws 2 => header
+laws 3 => header
+laws 02 => header
+laws2 => header
 laws 01 => header
 Laws 1 => header
 (laws 1) => header
@@ -79,6 +91,10 @@ laws 1 (step E19 forward (at)) => syntax at 13
 laws 1 (step L0 forward (at)) => syntax at 13
 laws 1 (step L01 forward (at)) => syntax at 13
 laws 1 (step L43 forward (at)) => syntax at 13
+laws 1 (step L46 forward (at)) => syntax at 13
+laws 2 (step L47 forward (at)) => syntax at 13
+laws 2 (step L0 forward (at)) => syntax at 13
+laws 2 (step E19 forward (at)) => syntax at 13
 laws 1 (step l1 forward (at)) => syntax at 13
 laws 1 (step 1 forward (at)) => syntax at 13
 laws 1 (step L1 Forward (at)) => syntax at 16
@@ -96,6 +112,10 @@ laws 1 (step L1 backward (at) 5) => syntax at 30
 laws 1 (step E1 backward (at) time) => syntax at 30
 laws 1 (step E1 backward (at) (arr x)) => syntax at 31
 laws 1 (step E1 backward (at) 1 2) => syntax at 32
+laws 1 (step L1 backward (at) (--> 1 time)) => syntax at 31
+laws 1 (step L1 backward (at) (parB time ‹collection›)) => syntax at 42
+laws 2 (step E1 backward (at) (--> 1 time)) => syntax at 31
+laws 2 (step L43 backward (at) x) => syntax at 31
 § Numbers that are badly spelt or out of range.
 laws 1 (step L4 forward (at 65536)) => number at 28
 laws 1 (step L4 forward (at 0 18446744073709551616)) => number at 30

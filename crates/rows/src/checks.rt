@@ -210,6 +210,19 @@ static CHECKS: &str = "
 ‹same› | ‹same› | laws 1 (step E7 backward (at 0) (fst (pair x 1))) => ends elsewhere
 ‹same› | ‹same› | laws 1 (step E7 backward (at 0) (fst (pair x 1))) (step E7 forward (at 0)) => accepted 2
 ‹same› | ‹same› | laws 1 (step E7 backward (at 0) (fst (pair x 1))) (step E7 backward (at 0 0 1) (fst (pair 1 (p 0)))) => ill typed at step 2
+§ Laws of version 2, and laws of version 1 in forms of version 2.
+yampa 2 input Int (--> 1 (--> 2 time)) | yampa 2 input Int (--> 1 time) | laws 2 (step L43 forward (at)) => accepted 1
+yampa 2 input Int (--> 1 (--> 2 time)) | yampa 2 input Int (--> 1 time) | laws 1 (step L43 forward (at)) => syntax at 13
+yampa 2 input Int (--> 1 (--> 2 time)) | yampa 2 input Int (--> 2 time) | laws 2 (step L43 forward (at)) => ends elsewhere
+yampa 2 input Int (--> 1 time) | yampa 2 input Int (--> 1 (--> 2 time)) | laws 2 (step L43 backward (at) (--> 1 (--> 2 time))) => accepted 1
+yampa 2 input Int (--> 1 time) | yampa 2 input Int (--> 1 time) | laws 2 (step L43 backward (at) (--> 1 (--> true time))) => ill typed at step 1
+yampa 2 input Int (>-- 3 (arr (add x 1))) | yampa 2 input Int (--> (then 3 (add x 1)) (arr (add x 1))) | laws 2 (step L44 forward (at)) => accepted 1
+yampa 2 input Int (>-- true (arr (if x 1 2))) | yampa 2 input Int time | laws 2 (step L44 forward (at)) => no source
+yampa 2 input Int (>>> (arr (pair x (none Int))) (rpSwitchB (col time integral) ‹none kept› time)) | yampa 1 input Int (>>> (arr x) (parB time integral)) | laws 2 (step L46 forward (at)) => accepted 1
+yampa 1 input Int (>>> (arr x) (parB time)) | yampa 1 input Int time | laws 2 (step L46 backward (at) (>>> (arr (pair x (none Int))) (rpSwitchB (col time) ‹none kept› (arr true)))) => ill typed at step 1
+‹with events› (rSwitch (arr x) (>>> (arr (pair x (event x))) (>>> ‹late restart› (arr (mul x (p 0)))))) | ‹with events› (rSwitch (arr x) (>>> (arr (pair x (event x))) (drSwitch (>>> (iPre 0) (arr (mul x (p 0)))) (>>> (iPre (p 0)) (arr (mul x (p 0))))))) | laws 2 (step L45 forward (at 1 1)) => accepted 1
+yampa 2 input Int (--> 1 (>>> (arr x) time)) | yampa 2 input Int (--> 1 time) | laws 1 (step L1 forward (at 1)) => accepted 1
+‹with events› (rpSwitchB (col (>>> (arr x) time)) (pair (list Int) (list Int (fst (pair x 1)))) (>>> time (arr x))) | ‹with events› (rpSwitchB (col time) (pair (list Int) (list Int x)) time) | laws 1 (step L1 forward (at 0)) (step E7 forward (at 1 1 0)) (step L2 forward (at 2)) => accepted 3
 § What is answered before the first step.
 ‹same› | ‹same› | laws 1{10000* (step E7 backward (at 0) (fst (pair x (p 0))))} => ill typed at step 1
 ‹same› | ‹same› | laws 1{10001* (step E7 backward (at 0) (fst (pair x (p 0))))} => too many steps
@@ -226,6 +239,10 @@ yampa 1 input Int (arr {255*(neg }x{255*)}) | yampa 1 input Int (arr {255*(neg }
 /// Streams, sources, targets and certificates, and what is answered and written.
 static CHECKED_RUNS: &str = "
 § Networks that are derived, and what both write.
+0␤+2 0␤+3 0 | yampa 2 input Int (--> 1 (--> 2 time)) | yampa 2 input Int (--> 1 time) | laws 2 (step L43 forward (at)) => accepted 1: 1␤2␤5␤
+5␤+1 6 | yampa 2 input Int (>-- 3 (arr (add x 1))) | yampa 2 input Int (--> (then 3 (add x 1)) (arr (add x 1))) | laws 2 (step L44 forward (at)) => accepted 1: 4␤7␤
+‹two events› | ‹with events› (>>> ‹late stages› ‹negative›) | ‹with events› (drSwitch (>>> (iPre 0) ‹negative›) (>>> (>>> (arr x) (iPre (p 0))) ‹negative›)) | laws 2 (step L45 forward (at)) => accepted 1: 0␤-5␤-6␤-7␤
+1␤+2 1␤+3 2 | yampa 2 input Int (>>> (arr (pair x (none Int))) (rpSwitchB (col time integral) ‹none kept› time)) | yampa 1 input Int (>>> (arr x) (parB time integral)) | laws 2 (step L46 forward (at)) => accepted 1: (list 0 0)␤(list 2 2)␤(list 5 5)␤
 5␤+1 6␤+1 9223372036854775807 | ‹sum doubled› | ‹sum doubled at once› | laws 1 (step L4 forward (at)) => accepted 1: 12␤14␤0␤
 0␤+4 0␤+5 1␤+6 0␤+7 2␤+1 0 | yampa 1 input Int (kSwitch time ‹event at one› (old 0)) | yampa 1 input Int time | laws 1 (step L38 forward (at)) => accepted 1: 0␤4␤9␤15␤22␤23␤
 0␤+4 0␤+5 1␤+6 0␤+7 2␤+1 0 | yampa 1 input Int (kSwitch (>>> (arr x) time) ‹event at one› ‹old at two›) | yampa 1 input Int ‹resumed› | laws 1 (step L1 forward (at 0)) => accepted 1: 0␤4␤-1␤-1␤9␤10␤

@@ -62,6 +62,17 @@ yampa 1 input Int ‹resumed› => Int -> Int weight 7 height 4: ‹resumed›
 yampa 1 input Int (kSwitch time ‹event at one› (old 0)) => Int -> Int weight 5 height 3: (kSwitch time ‹event at one› (old 0))
 yampa 1 input Int ‹routed› => Int -> (List Int) weight 9 height 4: ‹routed›
 yampa 1 input Int ‹forms› => Int -> (List Int) weight 56 height 6: ‹forms›
+§ Core forms of version 2.
+yampa 2 input Int (--> 7 time) => Int -> Int weight 2 height 2: (--> 7 time)
+yampa 2 input Bool (--> 7 (>>> (arr (if x 1 2)) time)) => Bool -> Int weight 4 height 3: (--> 7 (>>> (arr (if x 1 2)) time))
+yampa 2 input Int (>-- 9 (iPre 0)) => Int -> Int weight 2 height 2: (>-- 9 (iPre 0))
+yampa 2 input Bool (>-- true (arr (if x 1 2))) => Bool -> Int weight 2 height 2: (>-- true (arr (if x 1 2)))
+‹with events› ‹late restart› => (Pair Int (Event Int)) -> Int weight 4 height 2: ‹late restart›
+‹with events› ‹late stages› => (Pair Int (Event Int)) -> Int weight 8 height 3: ‹late stages›
+‹with events› ‹collection› => (Pair Int (Event Int)) -> (List Int) weight 65 height 2: ‹collection›
+‹with events› (rpSwitchB (col time (>>> (arr x) time)) ‹none kept› (arr x)) => (Pair Int (Event Int)) -> (List Int) weight 193 height 3: (rpSwitchB (col time (>>> (arr x) time)) ‹none kept› (arr x))
+‹with events› (rpSwitchB (col (arr (less x 1))) (pair (list Int) (list Bool true)) (>>> (arr (p 0)) (iPre false))) => (Pair Int (Event Int)) -> (List Bool) weight 193 height 3: (rpSwitchB (col (arr (less x 1))) (pair (list Int) (list Bool true)) (>>> (arr (p 0)) (iPre false)))
+yampa 2 input Int ‹new forms› => Int -> (List Int) weight 80 height 5: ‹new forms›
 § Short forms of networks, which mean what their core forms do.
 yampa 1 input Int identity => Int -> Int weight 1 height 1: (arr x)
 yampa 1 input Int (constant 5) => Int -> Int weight 1 height 1: (arr (then unit 5))

@@ -23,6 +23,7 @@ use crate::scant_memory::scant_told;
 use crate::scant_networks::scant_network_told;
 use crate::scant_reads::lines_told;
 use crate::scant_runs::scant_run_told;
+use crate::selecting::selected_told;
 use crate::shapes::shape_told;
 use crate::stream_calls::{calls_told, scant_calls_told};
 use crate::tables::{added_told, called_told, filled_told};
@@ -100,10 +101,12 @@ pub enum Probe {
     Called,
     /// Whether a call, by its name, is refused memory at first and answers in the end.
     Scant,
-    /// The same of a call on a whole network.
+    /// The same of a call on a whole network: `CALL | FILE`.
     ScantNetwork,
     /// The same of a table, and what is frozen with no memory left.
     ScantRun,
+    /// Which of three frozen networks a value selects: `TYPE | VALUE`.
+    Selected,
     /// What a command line leads to, on files called `src`, `tgt` and `cert`, and whether it is refused
     /// memory at first: `WORDS | SOURCE | TARGET | CERTIFICATE`.
     ScantCommand,
@@ -191,6 +194,7 @@ fn tell(alloc: Global, probe: Probe, given: &str, out: &mut String) {
         Probe::ScantNetwork => scant_network_told(alloc, given, out),
         Probe::ScantCommand => scant_command_told(alloc, given, out),
         Probe::ScantRun => scant_run_told(alloc, given, out),
+        Probe::Selected => selected_told(alloc, given, out),
         Probe::ScantStream => scantly_told(alloc, given, out),
         Probe::ScantReads => scant_reads_told(alloc, given, out),
         Probe::ScantLines => lines_told(alloc, given, out),

@@ -279,9 +279,47 @@ L42 forward | (arr (list Int (neg x))) => (parB (arr (neg x)))
 L42 forward | (arr (list Int{64* #})) => (parB{64* (arr #)})
 L42 forward | (arr (list Int{65* 5})) => nothing
 L42 forward | (arr (list Int)) => nothing
+§ First outputs and first inputs.
+L43 forward | (--> 1 (--> true time)) => (--> 1 time)
+L43 forward | (--> 1 (--> 2 (--> 3 time))) => (--> 1 (--> 3 time))
+L43 forward | (--> 1 (>-- 2 time)) => nothing
+L43 forward | (>-- 1 (--> 2 time)) => nothing
+L43 forward | (--> 1 time) => nothing
+L43 backward | (--> 1 time) | (--> 1 (--> x time)) => (--> 1 (--> x time))
+L43 backward | (--> 1 time) | (--> 2 (--> 1 time)) => nothing
+L43 backward | (--> 1 time) => nothing
+L44 forward | (>-- 3 (arr (add x 1))) => (--> (then 3 (add x 1)) (arr (add x 1)))
+L44 forward | (>-- 3 (iPre 0)) => nothing
+L44 forward | (--> 3 (arr x)) => nothing
+L44 backward | (--> (then 3 (neg x)) (arr (neg x))) | (>-- 3 (arr (neg x))) => (>-- 3 (arr (neg x)))
+L44 backward | (--> (then 3 (neg x)) (arr x)) | (>-- 3 (arr x)) => nothing
+§ Late restarts.
+L45 forward | (>>> (drSwitch integral time) (arr (neg x))) => (drSwitch (>>> integral (arr (neg x))) (>>> time (arr (neg x))))
+L45 forward | (>>> (drSwitch integral time) (iPre 0)) => nothing
+L45 forward | (>>> (rSwitch integral time) (arr (neg x))) => nothing
+L36 forward | (>>> (drSwitch integral time) (arr (neg x))) => nothing
+L45 backward | (drSwitch (>>> integral (arr x)) (>>> time (arr x))) | (>>> (drSwitch integral time) (arr x)) => (>>> (drSwitch integral time) (arr x))
+L45 backward | (drSwitch (>>> integral (arr x)) (>>> time (arr 1))) | (>>> (drSwitch integral time) (arr x)) => nothing
+§ Collections without events.
+L46 forward | (>>> (arr (pair (neg x) (none Int))) (rpSwitchB (col time integral) x (arr (p 0)))) => (>>> (arr (neg x)) (parB time integral))
+L46 forward | (>>> (arr (pair x (none Int))) (rpSwitchB (col{64* (iPre #)}) x time)) => (>>> (arr x) (parB{64* (iPre #)}))
+L46 forward | (>>> (arr (pair x (none Int))) (rpSwitchB (col{65* time}) x time)) => nothing
+L46 forward | (>>> (arr (pair x (none Int))) (rpSwitchB (col) x time)) => nothing
+L46 forward | (>>> (arr (pair x (event 1))) (rpSwitchB (col time) x time)) => nothing
+L46 forward | (>>> (arr x) (rpSwitchB (col time) x time)) => nothing
+L46 forward | (>>> time (rpSwitchB (col time) x time)) => nothing
+L46 forward | (rpSwitchB (col time) x time) => nothing
+L46 backward | (>>> (arr x) (parB time)) | (>>> (arr (pair x (none Bool))) (rpSwitchB (col time) (p 3) integral)) => (>>> (arr (pair x (none Bool))) (rpSwitchB (col time) (p 3) integral))
+L46 backward | (>>> (arr x) (parB time)) | (>>> (arr (pair x (none Bool))) (rpSwitchB (col integral) (p 3) integral)) => nothing
+L46 backward | (>>> (arr x) (parB time)) => nothing
+§ Laws of version 1 on the forms of version 2.
+L1 forward | (>>> (arr x) (--> 1 time)) => (--> 1 time)
+L3 forward | (>>> (>>> (--> 1 time) ‹late restart›) ‹collection›) => (>>> (--> 1 time) (>>> ‹late restart› ‹collection›))
+L41 forward | (>>> (>-- 1 time) (parB (--> 1 time))) => (parB (>>> (>-- 1 time) (--> 1 time)))
 § Numbers of no law, laws of expressions, trees too many or too few, and laws backward.
 L0 forward | (>>> (arr x) time) => nothing
-L43 forward | (>>> (arr x) time) => nothing
+L47 forward | (>>> (arr x) time) => nothing
+L255 forward | (>>> (arr x) time) => nothing
 E1 forward | (arr (then x 1)) => nothing
 L1 forward | (>>> (arr x) time) | time => nothing
 L1 backward | time => nothing

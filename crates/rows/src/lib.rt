@@ -62,6 +62,8 @@ mod scant_runs;
 #[cfg(test)]
 mod scarce;
 #[cfg(test)]
+mod selecting;
+#[cfg(test)]
 mod shapes;
 #[cfg(test)]
 mod stream_calls;

@@ -13,7 +13,7 @@ pub fn network_named(name: &str) -> &'static str {
 }
 
 /// Names, and the file, the network or the part of each. `forms` is a network in which each of the
-/// nineteen forms stands, on numbers.
+/// nineteen forms of version 1 stands, on numbers, and `new forms` one with the four of version 2.
 static NAMED: &str = "
 increment = yampa 1 input Int (>>> (arr (add x 1)) (iPre 0))
 same = yampa 1 input Int (arr x)
@@ -25,6 +25,9 @@ successor = yampa 1 input Int (arr (add x 1))
 below six = yampa 1 input Int (arr (less x 6))
 wrap = yampa 1 input Int (arr (event x))
 numbers in = yampa 1␤input Int␤
+with events = yampa 2 input (Pair Int (Event Int))
+with lists = yampa 2 input (Pair Int (Event (List Int)))
+two events = (pair 5 none)␤+1 (pair 6 (event 9))␤+1 (pair 7 (event 8))␤+1 (pair 4 none)
 second = yampa 1 input (Pair Int Int) (arr (snd x))
 parameter = yampa 1 input Int (arr (p 0))
 late truth = yampa 1 input Int (>>> (arr (less x 1)) (iPre 0))
@@ -45,6 +48,8 @@ events negative = (arr (on x (none Int) (event (then (snd x) (neg x)))))
 at one at nine = 0␤+4 0␤+5 1␤+6 0␤+7 2␤+1 0
 twenty steps = (>>> (arr x) (arr [19*(fst (pair ]x[19* 0))]))
 a thousand taken = laws 1␤{50*(step L1 forward (at #))␤[19*(step E7 forward (at # 0))␤]}
+eleven frozen = (kSwitch (arr x) (arr (none Unit)) \
+    {10*(kSwitch (>>> (old #) (old #)) (arr (none Unit)) }
 event at one = (arr (if (equal (fst x) 1) (event unit) (none Unit)))
 hundreds = (arr (sub (mul 100 (nth x 0 0)) (nth x 1 0)))
 old at two = (switch (arr (pair -1 (if (equal x 2) (event unit) (none Unit)))) (old 0))
@@ -71,4 +76,23 @@ forms = (parB (arr (add x 1)) (iPre 0) (delay 3 0) time integral \
     (kSwitch (arr (mul x 2)) (arr (event (snd x))) (>>> (old 0) (arr (add x (p 0))))) \
     (>>> (pSwitch (fst x) (col (arr x) integral) (arr (event (len (snd x)))) \
     (parB (old 0) (arr (p 0)))) (arr (nth x 0 0))))
+late restart = (drSwitch (iPre 0) (iPre (p 0)))
+late stages = (drSwitch (iPre 0) (>>> (arr x) (iPre (p 0))))
+collection = (rpSwitchB (col integral) (pair (list Int 0 0 5) (list Int x)) (iPre (p 0)))
+none kept = (pair (list Int) (list Int))
+adjacent = (drSwitch (arr (mul x 10)) (>>> (arr (add x (p 0))) (iPre (p 0))))
+chosen = (rpSwitchB (col integral (iPre 7)) (pair x (list Int 5)) (--> (p 0) integral))
+opened = (kSwitch (--> 7 (>-- 100 integral)) \
+    (arr (if (less 8 (fst x)) (event (fst x)) (none Int))) \
+    (--> (p 0) (>>> (old 0) (--> 55 (arr x)))))
+collection at seven = (kSwitch (rpSwitchB (col integral) (pair (list Int 0) (list Int x)) (iPre (p 0))) \
+    (arr (if (equal (fst (fst x)) 7) (event unit) (none Unit))) (old 0))
+restarted twice = (kSwitch (drSwitch time (>>> integral (arr (add x (mul 1000 (p 0)))))) \
+    (arr (if (equal (fst (fst x)) 7) (event unit) (none Unit))) \
+    (>>> (parB (old 0) (old 0)) (arr (add (nth x 0 0) (mul 1000000 (nth x 1 0))))))
+new forms = (parB (--> 7 time) (>-- 9 (iPre 0)) \
+    (>>> (arr (pair x (event x))) (drSwitch (iPre 0) (iPre (p 0)))) \
+    (>>> (arr (pair x (if (less 9 x) (event x) (none Int)))) \
+    (>>> (rpSwitchB (col integral (arr (neg x))) (pair (list Int 1 x 0) (list Int x)) \
+    (iPre (p 0))) (arr (nth x 1 0)))))
 ";

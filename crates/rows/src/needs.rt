@@ -91,6 +91,23 @@ yampa 1 input Int ‹forms› | 30 => (at 15 0 3 0) (Pair Int (List Int)) -> (Ev
 yampa 1 input Int ‹forms› | 31 => (at 15 0 4 1 0) Int, Int -> Int: (p 0)
 yampa 1 input Int ‹forms› | 32 => (at 15 1 0) (List Int) -> Int: (nth x 0 0)
 yampa 1 input Int ‹forms› | 33 => no need
+§ The forms of version 2.
+yampa 2 input Int ‹new forms› | 0 => (at 0 0) Unit -> Int: 7
+yampa 2 input Int ‹new forms› | 1 => (at 1 0) Unit -> Int: 9
+yampa 2 input Int ‹new forms› | 2 => (at 1 1 0) Unit -> Int: 0
+yampa 2 input Int ‹new forms› | 3 => (at 2 0 0) Int -> (Pair Int (Event Int)): (pair x (event x))
+yampa 2 input Int ‹new forms› | 4 => (at 2 1 0 0) Unit -> Int: 0
+yampa 2 input Int ‹new forms› | 5 => (at 2 1 1 0) Int, Unit -> Int: (p 0)
+yampa 2 input Int ‹new forms› | 6 => (at 3 0 0) Int -> (Pair Int (Event Int)): (pair x (if (less 9 x) (event x) (none Int)))
+yampa 2 input Int ‹new forms› | 7 => (at 3 1 0 1 0) Int -> Int: (neg x)
+yampa 2 input Int ‹new forms› | 8 => (at 3 1 0 2) Int -> (Pair (List Int) (List Int)): (pair (list Int 1 x 0) (list Int x))
+yampa 2 input Int ‹new forms› | 9 => (at 3 1 0 3 0) Int, Unit -> Int: (p 0)
+yampa 2 input Int ‹new forms› | 10 => (at 3 1 1 0) (List Int) -> Int: (nth x 1 0)
+yampa 2 input Int ‹new forms› | 11 => no need
+yampa 2 input Bool (--> 5 (>-- true (>>> (arr (if x 1 2)) (iPre 6)))) | 0 => (at 0) Unit -> Int: 5
+yampa 2 input Bool (--> 5 (>-- true (>>> (arr (if x 1 2)) (iPre 6)))) | 1 => (at 1 0) Unit -> Bool: true
+yampa 2 input Bool (--> 5 (>-- true (>>> (arr (if x 1 2)) (iPre 6)))) | 2 => (at 1 1 0 0) Bool -> Int: (if x 1 2)
+yampa 2 input Bool (--> 5 (>-- true (>>> (arr (if x 1 2)) (iPre 6)))) | 3 => (at 1 1 1 0) Unit -> Int: 6
 § Scopes inside scopes: parameters from the outermost on.
 yampa 1 input Int (switch (arr (pair x (event true))) (switch (arr (pair x (event unit))) (arr (if (p 0) x 0)))) | 0 => (at 0 0) Int -> (Pair Int (Event Bool)): (pair x (event true))
 yampa 1 input Int (switch (arr (pair x (event true))) (switch (arr (pair x (event unit))) (arr (if (p 0) x 0)))) | 1 => (at 1 0 0) Bool, Int -> (Pair Int (Event Unit)): (pair x (event unit))
@@ -101,6 +118,10 @@ yampa 1 input Int ‹resumed› | 1 => (at 2 0 0) Unit, Int -> (Pair Int (Event 
 yampa 1 input Int ‹resumed› | 2 => no need
 yampa 1 input Bool (kSwitch (arr 5) (arr (event x)) (>>> (old 0) (>>> (arr (pair x (p 0))) (arr (fst x))))) | 2 => (at 2 1 0 0) (Pair Bool Int), Int -> (Pair Int (Pair Bool Int)): (pair x (p 0))
 yampa 1 input Bool (kSwitch (arr 5) (arr (event x)) (>>> (old 0) (>>> (arr (pair x (p 0))) (arr (fst x))))) | 3 => (at 2 1 1 0) (Pair Bool Int), (Pair Int (Pair Bool Int)) -> Int: (fst x)
+yampa 2 input (Pair Unit (Event Bool)) (drSwitch (arr 1) (--> 2 (arr (if (p 0) 3 4)))) | 2 => (at 1 1 0) Bool, Unit -> Int: (if (p 0) 3 4)
+yampa 2 input Bool (switch (arr (pair (list Int) (event 5))) (>>> (arr (pair x (event unit))) (rpSwitchB (col (arr (p 0))) (pair (list Int (p 0)) (list Bool true)) (arr (if (p 1) (p 0) 6))))) | 2 => (at 1 1 0 0) Int, Bool -> Int: (p 0)
+yampa 2 input Bool (switch (arr (pair (list Int) (event 5))) (>>> (arr (pair x (event unit))) (rpSwitchB (col (arr (p 0))) (pair (list Int (p 0)) (list Bool true)) (arr (if (p 1) (p 0) 6))))) | 3 => (at 1 1 1) Int, Unit -> (Pair (List Int) (List Bool)): (pair (list Int (p 0)) (list Bool true))
+yampa 2 input Bool (switch (arr (pair (list Int) (event 5))) (>>> (arr (pair x (event unit))) (rpSwitchB (col (arr (p 0))) (pair (list Int (p 0)) (list Bool true)) (arr (if (p 1) (p 0) 6))))) | 4 => (at 1 1 2 0) Int, Bool, Bool -> Int: (if (p 1) (p 0) 6)
 ";
 
 #[test]

@@ -96,6 +96,13 @@ yampa 1 input Int ‹first frozen› {16*‹next frozen› }(>>> (old 16) (>>> (
 yampa 1 input Int ‹first frozen› {19*‹next frozen› }(old 19){20*)} => too heavy
 yampa 1 input Int ‹first frozen› {79*‹next frozen› }(old 79){80*)} => too heavy
 yampa 1 input Int ‹first frozen› {19*‹next frozen› }{256*(>>> (old 19) }(arr x){256*)}{20*)} => too deep
+§ Weights of forms whose parts may run several times in a sample.
+‹with events› {17*(drSwitch time (>>> (arr (pair x (event x))) }time{17*))} => (Pair Int (Event Int)) -> Int weight 917498 height 35
+‹with events› {18*(drSwitch time (>>> (arr (pair x (event x))) }time{18*))} => too heavy
+‹with events› (rpSwitchB (col ‹eleven frozen›(>>> (old 10) (>>> (old 9) (>>> (old 8) (>>> (old 6) (>>> (old 2) (>>> (old 1) (>>> (old 0) (arr x)))))))){11*)}) ‹none kept› (arr x)) => (Pair Int (Event Int)) -> (List Int) weight 999873 height 35
+‹with events› (rpSwitchB (col ‹eleven frozen›(>>> (old 10) (>>> (old 9) (>>> (old 8) (>>> (old 6) (>>> (old 2) (>>> (old 1) (>>> (old 0) (old 0)))))))){11*)}) ‹none kept› (arr x)) => (Pair Int (Event Int)) -> (List Int) weight 999937 height 35
+‹with events› (rpSwitchB (col ‹eleven frozen›(>>> (old 10) (>>> (old 9) (>>> (old 8) (>>> (old 6) (>>> (old 2) (>>> (old 1) (old 1))))))){11*)}) ‹none kept› (arr x)) => too heavy
+‹with events› (rpSwitchB (col{64* (arr x)}) ‹none kept› (arr x)) => (Pair Int (Event Int)) -> (List Int) weight 65 height 2
 § Each fault at the root or one level deep.
 yampa 1 input Int (hold 0) => no event (at)
 ‹late truth› => types differ (at 1)
@@ -131,6 +138,44 @@ yampa 1 input Int (>>> (arr x) (kSwitch (arr x) (arr (none Unit)) (>>> (arr true
 yampa 1 input Int (>>> (arr x) (pSwitch x (col (arr (fst x)) (arr x)) time time)) => types differ (at 1 2)
 yampa 1 input Int (>>> (arr x) (pSwitch x (col (arr x)) (arr (none Unit)) (old 0))) => types differ (at 1 3)
 yampa 1 input Int (>>> (arr x) (pSwitch (fst x) (col time) (arr (none Unit)) (old 0))) => types differ (at 1 3)
+§ First outputs and first inputs.
+yampa 2 input Int (--> true time) => types differ (at)
+yampa 2 input Int (--> true (arr (p 0))) => no parameter (at 1 0)
+yampa 2 input Int (--> (p 0) (arr (p 0))) => no parameter (at 0)
+yampa 2 input Int (--> (add x 1) time) => mismatch (at 0)
+yampa 2 input Int (>-- true (arr (p 0))) => types differ (at)
+yampa 2 input Int (>-- (p 0) (arr (p 0))) => no parameter (at 0)
+yampa 2 input Int (>-- 1 (arr (p 0))) => no parameter (at 1 0)
+yampa 2 input Int (>>> (arr x) (--> true time)) => types differ (at 1)
+yampa 2 input Int (>>> (arr x) (>-- true time)) => types differ (at 1)
+§ Late restarts.
+yampa 2 input Int (drSwitch (arr (p 0)) time) => no pair (at)
+yampa 2 input (Pair Int Int) (drSwitch (arr (p 0)) time) => no event (at)
+‹with events› (drSwitch (arr (p 0)) (arr (p 1))) => no parameter (at 0 0)
+‹with events› (drSwitch (arr x) (arr (p 1))) => no parameter (at 1 0)
+‹with events› (drSwitch (arr x) (arr true)) => types differ (at 1)
+yampa 2 input Int (>>> (arr (pair x (event x))) (drSwitch time (arr true))) => types differ (at 1 1)
+§ Collections, in the order of the walk.
+yampa 2 input Int (rpSwitchB (col) (p 0) (old 0)) => members (at)
+yampa 2 input Int (rpSwitchB (col{65* (old 0)}) (p 0) (old 0)) => members (at)
+yampa 2 input Int (rpSwitchB (col (old 0)) (p 0) (old 0)) => no pair (at)
+yampa 2 input (Pair Int Int) (rpSwitchB (col (old 0)) (p 0) (old 0)) => no event (at)
+‹with events› (rpSwitchB (col time (arr true) (arr (p 0))) (p 0) (old 0)) => no parameter (at 2 0)
+‹with events› (rpSwitchB (col time (arr true)) (p 0) (old 0)) => types differ (at 1)
+‹with events› (rpSwitchB (col time) (p 0) (old 0)) => no parameter (at 1)
+‹with events› (rpSwitchB (col time) (pair (list Int) (list Bool (p 0))) (old 0)) => no parameter (at 1)
+‹with events› (rpSwitchB (col time time) x (old 0)) => types differ (at 2)
+‹with events› (rpSwitchB (col time) (pair (list Int) x) (old 0)) => types differ (at 1)
+‹with events› (rpSwitchB (col time) (pair x (list Int)) (old 0)) => types differ (at 1)
+‹with events› (rpSwitchB (col time) (pair (list Bool) (list Int)) (old 0)) => types differ (at 1)
+‹with events› (rpSwitchB (col time) ‹none kept› (old 0)) => no old (at 2)
+‹with events› (rpSwitchB (col time) ‹none kept› (arr (p 1))) => no parameter (at 2 0)
+‹with events› (rpSwitchB (col time) (pair (list Int) (list Bool)) (arr (p 0))) => types differ (at 2)
+‹with events› (rpSwitchB (col time) (pair (list Int) (list Bool)) (arr (if (p 0) x 0))) => (Pair Int (Event Int)) -> (List Int) weight 65 height 2
+‹with lists› (rpSwitchB (col time) (pair x (list Int (len x))) (arr (p 0))) => (Pair Int (Event (List Int))) -> (List Int) weight 65 height 2
+yampa 2 input Int (>>> (arr (pair x (event x))) (>>> (rpSwitchB (col time) ‹none kept› (arr true)) (arr x))) => types differ (at 1 0 2)
+yampa 2 input Int (switch (arr (pair (list Int) (event true))) (>>> (arr (pair x (event x))) (rpSwitchB (col time) (pair (list Int) (list Int (if (p 0) x 0))) (arr (p 1))))) => Int -> (List Int) weight 69 height 4
+yampa 2 input Int (switch (arr (pair (list Int) (event true))) (>>> (arr (pair x (event x))) (rpSwitchB (col time) (pair (list Int) (list Int (p 1))) (arr (p 1))))) => no parameter (at 1 1 1)
 § Frozen networks, of which there are none of the level, two levels deep.
 yampa 1 input Int (>>> (arr x) (kSwitch (arr x) (arr (none Unit)) (old 1))) => no old (at 1 2)
 yampa 1 input Int (>>> (arr x) (kSwitch (old 0) (arr (none Unit)) (arr x))) => no old (at 1 0)
@@ -170,6 +215,9 @@ yampa 1 input Int (>>> (arr (none {30*(Event }Int{30*)})) (pSwitch (p 0) (col ti
 yampa 1 input Int (>>> (arr (none {30*(Event }Int{30*)})) (pSwitch (p 0) (col) time time)) => members (at 1)
 yampa 1 input Int (>>> (arr x) (pSwitch x (col (arr (none {28*(Event }Int{28*)}))) (arr (p 0)) time)) => no parameter (at 1 2 0)
 yampa 1 input Int (>>> (arr x) (pSwitch x (col (arr (none {29*(Event }Int{29*)}))) (arr (p 0)) time)) => too deep
+‹with events› (rpSwitchB (col (arr (none {29*(Event }Int{29*)}))) ‹none kept› (arr (none {29*(Event }Int{29*)}))) => (Pair Int (Event Int)) -> (List {30*(Event }Int{30*)}) weight 65 height 2
+‹with events› (rpSwitchB (col (arr (none {30*(Event }Int{30*)}))) ‹none kept› (arr (none {30*(Event }Int{30*)}))) => too deep
+‹with events› (rpSwitchB (col (arr (none {30*(Event }Int{30*)}))) ‹none kept› (arr (p 1))) => no parameter (at 2 0)
 ";
 
 #[test]

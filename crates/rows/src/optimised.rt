@@ -139,7 +139,7 @@ static OPTIMISED: &str = "
 5 | yampa 1 input Int (>>> (arr {253*(neg }(fst (pair x 0)){253*)}) ‹negative›) => ‹numbers in›(arr (then {253*(neg }x{253*)} (neg x)))␤laws 1␤(step E7 forward (at 0 0{253* 0}))␤(step L4 forward (at))␤accepted 2: 5␤
 ";
 
-/// The same of each law that the rows above don't try.
+/// The same of each law that the rows above don't try, and of networks with forms of version 2.
 static OTHER_LAWS: &str = "
 § Each law by itself, or with what it leaves to do.
 5 | yampa 1 input Int (arr (then x (neg x))) => ‹numbers in›‹negative›␤laws 1␤(step E1 forward (at 0))␤accepted 1: -5␤
@@ -160,6 +160,12 @@ none␤+1 (event 4) | yampa 1 input (Event Int) (>>> ‹events negative› (accu
 5␤+4 6 | yampa 1 input Int (dSwitch (>>> time (arr (pair x (none Int)))) (arr (p 0))) => ‹numbers in›time␤laws 1␤(step L32 forward (at))␤accepted 1: 0␤4␤
 5␤+1 6 | yampa 1 input Int (>>> (arr (pair (neg x) (none Int))) (rSwitch (iPre 0) (arr (p 0)))) => ‹numbers in›(>>> ‹negative› (iPre 0))␤laws 1␤(step L35 forward (at))␤accepted 1: 0␤-5␤
 5␤+1 6 | yampa 1 input Int (>>> (parB time (iPre 0)) (arr (nth x 1 9))) => ‹numbers in›(iPre 0)␤laws 1␤(step L40 forward (at))␤accepted 1: 0␤5␤
+§ Forms of version 2, into which the walk goes; laws of version 2 aren't tried.
+0␤+2 0␤+3 0 | yampa 2 input Int (--> 7 (>>> (arr x) time)) => yampa 2␤input Int␤(--> 7 time)␤laws 1␤(step L1 forward (at 1))␤accepted 1: 7␤2␤5␤
+0␤+2 0 | yampa 2 input Int (--> 1 (--> 2 time)) => yampa 2␤input Int␤(--> 1 (--> 2 time))␤laws 1␤accepted 0: 1␤2␤
+5␤+1 6 | yampa 2 input Int (>-- (fst (pair 3 x)) ‹negative›) => yampa 2␤input Int␤(>-- 3 ‹negative›)␤laws 1␤(step E7 forward (at 0))␤accepted 1: -3␤-6␤
+‹two events› | ‹with events› (>>> (drSwitch (>>> (arr x) (iPre 0)) (>>> (iPre (p 0)) (arr x))) ‹negative›) => yampa 2␤input (Pair Int (Event Int))␤(>>> ‹late restart› ‹negative›)␤laws 1␤(step L1 forward (at 0 0))␤(step L2 forward (at 0 1))␤accepted 2: 0␤-5␤-6␤-7␤
+(pair 2 none)␤+3 (pair 4 (event 9))␤+1 (pair 5 none) | ‹with events› (rpSwitchB (col (>>> (arr x) integral)) (pair (list Int 0 0 5) (list Int (fst (pair x 1)))) (>>> (iPre (p 0)) (arr x))) => yampa 2␤input (Pair Int (Event Int))␤‹collection›␤laws 1␤(step L1 forward (at 0))␤(step E7 forward (at 1 1 0))␤(step L2 forward (at 2))␤accepted 3: (list 0)␤(list 6 6 9)␤(list 10 10 4)␤
 ";
 
 /// The same of networks on which a thousand steps are possible, and one more, and of what is made of

@@ -56,7 +56,7 @@ fn net_told(alloc: Global, given: &str, trial: Trial, out: &mut String) {
 fn step_told(alloc: Global, net: &TypedNet, given: &str, trial: Trial, out: &mut String) {
     let (letter, behind) = given.split_once(' ').unwrap_or((given, ""));
     let mut text = String::new(alloc);
-    drop(write!(text, "laws 1 (step {letter}1 forward {behind})"));
+    drop(write!(text, "laws 2 (step {letter}1 forward {behind})"));
     match steps_in(alloc, text.as_str()) {
         Ok(steps) => {
             if let Some(step) = steps.first() {
@@ -196,6 +196,26 @@ yampa 1 input Int ‹routed› | E (at 0) => (fst x) params 0 olds 0: Int
 yampa 1 input Int ‹routed› | E (at 2) => integral params 0 olds 0: Int
 yampa 1 input Int ‹routed› | E (at 4) => (parB (old 1) (old 0)) params 1 olds 2: (List Int)
 yampa 1 input Int ‹routed› | E (at 5) => nothing: no type
+§ Forms of version 2, and what they bind.
+yampa 2 input Bool (--> 7 (arr (if x 1 2))) | E (at) => (--> 7 (arr (if x 1 2))) params 0 olds 0: Int
+yampa 2 input Bool (--> 7 (arr (if x 1 2))) | E (at 0) => 7 params 0 olds 0: Int
+yampa 2 input Bool (--> 7 (arr (if x 1 2))) | E (at 1 0 0) => x params 0 olds 0: Bool
+yampa 2 input Bool (--> 7 (arr (if x 1 2))) | E (at 2) => nothing: no type
+yampa 2 input Bool (>-- true (arr (if x 1 2))) | E (at) => (>-- true (arr (if x 1 2))) params 0 olds 0: Int
+yampa 2 input Bool (>-- true (arr (if x 1 2))) | E (at 0) => true params 0 olds 0: Bool
+yampa 2 input Bool (>-- true (arr (if x 1 2))) | E (at 1 0) => (if x 1 2) params 0 olds 0: Int
+yampa 2 input (Pair Int (Event Bool)) (drSwitch (iPre 0) (arr (if (p 0) x 0))) | E (at) => (drSwitch (iPre 0) (arr (if (p 0) x 0))) params 0 olds 0: Int
+yampa 2 input (Pair Int (Event Bool)) (drSwitch (iPre 0) (arr (if (p 0) x 0))) | E (at 0) => (iPre 0) params 0 olds 0: Int
+yampa 2 input (Pair Int (Event Bool)) (drSwitch (iPre 0) (arr (if (p 0) x 0))) | E (at 1 0 0) => (p 0) params 1 olds 0: Bool
+yampa 2 input (Pair Int (Event Bool)) (drSwitch (iPre 0) (arr (if (p 0) x 0))) | E (at 1 0 1) => x params 1 olds 0: Int
+yampa 2 input (Pair Int (Event Bool)) (drSwitch (iPre 0) (arr (if (p 0) x 0))) | E (at 2) => nothing: no type
+‹with events› (rpSwitchB (col integral time) (pair (list Int) (list Bool (less x 5))) (arr (if (p 0) x 0))) | E (at) => (rpSwitchB (col integral time) (pair (list Int) (list Bool (less x 5))) (arr (if (p 0) x 0))) params 0 olds 0: (List Int)
+‹with events› (rpSwitchB (col integral time) (pair (list Int) (list Bool (less x 5))) (arr (if (p 0) x 0))) | E (at 1) => time params 0 olds 0: Int
+‹with events› (rpSwitchB (col integral time) (pair (list Int) (list Bool (less x 5))) (arr (if (p 0) x 0))) | E (at 2) => (pair (list Int) (list Bool (less x 5))) params 0 olds 0: (Pair (List Int) (List Bool))
+‹with events› (rpSwitchB (col integral time) (pair (list Int) (list Bool (less x 5))) (arr (if (p 0) x 0))) | E (at 2 1 0 0) => x params 0 olds 0: Int
+‹with events› (rpSwitchB (col integral time) (pair (list Int) (list Bool (less x 5))) (arr (if (p 0) x 0))) | E (at 3) => (arr (if (p 0) x 0)) params 1 olds 0: Int
+‹with events› (rpSwitchB (col integral time) (pair (list Int) (list Bool (less x 5))) (arr (if (p 0) x 0))) | E (at 3 0 0) => (p 0) params 1 olds 0: Bool
+‹with events› (rpSwitchB (col integral time) (pair (list Int) (list Bool (less x 5))) (arr (if (p 0) x 0))) | E (at 4) => nothing: no type
 ";
 
 /// Networks, positions and trees, and the networks with the trees there, whatever their types.
@@ -213,7 +233,24 @@ yampa 1 input Int (kSwitch time (arr (event 1)) (old 0)) | L (at 2) integral => 
 yampa 1 input Int (pSwitch x (col time time) (arr (event 1)) (parB time)) | L (at 2) integral => (pSwitch x (col time integral) (arr (event 1)) (parB time))
 yampa 1 input Int (pSwitch x (col time time) (arr (event 1)) (parB time)) | L (at 3) integral => (pSwitch x (col time time) integral (parB time))
 yampa 1 input Int (pSwitch x (col time time) (arr (event 1)) (parB time)) | E (at 0) 5 => (pSwitch 5 (col time time) (arr (event 1)) (parB time))
+yampa 2 input Int (--> 7 time) | E (at 0) true => (--> true time)
+yampa 2 input Int (--> 7 time) | L (at 1) (--> 7 time) => (--> 7 (--> 7 time))
+yampa 2 input Int (>-- 7 time) | E (at 0) 8 => (>-- 8 time)
+yampa 2 input Int (>-- 7 time) | L (at 1) integral => (>-- 7 integral)
+‹with events› ‹late restart› | L (at 0) time => (drSwitch time (iPre (p 0)))
+‹with events› ‹late restart› | L (at 1) time => (drSwitch (iPre 0) time)
+‹with events› (rpSwitchB (col time time) ‹none kept› time) | L (at 0) integral => (rpSwitchB (col integral time) ‹none kept› time)
+‹with events› (rpSwitchB (col time time) ‹none kept› time) | L (at 1) integral => (rpSwitchB (col time integral) ‹none kept› time)
+‹with events› (rpSwitchB (col time time) ‹none kept› time) | E (at 2) x => (rpSwitchB (col time time) x time)
+‹with events› (rpSwitchB (col time time) ‹none kept› time) | E (at 2 0) x => (rpSwitchB (col time time) (pair x (list Int)) time)
+‹with events› (rpSwitchB (col time time) ‹none kept› time) | L (at 3) integral => (rpSwitchB (col time time) ‹none kept› integral)
 § Where nothing stands, or a tree of the other kind.
+yampa 2 input Int (--> 7 time) | L (at 0) time => nothing
+yampa 2 input Int (--> 7 time) | E (at 1) 7 => nothing
+‹with events› (rpSwitchB (col time time) ‹none kept› time) | E (at 1) x => nothing
+‹with events› (rpSwitchB (col time time) ‹none kept› time) | L (at 2) time => nothing
+‹with events› (rpSwitchB (col time time) ‹none kept› time) | E (at 3) x => nothing
+‹with events› (rpSwitchB (col time time) ‹none kept› time) | L (at 4) time => nothing
 ‹increment› | L (at 2) time => nothing
 ‹increment› | L (at 0 0) time => nothing
 ‹increment› | E (at 0) x => nothing
@@ -226,11 +263,26 @@ static REWRITINGS: &str = "
 ‹sum doubled› | E (at 0 0) (add x 1) => (>>> (arr (add x 1)) (arr (mul x 2))): Int -> Int weight 3 height 2, as before
 yampa 1 input Int ‹resumed› | L (at 0) (>>> (arr x) time) => (kSwitch (>>> (arr x) time) ‹event at one› ‹old at two›): Int -> Int weight 11 height 5
 ‹tallest› | L (at 0) (>>> (arr x) (arr x)) => (>>> (>>> (arr x) (arr x)) {254*(>>> (arr x) }(arr x){254*)}): Int -> Int weight 513 height 256
+yampa 2 input Int (--> 7 time) | L (at 1) (>-- 1 integral) => (--> 7 (>-- 1 integral)): Int -> Int weight 3 height 3
+yampa 2 input Int (>-- 7 time) | E (at 0) (add 1 2) => (>-- (add 1 2) time): Int -> Int weight 2 height 2
+‹with events› ‹late restart› | L (at 1) (>>> (arr x) (iPre (p 0))) => ‹late stages›: (Pair Int (Event Int)) -> Int weight 8 height 3
+‹with events› ‹collection› | L (at 0) (>>> time time) => (rpSwitchB (col (>>> time time)) (pair (list Int 0 0 5) (list Int x)) (iPre (p 0))): (Pair Int (Event Int)) -> (List Int) weight 193 height 3
+‹with events› ‹collection› | E (at 1) ‹none kept› => (rpSwitchB (col integral) ‹none kept› (iPre (p 0))): (Pair Int (Event Int)) -> (List Int) weight 65 height 2
+‹with events› ‹collection› | L (at 2) (arr (p 0)) => (rpSwitchB (col integral) (pair (list Int 0 0 5) (list Int x)) (arr (p 0))): (Pair Int (Event Int)) -> (List Int) weight 65 height 2
 § Positions that aren't there, and trees of the other kind.
 ‹sum doubled› | L (at 5) time => no position, as before
 ‹sum doubled› | L (at 0 0) time => no position, as before
 ‹sum doubled› | E (at 0) x => no position, as before
+‹with events› ‹collection› | L (at 1) time => no position, as before
+‹with events› ‹collection› | E (at 2) x => no position, as before
+‹with events› ‹collection› | L (at 3) time => no position, as before
 § Trees of another type, and networks past the limits.
+yampa 2 input Int (--> 7 time) | E (at 0) true => ill typed, as before
+yampa 2 input Int (--> 7 time) | L (at 1) (arr (p 0)) => ill typed, as before
+‹with events› ‹late restart› | L (at 0) (arr (p 0)) => ill typed, as before
+‹with events› ‹collection› | E (at 1) (pair (list Int) (list Bool)) => ill typed, as before
+‹with events› ‹collection› | E (at 1 0) (list Int (p 0)) => ill typed, as before
+‹with events› ‹collection› | L (at 2) (arr (p 1)) => ill typed, as before
 ‹sum doubled› | L (at) (arr (less x 1)) => ill typed, as before
 ‹sum doubled› | E (at 0 0 1) true => ill typed, as before
 ‹sum doubled› | E (at 0 0) (p 0) => ill typed, as before

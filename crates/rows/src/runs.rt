@@ -297,6 +297,35 @@ yampa 1 input Int (kSwitch time ‹event at one› (old 0)) | 0␤+4 0␤+5 1␤
 yampa 1 input Int time | 0␤+4 0␤+5 1␤+6 0␤+7 2␤+1 0 => 0␤4␤9␤15␤22␤23␤
 yampa 1 input Int (kSwitch (iPre 0) ‹event at one› (>>> (parB (old 0) (>>> (arr (neg x)) (old 0))) ‹hundreds›)) | 5␤+1 1␤+1 7␤+1 8 => 0␤495␤101␤707␤
 yampa 1 input Int (kSwitch time ‹event at one› (>>> (parB (old 0) ‹old at two›) ‹hundreds›)) | 0␤+4 0␤+5 1␤+6 0␤+7 2␤+1 0 => 0␤4␤901␤1501␤2191␤2290␤
+§ First outputs and first inputs.
+yampa 2 input Int (--> 7 time) | 0␤+2 0␤+3 0 => 7␤2␤5␤
+yampa 2 input Int (>-- 9 (iPre 0)) | 1␤+1 2␤+1 3 => 0␤9␤2␤
+yampa 2 input Int (--> 7 (>-- 9 (arr (neg x)))) | 1␤+1 2 => 7␤-2␤
+yampa 2 input Int (>-- 9 (--> 7 (>-- 8 integral))) | 1␤+2 2␤+3 3 => 7␤16␤22␤
+yampa 2 input Int (switch (arr (pair x (event x))) (--> (p 0) (>-- (p 0) (iPre 6)))) | 5␤+1 7␤+1 8 => 5␤5␤7␤
+yampa 2 input Int (switch ‹event above nine› (--> (p 0) (>-- 3 integral))) | 1␤+2 10␤+3 5␤+4 6 => 1␤10␤9␤29␤
+§ Late restarts: what ran before is heard at the event's sample.
+‹with events› ‹late restart› | ‹two events› => 0␤5␤6␤7␤
+‹with events› ‹late restart› | (pair 5 (event 3))␤+1 (pair 6 none) => 0␤5␤
+‹with events› ‹late stages› | ‹two events› => 0␤5␤6␤7␤
+‹with events› ‹late stages› | (pair 5 (event 3))␤+1 (pair 6 none) => 0␤5␤
+‹with events› ‹adjacent› | (pair 1 (event 100))␤+1 (pair 2 (event 200))␤+1 (pair 3 (event 300))␤+1 (pair 4 none) => 10␤101␤202␤303␤
+‹with events› (switch (arr (pair (fst x) (event 4))) (drSwitch (arr (add x (p 0))) (arr (add (mul 100 (p 1)) (add x (p 0)))))) | (pair 1 (event 3))␤+1 (pair 2 none)␤+1 (pair 3 (event 5))␤+1 (pair 4 none) => 5␤306␤307␤508␤
+§ Collections: members that are kept go on, others start.
+‹with events› ‹collection› | (pair 2 none)␤+3 (pair 4 (event 9))␤+1 (pair 5 none) => (list 0)␤(list 6 6 9)␤(list 10 10 4)␤
+‹with events› (rpSwitchB (col time) ‹none kept› time) | (pair 2 none)␤+1 (pair 2 (event 0))␤+1 (pair 2 none) => (list 0)␤(list)␤(list)␤
+‹with lists› (rpSwitchB (col (arr x)) (pair x (list Int)) (arr x)) | (pair 7 (event (list{65* 0}))) => (list{64* 7})␤
+‹with lists› (rpSwitchB (col (arr x)) (pair (list Int 0) x) (arr (p 0))) | (pair 7 (event (list{65* #})))␤+1 (pair 8 none) => (list 7{63* #})␤(list 8{63* #})␤
+‹with lists› ‹chosen› | (pair 2 (event (list 1 1 0 2 -1 4294967296)))␤+3 (pair 4 none)␤+5 (pair 6 (event (list 3 0 3)))␤+7 (pair 8 (event (list 9223372036854775807 4)))␤+1 (pair 1 (event (list)))␤+2 (pair 3 none) => (list 7 7 0 5)␤(list 2 2 6 6)␤(list 26 4 26 5)␤(list 5)␤(list 5)␤(list 2)␤
+yampa 2 input (Pair (Pair Int (Event Int)) (Event (List Int))) (rpSwitchB (col ‹late restart›) (pair x (list Int)) (arr (p 0))) | (pair (pair 1 (event 10)) none)␤+1 (pair (pair 2 none) (event (list 0 0)))␤+1 (pair (pair 3 (event 11)) (event (list 1)))␤+1 (pair (pair 4 none) none) => (list 0)␤(list 1 1)␤(list 2)␤(list 3)␤
+‹with events› (rSwitch (arr x) (>>> (arr (pair (add x (p 0)) (if (less x 5) (event x) (none Int)))) (>>> (rpSwitchB (col (arr (add x (p 0)))) (pair (list Int 0) (list Int (mul x (p 0)))) (arr (add (p 0) (mul 1000 (p 1))))) (arr (nth x 1 -1))))) | (pair 9 none)␤+1 (pair 3 (event 2))␤+1 (pair 7 none)␤+1 (pair 4 none)␤+1 (pair 4 (event 5))␤+1 (pair 6 none) => 9␤6002␤6002␤8002␤20005␤20005␤
+§ Forms of version 2 that are frozen and resumed.
+yampa 2 input Int ‹opened› | 1␤+2 2␤+3 9␤+4 5 => 7␤200␤9␤242␤
+yampa 2 input Int ‹opened› | 9␤+3 3␤+4 5 => 9␤300␤312␤
+‹with events› ‹collection at seven› | (pair 1 none)␤+2 (pair 2 (event 50))␤+3 (pair 7 (event 60))␤+4 (pair 9 none) => (list 0)␤(list 2 50)␤(list 8 60)␤(list 36 7)␤
+‹with events› ‹restarted twice› | (pair 1 none)␤+2 (pair 2 (event 5))␤+3 (pair 7 (event 6))␤+4 (pair 9 (event 8))␤+5 (pair 1 none) => 0␤2␤5006005006␤6028006028␤8045008045␤
+§ The forms of version 2 in one network.
+yampa 2 input Int ‹new forms› | 5␤+2 6␤+3 10␤+1 7 => (list 7 0 0 -5)␤(list 2 9 5 -6)␤(list 5 6 6 28)␤(list 6 10 10 38)␤
 § All forms at once, and switches in the parts of switches.
 yampa 1 input Int ‹forms› | 5␤+1 6␤+5 7 => (list 6 0 0 0 0 5 5 1 1 -5 5 10 5 5 20 5)␤(list 7 5 0 1 5 6 11 1 1 -6 11 11 1 6 22 6)␤(list 8 6 6 6 35 7 18 1 1 -7 13 12 2 7 24 7)␤
 yampa 1 input Int {250*(switch (arr (pair x (event x))) }(arr x){250*)} | 5␤+1 6 => 5␤6␤

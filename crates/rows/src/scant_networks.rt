@@ -6,7 +6,7 @@ use crate::needs::needs_told;
 use crate::network_types::checked_told;
 use crate::networks::{printed_told, reading_told};
 use crate::runs::network;
-use crate::texts::{say, written};
+use crate::texts::{parted, say};
 use leaf_expr::Expr;
 use net_syntax::{Net, TypedNet, leaves};
 use net_text::{print_net, read_net};
@@ -95,34 +95,32 @@ fn tally_told(alloc: Global, name: &str, given: Given<'_>, out: &mut String) {
     tally.tell(out);
 }
 
-/// Tells whether the call of that name is refused memory at first, and answers in the end: on a
-/// network with every form.
-pub fn scant_network_told(alloc: Global, name: &str, out: &mut String) {
-    let text = written(alloc, "yampa 1 input Int ‹forms›");
-    match network(alloc, text.as_str()) {
-        Some(net) => {
-            let given = Given {
-                net: &net,
-                text: text.as_str(),
-            };
-            tally_told(alloc, name, given, out)
-        }
+/// Tells whether the call of that name on a file's network is refused memory at first, and answers
+/// in the end: `CALL | FILE`.
+pub fn scant_network_told(alloc: Global, given: &str, out: &mut String) {
+    let (name, text) = parted(given);
+    match network(alloc, text) {
+        Some(net) => tally_told(alloc, name, Given { net: &net, text }, out),
         None => say(out, "no network"),
     }
 }
 
-/// Calls by their names.
+/// Calls by their names, and files.
 static CALLS: &str = "
 § Calls on networks with little memory.
-reading a network => refused at first
-printing a network => refused at first
+reading a network | yampa 1 input Int ‹forms› => refused at first
+printing a network | yampa 1 input Int ‹forms› => refused at first
+reading a network | yampa 2 input Int ‹new forms› => refused at first
+printing a network | yampa 2 input Int ‹new forms› => refused at first
 ";
 
-/// Checks by their names.
+/// Checks by their names, and files.
 static CHECKS: &str = "
 § Checks of networks with little memory.
-checking a network => refused at first
-finding the needs => refused at first
+checking a network | yampa 1 input Int ‹forms› => refused at first
+finding the needs | yampa 1 input Int ‹forms› => refused at first
+checking a network | yampa 2 input Int ‹new forms› => refused at first
+finding the needs | yampa 2 input Int ‹new forms› => refused at first
 ";
 
 #[test]

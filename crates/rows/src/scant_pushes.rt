@@ -87,6 +87,14 @@ yampa 1 input (Pair Int (Event Int)) (rSwitch (iPre 0) (iPre (p 0))) | (pair 5 n
 yampa 1 input (Pair Int (Event Int)) (rSwitch (iPre 0) (iPre (p 0))) | (pair 5 (event 3))␤+1 (pair 6 none) => 3 visits 2; 5 visits 2; refused at first
 yampa 1 input Int ‹resumed› | 0␤+4 0␤+5 1␤+6 0␤+7 2␤+1 0 => 0 visits 3; 4 visits 3; -1 visits 5; -1 visits 2; 9 visits 4; 10 visits 1; refused at first
 yampa 1 input Int ‹routed› | 2␤+3 2␤+4 7␤+1 0 => (list 0 0) visits 4; (list 3 6) visits 4; (list 14 7) visits 9; (list 21 8) visits 3; refused at first
+§ The forms of version 2.
+yampa 2 input Int (switch ‹event above nine› (--> (p 0) (>-- 3 integral))) | 1␤+2 10␤+3 5␤+4 6 => 1 visits 2; 10 visits 5; 9 visits 1; 29 visits 1; refused at first
+‹with events› ‹late stages› | ‹two events› => 0 visits 2; 5 visits 5; 6 visits 7; 7 visits 4; refused at first
+‹with events› ‹late stages› | (pair 5 (event 3))␤+1 (pair 6 none) => 0 visits 5; 5 visits 4; refused at first
+‹with events› ‹collection› | (pair 2 none)␤+3 (pair 4 (event 9))␤+1 (pair 5 none) => (list 0) visits 2; (list 6 6 9) visits 4; (list 10 10 4) visits 4; refused at first
+‹with lists› ‹chosen› | (pair 2 (event (list 1 1 0 2 -1 4294967296)))␤+3 (pair 4 none)␤+5 (pair 6 (event (list 3 0 3)))␤+7 (pair 8 (event (list 9223372036854775807 4)))␤+1 (pair 1 (event (list)))␤+2 (pair 3 none) => (list 7 7 0 5) visits 6; (list 2 2 6 6) visits 5; (list 26 4 26 5) visits 6; (list 5) visits 3; (list 5) visits 3; (list 2) visits 2; refused at first
+‹with events› ‹collection at seven› | (pair 1 none)␤+2 (pair 2 (event 50))␤+3 (pair 7 (event 60))␤+4 (pair 9 none) => (list 0) visits 4; (list 2 50) visits 5; (list 8 60) visits 9; (list 36 7) visits 3; refused at first
+‹with events› ‹restarted twice› | (pair 1 none)␤+2 (pair 2 (event 5))␤+3 (pair 7 (event 6))␤+4 (pair 9 (event 8))␤+5 (pair 1 none) => 0 visits 4; 2 visits 7; 5006005006 visits 28; 6028006028 visits 17; 8045008045 visits 11; refused at first
 ";
 
 #[test]

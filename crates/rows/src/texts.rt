@@ -149,7 +149,7 @@ pub fn expr_in(alloc: Global, text: &str) -> Option<Box<Expr>> {
 /// The network that the text spells, whatever its types.
 pub fn net_in(alloc: Global, text: &str) -> Option<Box<Net<Expr>>> {
     let mut file = String::new(alloc);
-    say(&mut file, "yampa 1 input Int ");
+    say(&mut file, "yampa 2 input Int ");
     say(&mut file, text);
     match read_net(alloc, file.as_bytes()) {
         Ok((input, net)) => {
