@@ -10,7 +10,7 @@ use Rattle.net_syntax.proofs.Events.{IsFirst, Outlook, never, once, outlook}
 use Rattle.net_syntax.proofs.Switched.{take_into, take_into_at}
 use Rattle.net_syntax.proofs.Restarting.{IsUncut, uncut_or_cut}
 use Rattle.net_syntax.proofs.LateRestarts.{KeepsPace, late_keeps}
-use Rattle.step_core.proofs.VisitSums.{length-taken_over}
+use Rattle.step_core.proofs.VisitSums.{length-taken_over, length-at_first}
 
 -- as many counts as samples, and no look ahead
 pub record IsCausal (v : VisitCounts) : Type 0 where
@@ -220,20 +220,14 @@ module _ (t : Datum → VisitCounts) (ct : (c : Datum) → IsCausal (t c)) where
   }
 
 -- `drSwitch`
-length-at_first : (v : VisitCounts) → IsCausal v → (xs : TimedList) → length (at_first v xs) ≡ length xs
-length-at_first v c xs =
-    let l : length (v xs) ≡ length xs = c.counted xs in
-    let z : length (zeros (drop 1 xs)) ≡ length (drop 1 xs) = length-map (drop 1 xs) (λ x. 0) in
-    omega (arith, length-append (take 1 (v xs)) (zeros (drop 1 xs)), length-take 1 (v xs), length-drop 1 xs)
-
 take-at_first : (v : VisitCounts) → IsCausal v → (n : ℕ) (xs : TimedList) → at_first v (take n xs) ≡ take n (at_first v xs)
-take-at_first v c zero xs = nothing (at_first v []) (length-at_first v c [])
+take-at_first v c zero xs = nothing (at_first v []) (length-at_first v c.counted [])
   where
     nothing : (ns : List ℕ) → length ns ≡ 0 → ns ≡ []
     nothing [] e = refl
     nothing (m ∷ ns) e = absurd (omega arith)
 take-at_first v c (suc n) [] =
-    let l : length (at_first v []) ≡ 0 = length-at_first v c [] in
+    let l : length (at_first v []) ≡ 0 = length-at_first v c.counted [] in
     sym (take_all (suc n) (at_first v []) (omega arith))
 take-at_first v c (suc n) (x ∷ xs) =
     let ns : List ℕ = v (x ∷ xs) in
@@ -252,7 +246,7 @@ pub IsCausal-late : (f : VisitCounts) (t : Datum → VisitCounts) → IsCausal f
 IsCausal-late f t cf ct =
     let k = late_keeps t (λ c. causal_keeps (t c) (ct c)) f (causal_keeps f cf) in
     IsCausal-added _ _ (record { counted = k.sized; causal = k.causal })
-    (IsCausal-pieces (λ c. at_first (t c)) (λ c. record { counted = length-at_first (t c) (ct c); causal = take-at_first (t c) (ct c) }) zeros (IsCausal-constant 0))
+    (IsCausal-pieces (λ c. at_first (t c)) (λ c. record { counted = length-at_first (t c) (ct c).counted; causal = take-at_first (t c) (ct c) }) zeros (IsCausal-constant 0))
 
 length-resumed : (v : VisitCounts) → IsCausal v → (p : TimedList) (d : ℕ) (xs : TimedList) → length (resume_counts v p d xs) ≡ length xs
 length-resumed v c p d [] = refl

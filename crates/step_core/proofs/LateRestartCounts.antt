@@ -3,13 +3,14 @@ use Rattle.std.proofs.Common.{◌≡◌, ℕ, suc, ◌+◌, ◌<◌, List, [], �
 use Rattle.std.proofs.lemmas.List.{map_push, length-map, length-take}
 use Rattle.sample_core.specs.Datum.{Datum, unit, event, no_event, left, pair}
 use Rattle.net_syntax.specs.SignalFunction.{TimedList, Pieces, last_or, each_value, pieces, put_sample, next_sample, each_late}
-use Rattle.state_core.specs.Visits.{VisitCounts, zeros, add_counts, and_one, at_first, late_counts}
+use Rattle.state_core.specs.Visits.{VisitCounts, zeros, add_counts, and_one, at_first}
 use Rattle.state_core.specs.CountedFunction.{CountedFunction, IsCountedFunction, Continues, StandsVia, TakesSample}
 use Rattle.state_core.specs.CountedForms.{counted_dr_switch}
 use Rattle.state_core.specs.StandsByForm.{Uncut, DrSwitchStands}
 use Rattle.step_core.specs.Stepping.{restart_in}
 use Rattle.net_syntax.proofs.Zips.{length-zip_with}
 use Rattle.net_syntax.proofs.Restarting.{uncut_or_cut}
+use Rattle.step_core.proofs.VisitSums.{length-at_first}
 use Rattle.step_core.proofs.VisitSteps.{last-added, last-and_one}
 use Rattle.step_core.proofs.CountedFunctions.{Via-here, Via-continues, counts-some}
 use Rattle.step_core.proofs.RestartCounts.{last-behind, Uncut-nil, Uncut-push}
@@ -66,11 +67,6 @@ abbrev starts_on : (Datum → VisitCounts) → List (Datum × TimedList) → Lis
 starts_on t qs = flat_map (λ piece. at_first (t piece.0) piece.1) qs
 
 module _ (t : Datum → CountedFunction) (ct : (c : Datum) → IsCountedFunction (t c)) where
-  length-at_first : (c : Datum) (xs : TimedList) → length (at_first (t c).visits xs) ≡ length xs
-  length-at_first c xs =
-      let l : length ((t c).visits xs) ≡ length xs = (ct c).is_count.counted xs in
-      omega (arith, length-append (take 1 ((t c).visits xs)) (zeros (drop 1 xs)), length-take 1 ((t c).visits xs), length-zeros (drop 1 xs), length-drop 1 xs)
-
   -- as much is heard as starts
   heard-started : (qs : List (Datum × TimedList)) → Begun qs
       → length (next_sample qs) + length (each_late (λ c. (t c).visits) qs) ≡ length (starts_on (λ c. (t c).visits) qs)
@@ -86,7 +82,7 @@ module _ (t : Datum → CountedFunction) (ct : (c : Datum) → IsCountedFunction
         length-append q.1 (next_sample qs'),
         length-drop 1 ((t q.0).visits r),
         length-append heard (each_late (λ c. (t c).visits) qs'),
-        length-at_first q.0 q.1,
+        length-at_first (t q.0).visits (ct q.0).is_count.counted q.1,
         length-append (at_first (t q.0).visits q.1) (starts_on (λ c. (t c).visits) qs'),
       )
 

@@ -150,12 +150,15 @@ module _ (f : VisitCounts) (t : Datum → VisitCounts) (v w : ℕ) (cf : IsCount
   }
 
 -- `drSwitch`
+pub length-at_first : (v : VisitCounts) → ((xs : TimedList) → length (v xs) ≡ length xs) → (xs : TimedList) → length (at_first v xs) ≡ length xs
+length-at_first v lv xs =
+    let l : length (v xs) ≡ length xs = lv xs in
+    let z : length (zeros (drop 1 xs)) ≡ length (drop 1 xs) = length-map (drop 1 xs) (λ x. 0) in
+    omega (arith, length-append (take 1 (v xs)) (zeros (drop 1 xs)), length-take 1 (v xs), length-drop 1 xs)
+
 IsCount-at_first : (w : ℕ) (v : VisitCounts) → IsCount w v → IsCount w (at_first v)
 IsCount-at_first w v c = record {
-  counted = λ xs.
-      let l : length (v xs) ≡ length xs = c.counted xs in
-      let z : length (zeros (drop 1 xs)) ≡ length (drop 1 xs) = length-map (drop 1 xs) (λ x. 0) in
-      omega (arith, length-append (take 1 (v xs)) (zeros (drop 1 xs)), length-take 1 (v xs), length-drop 1 xs);
+  counted = length-at_first v c.counted;
   bounded = λ xs. AtMost-append w (take 1 (v xs)) (zeros (drop 1 xs)) (AtMost-take w 1 (v xs) (c.bounded xs)) (AtMost-map 0 w (drop 1 xs) (omega arith));
 }
 
