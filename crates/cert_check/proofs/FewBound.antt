@@ -127,5 +127,5 @@ few (k ∷ p) m n (a_network f) hm hn = (omega arith, omega arith, few_behind f 
 -- a network within the limits
 pub few_bound : (t : TypedNetwork) (p : List ℕ) → WithinLimits t → FewBound 0 0 (a_network t.net) p
 few_bound t p h =
-    let l : network_size t.net ≤ 2 * 1000000 = few_inside t.net 1000000 h.fits.light in
+    let l : network_size t.net ≤ 5000000 = few_inside h.fits.typed h.fits.light in
     few p 0 0 (a_network t.net) (omega arith) (omega arith)

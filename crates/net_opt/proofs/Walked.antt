@@ -171,7 +171,7 @@ pub reached_root : (t : TypedNetwork) → WithinLimits t → Reached t [] (place
 reached_root t h = record {
   within = h;
   stands = refl;
-  limited = (few_inside t.net 1000000 h.fits.light, record { params = []; olds = []; input = t.input; output = t.output; typed = h.fits.typed });
+  limited = (few_inside h.fits.typed h.fits.light, record { params = []; olds = []; input = t.input; output = t.output; typed = h.fits.typed });
 }
 
 -- behind the last that is inside there is nothing
