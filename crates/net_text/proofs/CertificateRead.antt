@@ -11,14 +11,15 @@ use Rattle.leaf_core.specs.Expression.{Expression}
 use Rattle.net_syntax.specs.Place.{Tree}
 use Rattle.net_syntax.specs.LawStep.{Step}
 use Rattle.net_syntax.specs.declared.law_step.Law.{Law}
-use Rattle.net_text.specs.Grammar.{networks}
+use Rattle.net_text.specs.Grammar.{Version, version_1, version_2, networks}
 use Rattle.net_text.specs.StepGrammar.{step_parts, law_sort, direction_sort, position_sort}
-use Rattle.net_text.specs.File.{behind_word}
+use Rattle.net_text.specs.File.{behind_word, behind_version}
+use Rattle.net_text.specs.Printing.{version_word}
 use Rattle.net_text.specs.Certificate.{given_sort, behind_laws, read_step, read_steps, read_all_steps, read_certificate}
 use Rattle.net_text.specs.CertificateLaws.{laws_tokens, step_tokens, HasLaws, IsGiven, no_tree, one_tree, IsStep, AreSteps, no_step, a_step, IsCertificate, missing, other, NoStep, unopened, unnamed, no_law, no_direction, no_position, no_end, unclosed, NoSteps, NoCertificate, IsCertificateFault, ReadCertificateLaw, OneCertificateLaw, CertificateFaultLaw}
 use Rattle.net_text.specs.declared.fault.NetTextFault.{NetTextFault}
 use Rattle.net_text.specs.declared.fault.NetTextFault.TheVariants as V
-use Rattle.net_text.proofs.FileRead.{word_found}
+use Rattle.net_text.proofs.FileRead.{word_found, version_found}
 use Rattle.net_text.proofs.HeadedText.{Behind, headed_found, headed_read, headed_fault, headed_refuses, headed_told, one_reading}
 use Rattle.net_text.proofs.StepRead.{bind_on, bind_gone, bind_err, step_read, step_found, step_refused, refuses_step}
 use Rattle.net_text.specs.ReadCertificate.{GivesSteps}
@@ -27,19 +28,19 @@ use Rattle.leaf_expr.specs.declared.text_fault.ExprTextFault.{ExprTextFault}
 use Rattle.leaf_expr.specs.declared.text_fault.ExprTextFault.TheVariants as E
 
 -- a step takes some tokens
-given_shortens : (law : Law) (o : Option (Tree Expression)) (ts rest : List PlacedToken) → IsGiven law o ts rest → length rest < length ts
-given_shortens law o ts rest (no_tree n us) = omega arith
-given_shortens law o ts rest (one_tree t n m us vs b) =
+given_shortens : (v : Version) (law : Law) (o : Option (Tree Expression)) (ts rest : List PlacedToken) → IsGiven v law o ts rest → length rest < length ts
+given_shortens v law o ts rest (no_tree n us) = omega arith
+given_shortens v law o ts rest (one_tree t n m us vs b) =
     let i : length ((m, closing) ∷ rest) < length ts = shorter b.part ts n ((m, closing) ∷ rest) b.spells in omega arith
 
-is_shorter : (s : Step) (ts rest : List PlacedToken) → IsStep s ts rest → length rest < length ts
-is_shorter s ts rest h =
+is_shorter : (v : Version) (s : Step) (ts rest : List PlacedToken) → IsStep v s ts rest → length rest < length ts
+is_shorter v s ts rest h =
     let f = h.front in
     let a : length ts ≡ length (step_tokens f.opened f.named f.behind_name) = ap length f.starts in
     let b : length f.behind_law < length f.behind_name = shorter f.is_law.part f.behind_name f.law_end f.behind_law f.is_law.spells in
     let c : length f.behind_direction < length f.behind_law = shorter f.is_direction.part f.behind_law f.direction_end f.behind_direction f.is_direction.spells in
     let d : length h.behind < length f.behind_direction = shorter f.is_position.part f.behind_direction f.position_end h.behind f.is_position.spells in
-    let e : length rest < length h.behind = given_shortens s.law s.given h.behind rest h.ends in
+    let e : length rest < length h.behind = given_shortens v s.law s.given h.behind rest h.ends in
     omega arith
 
 -- steps behind others
@@ -63,73 +64,73 @@ with_more front s (Ok ss) = ap (λ us. Ok us) (append_assoc front (s ∷ []) ss)
 with_more front s (Err e) = refl
 
 -- in a text of so many bytes
-module _ (size : ℕ) where
-  pub step_shortens : (ts : List PlacedToken) (x : Step × List PlacedToken) → read_step size ts ≡ Ok x → length x.1 < length ts
-  step_shortens ts x e = is_shorter x.0 ts x.1 (step_found size ts x e)
+module _ (size : ℕ) (v : Version) where
+  pub step_shortens : (ts : List PlacedToken) (x : Step × List PlacedToken) → read_step size v ts ≡ Ok x → length x.1 < length ts
+  step_shortens ts x e = is_shorter v x.0 ts x.1 (step_found size v ts x e)
 
   -- the steps behind a step, with it before them
   abbrev pub and_behind : ℕ → Step × List PlacedToken → Result (List Step) ExprTextFault
-  and_behind n s = read_steps size n s.1 >>= (λ ss. Ok (s.0 ∷ ss))
+  and_behind n s = read_steps size v n s.1 >>= (λ ss. Ok (s.0 ∷ ss))
 
   -- the count of steps is no bound
-  count : (n m : ℕ) (ts : List PlacedToken) → length ts ≤ n → length ts ≤ m → read_steps size n ts ≡ read_steps size m ts
+  count : (n m : ℕ) (ts : List PlacedToken) → length ts ≤ n → length ts ≤ m → read_steps size v n ts ≡ read_steps size v m ts
   count n m [] l k = refl
   count zero m (t ∷ ts) l k = absurd (omega arith)
   count (suc n) zero (t ∷ ts) l k = absurd (omega arith)
-  count (suc n) (suc m) (t ∷ ts) l k = go (λ us. count n m us) (read_step size (t ∷ ts)) refl
+  count (suc n) (suc m) (t ∷ ts) l k = go (λ us. count n m us) (read_step size v (t ∷ ts)) refl
     where
-      go : ((us : List PlacedToken) → length us ≤ n → length us ≤ m → read_steps size n us ≡ read_steps size m us)
-          → (r : Result (Step × List PlacedToken) ExprTextFault) → read_step size (t ∷ ts) ≡ r → (r >>= and_behind n) ≡ (r >>= and_behind m)
+      go : ((us : List PlacedToken) → length us ≤ n → length us ≤ m → read_steps size v n us ≡ read_steps size v m us)
+          → (r : Result (Step × List PlacedToken) ExprTextFault) → read_step size v (t ∷ ts) ≡ r → (r >>= and_behind n) ≡ (r >>= and_behind m)
       go same (Err e) p = refl
       go same (Ok x) p = let i : length x.1 < length (t ∷ ts) = step_shortens (t ∷ ts) x p in
           ap (λ r. r >>= (λ ss. Ok (x.0 ∷ ss))) (same x.1 (omega arith) (omega arith))
 
   -- one step, and then the others
-  pub one_more : (t : PlacedToken) (ts us : List PlacedToken) (s : Step) → read_step size (t ∷ ts) ≡ Ok (s, us)
-      → read_all_steps size (t ∷ ts) ≡ (read_all_steps size us >>= (λ ss. Ok (s ∷ ss)))
+  pub one_more : (t : PlacedToken) (ts us : List PlacedToken) (s : Step) → read_step size v (t ∷ ts) ≡ Ok (s, us)
+      → read_all_steps size v (t ∷ ts) ≡ (read_all_steps size v us >>= (λ ss. Ok (s ∷ ss)))
   one_more t ts us s e = let l : length us < length (t ∷ ts) = step_shortens (t ∷ ts) (s, us) e in
-      bind_on (read_step size (t ∷ ts)) (and_behind (length ts)) (s, us) _ e
+      bind_on (read_step size v (t ∷ ts)) (and_behind (length ts)) (s, us) _ e
       (ap (λ r. r >>= (λ ss. Ok (s ∷ ss))) (count (length ts) (length us) us (omega arith) (omega arith)))
 
-  pub no_more : (t : PlacedToken) (ts : List PlacedToken) (e : ExprTextFault) → read_step size (t ∷ ts) ≡ Err e → read_all_steps size (t ∷ ts) ≡ Err e
-  no_more t ts e p = bind_gone (read_step size (t ∷ ts)) (and_behind (length ts)) e p
+  pub no_more : (t : PlacedToken) (ts : List PlacedToken) (e : ExprTextFault) → read_step size v (t ∷ ts) ≡ Err e → read_all_steps size v (t ∷ ts) ≡ Err e
+  no_more t ts e p = bind_gone (read_step size v (t ∷ ts)) (and_behind (length ts)) e p
 
   -- steps that stand at the front are read, and then what follows
-  all_read : (ss : List Step) (ts rest : List PlacedToken) → AreSteps ss ts rest → read_all_steps size ts ≡ with_steps ss (read_all_steps size rest)
-  all_read ss ts rest (no_step us) = sym (with_none (read_all_steps size ts))
-  all_read ss [] rest (a_step s us vs mid ws h hs) = let i : length mid < 0 = is_shorter s [] mid h in absurd (omega arith)
-  all_read ss (t ∷ ts) rest (a_step s us vs mid ws h hs) = one_more t ts mid s (step_read size s (t ∷ ts) mid h)
-      ∙ ap (λ r. r >>= (λ ss. Ok (s ∷ ss))) (all_read us mid rest hs) ∙ with_one s us (read_all_steps size rest)
+  all_read : (ss : List Step) (ts rest : List PlacedToken) → AreSteps v ss ts rest → read_all_steps size v ts ≡ with_steps ss (read_all_steps size v rest)
+  all_read ss ts rest (no_step us) = sym (with_none (read_all_steps size v ts))
+  all_read ss [] rest (a_step s us vs mid ws h hs) = let i : length mid < 0 = is_shorter v s [] mid h in absurd (omega arith)
+  all_read ss (t ∷ ts) rest (a_step s us vs mid ws h hs) = one_more t ts mid s (step_read size v s (t ∷ ts) mid h)
+      ∙ ap (λ r. r >>= (λ ss. Ok (s ∷ ss))) (all_read us mid rest hs) ∙ with_one s us (read_all_steps size v rest)
 
   -- what is read behind the steps so far, as the code takes it
-  pub steps_done : (front : List Step) (ts : List PlacedToken) (all : Result (List Step) ExprTextFault) → with_steps front (read_all_steps size ts) ≡ all
+  pub steps_done : (front : List Step) (ts : List PlacedToken) (all : Result (List Step) ExprTextFault) → with_steps front (read_all_steps size v ts) ≡ all
       → ts ≡ [] → all ≡ Ok front
-  steps_done front ts all e p = sym e ∙ ap (λ us. with_steps front (read_all_steps size us)) p ∙ with_done front
+  steps_done front ts all e p = sym e ∙ ap (λ us. with_steps front (read_all_steps size v us)) p ∙ with_done front
 
   pub steps_more : (front new : List Step) (s : Step) (ts us : List PlacedToken) (all : Result (List Step) ExprTextFault)
-      → with_steps front (read_all_steps size ts) ≡ all → read_step size ts ≡ Ok (s, us) → new ≡ front ++ s ∷ []
-      → with_steps new (read_all_steps size us) ≡ all
+      → with_steps front (read_all_steps size v ts) ≡ all → read_step size v ts ≡ Ok (s, us) → new ≡ front ++ s ∷ []
+      → with_steps new (read_all_steps size v us) ≡ all
   steps_more front new s [] us all e r n = absurd (cc)
-  steps_more front new s (t ∷ ts) us all e r n = ap (λ ss. with_steps ss (read_all_steps size us)) n ∙ with_more front s (read_all_steps size us)
+  steps_more front new s (t ∷ ts) us all e r n = ap (λ ss. with_steps ss (read_all_steps size v us)) n ∙ with_more front s (read_all_steps size v us)
       ∙ ap (with_steps front) (sym (one_more t ts us s r)) ∙ e
 
   pub steps_gone : (front : List Step) (ts : List PlacedToken) (e : ExprTextFault) (all : Result (List Step) ExprTextFault)
-      → with_steps front (read_all_steps size ts) ≡ all → ts ≢ [] → Refuses e (read_step size ts) → Refuses e all
+      → with_steps front (read_all_steps size v ts) ≡ all → ts ≢ [] → Refuses e (read_step size v ts) → Refuses e all
   steps_gone front [] e all h n r = absurd (n refl)
   steps_gone front (t ∷ ts) e all h n r = λ m. sym h ∙ ap (with_steps front) (no_more t ts e (r m))
 
-  all_found : (n : ℕ) (ts : List PlacedToken) (ss : List Step) → read_steps size n ts ≡ Ok ss → AreSteps ss ts []
-  all_found n [] ss e = subst (λ us. AreSteps us [] []) (ok_is e) (no_step [])
+  all_found : (n : ℕ) (ts : List PlacedToken) (ss : List Step) → read_steps size v n ts ≡ Ok ss → AreSteps v ss ts []
+  all_found n [] ss e = subst (λ us. AreSteps v us [] []) (ok_is e) (no_step [])
   all_found zero (t ∷ ts) ss e = absurd (cc)
   all_found (suc n) (t ∷ ts) ss e =
-      let i : (x : Step × List PlacedToken) × (read_step size (t ∷ ts) ≡ Ok x) × (and_behind n x ≡ Ok ss) =
-      bind_ok (read_step size (t ∷ ts)) (and_behind n) ss e in
-      let j : (us : List Step) × (read_steps size n i.0.1 ≡ Ok us) × (◌≡◌ {A = Result (List Step) ExprTextFault} (Ok (i.0.0 ∷ us)) (Ok ss)) =
-      bind_ok (read_steps size n i.0.1) _ ss i.2 in
-      subst (λ us. AreSteps us (t ∷ ts) []) (ok_is j.2)
-      (a_step i.0.0 j.0 (t ∷ ts) i.0.1 [] (step_found size (t ∷ ts) i.0 i.1) (all_found n i.0.1 j.0 j.1))
+      let i : (x : Step × List PlacedToken) × (read_step size v (t ∷ ts) ≡ Ok x) × (and_behind n x ≡ Ok ss) =
+      bind_ok (read_step size v (t ∷ ts)) (and_behind n) ss e in
+      let j : (us : List Step) × (read_steps size v n i.0.1 ≡ Ok us) × (◌≡◌ {A = Result (List Step) ExprTextFault} (Ok (i.0.0 ∷ us)) (Ok ss)) =
+      bind_ok (read_steps size v n i.0.1) _ ss i.2 in
+      subst (λ us. AreSteps v us (t ∷ ts) []) (ok_is j.2)
+      (a_step i.0.0 j.0 (t ∷ ts) i.0.1 [] (step_found size v (t ∷ ts) i.0 i.1) (all_found n i.0.1 j.0 j.1))
 
-  with_step : (s : Step) (ts mid : List PlacedToken) (e : ExprTextFault) → IsStep s ts mid → NoSteps size mid e → NoSteps size ts e
+  with_step : (s : Step) (ts mid : List PlacedToken) (e : ExprTextFault) → IsStep v s ts mid → NoSteps v size mid e → NoSteps v size ts e
   with_step s ts mid e h n =
       record {
         before = s ∷ n.before;
@@ -139,75 +140,83 @@ module _ (size : ℕ) where
         stops = n.stops;
       }
 
-  all_refused : (n : ℕ) (ts : List PlacedToken) (e : ExprTextFault) → length ts ≤ n → read_steps size n ts ≡ Err e → NoSteps size ts e
+  all_refused : (n : ℕ) (ts : List PlacedToken) (e : ExprTextFault) → length ts ≤ n → read_steps size v n ts ≡ Err e → NoSteps v size ts e
   all_refused n [] e l p = absurd (cc)
   all_refused zero (t ∷ ts) e l p = absurd (omega arith)
   all_refused (suc n) (t ∷ ts) e l p =
-      bind_err (read_step size (t ∷ ts)) (and_behind n) e p
-      (λ q. record { before = []; next = t; after = ts; steps = no_step (t ∷ ts); stops = step_refused size (t ∷ ts) e q })
+      bind_err (read_step size v (t ∷ ts)) (and_behind n) e p
+      (λ q. record { before = []; next = t; after = ts; steps = no_step (t ∷ ts); stops = step_refused size v (t ∷ ts) e q })
       (λ x q r. let i : length x.1 < length (t ∷ ts) = step_shortens (t ∷ ts) x q in
-      bind_err (read_steps size n x.1) _ e r (λ h. with_step x.0 (t ∷ ts) x.1 e (step_found size (t ∷ ts) x q) (all_refused n x.1 e (omega arith) h))
+      bind_err (read_steps size v n x.1) _ e r (λ h. with_step x.0 (t ∷ ts) x.1 e (step_found size v (t ∷ ts) x q) (all_refused n x.1 e (omega arith) h))
       (λ y h k. absurd (cc)))
 
-  refuses_all : (ts : List PlacedToken) (e : ExprTextFault) → NoSteps size ts e → read_all_steps size ts ≡ Err e
+  refuses_all : (ts : List PlacedToken) (e : ExprTextFault) → NoSteps v size ts e → read_all_steps size v ts ≡ Err e
   refuses_all ts e n = all_read n.before ts (n.next ∷ n.after) n.steps
-      ∙ ap (with_steps n.before) (no_more n.next n.after e (refuses_step size (n.next ∷ n.after) e n.stops))
+      ∙ ap (with_steps n.before) (no_more n.next n.after e (refuses_step size v (n.next ∷ n.after) e n.stops))
 
-  not_long : (ts : List PlacedToken) → NoStep size ts E.TooLong → ⊥
+  not_long : (ts : List PlacedToken) → NoStep v size ts E.TooLong → ⊥
   not_long ts (unopened (missing p q)) = cc
   not_long ts (unopened (other x us p d q)) = cc
   not_long ts (unnamed a us s (missing p q)) = cc
   not_long ts (unnamed a us s (other x vs p d q)) = cc
-  not_long ts (no_law a b us s h) = stops_not_long step_parts size 599 law_sort us h
-  not_long ts (no_direction a b n law us vs s l h) = stops_not_long step_parts size 599 direction_sort vs h
-  not_long ts (no_position a b n m law direction us vs ws s l d h) = stops_not_long step_parts size 599 position_sort ws h
-  not_long ts (no_end law direction at us f b h) = stops_not_long networks size 599 (given_sort law) us h
+  not_long ts (no_law a b us s h) = stops_not_long (step_parts v) size 599 law_sort us h
+  not_long ts (no_direction a b n law us vs s l h) = stops_not_long (step_parts v) size 599 direction_sort vs h
+  not_long ts (no_position a b n m law direction us vs ws s l d h) = stops_not_long (step_parts v) size 599 position_sort ws h
+  not_long ts (no_end law direction at us f b h) = stops_not_long (networks v) size 599 (given_sort law) us h
   not_long ts (unclosed law direction at us f t n vs b (missing p q)) = cc
   not_long ts (unclosed law direction at us f t n vs b (other x ws p d q)) = cc
 
-laws_found : (ts us : List PlacedToken) → behind_laws ts ≡ Some us → (a : ℕ) × (b : ℕ) × (ts ≡ laws_tokens a b us)
-laws_found ts us e =
-    let i : (vs : List PlacedToken) × (behind_word (codes "laws") ts ≡ Some vs) × (behind_word (codes "1") vs ≡ Some us) =
-    some_bind (behind_word (codes "laws") ts) (behind_word (codes "1")) us e in
+laws_found : (v : Version) (ts us : List PlacedToken) → behind_laws ts ≡ Some (v, us) → (a : ℕ) × (b : ℕ) × (ts ≡ laws_tokens v a b us)
+laws_found v ts us e =
+    let i : (vs : List PlacedToken) × (behind_word (codes "laws") ts ≡ Some vs) × (behind_version vs ≡ Some (v, us)) =
+    some_bind (behind_word (codes "laws") ts) behind_version (v, us) e in
     let p : (a : ℕ) × (ts ≡ (a, word (codes "laws")) ∷ i.0) = word_found (codes "laws") ts i.0 i.1 in
-    let q : (b : ℕ) × (i.0 ≡ (b, word (codes "1")) ∷ us) = word_found (codes "1") i.0 us i.2 in
+    let q : (b : ℕ) × (i.0 ≡ (b, word (version_word v)) ∷ us) = version_found v i.0 us i.2 in
     (p.0, q.0, p.1 ∙ ap (λ vs. (p.0, word (codes "laws")) ∷ vs) q.1)
 
-module _ (bs : List ℕ) where
-  has_laws : (ts : List PlacedToken) → HasLaws bs ts → behind_laws (tokens bs) ≡ Some ts
-  has_laws ts h = ap behind_laws h.starts
+-- the version that a header names is the one that it has
+laws_name : (v : Version) (a b : ℕ) (ts : List PlacedToken) → behind_laws (laws_tokens v a b ts) ≡ Some (v, ts)
+laws_name version_1 a b ts = refl
+laws_name version_2 a b ts = refl
 
-  headed_by : (ts : List PlacedToken) → behind_laws (tokens bs) ≡ Some ts → HasLaws bs ts
-  headed_by ts e = let i : (a : ℕ) × (b : ℕ) × (tokens bs ≡ laws_tokens a b ts) = laws_found (tokens bs) ts e in
-      record { laws = i.0; one = i.1; starts = i.2 }
+module _ (bs : List ℕ) where
+  has_laws : (v : Version) (ts : List PlacedToken) → HasLaws bs v ts → behind_laws (tokens bs) ≡ Some (v, ts)
+  has_laws v ts h = ap behind_laws h.starts ∙ laws_name v h.laws h.number ts
+
+  headed_by : (v : Version) (ts : List PlacedToken) → behind_laws (tokens bs) ≡ Some (v, ts) → HasLaws bs v ts
+  headed_by v ts e = let i : (a : ℕ) × (b : ℕ) × (tokens bs ≡ laws_tokens v a b ts) = laws_found v (tokens bs) ts e in
+      record { laws = i.0; number = i.1; starts = i.2 }
 
   steps_behind : (ss : List Step) → IsCertificate bs ss → Behind behind_laws read_all_steps bs (Ok ss)
   steps_behind ss h =
       record {
         short = h.short;
+        version = h.version;
         behind = h.behind;
-        headed = has_laws h.behind h.headed;
-        reads = all_read (length bs) ss h.behind [] h.steps ∙ ap (λ us. Ok us) (append-nil ss);
+        headed = has_laws h.version h.behind h.headed;
+        reads = all_read (length bs) h.version ss h.behind [] h.steps ∙ ap (λ us. Ok us) (append-nil ss);
       }
 
   wrong : (e : ExprTextFault) → Behind behind_laws read_all_steps bs (Err e) → NoCertificate bs e
   wrong e b =
       record {
+        version = b.version;
         behind = b.behind;
-        headed = headed_by b.behind b.headed;
-        stops = all_refused (length bs) (length b.behind) b.behind e (omega arith) b.reads;
+        headed = headed_by b.version b.behind b.headed;
+        stops = all_refused (length bs) b.version (length b.behind) b.behind e (omega arith) b.reads;
       }
 
   long : NoCertificate bs E.TooLong → ⊥
-  long n = not_long (length bs) (n.stops.next ∷ n.stops.after) n.stops.stops
+  long n = not_long (length bs) n.version (n.stops.next ∷ n.stops.after) n.stops.stops
 
   refuse : (e : ExprTextFault) → length bs ≤ 1048576 → NoCertificate bs e → Behind behind_laws read_all_steps bs (Err e)
   refuse e l n =
       record {
         short = l;
+        version = n.version;
         behind = n.behind;
-        headed = has_laws n.behind n.headed;
-        reads = refuses_all (length bs) n.behind e n.stops;
+        headed = has_laws n.version n.behind n.headed;
+        reads = refuses_all (length bs) n.version n.behind e n.stops;
       }
 
   pub certificate_read : (ss : List Step) → IsCertificate bs ss → read_certificate bs ≡ Ok ss
@@ -217,9 +226,10 @@ module _ (bs : List ℕ) where
   certificate_found ss e = let b = headed_found behind_laws read_all_steps bs ss e in
       record {
         short = b.short;
+        version = b.version;
         behind = b.behind;
-        headed = headed_by b.behind b.headed;
-        steps = all_found (length bs) (length b.behind) b.behind ss b.reads;
+        headed = headed_by b.version b.behind b.headed;
+        steps = all_found (length bs) b.version (length b.behind) b.behind ss b.reads;
       }
 
   pub certificate_fault : (e : NetTextFault) → e ≢ V.Memory → read_certificate bs ≡ Err e → IsCertificateFault bs e

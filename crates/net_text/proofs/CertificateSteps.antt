@@ -8,12 +8,13 @@ use Rattle.leaf_expr.specs.TreeReader.{word_read, read}
 use Rattle.leaf_expr.proofs.ReadSteps.{formless_read}
 use Rattle.leaf_expr.proofs.NaturalSteps.{index_read}
 use Rattle.leaf_expr.specs.declared.text_fault.ExprTextFault.TheVariants as E
+use Rattle.net_text.specs.Grammar.{Version}
 use Rattle.net_text.specs.StepGrammar.{step_parts, position_sort, child_sort, step_word_at, step_row_at, position_rows}
 
 -- a child number is read as the number of a parameter is
-pub child_read : (size room : ℕ) (ts : List PlacedToken) → read step_parts size room child_sort ts ≡ read leaf size room index_sort ts
+pub child_read : (v : Version) (size room : ℕ) (ts : List PlacedToken) → read (step_parts v) size room child_sort ts ≡ read leaf size room index_sort ts
 unfolding step_word_at
-child_read size room ts = formless_read step_parts size room child_sort ts refl ∙ sym (index_read size room ts)
+child_read v size room ts = formless_read (step_parts v) size room child_sort ts refl ∙ sym (index_read size room ts)
 
 -- `at` alone begins a position
 pub at_named : (w : List ℕ) → bytes_eq w (codes "at") ≡ true
@@ -26,6 +27,6 @@ unfolding step_row_at position_rows
 at_unnamed w e = rw e refl
 
 -- a position is no word
-pub at_no_word : (n : ℕ) (w : List ℕ) (ts : List PlacedToken) → word_read n w ts (step_word_at position_sort w) ≡ Err (E.Syntax n)
+pub at_no_word : (v : Version) (n : ℕ) (w : List ℕ) (ts : List PlacedToken) → word_read n w ts (step_word_at v position_sort w) ≡ Err (E.Syntax n)
 unfolding step_word_at
-at_no_word n w ts = refl
+at_no_word v n w ts = refl

@@ -3,7 +3,8 @@ use Rattle.std.proofs.Common.{◌≡◌, ◌≢◌, ℕ, ◌≤◌, ◌<◌, Boo
 use Rattle.std.specs.Prelude.{IfErr}
 use Rattle.std.proofs.lemmas.Bool.{ltb-false, ltb-true, le-ltb, lt-ltb}
 use Rattle.leaf_expr.specs.Token.{PlacedToken, tokens}
-use Rattle.net_text.specs.File.{in_file, body_fault, read_behind, read_headed}
+use Rattle.net_text.specs.Grammar.{Version}
+use Rattle.net_text.specs.File.{Headed, in_file, body_fault, read_behind, read_headed}
 use Rattle.net_text.specs.FileLaws.{FaultOf}
 use Rattle.net_text.specs.declared.fault.NetTextFault.{NetTextFault}
 use Rattle.net_text.specs.declared.fault.NetTextFault.TheVariants as V
@@ -55,13 +56,14 @@ not_header : {A : Type 0} (r : Result A ExprTextFault) → body_fault r ≡ Err 
 not_header (Ok x) q = cc
 not_header (Err f) q = no_header f (fault_is (sym q))
 
-module _ {T : Type 0} (header : List PlacedToken → Option (List PlacedToken)) (body : ℕ → List PlacedToken → Result T ExprTextFault) (bs : List ℕ) where
+module _ {T : Type 0} (header : List PlacedToken → Headed) (body : ℕ → Version → List PlacedToken → Result T ExprTextFault) (bs : List ℕ) where
   -- what was answered stands behind a header
   pub record Behind (r : Result T ExprTextFault) : Type 0 where
     pub short : length bs ≤ 1048576
+    pub version : Version
     pub behind : List PlacedToken
-    pub headed : header (tokens bs) ≡ Some behind
-    pub reads : body (length bs) behind ≡ r
+    pub headed : header (tokens bs) ≡ Some (version, behind)
+    pub reads : body (length bs) version behind ≡ r
 
   short_file : (r : Result T NetTextFault) → r ≢ Err V.TooLong → read_headed header body bs ≡ r
       → (length bs ≤ 1048576) × (read_behind (body (length bs)) (header (tokens bs)) ≡ r)
@@ -76,19 +78,20 @@ module _ {T : Type 0} (header : List PlacedToken → Option (List PlacedToken)) 
   past_length l = ap (λ c. if c then Err V.TooLong else read_behind (body (length bs)) (header (tokens bs))) (le-ltb 1048576 (length bs) l)
 
   -- what is read of bytes with a header, where they are no more than files have
-  past_header : (ts : List PlacedToken) → length bs ≤ 1048576 → header (tokens bs) ≡ Some ts → read_headed header body bs ≡ body_fault (body (length bs) ts)
-  past_header ts l h = past_length l ∙ ap (read_behind (body (length bs))) h
+  past_header : (v : Version) (ts : List PlacedToken) → length bs ≤ 1048576 → header (tokens bs) ≡ Some (v, ts)
+      → read_headed header body bs ≡ body_fault (body (length bs) v ts)
+  past_header v ts l h = past_length l ∙ ap (read_behind (body (length bs))) h
 
   pub headed_found : (x : T) → read_headed header body bs ≡ Ok x → Behind (Ok x)
   headed_found x e = let i : (length bs ≤ 1048576) × (read_behind (body (length bs)) (header (tokens bs)) ≡ Ok x) = short_file (Ok x) (λ q. cc) e in
       go i.0 (header (tokens bs)) refl i.1
     where
-      go : length bs ≤ 1048576 → (o : Option (List PlacedToken)) → header (tokens bs) ≡ o → read_behind (body (length bs)) o ≡ Ok x → Behind (Ok x)
+      go : length bs ≤ 1048576 → (o : Headed) → header (tokens bs) ≡ o → read_behind (body (length bs)) o ≡ Ok x → Behind (Ok x)
       go l None p q = absurd (cc)
-      go l (Some ts) p q = record { short = l; behind = ts; headed = p; reads = body_ok (body (length bs) ts) x q }
+      go l (Some h) p q = record { short = l; version = h.0; behind = h.1; headed = p; reads = body_ok (body (length bs) h.0 h.1) x q }
 
   pub headed_read : (x : T) → Behind (Ok x) → read_headed header body bs ≡ Ok x
-  headed_read x b = past_header b.behind b.short b.headed ∙ ap body_fault b.reads
+  headed_read x b = past_header b.version b.behind b.short b.headed ∙ ap body_fault b.reads
 
   headed_refused : (e : ExprTextFault) → read_headed header body bs ≢ Err V.TooLong → read_headed header body bs ≡ Err (in_file e) → Behind (Err e)
   headed_refused e d p =
@@ -96,21 +99,22 @@ module _ {T : Type 0} (header : List PlacedToken → Option (List PlacedToken)) 
       × (read_behind (body (length bs)) (header (tokens bs)) ≡ Err (in_file e)) = short_file (Err (in_file e)) (λ q. d (p ∙ q)) p in
       go i.0 (header (tokens bs)) refl i.1
     where
-      go : length bs ≤ 1048576 → (o : Option (List PlacedToken)) → header (tokens bs) ≡ o → read_behind (body (length bs)) o ≡ Err (in_file e) → Behind (Err e)
+      go : length bs ≤ 1048576 → (o : Headed) → header (tokens bs) ≡ o → read_behind (body (length bs)) o ≡ Err (in_file e) → Behind (Err e)
       go l None h q = absurd (no_header e (fault_is q))
-      go l (Some ts) h q = record { short = l; behind = ts; headed = h; reads = body_err (body (length bs) ts) e q }
+      go l (Some h) p q = record { short = l; version = h.0; behind = h.1; headed = p; reads = body_err (body (length bs) h.0 h.1) e q }
 
   -- a file has one reading
   pub one_reading : (x y : T) → Behind (Ok x) → Behind (Ok y) → x ≡ y
   one_reading x y a b = file_is (sym (headed_read x a) ∙ headed_read y b)
 
-  module _ (Headed : List PlacedToken → Type 0) (Wrong : ExprTextFault → Type 0) (has : (ts : List PlacedToken) → Headed ts → header (tokens bs) ≡ Some ts)
-      (headed : (ts : List PlacedToken) → header (tokens bs) ≡ Some ts → Headed ts) (wrong : (e : ExprTextFault) → Behind (Err e) → Wrong e)
+  module _ (Has : Version → List PlacedToken → Type 0) (Wrong : ExprTextFault → Type 0)
+      (has : (v : Version) (ts : List PlacedToken) → Has v ts → header (tokens bs) ≡ Some (v, ts))
+      (headed : (v : Version) (ts : List PlacedToken) → header (tokens bs) ≡ Some (v, ts) → Has v ts) (wrong : (e : ExprTextFault) → Behind (Err e) → Wrong e)
       (long : Wrong E.TooLong → ⊥) where
-    headless : read_headed header body bs ≡ Err V.Header → (length bs ≤ 1048576) × ((ts : List PlacedToken) → Headed ts → ⊥)
+    headless : read_headed header body bs ≡ Err V.Header → (length bs ≤ 1048576) × ((v : Version) (ts : List PlacedToken) → Has v ts → ⊥)
     headless p =
         let i : (length bs ≤ 1048576) × (read_behind (body (length bs)) (header (tokens bs)) ≡ Err V.Header) = short_file (Err V.Header) (λ q. cc) p in
-        (i.0, λ ts h. not_header (body (length bs) ts) (sym (ap (read_behind (body (length bs))) (has ts h)) ∙ i.1))
+        (i.0, λ v ts h. not_header (body (length bs) v ts) (sym (ap (read_behind (body (length bs))) (has v ts h)) ∙ i.1))
 
     told : (e : ExprTextFault) → read_headed header body bs ≢ Err V.TooLong → read_headed header body bs ≡ Err (in_file e)
         → (length bs ≤ 1048576) × Wrong e
@@ -119,16 +123,17 @@ module _ {T : Type 0} (header : List PlacedToken → Option (List PlacedToken)) 
     longer : read_headed header body bs ≡ Err V.TooLong → 1048576 < length bs
     longer p = go (nat_lt 1048576 (length bs)) refl p
       where
-        here : length bs ≤ 1048576 → (o : Option (List PlacedToken)) → header (tokens bs) ≡ o → read_behind (body (length bs)) o ≡ Err V.TooLong → ⊥
+        here : length bs ≤ 1048576 → (o : Headed) → header (tokens bs) ≡ o → read_behind (body (length bs)) o ≡ Err V.TooLong → ⊥
         here l None h q = cc
-        here l (Some ts) h q = long (wrong E.TooLong (record { short = l; behind = ts; headed = h; reads = body_err (body (length bs) ts) E.TooLong q }))
+        here l (Some h) p q =
+            long (wrong E.TooLong (record { short = l; version = h.0; behind = h.1; headed = p; reads = body_err (body (length bs) h.0 h.1) E.TooLong q }))
 
         go : (b : Bool) → nat_lt 1048576 (length bs) ≡ b → (if b then Err V.TooLong else read_behind (body (length bs)) (header (tokens bs))) ≡ Err V.TooLong
             → 1048576 < length bs
         go true q e = ltb-true 1048576 (length bs) q
         go false q e = absurd (here (ltb-false 1048576 (length bs) q) (header (tokens bs)) refl e)
 
-    pub headed_fault : (e : NetTextFault) → e ≢ V.Memory → read_headed header body bs ≡ Err e → FaultOf bs Headed Wrong e
+    pub headed_fault : (e : NetTextFault) → e ≢ V.Memory → read_headed header body bs ≡ Err e → FaultOf bs Has Wrong e
     headed_fault V.Header d p = headless p
     headed_fault (V.Syntax n) d p = told (E.Syntax n) (λ q. cc) p
     headed_fault (V.Number n) d p = told (E.Number n) (λ q. cc) p
@@ -138,7 +143,7 @@ module _ {T : Type 0} (header : List PlacedToken → Option (List PlacedToken)) 
 
     -- what a call that gives it is refused for
     pub headed_told : {X : Type 0} (view : X → T) (r : Result X NetTextFault) → GivesUnless V.Memory view r (read_headed header body bs)
-        → IfErr r (FaultOf bs Headed Wrong)
+        → IfErr r (FaultOf bs Has Wrong)
     headed_told view (Ok x) h = tt
     headed_told view (Err V.Header) h = headed_fault V.Header (λ q. cc) (h (λ q. cc))
     headed_told view (Err (V.Syntax n)) h = headed_fault (V.Syntax n) (λ q. cc) (h (λ q. cc))
@@ -149,14 +154,14 @@ module _ {T : Type 0} (header : List PlacedToken → Option (List PlacedToken)) 
 
     module _ (refuse : (e : ExprTextFault) → length bs ≤ 1048576 → Wrong e → Behind (Err e)) where
       answered : (e : ExprTextFault) → length bs ≤ 1048576 → Wrong e → read_headed header body bs ≡ Err (in_file e)
-      answered e l w = let b = refuse e l w in past_header b.behind b.short b.headed ∙ ap body_fault b.reads
+      answered e l w = let b = refuse e l w in past_header b.version b.behind b.short b.headed ∙ ap body_fault b.reads
 
-      pub headed_refuses : (e : NetTextFault) → e ≢ V.Memory → FaultOf bs Headed Wrong e → read_headed header body bs ≡ Err e
+      pub headed_refuses : (e : NetTextFault) → e ≢ V.Memory → FaultOf bs Has Wrong e → read_headed header body bs ≡ Err e
       headed_refuses V.Header d h = past_length h.0 ∙ go (header (tokens bs)) refl
         where
-          go : (o : Option (List PlacedToken)) → header (tokens bs) ≡ o → read_behind (body (length bs)) (header (tokens bs)) ≡ Err V.Header
+          go : (o : Headed) → header (tokens bs) ≡ o → read_behind (body (length bs)) (header (tokens bs)) ≡ Err V.Header
           go None p = ap (read_behind (body (length bs))) p
-          go (Some ts) p = absurd (h.1 ts (headed ts p))
+          go (Some x) p = absurd (h.1 x.0 x.1 (headed x.0 x.1 p))
       headed_refuses (V.Syntax n) d h = answered (E.Syntax n) h.0 h.1
       headed_refuses (V.Number n) d h = answered (E.Number n) h.0 h.1
       headed_refuses (V.TooDeep n) d h = answered (E.TooDeep n) h.0 h.1

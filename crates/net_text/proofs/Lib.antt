@@ -9,6 +9,7 @@ pub mod StepRead
 pub mod CertificateRead
 pub mod CertificateSteps
 pub mod NetRows
+pub mod OlderNetworks
 pub mod PrintedFile
 pub mod PrintedCertificate
 pub mod CertificateLines

@@ -9,16 +9,16 @@ use Rattle.leaf_expr.specs.Grammar.{leaf, Sort}
 use Rattle.leaf_expr.specs.ReadLaws.{Completes}
 use Rattle.leaf_expr.proofs.Proper.{Proper}
 use Rattle.leaf_expr.proofs.LeafProper.{leaf_proper, among_unread, chosen_misspelt, chosen_unfit}
-use Rattle.net_text.specs.Grammar.{networks, NetSort, leaf_sort, network_sort, members_sort, time_sort, Timer, delay_timer, after_timer, repeatedly_timer, least, greatest, net_words, net_word_at, net_rows, net_row_at, col_rows, net_has_form, net_takes_number, leaf_row}
+use Rattle.net_text.specs.Grammar.{Version, networks, NetSort, leaf_sort, network_sort, members_sort, time_sort, Timer, delay_timer, after_timer, repeatedly_timer, least, greatest, net_words, net_word_at, net_rows, net_row_at, col_rows, net_has_form, net_takes_number, leaf_row}
 use Rattle.net_text.proofs.Carried.{meaning_same}
 use Rattle.net_text.proofs.Completed.{by_word, by_form, with_opening}
 
-formless : (s : NetSort) (w : List ℕ) → net_has_form s ≡ false → net_row_at s w ≡ None
+formless : (v : Version) (s : NetSort) (w : List ℕ) → net_has_form s ≡ false → net_row_at v s w ≡ None
 unfolding net_row_at
-formless (leaf_sort s) w h = ap (option_map leaf_row) (leaf_proper.formless s w h)
-formless network_sort w h = absurd (cc)
-formless members_sort w h = absurd (cc)
-formless (time_sort g) w h = refl
+formless v (leaf_sort s) w h = ap (option_map leaf_row) (leaf_proper.formless s w h)
+formless v network_sort w h = absurd (cc)
+formless v members_sort w h = absurd (cc)
+formless v (time_sort g) w h = refl
 
 spoilt : (s : NetSort) (w : List ℕ) → net_word_at s w ≡ misspelt → (net_takes_number s && is_number_word w) ≡ true
 unfolding net_word_at
@@ -34,9 +34,9 @@ foreign network_sort w e = refl
 foreign members_sort w e = refl
 foreign (time_sort g) w e = chosen_unfit (is_number_word w) _ _ e
 
-carry : (s : Sort) (us : List PlacedToken) → Completes leaf s us → Completes networks (leaf_sort s) us
-carry s us c =
-    record { end = c.end; stop = c.stop; part = c.part; tree = c.tree; spells = c.spells; means = meaning_same s c.part ∙ c.means }
+carry : (v : Version) (s : Sort) (us : List PlacedToken) → Completes leaf s us → Completes (networks v) (leaf_sort s) us
+carry v s us c =
+    record { end = c.end; stop = c.stop; part = c.part; tree = c.tree; spells = c.spells; means = meaning_same v s c.part ∙ c.means }
 
 -- each form takes the time 1
 one_fits : (g : Timer) → natural_at (least g) (greatest g) (codes "1") ≡ reads 1
@@ -44,19 +44,19 @@ one_fits delay_timer = refl
 one_fits after_timer = refl
 one_fits repeatedly_timer = refl
 
-opener : (s : NetSort) (n : ℕ) → net_has_form s ≡ true → Completes networks s ((n, opening) ∷ [])
+opener : (v : Version) (s : NetSort) (n : ℕ) → net_has_form s ≡ true → Completes (networks v) s ((n, opening) ∷ [])
 unfolding net_word_at net_words net_row_at net_rows col_rows
-opener (leaf_sort s) n h = carry s ((n, opening) ∷ []) (leaf_proper.opener s n h)
-opener network_sort n h = by_form networks network_sort n (codes "parB") refl
-opener members_sort n h = by_form networks members_sort n (codes "col") refl
-opener (time_sort g) n h = absurd (cc)
+opener v (leaf_sort s) n h = carry v s ((n, opening) ∷ []) (leaf_proper.opener s n h)
+opener v network_sort n h = by_form (networks v) network_sort n (codes "parB") refl
+opener v members_sort n h = by_form (networks v) members_sort n (codes "col") refl
+opener v (time_sort g) n h = absurd (cc)
 
-filler : (s : NetSort) → Completes networks s []
+filler : (v : Version) (s : NetSort) → Completes (networks v) s []
 unfolding net_word_at net_words
-filler (leaf_sort s) = carry s [] (leaf_proper.filler s)
-filler network_sort = by_word networks network_sort (codes "time") refl
-filler members_sort = with_opening networks members_sort (opener members_sort 0 refl)
-filler (time_sort g) = by_word networks (time_sort g) (codes "1") (ap read_word (one_fits g))
+filler v (leaf_sort s) = carry v s [] (leaf_proper.filler s)
+filler v network_sort = by_word (networks v) network_sort (codes "time") refl
+filler v members_sort = with_opening (networks v) members_sort (opener v members_sort 0 refl)
+filler v (time_sort g) = by_word (networks v) (time_sort g) (codes "1") (ap read_word (one_fits g))
 
-pub networks_proper : Proper networks
-networks_proper = record { formless = formless; spoilt = spoilt; foreign = foreign; filler = filler; opener = opener }
+pub networks_proper : (v : Version) → Proper (networks v)
+networks_proper v = record { formless = formless v; spoilt = spoilt; foreign = foreign; filler = filler v; opener = opener v }

@@ -8,7 +8,7 @@ use Rattle.leaf_expr.specs.Grammar.{type_sort, expression_sort, word_at, row_at,
 use Rattle.net_syntax.specs.Network.{Network, arr, seq, first, hold, accum_by}
 use Rattle.net_text.specs.Sugar.{swap, second, beside, fan_out, never, accum_hold_by}
 use Rattle.net_text.specs.Grammar.{net_words, net_word_at, net_rows, net_row_at, col_rows, networks, leaf_sort, network_sort}
-use Rattle.net_text.specs.FileRows.{CellRows, NetworkRows, SugarRows, IdentityIs, ConstantIs, SecondIs, BesideIs, FanOutIs, NeverIs, NowIs, EdgeIs, AccumHoldByIs, FileFaultRows, NumberFaultRows, MembersFaultRows}
+use Rattle.net_text.specs.FileRows.{CellRows, NetworkRows, SugarRows, IdentityIs, ConstantIs, SecondIs, BesideIs, FanOutIs, NeverIs, NowIs, EdgeIs, AccumHoldByIs, NewRows, NewFaultRows, FileFaultRows, NumberFaultRows, MembersFaultRows}
 
 pub cell_rows_read : CellRows
 unfolding word_at words row_at rows net_words net_word_at net_rows net_row_at
@@ -18,6 +18,10 @@ pub network_rows : NetworkRows
 unfolding word_at words row_at rows net_words net_word_at net_rows net_row_at col_rows
 network_rows = (refl, refl, refl, refl, refl, refl, refl, refl, refl, refl, refl)
 
+pub new_rows_read : NewRows
+unfolding word_at words row_at rows net_words net_word_at net_rows net_row_at col_rows
+new_rows_read = (refl, refl, refl, refl, refl, refl)
+
 pub sugar_rows : SugarRows
 unfolding word_at words row_at rows net_words net_word_at net_rows net_row_at
 sugar_rows = (refl, refl, refl, refl, refl, refl, refl, refl, refl)
@@ -25,6 +29,10 @@ sugar_rows = (refl, refl, refl, refl, refl, refl, refl, refl, refl)
 pub file_fault_rows : FileFaultRows
 unfolding word_at words row_at rows net_words net_word_at net_rows net_row_at
 file_fault_rows = (refl, refl, refl, refl, refl, refl, refl, refl, refl, refl)
+
+pub new_fault_rows : NewFaultRows
+unfolding word_at words row_at rows net_words net_word_at net_rows net_row_at col_rows
+new_fault_rows = (refl, refl, refl, refl, refl, refl)
 
 pub number_fault_rows : NumberFaultRows
 unfolding word_at words row_at rows net_words net_word_at net_rows net_row_at
@@ -36,7 +44,7 @@ members_fault_rows = (refl, refl, refl, refl)
 
 pub identity_is : IdentityIs
 unfolding word_at words row_at rows net_words net_word_at net_rows net_row_at
-identity_is = refl
+identity_is v = refl
 
 constant_parts : (e : Option Expression)
     → option_and_then (λ c. Some (arr (then_expr unit_expr c))) e ≡ option_and_then (λ x. Some (arr x)) (option_and_then (λ c. Some (then_expr unit_expr c)) e)
@@ -45,7 +53,7 @@ constant_parts (Some c) = refl
 
 pub constant_is : ConstantIs
 unfolding word_at words row_at rows net_words net_word_at net_rows net_row_at
-constant_is e = constant_parts (meaning networks (leaf_sort expression_sort) e)
+constant_is e v = constant_parts (meaning (networks v) (leaf_sort expression_sort) e)
 
 second_parts : (f : Option (Network Expression))
     → option_and_then (λ f. Some (second f)) f
@@ -55,7 +63,7 @@ second_parts (Some f) = refl
 
 pub second_is : SecondIs
 unfolding word_at words row_at rows net_words net_word_at net_rows net_row_at
-second_is f = second_parts (meaning networks network_sort f)
+second_is f v = second_parts (meaning (networks v) network_sort f)
 
 -- two makers that make the same of two parts, and nothing where one is missing
 same_of_two : {A B R : Type 0} (f g : Option A → Option B → Option R) → ((b : Option B) → f None b ≡ g None b) → ((a : A) → f (Some a) None ≡ g (Some a) None)
@@ -74,15 +82,15 @@ makes make a = option_and_then (λ a. Some (make a)) a
 
 pub beside_is : BesideIs
 unfolding word_at words row_at rows net_words net_word_at net_rows net_row_at
-beside_is f g =
+beside_is f g v =
     same_of_two (both_make beside) (λ f g. both_make seq (makes first f) (makes second g)) (λ _. refl) (λ _. refl) (λ _ _. refl)
-    (meaning networks network_sort f) (meaning networks network_sort g)
+    (meaning (networks v) network_sort f) (meaning (networks v) network_sort g)
 
 pub fan_out_is : FanOutIs
 unfolding word_at words row_at rows net_words net_word_at net_rows net_row_at
-fan_out_is f g =
+fan_out_is f g v =
     same_of_two (both_make fan_out) (λ f g. makes (seq (arr (pair_expr input input))) (both_make beside f g)) (λ _. refl) (λ _. refl) (λ _ _. refl)
-    (meaning networks network_sort f) (meaning networks network_sort g)
+    (meaning (networks v) network_sort f) (meaning (networks v) network_sort g)
 
 never_parts : (T : Option TypeTree)
     → option_and_then (λ T. Some (never T)) T ≡ option_and_then (λ x. Some (arr x)) (option_and_then (λ T. Some (no_event_expr T)) T)
@@ -91,18 +99,18 @@ never_parts (Some T) = refl
 
 pub never_is : NeverIs
 unfolding word_at words row_at rows net_words net_word_at net_rows net_row_at
-never_is T = never_parts (meaning networks (leaf_sort type_sort) T)
+never_is T v = never_parts (meaning (networks v) (leaf_sort type_sort) T)
 
 pub now_is : NowIs
 unfolding word_at words row_at rows net_words net_word_at net_rows net_row_at
-now_is c = refl
+now_is c v = refl
 
 pub edge_is : EdgeIs
 unfolding word_at words row_at rows net_words net_word_at net_rows net_row_at
-edge_is = refl
+edge_is v = refl
 
 pub accum_hold_by_is : AccumHoldByIs
 unfolding word_at words row_at rows net_words net_word_at net_rows net_row_at
-accum_hold_by_is g z =
+accum_hold_by_is g z v =
     same_of_two (both_make accum_hold_by) (λ g z. both_make seq (both_make accum_by g z) (makes hold z)) (λ _. refl) (λ _. refl) (λ _ _. refl)
-    (meaning networks (leaf_sort expression_sort) g) (meaning networks (leaf_sort expression_sort) z)
+    (meaning (networks v) (leaf_sort expression_sort) g) (meaning (networks v) (leaf_sort expression_sort) z)

@@ -1,7 +1,8 @@
 -- A printed certificate is read back.
-use Rattle.std.proofs.Common.{◌≡◌, ℕ, suc, ◌+◌, ◌^◌, ◌≤◌, ◌<◌, true, false, ◌&&◌, List, [], ◌∷◌, ◌++◌, length, refl, ap, ◌∙◌, arith, Option, Some, None}
+use Rattle.std.proofs.Common.{◌≡◌, ℕ, suc, ◌+◌, ◌^◌, ◌≤◌, ◌<◌, Bool, true, false, nat_lt, ◌&&◌, ◌||◌, List, [], ◌∷◌, ◌++◌, length, refl, ap, ◌∙◌, arith, Option, Some, None}
 use Rattle.std.specs.Prelude.{codes, option_map}
 use Rattle.std.specs.Fmt.{decimal}
+use Rattle.std.proofs.lemmas.Bool.{ltb-false}
 use Rattle.leaf_core.specs.Expression.{Expression}
 use Rattle.leaf_expr.specs.Token.{closing, PlacedToken, tokens, tokens_in}
 use Rattle.leaf_expr.specs.Sexpr.{Sexpr, Sexprs, atom, form, last, more, Spells, SpellAll, form_spells, last_spells, more_spells, plain, all_plain, is_word, all_word_bytes, depth, depths, spelling}
@@ -19,11 +20,13 @@ use Rattle.net_syntax.specs.declared.law_step.Law.{Law}
 use Rattle.net_syntax.specs.declared.law_step.Law.TheVariants as Law
 use Rattle.net_syntax.specs.declared.law_step.Direction.{Direction}
 use Rattle.net_syntax.specs.declared.law_step.Direction.TheVariants as Direction
-use Rattle.net_text.specs.StepGrammar.{step_parts, law_sort, direction_sort, position_sort, child_sort, step_word_at, step_row_at, directions, position_rows, law_named}
+use Rattle.net_text.specs.Grammar.{Version, version_1, version_2}
+use Rattle.net_text.specs.Printing.{version_by, version_word}
+use Rattle.net_text.specs.StepGrammar.{last_law, step_parts, law_sort, direction_sort, position_sort, child_sort, step_word_at, step_row_at, directions, position_rows, law_named}
 use Rattle.net_text.specs.CertificateLaws.{laws_tokens, IsGiven, no_tree, one_tree, IsStep, AreSteps, no_step, a_step}
-use Rattle.net_text.specs.CertificatePrinting.{law_spelling, direction_spelling, child_sexprs, tree_sexpr, given_sexprs, step_sexpr, step_lines, IsLaw, ChildrenFit, GivenFits, StepFits, StepsFit, PrintedCertificateLaw}
+use Rattle.net_text.specs.CertificatePrinting.{law_spelling, direction_spelling, child_sexprs, tree_sexpr, given_sexprs, step_sexpr, step_lines, is_new_law, is_new_given, are_new_steps, IsLaw, ChildrenFit, GivenFits, StepFits, StepsFit, PrintedCertificateLaw}
 use Rattle.net_text.proofs.Carried.{meaning_same}
-use Rattle.net_text.proofs.PrintedFile.{printed}
+use Rattle.net_text.proofs.PrintedFile.{printed, Allows, left_allowed, right_allowed, version_allows}
 
 -- a word's bytes may all stand in words
 word_bytes : (w : List ℕ) → is_word w ≡ true → all_word_bytes w ≡ true
@@ -31,44 +34,52 @@ word_bytes [] e = absurd (cc)
 word_bytes (b ∷ w) e = e
 
 -- the number of a law
-law_number : (most n : ℕ) → most ≤ 42 → 1 ≤ n → n ≤ most → read_word (natural_at 1 most (decimal n)) ≡ Some n
+law_number : (most n : ℕ) → n ≤ 46 → 1 ≤ n → n ≤ most → read_word (natural_at 1 most (decimal n)) ≡ Some n
 law_number most n m l h = ap read_word (natural_spelled 1 most n l h (omega arith))
 
 number_plain : (n : ℕ) → n ≤ 65535 → all_word_bytes (decimal n) ≡ true
 number_plain n h = word_bytes (decimal n) (decimal_is_word n (omega arith))
 
--- a printed law is that law
-law_means : (law : Law) → IsLaw law → meaning step_parts law_sort (atom (law_spelling law)) ≡ Some law
+-- a printed law is that law, in a version that has it
+law_within : (v : Version) (n : ℕ) → n ≤ 46 → Allows v (nat_lt 42 n) → n ≤ last_law v
+law_within version_2 n h a = h
+law_within version_1 n h a = go (nat_lt 42 n) refl a
+  where
+    go : (new : Bool) → nat_lt 42 n ≡ new → Allows version_1 new → n ≤ 42
+    go true p a = absurd (let i : version_1 ≡ version_2 = a refl in cc)
+    go false p a = ltb-false 42 n p
+
+law_means : (v : Version) (law : Law) → IsLaw law → Allows v (is_new_law law) → meaning (step_parts v) law_sort (atom (law_spelling law)) ≡ Some law
 unfolding step_word_at
-law_means (Law.E n) h = ap (λ o. read_word (fit (option_map Law.E o))) (law_number 18 n (omega arith) h.0 h.1)
-law_means (Law.L n) h = ap (λ o. read_word (fit (option_map Law.L o))) (law_number 42 n (omega arith) h.0 h.1)
+law_means v (Law.E n) h a = ap (λ o. read_word (fit (option_map Law.E o))) (law_number 18 n (omega (arith, h.1)) h.0 h.1)
+law_means v (Law.L n) h a = ap (λ o. read_word (fit (option_map Law.L o))) (law_number (last_law v) n h.1 h.0 (law_within v n h.1 a))
 
 law_plain : (law : Law) → IsLaw law → is_word (law_spelling law) ≡ true
 law_plain (Law.E n) h = number_plain n (omega (arith, h.1))
 law_plain (Law.L n) h = number_plain n (omega (arith, h.1))
 
-direction_means : (d : Direction) → meaning step_parts direction_sort (atom (direction_spelling d)) ≡ Some d
+direction_means : (v : Version) (d : Direction) → meaning (step_parts v) direction_sort (atom (direction_spelling d)) ≡ Some d
 unfolding step_word_at directions
-direction_means Direction.Forward = refl
-direction_means Direction.Backward = refl
+direction_means v Direction.Forward = refl
+direction_means v Direction.Backward = refl
 
 direction_plain : (d : Direction) → is_word (direction_spelling d) ≡ true
 direction_plain Direction.Forward = refl
 direction_plain Direction.Backward = refl
 
-child_means : (k : ℕ) → k ≤ 65535 → meaning step_parts child_sort (atom (decimal k)) ≡ Some k
+child_means : (v : Version) (k : ℕ) → k ≤ 65535 → meaning (step_parts v) child_sort (atom (decimal k)) ≡ Some k
 unfolding step_word_at
-child_means k h = ap read_word (natural_spelled 0 65535 k (omega arith) h (omega arith))
+child_means v k h = ap read_word (natural_spelled 0 65535 k (omega arith) h (omega arith))
 
-children_mean : (ks : List ℕ) → ChildrenFit ks → (make : List ℕ → List ℕ)
-    → make_tree step_parts position_sort (places child_sort) make (child_sexprs ks) ≡ Some (make ks)
-children_mean [] h make = refl
-children_mean (k ∷ ks) h make = let i : meaning step_parts child_sort (atom (decimal k)) ≡ Some k = child_means k h.0 in
-    rw i (children_mean ks h.1 (λ xs. make (k ∷ xs)))
+children_mean : (v : Version) (ks : List ℕ) → ChildrenFit ks → (make : List ℕ → List ℕ)
+    → make_tree (step_parts v) position_sort (places child_sort) make (child_sexprs ks) ≡ Some (make ks)
+children_mean v [] h make = refl
+children_mean v (k ∷ ks) h make = let i : meaning (step_parts v) child_sort (atom (decimal k)) ≡ Some k = child_means v k h.0 in
+    rw i (children_mean v ks h.1 (λ xs. make (k ∷ xs)))
 
-position_means : (ks : List ℕ) → ChildrenFit ks → meaning step_parts position_sort (form (codes "at") (child_sexprs ks)) ≡ Some ks
+position_means : (v : Version) (ks : List ℕ) → ChildrenFit ks → meaning (step_parts v) position_sort (form (codes "at") (child_sexprs ks)) ≡ Some ks
 unfolding step_row_at position_rows
-position_means ks h = children_mean ks h (λ xs. xs)
+position_means v ks h = children_mean v ks h (λ xs. xs)
 
 children_plain : (ks : List ℕ) → ChildrenFit ks → all_plain (child_sexprs ks) ≡ true
 children_plain [] h = refl
@@ -78,7 +89,7 @@ children_plain (k ∷ ks) h = let i : is_word (decimal k) ≡ true = decimal_is_
 given_plain : (law : Law) (o : Option (Tree Expression)) → GivenFits law o → all_plain (given_sexprs o) ≡ true
 given_plain law None h = refl
 given_plain (Law.E n) (Some (a_leaf e)) h = rw (expression_plain e h) refl
-given_plain (Law.L n) (Some (a_network f)) h = rw ((printed f h).1) refl
+given_plain (Law.L n) (Some (a_network f)) h = rw ((printed f version_2 h (λ e. refl)).1) refl
 given_plain (Law.E n) (Some (a_network f)) h = absurd h
 given_plain (Law.L n) (Some (a_leaf e)) h = absurd h
 
@@ -86,20 +97,21 @@ step_plain : (s : Step) → StepFits s → plain (step_sexpr s) ≡ true
 step_plain s h = rw (law_plain s.law h.law, direction_plain s.direction, children_plain s.position h.position, given_plain s.law s.given h.given) refl
 
 -- what is printed behind the position ends the step
-given_stands : (law : Law) (o : Option (Tree Expression)) (ts : List PlacedToken) (k : ℕ) (rest : List PlacedToken) → GivenFits law o
-    → depths (given_sexprs o) ≤ 599 → SpellAll (given_sexprs o) ts ((k, closing) ∷ rest) → IsGiven law o ts rest
-given_stands law None ts k rest h d last_spells = no_tree k rest
-given_stands (Law.E n) (Some (a_leaf e)) ts k rest h d (more_spells {n = m} a last_spells) =
+given_stands : (v : Version) (law : Law) (o : Option (Tree Expression)) (ts : List PlacedToken) (k : ℕ) (rest : List PlacedToken) → GivenFits law o
+    → Allows v (is_new_given o) → depths (given_sexprs o) ≤ 599 → SpellAll (given_sexprs o) ts ((k, closing) ∷ rest) → IsGiven v law o ts rest
+given_stands v law None ts k rest h w d last_spells = no_tree k rest
+given_stands v (Law.E n) (Some (a_leaf e)) ts k rest h w d (more_spells {n = m} a last_spells) =
     one_tree e m k ts rest
-    (record { part = expression_sexpr e; spells = a; means = meaning_same expression_sort (expression_sexpr e) ∙ expression_means e h; within = omega arith })
-given_stands (Law.L n) (Some (a_network f)) ts k rest h d (more_spells {n = m} a last_spells) =
-    one_tree f m k ts rest (record { part = tree_sexpr (a_network f); spells = a; means = (printed f h).0; within = omega arith })
-given_stands (Law.E n) (Some (a_network f)) ts k rest h d a = absurd h
-given_stands (Law.L n) (Some (a_leaf e)) ts k rest h d a = absurd h
+    (record { part = expression_sexpr e; spells = a; means = meaning_same v expression_sort (expression_sexpr e) ∙ expression_means e h; within = omega arith })
+given_stands v (Law.L n) (Some (a_network f)) ts k rest h w d (more_spells {n = m} a last_spells) =
+    one_tree f m k ts rest (record { part = tree_sexpr (a_network f); spells = a; means = (printed f v h w).0; within = omega arith })
+given_stands v (Law.E n) (Some (a_network f)) ts k rest h w d a = absurd h
+given_stands v (Law.L n) (Some (a_leaf e)) ts k rest h w d a = absurd h
 
 -- the tokens of a printed step are the step
-step_stands : (s : Step) (ts : List PlacedToken) (end : ℕ) (rest : List PlacedToken) → StepFits s → Spells (step_sexpr s) ts end rest → IsStep s ts rest
-step_stands s ts end rest h (form_spells {n = opened} {m = named} {k = close} {ts = us}
+step_stands : (v : Version) (s : Step) (ts : List PlacedToken) (end : ℕ) (rest : List PlacedToken) → StepFits s
+    → Allows v (is_new_law s.law || is_new_given s.given) → Spells (step_sexpr s) ts end rest → IsStep v s ts rest
+step_stands v s ts end rest h w (form_spells {n = opened} {m = named} {k = close} {ts = us}
     (more_spells {n = law_end} {mid = vs} a (more_spells {n = direction_end} {mid = ws} b (more_spells {n = position_end} {mid = xs} c d)))) =
     let deep : depth (step_sexpr s) ≤ 600 = h.within in
     record {
@@ -115,37 +127,43 @@ step_stands s ts end rest h (form_spells {n = opened} {m = named} {k = close} {t
             behind_law = vs;
             behind_direction = ws;
             starts = refl;
-            is_law = record { part = atom (law_spelling s.law); spells = a; means = law_means s.law h.law; within = omega arith };
-            is_direction = record { part = atom (direction_spelling s.direction); spells = b; means = direction_means s.direction; within = omega arith };
+            is_law = record { part = atom (law_spelling s.law); spells = a; means = law_means v s.law h.law (left_allowed v (is_new_law s.law) (is_new_given s.given) w); within = omega arith };
+            is_direction = record { part = atom (direction_spelling s.direction); spells = b; means = direction_means v s.direction; within = omega arith };
             is_position =
                 record {
                   part = form (codes "at") (child_sexprs s.position);
                   spells = c;
-                  means = position_means s.position h.position;
+                  means = position_means v s.position h.position;
                   within = omega arith;
                 };
           };
-      ends = given_stands s.law s.given xs close rest h.given (omega arith) d;
+      ends =
+          given_stands v s.law s.given xs close rest h.given (right_allowed v (is_new_law s.law) (is_new_given s.given) w) (omega arith) d;
     }
 
-steps_stand : (ss : List Step) (n : ℕ) → StepsFit ss → AreSteps ss (tokens_in false n (step_lines ss)) []
-steps_stand [] n h = no_step []
-steps_stand (s ∷ ss) n h =
+steps_stand : (v : Version) (ss : List Step) (n : ℕ) → StepsFit ss → Allows v (are_new_steps ss) → AreSteps v ss (tokens_in false n (step_lines ss)) []
+steps_stand v [] n h w = no_step []
+steps_stand v (s ∷ ss) n h w =
+    let new : Bool = is_new_law s.law || is_new_given s.given in
     let end : ℕ = n + length (spelling (step_sexpr s)) in
     let spelt : Spells (step_sexpr s) (tokens_in false n (step_lines (s ∷ ss))) end (tokens_in false (suc end) (step_lines ss)) =
     spells_printed (step_sexpr s) n (10 ∷ step_lines ss) (step_plain s h.0) refl in
     a_step s ss (tokens_in false n (step_lines (s ∷ ss))) (tokens_in false (suc end) (step_lines ss)) []
-    (step_stands s (tokens_in false n (step_lines (s ∷ ss))) end (tokens_in false (suc end) (step_lines ss)) h.0 spelt)
-    (steps_stand ss (suc end) h.1)
+    (step_stands v s (tokens_in false n (step_lines (s ∷ ss))) end (tokens_in false (suc end) (step_lines ss)) h.0
+    (left_allowed v new (are_new_steps ss) w) spelt)
+    (steps_stand v ss (suc end) h.1 (right_allowed v new (are_new_steps ss) w))
 
-laws_stand : (bs : List ℕ) → tokens (codes "laws 1\n" ++ bs) ≡ laws_tokens 0 5 (tokens_in false 7 bs)
-laws_stand bs = refl
+laws_stand : (v : Version) (bs : List ℕ) → tokens (codes "laws " ++ (version_word v ++ (10 ∷ bs))) ≡ laws_tokens v 0 5 (tokens_in false 7 bs)
+laws_stand version_1 bs = refl
+laws_stand version_2 bs = refl
 
 pub printed_certificate : PrintedCertificateLaw
 printed_certificate ss h l =
+    let v : Version = version_by (are_new_steps ss) in
     record {
       short = l;
+      version = v;
       behind = tokens_in false 7 (step_lines ss);
-      headed = record { laws = 0; one = 5; starts = laws_stand (step_lines ss) };
-      steps = steps_stand ss 7 h;
+      headed = record { laws = 0; number = 5; starts = laws_stand v (step_lines ss) };
+      steps = steps_stand v ss 7 h (version_allows (are_new_steps ss));
     }

@@ -1,5 +1,5 @@
 -- A printed network file is read back.
-use Rattle.std.proofs.Common.{◌≡◌, ℕ, suc, ◌+◌, ◌^◌, ◌≤◌, ◌<◌, true, false, List, [], ◌∷◌, ◌++◌, length, refl, ap, ◌∙◌, arith, Some}
+use Rattle.std.proofs.Common.{◌≡◌, ℕ, suc, ◌+◌, ◌^◌, ◌≤◌, ◌<◌, Bool, true, false, ◌||◌, List, [], ◌∷◌, ◌++◌, length, refl, ap, ◌∙◌, arith, Some}
 use Rattle.std.specs.Prelude.{codes}
 use Rattle.std.specs.Fmt.{decimal}
 use Rattle.sample_core.specs.Spelling.{type_spelling}
@@ -13,26 +13,26 @@ use Rattle.leaf_expr.proofs.Numbers.{natural_spelled, decimal_is_word}
 use Rattle.leaf_expr.proofs.PrintedMeans.{expression_means, expression_plain, index_means}
 use Rattle.leaf_expr.proofs.TextLaws.{printed_type_begins}
 use Rattle.leaf_expr.proofs.TokenLaws.{spells_printed}
-use Rattle.net_syntax.specs.Network.{Network, Networks, networks_of, arr, seq, first, par, loop_pre, i_pre, delay, hold, accum_by, after, repeatedly, time, integral, switch, d_switch, r_switch, k_switch, p_switch, old, no_members, and_member}
-use Rattle.net_text.specs.Grammar.{networks, network_sort, members_sort, leaf_sort, time_sort, Timer, delay_timer, after_timer, repeatedly_timer, least, greatest, net_word_at, net_words, net_row_at, net_rows, col_rows}
-use Rattle.net_text.specs.Printing.{network_sexpr, network_sexprs, Writable, AllWritable, TimeFits}
+use Rattle.net_syntax.specs.Network.{Network, Networks, networks_of, arr, seq, first, par, loop_pre, initial_out, initial_in, i_pre, delay, hold, accum_by, after, repeatedly, time, integral, switch, d_switch, r_switch, dr_switch, rp_switch, k_switch, p_switch, old, no_members, and_member}
+use Rattle.net_text.specs.Grammar.{Version, version_1, version_2, networks, network_sort, members_sort, leaf_sort, time_sort, Timer, delay_timer, after_timer, repeatedly_timer, least, greatest, net_word_at, net_words, net_row_at, net_rows, col_rows}
+use Rattle.net_text.specs.Printing.{network_sexpr, network_sexprs, is_new, are_new, version_by, version_word, Writable, AllWritable, TimeFits}
 use Rattle.net_text.specs.FileLaws.{PrintedFileLaw, header_tokens}
 use Rattle.net_text.proofs.Carried.{meaning_same}
 
-leaf_means : (e : Expression) → InRange e → meaning networks (leaf_sort expression_sort) (expression_sexpr e) ≡ Some e
-leaf_means e r = meaning_same expression_sort (expression_sexpr e) ∙ expression_means e r
+leaf_means : (v : Version) (e : Expression) → InRange e → meaning (networks v) (leaf_sort expression_sort) (expression_sexpr e) ≡ Some e
+leaf_means v e r = meaning_same v expression_sort (expression_sexpr e) ∙ expression_means e r
 
-index_kept : (k : ℕ) → k ≤ 65535 → meaning networks (leaf_sort index_sort) (atom (decimal k)) ≡ Some k
-index_kept k r = meaning_same index_sort (atom (decimal k)) ∙ index_means k r
+index_kept : (v : Version) (k : ℕ) → k ≤ 65535 → meaning (networks v) (leaf_sort index_sort) (atom (decimal k)) ≡ Some k
+index_kept v k r = meaning_same v index_sort (atom (decimal k)) ∙ index_means k r
 
 low : (g : Timer) (q : ℕ) → TimeFits g q → q < 2 ^ 64
 low delay_timer q r = omega (arith, r.1)
 low after_timer q r = omega (arith, r.1)
 low repeatedly_timer q r = omega (arith, r.1)
 
-time_means : (g : Timer) (q : ℕ) → TimeFits g q → meaning networks (time_sort g) (atom (decimal q)) ≡ Some q
+time_means : (v : Version) (g : Timer) (q : ℕ) → TimeFits g q → meaning (networks v) (time_sort g) (atom (decimal q)) ≡ Some q
 unfolding net_word_at
-time_means g q r = ap read_word (natural_spelled (least g) (greatest g) q r.0 r.1 (low g q r))
+time_means v g q r = ap read_word (natural_spelled (least g) (greatest g) q r.0 r.1 (low g q r))
 
 time_plain : (g : Timer) (q : ℕ) → TimeFits g q → is_word (decimal q) ≡ true
 time_plain g q r = decimal_is_word q (low g q r)
@@ -47,79 +47,139 @@ unfolding listed
 listed_are no_members = refl
 listed_are (and_member f fs) = ap (and_member f) (listed_are fs)
 
+-- the version may have what is new, if anything is
+abbrev pub Allows : Version → Bool → Type 0
+Allows v new = new ≡ true → v ≡ version_2
+
+-- and so of two parts
+pub left_allowed : (v : Version) (a b : Bool) → Allows v (a || b) → Allows v a
+left_allowed v true b h e = h refl
+left_allowed v false b h e = absurd (cc)
+
+pub right_allowed : (v : Version) (a b : Bool) → Allows v (a || b) → Allows v b
+right_allowed v true b h e = h refl
+right_allowed v false b h e = h e
+
+-- the printed version allows it
+pub version_allows : (new : Bool) → Allows (version_by new) new
+version_allows true e = refl
+version_allows false e = absurd (cc)
+
+not_second : version_1 ≡ version_2 → ⊥
+not_second e = cc
+
 -- a printed network means the network, and its words are words
 mutual
   unfolding net_word_at net_words net_row_at net_rows col_rows listed
 
-  pub printed : (f : Network Expression) → Writable f → (meaning networks network_sort (network_sexpr f) ≡ Some f) × (plain (network_sexpr f) ≡ true)
-  printed (arr e) r = (rw (leaf_means e r) refl, rw (expression_plain e r) refl)
-  printed (i_pre e) r = (rw (leaf_means e r) refl, rw (expression_plain e r) refl)
-  printed (hold e) r = (rw (leaf_means e r) refl, rw (expression_plain e r) refl)
-  printed (delay q c) r = (rw (time_means delay_timer q r.0, leaf_means c r.1) refl, rw (time_plain delay_timer q r.0, expression_plain c r.1) refl)
-  printed (after q c) r = (rw (time_means after_timer q r.0, leaf_means c r.1) refl, rw (time_plain after_timer q r.0, expression_plain c r.1) refl)
-  printed (repeatedly q c) r =
-      (rw (time_means repeatedly_timer q r.0, leaf_means c r.1) refl, rw (time_plain repeatedly_timer q r.0, expression_plain c r.1) refl)
-  printed (accum_by g z) r = (rw (leaf_means g r.0, leaf_means z r.1) refl, rw (expression_plain g r.0, expression_plain z r.1) refl)
-  printed time r = (refl, refl)
-  printed integral r = (refl, refl)
-  printed (first f) r = let i = printed f r in (rw i.0 refl, rw i.1 refl)
-  printed (seq f g) r = let i = printed f r.0 in let j = printed g r.1 in (rw (i.0, j.0) refl, rw (i.1, j.1) refl)
-  printed (switch f g) r = let i = printed f r.0 in let j = printed g r.1 in (rw (i.0, j.0) refl, rw (i.1, j.1) refl)
-  printed (d_switch f g) r = let i = printed f r.0 in let j = printed g r.1 in (rw (i.0, j.0) refl, rw (i.1, j.1) refl)
-  printed (r_switch f g) r = let i = printed f r.0 in let j = printed g r.1 in (rw (i.0, j.0) refl, rw (i.1, j.1) refl)
-  printed (k_switch f e t) r =
-      let i = printed f r.0 in
-      let j = printed e r.1 in
-      let k = printed t r.2 in
+  pub printed : (f : Network Expression) (v : Version) → Writable f → Allows v (is_new f) → (meaning (networks v) network_sort (network_sexpr f) ≡ Some f) × (plain (network_sexpr f) ≡ true)
+  printed (arr e) v r h = (rw (leaf_means v e r) refl, rw (expression_plain e r) refl)
+  printed (i_pre e) v r h = (rw (leaf_means v e r) refl, rw (expression_plain e r) refl)
+  printed (hold e) v r h = (rw (leaf_means v e r) refl, rw (expression_plain e r) refl)
+  printed (delay q c) v r h = (rw (time_means v delay_timer q r.0, leaf_means v c r.1) refl, rw (time_plain delay_timer q r.0, expression_plain c r.1) refl)
+  printed (after q c) v r h = (rw (time_means v after_timer q r.0, leaf_means v c r.1) refl, rw (time_plain after_timer q r.0, expression_plain c r.1) refl)
+  printed (repeatedly q c) v r h =
+      (rw (time_means v repeatedly_timer q r.0, leaf_means v c r.1) refl, rw (time_plain repeatedly_timer q r.0, expression_plain c r.1) refl)
+  printed (accum_by g z) v r h = (rw (leaf_means v g r.0, leaf_means v z r.1) refl, rw (expression_plain g r.0, expression_plain z r.1) refl)
+  printed time v r h = (refl, refl)
+  printed integral v r h = (refl, refl)
+  printed (first f) v r h = let i = printed f v r h in (rw i.0 refl, rw i.1 refl)
+  printed (seq f g) v r h =
+      let i = printed f v r.0 (left_allowed v (is_new f) (is_new g) h) in
+      let j = printed g v r.1 (right_allowed v (is_new f) (is_new g) h) in
+      (rw (i.0, j.0) refl, rw (i.1, j.1) refl)
+  printed (switch f g) v r h =
+      let i = printed f v r.0 (left_allowed v (is_new f) (is_new g) h) in
+      let j = printed g v r.1 (right_allowed v (is_new f) (is_new g) h) in
+      (rw (i.0, j.0) refl, rw (i.1, j.1) refl)
+  printed (d_switch f g) v r h =
+      let i = printed f v r.0 (left_allowed v (is_new f) (is_new g) h) in
+      let j = printed g v r.1 (right_allowed v (is_new f) (is_new g) h) in
+      (rw (i.0, j.0) refl, rw (i.1, j.1) refl)
+  printed (r_switch f g) v r h =
+      let i = printed f v r.0 (left_allowed v (is_new f) (is_new g) h) in
+      let j = printed g v r.1 (right_allowed v (is_new f) (is_new g) h) in
+      (rw (i.0, j.0) refl, rw (i.1, j.1) refl)
+  printed (k_switch f e t) v r h =
+      let l = right_allowed v (is_new f) (is_new e || is_new t) h in
+      let i = printed f v r.0 (left_allowed v (is_new f) (is_new e || is_new t) h) in
+      let j = printed e v r.1 (left_allowed v (is_new e) (is_new t) l) in
+      let k = printed t v r.2 (right_allowed v (is_new e) (is_new t) l) in
       (rw (i.0, j.0, k.0) refl, rw (i.1, j.1, k.1) refl)
-  printed (loop_pre c f) r = let i = printed f r.1 in (rw (leaf_means c r.0, i.0) refl, rw (expression_plain c r.0, i.1) refl)
-  printed (par fs) r = let h = members_printed fs r in (h.0 (λ xs. par (networks_of xs)) ∙ ap (λ xs. Some (par xs)) (listed_are fs), h.2)
-  printed (p_switch c fs e t) r =
-      let h = members_printed fs r.1 in
-      let j = printed e r.2 in
-      let k = printed t r.3 in
-      let m : meaning networks members_sort (form (codes "col") (network_sexprs fs)) ≡ Some fs = h.1 networks_of ∙ ap Some (listed_are fs) in
-      (rw (leaf_means c r.0, m, j.0, k.0) refl, rw (expression_plain c r.0, h.2, j.1, k.1) refl)
-  printed (old k) r = (
-    let i : meaning networks (leaf_sort index_sort) (atom (decimal k)) ≡ Some k = index_kept k r in rw i refl,
+  printed (loop_pre c f) v r h = let i = printed f v r.1 h in (rw (leaf_means v c r.0, i.0) refl, rw (expression_plain c r.0, i.1) refl)
+  printed (par fs) v r h = let i = members_printed fs v r h in (i.0 (λ xs. par (networks_of xs)) ∙ ap (λ xs. Some (par xs)) (listed_are fs), i.2)
+  printed (p_switch c fs e t) v r h =
+      let l = right_allowed v (are_new fs) (is_new e || is_new t) h in
+      let i = members_printed fs v r.1 (left_allowed v (are_new fs) (is_new e || is_new t) h) in
+      let j = printed e v r.2 (left_allowed v (is_new e) (is_new t) l) in
+      let k = printed t v r.3 (right_allowed v (is_new e) (is_new t) l) in
+      let m : meaning (networks v) members_sort (form (codes "col") (network_sexprs fs)) ≡ Some fs = i.1 networks_of ∙ ap Some (listed_are fs) in
+      (rw (leaf_means v c r.0, m, j.0, k.0) refl, rw (expression_plain c r.0, i.2, j.1, k.1) refl)
+  printed (old k) v r h = (
+    let i : meaning (networks v) (leaf_sort index_sort) (atom (decimal k)) ≡ Some k = index_kept v k r in rw i refl,
     rw (decimal_is_word k (omega arith)) refl,
   )
+  printed (initial_out c f) version_2 r h =
+      let i = printed f version_2 r.1 (λ e. refl) in
+      (rw (leaf_means version_2 c r.0, i.0) refl, rw (expression_plain c r.0, i.1) refl)
+  printed (initial_in c f) version_2 r h =
+      let i = printed f version_2 r.1 (λ e. refl) in
+      (rw (leaf_means version_2 c r.0, i.0) refl, rw (expression_plain c r.0, i.1) refl)
+  printed (dr_switch f g) version_2 r h =
+      let i = printed f version_2 r.0 (λ e. refl) in
+      let j = printed g version_2 r.1 (λ e. refl) in
+      (rw (i.0, j.0) refl, rw (i.1, j.1) refl)
+  printed (rp_switch fs c t) version_2 r h =
+      let i = members_printed fs version_2 r.0 (λ e. refl) in
+      let k = printed t version_2 r.2 (λ e. refl) in
+      let m : meaning (networks version_2) members_sort (form (codes "col") (network_sexprs fs)) ≡ Some fs = i.1 networks_of ∙ ap Some (listed_are fs) in
+      (rw (m, leaf_means version_2 c r.1, k.0) refl, rw (i.2, expression_plain c r.1, k.1) refl)
+  printed (initial_out c f) version_1 r h = absurd (not_second (h refl))
+  printed (initial_in c f) version_1 r h = absurd (not_second (h refl))
+  printed (dr_switch f g) version_1 r h = absurd (not_second (h refl))
+  printed (rp_switch fs c t) version_1 r h = absurd (not_second (h refl))
 
-  members_printed : (fs : Networks Expression) → AllWritable fs →
+  members_printed : (fs : Networks Expression) (v : Version) → AllWritable fs → Allows v (are_new fs) →
       ((make : List (Network Expression) → Network Expression) →
-      make_tree networks network_sort (places network_sort) make (network_sexprs fs) ≡ Some (make (listed fs)))
+      make_tree (networks v) network_sort (places network_sort) make (network_sexprs fs) ≡ Some (make (listed fs)))
       × ((make : List (Network Expression) → Networks Expression) →
-      make_tree networks members_sort (places network_sort) make (network_sexprs fs) ≡ Some (make (listed fs)))
+      make_tree (networks v) members_sort (places network_sort) make (network_sexprs fs) ≡ Some (make (listed fs)))
       × (all_plain (network_sexprs fs) ≡ true)
-  members_printed no_members r = (λ make. refl, λ make. refl, refl)
-  members_printed (and_member f fs) r =
-      let i = printed f r.0 in
-      let h = members_printed fs r.1 in
-      (λ make. rw i.0 (h.0 (λ xs. make (f ∷ xs))), λ make. rw i.0 (h.1 (λ xs. make (f ∷ xs))), rw i.1 h.2)
+  members_printed no_members v r h = (λ make. refl, λ make. refl, refl)
+  members_printed (and_member f fs) v r h =
+      let i = printed f v r.0 (left_allowed v (is_new f) (are_new fs) h) in
+      let j = members_printed fs v r.1 (right_allowed v (is_new f) (are_new fs) h) in
+      (λ make. rw i.0 (j.0 (λ xs. make (f ∷ xs))), λ make. rw i.0 (j.1 (λ xs. make (f ∷ xs))), rw i.1 j.2)
 
-pub printed_network : (f : Network Expression) (room n : ℕ) (bs : List ℕ) → Writable f → depth (network_sexpr f) ≤ room → begins_word bs ≡ false
+pub printed_network : (f : Network Expression) (v : Version) (room n : ℕ) (bs : List ℕ) → Writable f → Allows v (is_new f) → depth (network_sexpr f) ≤ room
+    → begins_word bs ≡ false
     → (let end = n + length (spelling (network_sexpr f)) in
-    Begins networks room network_sort f (tokens_in false n (spelling (network_sexpr f) ++ bs)) end (tokens_in false end bs))
-printed_network f room n bs w d b =
-    record { part = network_sexpr f; spells = spells_printed (network_sexpr f) n bs (printed f w).1 b; means = (printed f w).0; within = d }
+    Begins (networks v) room network_sort f (tokens_in false n (spelling (network_sexpr f) ++ bs)) end (tokens_in false end bs))
+printed_network f v room n bs w h d b =
+    let i = printed f v w h in
+    record { part = network_sexpr f; spells = spells_printed (network_sexpr f) n bs i.1 b; means = i.0; within = d }
 
-header_stands : (bs : List ℕ) → tokens (codes "yampa 1\ninput " ++ bs) ≡ header_tokens 0 6 8 (tokens_in false 14 bs)
-header_stands bs = refl
+header_stands : (v : Version) (bs : List ℕ)
+    → tokens (codes "yampa " ++ (version_word v ++ (codes "\ninput " ++ bs))) ≡ header_tokens v 0 6 8 (tokens_in false 14 bs)
+header_stands version_1 bs = refl
+header_stands version_2 bs = refl
 
 pub printed_file : PrintedFileLaw
 printed_file A f w a d l =
+    let v : Version = version_by (is_new f) in
     let net : List ℕ = spelling (network_sexpr f) ++ 10 ∷ [] in
     let stop : ℕ = 14 + length (type_spelling A) in
     record {
       short = l;
+      version = v;
       behind = tokens_in false 14 (type_spelling A ++ (10 ∷ net));
       headed =
-          record { yampa = 0; one = 6; input = 8; starts = header_stands (type_spelling A ++ (10 ∷ net)) };
+          record { yampa = 0; number = 6; input = 8; starts = header_stands v (type_spelling A ++ (10 ∷ net)) };
       type_end = stop;
       network =
           tokens_in false (suc stop) net;
       input = printed_type_begins A 600 14 (10 ∷ net) a refl;
       network_end = suc stop
           + length (spelling (network_sexpr f));
-      body = printed_network f 600 (suc stop) (10 ∷ []) w d refl;
+      body = printed_network f v 600 (suc stop) (10 ∷ []) w (version_allows (is_new f)) d refl;
     }

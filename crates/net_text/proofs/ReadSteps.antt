@@ -17,36 +17,39 @@ use Rattle.leaf_expr.specs.declared.text_fault.ExprTextFault.{ExprTextFault}
 use Rattle.leaf_expr.specs.declared.text_fault.ExprTextFault.TheVariants as E
 use Rattle.sample_core.specs.TypeTree.{TypeTree}
 use Rattle.sample_core.specs.Answer.{◌>>=◌}
-use Rattle.net_syntax.specs.Network.{Network, networks_of, and_member, map_networks}
+use Rattle.net_syntax.specs.Network.{Network, networks_of, and_member, map_network, map_networks}
+use Rattle.net_syntax.specs.FormView.{fed_form_of, fed_tree}
+use Rattle.net_syntax.specs.declared.forms.FedForm.{FedForm}
+use Rattle.net_syntax.specs.declared.forms.FedForm.TheVariants as D
 use Rattle.net_syntax.specs.NetworkView.{tree_of, members_of}
 use Rattle.net_syntax.specs.declared.net.Net.{Net}
 use Rattle.net_text.specs.File.{at_end, read_network}
-use Rattle.net_text.specs.Grammar.{networks, NetSort, NetTree, network_sort, members_sort, leaf_sort, time_sort, Timer, least, greatest, row, net_row_at, net_word_at, col_rows}
+use Rattle.net_text.specs.Grammar.{Version, networks, NetSort, NetTree, network_sort, members_sort, leaf_sort, time_sort, Timer, least, greatest, row, net_row_at, net_word_at, col_rows}
 use Rattle.net_text.proofs.Carried.{read_same}
 
--- `col` alone begins the members of `pSwitch`
-pub col_named : (w : List ℕ) → bytes_eq w (codes "col") ≡ true → Some (row (codes "col") (places network_sort) networks_of) ≡ net_row_at members_sort w
+-- `col` alone begins the members of `pSwitch` and `rpSwitchB`
+pub col_named : (v : Version) (w : List ℕ) → bytes_eq w (codes "col") ≡ true → Some (row (codes "col") (places network_sort) networks_of) ≡ net_row_at v members_sort w
 unfolding net_row_at col_rows
-col_named w e = rw e refl
+col_named v w e = rw e refl
 
-pub col_unnamed : (w : List ℕ) → bytes_eq w (codes "col") ≡ false → None ≡ net_row_at members_sort w
+pub col_unnamed : (v : Version) (w : List ℕ) → bytes_eq w (codes "col") ≡ false → None ≡ net_row_at v members_sort w
 unfolding net_row_at col_rows
-col_unnamed w e = rw e refl
+col_unnamed v w e = rw e refl
 
--- the members of `pSwitch` are no word
+-- the members of `pSwitch` and `rpSwitchB` are no word
 pub col_no_word : (n : ℕ) (w : List ℕ) (ts : List PlacedToken) → word_read n w ts (net_word_at members_sort w) ≡ Err (E.Syntax n)
 unfolding net_word_at
 col_no_word n w ts = refl
 
-module _ (size room : ℕ) {R : Type 0} where
+module _ (v : Version) (size room : ℕ) {R : Type 0} where
   -- a type or an expression as a part
   pub leaf_part : (s : Sort) {a : Tree s} {n : ℕ} {us : List PlacedToken} (ps : Places NetSort) (make : Tree s → Maker NetTree ps R) (ts : List PlacedToken) →
-      read leaf size room s ts ≡ Ok (a, n, us) → parts networks size room (place (leaf_sort s) ps) make ts ≡ parts networks size room ps (make a) us
-  leaf_part s ps make ts p = part networks size room (leaf_sort s) ps make ts (read_same size room s ts ∙ p)
+      read leaf size room s ts ≡ Ok (a, n, us) → parts (networks v) size room (place (leaf_sort s) ps) make ts ≡ parts (networks v) size room ps (make a) us
+  leaf_part s ps make ts p = part (networks v) size room (leaf_sort s) ps make ts (read_same v size room s ts ∙ p)
 
   pub no_leaf : (s : Sort) (x : ExprTextFault) (ps : Places NetSort) (make : Tree s → Maker NetTree ps R) (ts : List PlacedToken) →
-      Refuses x (read leaf size room s ts) → Refuses x (parts networks size room (place (leaf_sort s) ps) make ts)
-  no_leaf s x ps make ts p = no_part networks size room (leaf_sort s) x ps make ts (subst (Refuses x) (sym (read_same size room s ts)) p)
+      Refuses x (read leaf size room s ts) → Refuses x (parts (networks v) size room (place (leaf_sort s) ps) make ts)
+  no_leaf s x ps make ts p = no_part (networks v) size room (leaf_sort s) x ps make ts (subst (Refuses x) (sym (read_same v size room s ts)) p)
 
 -- what the code reads behind a part, and keeps beside it
 pub read_behind : {X Y : Type 0} (view : X → Y) (r : Result X ExprTextFault) {x : X} {read : Result Y ExprTextFault} → r ≡ Ok x → Gives view r read
@@ -66,15 +69,21 @@ room_left s text room at view r h found refused =
     subst (λ m. Gives view r (tree_at s text m at)) (omega arith) (tree_given s text (600 - (600 - room)) at view r found refused)
 
 -- the time of a form is a number
-pub time_read : (size room : ℕ) (g : Timer) (ts : List PlacedToken) → read networks size room (time_sort g) ts
+pub time_read : (v : Version) (size room : ℕ) (g : Timer) (ts : List PlacedToken) → read (networks v) size room (time_sort g) ts
     ≡ (read_head leaf size room ts >>= (λ h. word_read h.0 h.1 h.2 (natural_at (least g) (greatest g) h.1)))
 unfolding net_word_at
-time_read size room g ts = formless_read networks size room (time_sort g) ts refl
+time_read v size room g ts = formless_read (networks v) size room (time_sort g) ts refl
 
 -- the code's members are the networks that were read
 pub members_are : (all : List (Net Expr)) → map_networks expression_of (members_of all) ≡ networks_of (map tree_of all)
 members_are [] = refl
 members_are (x ∷ xs) = ap (and_member (tree_of x)) (members_are xs)
+
+-- a form of an expression and a network is that of their trees
+pub fed_made : (g : FedForm) (c : Expr) (h : Network Expr) → tree_of (fed_form_of g c h) ≡ fed_tree g (expression_of c) (map_network expression_of h)
+fed_made D.LoopPre c h = refl
+fed_made D.InitialOut c h = refl
+fed_made D.InitialIn c h = refl
 
 -- a network with nothing behind it, with the type before it
 module _ (A : TypeTree) where
@@ -93,13 +102,13 @@ module _ (A : TypeTree) where
   with_type (Ok (g, n, x ∷ ts)) = refl
   with_type (Err x) = refl
 
-  pub body_read : {g : Network Expression} (size n : ℕ) (ts : List PlacedToken) →
-      (read networks size 600 network_sort ts >>= (λ h. at_end h.0 h.2)) ≡ Ok g → read_network size (A, n, ts) ≡ Ok (A, g)
+  pub body_read : {g : Network Expression} (v : Version) (size n : ℕ) (ts : List PlacedToken) →
+      (read (networks v) size 600 network_sort ts >>= (λ h. at_end h.0 h.2)) ≡ Ok g → read_network v size (A, n, ts) ≡ Ok (A, g)
   unfolding beside behind alone
-  body_read size n ts p = with_type (read networks size 600 network_sort ts) ∙ ap (λ q. q >>= beside) p
+  body_read v size n ts p = with_type (read (networks v) size 600 network_sort ts) ∙ ap (λ q. q >>= beside) p
 
-  pub body_refused : (x : ExprTextFault) (size n : ℕ) (ts : List PlacedToken) →
-      Refuses x (read networks size 600 network_sort ts >>= (λ h. at_end h.0 h.2)) → Refuses x (read_network size (A, n, ts))
+  pub body_refused : (x : ExprTextFault) (v : Version) (size n : ℕ) (ts : List PlacedToken) →
+      Refuses x (read (networks v) size 600 network_sort ts >>= (λ h. at_end h.0 h.2)) → Refuses x (read_network v size (A, n, ts))
   unfolding beside behind alone
-  body_refused x size n ts p =
-      subst (Refuses x) (sym (with_type (read networks size 600 network_sort ts))) (passed x (read networks size 600 network_sort ts >>= alone) beside p)
+  body_refused x v size n ts p =
+      subst (Refuses x) (sym (with_type (read (networks v) size 600 network_sort ts))) (passed x (read (networks v) size 600 network_sort ts >>= alone) beside p)

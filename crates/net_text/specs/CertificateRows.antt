@@ -1,7 +1,7 @@
 -- Certificate files, read once each.
 use Rattle.std.specs.Prelude.{◌≡◌, ℕ, List, [], ◌∷◌, map, pos, Some, None, Ok, Err, codes}
 use Rattle.leaf_core.specs.Expression.{Expression, input, int_expr, pair_expr, fst}
-use Rattle.net_syntax.specs.Network.{seq, arr, time}
+use Rattle.net_syntax.specs.Network.{seq, arr, time, initial_out}
 use Rattle.net_syntax.specs.Place.{Tree, a_network, a_leaf}
 use Rattle.net_syntax.specs.LawStep.{Step}
 use Rattle.net_syntax.specs.declared.law_step.Law.{Law}
@@ -38,6 +38,9 @@ CertificateRows =
     ∷ forward (Law.E 7) (0 ∷ []) ∷ [])
     × IsRead (codes "laws 1 (step L1 backward (at 0 12) (>>> identity time))")
     (backward (Law.L 1) (0 ∷ 12 ∷ []) (a_network (seq (arr input) time)) ∷ [])
+    × IsRead (codes "laws 2") []
+    × IsRead (codes "laws 2 (step L1 backward (at) (--> 1 time))")
+    (backward (Law.L 1) [] (a_network (initial_out (int_expr (pos 1)) time)) ∷ [])
 
 -- the first and the last law of each kind
 abbrev pub LawRows : Type 0
@@ -46,9 +49,14 @@ LawRows =
     × IsRead (codes "laws 1 (step E18 forward (at))") (forward (Law.E 18) [] ∷ [])
     × IsRead (codes "laws 1 (step L1 forward (at))") (forward (Law.L 1) [] ∷ [])
     × IsRead (codes "laws 1 (step L42 forward (at))") (forward (Law.L 42) [] ∷ [])
+    × IsRead (codes "laws 2 (step L42 forward (at))") (forward (Law.L 42) [] ∷ [])
+    × IsRead (codes "laws 2 (step L43 forward (at))") (forward (Law.L 43) [] ∷ [])
+    × IsRead (codes "laws 2 (step L46 forward (at))") (forward (Law.L 46) [] ∷ [])
     × AreRefused
     (codes "laws 1 (step E0 forward (at))" ∷ codes "laws 1 (step E19 forward (at))"
     ∷ codes "laws 1 (step L0 forward (at))" ∷ codes "laws 1 (step L43 forward (at))"
+    ∷ codes "laws 2 (step L0 forward (at))" ∷ codes "laws 2 (step L47 forward (at))"
+    ∷ codes "laws 2 (step E19 forward (at))"
     ∷ codes "laws 1 (step L01 forward (at))" ∷ codes "laws 1 (step 4 forward (at))"
     ∷ codes "laws 1 (step E forward (at))" ∷ codes "laws 1 (step (E1) forward (at))" ∷ [])
     (V.Syntax 13)
@@ -57,7 +65,8 @@ LawRows =
 abbrev pub CertificateFaultRows : Type 0
 CertificateFaultRows =
     AreRefused
-    (codes "" ∷ codes "laws" ∷ codes "laws 2" ∷ codes "laws 2 (step L43 forward (at))"
+    (codes "" ∷ codes "laws" ∷ codes "laws 3" ∷ codes "laws 3 (step L43 forward (at))"
+    ∷ codes "laws 02"
     ∷ codes "yampa 1 input Int time" ∷ codes "((((" ∷ [])
     V.Header
     × AreRefused
@@ -85,4 +94,7 @@ CertificateFaultRows =
     ∷ codes "laws 1 (step E7 forward (at) time)" ∷ [])
     (V.Syntax 29)
     × AreRefused (codes "laws 1 (step E7 forward (at) 05)" ∷ []) (V.Number 29)
-    × AreRefused (codes "laws 1 (step E7 forward (at) x x)" ∷ []) (V.Syntax 31)
+    × AreRefused
+    (codes "laws 1 (step E7 forward (at) x x)" ∷ codes "laws 1 (step L1 backward (at) (--> 1 time))"
+    ∷ [])
+    (V.Syntax 31)

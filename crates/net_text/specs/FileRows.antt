@@ -5,19 +5,23 @@ use Rattle.leaf_core.specs.Expression.{Expression, input, unit_expr, bool_expr, 
 use Rattle.leaf_expr.specs.Sexpr.{Sexpr, atom}
 use Rattle.leaf_expr.specs.Language.{meaning}
 use Rattle.leaf_expr.specs.Printing.{one, two, three}
-use Rattle.net_syntax.specs.Network.{Network, arr, seq, first, par, loop_pre, i_pre, delay, hold, accum_by, after, repeatedly, time, integral, switch, d_switch, r_switch, k_switch, p_switch, old, no_members, and_member}
-use Rattle.net_text.specs.Grammar.{networks, network_sort}
+use Rattle.net_syntax.specs.Network.{Network, arr, seq, first, par, loop_pre, initial_out, initial_in, i_pre, delay, hold, accum_by, after, repeatedly, time, integral, switch, d_switch, r_switch, dr_switch, rp_switch, k_switch, p_switch, old, no_members, and_member}
+use Rattle.net_text.specs.Grammar.{Version, networks, network_sort}
 use Rattle.net_text.specs.File.{read_file}
 use Rattle.net_text.specs.declared.fault.NetTextFault.{NetTextFault}
 use Rattle.net_text.specs.declared.fault.NetTextFault.TheVariants as V
 
--- the file of that network, with numbers as its input
+-- the file of the first version of that network, with numbers as its input
 abbrev pub file_of : List ℕ → List ℕ
 file_of bs = codes "yampa 1 input Int " ++ bs
 
 -- the text is that network
 abbrev pub IsNetwork : List ℕ → Network Expression → Type 0
 IsNetwork bs f = read_file (file_of bs) ≡ Ok (int_ty, f)
+
+-- each of the texts is no file, for that fault
+abbrev pub AreNoFiles : List (List ℕ) → NetTextFault → Type 0
+AreNoFiles texts f = map read_file texts ≡ map (λ bs. Err f) texts
 
 -- the text is no network, for that fault; the network begins at byte 18
 abbrev pub IsNoNetwork : List ℕ → NetTextFault → Type 0
@@ -26,6 +30,19 @@ IsNoNetwork bs f = read_file (file_of bs) ≡ Err f
 -- each of the texts is no network, for that fault
 abbrev pub AreNoNetworks : List (List ℕ) → NetTextFault → Type 0
 AreNoNetworks texts f = map (λ bs. read_file (file_of bs)) texts ≡ map (λ bs. Err f) texts
+
+-- the file of the second version of that network, with numbers as its input
+abbrev pub new_file_of : List ℕ → List ℕ
+new_file_of bs = codes "yampa 2 input Int " ++ bs
+
+-- the text is that network in the second version
+abbrev pub IsNewNetwork : List ℕ → Network Expression → Type 0
+IsNewNetwork bs f = read_file (new_file_of bs) ≡ Ok (int_ty, f)
+
+-- each of the texts is no network in the second version, for that fault
+abbrev pub AreNoNewNetworks : List (List ℕ) → NetTextFault → Type 0
+AreNoNewNetworks texts f =
+    map (λ bs. read_file (new_file_of bs)) texts ≡ map (λ bs. Err f) texts
 
 -- each form without networks
 abbrev pub CellRows : Type 0
@@ -62,6 +79,18 @@ NetworkRows =
     × IsNetwork (codes "(pSwitch x (col time integral) (old 0) (old 1))")
     (p_switch input (and_member time (and_member integral no_members)) (old 0) (old 1))
 
+-- each form of the second version, and one of the first
+abbrev pub NewRows : Type 0
+NewRows =
+    IsNewNetwork (codes "(--> 7 time)") (initial_out (int_expr (pos 7)) time)
+    × IsNewNetwork (codes "(>-- 9 (iPre 0))")
+    (initial_in (int_expr (pos 9)) (i_pre (int_expr (pos 0))))
+    × IsNewNetwork (codes "(drSwitch time integral)") (dr_switch time integral)
+    × IsNewNetwork (codes "(rpSwitchB (col) x time)") (rp_switch no_members input time)
+    × IsNewNetwork (codes "(rpSwitchB (col time integral) x (old 0))")
+    (rp_switch (and_member time (and_member integral no_members)) input (old 0))
+    × IsNewNetwork (codes "(first time)") (first time)
+
 -- `(pair (snd x) (fst x))`
 abbrev pub swap_expr : Expression
 swap_expr = pair_expr (snd input) (fst input)
@@ -89,9 +118,10 @@ SugarRows =
     (no_event_expr unit_ty))))
     × IsNetwork (codes "(accumHoldBy x unit)") (seq (accum_by input unit_expr) (hold unit_expr))
 
--- the two texts mean one network, or neither means one
+-- in each version the two texts mean one network, or neither means one
 abbrev pub MeanSame : Sexpr → Sexpr → Type 0
-MeanSame p q = meaning networks network_sort p ≡ meaning networks network_sort q
+MeanSame p q = (v : Version)
+    → meaning (networks v) network_sort p ≡ meaning (networks v) network_sort q
 
 -- sugar: `identity` means `(arr x)`
 abbrev pub IdentityIs : Type 0
@@ -157,12 +187,16 @@ AccumHoldByIs = (g z : Sexpr) → MeanSame (two (codes "accumHoldBy") g z)
 -- refusals of headers and of what stands where a network must
 abbrev pub FileFaultRows : Type 0
 FileFaultRows =
-    (read_file (codes "yampa 3 input Int time") ≡ Err V.Header)
-    × (read_file (codes "yampa 2 input Int time") ≡ Err V.Header)
+    AreNoFiles
+    (codes "yampa 3 input Int time" ∷ codes "yampa 02 input Int time"
+    ∷ codes "yampa input Int time" ∷ codes "yampa 2" ∷ [])
+    V.Header
+    × AreNoFiles (codes "yampa 1 input" ∷ codes "yampa 2 input" ∷ []) (V.Syntax 13)
     × AreNoNetworks (codes "arr" ∷ codes "5" ∷ []) (V.Syntax 18)
     × AreNoNetworks
     (codes "(5 time)" ∷ codes "(time)" ∷ codes "(identity)" ∷ codes "(edge)" ∷ codes "(col time)"
-    ∷ codes "(drSwitch time time)" ∷ codes "(--> 0 time)" ∷ [])
+    ∷ codes "(--> 7 time)" ∷ codes "(>-- 7 time)" ∷ codes "(drSwitch time time)"
+    ∷ codes "(rpSwitchB (col) x time)" ∷ [])
     (V.Syntax 19)
     × IsNoNetwork (codes "(arr") (V.Syntax 22)
     × IsNoNetwork (codes "(arr 01)") (V.Number 23)
@@ -170,6 +204,16 @@ FileFaultRows =
     × IsNoNetwork (codes "identity )") (V.Syntax 27)
     × IsNoNetwork (codes "(loopPre 01 time)") (V.Number 27)
     × IsNoNetwork (codes "(parB time") (V.Syntax 28)
+
+-- refusals in the second version
+abbrev pub NewFaultRows : Type 0
+NewFaultRows =
+    AreNoNewNetworks (codes "-->" ∷ codes "drSwitch" ∷ []) (V.Syntax 18)
+    × AreNoNewNetworks (codes "(-> 7 time)" ∷ codes "(col time)" ∷ []) (V.Syntax 19)
+    × AreNoNewNetworks (codes "(--> 01 time)" ∷ codes "(>-- 01 time)" ∷ []) (V.Number 23)
+    × AreNoNewNetworks (codes "(rpSwitchB time x time)" ∷ []) (V.Syntax 29)
+    × AreNoNewNetworks (codes "(rpSwitchB (cal time) x time)" ∷ []) (V.Syntax 30)
+    × AreNoNewNetworks (codes "(rpSwitchB (col) x)" ∷ []) (V.Syntax 36)
 
 -- refusals of numbers of frozen networks and of times
 abbrev pub NumberFaultRows : Type 0

@@ -1,17 +1,20 @@
 // Reading certificates.
 
 ghost use Rattle.std.specs.Prelude.{◌≡◌, ◌<◌, ◌^◌, Some, length, map};
-ghost use Rattle.leaf_expr.specs.{Language.no_place, Language.read_word, ReadText.Gives, ReadText.fit, Token.tokens_from, WordReading.natural_at};
+ghost use Rattle.leaf_expr.specs.{Language.no_place, Language.read_word, ReadText.Gives, ReadText.fit, Grammar.word_among, WordReading.natural_at, WordReading.unfit};
 ghost use Rattle.net_syntax.specs.LawStep.{step_of};
 ghost use Rattle.net_text.specs.Certificate.{read_opening};
 ghost use Rattle.net_text.specs.Certificate as certificate;
-ghost use Rattle.net_text.specs.StepGrammar.{law_sort, direction_sort, position_sort, step_word_at};
+ghost use Rattle.net_text.specs.Form.{version_of};
+ghost use Rattle.net_text.specs.StepGrammar.{law_sort, direction_sort, directions, position_sort, step_word_at};
+ghost use Rattle.net_text.specs.StepGrammar as grammar;
 ghost use Rattle.net_text.specs.ReadCertificate.{left, part_at, position_form, children_from, given_from, given_left, step_from, step_left, steps_from};
 ghost use Rattle.net_syntax.specs.Place.{a_network, a_leaf};
 ghost use Rattle.net_text.specs.Grammar.{e, f};
-ghost use Rattle.net_text.specs.ReadNet.{parts_at};
+ghost use Rattle.net_text.specs.ReadNet.{from_byte, parts_at};
 
 use crate::network_reader::{both, last_expr_at, network_at};
+use crate::text::{Text, Version};
 use leaf_expr::{
     ExprTextFault, Front, MAX_OPEN, Read, closing_at, form_end, form_head, front_at, natural_named,
     read_index, token_at,
@@ -24,13 +27,17 @@ use std::alloc::Global;
 const ROOM: usize = MAX_OPEN - 1;
 
 /// The steps at or after byte `at`, up to the end of the text.
-pub(crate) fn steps_at(alloc: Global, text: &[u8], at: usize) -> Result<Vec<LawStep>, ExprTextFault>
+pub(crate) fn steps_at(
+    alloc: Global,
+    text: &Text<'_>,
+    at: usize,
+) -> Result<Vec<LawStep>, ExprTextFault>
     ensures { Gives (λ steps. map step_of steps.items) result (steps_from text.now at) }
 {
     let mut steps = Vec::new(alloc);
     let mut next = at;
     loop {
-        if token_at(text, next).is_none() {
+        if token_at(text.bytes, next).is_none() {
             return Ok(steps);
         }
         let (step, behind) = step_at(alloc, text, next)?;
@@ -40,7 +47,7 @@ pub(crate) fn steps_at(alloc: Global, text: &[u8], at: usize) -> Result<Vec<LawS
 }
 
 /// The step at or after byte `at`, and the byte behind it.
-fn step_at(alloc: Global, text: &[u8], at: usize) -> Read<LawStep>
+fn step_at(alloc: Global, text: &Text<'_>, at: usize) -> Read<LawStep>
     ensures { Gives (step_left text.now) result (step_from text.now at) }
 {
     let at = step_front(text, at)?;
@@ -58,23 +65,23 @@ fn step_at(alloc: Global, text: &[u8], at: usize) -> Read<LawStep>
 }
 
 /// The byte behind `(step`, which must stand at or after byte `at`.
-fn step_front(text: &[u8], at: usize) -> Result<usize, ExprTextFault>
-    ensures { Gives (λ n. tokens_from n text.now) result
-        (read_opening (length text.now) (tokens_from at text.now)) }
+fn step_front(text: &Text<'_>, at: usize) -> Result<usize, ExprTextFault>
+    ensures { Gives (λ n. from_byte n text.now) result
+        (read_opening (length text.now.bytes.now) (version_of text.now.version) (from_byte at text.now)) }
 {
-    match front_at(text, at, MAX_OPEN)? {
+    match front_at(text.bytes, at, MAX_OPEN)? {
         Front::Form(start) => step_name(text, start + 1),
         Front::Word(start, _) => Err(ExprTextFault::Syntax { at: start }),
     }
 }
 
 /// The byte behind the word `step`, which must be the first token at or after byte `at`.
-fn step_name(text: &[u8], at: usize) -> Result<usize, ExprTextFault>
-    ensures { Gives (λ n. tokens_from n text.now) result
-        (certificate.read_name (length text.now) (tokens_from at text.now)) }
+fn step_name(text: &Text<'_>, at: usize) -> Result<usize, ExprTextFault>
+    ensures { Gives (λ n. from_byte n text.now) result
+        (certificate.read_name (length text.now.bytes.now) (version_of text.now.version) (from_byte at text.now)) }
 {
-    let (start, end) = form_head(text, at, ROOM)?;
-    if word_is(&text[start..end], "step") {
+    let (start, end) = form_head(text.bytes, at, ROOM)?;
+    if word_is(&text.bytes[start..end], "step") {
         Ok(end)
     } else {
         Err(ExprTextFault::Syntax { at: start })
@@ -82,28 +89,38 @@ fn step_name(text: &[u8], at: usize) -> Result<usize, ExprTextFault>
 }
 
 /// The law that must be the first token at or after byte `at`, and the byte behind it.
-fn law_at(text: &[u8], at: usize) -> Read<Law>
+fn law_at(text: &Text<'_>, at: usize) -> Read<Law>
     ensures { Gives (left text.now) result (part_at law_sort text.now at) }
 {
-    let (start, end) = form_head(text, at, ROOM)?;
-    match law_named(&text[start..end]) {
+    let (start, end) = form_head(text.bytes, at, ROOM)?;
+    match law_named(&text.bytes[start..end], text.version) {
         Some(law) => Ok((law, end)),
         None => Err(ExprTextFault::Syntax { at: start }),
     }
 }
 
-/// The law that the word names.
+/// The law that the word names in that version.
 #[tactic(auto, unfolding(crate::specs::StepGrammar::step_word_at))]
-fn law_named(word: &[u8]) -> Option<Law>
-    ensures { step_word_at law_sort word.now ≡ fit result }
+fn law_named(word: &[u8], version: Version) -> Option<Law>
+    ensures { step_word_at (version_of version) law_sort word.now ≡ fit result }
 {
     let (letter, digits) = word.split_first()?;
     if *letter == b'E' {
         Some(Law::E(law_number(digits, 18)?))
     } else if *letter == b'L' {
-        Some(Law::L(law_number(digits, 42)?))
+        Some(Law::L(law_number(digits, last_law(version))?))
     } else {
         None
+    }
+}
+
+/// The last law of networks of the version.
+fn last_law(version: Version) -> u8
+    ensures { result ≡ grammar.last_law (version_of version) }
+{
+    match version {
+        Version::One => 42,
+        Version::Two => 46,
     }
 }
 
@@ -116,20 +133,21 @@ fn law_number(word: &[u8], most: u8) -> Option<u8>
 }
 
 /// The direction that must be the first token at or after byte `at`, and the byte behind it.
-fn direction_at(text: &[u8], at: usize) -> Read<Direction>
+#[tactic(auto, unfolding(crate::specs::StepGrammar::step_word_at))]
+fn direction_at(text: &Text<'_>, at: usize) -> Read<Direction>
     ensures { Gives (left text.now) result (part_at direction_sort text.now at) }
 {
-    let (start, end) = form_head(text, at, ROOM)?;
-    match direction_named(&text[start..end]) {
+    let (start, end) = form_head(text.bytes, at, ROOM)?;
+    match direction_named(&text.bytes[start..end]) {
         Some(direction) => Ok((direction, end)),
         None => Err(ExprTextFault::Syntax { at: start }),
     }
 }
 
 /// The direction that the word is.
-#[tactic(auto, unfolding(crate::specs::StepGrammar::step_word_at, crate::specs::StepGrammar::directions))]
+#[tactic(auto, unfolding(crate::specs::StepGrammar::directions))]
 fn direction_named(word: &[u8]) -> Option<Direction>
-    ensures { step_word_at direction_sort word.now ≡ fit result }
+    ensures { word_among word.now directions unfit ≡ fit result }
 {
     if word_is(word, "forward") {
         Some(Direction::Forward)
@@ -141,21 +159,21 @@ fn direction_named(word: &[u8]) -> Option<Direction>
 }
 
 /// The position `(at N1 .. Nk)` at or after byte `at`, and the byte behind it.
-fn position_at(alloc: Global, text: &[u8], at: usize) -> Read<Position>
+fn position_at(alloc: Global, text: &Text<'_>, at: usize) -> Read<Position>
     ensures { Gives (left text.now) result (part_at position_sort text.now at) }
 {
-    match front_at(text, at, ROOM)? {
+    match front_at(text.bytes, at, ROOM)? {
         Front::Form(start) => position_form_at(alloc, text, start + 1),
         Front::Word(start, _) => Err(ExprTextFault::Syntax { at: start }),
     }
 }
 
 /// What stands behind the parenthesis of `(at N1 .. Nk)`.
-fn position_form_at(alloc: Global, text: &[u8], at: usize) -> Read<Position>
+fn position_form_at(alloc: Global, text: &Text<'_>, at: usize) -> Read<Position>
     ensures { Gives (left text.now) result (position_form text.now at) }
 {
-    let (start, end) = form_head(text, at, ROOM - 1)?;
-    if word_is(&text[start..end], "at") {
+    let (start, end) = form_head(text.bytes, at, ROOM - 1)?;
+    if word_is(&text.bytes[start..end], "at") {
         children_at(alloc, text, end)
     } else {
         Err(ExprTextFault::Syntax { at: start })
@@ -163,16 +181,16 @@ fn position_form_at(alloc: Global, text: &[u8], at: usize) -> Read<Position>
 }
 
 /// Child numbers up to the end of the position, and the byte behind it.
-fn children_at(alloc: Global, text: &[u8], at: usize) -> Read<Position>
+fn children_at(alloc: Global, text: &Text<'_>, at: usize) -> Read<Position>
     ensures { Gives (left text.now) result (children_from text.now at) }
 {
     let mut path = Vec::new(alloc);
     let mut next = at;
     loop {
-        if let Some(end) = closing_at(text, next) {
+        if let Some(end) = closing_at(text.bytes, next) {
             return Ok((Position::new(path), end));
         }
-        let (child, behind) = read_index(text, next, ROOM - 1)?;
+        let (child, behind) = read_index(text.bytes, next, ROOM - 1)?;
         path.push(child)?;
         next = behind;
     }
@@ -180,10 +198,10 @@ fn children_at(alloc: Global, text: &[u8], at: usize) -> Read<Position>
 
 /// The end of a step of that law at or after byte `at`, perhaps with a given tree before it, and
 /// the byte behind the step.
-fn given_at(alloc: Global, text: &[u8], at: usize, law: Law) -> Read<Option<Tree>>
+fn given_at(alloc: Global, text: &Text<'_>, at: usize, law: Law) -> Read<Option<Tree>>
     ensures { Gives (given_left text.now) result (given_from law text.now at) }
 {
-    if let Some(end) = closing_at(text, at) {
+    if let Some(end) = closing_at(text.bytes, at) {
         return Ok((None, end));
     }
     match law {
@@ -193,7 +211,7 @@ fn given_at(alloc: Global, text: &[u8], at: usize, law: Law) -> Read<Option<Tree
 }
 
 /// A given expression, and the end of the step.
-fn given_expr_at(alloc: Global, text: &[u8], at: usize) -> Read<Option<Tree>>
+fn given_expr_at(alloc: Global, text: &Text<'_>, at: usize) -> Read<Option<Tree>>
     ensures { Gives (given_left text.now) result
         (parts_at (e no_place) (λ e. Some (a_leaf e)) text.now 599 at) }
 {
@@ -202,11 +220,11 @@ fn given_expr_at(alloc: Global, text: &[u8], at: usize) -> Read<Option<Tree>>
 }
 
 /// A given network, and the end of the step.
-fn given_net_at(alloc: Global, text: &[u8], at: usize) -> Read<Option<Tree>>
+fn given_net_at(alloc: Global, text: &Text<'_>, at: usize) -> Read<Option<Tree>>
     ensures { Gives (given_left text.now) result
         (parts_at (f no_place) (λ f. Some (a_network f)) text.now 599 at) }
 {
     let (net, at) = network_at(alloc, text, at, ROOM)?;
-    let (net, end) = both(net, form_end(text, at, ROOM))?;
+    let (net, end) = both(net, form_end(text.bytes, at, ROOM))?;
     Ok((Some(Tree::Net(net)), end))
 }

@@ -9,8 +9,8 @@ use thiserror::Error;
 /// token that doesn't fit, counted from 0, or the text's length where it ends too early.
 #[derive(Debug, Drop, PartialEq, Eq, Error)]
 pub enum NetTextFault {
-    /// The first three tokens of a network file aren't `yampa`, `1`, `input`, or the first two of a
-    /// certificate file `laws`, `1`.
+    /// The first three tokens of a network file aren't `yampa`, `1` or `2`, and `input`, or the
+    /// first two of a certificate file `laws`, and `1` or `2`.
     #[error("header")]
     Header,
     /// A token that doesn't fit and is none of the next two, or no further token.

@@ -4,13 +4,14 @@ ghost use Rattle.std.specs.Prelude.{◌≡◌, ◌≤◌, ◌^◌, IfOk, option_
 ghost use Rattle.leaf_core.specs.ExpressionView.{expression_of};
 ghost use Rattle.leaf_expr.specs.ReadText.{fit};
 ghost use Rattle.net_syntax.specs.{Network.map_network, NetworkView.tree_of};
-ghost use Rattle.net_text.specs.Form.{form_row, word_of};
+ghost use Rattle.net_text.specs.Form.{form_row, version_of, word_of};
 ghost use Rattle.leaf_expr.specs.Language.{row_among};
-ghost use Rattle.net_text.specs.Grammar.{cell_rows, pair_rows, other_rows, net_row_at, net_word_at, network_sort};
+ghost use Rattle.net_text.specs.Grammar.{cell_rows, pair_rows, other_rows, new_rows, version_2, net_row_at, net_word_at, network_sort};
 
 use crate::sugar::{Made, accum_hold_by, beside, constant, edge, fan_out, second};
+use crate::text::Version;
 use leaf_expr::Expr;
-use net_syntax::{Net, NetChild};
+use net_syntax::{FedForm, Net, NetChild};
 use sample_core::word_is;
 use std::alloc::Global;
 
@@ -62,6 +63,7 @@ pub(crate) enum Binary {
     Switch,
     DSwitch,
     RSwitch,
+    DrSwitch,
     Beside,
     FanOut,
 }
@@ -74,14 +76,15 @@ pub(crate) enum Form {
     Accumulator(Accumulator),
     Unary(Unary),
     Binary(Binary),
-    /// An expression and a network.
-    LoopPre,
+    Fed(FedForm),
     /// Any number of networks.
     Par,
     /// Three networks.
     KSwitch,
     /// An expression, members, and two networks.
     PSwitch,
+    /// Members, an expression, and a network.
+    RpSwitch,
     /// The number of a frozen network.
     Old,
     /// A type.
@@ -202,6 +205,7 @@ impl Binary {
             Binary::Switch => Ok(Net::Switch(f, g)),
             Binary::DSwitch => Ok(Net::DSwitch(f, g)),
             Binary::RSwitch => Ok(Net::RSwitch(f, g)),
+            Binary::DrSwitch => Ok(Net::DrSwitch(f, g)),
             Binary::Beside => beside(alloc, f, g),
             Binary::FanOut => fan_out(alloc, f, g),
         }
@@ -267,7 +271,7 @@ fn other_named(word: &[u8]) -> Option<Form>
     ensures { option_map form_row result ≡ row_among word.now other_rows }
 {
     if word_is(word, "loopPre") {
-        Some(Form::LoopPre)
+        Some(Form::Fed(FedForm::LoopPre))
     } else if word_is(word, "parB") {
         Some(Form::Par)
     } else if word_is(word, "kSwitch") {
@@ -283,16 +287,45 @@ fn other_named(word: &[u8]) -> Option<Form>
     }
 }
 
-/// The form of networks that the word begins.
-pub(crate) fn form_named(word: &[u8]) -> Option<Form>
-    ensures { option_map form_row result ≡ net_row_at network_sort word.now }
+/// The form of the second version alone that the word begins.
+fn new_named(word: &[u8]) -> Option<Form>
+    ensures { option_map form_row result ≡ row_among word.now (new_rows version_2) }
+{
+    if word_is(word, "-->") {
+        Some(Form::Fed(FedForm::InitialOut))
+    } else if word_is(word, ">--") {
+        Some(Form::Fed(FedForm::InitialIn))
+    } else if word_is(word, "drSwitch") {
+        Some(Form::Binary(Binary::DrSwitch))
+    } else if word_is(word, "rpSwitchB") {
+        Some(Form::RpSwitch)
+    } else {
+        None
+    }
+}
+
+/// The form that the word begins in that version and in none before it.
+fn added_named(word: &[u8], version: Version) -> Option<Form>
+    ensures { option_map form_row result ≡ row_among word.now (new_rows (version_of version)) }
+{
+    match version {
+        Version::One => None,
+        Version::Two => new_named(word),
+    }
+}
+
+/// The form of networks that the word begins in that version.
+pub(crate) fn form_named(word: &[u8], version: Version) -> Option<Form>
+    ensures { option_map form_row result ≡ net_row_at (version_of version) network_sort word.now }
 {
     if let Some(form) = cell_named(word) {
         Some(form)
     } else if let Some(form) = pair_named(word) {
         Some(form)
+    } else if let Some(form) = other_named(word) {
+        Some(form)
     } else {
-        other_named(word)
+        added_named(word, version)
     }
 }
 

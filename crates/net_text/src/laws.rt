@@ -1,24 +1,26 @@
 // What network files mean, as laws of the definitions.
 
 ghost use Rattle.leaf_expr.specs.ReadLaws.{FoundLaw, OnlyLaw, OneReadingLaw, FaultLaw, OneFaultLaw};
-ghost use Rattle.net_text.specs.Grammar.{networks};
-ghost use Rattle.net_text.specs.FileLaws.{ReadFileLaw, OneFileLaw, FileFaultLaw, LeafMeaningLaw, PrintedFileLaw};
+ghost use Rattle.net_text.specs.Grammar.{Version, networks};
+ghost use Rattle.net_text.specs.FileLaws.{ReadFileLaw, OneFileLaw, FileFaultLaw, LeafMeaningLaw, OlderNetworkLaw, PrintedFileLaw};
 ghost use Rattle.net_text.specs.CertificatePrinting.{PrintedCertificateLaw};
 ghost use Rattle.net_text.specs.CertificateLaws.{ReadCertificateLaw, OneCertificateLaw, CertificateFaultLaw};
 ghost use Rattle.net_text.specs.CertificateRows.{CertificateRows, LawRows, CertificateFaultRows};
-ghost use Rattle.net_text.specs.FileRows.{CellRows, NetworkRows, SugarRows, IdentityIs, ConstantIs, SecondIs, BesideIs, FanOutIs, NeverIs, NowIs, EdgeIs, AccumHoldByIs, FileFaultRows, NumberFaultRows, MembersFaultRows};
+ghost use Rattle.net_text.specs.FileRows.{CellRows, NetworkRows, SugarRows, IdentityIs, ConstantIs, SecondIs, BesideIs, FanOutIs, NeverIs, NowIs, EdgeIs, AccumHoldByIs, NewRows, NewFaultRows, FileFaultRows, NumberFaultRows, MembersFaultRows};
 
 /// Reading a network, or what stands inside one, at the front of tokens: what is read is in the
 /// grammar, what is in the grammar is read whatever follows, there is one reading, a fault is
 /// answered exactly where it is the first token that doesn't fit, by its place and kind, and there
-/// is one fault. Types and expressions inside networks are those that they are by themselves.
+/// is one fault, in each version. Types and expressions inside networks are those that they are by
+/// themselves. A network of the first version is the same one in the second.
 pub fn reading_laws()
-    ensures found { FoundLaw networks }
-    ensures only { OnlyLaw networks }
-    ensures one { OneReadingLaw networks }
-    ensures fault { FaultLaw networks }
-    ensures one_fault { OneFaultLaw networks }
+    ensures found { (v : Version) → FoundLaw (networks v) }
+    ensures only { (v : Version) → OnlyLaw (networks v) }
+    ensures one { (v : Version) → OneReadingLaw (networks v) }
+    ensures fault { (v : Version) → FaultLaw (networks v) }
+    ensures one_fault { (v : Version) → OneFaultLaw (networks v) }
     ensures leaves { LeafMeaningLaw }
+    ensures older { OlderNetworkLaw }
 {}
 
 /// Reading a whole file: what is read is a network file, a network file is read, it has one
@@ -35,7 +37,7 @@ pub fn printing_laws()
     ensures certificates { PrintedCertificateLaw }
 {}
 
-/// Each form of networks, read once, and refusals by place and kind.
+/// Each form of networks, read once, and refusals by place and kind, in both versions.
 pub fn grammar_rows()
     ensures cells { CellRows }
     ensures networks { NetworkRows }
@@ -43,6 +45,8 @@ pub fn grammar_rows()
     ensures faults { FileFaultRows }
     ensures numbers { NumberFaultRows }
     ensures members { MembersFaultRows }
+    ensures new { NewRows }
+    ensures new_faults { NewFaultRows }
 {}
 
 /// Each sugar as the forms that it stands for, whatever its parts are.

@@ -6,11 +6,13 @@ mod fault;
 mod form;
 mod laws;
 mod network_reader;
+mod new_forms;
 mod print;
 mod print_certificate;
 mod read;
 mod read_certificate;
 mod sugar;
+mod text;
 
 pub use fault::NetTextFault;
 pub use laws::{

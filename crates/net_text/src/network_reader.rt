@@ -5,18 +5,18 @@ ghost use Rattle.sample_core.specs.TypeView.{type_of};
 ghost use Rattle.leaf_core.specs.ExpressionView.{expression_of};
 ghost use Rattle.leaf_expr.specs.{Grammar.type_sort, Grammar.expression_sort, Language.no_place, Language.places};
 ghost use Rattle.leaf_expr.specs.ReadText.{Gives, tree_at, expression_left, type_left};
-ghost use Rattle.leaf_expr.specs.Token.{tokens_from};
 ghost use Rattle.net_syntax.specs.{Network.networks_of, Network.map_network, Network.map_networks, NetworkView.tree_of};
 ghost use Rattle.net_text.specs.Form.{timer_of};
 ghost use Rattle.net_text.specs.Grammar.{network_sort, members_sort, time_sort, e, f};
-ghost use Rattle.net_text.specs.ReadNet.{sort_at, word_network as word_read, form_at as form_read, parts_at as parts_read, last_two_at as last_two_read, last_three_at as last_three_read, GivesForm, network_left, child_left, members_left};
+ghost use Rattle.net_text.specs.ReadNet.{sort_at, word_network as word_read, form_at as form_read, parts_at as parts_read, last_two_at as last_two_read, last_fed_at as last_fed_read, last_three_at as last_three_read, from_byte, GivesForm, network_left, child_left, members_left};
 
 use crate::form::{Accumulator, Binary, Form, LeafForm, Timer, Unary, form_named, network_named};
+use crate::text::Text;
 use leaf_expr::{
     Expr, ExprTextFault, Front, MAX_OPEN, Read, closing_at, form_end, form_head, front_at,
     read_expr_at, read_index, read_natural, read_type_at,
 };
-use net_syntax::{Members, Net, NetChild};
+use net_syntax::{FedForm, Members, Net, NetChild};
 use sample_core::{Ty, word_is};
 use std::alloc::Global;
 
@@ -29,22 +29,22 @@ type Child = NetChild<Expr>;
 /// The network at or after byte `at`, with room for so many more parentheses, and the byte behind
 /// it.
 #[cycle(network)]
-pub(crate) fn network_at(alloc: Global, text: &[u8], at: usize, room: usize) -> ReadNet
+pub(crate) fn network_at(alloc: Global, text: &Text<'_>, at: usize, room: usize) -> ReadNet
     requires { room ≤ 600 }
     ensures { Gives (network_left text.now) result (sort_at network_sort text.now room at) }
 {
-    match front_at(text, at, room)? {
+    match front_at(text.bytes, at, room)? {
         Front::Form(start) => form_at(alloc, text, start + 1, room - 1),
         Front::Word(start, end) => word_network(alloc, text, start, end),
     }
 }
 
 /// The network that the word is from the first byte up to and without the second, and the latter.
-fn word_network(alloc: Global, text: &[u8], start: usize, end: usize) -> ReadNet
-    requires { (start < end) × (end ≤ length text.now) }
+fn word_network(alloc: Global, text: &Text<'_>, start: usize, end: usize) -> ReadNet
+    requires { (start < end) × (end ≤ length text.now.bytes.now) }
     ensures { Gives (network_left text.now) result (word_read text.now start end) }
 {
-    match network_named(&text[start..end]) {
+    match network_named(&text.bytes[start..end]) {
         Some(word) => { Ok((word.of(alloc)?, end)) }
         None => Err(ExprTextFault::Syntax { at: start }),
     }
@@ -52,12 +52,12 @@ fn word_network(alloc: Global, text: &[u8], start: usize, end: usize) -> ReadNet
 
 /// What stands behind the parenthesis of a form.
 #[cycle(network)]
-fn form_at(alloc: Global, text: &[u8], at: usize, room: usize) -> ReadNet
+fn form_at(alloc: Global, text: &Text<'_>, at: usize, room: usize) -> ReadNet
     requires { room ≤ 600 }
     ensures { Gives (network_left text.now) result (form_read network_sort text.now room at) }
 {
-    let (start, end) = form_head(text, at, room)?;
-    match form_named(&text[start..end]) {
+    let (start, end) = form_head(text.bytes, at, room)?;
+    match form_named(&text.bytes[start..end], text.version) {
         Some(form) => parts_at(alloc, text, end, room, form),
         None => Err(ExprTextFault::Syntax { at: start }),
     }
@@ -65,7 +65,7 @@ fn form_at(alloc: Global, text: &[u8], at: usize, room: usize) -> ReadNet
 
 /// The parts of a form, and its end.
 #[cycle(network)]
-fn parts_at(alloc: Global, text: &[u8], at: usize, room: usize, form: Form) -> ReadNet
+fn parts_at(alloc: Global, text: &Text<'_>, at: usize, room: usize, form: Form) -> ReadNet
     requires { room ≤ 600 }
     ensures { GivesForm result form text.now room at }
 {
@@ -75,10 +75,11 @@ fn parts_at(alloc: Global, text: &[u8], at: usize, room: usize, form: Form) -> R
         Form::Accumulator(form) => accumulator_at(alloc, text, at, room, form),
         Form::Unary(form) => unary_at(alloc, text, at, room, form),
         Form::Binary(form) => binary_at(alloc, text, at, room, form),
-        Form::LoopPre => loop_at(alloc, text, at, room),
+        Form::Fed(form) => fed_at(alloc, text, at, room, form),
         Form::Par => par_at(alloc, text, at, room),
         Form::KSwitch => k_switch_at(alloc, text, at, room),
         Form::PSwitch => p_switch_at(alloc, text, at, room),
+        Form::RpSwitch => rp_switch_at(alloc, text, at, room),
         Form::Old => old_at(text, at, room),
         Form::Never => never_at(alloc, text, at, room),
     }
@@ -119,17 +120,17 @@ pub(crate) fn type_at(alloc: Global, text: &[u8], at: usize, room: usize) -> Rea
 }
 
 /// The last expression of a form, and the form's end.
-pub(crate) fn last_expr_at(alloc: Global, text: &[u8], at: usize, room: usize) -> Read<Expr>
+pub(crate) fn last_expr_at(alloc: Global, text: &Text<'_>, at: usize, room: usize) -> Read<Expr>
     requires { room ≤ 600 }
-    ensures { Gives (expression_left text.now) result
+    ensures { Gives (expression_left text.now.bytes.now) result
         (parts_read (e no_place) (λ c. c) text.now room at) }
 {
-    let (expr, at) = expr_at(alloc, text, at, room)?;
-    both(expr, form_end(text, at, room))
+    let (expr, at) = expr_at(alloc, text.bytes, at, room)?;
+    both(expr, form_end(text.bytes, at, room))
 }
 
 /// One expression, and the end of the form.
-fn leaf_form_at(alloc: Global, text: &[u8], at: usize, room: usize, form: LeafForm) -> ReadNet
+fn leaf_form_at(alloc: Global, text: &Text<'_>, at: usize, room: usize, form: LeafForm) -> ReadNet
     requires { room ≤ 600 }
     ensures { GivesForm result (Form.Leaf form) text.now room at }
 {
@@ -138,15 +139,15 @@ fn leaf_form_at(alloc: Global, text: &[u8], at: usize, room: usize, form: LeafFo
 }
 
 /// The time of the form at or after byte `at`, and the byte behind it.
-fn time_at(text: &[u8], at: usize, room: usize, form: Timer) -> Read<u64>
-    ensures { Gives (λ x. (x.0, x.1, tokens_from x.1 text.now)) result
+fn time_at(text: &Text<'_>, at: usize, room: usize, form: Timer) -> Read<u64>
+    ensures { Gives (λ x. (x.0, x.1, from_byte x.1 text.now)) result
         (sort_at (time_sort (timer_of form)) text.now room at) }
 {
-    read_natural(text, at, room, form.least(), form.greatest())
+    read_natural(text.bytes, at, room, form.least(), form.greatest())
 }
 
 /// A time and an expression, and the end of the form.
-fn timer_at(alloc: Global, text: &[u8], at: usize, room: usize, form: Timer) -> ReadNet
+fn timer_at(alloc: Global, text: &Text<'_>, at: usize, room: usize, form: Timer) -> ReadNet
     requires { room ≤ 600 }
     ensures { GivesForm result (Form.Timer form) text.now room at }
 {
@@ -156,37 +157,43 @@ fn timer_at(alloc: Global, text: &[u8], at: usize, room: usize, form: Timer) -> 
 }
 
 /// Two expressions, and the end of the form.
-fn accumulator_at(alloc: Global, text: &[u8], at: usize, room: usize, form: Accumulator) -> ReadNet
+fn accumulator_at(
+    alloc: Global,
+    text: &Text<'_>,
+    at: usize,
+    room: usize,
+    form: Accumulator,
+) -> ReadNet
     requires { room ≤ 600 }
     ensures { GivesForm result (Form.Accumulator form) text.now room at }
 {
-    let (g, at) = expr_at(alloc, text, at, room)?;
+    let (g, at) = expr_at(alloc, text.bytes, at, room)?;
     let (g, (z, end)) = both(g, last_expr_at(alloc, text, at, room))?;
     Ok((form.of(alloc, g, z)?, end))
 }
 
 /// The number of a frozen network, and the end of the form.
-fn old_at(text: &[u8], at: usize, room: usize) -> ReadNet
+fn old_at(text: &Text<'_>, at: usize, room: usize) -> ReadNet
     ensures { GivesForm result Form.Old text.now room at }
 {
-    let (k, at) = read_index(text, at, room)?;
-    let end = form_end(text, at, room)?;
+    let (k, at) = read_index(text.bytes, at, room)?;
+    let end = form_end(text.bytes, at, room)?;
     Ok((Net::Old(k), end))
 }
 
 /// A type, and the end of the form.
-fn never_at(alloc: Global, text: &[u8], at: usize, room: usize) -> ReadNet
+fn never_at(alloc: Global, text: &Text<'_>, at: usize, room: usize) -> ReadNet
     requires { room ≤ 600 }
     ensures { GivesForm result Form.Never text.now room at }
 {
-    let (carried, at) = type_at(alloc, text, at, room)?;
-    let (carried, end) = both(carried, form_end(text, at, room))?;
+    let (carried, at) = type_at(alloc, text.bytes, at, room)?;
+    let (carried, end) = both(carried, form_end(text.bytes, at, room))?;
     Ok((Net::Arr(Expr::NoEvent(carried)), end))
 }
 
 /// A network inside a network.
 #[cycle(network)]
-fn child_at(alloc: Global, text: &[u8], at: usize, room: usize) -> Read<Child>
+fn child_at(alloc: Global, text: &Text<'_>, at: usize, room: usize) -> Read<Child>
     requires { room ≤ 600 }
     ensures { Gives (child_left text.now) result (sort_at network_sort text.now room at) }
 {
@@ -197,25 +204,25 @@ fn child_at(alloc: Global, text: &[u8], at: usize, room: usize) -> Read<Child>
 
 /// The last network of a form, and the form's end.
 #[cycle(network)]
-fn last_child_at(alloc: Global, text: &[u8], at: usize, room: usize) -> Read<Child>
+fn last_child_at(alloc: Global, text: &Text<'_>, at: usize, room: usize) -> Read<Child>
     requires { room ≤ 600 }
     ensures { Gives (child_left text.now) result
         (parts_read (f no_place) (λ g. g) text.now room at) }
 {
     let (child, at) = child_at(alloc, text, at, room)?;
-    let end = form_end(text, at, room)?;
+    let end = form_end(text.bytes, at, room)?;
     Ok((child, end))
 }
 
 /// The last two networks of a form, and the form's end.
 #[cycle(network)]
-fn last_two_at(alloc: Global, text: &[u8], at: usize, room: usize) -> Read<(Child, Child)>
+fn last_two_at(alloc: Global, text: &Text<'_>, at: usize, room: usize) -> Read<(Child, Child)>
     requires { room ≤ 600 }
     ensures { Gives
         (λ x. (
           (map_network expression_of x.0.0, map_network expression_of x.0.1),
           x.1,
-          tokens_from x.1 text.now,
+          from_byte x.1 text.now,
         )) result
         (last_two_read text.now room at) }
 {
@@ -226,7 +233,7 @@ fn last_two_at(alloc: Global, text: &[u8], at: usize, room: usize) -> Read<(Chil
 
 /// One network, and the end of the form.
 #[cycle(network)]
-fn unary_at(alloc: Global, text: &[u8], at: usize, room: usize, form: Unary) -> ReadNet
+fn unary_at(alloc: Global, text: &Text<'_>, at: usize, room: usize, form: Unary) -> ReadNet
     requires { room ≤ 600 }
     ensures { GivesForm result (Form.Unary form) text.now room at }
 {
@@ -236,7 +243,7 @@ fn unary_at(alloc: Global, text: &[u8], at: usize, room: usize, form: Unary) -> 
 
 /// Two networks, and the end of the form.
 #[cycle(network)]
-fn binary_at(alloc: Global, text: &[u8], at: usize, room: usize, form: Binary) -> ReadNet
+fn binary_at(alloc: Global, text: &Text<'_>, at: usize, room: usize, form: Binary) -> ReadNet
     requires { room ≤ 600 }
     ensures { GivesForm result (Form.Binary form) text.now room at }
 {
@@ -246,7 +253,7 @@ fn binary_at(alloc: Global, text: &[u8], at: usize, room: usize, form: Binary) -
 
 /// Three networks, and the end of the form.
 #[cycle(network)]
-fn k_switch_at(alloc: Global, text: &[u8], at: usize, room: usize) -> ReadNet
+fn k_switch_at(alloc: Global, text: &Text<'_>, at: usize, room: usize) -> ReadNet
     requires { room ≤ 600 }
     ensures { GivesForm result Form.KSwitch text.now room at }
 {
@@ -255,20 +262,47 @@ fn k_switch_at(alloc: Global, text: &[u8], at: usize, room: usize) -> ReadNet
     Ok((Net::KSwitch(g, test, t), end))
 }
 
+/// The last expression and network of a form, and the form's end.
+#[cycle(network)]
+fn last_fed_at(alloc: Global, text: &Text<'_>, at: usize, room: usize) -> Read<(Expr, Child)>
+    requires { room ≤ 600 }
+    ensures { Gives
+        (λ x. (
+          (expression_of x.0.0, map_network expression_of x.0.1),
+          x.1,
+          from_byte x.1 text.now,
+        )) result
+        (last_fed_read text.now room at) }
+{
+    let (c, at) = expr_at(alloc, text.bytes, at, room)?;
+    let (c, (g, end)) = both(c, last_child_at(alloc, text, at, room))?;
+    Ok(((c, g), end))
+}
+
 /// An expression and a network, and the end of the form.
 #[cycle(network)]
-fn loop_at(alloc: Global, text: &[u8], at: usize, room: usize) -> ReadNet
+fn fed_at(alloc: Global, text: &Text<'_>, at: usize, room: usize, form: FedForm) -> ReadNet
     requires { room ≤ 600 }
-    ensures { GivesForm result Form.LoopPre text.now room at }
+    ensures { GivesForm result (Form.Fed form) text.now room at }
 {
-    let (c, at) = expr_at(alloc, text, at, room)?;
-    let (c, (g, end)) = both(c, last_child_at(alloc, text, at, room))?;
-    Ok((Net::LoopPre(c, g), end))
+    let ((c, g), end) = last_fed_at(alloc, text, at, room)?;
+    Ok((form.of(c, g), end))
+}
+
+/// Members, an expression and a network, and the end of the form.
+#[cycle(network)]
+fn rp_switch_at(alloc: Global, text: &Text<'_>, at: usize, room: usize) -> ReadNet
+    requires { room ≤ 600 }
+    ensures { GivesForm result Form.RpSwitch text.now room at }
+{
+    let (all, at) = col_at(alloc, text, at, room)?;
+    let ((m, t), end) = last_fed_at(alloc, text, at, room)?;
+    Ok((Net::RpSwitch(all, m, t), end))
 }
 
 /// Members, and the end of the form.
 #[cycle(network)]
-fn par_at(alloc: Global, text: &[u8], at: usize, room: usize) -> ReadNet
+fn par_at(alloc: Global, text: &Text<'_>, at: usize, room: usize) -> ReadNet
     requires { room ≤ 600 }
     ensures { GivesForm result Form.Par text.now room at }
 {
@@ -278,11 +312,11 @@ fn par_at(alloc: Global, text: &[u8], at: usize, room: usize) -> ReadNet
 
 /// An expression, members and two networks, and the end of the form.
 #[cycle(network)]
-fn p_switch_at(alloc: Global, text: &[u8], at: usize, room: usize) -> ReadNet
+fn p_switch_at(alloc: Global, text: &Text<'_>, at: usize, room: usize) -> ReadNet
     requires { room ≤ 600 }
     ensures { GivesForm result Form.PSwitch text.now room at }
 {
-    let (r, at) = expr_at(alloc, text, at, room)?;
+    let (r, at) = expr_at(alloc, text.bytes, at, room)?;
     let (r, ((all, test, t), end)) = both(r, last_three_at(alloc, text, at, room))?;
     Ok((Net::PSwitch(r, all, test, t), end))
 }
@@ -291,7 +325,7 @@ fn p_switch_at(alloc: Global, text: &[u8], at: usize, room: usize) -> ReadNet
 #[cycle(network)]
 fn last_three_at(
     alloc: Global,
-    text: &[u8],
+    text: &Text<'_>,
     at: usize,
     room: usize,
 ) -> Read<(Members<Expr>, Child, Child)>
@@ -304,7 +338,7 @@ fn last_three_at(
             map_network expression_of x.0.2,
           ),
           x.1,
-          tokens_from x.1 text.now,
+          from_byte x.1 text.now,
         )) result
         (last_three_read text.now room at) }
 {
@@ -316,11 +350,11 @@ fn last_three_at(
 /// `(col f1 .. fn)` at or after byte `at`, with room for so many more parentheses, as members, and
 /// the byte behind it.
 #[cycle(network)]
-fn col_at(alloc: Global, text: &[u8], at: usize, room: usize) -> Read<Members<Expr>>
+fn col_at(alloc: Global, text: &Text<'_>, at: usize, room: usize) -> Read<Members<Expr>>
     requires { room ≤ 600 }
     ensures { Gives (members_left text.now) result (sort_at members_sort text.now room at) }
 {
-    match front_at(text, at, room)? {
+    match front_at(text.bytes, at, room)? {
         Front::Form(start) => col_form_at(alloc, text, start + 1, room - 1),
         Front::Word(start, _) => Err(ExprTextFault::Syntax { at: start }),
     }
@@ -328,12 +362,12 @@ fn col_at(alloc: Global, text: &[u8], at: usize, room: usize) -> Read<Members<Ex
 
 /// What stands behind the parenthesis of `(col f1 .. fn)`.
 #[cycle(network)]
-fn col_form_at(alloc: Global, text: &[u8], at: usize, room: usize) -> Read<Members<Expr>>
+fn col_form_at(alloc: Global, text: &Text<'_>, at: usize, room: usize) -> Read<Members<Expr>>
     requires { room ≤ 600 }
     ensures { Gives (members_left text.now) result (form_read members_sort text.now room at) }
 {
-    let (start, end) = form_head(text, at, room)?;
-    if word_is(&text[start..end], "col") {
+    let (start, end) = form_head(text.bytes, at, room)?;
+    if word_is(&text.bytes[start..end], "col") {
         members_at(alloc, text, end, room)
     } else {
         Err(ExprTextFault::Syntax { at: start })
@@ -342,7 +376,7 @@ fn col_form_at(alloc: Global, text: &[u8], at: usize, room: usize) -> Read<Membe
 
 /// Networks up to the end of the form as members, and the form's end.
 #[cycle(network)]
-fn members_at(alloc: Global, text: &[u8], at: usize, room: usize) -> Read<Members<Expr>>
+fn members_at(alloc: Global, text: &Text<'_>, at: usize, room: usize) -> Read<Members<Expr>>
     requires { room ≤ 600 }
     ensures { Gives (members_left text.now) result
         (parts_read (places network_sort) networks_of text.now room at) }
@@ -354,15 +388,15 @@ fn members_at(alloc: Global, text: &[u8], at: usize, room: usize) -> Read<Member
 
 /// Networks up to the end of the form, and the form's end.
 #[cycle(network)]
-fn networks_at(alloc: Global, text: &[u8], at: usize, room: usize) -> Read<Vec<Net<Expr>>>
+fn networks_at(alloc: Global, text: &Text<'_>, at: usize, room: usize) -> Read<Vec<Net<Expr>>>
     requires { room ≤ 600 }
-    ensures { Gives (λ x. (map tree_of x.0.items, x.1, tokens_from x.1 text.now)) result
+    ensures { Gives (λ x. (map tree_of x.0.items, x.1, from_byte x.1 text.now)) result
         (parts_read (places network_sort) (λ fs. fs) text.now room at) }
 {
     let mut all = Vec::new(alloc);
     let mut next = at;
     loop {
-        if let Some(end) = closing_at(text, next) {
+        if let Some(end) = closing_at(text.bytes, next) {
             return Ok((all, end));
         }
         let (net, behind) = network_at(alloc, text, next, room)?;

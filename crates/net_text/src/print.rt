@@ -6,25 +6,29 @@ ghost use Rattle.sample_core.specs.{Adding.Adds, TypeView.type_of};
 ghost use Rattle.leaf_core.specs.ExpressionView.{expression_of};
 ghost use Rattle.leaf_expr.specs.Sexpr.{atom, form, last, more, spelling, spellings};
 ghost use Rattle.leaf_expr.specs.Printing.{one, two, three, expression_sexpr};
-ghost use Rattle.net_syntax.specs.Network.{map_network, map_networks, old, p_switch};
+ghost use Rattle.net_syntax.specs.Network.{map_network, map_networks, old, p_switch, rp_switch};
 ghost use Rattle.net_syntax.specs.NetworkView.{tree_of};
 ghost use Rattle.net_text.specs.Printing.{network_sexpr, network_sexprs, file_spelling};
 
+use crate::new_forms::{is_new, version_word};
 use itoa::Buffer;
 use leaf_expr::{Expr, push_expr};
 use net_syntax::{Members, Net, NetChild};
 use sample_core::{Memory, Ty, push_type};
 use std::alloc::Global;
 
-/// The network file of that input type and network, as a new text of three lines: `yampa 1`,
-/// `input TYPE` and the network, in core forms. Where its numbers, its depth and its length are
-/// within the limits of files, it is read back to the same. `Memory` where a growth was refused.
+/// The network file of that input type and network, as a new text of three lines: `yampa 1`, or
+/// `yampa 2` where a form of the second version is in the network, `input TYPE` and the network, in
+/// core forms. Where its numbers, its depth and its length are within the limits of files, it is
+/// read back to the same. `Memory` where a growth was refused.
 pub fn print_net(alloc: Global, input: &Ty, net: &Net<Expr>) -> Result<String, Memory>
     ensures { IfOk result
         (λ text. string_bytes text ≡ file_spelling (type_of input.now) (tree_of net.now)) }
 {
     let mut text = String::new(alloc);
-    text.push_str("yampa 1\ninput ")?;
+    text.push_str("yampa ")?;
+    text.push_str(version_word(is_new(net)))?;
+    text.push_str("\ninput ")?;
     push_type(&mut text, input)?;
     text.push_str("\n")?;
     push_net(&mut text, net)?;
@@ -44,7 +48,9 @@ pub fn push_net(text: &mut String, net: &Net<Expr>) -> Result<(), Memory>
         Net::Seq(f, g) => push_two(text, ">>>", f, g),
         Net::First(f) => push_one(text, "first", f),
         Net::Par(all) => push_par(text, all),
-        Net::LoopPre(c, f) => push_loop(text, c, f),
+        Net::LoopPre(c, f) => push_fed(text, "loopPre", c, f),
+        Net::InitialOut(c, f) => push_fed(text, "-->", c, f),
+        Net::InitialIn(c, f) => push_fed(text, ">--", c, f),
         Net::IPre(c) => push_leaf(text, "iPre", c),
         Net::Delay(q, c) => push_timer(text, "delay", *q, c),
         Net::Hold(c) => push_leaf(text, "hold", c),
@@ -56,6 +62,8 @@ pub fn push_net(text: &mut String, net: &Net<Expr>) -> Result<(), Memory>
         Net::Switch(f, t) => push_two(text, "switch", f, t),
         Net::DSwitch(f, t) => push_two(text, "dSwitch", f, t),
         Net::RSwitch(f, t) => push_two(text, "rSwitch", f, t),
+        Net::DrSwitch(f, t) => push_two(text, "drSwitch", f, t),
+        Net::RpSwitch(all, m, t) => push_rp_switch(text, all, m, t),
         Net::KSwitch(f, e, t) => push_k_switch(text, f, e, t),
         Net::PSwitch(r, all, e, t) => push_p_switch(text, r, all, e, t),
         Net::Old(k) => push_old(text, *k),
@@ -224,17 +232,47 @@ fn push_k_switch(
     push_last_two(text, e, t)
 }
 
-/// `(loopPre c f)`.
+/// The last expression and network of a form, and the form's end.
 #[cycle(push_net)]
-fn push_loop(text: &mut String, c: &Expr, f: &NetChild<Expr>) -> Result<(), Memory>
+fn push_last_fed(text: &mut String, c: &Expr, f: &NetChild<Expr>) -> Result<(), Memory>
     ensures { Adds result (string_bytes text.old) (string_bytes text.new)
-        (spelling
-        (two (codes "loopPre") (expression_sexpr (expression_of c.now))
-        (network_sexpr (map_network expression_of f.now)))) }
+        (spellings
+        (more (expression_sexpr (expression_of c.now))
+        (more (network_sexpr (map_network expression_of f.now)) last)) ++ (41 ∷ [])) }
 {
-    push_open(text, "loopPre")?;
     push_next_expr(text, c)?;
     push_last(text, f)
+}
+
+/// A form of an expression and a network.
+#[cycle(push_net)]
+fn push_fed(text: &mut String, name: &str, c: &Expr, f: &NetChild<Expr>) -> Result<(), Memory>
+    ensures { Adds result (string_bytes text.old) (string_bytes text.new)
+        (spelling
+        (two name.now (expression_sexpr (expression_of c.now))
+        (network_sexpr (map_network expression_of f.now)))) }
+{
+    push_open(text, name)?;
+    push_last_fed(text, c, f)
+}
+
+/// `(rpSwitchB (col f1 .. fn) m t)`.
+#[cycle(push_net)]
+fn push_rp_switch(
+    text: &mut String,
+    all: &Members<Expr>,
+    m: &Expr,
+    t: &NetChild<Expr>,
+) -> Result<(), Memory>
+    ensures { Adds result (string_bytes text.old) (string_bytes text.new)
+        (spelling
+        (network_sexpr
+        (rp_switch (map_networks expression_of all.now) (expression_of m.now)
+        (map_network expression_of t.now)))) }
+{
+    push_open(text, "rpSwitchB")?;
+    push_col(text, all)?;
+    push_last_fed(text, m, t)
 }
 
 /// `(parB f1 .. fn)`.

@@ -5,15 +5,18 @@ ghost use Rattle.std.specs.Fmt.{decimal};
 ghost use Rattle.sample_core.specs.Adding.{Adds};
 ghost use Rattle.leaf_expr.specs.Sexpr.{spelling, spellings};
 ghost use Rattle.net_syntax.specs.LawStep.{step_of, part_of};
-ghost use Rattle.net_text.specs.CertificatePrinting.{law_spelling, direction_spelling, given_sexprs, step_sexpr, certificate_spelling};
+ghost use Rattle.net_text.specs.CertificatePrinting.{law_spelling, direction_spelling, given_sexprs, step_sexpr, certificate_spelling, are_new_steps};
+ghost use Rattle.net_text.specs.CertificatePrinting as printing;
 
+use crate::new_forms::{is_new, version_word};
 use crate::print::{push_next, push_next_expr, push_word};
 use itoa::Buffer;
 use net_syntax::{Direction, Law, LawStep, Tree, push_position};
 use sample_core::Memory;
 use std::alloc::Global;
 
-/// The certificate file of those steps, as a new text: a line `laws 1` and a line for each step,
+/// The certificate file of those steps, as a new text: a line `laws 1`, or `laws 2` where a law above
+/// L42 is among them or a form of the second version is in a given tree, and a line for each step,
 /// with given trees in core forms. Where each law is one, each given tree is of its law's kind, and
 /// their numbers, their depth and the text's length are within the limits of files, it is read back
 /// to the same. `Memory` where a growth was refused.
@@ -22,11 +25,46 @@ pub fn print_cert(alloc: Global, steps: &[LawStep]) -> Result<String, Memory>
         (λ text. string_bytes text ≡ certificate_spelling (map step_of steps.now)) }
 {
     let mut text = String::new(alloc);
-    push_word(&mut text, "laws 1\n")?;
+    push_word(&mut text, "laws ")?;
+    push_word(&mut text, version_word(are_new(steps)))?;
+    push_word(&mut text, "\n")?;
     for step in steps {
         push_step(&mut text, step)?;
     }
     Ok(text)
+}
+
+/// Whether there is something of the second version in the steps.
+fn are_new(steps: &[LawStep]) -> bool
+    ensures { result ≡ are_new_steps (map step_of steps.now) }
+{
+    for step in steps {
+        if is_new_law(step.law) || is_new_given(&step.given) {
+            return true;
+        }
+    }
+    false
+}
+
+/// Whether the law is one of the second version.
+fn is_new_law(law: Law) -> bool
+    ensures { result ≡ printing.is_new_law law }
+{
+    match law {
+        Law::E(_) => false,
+        Law::L(number) => number > 42,
+    }
+}
+
+/// Whether a form of the second version is in the given tree.
+fn is_new_given(given: &Option<Tree>) -> bool
+    ensures { result ≡ printing.is_new_given (option_map part_of given.now) }
+{
+    match given {
+        None => false,
+        Some(Tree::Expr(_)) => false,
+        Some(Tree::Net(net)) => is_new(net),
+    }
 }
 
 /// A step, and the end of its line.

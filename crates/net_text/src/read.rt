@@ -6,19 +6,22 @@ ghost use Rattle.leaf_core.specs.Expression.{Expression};
 ghost use Rattle.sample_core.specs.TypeTree.{TypeTree};
 ghost use Rattle.net_syntax.specs.{Network.Network, NetworkView.tree_of};
 ghost use Rattle.sample_core.specs.TypeView.{type_of};
-ghost use Rattle.net_text.specs.File.{behind_word, behind_header, read_body, read_behind, read_file};
-ghost use Rattle.net_text.specs.{FileLaws.IsFile, FileLaws.IsFileFault, ReadNet.GivesFile, ReadNet.last_network_at};
+ghost use Rattle.net_text.specs.File.{behind_word, behind_version, behind_header, read_body, read_behind, read_file};
+ghost use Rattle.net_text.specs.File as file_specs;
+ghost use Rattle.net_text.specs.{FileLaws.IsFile, FileLaws.IsFileFault, ReadNet.GivesFile, ReadNet.last_network_at, ReadNet.from_byte, Form.version_of};
 ghost use Rattle.net_text.specs.declared.fault.NetTextFault.TheVariants as Fault;
 
 use crate::fault::NetTextFault;
 use crate::network_reader::{both, network_at, type_at};
+use crate::text::{Text, Version};
 use leaf_expr::{Expr, ExprTextFault, Lexeme, MAX_LENGTH, MAX_OPEN, lexeme_at, token_at};
 use net_syntax::Net;
-use sample_core::Ty;
+use sample_core::{Ty, word_is};
 use std::alloc::Global;
 
-/// Reads a network file, `yampa 1 input TYPE NET`. Answers the type of the input, and the network,
-/// with sugar expanded.
+/// Reads a network file, `yampa 1 input TYPE NET`, or `yampa 2 input TYPE NET`, in which the network
+/// may have the forms `-->`, `>--`, `drSwitch` and `rpSwitchB` too. Answers the type of the input,
+/// and the network, with sugar expanded.
 ///
 /// `TooLong`: the text has more than 1,048,576 bytes, whatever they are. Else a refusal is the
 /// first token that doesn't fit, by its first byte, counted from 0. `Header`: it is one of the
@@ -60,26 +63,32 @@ fn headed(alloc: Global, text: &[u8]) -> Result<(Ty, Net<Expr>), NetTextFault>
     ensures { GivesFile result (read_behind (read_body (length text.now)) (behind_header (tokens text.now))) }
 {
     match header_end(text) {
-        Some(at) => Ok(body_at(alloc, text, at)?),
+        Some((version, at)) => {
+            let text = Text {
+                bytes: text,
+                version,
+            };
+            Ok(body_at(alloc, &text, at)?)
+        }
         None => Err(NetTextFault::Header),
     }
 }
 
 /// A type and a network, and nothing behind them, at or after byte `at`.
-fn body_at(alloc: Global, text: &[u8], at: usize) -> Result<(Ty, Net<Expr>), ExprTextFault>
+fn body_at(alloc: Global, text: &Text<'_>, at: usize) -> Result<(Ty, Net<Expr>), ExprTextFault>
     ensures { Gives (λ x. (type_of x.0, tree_of x.1)) result
-        (read_body (length text.now) (tokens_from at text.now)) }
+        (read_body (length text.now.bytes.now) (version_of text.now.version) (from_byte at text.now)) }
 {
-    let (input, at) = type_at(alloc, text, at, MAX_OPEN)?;
+    let (input, at) = type_at(alloc, text.bytes, at, MAX_OPEN)?;
     both(input, last_network(alloc, text, at))
 }
 
 /// A network, and nothing behind it, at or after byte `at`.
-fn last_network(alloc: Global, text: &[u8], at: usize) -> Result<Net<Expr>, ExprTextFault>
+fn last_network(alloc: Global, text: &Text<'_>, at: usize) -> Result<Net<Expr>, ExprTextFault>
     ensures { Gives tree_of result (last_network_at text.now at) }
 {
     let (net, end) = network_at(alloc, text, at, MAX_OPEN)?;
-    match token_at(text, end) {
+    match token_at(text.bytes, end) {
         None => Ok(net),
         Some((start, _)) => {
             drop(net);
@@ -88,14 +97,45 @@ fn last_network(alloc: Global, text: &[u8], at: usize) -> Result<Net<Expr>, Expr
     }
 }
 
-/// The byte behind the words `yampa 1 input`, where these are the first tokens.
-fn header_end(text: &[u8]) -> Option<usize>
-    ensures { option_map (λ end. tokens_from end text.now) result
+/// The version and the byte behind the words `yampa`, a version and `input`, where these are the
+/// first tokens.
+fn header_end(text: &[u8]) -> Option<(Version, usize)>
+    ensures { option_map (λ x. (version_of x.0, tokens_from x.1 text.now)) result
         ≡ behind_header (tokens text.now) }
 {
     let at = word_end(text, 0, "yampa")?;
-    let at = word_end(text, at, "1")?;
-    word_end(text, at, "input")
+    let (version, at) = version_end(text, at)?;
+    let at = word_end(text, at, "input")?;
+    Some((version, at))
+}
+
+/// The version that is the first token at or after `at`, and the byte behind it.
+pub(crate) fn version_end(text: &[u8], at: usize) -> Option<(Version, usize)>
+    ensures { option_map (λ x. (version_of x.0, tokens_from x.1 text.now)) result
+        ≡ behind_version (tokens_from at text.now) }
+{
+    match lexeme_at(text, at) {
+        Lexeme::Word(start, end) => {
+            let version = version_named(&text[start..end])?;
+            Some((version, end))
+        }
+        Lexeme::End => None,
+        Lexeme::Open(_) => None,
+        Lexeme::Close(_) => None,
+    }
+}
+
+/// The version that the word is.
+fn version_named(word: &[u8]) -> Option<Version>
+    ensures { option_map version_of result ≡ file_specs.version_named word.now }
+{
+    if word_is(word, "1") {
+        Some(Version::One)
+    } else if word_is(word, "2") {
+        Some(Version::Two)
+    } else {
+        None
+    }
 }
 
 /// The byte behind the word, where it is the first token at or after `at`.

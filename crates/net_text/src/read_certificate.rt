@@ -3,22 +3,25 @@
 ghost use Rattle.std.specs.Prelude.{◌≡◌, ◌<◌, Err, List, Ok, length, map, option_map, IfOk, IfErr};
 ghost use Rattle.leaf_expr.specs.Token.{tokens, tokens_from};
 ghost use Rattle.net_syntax.specs.LawStep.{Step, step_of};
-ghost use Rattle.net_text.specs.File.{read_behind};
+ghost use Rattle.net_text.specs.{File.read_behind, Form.version_of};
 ghost use Rattle.net_text.specs.Certificate.{behind_laws, read_all_steps, read_certificate};
 ghost use Rattle.net_text.specs.{CertificateLaws.IsCertificate, CertificateLaws.IsCertificateFault, ReadCertificate.GivesSteps};
 ghost use Rattle.net_text.specs.declared.fault.NetTextFault.TheVariants as Fault;
 
 use crate::certificate_reader::steps_at;
 use crate::fault::NetTextFault;
-use crate::read::word_end;
+use crate::read::{version_end, word_end};
+use crate::text::{Text, Version};
 use leaf_expr::MAX_LENGTH;
 use net_syntax::LawStep;
 use std::alloc::Global;
 
-/// Reads a certificate file: `laws 1` and then any number of steps, `(step LAW DIRECTION POSITION)`
-/// or `(step LAW DIRECTION POSITION TREE)`. LAW is `E1` to `E18` or `L1` to `L42`, DIRECTION is
-/// `forward` or `backward`, POSITION is `(at N1 .. Nk)` with child numbers, and TREE is an
-/// expression for an E law and a network for an L law, with sugar expanded.
+/// Reads a certificate file: `laws 1` or `laws 2` and then any number of steps,
+/// `(step LAW DIRECTION POSITION)` or `(step LAW DIRECTION POSITION TREE)`. LAW is `E1` to `E18` or
+/// `L1` to `L42`, behind `laws 2` to `L46`, DIRECTION is `forward` or `backward`, POSITION is
+/// `(at N1 .. Nk)` with child numbers, and TREE is an expression for an E law and a network for an
+/// L law, with sugar expanded; behind `laws 2` it may have the forms `-->`, `>--`, `drSwitch` and
+/// `rpSwitchB` too.
 ///
 /// `TooLong`: the text has more than 1,048,576 bytes, whatever they are. Else a refusal is the
 /// first token that doesn't fit, by its first byte, counted from 0. `Header`: it is one of the
@@ -59,16 +62,22 @@ fn headed(alloc: Global, text: &[u8]) -> Result<Vec<LawStep>, NetTextFault>
         (read_behind (read_all_steps (length text.now)) (behind_laws (tokens text.now))) }
 {
     match laws_end(text) {
-        Some(at) => Ok(steps_at(alloc, text, at)?),
+        Some((version, at)) => {
+            let text = Text {
+                bytes: text,
+                version,
+            };
+            Ok(steps_at(alloc, &text, at)?)
+        }
         None => Err(NetTextFault::Header),
     }
 }
 
-/// The byte behind the words `laws 1`, where these are the first tokens.
-fn laws_end(text: &[u8]) -> Option<usize>
-    ensures { option_map (λ end. tokens_from end text.now) result
+/// The version and the byte behind the words `laws` and a version, where these are the first tokens.
+fn laws_end(text: &[u8]) -> Option<(Version, usize)>
+    ensures { option_map (λ x. (version_of x.0, tokens_from x.1 text.now)) result
         ≡ behind_laws (tokens text.now) }
 {
     let at = word_end(text, 0, "laws")?;
-    word_end(text, at, "1")
+    version_end(text, at)
 }

@@ -1,16 +1,16 @@
 use Rattle.std.proofs.Common.{Err, refl}
 use Rattle.leaf_expr.proofs.FrontSteps.{in_form, in_word}
 use Rattle.leaf_expr.specs.declared.text_fault.ExprTextFault.TheVariants as E
-use Rattle.net_text.specs.StepGrammar.{step_parts, position_sort}
-use Rattle.net_text.specs.ReadCertificate.{left}
+use Rattle.net_text.specs.StepGrammar.{position_sort}
+use Rattle.net_text.specs.ReadCertificate.{parts_of, left}
 use Rattle.net_text.proofs.CertificateSteps.{at_no_word}
 use Rattle.net_text.proofs.certificate_reader.position_at.Goals as goal
 
 pub returns-in-Form : goal.returns-in-Form
 returns-in-Form c =
-    in_form step_parts position_sort (left c.args.text.now) c.position_form_at.result c.args.text.now 599 c.args.at refl c.in-Form.is c.in_ok-start.ensures.front c.position_form_at.ensures
+    in_form (parts_of c.args.text.now) position_sort (left c.args.text.now) c.position_form_at.result c.args.text.now.bytes.now 599 c.args.at refl c.in-Form.is c.in_ok-start.ensures.front c.position_form_at.ensures
 
 pub returns-in-Word : goal.returns-in-Word
 returns-in-Word c =
-    in_word step_parts position_sort (left c.args.text.now) (Err (E.Syntax c.in-Word.start)) c.args.text.now 599 c.args.at c.in-Word.is
-    c.in_ok-start.ensures.front (λ m. at_no_word _ _ _)
+    in_word (parts_of c.args.text.now) position_sort (left c.args.text.now) (Err (E.Syntax c.in-Word.start)) c.args.text.now.bytes.now 599 c.args.at c.in-Word.is
+    c.in_ok-start.ensures.front (λ m. at_no_word _ _ _ _)

@@ -1,20 +1,20 @@
 use Rattle.std.proofs.Common.{◌∙◌, sym, length}
 use Rattle.std.specs.Prelude.{codes}
-use Rattle.leaf_expr.specs.Token.{tokens_from}
+use Rattle.net_text.specs.ReadNet.{from_byte}
 use Rattle.leaf_expr.specs.Language.{places}
 use Rattle.leaf_expr.proofs.ReadSteps.{given}
 use Rattle.leaf_expr.proofs.PartSteps.{named, unnamed}
-use Rattle.net_text.specs.StepGrammar.{step_parts, position_sort, child_sort}
-use Rattle.net_text.specs.ReadCertificate.{left}
+use Rattle.net_text.specs.StepGrammar.{position_sort, child_sort}
+use Rattle.net_text.specs.ReadCertificate.{parts_of, left}
 use Rattle.net_text.proofs.CertificateSteps.{at_named, at_unnamed}
 use Rattle.net_text.proofs.certificate_reader.position_form_at.Goals as goal
 
 pub returns-then-word_is : goal.returns-then-word_is
 returns-then-word_is c =
     given (left c.args.text.now) c.children_at.result
-    (named step_parts (length c.args.text.now) 598 598 position_sort (tokens_from c.args.at c.args.text.now) (record { name = codes "at"; takes = places child_sort; makes = λ ks. ks }) c.in_ok-start.ensures.head
+    (named (parts_of c.args.text.now) (length c.args.text.now.bytes.now) 598 598 position_sort (from_byte c.args.at c.args.text.now) (record { name = codes "at"; takes = places child_sort; makes = λ ks. ks }) c.in_ok-start.ensures.head
     (at_named _ (sym c.word_is.ensures ∙ c.if-word_is.true))) c.children_at.ensures
 
 pub returns-else-word_is : goal.returns-else-word_is
-returns-else-word_is c = λ m. unnamed step_parts (length c.args.text.now) 598 598 position_sort (tokens_from c.args.at c.args.text.now) c.in_ok-start.ensures.head
+returns-else-word_is c = λ m. unnamed (parts_of c.args.text.now) (length c.args.text.now.bytes.now) 598 598 position_sort (from_byte c.args.at c.args.text.now) c.in_ok-start.ensures.head
     (at_unnamed _ (sym c.word_is.ensures ∙ c.if-word_is.false))

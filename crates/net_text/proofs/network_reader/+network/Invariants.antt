@@ -1,10 +1,9 @@
 use Rattle.std.proofs.Common.{◌≡◌, ◌+◌, ◌*◌, length, map}
-use Rattle.leaf_expr.specs.Token.{tokens_from}
 use Rattle.leaf_expr.specs.Language.{places}
 use Rattle.leaf_expr.proofs.ItemSteps.{with_front}
 use Rattle.net_syntax.specs.NetworkView.{tree_of}
 use Rattle.net_text.specs.Grammar.{network_sort}
-use Rattle.net_text.specs.ReadNet.{parts_at}
+use Rattle.net_text.specs.ReadNet.{from_byte, parts_at}
 use Rattle.net_text.proofs.network_reader.+network.Given as goal
 
 -- the networks so far, and those that follow, are all
@@ -14,7 +13,7 @@ invariant-networks_at-loop-end l =
     ≡ parts_at (places network_sort) (λ fs. fs) l.text l.room l.at
 
 abbrev pub decreases-networks_at-loop-end : goal.decreases-networks_at-loop-end
-decreases-networks_at-loop-end l = length (tokens_from l.next l.text)
+decreases-networks_at-loop-end l = length (from_byte l.next l.text)
 
 abbrev pub decreases-network_at : goal.decreases-network_at
 decreases-network_at l = 8 * l.room + 1
@@ -46,14 +45,20 @@ decreases-binary_at l = 8 * l.room + 5
 abbrev pub decreases-k_switch_at : goal.decreases-k_switch_at
 decreases-k_switch_at l = 8 * l.room + 5
 
-abbrev pub decreases-loop_at : goal.decreases-loop_at
-decreases-loop_at l = 8 * l.room + 5
+abbrev pub decreases-last_fed_at : goal.decreases-last_fed_at
+decreases-last_fed_at l = 8 * l.room + 4
+
+abbrev pub decreases-fed_at : goal.decreases-fed_at
+decreases-fed_at l = 8 * l.room + 5
 
 abbrev pub decreases-par_at : goal.decreases-par_at
 decreases-par_at l = 8 * l.room + 5
 
 abbrev pub decreases-p_switch_at : goal.decreases-p_switch_at
 decreases-p_switch_at l = 8 * l.room + 6
+
+abbrev pub decreases-rp_switch_at : goal.decreases-rp_switch_at
+decreases-rp_switch_at l = 8 * l.room + 5
 
 abbrev pub decreases-col_at : goal.decreases-col_at
 decreases-col_at l = 8 * l.room + 1

@@ -33,8 +33,14 @@ decreases-push_last_two l = 5 * (network_size l.f.now + network_size l.g.now) + 
 abbrev pub decreases-push_one : goal.decreases-push_one
 decreases-push_one l = 5 * network_size l.f.now + 4
 
-abbrev pub decreases-push_loop : goal.decreases-push_loop
-decreases-push_loop l = 5 * network_size l.f.now + 4
+abbrev pub decreases-push_last_fed : goal.decreases-push_last_fed
+decreases-push_last_fed l = 5 * network_size l.f.now + 4
+
+abbrev pub decreases-push_fed : goal.decreases-push_fed
+decreases-push_fed l = 5 * network_size l.f.now + 5
+
+abbrev pub decreases-push_rp_switch : goal.decreases-push_rp_switch
+decreases-push_rp_switch l = 5 * (networks_size l.all.now + network_size l.t.now) + 5
 
 abbrev pub decreases-push_par : goal.decreases-push_par
 decreases-push_par l = 5 * networks_size l.all.now + 4
