@@ -3,7 +3,7 @@ use Rattle.std.proofs.Common.{◌≡◌, ℕ, zero, suc, ◌+◌, ◌<◌, List,
 use Rattle.std.proofs.lemmas.List.{map_push, length-map}
 use Rattle.sample_core.specs.Datum.{Datum, unit, event, no_event, left, pair, list, list_of}
 use Rattle.net_syntax.specs.SignalFunction.{TimedList, Pieces, Member, last_or, gather, heads, tails, answer, each_value, pieces, put_sample, chosen, moved, by_members, member_outputs}
-use Rattle.state_core.specs.Visits.{zeros, add_counts, and_one, member_counts}
+use Rattle.state_core.specs.Visits.{and_one, member_counts}
 use Rattle.state_core.specs.CountedFunction.{CountedFunction, IsCountedFunction, Continues, StandsVia, TakesSample, visits_at}
 use Rattle.state_core.specs.CountedForms.{counted_members, member_functions, member_visits}
 use Rattle.state_core.specs.StandsByForm.{Uncut, RpSwitchStands}

@@ -1,12 +1,12 @@
 -- What a collection stands for, by the frozen networks that its members go on from.
-use Rattle.std.proofs.Common.{◌≡◌, ◌⊎◌, ℕ, zero, suc, pos, List, [], ◌∷◌, ◌++◌, map, take, refl, sym, ap, ap₂, ◌∙◌, inl, inr, None, append_assoc, append-nil, subst}
+use Rattle.std.proofs.Common.{◌≡◌, ◌⊎◌, ℕ, zero, suc, pos, List, [], ◌∷◌, ◌++◌, map, take, refl, sym, inl, inr, None, append_assoc, subst}
 use Rattle.sample_core.specs.Datum.{Datum, int, event, left, right, pair, list, list_of}
 use Rattle.net_syntax.specs.Network.{Network, Networks, no_members, and_member}
 use Rattle.net_syntax.specs.SignalFunction.{TimedList, Member, each_value, item_at, item_named, items_named, items_of, new_members, first_members, chosen, moved}
 use Rattle.state_core.specs.CountedFunction.{CountedFunction, IsCountedFunction, StandsVia, TakesSample}
 use Rattle.state_core.specs.CountedForms.{counted_members}
 use Rattle.state_core.specs.CountedContext.{CountedContext, counted_meaning, counted_meanings}
-use Rattle.state_core.specs.State.{State, States, Scope, Frozen, no_state, and_state, unstarted, paused, push_param, all_unstarted, all_paused, frozen_list, each_started, chosen_frozen, turned, first_frozen}
+use Rattle.state_core.specs.State.{States, Scope, Frozen, no_state, and_state, unstarted, paused, push_param, all_unstarted, all_paused, frozen_list, each_started, chosen_frozen, turned, first_frozen}
 use Rattle.state_core.specs.Stands.{StandEach, Denotes, Stands}
 use Rattle.state_core.specs.StandsByForm.{Uncut, RpSwitchStands}
 use Rattle.step_core.specs.Stepping.{restart_in}
