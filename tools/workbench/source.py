@@ -71,6 +71,9 @@ class Node:
     end: int
     sort: str
     comments: list = field(default_factory=list)
+    trailing: list = field(default_factory=list)
+    size: int = 0
+    inside: object = None
 
 
 class SyntaxFault(Exception):
