@@ -1,5 +1,8 @@
 """Explains each fault: the place in the file, what is wanted and what is found, and how to mend it."""
+import contextlib
+import os
 import sys
+import tempfile
 
 from workbench.ending import REFUSED, Refused, Words, ended, read
 from workbench.faults import explained, unread
@@ -31,6 +34,19 @@ def fault_of(roles, stream):
     return call(["run", roles["network"]], stream[1]).fault()
 
 
+@contextlib.contextmanager
+def again(files):
+    """The files' names by role; one that can be read once alone, as a pipe, stands in a file for the program."""
+    with tempfile.TemporaryDirectory(prefix="yampa-") as room:
+        names = {}
+        for role, (name, data) in files.items():
+            names[role] = name if os.path.isfile(name) else os.path.join(room, role)
+            if names[role] != name:
+                with open(names[role], "wb") as file:
+                    file.write(data)
+        yield names
+
+
 def main():
     words = Words("explain", ABOUT)
     words.add_argument("--line", help="the fault line")
@@ -51,7 +67,8 @@ def explain(given):
         except Refused:
             print(unread(name).text(), end="")
             sys.exit(REFUSED)
-    line = given.line or fault_of(roles, stream)
+    with again(files) as names:
+        line = given.line or fault_of(names, stream)
     if not line:
         print("nothing is refused")
         return

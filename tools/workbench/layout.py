@@ -43,9 +43,17 @@ def laid_out(node, indent=0, behind=0):
 
 
 def parts_laid_out(node, indent, behind):
+    """A form's parts below one another, behind its word where there is room for that, else below it."""
+    lines = below_one_another(node, indent, behind, len(str(node.word)) + 2, True)
+    if max(map(len, lines[1:]), default=0) + behind <= WIDTH and indent + len(lines[0]) <= WIDTH:
+        return lines
+    return below_one_another(node, indent, behind, 2, False)
+
+
+def below_one_another(node, indent, behind, deeper, goes_on):
     word = str(node.word)
-    inner = indent + len(word) + 2
-    lines, goes_on = [f"({word}"], True
+    inner = indent + deeper
+    lines = [f"({word}"]
     for number, part in enumerate(node.parts):
         last = number == len(node.parts) - 1
         lines += folded(part.comments, inner)

@@ -143,7 +143,7 @@ class Expansion:
     """Puts trees in the place of names."""
 
     def __init__(self, source):
-        self.source, self.known = source, {}
+        self.source, self.known, self.meant = source, {}, {}
         self.names = [one.name.word for one in source.definitions]
 
     def whole(self):
@@ -196,7 +196,9 @@ class Expansion:
         if wanted != has or (parts is not None and not wanted):
             how = f"({node.word} {' '.join(param.word for param in one.params)})" if wanted else node.word
             raise Fault(node, f"{node.word} takes {wanted or 'no'} part{'s' * (wanted != 1)}: write {how}", inside)
-        return self.tree(one.body, dict(zip([param.word for param in one.params], parts or [])), one)
+        if not wanted and node.word not in self.meant:
+            self.meant[node.word] = self.tree(one.body, {}, one)
+        return self.meant.get(node.word) or self.tree(one.body, dict(zip([param.word for param in one.params], parts)), one)
 
     def may_be(self, node, inside):
         """That a word may be one of the language: of these the reader of networks tells more."""
