@@ -2,11 +2,10 @@
 import contextlib
 import os
 import sys
-import tempfile
 
 from workbench.ending import REFUSED, Refused, Words, ended, read
 from workbench.faults import explained, unread
-from workbench.program import call
+from workbench.program import call, kept
 
 ABOUT = """Runs the program on the files and explains the fault that it tells, if it tells one.
 
@@ -34,19 +33,6 @@ def fault_of(roles, stream):
     return call(["run", roles["network"]], stream[1]).fault()
 
 
-@contextlib.contextmanager
-def again(files):
-    """The files' names by role; one that can be read once alone, as a pipe, stands in a file for the program."""
-    with tempfile.TemporaryDirectory(prefix="yampa-") as room:
-        names = {}
-        for role, (name, data) in files.items():
-            names[role] = name if os.path.isfile(name) else os.path.join(room, role)
-            if names[role] != name:
-                with open(names[role], "wb") as file:
-                    file.write(data)
-        yield names
-
-
 def main():
     words = Words("explain", ABOUT)
     words.add_argument("--line", help="the fault line")
@@ -67,7 +53,9 @@ def explain(given):
         except Refused:
             print(unread(name).text(), end="")
             sys.exit(REFUSED)
-    with again(files) as names:
+    with contextlib.ExitStack() as room:
+        # A file that can be read once alone, as a pipe, stands in another one for the program.
+        names = {role: name if os.path.isfile(name) else room.enter_context(kept(data)) for role, (name, data) in files.items()}
         line = given.line or fault_of(names, stream)
     if not line:
         print("nothing is refused")

@@ -1,17 +1,21 @@
 """Calls of the program `yampa`, which alone says what is accepted and what a network outputs."""
+import atexit
+import contextlib
 import os
 import subprocess
+import tempfile
 from pathlib import Path
 
-from workbench.ending import UNREADABLE, Refused
+from workbench.ending import UNREADABLE, Refused, read
 
 TOP = Path(__file__).resolve().parents[2]
 SECONDS = 600
 
 
 def path():
-    """The program: the one that YAMPA names, else the wrapper at the top, which builds it where it isn't built."""
-    return os.environ.get("YAMPA") or str(TOP / "yampa")
+    """The program: the one that YAMPA names, else the one that is built, else the wrapper at the top, which builds it."""
+    built = TOP / "crates/yampa/out/yampa"
+    return os.environ.get("YAMPA") or str(built if os.access(built, os.X_OK) else TOP / "yampa")
 
 
 class Told:
@@ -43,3 +47,21 @@ def answered(words, stream=b""):
     if told.status:
         raise Refused(told.fault() or f"the program ended with status {told.status}", told.status if told.status in (1, 2, 3) else 3)
     return told.output
+
+
+@contextlib.contextmanager
+def kept(text):
+    """The name of a file that holds the text while it is needed."""
+    with tempfile.NamedTemporaryFile("wb", prefix="yampa-") as file:
+        file.write(text if isinstance(text, bytes) else text.encode())
+        file.flush()
+        yield file.name
+
+
+def again(name):
+    """A name under which the file can be read more than once: of a pipe that of a copy."""
+    if os.path.isfile(name):
+        return name
+    stack = contextlib.ExitStack()
+    atexit.register(stack.close)
+    return stack.enter_context(kept(read(name)))
