@@ -1,84 +1,96 @@
 #!/usr/bin/env python3
-"""Writes docs/DEFINITIONS.md: each public definition of each crate's specs/, with the comment above it."""
+"""Prints definitions of specs/ by name: the comment above each, its file, its text, and the definitions that it cites.
+
+    docs/definitions.py NAME..      as `docs/definitions.py meaning`; a part of a name lists the names that have it
+    docs/definitions.py --check     tells of each name of docs/READING.md that no definition has
+"""
 import re
+import sys
 from pathlib import Path
 
 TOP = Path(__file__).resolve().parent.parent
-CRATES = [
-    ("sample_core", "Values and types"),
-    ("leaf_core", "Expressions"),
-    ("leaf_expr", "Texts of expressions"),
-    ("leaf_table", "Stored closures"),
-    ("net_syntax", "Networks"),
-    ("law_patterns", "Laws as patterns"),
-    ("expr_laws", "Laws of expressions"),
-    ("law_rules", "Laws of networks"),
-    ("net_types", "The type checker"),
-    ("cert_check", "Certificates"),
-    ("net_opt", "The optimiser"),
-    ("net_text", "Texts of networks"),
-    ("cell_core", "Cells"),
-    ("state_core", "States"),
-    ("step_core", "Stepping"),
-    ("stream_text", "Texts of streams"),
-    ("command_line", "The command line"),
-    ("yampa_run", "Runs"),
-]
-HEAD = """# Definitions
-
-Each definition that contracts cite, in the order in which one reads them: its name, its file in the crate's `specs/`, and what it says. Codes of trees (`..Code.antt`) and `Falls.antt` are needed by the check alone: that trees can be told apart, and that parts are smaller than the whole. `docs/definitions.py` writes this page from the comments above the definitions.
-"""
-DEFINITION = re.compile(r"^ *(?:abbrev |unfoldable )*pub (?:abbrev |unfoldable |record |data )*([^\s:({]+)")
+HEAD = re.compile(r"^( *)(?:abbrev |unfoldable )*pub (?:abbrev |unfoldable |record |data )*([^\s:({]+)")
+WORD = re.compile(r"[^\s(){}\[\],;.:λ→×]+")
+USE = re.compile(r"^use Rattle\.(\w+)\.specs\.([\w.]+)\.\{([^}]*)\}", re.M)
 
 
-def rows(path):
-    lines = path.read_text().split("\n")
-    for i, line in enumerate(lines):
-        found = DEFINITION.match(line)
-        if found and not is_field(lines, i):
-            words = comment_above(lines, i)
-            if words:
-                yield found.group(1), words.replace("|", "\\|")
+class Definition:
+    """A definition: its name, its file, the comment above it and its lines."""
+
+    def __init__(self, path, lines, at, margin, name):
+        self.name, self.path = name, path
+        first = at
+        while first > 0 and re.search(r"^ *(--|(abbrev )?mutual$|infix)", lines[first - 1]):
+            first -= 1
+        self.comment = [line.strip() for line in lines[first:at] if line.strip().startswith("--")]
+        end = at + 1
+        while end < len(lines) and not ends(lines, end, margin, name):
+            end += 1
+        self.lines = lines[at:end]
+        while self.lines and not self.lines[-1].strip():
+            self.lines.pop()
+
+    def cites(self, found):
+        """The definitions of this repository that it names, each with its file."""
+        words = {word for line in self.lines for word in WORD.findall(line.partition("--")[0])} - {self.name}
+        here = {name: self.path for name in words & found.keys() if any(it.path == self.path for it in found[name])}
+        for crate, file, names in USE.findall(self.path.read_text()):
+            path = TOP / "crates" / crate / "specs" / (file.replace(".", "/") + ".antt")
+            here.update({name: path for name in words & set(re.split(r",\s*", names)) if path.exists()})
+        return [f"{name} ({path.parent.parent.name}/{path.stem})" for name, path in sorted(here.items())]
 
 
-def comment_above(lines, i):
-    """The comment above line i, or above the `mutual` or `infixl` that leads it."""
-    last = i - 1
-    while re.search(r"^ *(abbrev )?mutual$|^ *infix", lines[last]):
-        last -= 1
-    first = last
-    while first >= 0 and lines[first].strip().startswith("--"):
-        first -= 1
-    return " ".join(l.strip()[2:].strip() for l in lines[first + 1 : last + 1])
+def ends(lines, at, margin, name):
+    """Whether the definition of that name has ended before this line: at a comment, or at another word at its margin."""
+    line = lines[at]
+    if not line.strip() or len(line) - len(line.lstrip()) > len(margin):
+        return False
+    return not line.strip().startswith(name) and not line.strip().startswith("|")
 
 
-def is_field(lines, i):
-    """Whether line i is a field of a record: the first line above it that is less indented begins a record."""
-    margin = len(lines[i]) - len(lines[i].lstrip())
-    for line in reversed(lines[:i]):
-        if line.strip() and len(line) - len(line.lstrip()) < margin:
-            return bool(re.match(r"^ *(abbrev |unfoldable )*pub record", line))
-    return False
+def is_field(lines, at):
+    """Whether this line is a field of a record: the first line above it that is less indented begins one."""
+    margin = len(lines[at]) - len(lines[at].lstrip())
+    above = (line for line in reversed(lines[:at]) if line.strip() and len(line) - len(line.lstrip()) < margin)
+    return bool(re.match(r"^ *(abbrev |unfoldable )*pub record", next(above, "")))
 
 
-def files(crate):
-    specs = TOP / "crates" / crate / "specs"
-    for line in (specs / "Lib.antt").read_text().split("\n"):
-        if line.startswith("pub mod "):
-            name = line.split()[2]
-            if not name.endswith("Code") and name != "Falls":
-                yield specs / (name + ".antt")
+def all_definitions():
+    found = {}
+    for path in sorted(TOP.glob("crates/*/specs/*.antt")):
+        lines = path.read_text().split("\n")
+        for at, line in enumerate(lines):
+            head = HEAD.match(line)
+            if head and head[2] != "mod" and not is_field(lines, at):
+                found.setdefault(head[2], []).append(Definition(path, lines, at, head[1], head[2]))
+    return found
 
 
-def page():
-    parts = [HEAD]
-    for crate, title in CRATES:
-        parts.append(f"\n## {title} (`crates/{crate}/specs`)\n\n| name | file | in plain words |\n|---|---|---|\n")
-        for path in files(crate):
-            for name, words in rows(path):
-                parts.append(f"| `{name}` | {path.stem} | {words} |\n")
-    return "".join(parts)
+def shown(definition, found):
+    print(f"{definition.path.relative_to(TOP)}")
+    print("\n".join([*definition.comment, *definition.lines]))
+    print("cites: " + (", ".join(definition.cites(found)) or "none of ours") + "\n")
+
+
+def main(words):
+    found = all_definitions()
+    if words == ["--check"]:
+        told = re.findall(r"^- `([^`]+)`", (TOP / "docs/READING.md").read_text(), re.M)
+        lacking = [name for name in told if name not in found]
+        print("\n".join(lacking) or f"{len(told)} definitions, all there")
+        return 1 if lacking else 0
+    if not words:
+        print(__doc__)
+        return 2
+    for word in words:
+        for definition in found.get(word, []):
+            shown(definition, found)
+        if word not in found:
+            near = [name for name in found if word.lower() in name.lower()]
+            print(f"there is no definition {word}" + (f"; there are {', '.join(near)}" if near else ""))
+            return 1
+    return 0
 
 
 if __name__ == "__main__":
-    (TOP / "docs" / "DEFINITIONS.md").write_text(page())
+    sys.exit(main(sys.argv[1:]))
