@@ -8,7 +8,7 @@ use Rattle.net_syntax.specs.Network.{Network, Networks, arr, seq, first, par, lo
 use Rattle.net_syntax.specs.Typing.{members}
 use Rattle.net_syntax.specs.Place.{member}
 use Rattle.law_rules.specs.NetworkRow.{after_sees, repeatedly_sees, time_sees, event_by, behind_routes, each_after, each_arr, count, NetworkRow, row_l1, row_l2, row_l3, row_l4, row_l5, row_l6, row_l7, row_l8, row_l9, row_l10, row_l11, row_l12, row_l13, row_l14, row_l15, row_l16, row_l17, row_l18, row_l19, row_l20, row_l21, row_l22, row_l23, row_l24, row_l25, row_l26, row_l27, row_l28, row_l29, row_l30, row_l31, row_l32, row_l33, row_l34, row_l35, row_l36, row_l37, row_l38, row_l39, row_l40, row_l41, row_l42, row_l43, row_l44, row_l45, row_l46}
-use Rattle.law_rules.specs.Forward.{one_to_64, no_law, law1, law2, law3, law4, law5, law6, law7, law8, law9, law10, law11, law12, law13, law14, law15, law16, law17, law18, law19, law20, law21, law22, law23, law24, law25, law26, law27, law28, law29, law30, law31, law32, law33, law34, law35, law36, law37, law38, law39, law40, law41, law42, law43, law44, law45, law46, laws, forward}
+use Rattle.law_rules.specs.Forward.{one_to_64, no_law, law1, law2, law3, law4, law5, law6, law7, law8, law9, law10, law11, law12, law13, law14, law15, law16, law17, law18, law19, law20, law21, law22, law23, law24, law25, law26, law27, law28, law29, law30, law31, law32, law33, law34, law35, law36, law37, law38, law39, law40, law41, law42, law43, law44, law45, law46, beside_none, kept_apart, laws, forward}
 
 -- an answer, if there is one, is a right side
 abbrev Gives : ℕ → ℕ → Network Expression → Option (Network Expression) → Type 0
@@ -231,10 +231,14 @@ module _ (olds : ℕ) where
   law45-gives (seq (dr_switch f t) (arr h)) = row_l45
   law45-gives _ = tt
 
-  law46-gives : (net : Network Expression) → Gives 46 olds net (law46 net)
-  law46-gives (seq (arr (pair_expr e (no_event_expr C))) (rp_switch fs m t)) =
+  kept-gives : (e m : Expression) (fs : Networks Expression) (t : Network Expression) → Gives 46 olds (seq (arr e) (rp_switch fs m t)) (kept_apart fs (beside_none e))
+  kept-gives (pair_expr e (no_event_expr C)) m fs t =
       gives-where 46 olds (seq (arr (pair_expr e (no_event_expr C))) (rp_switch fs m t)) (one_to_64 (members fs)) (Some (seq (arr e) (par fs)))
       (λ q. row_l46 (from_1 (members fs) q) (to_64 (members fs) q))
+  kept-gives _ m fs t = tt
+
+  law46-gives : (net : Network Expression) → Gives 46 olds net (law46 net)
+  law46-gives (seq (arr e) (rp_switch fs m t)) = kept-gives e m fs t
   law46-gives _ = tt
 
   -- the laws of a list, numbered from k
@@ -309,11 +313,11 @@ forward-complete {olds = olds} (row_l38 {f = f}) = ap (λ b. cond b (Some f) Non
 forward-complete (row_l39 {r = r} {fs = fs} some few) = ap (λ b. cond b (Some (par (behind_routes r 0 fs))) None) (in_bounds (members fs) some few)
 forward-complete (row_l40 {i = i} {fs = fs} few h) = ap (λ b. cond b (member fs i) None) (le-leb (members fs) 64 few) ∙ h
 forward-complete (row_l41 {h = h} {fs = fs} some few) = ap (λ b. cond b (Some (par (each_after h fs))) None) (in_bounds (members fs) some few)
+forward-complete (row_l42 {es = es} some few) = ap (λ b. cond b (Some (par (each_arr es))) None) (in_bounds (count es) some few)
 forward-complete row_l43 = refl
 forward-complete row_l44 = refl
 forward-complete row_l45 = refl
 forward-complete (row_l46 {e = e} {fs = fs} some few) = ap (λ b. cond b (Some (seq (arr e) (par fs))) None) (in_bounds (members fs) some few)
-forward-complete (row_l42 {es = es} some few) = ap (λ b. cond b (Some (par (each_arr es))) None) (in_bounds (count es) some few)
 
 -- the left side determines the right one
 pub one-right_side : (n olds : ℕ) (l r s : Network Expression) → NetworkRow n olds l r → NetworkRow n olds l s → r ≡ s
