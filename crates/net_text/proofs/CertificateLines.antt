@@ -3,7 +3,7 @@ use Rattle.std.proofs.Common.{◌≡◌, ℕ, List, [], ◌∷◌, ◌++◌, ref
 use Rattle.std.specs.Prelude.{codes}
 use Rattle.std.specs.Fmt.{decimal}
 use Rattle.sample_core.specs.Adding.{Adds}
-use Rattle.leaf_expr.specs.Sexpr.{form, more, spelling, spellings}
+use Rattle.leaf_expr.specs.Sexpr.{form, spelling, spellings}
 use Rattle.leaf_expr.proofs.Joined.{adds_behind}
 use Rattle.net_syntax.specs.Position.{position_spelling, child_numbers}
 use Rattle.net_syntax.specs.LawStep.{Step}

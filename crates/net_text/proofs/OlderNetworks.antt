@@ -1,11 +1,11 @@
 -- A part that means a network in the first version means the same in the second.
-use Rattle.std.proofs.Common.{◌≡◌, ℕ, List, [], ◌∷◌, ◌++◌, refl, ap, ◌∙◌, Option, Some, None}
-use Rattle.std.specs.Prelude.{option_map, option_and_then}
+use Rattle.std.proofs.Common.{◌≡◌, ℕ, List, ◌∷◌, ap, ◌∙◌, Some}
+use Rattle.std.specs.Prelude.{option_and_then}
 use Rattle.leaf_expr.specs.Sexpr.{Sexpr, Sexprs, atom, form, last, more}
 use Rattle.leaf_expr.specs.Language.{Places, Maker, Row, no_place, place, places, meaning, make_tree}
 use Rattle.leaf_expr.proofs.Forms.{hit}
 use Rattle.leaf_expr.proofs.ReadOnly.{some_bind}
-use Rattle.net_text.specs.Grammar.{version_1, version_2, networks, NetSort, NetTree, NetRow, leaf_sort, network_sort, members_sort, time_sort, net_word_at, net_row_at, net_rows, new_rows}
+use Rattle.net_text.specs.Grammar.{version_1, version_2, networks, NetSort, NetTree, leaf_sort, network_sort, members_sort, time_sort, net_word_at, net_row_at, net_rows, new_rows}
 use Rattle.net_text.specs.FileLaws.{OlderNetworkLaw}
 
 -- a form of the first version is one of the second

@@ -1,11 +1,11 @@
 -- A printed certificate is read back.
-use Rattle.std.proofs.Common.{◌≡◌, ℕ, suc, ◌+◌, ◌^◌, ◌≤◌, ◌<◌, Bool, true, false, nat_lt, ◌&&◌, ◌||◌, List, [], ◌∷◌, ◌++◌, length, refl, ap, ◌∙◌, arith, Option, Some, None}
+use Rattle.std.proofs.Common.{◌≡◌, ℕ, suc, ◌+◌, ◌≤◌, Bool, true, false, nat_lt, ◌||◌, List, [], ◌∷◌, ◌++◌, length, refl, ap, ◌∙◌, arith, Option, Some, None}
 use Rattle.std.specs.Prelude.{codes, option_map}
 use Rattle.std.specs.Fmt.{decimal}
 use Rattle.std.proofs.lemmas.Bool.{ltb-false}
 use Rattle.leaf_core.specs.Expression.{Expression}
 use Rattle.leaf_expr.specs.Token.{closing, PlacedToken, tokens, tokens_in}
-use Rattle.leaf_expr.specs.Sexpr.{Sexpr, Sexprs, atom, form, last, more, Spells, SpellAll, form_spells, last_spells, more_spells, plain, all_plain, is_word, all_word_bytes, depth, depths, spelling}
+use Rattle.leaf_expr.specs.Sexpr.{atom, form, Spells, SpellAll, form_spells, last_spells, more_spells, plain, all_plain, is_word, all_word_bytes, depth, depths, spelling}
 use Rattle.leaf_expr.specs.Language.{meaning, make_tree, read_word, places}
 use Rattle.leaf_expr.specs.WordReading.{natural_at}
 use Rattle.leaf_expr.specs.ReadText.{fit}
@@ -17,12 +17,10 @@ use Rattle.leaf_expr.proofs.TokenLaws.{spells_printed}
 use Rattle.net_syntax.specs.Place.{Tree, a_network, a_leaf}
 use Rattle.net_syntax.specs.LawStep.{Step}
 use Rattle.net_syntax.specs.declared.law_step.Law.{Law}
-use Rattle.net_syntax.specs.declared.law_step.Law.TheVariants as Law
 use Rattle.net_syntax.specs.declared.law_step.Direction.{Direction}
-use Rattle.net_syntax.specs.declared.law_step.Direction.TheVariants as Direction
 use Rattle.net_text.specs.Grammar.{Version, version_1, version_2}
 use Rattle.net_text.specs.Printing.{version_by, version_word}
-use Rattle.net_text.specs.StepGrammar.{last_law, step_parts, law_sort, direction_sort, position_sort, child_sort, step_word_at, step_row_at, directions, position_rows, law_named}
+use Rattle.net_text.specs.StepGrammar.{last_law, step_parts, law_sort, direction_sort, position_sort, child_sort, step_word_at, step_row_at, directions, position_rows}
 use Rattle.net_text.specs.CertificateLaws.{laws_tokens, IsGiven, no_tree, one_tree, IsStep, AreSteps, no_step, a_step}
 use Rattle.net_text.specs.CertificatePrinting.{law_spelling, direction_spelling, child_sexprs, tree_sexpr, given_sexprs, step_sexpr, step_lines, is_new_law, is_new_given, are_new_steps, IsLaw, ChildrenFit, GivenFits, StepFits, StepsFit, PrintedCertificateLaw}
 use Rattle.net_text.proofs.Carried.{meaning_same}
