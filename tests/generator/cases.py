@@ -9,7 +9,7 @@ from generator.making import FORM_WEIGHTS, Maker
 from generator.steps import StepMaker, reversed_steps
 from model.texts import LAWS, NEW_LAWS, Step, certificate_text, network_text
 from model.trees import NEW_FORMS, SUGAR_WORDS, child_places, expanded, head, is_network, preorder, shown
-from model.typed import Scope, check_types
+from model.typed import WEIGHT, Scope, check_types, weight
 
 
 class Case:
@@ -44,20 +44,31 @@ class Case:
         given, output = self.maker.type(), self.maker.type()
         if size is None:
             size = self.rng.choice([1, 3, 5, 7, 9])
-        made = self.maker.network(given, output, size=size)
-        core = expanded(made)
-        self.count(made, core, given)
-        return made, check_types(given, core)
+        return self.typed(given, lambda: self.maker.network(given, output, size=size))
+
+    def typed(self, given, make):
+        """What is made, and its typed network; made anew where collections inside one another make it too heavy."""
+        while True:
+            made = make()
+            core = expanded(made)
+            if weight(core) <= WEIGHT:
+                self.count(made, core, given)
+                return made, check_types(given, core)
 
     def networks(self):
         """Some networks side by side on one input. The first begins with the next word in turn."""
         word, size = self.next_of("ran", FORM_WORDS), self.rng.choice([1, 2, 3, 5, 7])
-        given, made, _ = self.maker.of_form(word, self.maker.type(), self.maker.type(), Scope(), size)
-        for _ in range(self.rng.choice([0, 1, 2, 3])):
-            made = ("&&&", made, self.maker.any_network(given, self.rng.choice([1, 1, 2, 4])))
-        core = expanded(made)
-        self.count(made, core, given)
-        return made, check_types(given, core)
+        given, first, _ = self.maker.of_form(word, self.maker.type(), self.maker.type(), Scope(), size)
+        if weight(expanded(first)) > WEIGHT // 2:
+            given, first, _ = self.maker.of_form(word, self.maker.type(), self.maker.type(), Scope(), 1)
+
+        def make():
+            made = first
+            for _ in range(self.rng.choice([0, 1, 2, 3])):
+                made = ("&&&", made, self.maker.any_network(given, self.rng.choice([1, 1, 2, 4])))
+            return made
+
+        return self.typed(given, make)
 
     def count(self, made, core, given):
         """Tells the tally which forms, sugar and types are there."""
@@ -135,7 +146,10 @@ class Case:
             return self.network(self.rng.choice([0, 2, 4, 6]))[1]
         words = [word for word in SWITCHES if self.version == 2 or word not in NEW_FORMS]
         word, given, output = self.rng.choice(words), self.maker.type(), self.maker.type()
-        given, made, _ = self.maker.of_form(word, given, output, Scope(), self.rng.choice([2, 4, 6]))
+        for size in (self.rng.choice([2, 4, 6]), 1):
+            given, made, _ = self.maker.of_form(word, given, output, Scope(), size)
+            if weight(expanded(made)) <= WEIGHT // 2:
+                break
         return check_types(given, expanded(made))
 
     def accepted_steps(self, steps, typeds):
