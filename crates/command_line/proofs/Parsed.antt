@@ -41,12 +41,15 @@ unfolding AsksNothing
 nothing a words m e h free none = (
   taken a words m e h free
       ∙ sym none,
-  λ (l : fault_of command_line words ≡ (kind.DisplayHelp ∷ [])).
-      no_fault (sym (ap (λ (b : App). fault_of b words) (sym e) ∙ free (ap is_simple_and_free e ∙ simple_and_free)) ∙ l),
+  λ (l : fault_of command_line words ≡ (kind.DisplayHelp ∷ [])). no_fault kind.DisplayHelp (sym found ∙ l),
+  λ (l : fault_of command_line words ≡ (kind.DisplayVersion ∷ [])). no_fault kind.DisplayVersion (sym found ∙ l),
 )
   where
-    no_fault : [] ≡ (kind.DisplayHelp ∷ []) → ⊥
-    no_fault q = cc
+    found : fault_of command_line words ≡ []
+    found = ap (λ (b : App). fault_of b words) (sym e) ∙ free (ap is_simple_and_free e ∙ simple_and_free)
+
+    no_fault : (k : ErrorKind) → [] ≡ (k ∷ []) → ⊥
+    no_fault k q = cc
 
 -- the kind of a refusal is one of the faults, or memory was short
 among : (a : App) (words : List (List ℕ)) (error : Error) → a ≡ command_line → (is_simple_and_free a ≡ true → HasKind (fault_of a words) error)
@@ -54,32 +57,46 @@ among : (a : App) (words : List (List ℕ)) (error : Error) → a ≡ command_li
 among a words error e free = let there : is_simple_and_free command_line ≡ true → HasKind (fault_of command_line words) error = rw e at free in
     there simple_and_free
 
--- where help is the only fault, a kind among the faults is help's
-only_help : (k : ErrorKind) (ks : Kinds) → IsAmong k ks → k ≢ kind.DisplayHelp → ks ≢ (kind.DisplayHelp ∷ [])
-only_help k ks h other e = elim (rw e at h) [
+-- where a kind is the only fault, another one isn't among the faults
+only_one : (j k : ErrorKind) (ks : Kinds) → IsAmong k ks → k ≢ j → ks ≢ (j ∷ [])
+only_one j k ks h other e = elim (rw e at h) [
   | inl same ↦ absurd (other same)
   | inr nowhere ↦ nowhere
 ]
 
-asks_help : (words : List (List ℕ)) (k : ErrorKind) → k ≡ kind.DisplayHelp → (k ≡ kind.OutOfMemory) ⊎ IsAmong k (fault_of command_line words) → AsksHelp words
-unfolding AsksHelp
-asks_help words k help (inl memory) = absurd (help_is_memory (sym help ∙ memory))
-  where
-    help_is_memory : kind.DisplayHelp ≡ kind.OutOfMemory → ⊥
-    help_is_memory e = cc
-asks_help words k help (inr h) = let there : IsAmong kind.DisplayHelp (fault_of command_line words) = rw help at h in there
+-- a kind that isn't lack of memory is one of the faults
+is_fault : (words : List (List ℕ)) (j k : ErrorKind) → j ≢ kind.OutOfMemory → k ≡ j
+    → (k ≡ kind.OutOfMemory) ⊎ IsAmong k (fault_of command_line words) → IsAmong j (fault_of command_line words)
+is_fault words j k known same (inl memory) = absurd (known (sym same ∙ memory))
+is_fault words j k known same (inr h) = let there : IsAmong j (fault_of command_line words) = rw same at h in there
 
-asks_nothing : (words : List (List ℕ)) (k : ErrorKind) → k ≢ kind.DisplayHelp → k ≢ kind.OutOfMemory
+asks_help : (words : List (List ℕ)) (k : ErrorKind) → (k ≡ kind.DisplayHelp) ⊎ (k ≡ kind.DisplayVersion)
+    → (k ≡ kind.OutOfMemory) ⊎ IsAmong k (fault_of command_line words) → AsksHelp words
+unfolding AsksHelp
+asks_help words k (inl help) h = inl (is_fault words kind.DisplayHelp k help_is_no_memory help h)
+  where
+    help_is_no_memory : kind.DisplayHelp ≢ kind.OutOfMemory
+    help_is_no_memory e = cc
+asks_help words k (inr version) h = inr (is_fault words kind.DisplayVersion k version_is_no_memory version h)
+  where
+    version_is_no_memory : kind.DisplayVersion ≢ kind.OutOfMemory
+    version_is_no_memory e = cc
+
+asks_nothing : (words : List (List ℕ)) (k : ErrorKind) → k ≢ kind.DisplayHelp → k ≢ kind.DisplayVersion → k ≢ kind.OutOfMemory
     → (k ≡ kind.OutOfMemory) ⊎ IsAmong k (fault_of command_line words) → AsksNothing words
 unfolding AsksNothing request_in
-asks_nothing words k help memory (inl e) = absurd (memory e)
-asks_nothing words k help memory (inr h) = (refused k (fault_of command_line words) h _, only_help k (fault_of command_line words) h help)
+asks_nothing words k help version memory (inl e) = absurd (memory e)
+asks_nothing words k help version memory (inr h) = (
+  refused k (fault_of command_line words) h _,
+  only_one kind.DisplayHelp k (fault_of command_line words) h help,
+  only_one kind.DisplayVersion k (fault_of command_line words) h version,
+)
 
 -- what is replied to a refusal
 pub replied : (a : App) (words : List (List ℕ)) (error : Error) → a ≡ command_line → (is_simple_and_free a ≡ true → HasKind (fault_of a words) error)
     → (reply : Reply) → RepliesTo (kind_of error) reply → ReadsWords words (Err reply)
 replied a words error e free (R.Help text) r = asks_help words (kind_of error) r (among a words error e free)
-replied a words error e free (R.Wrong text) r = asks_nothing words (kind_of error) r.0 r.1 (among a words error e free)
+replied a words error e free (R.Wrong text) r = asks_nothing words (kind_of error) r.0 r.1 r.2 (among a words error e free)
 replied a words error e free R.Memory r = tt
 
 -- what is replied to words that ask for nothing that is there

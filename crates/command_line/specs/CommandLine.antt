@@ -1,5 +1,5 @@
 -- The program's command line, and what its words ask for.
-use Rattle.std.specs.Prelude.{◌≡◌, ◌≢◌, ℕ, Bool, List, [], ◌∷◌, true, false, Option, Some, None, option_and_then, option_map, Result, Ok, Err, bytes_eq, codes, if◌then◌else◌, ⊤}
+use Rattle.std.specs.Prelude.{◌≡◌, ◌≢◌, ℕ, Bool, List, [], ◌∷◌, true, false, Option, Some, None, option_and_then, option_map, Result, Ok, Err, bytes_eq, codes, if◌then◌else◌, ⊤, ◌⊎◌}
 use Rattle.std.specs.Option.{option_map_or}
 use Rattle.clap.specs.Simple.{on_top}
 use Rattle.clap.specs.Words.{App, IsAmong, Kinds, Row, Rule, Shape, fault_of, first_of, new_app, new_rule, subcommand_of, with_rule, with_subcommand}
@@ -39,9 +39,11 @@ derivation_command name =
     (with_rule (with_rule (new_app name) (file_name (codes "SRC"))) (file_name (codes "TGT")))
     (file_name (codes "CERT"))).top
 
--- the program's name, behind which a subcommand must be there
+-- the program's name, behind which a subcommand must be there; it has a version
 abbrev pub program : App
-program = on_top (λ s. record s { subcommand_required = true }) (new_app (codes "yampa"))
+program =
+    on_top (λ s. record s { subcommand_required = true; has_version = true })
+    (new_app (codes "yampa"))
 
 -- the program's command line: `types NET`, `run NET`, `optimise NET`, which takes the flag
 -- `--certificate` too, `check SRC TGT CERT` or `run-checked SRC TGT CERT`
@@ -116,14 +118,16 @@ unfoldable pub request_in : List (List ℕ) → Option RequestTree
 request_in words = unless_faulty (fault_of command_line words)
     (request_by (subcommand_of command_line words))
 
--- the words ask for help
+-- the words ask for help or for the version
 unfoldable pub AsksHelp : List (List ℕ) → Type 0
 AsksHelp words = IsAmong kind.DisplayHelp (fault_of command_line words)
+    ⊎ IsAmong kind.DisplayVersion (fault_of command_line words)
 
--- the words ask for nothing that is there, and not for help alone
+-- the words ask for nothing that is there, and not for help or the version alone
 unfoldable pub AsksNothing : List (List ℕ) → Type 0
 AsksNothing words = (request_in words ≡ None)
     × (fault_of command_line words ≢ (kind.DisplayHelp ∷ []))
+    × (fault_of command_line words ≢ (kind.DisplayVersion ∷ []))
 
 -- the code's names of a derivation's files as such
 abbrev pub derivation_view : Derivation → DerivationNames
@@ -143,8 +147,9 @@ request_view (Q.RunChecked d) = run_checked (derivation_view d)
 
 -- the reply fits an error of that kind
 abbrev pub RepliesTo : ErrorKind → Reply → Type 0
-RepliesTo k (R.Help text) = k ≡ kind.DisplayHelp
-RepliesTo k (R.Wrong text) = (k ≢ kind.DisplayHelp) × (k ≢ kind.OutOfMemory)
+RepliesTo k (R.Help text) = (k ≡ kind.DisplayHelp) ⊎ (k ≡ kind.DisplayVersion)
+RepliesTo k (R.Wrong text) = (k ≢ kind.DisplayHelp) × (k ≢ kind.DisplayVersion)
+    × (k ≢ kind.OutOfMemory)
 RepliesTo k R.Memory = ⊤
 
 -- the reply to words that ask for nothing that is there
@@ -153,8 +158,8 @@ IsNothing (R.Help text) = ⊥
 IsNothing (R.Wrong text) = ⊤
 IsNothing R.Memory = ⊤
 
--- a request is what the words ask for; a reply is help that they ask for, or they ask for nothing
--- that is there, or memory was short
+-- a request is what the words ask for; a reply is help or the version that they ask for, or they
+-- ask for nothing that is there, or memory was short
 abbrev pub ReadsWords : List (List ℕ) → Result Request Reply → Type 0
 ReadsWords words (Ok request) = request_in words ≡ Some (request_view request)
 ReadsWords words (Err (R.Help text)) = AsksHelp words

@@ -43,6 +43,12 @@ HelpRows = AsksHelp (codes "yampa" ∷ codes "--help" ∷ [])
     × AsksHelp (codes "yampa" ∷ codes "run" ∷ codes "-h" ∷ [])
     × AsksHelp (codes "yampa" ∷ codes "optimise" ∷ codes "--help" ∷ [])
 
+-- what asks for the version
+abbrev pub VersionRows : Type 0
+VersionRows = AsksHelp (codes "yampa" ∷ codes "--version" ∷ [])
+    × AsksHelp (codes "yampa" ∷ codes "-V" ∷ [])
+    × AsksNothing (codes "yampa" ∷ codes "run" ∷ codes "--version" ∷ [])
+
 -- what asks for nothing that is there
 abbrev pub NothingRows : Type 0
 NothingRows = AsksNothing (codes "yampa" ∷ []) × AsksNothing (codes "yampa" ∷ codes "run" ∷ [])

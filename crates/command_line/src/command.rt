@@ -3,7 +3,7 @@
 ghost use Rattle.std.specs.Prelude.{◌≡◌, IfOk, codes, map, option_map, false};
 ghost use Rattle.clap.specs.Words.{app_of, first_of, found_of, kind_of, rows_of, rule_of, shape_of, subcommand_rows_of, with_subcommand};
 ghost use Rattle.clap.specs.declared.builder.command.Command.TheViews.{out-Command};
-ghost use Rattle.command_line.specs.CommandRows.{RequestRows, OptimiseRows, DerivationRows, HelpRows, NothingRows, NoOptimiseRows};
+ghost use Rattle.command_line.specs.CommandRows.{RequestRows, OptimiseRows, DerivationRows, HelpRows, VersionRows, NothingRows, NoOptimiseRows};
 ghost use Rattle.command_line.specs.CommandLine.{IsNothing, ReadsWords, RepliesTo, request_by, request_on, command_line, derivation_command, derivation_in, derivation_view, file_command, file_name, flag, is_given, optimise_command, optimise_in, request_view, types, run, check, run_checked, wanted_in};
 
 use crate::help;
@@ -49,7 +49,7 @@ pub enum Request<'a> {
 /// Why the command line is no request.
 #[derive(Drop)]
 pub enum Reply {
-    /// Help that was asked for.
+    /// Help that was asked for, or the version.
     Help(String),
     /// What is wrong with the words.
     Wrong(String),
@@ -128,11 +128,13 @@ fn on_derivation<'a>(
     command.arg(named_file(alloc, "CERT", help::CERT))
 }
 
-/// The command with one more subcommand, which has that name and takes a network file.
+/// The command with one more subcommand, which has that name, is called in that way and takes a
+/// network file.
 fn with_network<'a>(
     alloc: Global,
     command: Command<'a>,
     name: &'a str,
+    usage: &'a str,
     does: &'a str,
     more: &'a str,
 ) -> Result<Command<'a>, AllocError>
@@ -140,7 +142,7 @@ fn with_network<'a>(
         (λ c. app_of c ≡ with_subcommand (app_of command.entry) (file_command name.entry.now)) }
 {
     match on_network(alloc, name, does, more) {
-        Ok(subcommand) => command.subcommand(subcommand),
+        Ok(subcommand) => command.subcommand(subcommand.override_usage(usage)),
         Err(refused) => {
             drop(command);
             Err(refused)
@@ -162,11 +164,13 @@ fn with_optimise<'a>(alloc: Global, command: Command<'a>) -> Result<Command<'a>,
     }
 }
 
-/// The command with one more subcommand, which has that name and takes the files of a derivation.
+/// The command with one more subcommand, which has that name, is called in that way and takes the
+/// files of a derivation.
 fn with_derivation<'a>(
     alloc: Global,
     command: Command<'a>,
     name: &'a str,
+    usage: &'a str,
     does: &'a str,
     more: &'a str,
 ) -> Result<Command<'a>, AllocError>
@@ -175,7 +179,7 @@ fn with_derivation<'a>(
         (derivation_command name.entry.now)) }
 {
     match on_derivation(alloc, name, does, more) {
-        Ok(subcommand) => command.subcommand(subcommand),
+        Ok(subcommand) => command.subcommand(subcommand.override_usage(usage)),
         Err(refused) => {
             drop(command);
             Err(refused)
@@ -188,17 +192,40 @@ fn make_command<'a>(alloc: Global) -> Result<Command<'a>, AllocError>
     ensures { IfOk result (λ c. app_of c ≡ command_line) }
 {
     let command = Command::new(alloc, "yampa")
+        .version(help::VERSION)
         .subcommand_required(true)
         .about(help::PROGRAM)
         .after_help(help::PROGRAM_MORE);
-    let command = with_network(alloc, command, "types", help::TYPES, help::TYPES_MORE)?;
-    let command = with_network(alloc, command, "run", help::RUN, help::RUN_MORE)?;
+    let command = with_network(
+        alloc,
+        command,
+        "types",
+        "yampa types <NET>",
+        help::TYPES,
+        help::TYPES_MORE,
+    )?;
+    let command = with_network(
+        alloc,
+        command,
+        "run",
+        "yampa run <NET> < STREAM",
+        help::RUN,
+        help::RUN_MORE,
+    )?;
     let command = with_optimise(alloc, command)?;
-    let command = with_derivation(alloc, command, "check", help::CHECK, help::CHECK_MORE)?;
+    let command = with_derivation(
+        alloc,
+        command,
+        "check",
+        "yampa check <SRC> <TGT> <CERT>",
+        help::CHECK,
+        help::CHECK_MORE,
+    )?;
     with_derivation(
         alloc,
         command,
         "run-checked",
+        "yampa run-checked <SRC> <TGT> <CERT> < STREAM",
         help::RUN_CHECKED,
         help::RUN_CHECKED_MORE,
     )
@@ -313,7 +340,7 @@ fn reply_to(alloc: Global, error: &Error) -> Reply
     ensures { RepliesTo (kind_of error.now) result }
 {
     match (error.kind(), format!(in alloc; "{error}")) {
-        (ErrorKind::DisplayHelp, Ok(text)) => Reply::Help(text),
+        (ErrorKind::DisplayHelp | ErrorKind::DisplayVersion, Ok(text)) => Reply::Help(text),
         (ErrorKind::OutOfMemory, _) => Reply::Memory,
         (_, Ok(text)) => Reply::Wrong(without_line_feed(text)),
         (_, Err(_)) => Reply::Memory,
@@ -330,7 +357,7 @@ fn without_line_feed(text: String) -> String {
 }
 
 /// Reads the words of a command line. The first is the program's name. Answers what they ask for;
-/// else help, where it is asked for, or what is wrong with them.
+/// else help or the version, where that is asked for, or what is wrong with them.
 pub fn parse<'a>(alloc: Global, words: &'a [&'a str]) -> Result<Request<'a>, Reply>
     ensures { ReadsWords (map (λ w. w.now) words.entry.now) result }
 {
@@ -362,12 +389,13 @@ fn no_such_command(alloc: Global) -> Reply
 }
 
 /// Command lines, word for word, and what they ask for: a file's types or its run, the optimiser,
-/// a derivation, help, or nothing that is there.
+/// a derivation, help, the version, or nothing that is there.
 pub fn command_rows()
     ensures asked { RequestRows }
     ensures optimise { OptimiseRows }
     ensures derivations { DerivationRows }
     ensures help { HelpRows }
+    ensures version { VersionRows }
     ensures nothing { NothingRows }
     ensures no_optimise { NoOptimiseRows }
 {}

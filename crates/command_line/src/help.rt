@@ -3,14 +3,21 @@
 /// What the program does.
 pub const PROGRAM: &str = "Checks and runs networks of signal functions.";
 
+/// The program's version, the language's, and what both are proved with.
+pub const VERSION: &str = "\
+1.0
+language 1
+proved with rattle-kit-13b and rattle-kit-13f, logic dac8208d650f15bf";
+
 /// What help on the program ends with.
 pub const PROGRAM_MORE: &str = "\
 A network is a text file: its input's type, and how each sample of a timed stream leads to an
 output. `yampa types NET` tells what goes in and what comes out, `yampa run NET < STREAM` runs it.
 `yampa check SRC TGT CERT` checks that two networks output the same, by a certificate that says why;
 `yampa optimise NET` finds such a network, and the certificate that leads there, by itself.
-docs/LANGUAGE.md teaches the language. A small file NET, which outputs 0, and then each number
-plus one, a sample late:
+The pages stand in the folder `docs` of the repository that it was built in: LANGUAGE.md teaches the
+language, LAWS.md the laws. A small file NET, which outputs 0, and then each number plus one, a
+sample late:
 
   yampa 1
   input Int

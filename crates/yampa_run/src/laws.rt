@@ -13,20 +13,23 @@ use net_text::printing_laws;
 use sample_core::reading_laws;
 use stream_text::stream_laws;
 
-/// The bytes of a file are refused with one line, and bytes that have a network with none. So a run
-/// that is asked for is refused, but for lack of memory, only where there is no network to run: where
-/// the file's bytes have none, or those of three files are no source, target and certificate whose
-/// steps derive the target.
+/// The bytes of a file are refused with one line, and bytes that have a network with none. So
+/// `prepare` refuses a run that is asked for, but for lack of memory, only where there is no network
+/// to run: where the file's bytes have none, or those of three files are no source, target and
+/// certificate whose steps derive the target. A full table is told behind it.
 pub fn refusal_laws()
     ensures one_line { OneRefusalLaw }
     ensures no_network { NoNetworkLaw }
     ensures only_memory { OnlyMemoryLaw }
 {}
 
-/// Where steps derive a network from another, both have the same output on every text. So a run of
-/// either in which no growth, read or write is refused, in whatever pieces it reads, writes the same
-/// bytes: one line a sample, the values of the source's stream meaning, up to the stream's first
-/// faulty line, which it names.
+/// Where `check` accepts a certificate from a source to a target network, then, whatever bytes come
+/// as the timed stream and in whatever pieces, a `run` of either network in which no growth, read or
+/// write is refused writes the same bytes: one line per sample, the values of the source's stream
+/// meaning, up to the stream's first faulty line, which it names.
+///
+/// Accepts: `check` answered `Ok`, whose contract says `Derives`. `lines` is the same in both runs;
+/// `most_visits` may differ.
 pub fn headline_laws()
     ensures same_output { SameOutputLaw }
     ensures same_front { SameFrontLaw }
@@ -38,9 +41,10 @@ pub fn headline_laws()
 }
 
 /// Where the words ask for a run of a network file, or of a target whose certificate is to be
-/// checked, and the bytes of the files that they name are told: what is written of any text is the
-/// output of the file's network, or of the source, all of it with status 0, or with status 1 and the
-/// line of the text's first fault, and a part from the front with status 3.
+/// checked, and the bytes of the files that they name are told: what `run_network` writes of any
+/// text is the output of the file's network, or of the source. Where it answers a report, all of it;
+/// where it answers status 1, all of it up to the text's first fault, which the line names; where it
+/// answers status 3, a part of it from the front, and the line tells what hindered it.
 pub fn whole_run_laws()
     ensures whole { WholeRunLaw }
 {

@@ -1,5 +1,16 @@
 //! Runs of networks on the texts of streams, what a command line leads to, and what the program
 //! prints.
+//!
+//!     let job = prepare(alloc, &["yampa", "run", "net"], &files)?;
+//!     let report = run_network(alloc, &net, &table, &mut reader, &mut writer)?;
+//!
+//! `prepare` answers the network to run, or the text to print, for the words and the files' bytes,
+//! and else the refusal's status and line. `run_network` writes one line a sample: the spellings
+//! of the network's stream meaning, up to the text's first fault. `headline_laws` and
+//! `whole_run_laws` say what that means for certificates and for the whole command; `fill_table!`
+//! makes the table.
+//!
+//! First `specs/Output` and `Headline`, then `src/stream_run.rt`, `src/preparation.rt`.
 #![tactic(auto)]
 
 mod certificate;

@@ -1,4 +1,4 @@
-use Rattle.std.proofs.Common.{refl, inl}
+use Rattle.std.proofs.Common.{refl, inl, inr}
 use Rattle.clap.proofs.OnLiterals.{clap_on_literals}
 use Rattle.command_line.specs.CommandLine.{request_in, AsksHelp, AsksNothing}
 use Rattle.command_line.proofs.command.command_rows.Goals as goal
@@ -17,13 +17,17 @@ returns-clause-derivations c = (refl, refl)
 
 pub returns-clause-help : goal.returns-clause-help
 unfolding clap_on_literals AsksHelp
-returns-clause-help c = (inl refl, inl refl, inl refl)
+returns-clause-help c = (inl (inl refl), inl (inl refl), inl (inl refl))
+
+pub returns-clause-version : goal.returns-clause-version
+unfolding clap_on_literals request_in AsksHelp AsksNothing
+returns-clause-version c = (inr (inl refl), inr (inl refl), (refl, λ e. cc, λ e. cc))
 
 pub returns-clause-nothing : goal.returns-clause-nothing
 unfolding clap_on_literals request_in AsksNothing
-returns-clause-nothing c = ((refl, λ e. cc), (refl, λ e. cc), (refl, λ e. cc), (refl, λ e. cc), (refl, λ e. cc), (refl, λ e. cc))
+returns-clause-nothing c = ((refl, λ e. cc, λ e. cc), (refl, λ e. cc, λ e. cc), (refl, λ e. cc, λ e. cc), (refl, λ e. cc, λ e. cc), (refl, λ e. cc, λ e. cc), (refl, λ e. cc, λ e. cc))
 
 pub returns-clause-no_optimise : goal.returns-clause-no_optimise
 unfolding clap_on_literals request_in AsksNothing
 returns-clause-no_optimise c =
-    ((refl, λ e. cc), (refl, λ e. cc), (refl, λ e. cc), (refl, λ e. cc), (refl, λ e. cc), (refl, λ e. cc), (refl, λ e. cc))
+    ((refl, λ e. cc, λ e. cc), (refl, λ e. cc, λ e. cc), (refl, λ e. cc, λ e. cc), (refl, λ e. cc, λ e. cc), (refl, λ e. cc, λ e. cc), (refl, λ e. cc, λ e. cc), (refl, λ e. cc, λ e. cc))
