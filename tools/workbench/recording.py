@@ -9,7 +9,7 @@ from model.texts import ValueFault, read_value, step_of
 from model.trees import GREATEST, shown
 from model.typed import is_form
 from workbench.ending import Refused, Words, ended, read, write
-from workbench.program import answered, call
+from workbench.program import again, answered, call
 
 CSV = """Makes a stream of NET's input from a table, or a table from a stream.
 
@@ -196,7 +196,7 @@ def csv_main():
         words.error("--ticks is a number from 1")
 
     def work():
-        into, output = types_of(given.net)
+        into, output = types_of(again(given.net))
         data = read("-")
         if given.back:
             write(given.to, to_table(data, into if given.input else output, given.ticks, start_of(given.start)))
@@ -237,7 +237,7 @@ def timed_main():
     given = words.parse_args()
 
     def work():
-        made, told = timed(given.net, read("-"))
+        made, told = timed(again(given.net), read("-"))
         write(None, made)
         if told.status:
             raise Refused(told.fault(), told.status)

@@ -191,7 +191,7 @@ def compare_main():
 
     def work():
         stream = read("-")
-        source, target = (call(["run", net], stream) for net in (given.source, given.target))
+        source, target = (call(["run", again(net)], stream) for net in (given.source, given.target))
         for name, told in ((given.source, source), (given.target, target)):
             if told.status and not told.fault().startswith("stream: line"):
                 raise Refused(f"{name}: {told.fault()}", told.status if told.status in (1, 2, 3) else 3)

@@ -6,7 +6,7 @@ from model.trees import at, child_places, children, expanded, head, is_network, 
 from model.typed import check_types
 from workbench.ending import Refused, Words, ended, read, write
 from workbench.layout import laid_out
-from workbench.program import answered
+from workbench.program import again, answered
 from workbench.shorter import shortened
 from workbench.source import Node, SyntaxFault, place, read_file
 
@@ -169,6 +169,7 @@ WAYS = {
 
 def typed_file(name):
     """The typed network of a file that the program accepts."""
+    name = again(name)
     data = read(name)
     answered(["types", name])
     try:
