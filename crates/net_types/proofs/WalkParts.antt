@@ -69,14 +69,19 @@ p_switch_as P S A r fs e t o c h =
     routed (test_members P fs) (within (pair_ty A int_ty)) (leaf_walk (P ↓ 0) S (pair_ty A int_ty) r) (λ D. net_walk_all P 1 S.params S.olds D fs)
     (λ Bs. one_output P 1 Bs) (λ q. freezing_walk P (suc (members fs)) S A (list_ty q.output) (members fs) q e t) o c h
 
--- the walk of an `rpSwitchB`, where its members' output is known
+-- the walk goes on from what is known
 known : {A B : Type 0} {r : Result A TypeFault} (k : A → Result B TypeFault) {a : A} → r ≡ Ok a → (r >>= k) ≡ k a
 known k e = ap (λ r. r >>= k) e
 
-one_known : (r : Result (List TypeTree) TypeFault) (one : List TypeTree → Result TypeTree TypeFault) (k : TypeTree → Result TypeTree TypeFault) (B : TypeTree)
-    → (r >>= one) ≡ Ok B → (r >>= (λ Bs. one Bs >>= k)) ≡ k B
-one_known (Err x) one k B h = absurd (cc)
-one_known (Ok Bs) one k B h = known k h
+-- a step and its next two, taken together
+joined : {A B C D : Type 0} (r : Result A TypeFault) (one : A → Result B TypeFault) (g : B → Result D TypeFault) (c : Result C TypeFault)
+    (k : B → C → Result D TypeFault) → ((b : B) → g b ≡ (c >>= k b)) → (r >>= (λ a. one a >>= g)) ≡ ((r >>= one) >>= (λ b. c >>= k b))
+joined (Err x) one g c k e = refl
+joined {B = B} (Ok a) one g c k e = go (one a)
+  where
+    go : (q : Result B TypeFault) → (q >>= g) ≡ (q >>= (λ b. c >>= k b))
+    go (Err x) = refl
+    go (Ok b) = e b
 
 chosen : (r : Result TypeTree TypeFault) (c : TypeTree → Result TypeTree TypeFault) (f : TypeTree → InScope) (g : TypeTree → Result TypeTree TypeFault)
     (k : InScope → Result TypeTree TypeFault) → ((V : TypeTree) → g V ≡ k (f V)) → (r >>= (λ K. c K >>= g)) ≡ ((r >>= (λ K. c K >>= (λ V. Ok (f V)))) >>= k)
@@ -91,36 +96,47 @@ then_last : (r : Result TypeTree TypeFault) (s : TypeTree → Result TypeTree Ty
 then_last (Err x) s w = refl
 then_last (Ok E) s w = refl
 
-rp_switch_as : (P : List ℕ) (S : InScope) (A D M C B : TypeTree) (fs : Networks Expression) (m : Expression) (t : Network Expression) → test_members P fs ≡ Ok tt
-    → as_pair P A ≡ Ok (D, M) → as_event P M ≡ Ok C → members_walk P 0 S D fs ≡ Ok B
-    → walk_in P S A (rp_switch fs m t) ≡ (choice_walk (P ↓ members fs) S C m >>= (λ R. started_walk (P ↓ suc (members fs)) R D B t))
-rp_switch_as P S A D M C B fs m t h p e w =
+-- what is left of the walk of an `rpSwitchB` with n members, where what they get, D, and what its events carry, C, are known
+abbrev collection_walk : List ℕ → ℕ → InScope → TypeTree → TypeTree → Networks Expression → Expression → Network Expression → Result TypeTree TypeFault
+collection_walk P n S D C fs m t = members_walk P 0 S D fs >>= (λ B. choice_walk (P ↓ n) S C m >>= (λ R. started_walk (P ↓ suc n) R D B t))
+
+rp_switch_as : (P : List ℕ) (S : InScope) (A D M C : TypeTree) (fs : Networks Expression) (m : Expression) (t : Network Expression) → test_members P fs ≡ Ok tt
+    → as_pair P A ≡ Ok (D, M) → as_event P M ≡ Ok C → walk_in P S A (rp_switch fs m t) ≡ collection_walk P (members fs) S D C fs m t
+rp_switch_as P S A D M C fs m t h p e =
+    let k = P ↓ members fs in
     let n = P ↓ suc (members fs) in
     known _ h
     ∙ (known _ p
     ∙ (known _ e
-    ∙ (one_known (net_walk_all P 0 S.params S.olds D fs) (λ Bs. one_output P 0 Bs) _ B w
-    ∙ chosen (leaf_walk (P ↓ members fs) S C m) (λ K. as_choice (P ↓ members fs) K) (λ V. and_param S V) _ (λ R. started_walk n R D B t)
+    ∙ joined (net_walk_all P 0 S.params S.olds D fs) (λ Bs. one_output P 0 Bs) _ (choice_walk k S C m) (λ B R. started_walk n R D B t)
+    (λ B. chosen (leaf_walk k S C m) (λ K. as_choice k K) (λ V. and_param S V) _ (λ R. started_walk n R D B t)
     (λ V. then_last (walk_in n (and_param S V) D t) (λ E. expect_same n B E) (within (list_ty B))))))
 
--- an `rpSwitchB` gives what is left of it, where its members' output is known
-pub rp_switch_gives : {X : Type 0} (view : X → TypeTree) (result : Result X TypeFault) (P : List ℕ) (S : InScope) (A D M C B : TypeTree) (ms : Networks Expr)
+-- an `rpSwitchB` gives what is left of it
+pub rp_switch_gives : {X : Type 0} (view : X → TypeTree) (result : Result X TypeFault) (P : List ℕ) (S : InScope) (A D M C : TypeTree) (ms : Networks Expr)
     (xs : List (Net Expr)) (n : ℕ) (m : Expression) (t : Network Expression) → members_of xs ≡ ms → n ≡ length xs
     → test_members P (map_networks expression_of (members_of xs)) ≡ Ok tt → as_pair P A ≡ Ok (D, M) → as_event P M ≡ Ok C
-    → members_walk P 0 S D (map_networks expression_of (members_of xs)) ≡ Ok B
-    → Gives view result (choice_walk (P ↓ n) S C m >>= (λ R. started_walk (P ↓ suc n) R D B t))
+    → Gives view result (collection_walk P n S D C (map_networks expression_of (members_of xs)) m t)
     → Gives view result (walk_in P S A (rp_switch (map_networks expression_of ms) m t))
-rp_switch_gives view result P S A D M C B ms xs n m t i l h p e w d =
+rp_switch_gives view result P S A D M C ms xs n m t i l h p e d =
     subst (λ ns. Gives view result (walk_in P S A (rp_switch (map_networks expression_of ns) m t))) i
-    (gives_as view result (rp_switch_as P S A D M C B (map_networks expression_of (members_of xs)) m t h p e w)
+    (gives_as view result (rp_switch_as P S A D M C (map_networks expression_of (members_of xs)) m t h p e)
     (rw (l ∙ sym (members_counted xs)) at d))
 
--- and that is the continuation's, or the fault of the choice
-pub started_gives : {X : Type 0} (view : X → TypeTree) (result : Result X TypeFault) (P : List ℕ) (k j : ℕ) (S inner : InScope) (C D B : TypeTree) (m : Expression)
-    (t : Network Expression) → j ≡ suc k → choice_walk (P ↓ k) S C m ≡ Ok inner → Gives view result (started_walk (P ↓ j) inner D B t)
-    → Gives view result (choice_walk (P ↓ k) S C m >>= (λ R. started_walk (P ↓ suc k) R D B t))
-started_gives view result P k j S inner C D B m t i h d =
-    gives_as view result (known (λ R. started_walk (P ↓ suc k) R D B t) h) (rw i at d)
+-- and that is what its continuation gives, or the fault of its choice
+pub collection_gives : {X : Type 0} (view : X → TypeTree) (result : Result X TypeFault) (P Q : List ℕ) (n j : ℕ) (S inner : InScope) (D C B : TypeTree)
+    (fs : Networks Expression) (m : Expression) (t : Network Expression) → j ≡ suc n → Q ≡ P → members_walk P 0 S D fs ≡ Ok B
+    → choice_walk (Q ↓ n) S C m ≡ Ok inner → Gives view result (started_walk (Q ↓ j) inner D B t) → Gives view result (collection_walk P n S D C fs m t)
+collection_gives view result P Q n j S inner D C B fs m t i q w h d =
+    gives_as view result (known _ w ∙ known (λ R. started_walk (P ↓ suc n) R D B t) (rw q at h)) (rw (i, q) at d)
+
+pub collection_stops : (P Q : List ℕ) (n : ℕ) (S : InScope) (D C B : TypeTree) (fs : Networks Expression) (m : Expression) (t : Network Expression) (x : TypeFault)
+    → Q ≡ P → members_walk P 0 S D fs ≡ Ok B → choice_walk (Q ↓ n) S C m ≡ Err x → collection_walk P n S D C fs m t ≡ Err x
+collection_stops P Q n S D C B fs m t x q w h = known _ w ∙ ap (λ r. r >>= (λ R. started_walk (P ↓ suc n) R D B t)) (rw q at h)
+
+pub collection_fails : (P : List ℕ) (n : ℕ) (S : InScope) (D C : TypeTree) (fs : Networks Expression) (m : Expression) (t : Network Expression) (x : TypeFault)
+    → members_walk P 0 S D fs ≡ Err x → collection_walk P n S D C fs m t ≡ Err x
+collection_fails P n S D C fs m t x h = ap (λ r. r >>= (λ B. choice_walk (P ↓ n) S C m >>= (λ R. started_walk (P ↓ suc n) R D B t))) h
 
 -- a `pSwitch` gives what is left of it, where its members' types are known
 pub p_switch_gives : {X : Type 0} (view : X → TypeTree) (result : Result X TypeFault) (P Q : List ℕ) (S : InScope) (A : TypeTree) (r : Expression)

@@ -1,9 +1,11 @@
-use Rattle.std.proofs.Common.{◌+◌, suc, add-one, arith}
+use Rattle.std.proofs.Common.{◌+◌, suc, Err, add-one, arith}
+use Rattle.std.proofs.lemmas.Result.{err_from_is_err_and}
 use Rattle.sample_core.specs.TypeView.{type_of}
 use Rattle.leaf_core.specs.ExpressionView.{expression_of}
 use Rattle.net_syntax.specs.ArrowView.{arrow_of}
-use Rattle.net_syntax.specs.Network.{map_network}
-use Rattle.net_types.proofs.WalkParts.{freezing_gives, p_switch_gives}
+use Rattle.net_syntax.specs.Network.{map_network, map_networks}
+use Rattle.net_syntax.specs.NetworkView.{members_of}
+use Rattle.net_types.proofs.WalkParts.{freezing_gives, p_switch_gives, rp_switch_gives, collection_gives, collection_stops, collection_fails}
 use Rattle.net_types.proofs.walk.+walk.Goals as goal
 
 pub walk_gathered-returns-clause-answer : goal.walk_gathered-returns-clause-answer
@@ -20,3 +22,44 @@ walk_p_switch-returns-clause-answer t c =
     (expression_of c.args.r.now) c.args.fs.now c.as_slice-members.result.now c.in_ok-count.count (arrow_of c.in_ok-types.types)
     (map_network expression_of c.args.e.now) (map_network expression_of c.args.t.now) c.as_slice-members.ensures c.in_ok-count.ensures.counted
     c.in_ok-types.ensures.path (rw c.deref.ensures.value at c.in_ok-count.ensures.answer) c.in_ok-types.ensures.answer c.walk_gathered-next.ensures.answer
+
+pub walk-returns-in-RpSwitch-clause-answer : goal.walk-returns-in-RpSwitch-clause-answer
+walk-returns-in-RpSwitch-clause-answer t c = rw c.in-RpSwitch.is c.walk_rp_switch.ensures.answer
+
+pub walk_rp_switch-returns-in_err-output-clause-answer : goal.walk_rp_switch-returns-in_err-output-clause-answer
+walk_rp_switch-returns-in_err-output-clause-answer t c =
+    let p = err_from_is_err_and c.from_residual-in_err-output.result c.from_residual-in_err-output.ensures.1 in
+    rp_switch_gives type_of c.from_residual-in_err-output.result c.args.path.now.items c.args.scope.now (type_of c.args.input.now)
+    (type_of c.in_ok-sample.sample.now) (type_of c.in_ok-sample.event.now) (type_of c.in_ok-carried.carried.now) c.args.fs.now c.as_slice-members.result.now
+    c.in_ok-count.count (expression_of c.args.m.now) (map_network expression_of c.args.t.now) c.as_slice-members.ensures c.in_ok-count.ensures.counted
+    (rw c.deref.ensures.value at c.in_ok-count.ensures.answer) (rw c.deref-2.ensures.value at c.in_ok-sample.ensures)
+    (rw c.deref-3.ensures.value at c.in_ok-carried.ensures)
+    (rw (p.1, p.2)
+    (λ h. collection_fails c.args.path.now.items c.in_ok-count.count c.args.scope.now (type_of c.in_ok-sample.sample.now) (type_of c.in_ok-carried.carried.now)
+    (map_networks expression_of (members_of c.as_slice-members.result.now)) (expression_of c.args.m.now) (map_network expression_of c.args.t.now)
+    c.in_err-output.field-0.0 (c.in_err-output.ensures.answer h)))
+
+pub walk_rp_switch-returns-in-Ok-clause-answer : goal.walk_rp_switch-returns-in-Ok-clause-answer
+walk_rp_switch-returns-in-Ok-clause-answer t c =
+    let n = c.in_ok-count.count in
+    rp_switch_gives type_of c.walk_started-list.result c.args.path.now.items c.args.scope.now (type_of c.args.input.now) (type_of c.in_ok-sample.sample.now)
+    (type_of c.in_ok-sample.event.now) (type_of c.in_ok-carried.carried.now) c.args.fs.now c.as_slice-members.result.now n (expression_of c.args.m.now)
+    (map_network expression_of c.args.t.now) c.as_slice-members.ensures c.in_ok-count.ensures.counted
+    (rw c.deref.ensures.value at c.in_ok-count.ensures.answer) (rw c.deref-2.ensures.value at c.in_ok-sample.ensures)
+    (rw c.deref-3.ensures.value at c.in_ok-carried.ensures)
+    (collection_gives type_of c.walk_started-list.result c.args.path.now.items c.members_type.new.path.items n (n + 1) c.args.scope.now c.in-Ok.inner
+    (type_of c.in_ok-sample.sample.now) (type_of c.in_ok-carried.carried.now) (type_of c.in_ok-output.output)
+    (map_networks expression_of (members_of c.as_slice-members.result.now)) (expression_of c.args.m.now) (map_network expression_of c.args.t.now)
+    (add-one n) c.in_ok-output.ensures.path c.in_ok-output.ensures.answer (rw c.deref-4.ensures.value at c.in-Ok.ensures) c.walk_started-list.ensures.answer)
+
+pub walk_rp_switch-returns-in-Err-clause-answer : goal.walk_rp_switch-returns-in-Err-clause-answer
+walk_rp_switch-returns-in-Err-clause-answer t c =
+    rp_switch_gives type_of (Err c.in-Err.fault) c.args.path.now.items c.args.scope.now (type_of c.args.input.now) (type_of c.in_ok-sample.sample.now)
+    (type_of c.in_ok-sample.event.now) (type_of c.in_ok-carried.carried.now) c.args.fs.now c.as_slice-members.result.now c.in_ok-count.count
+    (expression_of c.args.m.now) (map_network expression_of c.args.t.now) c.as_slice-members.ensures c.in_ok-count.ensures.counted
+    (rw c.deref.ensures.value at c.in_ok-count.ensures.answer) (rw c.deref-2.ensures.value at c.in_ok-sample.ensures)
+    (rw c.deref-3.ensures.value at c.in_ok-carried.ensures)
+    (λ h. collection_stops c.args.path.now.items c.members_type.new.path.items c.in_ok-count.count c.args.scope.now (type_of c.in_ok-sample.sample.now)
+    (type_of c.in_ok-carried.carried.now) (type_of c.in_ok-output.output) (map_networks expression_of (members_of c.as_slice-members.result.now))
+    (expression_of c.args.m.now) (map_network expression_of c.args.t.now) c.in-Err.fault c.in_ok-output.ensures.path c.in_ok-output.ensures.answer
+    (rw c.deref-4.ensures.value at (c.in-Err.ensures h)))
