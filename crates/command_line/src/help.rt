@@ -5,8 +5,8 @@ pub const PROGRAM: &str = "Checks and runs networks of signal functions.";
 
 /// The program's version, the language's, and what both are proved with.
 pub const VERSION: &str = "\
-1.0
-language 1
+2.0
+language 2, and 1
 proved with rattle-kit-13b and rattle-kit-13f, logic dac8208d650f15bf";
 
 /// What help on the program ends with.
@@ -16,7 +16,9 @@ output. `yampa types NET` tells what goes in and what comes out, `yampa run NET 
 `yampa check SRC TGT CERT` checks that two networks output the same, by a certificate that says why;
 `yampa optimise NET` finds such a network, and the certificate that leads there, by itself.
 The pages stand in the folder `docs` of the repository that it was built in: LANGUAGE.md teaches the
-language, LAWS.md the laws. A small file NET, which outputs 0, and then each number plus one, a
+language, LAWS.md the laws, and TOOLS.md the tools that `./yampa` calls there beside these commands,
+each with a --help of its own: explain, expand, fmt, draw, plot, watch, csv, timed, tidy, falsify,
+differ, compare and report. A small file NET, which outputs 0, and then each number plus one, a
 sample late:
 
   yampa 1
@@ -31,7 +33,8 @@ Exit status:
 Where it isn't 0, standard error says why.";
 
 /// What the file of a network is.
-pub const NET: &str = "The network's file: `yampa 1`, `input` and a type, and the network";
+pub const NET: &str =
+    "The network's file: `yampa 1` or `yampa 2`, `input` and a type, and the network";
 
 /// What `types` does.
 pub const TYPES: &str = "Checks a network, and prints its types, its weight and its height";
@@ -109,7 +112,7 @@ pub const TGT: &str = "The file of the network that the certificate leads to";
 
 /// What the file of a certificate is.
 pub const CERT: &str =
-    "The certificate's file: `laws 1`, and its steps, as `(step L4 forward (at))`";
+    "The certificate's file: `laws 1` or `laws 2`, and its steps, as `(step L4 forward (at))`";
 
 /// What `check` does.
 pub const CHECK: &str = "Checks that a certificate leads from one network to another";
