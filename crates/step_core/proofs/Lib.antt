@@ -46,3 +46,4 @@ pub mod MembersFall
 pub mod PassedNetworks
 pub mod RunCollections
 pub mod CollectionRuns
+pub mod ListedMembers

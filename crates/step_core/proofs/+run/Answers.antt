@@ -13,7 +13,7 @@ use Rattle.step_core.specs.EventView.{restart_found}
 use Rattle.step_core.specs.Flow as F
 use Rattle.step_core.specs.Flow.{all_placed, past_behind, past_in, placed, standing, Runs}
 use Rattle.step_core.specs.Runs.{RunsWhere}
-use Rattle.step_core.proofs.Flows.{is_switch, is_d_switch, is_k_switch, is_p_switch, is_old, placed_by, arr_flows, cell_by, seq_flows, first_flows, loop_flows, par_flows, none_flow, chain_goes, each_begins, each_goes, no_items, placed_flows, restart_goes, restart_cuts}
+use Rattle.step_core.proofs.Flows.{is_switch, is_d_switch, is_k_switch, is_p_switch, is_rp_switch, is_old, placed_by, arr_flows, cell_by, seq_flows, first_flows, loop_flows, par_flows, none_flow, chain_goes, each_begins, each_goes, no_items, placed_flows, restart_goes, restart_cuts}
 use Rattle.step_core.proofs.Levels.{level_most}
 use Rattle.step_core.proofs.Plain.{plain, flows_run}
 use Rattle.step_core.proofs.RunJoins.{if_ok, both_ok, fires_by}
@@ -35,7 +35,10 @@ flow::flow-returns-in-Switch g t c = if_ok c.run_place.result _ _ (λ n h. place
       | inl e ↦ placed_by _ _ (ap rows_in e.3) is_k_switch
       | inr others ↦ elim others [
         | inl e ↦ placed_by _ _ (ap rows_in e.4) is_p_switch
-        | inr e ↦ placed_by _ _ (ap rows_in e.1) is_old
+        | inr others ↦ elim others [
+          | inl e ↦ placed_by _ _ (ap rows_in e.3) is_rp_switch
+          | inr e ↦ placed_by _ _ (ap rows_in e.1) is_old
+        ]
       ]
     ]
   ]
@@ -168,7 +171,7 @@ pub run::run_in-returns-in_ok-visits-in_default-net : goal.run::run_in-returns-i
 run::run_in-returns-in_ok-visits-in_default-net g t c =
     let begins = c.in_ok-renew.ensures in
     flows_run _ _ _ _ _ _ _ _ _ _ _ _ (plain c.args.net.now c.in_default.not-Old c.in_default-net.not-Switch c.in_default-net.not-DSwitch
-    c.in_default-net.not-KSwitch c.in_default-net.not-PSwitch (scope_of c.args.on.now.env.now)) (ap rows_in begins.0, begins.1, begins.2) c.end.ensures
+    c.in_default-net.not-KSwitch c.in_default-net.not-PSwitch c.in_default-net.not-RpSwitch (scope_of c.args.on.now.env.now)) (ap rows_in begins.0, begins.1, begins.2) c.end.ensures
     c.in_ok-visits-in_default-net.ensures
 
 pub run::run_switch-returns-in_ok-done-in-Ok-None : goal.run::run_switch-returns-in_ok-done-in-Ok-None
