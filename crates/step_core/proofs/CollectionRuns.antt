@@ -1,5 +1,7 @@
 -- What a sample does to an `rpSwitchB`, and to a `-->` and a `>--` that start, at a place of their own.
-use Rattle.std.proofs.Common.{◌≡◌, ℕ, suc, ◌+◌, ◌<◌, ◌≤◌, ◌^◌, List, [], ◌∷◌, ◌++◌, Option, Some, None, length, map, refl, sym, ap, ◌∙◌, subst, arith, append_assoc, append-nil}
+use Rattle.std.proofs.Common.{◌≡◌, ℕ, suc, drop, get_or, ◌+◌, ◌<◌, ◌≤◌, ◌^◌, List, [], ◌∷◌, ◌++◌, Option, Some, None, length, map, refl, sym, ap, ◌∙◌, subst, arith, append_assoc, append-nil}
+use Rattle.std.proofs.Math.Seq.{drop-cons}
+use Rattle.std.proofs.lemmas.List.{drop_all}
 use Rattle.sample_core.specs.Datum.{Datum, unit, left, list, list_of}
 use Rattle.leaf_core.specs.KeyTree.{KeyTree}
 use Rattle.net_syntax.specs.Network.{Network, Networks, initial_out, initial_in, rp_switch}
@@ -29,15 +31,6 @@ rp_switch_by fs m t s (Some k) = R.rp_switch_on
 pub members_fall : (keys : List KeyTree) (fs : Networks ℕ) (m : ℕ) (t : Network ℕ) (s : Scope ℕ) (p : Past) (o : Option (Datum × Datum)) (ms : List (Frozen ℕ))
     → IsTurned keys m t s (members_before fs s p) o ms → load ms < frozen_rank (standing (rp_switch fs m t) s p)
 members_fall keys fs m t s p o ms h = turned_falls keys _ m _ t s o ms (rp_switch_by fs m t s p) h
-
--- members that ran, as frozen ones
-pub listed_paused : (as' : List (State ℕ)) (d : ℕ) → frozen_list (all_paused (all_states as') d) ≡ map (λ a. paused a d) as'
-listed_paused [] d = refl
-listed_paused (a ∷ as') d = ap (λ fs. paused a d ∷ fs) (listed_paused as' d)
-
--- those before a sample, where something ran
-pub listed_before : (fs : Networks ℕ) (s : Scope ℕ) (p : Past) (k : Kept ℕ) (d : ℕ) → p ≡ Some (k, d) → members_before fs s p ≡ map (λ a. paused a d) k.1
-listed_before fs s p k d e = ap (members_before fs s) e ∙ listed_paused k.1 d
 
 module _ (keys : List KeyTree) where
   -- `rpSwitchB`
@@ -103,6 +96,22 @@ module _ (keys : List KeyTree) where
   members_go all rest f ms x y before mid last ys vs m k j e go one ey ej now zs n c others hc =
       go now zs (k + n) c (also_member_run rest f ms x y mid last now ys vs zs k n (k + n) e one ey others (λ _. refl))
       (λ l. let a : j ≡ m + k = ej (omega (arith, l)) in let b : c ≡ j + n = hc (omega (arith, l, a)) in omega (arith, a, b))
+
+  -- the member at i is the first of those to come
+  pub member_goes : {A : Type 0} (g : A → Frozen ℕ) (all : List A) (i j : ℕ) (item : A) (x y : Datum) (before mid last : Kept ℕ) (ys vs : List Datum)
+      (m k n : ℕ) → i < length all → item ≡ get_or all i item → j ≡ i + 1 → MembersGo (map g all) (map g (drop i all)) x before mid ys m
+      → Runs keys (g item) x mid last y k → vs ≡ ys ++ y ∷ [] → (m + k < 2 ^ 32 → n ≡ m + k)
+      → MembersGo (map g all) (map g (drop j all)) x before last vs n
+  member_goes g all i j item x y before mid last ys vs m k n l at e go one ey en =
+      let next : suc i ≡ j = omega (arith, e) in
+      let first : drop i all ≡ item ∷ drop j all = drop-cons all i item l ∙ (λ z. sym at z ∷ drop (next z) all) in
+      members_go (map g all) (map g (drop i all)) (g item) (map g (drop j all)) x y before mid last ys vs m k n (ap (map g) first) go one ey en
+
+  -- none is to come
+  pub members_end : {A : Type 0} (g : A → Frozen ℕ) (all : List A) (i : ℕ) (x : Datum) (before now : Kept ℕ) (ys zs : List Datum) (m : ℕ) → length all ≤ i
+      → MembersGo (map g all) (map g (drop i all)) x before now ys m → zs ≡ ys → MembersRun keys (map g all) x before now [] zs m
+  members_end g all i x before now ys zs m l go e =
+      go now zs 0 m (no_member_run (map g (drop i all)) x now ys zs (ap (map g) (drop_all i all l)) e) (λ _. omega arith)
 
   -- `-->` and `>--` that start
   pub initial_out_begins : (c : ℕ) (f : Network ℕ) (s : Scope ℕ) (p : Past) (x v y : Datum) (a : State ℕ) (m n : ℕ) → p ≡ None

@@ -1,6 +1,7 @@
 -- The members of an `rpSwitchB` that run on a sample weigh less than it, all together.
-use Rattle.std.proofs.Common.{◌≡◌, ℕ, zero, suc, ◌+◌, ◌*◌, ◌<◌, ◌≤◌, min, List, [], ◌∷◌, ◌++◌, Option, Some, None, length, map, take, refl, ap, ◌∙◌, subst, arith}
+use Rattle.std.proofs.Common.{◌≡◌, ℕ, zero, suc, ◌+◌, ◌*◌, ◌<◌, ◌≤◌, min, get_or, List, [], ◌∷◌, ◌++◌, Option, Some, None, length, map, take, refl, ap, ◌∙◌, subst, arith}
 use Rattle.std.proofs.lemmas.List.{length-take}
+use Rattle.std.proofs.Math.Nat.{suc-mul}
 use Rattle.std.proofs.lemmas.Nat.{mul-le}
 use Rattle.sample_core.specs.Datum.{Datum, right}
 use Rattle.leaf_core.specs.KeyTree.{KeyTree}
@@ -27,7 +28,7 @@ Light g ms = EachIs (λ f. frozen_rank f ≤ g) ms
 load_within : (g : ℕ) (ms : List (Frozen ℕ)) → Light g ms → load ms ≤ length ms * g
 load_within g [] h = omega arith
 load_within g (m ∷ ms) h =
-    let split : suc (length ms) * g ≡ g + length ms * g = refl in
+    let split : suc (length ms) * g ≡ length ms * g + g = suc-mul (length ms) g in
     omega (arith, split, h.0, load_within g ms h.1)
 
 -- 64 of them weigh at most 64 times that
@@ -63,7 +64,7 @@ chosen_within : (g : ℕ) (t : Network ℕ) (s : Scope ℕ) (ms : List (Frozen �
     → load (chosen_frozen t s ms w) ≤ 64 * g
 chosen_within g t s ms w h l =
     few_within g (choices t s ms w)
-    (each-choices t s ms w h (light_starts g t s (items_of (right w)) l))
+    (each-choices (λ f. frozen_rank f ≤ g) t s ms w h (light_starts g t s (items_of (right w)) l))
 
 pub turned_falls : (keys : List KeyTree) (w : Frozen ℕ) (m : ℕ) (before : List (Frozen ℕ)) (t : Network ℕ) (s : Scope ℕ) (o : Option (Datum × Datum))
     (ms : List (Frozen ℕ)) → RpSwitchBy w m before t s → IsTurned keys m t s before o ms → load ms < frozen_rank w
@@ -83,3 +84,10 @@ turned_falls keys w m before t s (Some v) ms (R.rp_switch_on {as' = as'} {d = d}
     let g : ℕ = greatest (weight t (ranks_in s) ∷ ranks as') in
     let same : load ms ≡ load (chosen_frozen t s (frozen_list (all_paused as' d)) h.0) = ap load h.2 in
     omega (arith, same, chosen_within g t s (frozen_list (all_paused as' d)) h.0 (light_paused g d as' (omega arith)) (omega arith))
+
+-- each is less than all together
+pub one_falls : {A : Type 0} (g : A → Frozen ℕ) (all : List A) (i : ℕ) (item : A) → i < length all → item ≡ get_or all i item
+    → frozen_rank (g item) ≤ load (map g all)
+one_falls g [] i item l e = absurd (omega (arith, l))
+one_falls g (a ∷ all) zero item l e = let same : frozen_rank (g item) ≡ frozen_rank (g a) = ap (λ z. frozen_rank (g z)) e in omega (arith, same)
+one_falls g (a ∷ all) (suc i) item l e = omega (arith, one_falls g all i item (omega (arith, l)) e)

@@ -31,8 +31,8 @@ turned_none r t s ms (pair_has h (event_has k)) e = absurd (cc)
 turned_some : (r : Datum → Datum) (t : Network ℕ) (s : Scope ℕ) (ms : List (Frozen ℕ)) {x u c : Datum} {D C : TypeTree} → HasType x (pair_ty D (event_ty C))
     → restart_in x ≡ Some (u, c) → turned r t s ms x ≡ chosen_frozen t s ms (r c)
 turned_some r t s ms (pair_has h no_event_has) e = absurd (cc)
-turned_some r t s ms {c = c} (pair_has h (event_has {v = v} k)) e =
-    let same : v ≡ c = cc in ap (λ z. chosen_frozen t s ms (r z)) same
+turned_some r t s ms {u = u} {c = c} (pair_has {v = w} h (event_has {v = v} k)) e =
+    let same : (w, v) ≡ (u, c) = cc in ap (λ (z : Datum × Datum). chosen_frozen t s ms (r z.1)) same
 
 left_typed : {v : Datum} {A B : TypeTree} → HasType v (pair_ty A B) → HasType (left v) A
 left_typed (pair_has a b) = a

@@ -11,6 +11,7 @@ use Rattle.state_core.specs.State.{State, Scope, Frozen, seq_state, first_state,
 use Rattle.step_core.specs.Stepping.{event_in, restart_in}
 use Rattle.step_core.specs.Stepping as G
 use Rattle.step_core.specs.Stepping.{Starts, StartsEach, Resumes, Steps, StepsEach}
+use Rattle.step_core.specs.Called.{Called}
 use Rattle.step_core.specs.RowTyping.{RowTyped}
 use Rattle.step_core.specs.StateTyping as T
 use Rattle.step_core.specs.StateTyping.{StateTyped, StatesTyped, ScopeTyped, FrozenTyped, FrozensTyped, row_value}

@@ -156,18 +156,18 @@ module _ (keys : List KeyTree) where
   paused_count d no_state_typed = refl
   paused_count d (and_state_typed h hs) = ap suc (paused_count d hs)
 
-  started_members : {t : Network ℕ} {s : Scope ℕ} {Ps : List TypeTree} {Os : List Arrow} {D B V : TypeTree} (vs : List Datum)
+  started_members : {t : Network ℕ} {s : Scope ℕ} {Ps : List TypeTree} {Os : List Arrow} {D B : TypeTree} (V : TypeTree) (vs : List Datum)
       → Typed (RowTyped keys) AnyType (Ps ++ V ∷ []) Os t D B → ScopeTyped keys s Ps Os → EachIs (λ u. HasType u V) vs
       → EachStarts (λ f. FrozenTyped keys f D B) t s vs
-  started_members [] k h hs = tt
-  started_members (v ∷ vs) k h hs = (unstarted_typed k (pushed_param h hs.0), started_members vs k h hs.1)
+  started_members V [] k h hs = tt
+  started_members V (v ∷ vs) k h hs = (unstarted_typed k (pushed_param h hs.0), started_members V vs k h hs.1)
 
   -- what is chosen of typed ones, and of what starts under typed values
   pub chosen_typed : {t : Network ℕ} {s : Scope ℕ} {Ps : List TypeTree} {Os : List Arrow} {D B V : TypeTree} (ms : List (Frozen ℕ)) (w : Datum)
       → Typed (RowTyped keys) AnyType (Ps ++ V ∷ []) Os t D B → ScopeTyped keys s Ps Os → HasType w (pair_ty (list_ty int_ty) (list_ty V))
       → MembersTyped keys D B ms → MembersTyped keys D B (chosen_frozen t s ms w)
-  chosen_typed {t = t} {s = s} {D = D} {B = B} ms w k h hw hs =
-      each-chosen_frozen (λ f. FrozenTyped keys f D B) t s ms w hs (started_members (items_of (right w)) k h (items_typed (typed_right hw)))
+  chosen_typed {t = t} {s = s} {D = D} {B = B} {V = V} ms w k h hw hs =
+      each-chosen_frozen (λ f. FrozenTyped keys f D B) t s ms w hs (started_members V (items_of (right w)) k h (items_typed (typed_right hw)))
 
   -- so what runs on a typed sample is typed
   turned_typed : {t : Network ℕ} {s : Scope ℕ} {m : ℕ} {x : Datum} {Ps : List TypeTree} {Os : List Arrow} {D B C V : TypeTree} (ms : List (Frozen ℕ))

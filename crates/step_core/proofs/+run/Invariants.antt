@@ -1,4 +1,4 @@
-use Rattle.std.proofs.Common.{◌+◌, ◌*◌, ◌≤◌, length, map, take}
+use Rattle.std.proofs.Common.{◌+◌, ◌*◌, ◌≡◌, ◌≤◌, drop, length, map, take}
 use Rattle.net_syntax.specs.Network.{map_networks, seq, first, par, loop_pre, initial_out, initial_in, switch, d_switch, r_switch, dr_switch, rp_switch, k_switch, p_switch, old}
 use Rattle.net_syntax.specs.NetworkView.{members_of}
 use Rattle.net_syntax.specs.Weight.{total}
@@ -81,23 +81,18 @@ decreases-collection::step_each g l = 20 * load (map (λ a. paused (state_of a) 
 abbrev pub decreases-collection::step_place : goal.decreases-collection::step_place
 decreases-collection::step_place g l = 20 * frozen_rank (paused (state_of l.member.now) l.on.now.dt) + 17
 
-abbrev pub invariant-collection::resume_each-members : goal.invariant-collection::resume_each-members
-invariant-collection::resume_each-members g l =
-    (load (map frozen_of l.rest) ≤ load (map frozen_of l.members)) × (l.before ≤ length l.answers.items)
-    × MembersGo (g.R.Rows.keys l.on.rows.now) (map frozen_of l.members) (map frozen_of l.rest) (datum_of l.x) (kept_of l.fn.kept) (kept_of l.kept)
+abbrev pub invariant-collection::resume_each-loop-member : goal.invariant-collection::resume_each-loop-member
+invariant-collection::resume_each-loop-member g l =
+    (l.before ≡ l.member-index) × (l.before ≤ length l.answers.items)
+    × MembersGo (g.R.Rows.keys l.on.rows.now) (map frozen_of l.members) (map frozen_of (drop l.member-index l.members)) (datum_of l.x) (kept_of l.fn.kept)
+    (kept_of l.kept) (map datum_of (take l.before l.answers.items)) l.visits
+
+abbrev pub invariant-collection::step_each-loop-member : goal.invariant-collection::step_each-loop-member
+invariant-collection::step_each-loop-member g l =
+    (l.before ≡ l.member-index) × (l.before ≤ length l.answers.items)
+    × MembersGo (g.R.Rows.keys l.on.rows.now) (map (λ a. paused (state_of a) l.on.dt) l.members)
+    (map (λ a. paused (state_of a) l.on.dt) (drop l.member-index l.members)) (datum_of l.x) (kept_of l.fn.kept) (kept_of l.kept)
     (map datum_of (take l.before l.answers.items)) l.visits
-
-abbrev pub decreases-collection::resume_each-members : goal.decreases-collection::resume_each-members
-decreases-collection::resume_each-members g l = length l.rest
-
-abbrev pub invariant-collection::step_each-members : goal.invariant-collection::step_each-members
-invariant-collection::step_each-members g l =
-    (load (map (λ a. paused (state_of a) l.on.dt) l.rest) ≤ load (map (λ a. paused (state_of a) l.on.dt) l.members)) × (l.before ≤ length l.answers.items)
-    × MembersGo (g.R.Rows.keys l.on.rows.now) (map (λ a. paused (state_of a) l.on.dt) l.members) (map (λ a. paused (state_of a) l.on.dt) l.rest) (datum_of l.x)
-    (kept_of l.fn.kept) (kept_of l.kept) (map datum_of (take l.before l.answers.items)) l.visits
-
-abbrev pub decreases-collection::step_each-members : goal.decreases-collection::step_each-members
-decreases-collection::step_each-members g l = length l.rest
 
 abbrev pub decreases-run::run_place : goal.decreases-run::run_place
 decreases-run::run_place g l =
