@@ -15,9 +15,10 @@ use Rattle.step_core.specs.Rank.{frozen_rank}
 use Rattle.step_core.specs.Runs as R
 use Rattle.step_core.specs.Runs.{RunsWhere, AllRunWhere, RpSwitchBy}
 use Rattle.step_core.specs.Stepping.{restart_in}
-use Rattle.step_core.specs.Switching.{IsTurned, TurnedRun}
+use Rattle.step_core.specs.Switching.{IsChosen, IsTurned, TurnedRun}
 use Rattle.step_core.proofs.Kepts.{joined_assoc, joined_nothing}
 use Rattle.step_core.proofs.MembersFall.{load, turned_falls}
+use Rattle.step_core.proofs.RestartCounts.{cut_is}
 use Rattle.step_core.proofs.RunCollections.{rp_switch_runs, no_member_runs, also_member_runs}
 use Rattle.step_core.proofs.RunForms.{initial_out_runs, initial_in_runs}
 
@@ -32,7 +33,30 @@ pub members_fall : (keys : List KeyTree) (fs : Networks ℕ) (m : ℕ) (t : Netw
     → IsTurned keys m t s (members_before fs s p) o ms → load ms < frozen_rank (standing (rp_switch fs m t) s p)
 members_fall keys fs m t s p o ms h = turned_falls keys _ m _ t s o ms (rp_switch_by fs m t s p) h
 
+-- the sample of an event
+left_cut : (x u c : Datum) → restart_in x ≡ Some (u, c) → u ≡ left x
+left_cut x u c e = sym (ap left (cut_is x u c e))
+
 module _ (keys : List KeyTree) where
+  -- members that ran were those that run on the sample: at an event, and at none
+  pub turned_event : (fs : Networks ℕ) (m : ℕ) (t : Network ℕ) (s : Scope ℕ) (p : Past) (x u c : Datum) (ms : List (Frozen ℕ)) (before now : Kept ℕ)
+      (ys : List Datum) (n : ℕ) → restart_in x ≡ Some (u, c) → IsChosen keys m t s (members_before fs s p) c ms
+      → MembersRun keys ms u before now [] ys n → TurnedRun keys fs m t s p x before now ys n
+  turned_event fs m t s p x u c ms before now ys n e h all = (
+    ms,
+    subst (λ o. IsTurned keys m t s (members_before fs s p) o ms) (sym e) h,
+    subst (λ z. MembersRun keys ms z before now [] ys n) (left_cut x u c e) all,
+  )
+
+  pub turned_none : (fs : Networks ℕ) (m : ℕ) (t : Network ℕ) (s : Scope ℕ) (p : Past) (x l : Datum) (ms : List (Frozen ℕ)) (before now : Kept ℕ)
+      (ys : List Datum) (n : ℕ) → restart_in x ≡ None → l ≡ left x → ms ≡ members_before fs s p
+      → MembersRun keys ms l before now [] ys n → TurnedRun keys fs m t s p x before now ys n
+  turned_none fs m t s p x l ms before now ys n e el h all = (
+    ms,
+    subst (λ o. IsTurned keys m t s (members_before fs s p) o ms) (sym e) h,
+    subst (λ z. MembersRun keys ms z before now [] ys n) el all,
+  )
+
   -- `rpSwitchB`
   pub collection_runs : (fs : Networks ℕ) (m : ℕ) (t : Network ℕ) (s : Scope ℕ) (p : Past) (x y : Datum) (net : Network ℕ) (s0 : Scope ℕ)
       (before now last : Kept ℕ) (ys : List Datum) (n c : ℕ) → (net ≡ rp_switch fs m t) × (s0 ≡ s) × (before ≡ nothing) → last ≡ now

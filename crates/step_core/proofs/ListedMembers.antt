@@ -86,7 +86,7 @@ chosen_listed all picked now t s w v u vs ev eu es ep en =
     let named : List (Frozen ℕ) = items_named all (items_of (left w)) in
     let taken : map frozen_of picked ≡ take 64 named = ep ∙ ap (selected all) ev in
     let values : vs ≡ items_of (right w) = es ∙ ap items_of eu in
-    let count : length picked ≡ length (take 64 named) = sym (length-map frozen_of picked) ∙ ap length taken in
+    let count : length picked ≡ length (take 64 named) = sym (length-map picked frozen_of) ∙ ap length taken in
     en ∙ (λ i. taken i ++ take (64 - count i) (each_started t s (values i))) ∙ first_of_both named (each_started t s (items_of (right w)))
 
 -- what ran at places, frozen
