@@ -3,9 +3,9 @@ use Rattle.std.proofs.Common.{◌≡◌, ℕ, suc, ◌+◌, ◌<◌, ◌^◌, Li
 use Rattle.std.specs.Prelude.{slice_get, slice_set}
 use Rattle.std.proofs.lemmas.List.{length-append}
 use Rattle.std.proofs.Math.Seq.{set-append_seam}
-use Rattle.sample_core.specs.Datum.{Datum, left, right, pair, list, list_of}
+use Rattle.sample_core.specs.Datum.{Datum, unit, left, right, pair, list, list_of}
 use Rattle.leaf_core.specs.KeyTree.{KeyTree}
-use Rattle.net_syntax.specs.Network.{Network, Networks, arr, seq, first, par, loop_pre, accum_by, switch, d_switch, r_switch, k_switch, p_switch, old, no_members, and_member}
+use Rattle.net_syntax.specs.Network.{Network, Networks, arr, seq, first, par, loop_pre, initial_out, initial_in, accum_by, switch, d_switch, r_switch, dr_switch, rp_switch, k_switch, p_switch, old, no_members, and_member}
 use Rattle.net_syntax.specs.Typing as N
 use Rattle.cell_core.specs.Cell.{Cell, previous, accumulator_of, cell_step}
 use Rattle.cell_core.specs.declared.form.Form.{Form}
@@ -20,10 +20,10 @@ use Rattle.step_core.specs.Outcome.{outcome}
 use Rattle.step_core.specs.Flow as F
 use Rattle.step_core.specs.Flow.{Past, past_behind, flowed, all_flowed, placed, all_placed, Flows, AllFlow, Runs, AllRun, IsCell, IsKept, IsFedBack}
 use Rattle.step_core.specs.Runs as R
-use Rattle.step_core.specs.Runs.{Ran, RunsWhere, RunEachWhere, SeqBy, FirstBy, ParBy, LoopBy, RSwitchBy, to_all, by_row}
+use Rattle.step_core.specs.Runs.{Ran, RunsWhere, RunEachWhere, SeqBy, FirstBy, ParBy, LoopBy, RSwitchBy, DrSwitchBy, to_all, by_row}
 use Rattle.step_core.proofs.CalledRows.{called_value}
 use Rattle.step_core.proofs.RunCells.{cell_runs}
-use Rattle.step_core.proofs.RunForms.{seq_runs, first_runs, loop_runs, r_switch_goes, r_switch_cuts}
+use Rattle.step_core.proofs.RunForms.{seq_runs, first_runs, loop_runs, r_switch_goes, r_switch_cuts, initial_out_runs, initial_in_runs, dr_switch_goes, dr_switch_cuts}
 use Rattle.step_core.proofs.RunMembers.{none_runs, also_runs, par_runs}
 use Rattle.step_core.proofs.StateTypings.{params_typed}
 use Rattle.step_core.proofs.Kepts.{behind_both, head_at, joined_assoc, joined_nothing, width_joined, one_of_two, others_of_two}
@@ -50,12 +50,17 @@ pub r_switch_by : (f t : Network ℕ) (s : Scope ℕ) (q : Past) → RSwitchBy (
 r_switch_by f t s None = R.r_switch_new
 r_switch_by f t s (Some p) = R.r_switch_on
 
+pub dr_switch_by : (f t : Network ℕ) (s : Scope ℕ) (q : Past) → DrSwitchBy (flowed (dr_switch f t) s q) (placed f s q) t s
+dr_switch_by f t s None = R.dr_switch_new
+dr_switch_by f t s (Some p) = R.dr_switch_on
+
 -- the networks that run at a place of their own
 pub data IsPlaced : Network ℕ → Type 0 where
   is_switch : {f t : Network ℕ} → IsPlaced (switch f t)
   is_d_switch : {f t : Network ℕ} → IsPlaced (d_switch f t)
   is_k_switch : {f e t : Network ℕ} → IsPlaced (k_switch f e t)
   is_p_switch : {r : ℕ} {fs : Networks ℕ} {e t : Network ℕ} → IsPlaced (p_switch r fs e t)
+  is_rp_switch : {fs : Networks ℕ} {m : ℕ} {t : Network ℕ} → IsPlaced (rp_switch fs m t)
   is_old : {k : ℕ} → IsPlaced (old k)
 
 -- such a network, by an equation
@@ -67,6 +72,7 @@ placed_is _ s a is_switch = (refl, refl)
 placed_is _ s a is_d_switch = (refl, refl)
 placed_is _ s a is_k_switch = (refl, refl)
 placed_is _ s a is_p_switch = (refl, refl)
+placed_is _ s a is_rp_switch = (refl, refl)
 placed_is _ s a is_old = (refl, refl)
 
 pub flowed_placed : (net : Network ℕ) (s : Scope ℕ) (q : Past) → IsPlaced net → flowed net s q ≡ placed net s q
@@ -75,6 +81,7 @@ flowed_placed _ s (Some p) is_switch = refl
 flowed_placed _ s (Some p) is_d_switch = refl
 flowed_placed _ s (Some p) is_k_switch = refl
 flowed_placed _ s (Some p) is_p_switch = refl
+flowed_placed _ s (Some p) is_rp_switch = refl
 flowed_placed _ s (Some p) is_old = refl
 
 -- what runs at a place looks at the places alone
@@ -346,6 +353,67 @@ module _ (keys : List KeyTree) where
         (subst (λ z. RunsWhere keys (placed t s' (past_behind (0, length before.1) z)) v r.state y m) eq r.runs) hc
         (flowed (r_switch f t) s (past_behind (width_of before) p)) (r_switch_by f t s (past_behind (width_of before) p));
   }
+
+  -- `drSwitch` that goes on
+  pub late_goes : (f t : Network ℕ) (s : Scope ℕ) (p : Past) (x l y : Datum) (before now : Kept ℕ) (m c : ℕ) → l ≡ left x → restart_in x ≡ None
+      → Runs keys (placed f s (past_behind (0, length before.1) p)) l before now y m → (suc (m + 0) < 2 ^ 32 → c ≡ suc (m + 0))
+      → Flows keys (dr_switch f t) s p x before now y c
+  late_goes f t s p x l y before now m c el ev r hc = record {
+    kept = one_place r.state;
+    added = r.added;
+    is_width = refl;
+    runs = dr_switch_goes keys (placed f s (past_behind (width_of before) p)) t s x l y r.state m c el ev
+        (subst (λ w. RunsWhere keys w l r.state y m) (placed_at f s 0 (length before.0) (length before.1) p) r.runs) hc
+        (flowed (dr_switch f t) s (past_behind (width_of before) p)) (dr_switch_by f t s (past_behind (width_of before) p));
+  }
+
+  -- and one in which another network starts, which stands at the place then
+  pub late_cuts : (f t : Network ℕ) (s : Scope ℕ) (p : Past) (x v u y z : Datum) (a b : State ℕ) (before : Kept ℕ) (cells : List Cell)
+      (places : List (State ℕ)) (at m n c : ℕ) → restart_in x ≡ Some (v, u) → at ≡ length before.1
+      → RunsWhere keys (placed f s (past_behind (0, at) p)) v a y m → RunsWhere keys (unstarted t (push_param s u)) v b z n
+      → cells ≡ before.0 → places ≡ before.1 ++ b ∷ [] → (suc (m + n) < 2 ^ 32 → c ≡ suc (m + n))
+      → Flows keys (dr_switch f t) s p x before (cells, places) y c
+  late_cuts f t s p x v u y z a b before cells places at m n c ev ea one two ec ep hc =
+      let same : cells ≡ before.0 ++ [] = ec ∙ sym (append-nil before.0) in
+      let from : placed f s (past_behind (0, at) p) ≡ placed f s (past_behind (width_of before) p) =
+      ap (λ i. placed f s (past_behind (0, i) p)) ea ∙ placed_at f s 0 (length before.0) (length before.1) p in
+      record {
+        kept = one_place b;
+        added = λ i. (same i, ep i);
+        is_width = refl;
+        runs = dr_switch_cuts keys (placed f s (past_behind (width_of before) p)) t s x v u y z a b m n c ev
+            (subst (λ w. RunsWhere keys w v a y m) from one) two hc (flowed (dr_switch f t) s (past_behind (width_of before) p))
+            (dr_switch_by f t s (past_behind (width_of before) p));
+      }
+
+  -- `-->` and `>--` that start
+  pub initial_out_starts : (c : ℕ) (f : Network ℕ) (s : Scope ℕ) (p : Past) (x v y : Datum) (before now : Kept ℕ) (m n : ℕ) → p ≡ None
+      → Flows keys f s p x before now v m → Called keys c (params_of s) unit y → (suc (m + 0) < 2 ^ 32 → n ≡ suc (m + 0))
+      → Flows keys (initial_out c f) s p x before now y n
+  initial_out_starts c f s p x v y before now m n e one h hc = subst (λ q. Flows keys (initial_out c f) s q x before now y n) (sym e)
+      (starts (subst (λ q. Flows keys f s q x before now v m) e one))
+    where
+      starts : Flows keys f s None x before now v m → Flows keys (initial_out c f) s None x before now y n
+      starts r = record {
+        kept = r.kept;
+        added = r.added;
+        is_width = r.is_width;
+        runs = initial_out_runs keys c f s x v y (tree f s r.kept) m n r.runs h hc;
+      }
+
+  pub initial_in_starts : (c : ℕ) (f : Network ℕ) (s : Scope ℕ) (p : Past) (x u y : Datum) (before now : Kept ℕ) (m n : ℕ) → p ≡ None
+      → Flows keys f s p u before now y m → Called keys c (params_of s) unit u → (suc (m + 0) < 2 ^ 32 → n ≡ suc (m + 0))
+      → Flows keys (initial_in c f) s p x before now y n
+  initial_in_starts c f s p x u y before now m n e one h hc = subst (λ q. Flows keys (initial_in c f) s q x before now y n) (sym e)
+      (starts (subst (λ q. Flows keys f s q u before now y m) e one))
+    where
+      starts : Flows keys f s None u before now y m → Flows keys (initial_in c f) s None x before now y n
+      starts r = record {
+        kept = r.kept;
+        added = r.added;
+        is_width = r.is_width;
+        runs = initial_in_runs keys c f s x u y (tree f s r.kept) m n r.runs h hc;
+      }
 
   -- a cell's start and its step
   cell_is : (net : Network ℕ) (form : Form) (c : Option ℕ) (s : Scope ℕ) (k : Kept ℕ) → IsCell net form c

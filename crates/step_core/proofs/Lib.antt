@@ -41,3 +41,9 @@ pub mod RunMembers
 pub mod Switches
 pub mod FrozenMembers
 pub mod Plain
+pub mod ChosenMembers
+pub mod MembersFall
+pub mod PassedNetworks
+pub mod RunCollections
+pub mod CollectionRuns
+pub mod ListedMembers

@@ -16,26 +16,31 @@ use Rattle.step_core.proofs.Kepts.{from_start}
 -- the state of such a network is its tree
 pub plain : (n : Net LeafId) → ((k : ℕ) → n ≢ V.Old k) → ((f t : Network LeafId) → n ≢ V.Switch f t) → ((f t : Network LeafId) → n ≢ V.DSwitch f t)
     → ((f e t : Network LeafId) → n ≢ V.KSwitch f e t) → ((r : LeafId) (fs : Networks LeafId) (e t : Network LeafId) → n ≢ V.PSwitch r fs e t)
+    → ((fs : Networks LeafId) (m : LeafId) (t : Network LeafId) → n ≢ V.RpSwitch fs m t)
     → (s : Scope ℕ) (k : Kept ℕ) → running (rows_in n) s k ≡ tree (rows_in n) s k
-plain (V.Arr e) ho hs hd hk hp sc ke = refl
-plain (V.Seq f g) ho hs hd hk hp sc ke = refl
-plain (V.First f) ho hs hd hk hp sc ke = refl
-plain (V.Par fs) ho hs hd hk hp sc ke = refl
-plain (V.LoopPre c f) ho hs hd hk hp sc ke = refl
-plain (V.IPre c) ho hs hd hk hp sc ke = refl
-plain (V.Delay q c) ho hs hd hk hp sc ke = refl
-plain (V.Hold c) ho hs hd hk hp sc ke = refl
-plain (V.AccumBy g z) ho hs hd hk hp sc ke = refl
-plain (V.After q c) ho hs hd hk hp sc ke = refl
-plain (V.Repeatedly q c) ho hs hd hk hp sc ke = refl
-plain V.Time ho hs hd hk hp sc ke = refl
-plain V.Integral ho hs hd hk hp sc ke = refl
-plain (V.Switch f t) ho hs hd hk hp sc ke = absurd (hs f t refl)
-plain (V.DSwitch f t) ho hs hd hk hp sc ke = absurd (hd f t refl)
-plain (V.RSwitch f t) ho hs hd hk hp sc ke = refl
-plain (V.KSwitch f e t) ho hs hd hk hp sc ke = absurd (hk f e t refl)
-plain (V.PSwitch r fs e t) ho hs hd hk hp sc ke = absurd (hp r fs e t refl)
-plain (V.Old k) ho hs hd hk hp sc ke = absurd (ho k refl)
+plain (V.Arr e) ho hs hd hk hp hr sc ke = refl
+plain (V.Seq f g) ho hs hd hk hp hr sc ke = refl
+plain (V.First f) ho hs hd hk hp hr sc ke = refl
+plain (V.Par fs) ho hs hd hk hp hr sc ke = refl
+plain (V.LoopPre c f) ho hs hd hk hp hr sc ke = refl
+plain (V.InitialOut c f) ho hs hd hk hp hr sc ke = refl
+plain (V.InitialIn c f) ho hs hd hk hp hr sc ke = refl
+plain (V.IPre c) ho hs hd hk hp hr sc ke = refl
+plain (V.Delay q c) ho hs hd hk hp hr sc ke = refl
+plain (V.Hold c) ho hs hd hk hp hr sc ke = refl
+plain (V.AccumBy g z) ho hs hd hk hp hr sc ke = refl
+plain (V.After q c) ho hs hd hk hp hr sc ke = refl
+plain (V.Repeatedly q c) ho hs hd hk hp hr sc ke = refl
+plain V.Time ho hs hd hk hp hr sc ke = refl
+plain V.Integral ho hs hd hk hp hr sc ke = refl
+plain (V.Switch f t) ho hs hd hk hp hr sc ke = absurd (hs f t refl)
+plain (V.DSwitch f t) ho hs hd hk hp hr sc ke = absurd (hd f t refl)
+plain (V.RSwitch f t) ho hs hd hk hp hr sc ke = refl
+plain (V.DrSwitch f t) ho hs hd hk hp hr sc ke = refl
+plain (V.RpSwitch fs m t) ho hs hd hk hp hr sc ke = absurd (hr fs m t refl)
+plain (V.KSwitch f e t) ho hs hd hk hp hr sc ke = absurd (hk f e t refl)
+plain (V.PSwitch r fs e t) ho hs hd hk hp hr sc ke = absurd (hp r fs e t refl)
+plain (V.Old k) ho hs hd hk hp hr sc ke = absurd (ho k refl)
 
 standing_flowed : (net : Network ℕ) (s : Scope ℕ) (p : Past) → ((k : Kept ℕ) → running net s k ≡ tree net s k) → standing net s p ≡ flowed net s p
 standing_flowed net s None h = refl

@@ -4,18 +4,19 @@ use Rattle.sample_core.specs.Datum.{Datum, unit, left, right, pair}
 use Rattle.sample_core.specs.TypeTree.{TypeTree, pair_ty, event_ty}
 use Rattle.sample_core.specs.HasType.{HasType, pair_has, unit_has}
 use Rattle.leaf_core.specs.KeyTree.{KeyTree}
-use Rattle.net_syntax.specs.Network.{Network}
+use Rattle.net_syntax.specs.Network.{Network, initial_out, initial_in}
 use Rattle.net_syntax.specs.Typing as N
 use Rattle.net_syntax.specs.Typing.{Arrow, AnyType, Typed, AllTyped, copies, members}
-use Rattle.state_core.specs.State.{State, Scope, Frozen, seq_state, first_state, loop_state, switch_state, d_switch_state, r_switch_state, k_switch_state, unstarted, paused, params_of, push_param, push_old}
+use Rattle.state_core.specs.State.{State, Scope, Frozen, seq_state, first_state, loop_state, switch_state, d_switch_state, r_switch_state, dr_switch_state, k_switch_state, unstarted, paused, params_of, push_param, push_old}
 use Rattle.step_core.specs.Stepping.{event_in, restart_in}
 use Rattle.step_core.specs.Stepping as G
 use Rattle.step_core.specs.Stepping.{Starts, StartsEach, Resumes, Steps, StepsEach}
+use Rattle.step_core.specs.Called.{Called}
 use Rattle.step_core.specs.RowTyping.{RowTyped}
 use Rattle.step_core.specs.StateTyping as T
 use Rattle.step_core.specs.StateTyping.{StateTyped, StatesTyped, ScopeTyped, FrozenTyped, FrozensTyped, row_value}
 use Rattle.step_core.specs.Runs as R
-use Rattle.step_core.specs.Runs.{Ran, RunsWhere, SeqBy, FirstBy, LoopBy, SwitchBy, DSwitchBy, RSwitchBy, KSwitchBy, OldBy}
+use Rattle.step_core.specs.Runs.{Ran, RunsWhere, SeqBy, FirstBy, LoopBy, SwitchBy, DSwitchBy, RSwitchBy, DrSwitchBy, KSwitchBy, OldBy}
 use Rattle.step_core.proofs.StateTypings.{resumes_typed, row_typed, event_typed, cut_typed, pushed_param, pushed_olds, old_typed, params_typed}
 use Rattle.step_core.proofs.CalledRows.{called_value}
 
@@ -238,6 +239,50 @@ module _ (keys : List KeyTree) where
       → RSwitchBy w p t s → RunsWhere keys w x r y c
   r_switch_cuts p t s s' x v u y a r m c e es ev hp hc w k = subst (λ z. RunsWhere keys w x z y c) (sym e)
       (r_switch_cuts_at p t s x v u y a m c ev (subst (λ z. RunsWhere keys (unstarted t z) v a y m) es hp) hc w k)
+
+  -- `-->` that starts
+  pub initial_out_runs : (c : ℕ) (f : Network ℕ) (s : Scope ℕ) (x v y : Datum) (a : State ℕ) (m n : ℕ) → RunsWhere keys (unstarted f s) x a v m
+      → Called keys c (params_of s) unit y → (suc (m + 0) < 2 ^ 32 → n ≡ suc (m + 0)) → RunsWhere keys (unstarted (initial_out c f) s) x a y n
+  initial_out_runs c f s x v y a m n hp h hc A B (T.unstarted_typed (N.initial_out_typed r tf) ts) t =
+      let e : y ≡ row_value keys c (params_of s) unit = called_value keys c (params_of s) unit y h r (params_typed keys ts) unit_has in
+      round_one m n (hp A B (T.unstarted_typed tf ts) t) hc (λ k i. G.resume_unstarted
+      (subst (λ z. Starts (row_value keys) (initial_out c f) s x a z (suc k)) (sym e) (G.start_initial_out (started i))))
+
+  -- `>--` that starts
+  pub initial_in_runs : (c : ℕ) (f : Network ℕ) (s : Scope ℕ) (x u y : Datum) (a : State ℕ) (m n : ℕ) → RunsWhere keys (unstarted f s) u a y m
+      → Called keys c (params_of s) unit u → (suc (m + 0) < 2 ^ 32 → n ≡ suc (m + 0)) → RunsWhere keys (unstarted (initial_in c f) s) x a y n
+  initial_in_runs c f s x u y a m n hp h hc A B (T.unstarted_typed (N.initial_in_typed r tf) ts) t =
+      let e : u ≡ row_value keys c (params_of s) unit = called_value keys c (params_of s) unit u h r (params_typed keys ts) unit_has in
+      let tu : HasType u A = subst (λ z. HasType z A) (sym e) (row_typed keys r (params_typed keys ts) unit_has) in
+      round_one m n (hp A B (T.unstarted_typed tf ts) tu) hc (λ k i. G.resume_unstarted (G.start_initial_in
+      (subst (λ z. Starts (row_value keys) f s z a y k) e (started i))))
+
+  dr_switch_goes_at : (p : Frozen ℕ) (t : Network ℕ) (s : Scope ℕ) (x y : Datum) (a : State ℕ) (m c : ℕ) → restart_in x ≡ None → RunsWhere keys p (left x) a y m
+      → (suc (m + 0) < 2 ^ 32 → c ≡ suc (m + 0)) → (w : Frozen ℕ) → DrSwitchBy w p t s → RunsWhere keys w x (dr_switch_state a t s) y c
+  dr_switch_goes_at p t s x y a m c ev hp hc w R.dr_switch_new A B (T.unstarted_typed (N.dr_switch_typed {D = D} tf tg) ts) h =
+      round_one m c (hp D B (T.unstarted_typed tf ts) (left_typed h)) hc (λ k i. G.resume_unstarted (G.start_dr_switch ev (started i)))
+  dr_switch_goes_at p t s x y a m c ev hp hc w R.dr_switch_on A B (T.paused_typed (T.dr_switch_state_typed {D = D} ta ts tg)) h =
+      round_one m c (hp D B (T.paused_typed ta) (left_typed h)) hc (λ k i. G.resume_paused (G.step_dr_switch ev (stepped i)))
+
+  pub dr_switch_goes : (p : Frozen ℕ) (t : Network ℕ) (s : Scope ℕ) (x l y : Datum) (a : State ℕ) (m c : ℕ) → l ≡ left x → restart_in x ≡ None
+      → RunsWhere keys p l a y m → (suc (m + 0) < 2 ^ 32 → c ≡ suc (m + 0)) → (w : Frozen ℕ) → DrSwitchBy w p t s
+      → RunsWhere keys w x (dr_switch_state a t s) y c
+  dr_switch_goes p t s x l y a m c el ev hp hc w k = dr_switch_goes_at p t s x y a m c ev (subst (λ z. RunsWhere keys p z a y m) el hp) hc w k
+
+  -- at an event what ran goes on too, and answers
+  pub dr_switch_cuts : (p : Frozen ℕ) (t : Network ℕ) (s : Scope ℕ) (x v u y z : Datum) (a b : State ℕ) (m n c : ℕ) → restart_in x ≡ Some (v, u)
+      → RunsWhere keys p v a y m → RunsWhere keys (unstarted t (push_param s u)) v b z n → (suc (m + n) < 2 ^ 32 → c ≡ suc (m + n)) → (w : Frozen ℕ)
+      → DrSwitchBy w p t s → RunsWhere keys w x (dr_switch_state b t s) y c
+  dr_switch_cuts p t s x v u y z a b m n c ev hp hq hc w R.dr_switch_new A B (T.unstarted_typed (N.dr_switch_typed {D = D} {C = C} tf tg) ts) h =
+      let k : HasType v D × HasType u C = cut_typed h ev in
+      round_two m n c (λ i j. suc (i + j)) (λ i j. refl) (hp D B (T.unstarted_typed tf ts) k.0)
+      (hq D B (T.unstarted_typed tg (pushed_param keys ts k.1)) k.0) hc
+      (λ i j one two. G.resume_unstarted (G.cut_dr_switch ev (started one) (started two)))
+  dr_switch_cuts p t s x v u y z a b m n c ev hp hq hc w R.dr_switch_on A B (T.paused_typed (T.dr_switch_state_typed {D = D} {C = C} ta ts tg)) h =
+      let k : HasType v D × HasType u C = cut_typed h ev in
+      round_two m n c (λ i j. suc (i + j)) (λ i j. refl) (hp D B (T.paused_typed ta) k.0)
+      (hq D B (T.unstarted_typed tg (pushed_param keys ts k.1)) k.0) hc
+      (λ i j one two. G.resume_paused (G.step_dr_switch_over ev (stepped one) (started two)))
 
   k_switch_goes_at : (p q : Frozen ℕ) (t : Network ℕ) (s : Scope ℕ) (x v u : Datum) (a b : State ℕ) (m n c : ℕ) → RunsWhere keys p x a v m
       → RunsWhere keys q (pair x v) b u n → event_in u ≡ None → (suc (m + n) < 2 ^ 32 → c ≡ suc (m + n)) → (w : Frozen ℕ) → KSwitchBy w p q t s

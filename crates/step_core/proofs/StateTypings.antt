@@ -1,26 +1,30 @@
 -- What starts in a typed scope and what steps from a typed state is typed again, and so is its answer.
-use Rattle.std.proofs.Common.{◌≡◌, ℕ, ◌+◌, ◌≤◌, ◌<◌, List, [], ◌∷◌, ◌++◌, Bool, true, false, if◌then◌else◌, nat_le, pos, refl, sym, subst, arith, Some, w64, lit<}
+use Rattle.std.proofs.Common.{◌≡◌, ℕ, suc, ◌+◌, ◌≤◌, ◌<◌, min, List, [], ◌∷◌, ◌++◌, length, ap, Bool, true, false, if◌then◌else◌, nat_le, pos, refl, sym, subst, arith, Some, w64, lit<}
 use Rattle.std.proofs.lemmas.Int.{fits_signed_from_abs}
-use Rattle.sample_core.specs.Datum.{Datum, int, left, list_of}
-use Rattle.sample_core.specs.TypeTree.{TypeTree, int_ty, pair_ty, event_ty}
+use Rattle.std.proofs.lemmas.List.{length-take}
+use Rattle.sample_core.specs.Datum.{Datum, Datums, int, left, right, list_of, elements}
+use Rattle.sample_core.specs.TypeTree.{TypeTree, int_ty, pair_ty, event_ty, list_ty}
 use Rattle.sample_core.specs.HasType.{HasType, HaveType, unit_has, int_has, pair_has, no_event_has, event_has, list_has, end_has, more_has, TypedParams, no_params, and_param}
 use Rattle.leaf_core.specs.ExpressionValue.{value_of}
 use Rattle.leaf_core.specs.KeyTree.{KeyTree}
 use Rattle.leaf_core.proofs.Soundness.{typed_value}
 use Rattle.net_syntax.specs.Network.{Network, Networks}
+use Rattle.net_syntax.specs.SignalFunction.{items_of}
 use Rattle.net_syntax.specs.Typing as T
 use Rattle.net_syntax.specs.Typing.{Arrow, OldAt, old_here, old_after, copies, members, arrow, AnyType, Typed, AllTyped, TypedSamples, no_sample, and_sample, no_value, and_value}
 use Rattle.net_syntax.proofs.SameNets.{TypedParams-append}
 use Rattle.net_syntax.proofs.TypedLists.{typed_left, typed_right, typed_wrapped, samples_append, typed_latest_event, typed_fold_events, typed_if_event}
 use Rattle.state_core.specs.CountedForms.{route_by}
 use Rattle.cell_core.specs.Cell.{Cell, count_down, due, after_cell, cell_step}
-use Rattle.state_core.specs.State.{State, States, Scope, Frozens, Frozen, append_frozens, params_of, frozens_of, frozen_at, push_param, push_olds, all_unstarted, all_paused}
+use Rattle.state_core.specs.State.{State, States, Scope, Frozens, Frozen, append_frozens, params_of, frozens_of, frozen_at, push_param, push_olds, all_unstarted, all_paused, frozen_list, first_frozen, chosen_frozen, turned}
 use Rattle.step_core.specs.Stepping as G
-use Rattle.step_core.specs.Stepping.{Starts, StartsEach, Resumes, Steps, StepsEach}
+use Rattle.step_core.specs.Stepping.{Starts, StartsEach, Resumes, ResumesEach, Steps, StepsEach}
 use Rattle.step_core.specs.Stepping.{event_in, restart_in}
 use Rattle.state_core.specs.EmptyScope.{empty_scope}
 use Rattle.step_core.specs.RowTyping.{RowTyped, expression_in}
-use Rattle.step_core.specs.StateTyping.{row_value, CellTyped, previous_typed, queue_typed, latest_typed, accumulating_typed, waiting_typed, over_typed, recurring_typed, ticking_typed, summing_typed, StateTyped, StatesTyped, ScopeTyped, FrozensTyped, FrozenTyped, arr_state_typed, seq_state_typed, first_state_typed, par_state_typed, loop_state_typed, cell_state_typed, accum_state_typed, switch_state_typed, d_switch_state_typed, r_switch_state_typed, k_switch_state_typed, p_switch_state_typed, no_state_typed, and_state_typed, scope_typed, no_frozen_typed, and_frozen_typed, unstarted_typed, paused_typed}
+use Rattle.step_core.specs.StateTyping.{row_value, CellTyped, previous_typed, queue_typed, latest_typed, accumulating_typed, waiting_typed, over_typed, recurring_typed, ticking_typed, summing_typed, StateTyped, StatesTyped, ScopeTyped, FrozensTyped, FrozenTyped, arr_state_typed, seq_state_typed, first_state_typed, par_state_typed, loop_state_typed, cell_state_typed, accum_state_typed, switch_state_typed, d_switch_state_typed, r_switch_state_typed, k_switch_state_typed, p_switch_state_typed, dr_switch_state_typed, rp_switch_state_typed, no_state_typed, and_state_typed, scope_typed, no_frozen_typed, and_frozen_typed, unstarted_typed, paused_typed}
+use Rattle.step_core.specs.Runs.{EachIs, MembersTyped}
+use Rattle.step_core.proofs.ChosenMembers.{each-take, EachStarts, choices, each-chosen_frozen}
 
 -- what holds of both holds of the one chosen
 chosen : {A : Type 0} (P : A → Type 0) (b : Bool) {u v : A} → P u → P v → P (if b then u else v)
@@ -38,6 +42,14 @@ cut_typed (pair_has h no_event_has) e = absurd (cc)
 cut_typed {D = D} {C = C} {u = u} {c = c} (pair_has {v = w} h (event_has {v = v} k)) e =
     let same : (w, v) ≡ (u, c) = cc in
     subst (λ (r : Datum × Datum). HasType r.0 D × HasType r.1 C) same (h, k)
+
+-- and the elements of a list value
+items_typed : {v : Datum} {V : TypeTree} → HasType v (list_ty V) → EachIs (λ u. HasType u V) (items_of v)
+items_typed (list_has h) = each h
+  where
+    each : {vs : Datums} {V : TypeTree} → HaveType vs V → EachIs (λ u. HasType u V) (elements vs)
+    each end_has = tt
+    each (more_has h hs) = (h, each hs)
 
 zero_typed : HasType (int (pos 0)) int_ty
 zero_typed = int_has (fits_signed_from_abs w64 (pos 0) (lit< tt))
@@ -125,6 +137,52 @@ module _ (keys : List KeyTree) where
   pub paused_all : {as' : States ℕ} {n : ℕ} {A B : TypeTree} (d : ℕ) → StatesTyped keys as' n A B → FrozensTyped keys (all_paused as' d) (copies n (arrow A B))
   paused_all d no_state_typed = no_frozen_typed
   paused_all d (and_state_typed h hs) = and_frozen_typed (paused_typed h) (paused_all d hs)
+
+  -- Members of an `rpSwitchB`.
+  unstarted_members : {fs : Networks ℕ} {s : Scope ℕ} {Ps : List TypeTree} {Os : List Arrow} {D B : TypeTree} → AllTyped (RowTyped keys) AnyType Ps Os fs D B
+      → ScopeTyped keys s Ps Os → MembersTyped keys D B (frozen_list (all_unstarted fs s))
+  unstarted_members T.no_members_typed h = tt
+  unstarted_members (T.and_member_typed k ks) h = (unstarted_typed k h, unstarted_members ks h)
+
+  pub first_typed : {fs : Networks ℕ} {s : Scope ℕ} {Ps : List TypeTree} {Os : List Arrow} {D B : TypeTree} → AllTyped (RowTyped keys) AnyType Ps Os fs D B
+      → ScopeTyped keys s Ps Os → MembersTyped keys D B (first_frozen fs s)
+  first_typed {D = D} {B = B} ks h = each-take (λ f. FrozenTyped keys f D B) 64 _ (unstarted_members ks h)
+
+  pub paused_members : {as' : States ℕ} {n : ℕ} {D B : TypeTree} (d : ℕ) → StatesTyped keys as' n D B → MembersTyped keys D B (frozen_list (all_paused as' d))
+  paused_members d no_state_typed = tt
+  paused_members d (and_state_typed h hs) = (paused_typed h, paused_members d hs)
+
+  paused_count : {as' : States ℕ} {n : ℕ} {D B : TypeTree} (d : ℕ) → StatesTyped keys as' n D B → length (frozen_list (all_paused as' d)) ≡ n
+  paused_count d no_state_typed = refl
+  paused_count d (and_state_typed h hs) = ap suc (paused_count d hs)
+
+  started_members : {t : Network ℕ} {s : Scope ℕ} {Ps : List TypeTree} {Os : List Arrow} {D B : TypeTree} (V : TypeTree) (vs : List Datum)
+      → Typed (RowTyped keys) AnyType (Ps ++ V ∷ []) Os t D B → ScopeTyped keys s Ps Os → EachIs (λ u. HasType u V) vs
+      → EachStarts (λ f. FrozenTyped keys f D B) t s vs
+  started_members V [] k h hs = tt
+  started_members V (v ∷ vs) k h hs = (unstarted_typed k (pushed_param h hs.0), started_members V vs k h hs.1)
+
+  -- what is chosen of typed ones, and of what starts under typed values
+  pub chosen_typed : {t : Network ℕ} {s : Scope ℕ} {Ps : List TypeTree} {Os : List Arrow} {D B V : TypeTree} (ms : List (Frozen ℕ)) (w : Datum)
+      → Typed (RowTyped keys) AnyType (Ps ++ V ∷ []) Os t D B → ScopeTyped keys s Ps Os → HasType w (pair_ty (list_ty int_ty) (list_ty V))
+      → MembersTyped keys D B ms → MembersTyped keys D B (chosen_frozen t s ms w)
+  chosen_typed {t = t} {s = s} {D = D} {B = B} {V = V} ms w k h hw hs =
+      each-chosen_frozen (λ f. FrozenTyped keys f D B) t s ms w hs (started_members V (items_of (right w)) k h (items_typed (typed_right hw)))
+
+  -- so what runs on a typed sample is typed
+  turned_typed : {t : Network ℕ} {s : Scope ℕ} {m : ℕ} {x : Datum} {Ps : List TypeTree} {Os : List Arrow} {D B C V : TypeTree} (ms : List (Frozen ℕ))
+      → RowTyped keys m Ps C (pair_ty (list_ty int_ty) (list_ty V)) → Typed (RowTyped keys) AnyType (Ps ++ V ∷ []) Os t D B → ScopeTyped keys s Ps Os
+      → MembersTyped keys D B ms → HasType x (pair_ty D (event_ty C)) → MembersTyped keys D B (turned (row_value keys m (params_of s)) t s ms x)
+  turned_typed ms r k h hs (pair_has j no_event_has) = hs
+  turned_typed ms r k h hs (pair_has j (event_has i)) = chosen_typed ms _ k h (row_typed r (params_typed h) i) hs
+
+  -- and at most 64 do
+  turned_few : (r : Datum → Datum) (t : Network ℕ) (s : Scope ℕ) {x : Datum} {D C : TypeTree} (ms : List (Frozen ℕ)) → length ms ≤ 64
+      → HasType x (pair_ty D (event_ty C)) → length (turned r t s ms x) ≤ 64
+  turned_few r t s ms l (pair_has j no_event_has) = l
+  turned_few r t s ms l (pair_has j (event_has {v = c} i)) =
+      let few : length (chosen_frozen t s ms (r c)) ≡ min 64 (length (choices t s ms (r c))) = length-take 64 _ in
+      omega (arith, few)
 
   -- the frozen network k is there, and typed as it is said to be
   pub old_there : {fs : Frozens ℕ} {Os : List Arrow} {k : ℕ} {o : Arrow} → FrozensTyped keys fs Os → OldAt Os k o → (f : Frozen ℕ) × (frozen_at fs k ≡ Some f)
@@ -217,6 +275,21 @@ module _ (keys : List KeyTree) where
         let two = starts_typed ke g h (pair_has j (list_has all.1)) in
         starts_typed kt t (pushed_olds (pushed_param h (event_typed two.1 e)) (unstarted_all fs h)) j
     starts_typed (G.start_old e kr) (T.old_typed i) h j = resumes_typed kr (old_typed h i e) j
+    starts_typed (G.start_initial_out kf) (T.initial_out_typed r f) h j = ((starts_typed kf f h j).0, row_typed r (params_typed h) unit_has)
+    starts_typed (G.start_initial_in kf) (T.initial_in_typed r f) h j = starts_typed kf f h (row_typed r (params_typed h) unit_has)
+    starts_typed (G.start_dr_switch e kf) (T.dr_switch_typed f t) h j =
+        let one = starts_typed kf f h (typed_left j) in
+        (dr_switch_state_typed one.0 h t, one.1)
+    starts_typed (G.cut_dr_switch e kf kt) (T.dr_switch_typed f t) h j =
+        let cut = cut_typed j e in
+        let one = starts_typed kf f h cut.0 in
+        let two = starts_typed kt t (pushed_param h cut.1) cut.0 in
+        (dr_switch_state_typed two.0 h t, one.1)
+    starts_typed (G.start_rp_switch {fs = fs} {m = m} {t = t} {s = s} ks) (T.rp_switch_typed l u ts r k _) h j =
+        let before = first_frozen fs s in
+        let few : length before ≡ min 64 (length (frozen_list (all_unstarted fs s))) = length-take 64 _ in
+        let all = resumes_each_typed ks (turned_typed before r k h (first_typed ts h) j) (typed_left j) in
+        (rp_switch_state_typed (turned_few (row_value keys m (params_of s)) t s before (omega (arith, few)) j) r all.0 h k, list_has all.1)
 
     -- the members from i on that start, each on a typed sample
     pub each_starts_typed : {g : ℕ → Datum → Datum} {i : ℕ} {fs : Networks ℕ} {s : Scope ℕ} {x : Datum} {as' : States ℕ} {ys : List Datum} {n : ℕ}
@@ -234,6 +307,15 @@ module _ (keys : List KeyTree) where
         → FrozenTyped keys f A B → HasType x A → StateTyped keys a A B × HasType y B
     resumes_typed (G.resume_unstarted k) (unstarted_typed f h) j = starts_typed k f h j
     resumes_typed (G.resume_paused k) (paused_typed h) j = steps_typed k h j
+
+    -- the members of an `rpSwitchB`, each on a typed sample
+    pub resumes_each_typed : {ms : List (Frozen ℕ)} {x : Datum} {as' : States ℕ} {ys : List Datum} {n : ℕ} {D B : TypeTree} →
+        ResumesEach (row_value keys) ms x as' ys n → MembersTyped keys D B ms → HasType x D → StatesTyped keys as' (length ms) D B × HaveType (list_of ys) B
+    resumes_each_typed G.resume_none h j = (no_state_typed, end_has)
+    resumes_each_typed (G.resume_also kf ks) h j =
+        let one = resumes_typed kf h.0 j in
+        let all = resumes_each_typed ks h.1 j in
+        (and_state_typed one.0 all.0, more_has one.1 all.1)
 
     -- what steps from a typed state by a typed sample
     pub steps_typed : {a b : State ℕ} {x : ℕ × Datum} {y : Datum} {n : ℕ} {A B : TypeTree} → Steps (row_value keys) a x b y n → StateTyped keys a A B
@@ -294,6 +376,20 @@ module _ (keys : List KeyTree) where
         let all = each_steps_typed ks as' (λ i b. route_typed r (params_typed h) j u i (omega arith)) in
         let two = steps_typed kb b (pair_has j (list_has all.1)) in
         starts_typed kt t (pushed_olds (pushed_param h (event_typed two.1 e)) (paused_all x.0 as')) j
+
+    steps_typed (G.step_dr_switch e ka) (dr_switch_state_typed a h t) j =
+        let one = steps_typed ka a (typed_left j) in
+        (dr_switch_state_typed one.0 h t, one.1)
+    steps_typed (G.step_dr_switch_over e ka kt) (dr_switch_state_typed a h t) j =
+        let cut = cut_typed j e in
+        let one = steps_typed ka a cut.0 in
+        let two = starts_typed kt t (pushed_param h cut.1) cut.0 in
+        (dr_switch_state_typed two.0 h t, one.1)
+    steps_typed (G.step_rp_switch {r = m} {as' = as'} {t = t} {s = s} {x = x} ks) (rp_switch_state_typed l r hs h k) j =
+        let before = frozen_list (all_paused as' x.0) in
+        let count = paused_count x.0 hs in
+        let all = resumes_each_typed ks (turned_typed before r k h (paused_members x.0 hs) j) (typed_left j) in
+        (rp_switch_state_typed (turned_few (row_value keys m (params_of s)) t s before (omega (arith, count, l)) j) r all.0 h k, list_has all.1)
 
     -- the members from i on that step, each by a typed sample
     pub each_steps_typed : {g : ℕ → Datum → Datum} {i : ℕ} {as' : States ℕ} {x : ℕ × Datum} {bs : States ℕ} {ys : List Datum} {n m : ℕ} {D B : TypeTree} →

@@ -5,7 +5,7 @@ use Rattle.std.proofs.lemmas.List.{length-append}
 use Rattle.cell_core.specs.Cell.{Cell}
 use Rattle.sample_core.specs.Datum.{Datum, left, right, pair, int, list, list_of}
 use Rattle.leaf_core.specs.KeyTree.{KeyTree}
-use Rattle.net_syntax.specs.Network.{Network, Networks, seq, par, loop_pre, switch, d_switch, k_switch, p_switch, old, no_members, and_member}
+use Rattle.net_syntax.specs.Network.{Network, Networks, seq, par, loop_pre, switch, d_switch, dr_switch, k_switch, p_switch, old, no_members, and_member}
 use Rattle.net_syntax.specs.Typing.{members}
 use Rattle.net_syntax.specs.Weight.{weight, total}
 use Rattle.state_core.specs.State.{State, Scope, Frozen, switch_state, d_switch_state, k_switch_state, p_switch_state, and_state, and_frozen, unstarted, paused, params_of, frozens_of, frozen_at, push_param, push_old, push_olds}
@@ -18,9 +18,10 @@ use Rattle.step_core.specs.Runs as R
 use Rattle.step_core.specs.Runs.{RunsWhere, RunEachWhere, SwitchBy, DSwitchBy, KSwitchBy, PSwitchBy, by_row}
 use Rattle.step_core.specs.Stepping.{event_in}
 use Rattle.step_core.specs.Switching.{ListRuns}
-use Rattle.step_core.proofs.Falling.{members_fall, par_falls, k_switch_within, p_switch_within, old_falls, over_old_weighs, over_olds_weighs}
-use Rattle.step_core.proofs.Flows.{also_by, par_by}
+use Rattle.step_core.proofs.Falling.{members_fall, par_falls, dr_switch_within, k_switch_within, p_switch_within, old_falls, over_old_weighs, over_olds_weighs}
+use Rattle.step_core.proofs.Flows.{also_by, par_by, dr_switch_by}
 use Rattle.step_core.proofs.Kepts.{behind_both, from_start, state_at, joined_assoc, joined_nothing, width_joined, members_more, behind_members}
+use Rattle.step_core.proofs.Ranks.{ranks-param}
 use Rattle.step_core.proofs.RunForms.{switch_goes, switch_fires, d_switch_goes, d_switch_fires, k_switch_goes, k_switch_fires, old_runs}
 use Rattle.step_core.proofs.RunMembers.{none_runs, also_runs, p_switch_goes, p_switch_fires}
 
@@ -176,6 +177,13 @@ pub resumed_falls : (k : ℕ) (s : Scope ℕ) (p : Past) (f : Frozen ℕ) → p 
 resumed_falls k s p f e h =
     let a : frozen_rank (standing (old k) s p) ≡ frozen_rank (unstarted (old k) s) = ap (λ q. frozen_rank (standing (old k) s q)) e in
     omega (arith, a, old_falls (unstarted (old k) s) f (R.old_new h))
+
+-- what starts in a `drSwitch` is less than it
+pub late_start_falls : (f t : Network ℕ) (s : Scope ℕ) (q : Past) (u : Datum)
+    → frozen_rank (unstarted t (push_param s u)) < frozen_rank (flowed (dr_switch f t) s q)
+late_start_falls f t s q u =
+    let same : weight t (ranks_in (push_param s u)) ≡ weight t (ranks_in s) = ap (weight t) (ranks-param s u) in
+    omega (arith, same, dr_switch_within _ (placed f s q) t s (dr_switch_by f t s q))
 
 module _ (keys : List KeyTree) where
   -- the first part of what begins

@@ -15,11 +15,8 @@ use crate::rows::Rows;
 use leaf_table::LeafId;
 use net_syntax::Net;
 use sample_core::{Memory, Sample};
-use state_core::{Frozen, State, freeze, pause, push_param, select};
+use state_core::{Frozen, MOST_RUNNING, State, freeze, pause, push_param, select};
 use std::alloc::Global;
-
-/// The most members that run.
-const MOST_MEMBERS: usize = 64;
 
 /// The row that chooses at an event, and what starts under each value that it gives.
 #[derive(Clone, Copy)]
@@ -98,8 +95,9 @@ fn add_started<'n, R: Rows>(
         ++ take (64 - length chosen.old.items) (each_started (rows_in net.entry.now)
         (scope_of on.now.env.now) (map datum_of values.now))) }
 {
-    let room = MOST_MEMBERS.saturating_sub(chosen.len()).min(values.len());
-    for value in &values[..room] {
+    let room = MOST_RUNNING.saturating_sub(chosen.len()).min(values.len());
+    let started = &values[..room];
+    for value in started {
         let env = push_param(on.alloc, on.env, value)?;
         chosen.push(Frozen::Unstarted { net, env })?;
     }
@@ -147,9 +145,9 @@ pub(crate) fn first_members<'n, R: Rows>(
         ≡ first_frozen (map_networks row_number (members_of members.entry.now))
         (scope_of on.now.env.now)) }
 {
-    let count = members.len().min(MOST_MEMBERS);
-    let mut all = Vec::with_capacity(on.alloc, count)?;
-    for net in &members[..count] {
+    let first = &members[..MOST_RUNNING.min(members.len())];
+    let mut all = Vec::with_capacity(on.alloc, first.len())?;
+    for net in first {
         let one = freeze(on.alloc, net, on.env, None, on.dt)?;
         all.push(one)?;
     }

@@ -105,14 +105,12 @@ fn resume_each<'n, R: Rows>(
         (datum_of x.now) (kept_of kept.old) (kept_of kept.new) []
         (map datum_of answers.new.items) n) }
 {
-    let mut rest = members;
     let mut before: usize = 0;
     let mut visits: u32 = 0;
-    'members: while let Some((member, others)) = rest.split_first() {
+    for member in members {
         make_place(answers, before)?;
         let one = resume_place(on, member, x, kept, &mut answers[before])?;
         visits = both(visits, one);
-        rest = others;
         before += 1;
     }
     answers.truncate(before);
@@ -160,14 +158,12 @@ fn step_each<'n, R: Rows>(
         (datum_of x.now) (kept_of kept.old) (kept_of kept.new) []
         (map datum_of answers.new.items) n) }
 {
-    let mut rest = members;
     let mut before: usize = 0;
     let mut visits: u32 = 0;
-    'members: while let Some((member, others)) = rest.split_first() {
+    for member in members {
         make_place(answers, before)?;
         let one = step_place(on, member, x, kept, &mut answers[before])?;
         visits = both(visits, one);
-        rest = others;
         before += 1;
     }
     answers.truncate(before);

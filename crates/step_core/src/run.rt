@@ -122,7 +122,7 @@ pub(crate) fn start_under<'n, R: Rows>(
         (datum_of x.now) (state_of place.new) (datum_of out.new) n) }
 {
     let env = push_param(on.alloc, on.env, value)?;
-    let visits = run_over(&on.started(&env), net, x, place, out);
+    let visits = run_over(&(&*on).started(&env), net, x, place, out);
     drop(env);
     visits
 }

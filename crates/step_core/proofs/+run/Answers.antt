@@ -1,24 +1,29 @@
-use Rattle.std.proofs.Common.{rules, ◌≡◌, map, length, ap, ◌∙◌, sym, refl, subst, arith, inl, inr, length-set}
+use Rattle.std.proofs.Common.{rules, ◌≡◌, ◌++◌, ◌∷◌, [], Some, None, map, length, ap, ◌∙◌, sym, refl, subst, arith, inl, inr, length-set}
 use Rattle.std.specs.Prelude.{slice_set}
-use Rattle.sample_core.specs.Datum.{right}
+use Rattle.sample_core.specs.Datum.{right, unit}
 use Rattle.sample_core.specs.ValueView.{datum_of}
-use Rattle.net_syntax.specs.Network.{map_network, map_networks, seq}
+use Rattle.net_syntax.specs.Network.{map_network, map_networks, seq, initial_out, initial_in}
 use Rattle.net_syntax.specs.NetworkView.{members_of}
 use Rattle.cell_core.specs.Cell.{previous}
 use Rattle.state_core.specs.RowsView.{rows_in, row_number}
-use Rattle.state_core.specs.State.{push_param, push_old, push_olds}
-use Rattle.state_core.specs.StateView.{kept_of, running_of, scope_of, state_of}
+use Rattle.state_core.specs.State.{paused, push_param, push_old, push_olds}
+use Rattle.state_core.specs.StateView.{frozen_of, kept_of, running_of, scope_of, state_of}
 use Rattle.state_core.specs.Tree.{width_of}
+use Rattle.step_core.specs.Called.{Called}
 use Rattle.step_core.specs.EventView.{restart_found}
 use Rattle.step_core.specs.Flow as F
 use Rattle.step_core.specs.Flow.{all_placed, past_behind, past_in, placed, standing, Runs}
 use Rattle.step_core.specs.Runs.{RunsWhere}
-use Rattle.step_core.proofs.Flows.{is_switch, is_d_switch, is_k_switch, is_p_switch, is_old, placed_by, arr_flows, cell_by, seq_flows, first_flows, loop_flows, par_flows, none_flow, chain_goes, each_begins, each_goes, no_items, placed_flows, restart_goes, restart_cuts}
+use Rattle.step_core.proofs.Flows.{is_switch, is_d_switch, is_k_switch, is_p_switch, is_rp_switch, is_old, placed_by, arr_flows, cell_by, seq_flows, first_flows, loop_flows, par_flows, none_flow, chain_goes, each_begins, each_goes, no_items, placed_flows, restart_goes, restart_cuts, late_goes, late_cuts, initial_out_starts, initial_in_starts}
+use Rattle.step_core.proofs.CollectionRuns.{members_fall, turned_event, turned_none, collection_runs, members_begin, member_goes, members_end, initial_out_begins, initial_in_begins}
 use Rattle.step_core.proofs.Levels.{level_most}
+use Rattle.step_core.proofs.ListedMembers.{before_listed, first_before}
+use Rattle.step_core.proofs.MembersFall.{one_falls}
+use Rattle.step_core.proofs.PassedNetworks.{out_falls, in_falls, passed_flows}
 use Rattle.step_core.proofs.Plain.{plain, flows_run}
 use Rattle.step_core.proofs.RunJoins.{if_ok, both_ok, fires_by}
 use Rattle.step_core.proofs.StateLists.{one_answered}
-use Rattle.step_core.proofs.Switches.{same_rank, rest_falls, par_members_fall, one_cell_wider, placed_found, flows_width, runs_width, others_fall, others_placed_fall, loop_part_falls, k_over_falls, p_over_falls, p_members_fall, p_watch_falls, resumed_falls, switch_stays, switch_ends, d_switch_stays, d_switch_ends, k_switch_stays, k_switch_ends, none_run, each_run_begins, each_run_goes, p_switch_stays, p_switch_ends, old_resumes}
+use Rattle.step_core.proofs.Switches.{same_rank, late_start_falls, rest_falls, par_members_fall, one_cell_wider, placed_found, flows_width, runs_width, others_fall, others_placed_fall, loop_part_falls, k_over_falls, p_over_falls, p_members_fall, p_watch_falls, resumed_falls, switch_stays, switch_ends, d_switch_stays, d_switch_ends, k_switch_stays, k_switch_ends, none_run, each_run_begins, each_run_goes, p_switch_stays, p_switch_ends, old_resumes}
 use Rattle.step_core.proofs.+run.Goals as goal
 
 pub flow::flow-returns-in-Arr : goal.flow::flow-returns-in-Arr
@@ -35,7 +40,10 @@ flow::flow-returns-in-Switch g t c = if_ok c.run_place.result _ _ (λ n h. place
       | inl e ↦ placed_by _ _ (ap rows_in e.3) is_k_switch
       | inr others ↦ elim others [
         | inl e ↦ placed_by _ _ (ap rows_in e.4) is_p_switch
-        | inr e ↦ placed_by _ _ (ap rows_in e.1) is_old
+        | inr others ↦ elim others [
+          | inl e ↦ placed_by _ _ (ap rows_in e.3) is_rp_switch
+          | inr e ↦ placed_by _ _ (ap rows_in e.1) is_old
+        ]
       ]
     ]
   ]
@@ -166,9 +174,9 @@ run::go_on-returns-in-Some-get g t c =
 
 pub run::run_in-returns-in_ok-visits-in_default-net : goal.run::run_in-returns-in_ok-visits-in_default-net
 run::run_in-returns-in_ok-visits-in_default-net g t c =
-    let begins = c.in_ok-renew.ensures in
+    let begins = c.in_ok-renew-in_default.ensures in
     flows_run _ _ _ _ _ _ _ _ _ _ _ _ (plain c.args.net.now c.in_default.not-Old c.in_default-net.not-Switch c.in_default-net.not-DSwitch
-    c.in_default-net.not-KSwitch c.in_default-net.not-PSwitch (scope_of c.args.on.now.env.now)) (ap rows_in begins.0, begins.1, begins.2) c.end.ensures
+    c.in_default-net.not-KSwitch c.in_default-net.not-PSwitch c.in_default-net.not-RpSwitch (scope_of c.args.on.now.env.now)) (ap rows_in begins.0, begins.1, begins.2) c.end.ensures
     c.in_ok-visits-in_default-net.ensures
 
 pub run::run_switch-returns-in_ok-done-in-Ok-None : goal.run::run_switch-returns-in_ok-done-in-Ok-None
@@ -317,3 +325,180 @@ run::run_old-resume-requires g t c κs within = (
 pub run::run_old-returns-in_ok-resume-in-Some-get : goal.run::run_old-returns-in_ok-resume-in-Some-get
 run::run_old-returns-in_ok-resume-in-Some-get g t c =
     old_resumes _ _ _ _ _ _ _ _ _ _ (ap (λ b. past_in b c.args.on.now.dt) c.in-None.is) c.in-Some-get.ensures c.in_ok-resume-in-Some-get.ensures c.node.ensures
+
+pub flow::flow_initial_out-flow-requires : goal.flow::flow_initial_out-flow-requires
+flow::flow_initial_out-flow-requires g t c κs within = (
+  omega (
+    arith,
+    c.decreases,
+    level_most (rows_in c.args.f.now),
+    out_falls (row_number c.args.c) (rows_in c.args.f.now) (scope_of c.args.on.now.env.now) (width_of (kept_of c.args.kept.now))
+        (past_in c.args.on.now.before c.args.on.now.dt) (ap (λ b. past_in b c.args.on.now.dt) c.in-None.is),
+  ),
+  search rules,
+)
+
+pub flow::flow_initial_out-returns-in-Some : goal.flow::flow_initial_out-returns-in-Some
+flow::flow_initial_out-returns-in-Some g t c =
+    if_ok c.flow.result _ _ (λ n h. passed_flows _ (initial_out (row_number c.args.c) (rows_in c.args.f.now)) _ _ _ _ _ _ _ _ _ n c.passed.ensures
+    (ap (λ b. past_in b c.args.on.now.dt) c.in-Some.is) h) c.flow.ensures
+
+pub flow::flow_initial_out-returns-in_ok-call_into-in-None : goal.flow::flow_initial_out-returns-in_ok-call_into-in-None
+flow::flow_initial_out-returns-in_ok-call_into-in-None g t c =
+    initial_out_starts _ _ _ _ _ _ _ _ _ _ _ _ (ap (λ b. past_in b c.args.on.now.dt) c.in-None.is) c.in_ok-visits-in-None.ensures
+    c.in_ok-call_into-in-None.ensures.called c.node.ensures
+
+pub flow::flow_initial_in-flow-requires : goal.flow::flow_initial_in-flow-requires
+flow::flow_initial_in-flow-requires g t c κs within = (
+  omega (
+    arith,
+    c.decreases,
+    level_most (rows_in c.args.f.now),
+    in_falls (row_number c.args.c) (rows_in c.args.f.now) (scope_of c.args.on.now.env.now) (width_of (kept_of c.args.kept.now))
+        (past_in c.args.on.now.before c.args.on.now.dt) (ap (λ b. past_in b c.args.on.now.dt) c.in-None.is),
+  ),
+  search rules,
+)
+
+pub flow::flow_initial_in-returns-in-Some : goal.flow::flow_initial_in-returns-in-Some
+flow::flow_initial_in-returns-in-Some g t c =
+    if_ok c.flow.result _ _ (λ n h. passed_flows _ (initial_in (row_number c.args.c) (rows_in c.args.f.now)) _ _ _ _ _ _ _ _ _ n c.passed.ensures
+    (ap (λ b. past_in b c.args.on.now.dt) c.in-Some.is) h) c.flow.ensures
+
+pub flow::flow_initial_in-returns-in_ok-visits-in-None : goal.flow::flow_initial_in-returns-in_ok-visits-in-None
+flow::flow_initial_in-returns-in_ok-visits-in-None g t c =
+    initial_in_starts _ _ _ _ _ _ _ _ _ _ _ _ (ap (λ b. past_in b c.args.on.now.dt) c.in-None.is) c.in_ok-visits-in-None.ensures
+    (subst (λ ps. Called (g.R.Rows.keys c.args.on.now.rows.now) (row_number c.args.c) ps unit (datum_of c.in_ok-input-in-None.input)) c.params.ensures
+    c.in_ok-input-in-None.ensures) c.node.ensures
+
+pub flow::flow_late_restart-start_under-two-requires : goal.flow::flow_late_restart-start_under-two-requires
+flow::flow_late_restart-start_under-two-requires g t c κs within = (
+  omega (
+    arith,
+    c.decreases,
+    late_start_falls (rows_in c.args.f.now) (rows_in c.args.t.now) (scope_of c.args.on.now.env.now)
+        (past_behind (width_of (kept_of c.args.kept.now)) (past_in c.args.on.now.before c.args.on.now.dt)) (datum_of c.in-Some.value.now),
+  ),
+  search rules,
+)
+
+pub flow::flow_late_restart-returns-in_ok-run_place-in-None : goal.flow::flow_late_restart-returns-in_ok-run_place-in-None
+flow::flow_late_restart-returns-in_ok-run_place-in-None g t c =
+    late_goes _ _ _ _ _ _ _ _ _ _ _ _ c.first.ensures (sym c.restart_of.ensures ∙ ap restart_found c.in-None.is) c.in_ok-run_place-in-None.ensures
+    c.node-in-None.ensures
+
+pub flow::flow_late_restart-returns-in_ok-push-in-Ok-two : goal.flow::flow_late_restart-returns-in_ok-push-in-Ok-two
+flow::flow_late_restart-returns-in_ok-push-in-Ok-two g t c =
+    late_cuts _ _ _ _ _ _ _ _ _ _ _ _ _ _ _ _ _ _ _ (sym c.restart_of.ensures ∙ ap restart_found c.in-Some.is) c.len-at.ensures c.in-Ok.ensures
+    c.in-Ok-two.ensures refl (c.in_ok-push-in-Ok-two.ensures ∙ ap (λ as'. as' ++ _ ∷ []) c.spare-place.ensures) c.node.ensures
+
+pub run::run_initial_out-returns-in_ok-call_into-in-None : goal.run::run_initial_out-returns-in_ok-call_into-in-None
+run::run_initial_out-returns-in_ok-call_into-in-None g t c =
+    initial_out_begins _ _ _ _ _ _ _ _ _ _ _ (ap (λ b. past_in b c.args.on.now.dt) c.in-None.is) c.in_ok-visits-in-None.ensures
+    c.in_ok-call_into-in-None.ensures.called c.node.ensures
+
+pub run::run_initial_in-returns-in_ok-visits-in-None : goal.run::run_initial_in-returns-in_ok-visits-in-None
+run::run_initial_in-returns-in_ok-visits-in-None g t c =
+    initial_in_begins _ _ _ _ _ _ _ _ _ _ _ (ap (λ b. past_in b c.args.on.now.dt) c.in-None.is) c.in_ok-visits-in-None.ensures
+    (subst (λ ps. Called (g.R.Rows.keys c.args.on.now.rows.now) (row_number c.args.c) ps unit (datum_of c.in_ok-input-in-None.input)) c.params.ensures
+    c.in_ok-input-in-None.ensures) c.node.ensures
+
+pub collection::run_collection-returns-in_ok-put_list-in-Ok : goal.collection::run_collection-returns-in_ok-put_list-in-Ok
+collection::run_collection-returns-in_ok-put_list-in-Ok g t c =
+    collection_runs _ _ _ _ _ _ _ _ _ _ _ _ _ _ _ _ c.requires c.end.ensures c.in-Ok.ensures c.in_ok-put_list-in-Ok.ensures c.node.ensures
+
+pub collection::run_turned-resume_each-visits-requires : goal.collection::run_turned-resume_each-visits-requires
+collection::run_turned-resume_each-visits-requires g t c κs within = (
+  omega (
+    arith,
+    c.decreases,
+    members_fall (g.R.Rows.keys c.args.on.now.rows.now) (map_networks row_number (members_of c.args.members.now)) (row_number c.args.choice.chooser)
+        (rows_in c.args.choice.starts.now) (scope_of c.args.on.now.env.now) (past_in c.args.on.now.before c.args.on.now.dt)
+        (Some (datum_of c.in-Some.sample.now, datum_of c.in-Some.value.now)) _ c.in_ok-all-in-Some.ensures,
+  ),
+  search rules,
+)
+
+pub collection::run_turned-resume_each-visits-requires-in-None-before : goal.collection::run_turned-resume_each-visits-requires-in-None-before
+collection::run_turned-resume_each-visits-requires-in-None-before g t c κs within =
+    let fs = map_networks row_number (members_of c.args.members.now) in
+    let s = scope_of c.args.on.now.env.now in
+    let p = past_in c.args.on.now.before c.args.on.now.dt in (
+      omega (
+        arith,
+        c.decreases,
+        members_fall (g.R.Rows.keys c.args.on.now.rows.now) fs (row_number c.args.choice.chooser) (rows_in c.args.choice.starts.now) s p None _
+            (c.in_ok-all-in-None-before.ensures ∙ first_before fs s p (ap (λ b. past_in b c.args.on.now.dt) c.in-None-before.is)),
+      ),
+      search rules,
+    )
+
+pub collection::run_turned-step_each-requires : goal.collection::run_turned-step_each-requires
+collection::run_turned-step_each-requires g t c κs within =
+    let fs = map_networks row_number (members_of c.args.members.now) in
+    let s = scope_of c.args.on.now.env.now in
+    let p = past_in c.args.on.now.before c.args.on.now.dt in (
+      omega (
+        arith,
+        c.decreases,
+        members_fall (g.R.Rows.keys c.args.on.now.rows.now) fs (row_number c.args.choice.chooser) (rows_in c.args.choice.starts.now) s p None _
+            (before_listed fs s p _ c.args.on.now.dt _ (ap (λ b. past_in b c.args.on.now.dt) c.in-Some-before.is) c.as_slice.ensures),
+      ),
+      search rules,
+    )
+
+pub collection::run_turned-returns-in_ok-all-in-Some : goal.collection::run_turned-returns-in_ok-all-in-Some
+collection::run_turned-returns-in_ok-all-in-Some g t c =
+    if_ok c.resume_each-visits.result _ _ (λ n h. turned_event _ _ _ _ _ _ _ _ _ _ _ _ _ n (sym c.restart_of.ensures ∙ ap restart_found c.in-Some.is)
+    c.in_ok-all-in-Some.ensures h) c.resume_each-visits.ensures
+
+pub collection::run_turned-returns-in-Some-before : goal.collection::run_turned-returns-in-Some-before
+collection::run_turned-returns-in-Some-before g t c =
+    if_ok c.step_each.result _ _ (λ n h. turned_none _ _ _ _ _ _ _ _ _ _ _ _ n (sym c.restart_of.ensures ∙ ap restart_found c.in-None.is) c.first.ensures
+    (before_listed _ _ _ _ c.args.on.now.dt _ (ap (λ b. past_in b c.args.on.now.dt) c.in-Some-before.is) c.as_slice.ensures) h) c.step_each.ensures
+
+pub collection::resume_each-resume_place-requires : goal.collection::resume_each-resume_place-requires
+collection::resume_each-resume_place-requires g t c κs within = (
+  omega (arith, c.decreases, one_falls frozen_of c.args.members.now c.loop-member.member-index _ c.loop-member-test.true c.member-item.is),
+  search rules,
+)
+
+pub collection::resume_each-loop-member-init : goal.collection::resume_each-loop-member-init
+collection::resume_each-loop-member-init g t c = (refl, omega arith, members_begin _ _ _ _ _ refl)
+
+pub collection::resume_each-loop-member-preserved : goal.collection::resume_each-loop-member-preserved
+collection::resume_each-loop-member-preserved g t c =
+    let room = c.in_ok-make_place.ensures in
+    let answered = one_answered c.loop-member.answers.items c.make_place.new.places.items c.loop-member.before c.resume_place.new.out room.0 room.1 in (
+      omega (arith, c.loop-member.invariant.0),
+      omega (arith, room.0, length-set c.make_place.new.places.items c.loop-member.before c.resume_place.new.out),
+      member_goes _ frozen_of c.args.members.now c.loop-member.member-index _ _ _ _ _ _ _ _ _ _ _ _ c.loop-member-test.true c.member-item.is refl
+          c.loop-member.invariant.2 c.in_ok-one.ensures answered c.both-visits.ensures,
+    )
+
+pub collection::resume_each-returns : goal.collection::resume_each-returns
+collection::resume_each-returns g t c =
+    members_end _ frozen_of c.args.members.now _ _ _ _ _ _ _ c.loop-member-test.false c.loop-member.invariant.2 (ap (map datum_of) c.truncate.ensures.items)
+
+pub collection::step_each-step_place-requires : goal.collection::step_each-step_place-requires
+collection::step_each-step_place-requires g t c κs within = (
+  omega (arith, c.decreases, one_falls (λ a. paused (state_of a) c.args.on.now.dt) c.args.members.now c.loop-member.member-index _ c.loop-member-test.true c.member-item.is),
+  search rules,
+)
+
+pub collection::step_each-loop-member-init : goal.collection::step_each-loop-member-init
+collection::step_each-loop-member-init g t c = (refl, omega arith, members_begin _ _ _ _ _ refl)
+
+pub collection::step_each-loop-member-preserved : goal.collection::step_each-loop-member-preserved
+collection::step_each-loop-member-preserved g t c =
+    let room = c.in_ok-make_place.ensures in
+    let answered = one_answered c.loop-member.answers.items c.make_place.new.places.items c.loop-member.before c.step_place.new.out room.0 room.1 in (
+      omega (arith, c.loop-member.invariant.0),
+      omega (arith, room.0, length-set c.make_place.new.places.items c.loop-member.before c.step_place.new.out),
+      member_goes _ (λ a. paused (state_of a) c.args.on.now.dt) c.args.members.now c.loop-member.member-index _ _ _ _ _ _ _ _ _ _ _ _ c.loop-member-test.true c.member-item.is refl
+          c.loop-member.invariant.2 c.in_ok-one.ensures answered c.both-visits.ensures,
+    )
+
+pub collection::step_each-returns : goal.collection::step_each-returns
+collection::step_each-returns g t c =
+    members_end _ (λ a. paused (state_of a) c.args.on.now.dt) c.args.members.now _ _ _ _ _ _ _ c.loop-member-test.false c.loop-member.invariant.2 (ap (map datum_of) c.truncate.ensures.items)

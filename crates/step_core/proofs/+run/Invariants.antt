@@ -1,9 +1,9 @@
-use Rattle.std.proofs.Common.{◌+◌, ◌*◌, ◌≤◌, length, map, take}
-use Rattle.net_syntax.specs.Network.{map_networks, seq, first, par, loop_pre, switch, d_switch, r_switch, k_switch, p_switch, old}
+use Rattle.std.proofs.Common.{◌+◌, ◌*◌, ◌≡◌, ◌≤◌, drop, length, map, take}
+use Rattle.net_syntax.specs.Network.{map_networks, seq, first, par, loop_pre, initial_out, initial_in, switch, d_switch, r_switch, dr_switch, rp_switch, k_switch, p_switch, old}
 use Rattle.net_syntax.specs.NetworkView.{members_of}
 use Rattle.net_syntax.specs.Weight.{total}
 use Rattle.state_core.specs.RowsView.{rows_in, row_number}
-use Rattle.state_core.specs.State.{paused}
+use Rattle.state_core.specs.State.{paused, unstarted, push_param}
 use Rattle.state_core.specs.StateView.{frozen_of, kept_of, scope_of, state_of}
 use Rattle.state_core.specs.Tree.{width_of}
 use Rattle.step_core.specs.Flow.{flowed, all_flowed, placed, all_placed, standing, past_behind, past_in}
@@ -11,7 +11,9 @@ use Rattle.step_core.specs.Rank.{frozen_rank, frozen_ranks}
 use Rattle.net_syntax.proofs.Sizes.{net_size}
 use Rattle.sample_core.specs.ValueView.{datum_of}
 use Rattle.step_core.proofs.Flows.{ChainFlows, EachFlows}
+use Rattle.step_core.proofs.CollectionRuns.{MembersGo}
 use Rattle.step_core.proofs.Levels.{level}
+use Rattle.step_core.proofs.MembersFall.{load}
 use Rattle.step_core.proofs.Switches.{EachRun}
 use Rattle.step_core.proofs.+run.Given as goal
 
@@ -25,7 +27,7 @@ decreases-flow::flow_seq g l =
 
 abbrev pub decreases-flow::flow_rest : goal.decreases-flow::flow_rest
 decreases-flow::flow_rest g l =
-    20 * frozen_rank (flowed (rows_in l.net.now) (scope_of l.on.now.env.now) (past_behind (width_of (kept_of l.kept.now)) (past_in l.on.now.before l.on.now.dt))) + 20
+    20 * frozen_rank (flowed (rows_in l.net.now) (scope_of l.on.now.env.now) (past_behind (width_of (kept_of l.kept.now)) (past_in l.on.now.before l.on.now.dt))) + 22
 
 abbrev pub decreases-flow::flow_first : goal.decreases-flow::flow_first
 decreases-flow::flow_first g l =
@@ -37,7 +39,7 @@ decreases-flow::flow_par g l =
 
 abbrev pub decreases-flow::flow_each : goal.decreases-flow::flow_each
 decreases-flow::flow_each g l =
-    20 * total (frozen_ranks (all_flowed (map_networks row_number (members_of l.members.now)) (scope_of l.on.now.env.now) (past_behind (width_of (kept_of l.kept.now)) (past_in l.on.now.before l.on.now.dt)))) + 20
+    20 * total (frozen_ranks (all_flowed (map_networks row_number (members_of l.members.now)) (scope_of l.on.now.env.now) (past_behind (width_of (kept_of l.kept.now)) (past_in l.on.now.before l.on.now.dt)))) + 22
 
 abbrev pub decreases-flow::flow_loop : goal.decreases-flow::flow_loop
 decreases-flow::flow_loop g l =
@@ -46,6 +48,51 @@ decreases-flow::flow_loop g l =
 abbrev pub decreases-flow::flow_restart : goal.decreases-flow::flow_restart
 decreases-flow::flow_restart g l =
     20 * frozen_rank (flowed (r_switch (rows_in l.f.now) (rows_in l.t.now)) (scope_of l.on.now.env.now) (past_behind (width_of (kept_of l.kept.now)) (past_in l.on.now.before l.on.now.dt))) + 11
+
+abbrev pub decreases-flow::flow_late_restart : goal.decreases-flow::flow_late_restart
+decreases-flow::flow_late_restart g l =
+    20 * frozen_rank (flowed (dr_switch (rows_in l.f.now) (rows_in l.t.now)) (scope_of l.on.now.env.now) (past_behind (width_of (kept_of l.kept.now)) (past_in l.on.now.before l.on.now.dt))) + 11
+
+abbrev pub decreases-flow::flow_initial_out : goal.decreases-flow::flow_initial_out
+decreases-flow::flow_initial_out g l =
+    20 * frozen_rank (flowed (initial_out (row_number l.c) (rows_in l.f.now)) (scope_of l.on.now.env.now) (past_behind (width_of (kept_of l.kept.now)) (past_in l.on.now.before l.on.now.dt))) + 20
+
+abbrev pub decreases-flow::flow_initial_in : goal.decreases-flow::flow_initial_in
+decreases-flow::flow_initial_in g l =
+    20 * frozen_rank (flowed (initial_in (row_number l.c) (rows_in l.f.now)) (scope_of l.on.now.env.now) (past_behind (width_of (kept_of l.kept.now)) (past_in l.on.now.before l.on.now.dt))) + 20
+
+abbrev pub decreases-collection::run_collection : goal.decreases-collection::run_collection
+decreases-collection::run_collection g l =
+    20 * frozen_rank (standing (rp_switch (map_networks row_number (members_of l.members.now)) (row_number l.choice.chooser) (rows_in l.choice.starts.now)) (scope_of l.on.now.env.now) (past_in l.on.now.before l.on.now.dt)) + 12
+
+abbrev pub decreases-collection::run_turned : goal.decreases-collection::run_turned
+decreases-collection::run_turned g l =
+    20 * frozen_rank (standing (rp_switch (map_networks row_number (members_of l.members.now)) (row_number l.choice.chooser) (rows_in l.choice.starts.now)) (scope_of l.on.now.env.now) (past_in l.on.now.before l.on.now.dt)) + 11
+
+abbrev pub decreases-collection::resume_each : goal.decreases-collection::resume_each
+decreases-collection::resume_each g l = 20 * load (map frozen_of l.members.now) + 20
+
+abbrev pub decreases-collection::resume_place : goal.decreases-collection::resume_place
+decreases-collection::resume_place g l = 20 * frozen_rank (frozen_of l.member.now) + 17
+
+abbrev pub decreases-collection::step_each : goal.decreases-collection::step_each
+decreases-collection::step_each g l = 20 * load (map (λ a. paused (state_of a) l.on.now.dt) l.members.now) + 20
+
+abbrev pub decreases-collection::step_place : goal.decreases-collection::step_place
+decreases-collection::step_place g l = 20 * frozen_rank (paused (state_of l.member.now) l.on.now.dt) + 17
+
+abbrev pub invariant-collection::resume_each-loop-member : goal.invariant-collection::resume_each-loop-member
+invariant-collection::resume_each-loop-member g l =
+    (l.before ≡ l.member-index) × (l.before ≤ length l.answers.items)
+    × MembersGo (g.R.Rows.keys l.on.rows.now) (map frozen_of l.members) (map frozen_of (drop l.member-index l.members)) (datum_of l.x) (kept_of l.fn.kept)
+    (kept_of l.kept) (map datum_of (take l.before l.answers.items)) l.visits
+
+abbrev pub invariant-collection::step_each-loop-member : goal.invariant-collection::step_each-loop-member
+invariant-collection::step_each-loop-member g l =
+    (l.before ≡ l.member-index) × (l.before ≤ length l.answers.items)
+    × MembersGo (g.R.Rows.keys l.on.rows.now) (map (λ a. paused (state_of a) l.on.dt) l.members)
+    (map (λ a. paused (state_of a) l.on.dt) (drop l.member-index l.members)) (datum_of l.x) (kept_of l.fn.kept) (kept_of l.kept)
+    (map datum_of (take l.before l.answers.items)) l.visits
 
 abbrev pub decreases-run::run_place : goal.decreases-run::run_place
 decreases-run::run_place g l =
@@ -58,6 +105,22 @@ decreases-run::go_on g l =
 abbrev pub decreases-run::step : goal.decreases-run::step
 decreases-run::step g l =
     20 * frozen_rank (paused (state_of l.state.now) l.on.now.dt) + 16
+
+abbrev pub decreases-run::start_under : goal.decreases-run::start_under
+decreases-run::start_under g l =
+    20 * frozen_rank (unstarted (rows_in l.net.now) (push_param (scope_of l.on.now.env.now) (datum_of l.value.now))) + 16
+
+abbrev pub decreases-run::resume_over : goal.decreases-run::resume_over
+decreases-run::resume_over g l =
+    20 * frozen_rank (frozen_of l.frozen.now) + 16
+
+abbrev pub decreases-run::run_initial_out : goal.decreases-run::run_initial_out
+decreases-run::run_initial_out g l =
+    20 * frozen_rank (standing (initial_out (row_number l.c) (rows_in l.f.now)) (scope_of l.on.now.env.now) (past_in l.on.now.before l.on.now.dt)) + 12
+
+abbrev pub decreases-run::run_initial_in : goal.decreases-run::run_initial_in
+decreases-run::run_initial_in g l =
+    20 * frozen_rank (standing (initial_in (row_number l.c) (rows_in l.f.now)) (scope_of l.on.now.env.now) (past_in l.on.now.before l.on.now.dt)) + 12
 
 abbrev pub decreases-run::run_over : goal.decreases-run::run_over
 decreases-run::run_over g l =

@@ -1,0 +1,96 @@
+-- What a `-->` or a `>--` is once it has started.
+use Rattle.std.proofs.Common.{◌≡◌, ℕ, ◌≤◌, ◌<◌, refl, sym, ap, ◌∙◌, subst, arith, Some, None}
+use Rattle.sample_core.specs.Datum.{Datum}
+use Rattle.leaf_core.specs.KeyTree.{KeyTree}
+use Rattle.net_syntax.specs.Network.{Network, arr, seq, first, par, loop_pre, initial_out, initial_in, i_pre, delay, hold, accum_by, after, repeatedly, time, integral, switch, d_switch, r_switch, dr_switch, rp_switch, k_switch, p_switch, old}
+use Rattle.state_core.specs.State.{State, Scope, paused}
+use Rattle.state_core.specs.Tree.{Kept, Width, width_of, width, behind, tree, passed}
+use Rattle.step_core.specs.Flow.{Past, past_behind, flowed, standing, Flows}
+use Rattle.step_core.specs.Rank.{frozen_rank}
+use Rattle.step_core.specs.Runs.{RunsWhere}
+use Rattle.step_core.proofs.Levels.{level}
+
+-- what goes on keeps as much, is the same state, and is no `-->` or `>--`
+pub record Passes (net : Network ℕ) : Type 0 where
+  pub same_width : width (passed net) ≡ width net
+  pub same_tree : (s : Scope ℕ) (k : Kept ℕ) → tree (passed net) s k ≡ tree net s k
+  pub low : level (passed net) ≤ 19
+
+itself : (net : Network ℕ) → passed net ≡ net → level net ≤ 19 → Passes net
+itself net e l = record {
+  same_width = ap width e;
+  same_tree = λ s k. ap (λ f. tree f s k) e;
+  low = let same : level (passed net) ≡ level net = ap level e in omega (arith, same, l);
+}
+
+pub passes : (net : Network ℕ) → Passes net
+passes (initial_out c f) = let p = passes f in record { same_width = p.same_width; same_tree = p.same_tree; low = p.low }
+passes (initial_in c f) = let p = passes f in record { same_width = p.same_width; same_tree = p.same_tree; low = p.low }
+passes (arr e) = itself (arr e) refl (omega arith)
+passes (seq f g) = itself (seq f g) refl (omega arith)
+passes (first f) = itself (first f) refl (omega arith)
+passes (par fs) = itself (par fs) refl (omega arith)
+passes (loop_pre c f) = itself (loop_pre c f) refl (omega arith)
+passes (i_pre c) = itself (i_pre c) refl (omega arith)
+passes (delay q c) = itself (delay q c) refl (omega arith)
+passes (hold c) = itself (hold c) refl (omega arith)
+passes (accum_by g z) = itself (accum_by g z) refl (omega arith)
+passes (after q c) = itself (after q c) refl (omega arith)
+passes (repeatedly q c) = itself (repeatedly q c) refl (omega arith)
+passes time = itself time refl (omega arith)
+passes integral = itself integral refl (omega arith)
+passes (switch f t) = itself (switch f t) refl (omega arith)
+passes (d_switch f t) = itself (d_switch f t) refl (omega arith)
+passes (r_switch f t) = itself (r_switch f t) refl (omega arith)
+passes (dr_switch f t) = itself (dr_switch f t) refl (omega arith)
+passes (rp_switch fs m t) = itself (rp_switch fs m t) refl (omega arith)
+passes (k_switch f e t) = itself (k_switch f e t) refl (omega arith)
+passes (p_switch r fs e t) = itself (p_switch r fs e t) refl (omega arith)
+passes (old k) = itself (old k) refl (omega arith)
+
+-- the same state goes on
+passed_is : (net : Network ℕ) (s : Scope ℕ) (w : Width) (k : Kept ℕ) (d : ℕ)
+    → flowed (passed net) s (past_behind w (Some (k, d))) ≡ flowed net s (past_behind w (Some (k, d)))
+passed_is net s w k d = ap (λ (a : State ℕ). paused a d) ((passes net).same_tree s (behind w k))
+
+-- and it weighs as much
+pub passed_rank : (net : Network ℕ) (s : Scope ℕ) (w : Width) (p : Past) (k : Kept ℕ) (d : ℕ) → p ≡ Some (k, d)
+    → frozen_rank (flowed (passed net) s (past_behind w p)) ≡ frozen_rank (flowed net s (past_behind w p))
+passed_rank net s w p k d e =
+    subst (λ q. frozen_rank (flowed (passed net) s (past_behind w q)) ≡ frozen_rank (flowed net s (past_behind w q))) (sym e)
+    (ap frozen_rank (passed_is net s w k d))
+
+-- what flows through what goes on flows through the whole
+pub passed_flows : (keys : List KeyTree) (net low : Network ℕ) (s : Scope ℕ) (p : Past) (k : Kept ℕ) (d : ℕ) (x y : Datum) (before now : Kept ℕ) (n : ℕ)
+    → low ≡ passed net → p ≡ Some (k, d) → Flows keys low s p x before now y n → Flows keys net s p x before now y n
+passed_flows keys net low s p k d x y before now n e h f = subst (λ q. Flows keys net s q x before now y n) (sym h)
+    (by_passed (subst (λ q. Flows keys (passed net) s q x before now y n) h (subst (λ z. Flows keys z s p x before now y n) e f)))
+  where
+    by_passed : Flows keys (passed net) s (Some (k, d)) x before now y n → Flows keys net s (Some (k, d)) x before now y n
+    by_passed g = record {
+      kept = g.kept;
+      added = g.added;
+      is_width = g.is_width ∙ (passes net).same_width;
+      runs = subst (λ w. RunsWhere keys w x (tree net s g.kept) y n) (passed_is net s (width_of before) k d)
+          (subst (λ a. RunsWhere keys (flowed (passed net) s (past_behind (width_of before) (Some (k, d)))) x a y n) ((passes net).same_tree s g.kept) g.runs);
+    }
+
+-- what starts is less than the `-->` or the `>--` round it
+pub out_falls : (c : ℕ) (f : Network ℕ) (s : Scope ℕ) (w : Width) (p : Past) → p ≡ None
+    → frozen_rank (flowed f s (past_behind w p)) < frozen_rank (flowed (initial_out c f) s (past_behind w p))
+out_falls c f s w p e =
+    subst (λ q. frozen_rank (flowed f s (past_behind w q)) < frozen_rank (flowed (initial_out c f) s (past_behind w q))) (sym e) (omega arith)
+
+pub in_falls : (c : ℕ) (f : Network ℕ) (s : Scope ℕ) (w : Width) (p : Past) → p ≡ None
+    → frozen_rank (flowed f s (past_behind w p)) < frozen_rank (flowed (initial_in c f) s (past_behind w p))
+in_falls c f s w p e =
+    subst (λ q. frozen_rank (flowed f s (past_behind w q)) < frozen_rank (flowed (initial_in c f) s (past_behind w q))) (sym e) (omega arith)
+
+-- the same at a place of its own
+pub out_begins_less : (c : ℕ) (f : Network ℕ) (s : Scope ℕ) (p : Past) → p ≡ None
+    → frozen_rank (standing f s p) < frozen_rank (standing (initial_out c f) s p)
+out_begins_less c f s p e = subst (λ q. frozen_rank (standing f s q) < frozen_rank (standing (initial_out c f) s q)) (sym e) (omega arith)
+
+pub in_begins_less : (c : ℕ) (f : Network ℕ) (s : Scope ℕ) (p : Past) → p ≡ None
+    → frozen_rank (standing f s p) < frozen_rank (standing (initial_in c f) s p)
+in_begins_less c f s p e = subst (λ q. frozen_rank (standing f s q) < frozen_rank (standing (initial_in c f) s q)) (sym e) (omega arith)
