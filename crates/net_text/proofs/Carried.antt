@@ -22,9 +22,11 @@ module _ (v : Version) (size : ℕ) where
   all_same g h same zero make ts = refl
   all_same g h same (suc n) make [] = refl
   all_same g h same (suc n) make ((m, closing) ∷ ts) = refl
-  all_same g h same (suc n) make ((m, opening) ∷ ts) = ap (λ r. r >>= (λ x. read_all (networks v) size g n (λ xs. make (x.0 ∷ xs)) x.2)) (same ((m, opening) ∷ ts))
+  all_same g h same (suc n) make ((m, opening) ∷ ts) =
+      ap (λ r. r >>= (λ x. read_all (networks v) size g n (λ xs. make (x.0 ∷ xs)) x.2)) (same ((m, opening) ∷ ts))
       ∙ bind_same (h ((m, opening) ∷ ts)) _ _ (λ x. all_same g h same n (λ xs. make (x.0 ∷ xs)) x.2)
-  all_same g h same (suc n) make ((m, word w) ∷ ts) = ap (λ r. r >>= (λ x. read_all (networks v) size g n (λ xs. make (x.0 ∷ xs)) x.2)) (same ((m, word w) ∷ ts))
+  all_same g h same (suc n) make ((m, word w) ∷ ts) =
+      ap (λ r. r >>= (λ x. read_all (networks v) size g n (λ xs. make (x.0 ∷ xs)) x.2)) (same ((m, word w) ∷ ts))
       ∙ bind_same (h ((m, word w) ∷ ts)) _ _ (λ x. all_same g h same n (λ xs. make (x.0 ∷ xs)) x.2)
 
   module _ (g : (s : NetSort) → List PlacedToken → Read (NetTree s)) (h : (s : Sort) → List PlacedToken
@@ -79,7 +81,8 @@ mutual
   made_same v s no_place r last = refl
   made_same v s no_place r (more p ps) = refl
   made_same v s (place q qs) make last = refl
-  made_same v s (place q qs) make (more p ps) = ap (option_and_then (λ x. make_tree (networks v) (leaf_sort s) (leaf_places qs) (leaf_maker (Tree s) qs (make x)) ps))
+  made_same v s (place q qs) make (more p ps) =
+      ap (option_and_then (λ x. make_tree (networks v) (leaf_sort s) (leaf_places qs) (leaf_maker (Tree s) qs (make x)) ps))
       (meaning_same v q p) ∙ then_same (meaning leaf q p) _ _ (λ x. made_same v s qs (make x) ps)
   made_same v s (places q) make last = refl
   made_same v s (places q) make (more p ps) = ap (option_and_then (λ x. make_tree (networks v) (leaf_sort s) (places (leaf_sort q)) (λ xs. make (x ∷ xs)) ps))

@@ -79,7 +79,8 @@ version_found v ((n, opening) ∷ ts) us e = absurd (cc)
 version_found v ((n, closing) ∷ ts) us e = absurd (cc)
 version_found v ((n, word w) ∷ ts) us e = go (version_named w) refl e
   where
-    go : (o : Option Version) → version_named w ≡ o → option_map {U = Version × List PlacedToken} (λ u. (u, ts)) o ≡ Some (v, us) → (m : ℕ) × ((n, word w) ∷ ts ≡ (m, word (version_word v)) ∷ us)
+    go : (o : Option Version) → version_named w ≡ o → option_map {U = Version × List PlacedToken} (λ u. (u, ts)) o ≡ Some (v, us)
+        → (m : ℕ) × ((n, word w) ∷ ts ≡ (m, word (version_word v)) ∷ us)
     go None p q = absurd (cc)
     go (Some u) p q =
         let i : (u, ts) ≡ (v, us) = some_is q in
@@ -92,7 +93,8 @@ then_word_found : (u : List ℕ) (h : Version × List PlacedToken) (v : Version)
     → (h.0 ≡ v) × (behind_word u h.1 ≡ Some us)
 then_word_found u h v us e = go (behind_word u h.1) refl e
   where
-    go : (o : Option (List PlacedToken)) → behind_word u h.1 ≡ o → option_map {U = Version × List PlacedToken} (λ ts. (h.0, ts)) o ≡ Some (v, us) → (h.0 ≡ v) × (behind_word u h.1 ≡ Some us)
+    go : (o : Option (List PlacedToken)) → behind_word u h.1 ≡ o → option_map {U = Version × List PlacedToken} (λ ts. (h.0, ts)) o ≡ Some (v, us)
+        → (h.0 ≡ v) × (behind_word u h.1 ≡ Some us)
     go None p q = absurd (cc)
     go (Some ts) p q = let i : (h.0, ts) ≡ (v, us) = some_is q in (ap (λ x. x.0) i, p ∙ ap (λ x. Some x.1) i)
 
@@ -176,8 +178,8 @@ module _ (bs : List ℕ) where
       ended A g = at_end (A, g.0) g.2
 
       then_network : (A : TypeTree) (n : ℕ) (us : List PlacedToken) → read leaf (length bs) 600 type_sort ts ≡ Ok (A, n, us)
-          → (r : Result (Network Expression × ℕ × List PlacedToken) ExprTextFault) → read (networks v) (length bs) 600 network_sort us ≡ r → (r >>= ended A) ≡ Err e
-          → NoFile bs e
+          → (r : Result (Network Expression × ℕ × List PlacedToken) ExprTextFault) → read (networks v) (length bs) 600 network_sort us ≡ r
+          → (r >>= ended A) ≡ Err e → NoFile bs e
       then_network A n us i (Err f) j q = no_network v ts h A n us (found leaf (length bs) 600 type_sort ts (A, n, us) i)
           (stops (networks v) (networks_proper v) (length bs) 600 network_sort us e (j ∙ ap Err (err_is q)))
       then_network A n us i (Ok (f, m, [])) j q = absurd (cc)
@@ -185,8 +187,8 @@ module _ (bs : List ℕ) where
           follows v ts h A n us (found leaf (length bs) 600 type_sort ts (A, n, us) i) f m x after
           (found (networks v) (length bs) 600 network_sort us (f, m, x ∷ after) j) (sym (err_is q))
 
-      go : (r : Result (TypeTree × ℕ × List PlacedToken) ExprTextFault) → read leaf (length bs) 600 type_sort ts ≡ r → (r >>= read_network v (length bs)) ≡ Err e
-          → NoFile bs e
+      go : (r : Result (TypeTree × ℕ × List PlacedToken) ExprTextFault) → read leaf (length bs) 600 type_sort ts ≡ r
+          → (r >>= read_network v (length bs)) ≡ Err e → NoFile bs e
       go (Err f) i q = no_type v ts h (stops leaf leaf_proper (length bs) 600 type_sort ts e (i ∙ ap Err (err_is q)))
       go (Ok (A, n, us)) i q = then_network A n us i (read (networks v) (length bs) 600 network_sort us) refl q
 

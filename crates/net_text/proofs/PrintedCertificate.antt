@@ -125,7 +125,13 @@ step_stands v s ts end rest h w (form_spells {n = opened} {m = named} {k = close
             behind_law = vs;
             behind_direction = ws;
             starts = refl;
-            is_law = record { part = atom (law_spelling s.law); spells = a; means = law_means v s.law h.law (left_allowed v (is_new_law s.law) (is_new_given s.given) w); within = omega arith };
+            is_law =
+                record {
+                  part = atom (law_spelling s.law);
+                  spells = a;
+                  means = law_means v s.law h.law (left_allowed v (is_new_law s.law) (is_new_given s.given) w);
+                  within = omega arith;
+                };
             is_direction = record { part = atom (direction_spelling s.direction); spells = b; means = direction_means v s.direction; within = omega arith };
             is_position =
                 record {

@@ -72,7 +72,8 @@ not_second e = cc
 mutual
   unfolding net_word_at net_words net_row_at net_rows col_rows listed
 
-  pub printed : (f : Network Expression) (v : Version) → Writable f → Allows v (is_new f) → (meaning (networks v) network_sort (network_sexpr f) ≡ Some f) × (plain (network_sexpr f) ≡ true)
+  pub printed : (f : Network Expression) (v : Version) → Writable f → Allows v (is_new f)
+      → (meaning (networks v) network_sort (network_sexpr f) ≡ Some f) × (plain (network_sexpr f) ≡ true)
   printed (arr e) v r h = (rw (leaf_means v e r) refl, rw (expression_plain e r) refl)
   printed (i_pre e) v r h = (rw (leaf_means v e r) refl, rw (expression_plain e r) refl)
   printed (hold e) v r h = (rw (leaf_means v e r) refl, rw (expression_plain e r) refl)

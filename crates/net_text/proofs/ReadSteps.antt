@@ -28,7 +28,8 @@ use Rattle.net_text.specs.Grammar.{Version, networks, NetSort, NetTree, network_
 use Rattle.net_text.proofs.Carried.{read_same}
 
 -- `col` alone begins the members of `pSwitch` and `rpSwitchB`
-pub col_named : (v : Version) (w : List ℕ) → bytes_eq w (codes "col") ≡ true → Some (row (codes "col") (places network_sort) networks_of) ≡ net_row_at v members_sort w
+pub col_named : (v : Version) (w : List ℕ) → bytes_eq w (codes "col") ≡ true
+    → Some (row (codes "col") (places network_sort) networks_of) ≡ net_row_at v members_sort w
 unfolding net_row_at col_rows
 col_named v w e = rw e refl
 
@@ -111,4 +112,5 @@ module _ (A : TypeTree) where
       Refuses x (read (networks v) size 600 network_sort ts >>= (λ h. at_end h.0 h.2)) → Refuses x (read_network v size (A, n, ts))
   unfolding beside behind alone
   body_refused x v size n ts p =
-      subst (Refuses x) (sym (with_type (read (networks v) size 600 network_sort ts))) (passed x (read (networks v) size 600 network_sort ts >>= alone) beside p)
+      subst (Refuses x) (sym (with_type (read (networks v) size 600 network_sort ts)))
+      (passed x (read (networks v) size 600 network_sort ts >>= alone) beside p)

@@ -151,7 +151,8 @@ module _ (size : ℕ) (v : Version) where
         → (read_end (networks v) size 599 vs >>= (λ y. Ok (Some (given_tree law t), y.0, y.1))) ≡ Ok g
         → (m : ℕ) × (vs ≡ (m, closing) ∷ g.2) × (g.0 ≡ Some (given_tree law t))
     closed t vs g e =
-        let i : (y : ℕ × List PlacedToken) × (read_end (networks v) size 599 vs ≡ Ok y) × (◌≡◌ {A = Read (Option (Tree Expression))} (Ok (Some (given_tree law t), y.0, y.1)) (Ok g)) =
+        let i : (y : ℕ × List PlacedToken) × (read_end (networks v) size 599 vs ≡ Ok y)
+        × (◌≡◌ {A = Read (Option (Tree Expression))} (Ok (Some (given_tree law t), y.0, y.1)) (Ok g)) =
         bind_ok (read_end (networks v) size 599 vs) _ g e in
         let j : (m : ℕ) × (vs ≡ (m, closing) ∷ i.0.1) = end_found vs i.0 i.1 in
         let k : (Some (given_tree law t), i.0.0, i.0.1) ≡ g = ok_is i.2 in
@@ -169,14 +170,18 @@ module _ (size : ℕ) (v : Version) where
 
     given_found : (ts : List PlacedToken) (g : Option (Tree Expression) × ℕ × List PlacedToken) → read_given size v law ts ≡ Ok g → IsGiven v law g.0 ts g.2
     given_found [] g e = tree_found [] g e
-    given_found ((n, closing) ∷ ts) g e = subst (λ (z : Option (Tree Expression) × ℕ × List PlacedToken). IsGiven v law z.0 ((n, closing) ∷ ts) z.2) (ok_is e) (no_tree n ts)
+    given_found ((n, closing) ∷ ts) g e =
+        subst (λ (z : Option (Tree Expression) × ℕ × List PlacedToken). IsGiven v law z.0 ((n, closing) ∷ ts) z.2) (ok_is e) (no_tree n ts)
     given_found ((n, opening) ∷ ts) g e = tree_found ((n, opening) ∷ ts) g e
     given_found ((n, word w) ∷ ts) g e = tree_found ((n, word w) ∷ ts) g e
 
     given_read : (o : Option (Tree Expression)) (ts rest : List PlacedToken) → IsGiven v law o ts rest → (n : ℕ) × (read_given size v law ts ≡ Ok (o, n, rest))
     given_read o ts rest (no_tree n us) = (suc n, refl)
-    given_read o ts rest (one_tree t n m us vs b) =
-        (suc m, given_on ts (no_closing b.part ts n _ b.spells) ∙ bind_on (read (networks v) size 599 (given_sort law) ts) _ (t, n, (m, closing) ∷ rest) _ (tree_read t n ts _ b) refl)
+    given_read o ts rest (one_tree t n m us vs b) = (
+      suc m,
+      given_on ts (no_closing b.part ts n _ b.spells)
+          ∙ bind_on (read (networks v) size 599 (given_sort law) ts) _ (t, n, (m, closing) ∷ rest) _ (tree_read t n ts _ b) refl,
+    )
 
   -- no tree stands behind a step's position, or no end behind the tree
   tree_refused : (law : Law) (direction : Direction) (at : List ℕ) (ts us : List PlacedToken) (e : ExprTextFault) → IsFront v law direction at ts us
@@ -197,7 +202,8 @@ module _ (size : ℕ) (v : Version) where
   part_read : (s : StepSort) (t : StepTree s) (n : ℕ) (ts vs : List PlacedToken) → IsPart v s t ts n vs → read (step_parts v) size 599 s ts ≡ Ok (t, n, vs)
   part_read s t n ts vs b = only (step_parts v) (step_parts_proper v) size 599 s b.part ts n vs t b.spells b.means b.within
 
-  part_found : (s : StepSort) (ts : List PlacedToken) (x : StepTree s × ℕ × List PlacedToken) → read (step_parts v) size 599 s ts ≡ Ok x → IsPart v s x.0 ts x.1 x.2
+  part_found : (s : StepSort) (ts : List PlacedToken) (x : StepTree s × ℕ × List PlacedToken) → read (step_parts v) size 599 s ts ≡ Ok x
+      → IsPart v s x.0 ts x.1 x.2
   part_found s ts x e = found (step_parts v) size 599 s ts x e
 
   part_refused : (s : StepSort) (ts : List PlacedToken) (e : ExprTextFault) → read (step_parts v) size 599 s ts ≡ Err e → Stops (step_parts v) size 599 s ts e
@@ -325,7 +331,8 @@ module _ (size : ℕ) (v : Version) where
   refuses_step ts e (no_end law direction at us f b h) =
       front_read law direction at ts us f
       (bind_gone (read_given size v law us) (made law direction at) e
-      (given_on law us b ∙ bind_gone (read (networks v) size 599 (given_sort law) us) _ e (refuses (networks v) (networks_proper v) size 599 (given_sort law) us e h)))
+      (given_on law us b
+      ∙ bind_gone (read (networks v) size 599 (given_sort law) us) _ e (refuses (networks v) (networks_proper v) size 599 (given_sort law) us e h)))
   refuses_step ts e (unclosed law direction at us f t n vs b u) =
       front_read law direction at ts us f
       (bind_gone (read_given size v law us) (made law direction at) e

@@ -67,7 +67,8 @@ fn step_at(alloc: Global, text: &Text<'_>, at: usize) -> Read<LawStep>
 /// The byte behind `(step`, which must stand at or after byte `at`.
 fn step_front(text: &Text<'_>, at: usize) -> Result<usize, ExprTextFault>
     ensures { Gives (λ n. from_byte n text.now) result
-        (read_opening (length text.now.bytes.now) (version_of text.now.version) (from_byte at text.now)) }
+        (read_opening (length text.now.bytes.now) (version_of text.now.version)
+        (from_byte at text.now)) }
 {
     match front_at(text.bytes, at, MAX_OPEN)? {
         Front::Form(start) => step_name(text, start + 1),
@@ -78,7 +79,8 @@ fn step_front(text: &Text<'_>, at: usize) -> Result<usize, ExprTextFault>
 /// The byte behind the word `step`, which must be the first token at or after byte `at`.
 fn step_name(text: &Text<'_>, at: usize) -> Result<usize, ExprTextFault>
     ensures { Gives (λ n. from_byte n text.now) result
-        (certificate.read_name (length text.now.bytes.now) (version_of text.now.version) (from_byte at text.now)) }
+        (certificate.read_name (length text.now.bytes.now) (version_of text.now.version)
+        (from_byte at text.now)) }
 {
     let (start, end) = form_head(text.bytes, at, ROOM)?;
     if word_is(&text.bytes[start..end], "step") {

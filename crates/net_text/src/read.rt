@@ -19,9 +19,9 @@ use net_syntax::Net;
 use sample_core::{Ty, word_is};
 use std::alloc::Global;
 
-/// Reads a network file, `yampa 1 input TYPE NET`, or `yampa 2 input TYPE NET`, in which the network
-/// may have the forms `-->`, `>--`, `drSwitch` and `rpSwitchB` too. Answers the type of the input,
-/// and the network, with sugar expanded.
+/// Reads a network file: `yampa 1 input TYPE NET`, or `yampa 2 input TYPE NET`, whose network may
+/// have the forms `-->`, `>--`, `drSwitch` and `rpSwitchB` too. Answers the type of the input, and
+/// the network, with sugar expanded.
 ///
 /// `TooLong`: the text has more than 1,048,576 bytes, whatever they are. Else a refusal is the
 /// first token that doesn't fit, by its first byte, counted from 0. `Header`: it is one of the
@@ -77,7 +77,8 @@ fn headed(alloc: Global, text: &[u8]) -> Result<(Ty, Net<Expr>), NetTextFault>
 /// A type and a network, and nothing behind them, at or after byte `at`.
 fn body_at(alloc: Global, text: &Text<'_>, at: usize) -> Result<(Ty, Net<Expr>), ExprTextFault>
     ensures { Gives (λ x. (type_of x.0, tree_of x.1)) result
-        (read_body (length text.now.bytes.now) (version_of text.now.version) (from_byte at text.now)) }
+        (read_body (length text.now.bytes.now) (version_of text.now.version)
+        (from_byte at text.now)) }
 {
     let (input, at) = type_at(alloc, text.bytes, at, MAX_OPEN)?;
     both(input, last_network(alloc, text, at))

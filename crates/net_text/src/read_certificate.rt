@@ -73,7 +73,8 @@ fn headed(alloc: Global, text: &[u8]) -> Result<Vec<LawStep>, NetTextFault>
     }
 }
 
-/// The version and the byte behind the words `laws` and a version, where these are the first tokens.
+/// The version and the byte behind the words `laws` and a version, where these are the first
+/// tokens.
 fn laws_end(text: &[u8]) -> Option<(Version, usize)>
     ensures { option_map (λ x. (version_of x.0, tokens_from x.1 text.now)) result
         ≡ behind_laws (tokens text.now) }

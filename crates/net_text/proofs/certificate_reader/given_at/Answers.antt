@@ -7,12 +7,16 @@ use Rattle.net_text.proofs.certificate_reader.given_at.Goals as goal
 
 pub returns-in-E : goal.returns-in-E
 returns-in-E c =
-    let size = length c.args.text.now.bytes.now in
-    let ts = from_byte c.args.at c.args.text.now in
-    given _ _ (given_on size (version_of c.args.text.now.version) c.args.law ts c.in_default.ensures.token ∙ ap (λ l. tree_and_end size (version_of c.args.text.now.version) l ts) c.in-E.is) c.given_expr_at.ensures
+    let text = c.args.text.now in
+    let size = length text.bytes.now in
+    let v = version_of text.version in
+    let ts = from_byte c.args.at text in
+    given _ _ (given_on size v c.args.law ts c.in_default.ensures.token ∙ ap (λ l. tree_and_end size v l ts) c.in-E.is) c.given_expr_at.ensures
 
 pub returns-in-L : goal.returns-in-L
 returns-in-L c =
-    let size = length c.args.text.now.bytes.now in
-    let ts = from_byte c.args.at c.args.text.now in
-    given _ _ (given_on size (version_of c.args.text.now.version) c.args.law ts c.in_default.ensures.token ∙ ap (λ l. tree_and_end size (version_of c.args.text.now.version) l ts) c.in-L.is) c.given_net_at.ensures
+    let text = c.args.text.now in
+    let size = length text.bytes.now in
+    let v = version_of text.version in
+    let ts = from_byte c.args.at text in
+    given _ _ (given_on size v c.args.law ts c.in_default.ensures.token ∙ ap (λ l. tree_and_end size v l ts) c.in-L.is) c.given_net_at.ensures

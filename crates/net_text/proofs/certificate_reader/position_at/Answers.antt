@@ -8,9 +8,12 @@ use Rattle.net_text.proofs.certificate_reader.position_at.Goals as goal
 
 pub returns-in-Form : goal.returns-in-Form
 returns-in-Form c =
-    in_form (parts_of c.args.text.now) position_sort (left c.args.text.now) c.position_form_at.result c.args.text.now.bytes.now 599 c.args.at refl c.in-Form.is c.in_ok-start.ensures.front c.position_form_at.ensures
+    let text = c.args.text.now in
+    in_form (parts_of text) position_sort (left text) c.position_form_at.result text.bytes.now 599 c.args.at refl c.in-Form.is
+    c.in_ok-start.ensures.front c.position_form_at.ensures
 
 pub returns-in-Word : goal.returns-in-Word
 returns-in-Word c =
-    in_word (parts_of c.args.text.now) position_sort (left c.args.text.now) (Err (E.Syntax c.in-Word.start)) c.args.text.now.bytes.now 599 c.args.at c.in-Word.is
+    let text = c.args.text.now in
+    in_word (parts_of text) position_sort (left text) (Err (E.Syntax c.in-Word.start)) text.bytes.now 599 c.args.at c.in-Word.is
     c.in_ok-start.ensures.front (λ m. at_no_word _ _ _ _)

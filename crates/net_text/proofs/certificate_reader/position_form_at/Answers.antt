@@ -11,10 +11,14 @@ use Rattle.net_text.proofs.certificate_reader.position_form_at.Goals as goal
 
 pub returns-then-word_is : goal.returns-then-word_is
 returns-then-word_is c =
-    given (left c.args.text.now) c.children_at.result
-    (named (parts_of c.args.text.now) (length c.args.text.now.bytes.now) 598 598 position_sort (from_byte c.args.at c.args.text.now) (record { name = codes "at"; takes = places child_sort; makes = λ ks. ks }) c.in_ok-start.ensures.head
+    let text = c.args.text.now in
+    given (left text) c.children_at.result
+    (named (parts_of text) (length text.bytes.now) 598 598 position_sort (from_byte c.args.at text)
+    (record { name = codes "at"; takes = places child_sort; makes = λ ks. ks }) c.in_ok-start.ensures.head
     (at_named _ (sym c.word_is.ensures ∙ c.if-word_is.true))) c.children_at.ensures
 
 pub returns-else-word_is : goal.returns-else-word_is
-returns-else-word_is c = λ m. unnamed (parts_of c.args.text.now) (length c.args.text.now.bytes.now) 598 598 position_sort (from_byte c.args.at c.args.text.now) c.in_ok-start.ensures.head
+returns-else-word_is c =
+    let text = c.args.text.now in
+    λ m. unnamed (parts_of text) (length text.bytes.now) 598 598 position_sort (from_byte c.args.at text) c.in_ok-start.ensures.head
     (at_unnamed _ (sym c.word_is.ensures ∙ c.if-word_is.false))

@@ -94,7 +94,8 @@ col_at-returns-in-Form t c = in_form (language c.args.text.now) members_sort _ _
 
 pub col_at-returns-in-Word : goal.col_at-returns-in-Word
 col_at-returns-in-Word t c =
-    in_word (language c.args.text.now) members_sort (members_left c.args.text.now) (Err (E.Syntax c.in-Word.start)) c.args.text.now.bytes.now c.args.room c.args.at c.in-Word.is
+    let text = c.args.text.now in
+    in_word (language text) members_sort (members_left text) (Err (E.Syntax c.in-Word.start)) text.bytes.now c.args.room c.args.at c.in-Word.is
     c.in_ok-start.ensures.front (λ m. col_no_word _ _ _)
 
 pub col_form_at-returns-then-word_is : goal.col_form_at-returns-then-word_is

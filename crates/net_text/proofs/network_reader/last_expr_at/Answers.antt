@@ -17,7 +17,8 @@ pub returns : goal.returns
 returns c =
     MatchResult-weaker c.both.result c.both.ensures
     (λ x h. made _
-    (leaf_part _ _ _ {R = Expression} expression_sort no_place (λ e. e) _ c.in_ok-expr.ensures ∙ ended (language c.args.text.now) _ _ _ _ (read_behind _ _ h.1 c.form_end.ensures))
+    (leaf_part _ _ _ {R = Expression} expression_sort no_place (λ e. e) _ c.in_ok-expr.ensures
+    ∙ ended (language c.args.text.now) _ _ _ _ (read_behind _ _ h.1 c.form_end.ensures))
     (ap expression_of h.0))
     (λ x h m. leaf_part _ _ _ {R = Expression} expression_sort no_place (λ e. e) _ c.in_ok-expr.ensures
     ∙ no_end (language c.args.text.now) _ _ _ _ _ (refused_behind _ _ h c.form_end.ensures) m)

@@ -22,4 +22,5 @@ pub returns : goal.returns
 returns c =
     made _
     (leaf_part _ _ _ type_sort no_place never _ c.in_ok-carried.ensures
-    ∙ ended (language c.args.text.now) _ _ _ _ (read_behind _ _ c.in_ok-carried-2.ensures.1 c.form_end.ensures)) (ap (λ ty. never (type_of ty)) c.in_ok-carried-2.ensures.0)
+    ∙ ended (language c.args.text.now) _ _ _ _ (read_behind _ _ c.in_ok-carried-2.ensures.1 c.form_end.ensures))
+    (ap (λ ty. never (type_of ty)) c.in_ok-carried-2.ensures.0)
