@@ -171,6 +171,13 @@ fn tell(alloc: Global, probe: Probe, given: &str, out: &mut String) {
         Probe::Key => key_told(alloc, given, out),
         Probe::Token => token_told(given, out),
         Probe::Number => number_told(given, out),
+        probe => tell_networks(alloc, probe, given, out),
+    }
+}
+
+/// The same of networks and trees.
+fn tell_networks(alloc: Global, probe: Probe, given: &str, out: &mut String) {
+    match probe {
         Probe::Tree => tree_told(alloc, given, out),
         Probe::File => file_told(alloc, given, out),
         Probe::Beginnings => beginnings_told(alloc, given, out),
@@ -181,6 +188,13 @@ fn tell(alloc: Global, probe: Probe, given: &str, out: &mut String) {
         Probe::Doubled => doubled_told(alloc, given, out),
         Probe::Built => built_told(alloc, given, out),
         Probe::Part => part_told(alloc, given, out),
+        probe => tell_runs(alloc, probe, given, out),
+    }
+}
+
+/// The same of commands, runs and tables.
+fn tell_runs(alloc: Global, probe: Probe, given: &str, out: &mut String) {
+    match probe {
         Probe::Command => command_told(alloc, given, out),
         Probe::Run => run_told(alloc, given, out),
         Probe::WholeRun => whole_run_told(alloc, given, out),
@@ -190,17 +204,25 @@ fn tell(alloc: Global, probe: Probe, given: &str, out: &mut String) {
         Probe::Filled => filled_told(alloc, given, out),
         Probe::Added => added_told(alloc, given, out),
         Probe::Called => called_told(alloc, given, out),
+        Probe::Calls => calls_told(alloc, given, out),
+        Probe::Selected => selected_told(alloc, given, out),
+        probe => tell_scant(alloc, probe, given, out),
+    }
+}
+
+/// The same where growths are refused, and of laws.
+fn tell_scant(alloc: Global, probe: Probe, given: &str, out: &mut String) {
+    match probe {
         Probe::Scant => scant_told(alloc, given, out),
         Probe::ScantNetwork => scant_network_told(alloc, given, out),
         Probe::ScantCommand => scant_command_told(alloc, given, out),
         Probe::ScantRun => scant_run_told(alloc, given, out),
-        Probe::Selected => selected_told(alloc, given, out),
         Probe::ScantStream => scantly_told(alloc, given, out),
         Probe::ScantReads => scant_reads_told(alloc, given, out),
         Probe::ScantLines => lines_told(alloc, given, out),
-        Probe::Calls => calls_told(alloc, given, out),
         Probe::ScantCalls => scant_calls_told(alloc, given, out),
         Probe::Law(probe) => law_told(alloc, probe, given, out),
+        _ => (),
     }
 }
 
@@ -235,8 +257,9 @@ pub fn all_are_found(rt: &impl Abort, alloc: Global, probe: Probe, rows: &str) {
 /// Asserts the same of the rows of one name.
 fn group_is_found(rt: &impl Abort, alloc: Global, probe: Probe, name: &str, rows: &str) {
     for row in rows.lines() {
-        if let Some((given, wanted)) = row.split_once(" =>") {
-            is_found(rt, alloc, probe, name, given, wanted.trim_start());
+        match row.split_once(" =>") {
+            Some((given, wanted)) => is_found(rt, alloc, probe, name, given, wanted.trim_start()),
+            None => assert!(rt; row.is_empty(), "no row: {row}"),
         }
     }
 }

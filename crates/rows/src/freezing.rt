@@ -4,32 +4,57 @@ use crate::ballast::take_all;
 use crate::texts::say;
 use cell_core::{Cell, Form};
 use leaf_table::LeafId;
-use net_syntax::Net;
+use net_syntax::{Members, Net, NetChild};
 use sample_core::{Memory, Sample};
 use state_core::{Env, Frozen, Places, Running, State, freeze};
 use std::alloc::Global;
 
 /// Tells what `freeze` answers on the state of `(delay 4096 0)` after 4,096 samples with step 1.
 pub fn delay_told(alloc: Global, out: &mut String) {
-    let net = Net::Time;
-    match full_delay(alloc, &net) {
-        Ok(state) => {
-            freeze_told(alloc, &net, &state, out);
-            drop(state);
-        }
+    let net = Net::Delay(4_096, LeafId(0));
+    match full_queue(alloc) {
+        Ok(cell) => frozen_cell_told(alloc, &net, cell, out),
         Err(Memory) => say(out, "memory"),
     }
     drop(net);
 }
 
-fn full_delay<'n>(alloc: Global, net: &'n Net<LeafId>) -> Result<State<'n>, Memory> {
-    let x = Sample::Int(1);
-    let (mut cell, _) = Cell::start(alloc, Form::Delay(4_096), Sample::Int(0), &x)?;
-    for _ in 1..4_096u32 {
-        let (next, _) = cell.step(alloc, 1, &x)?;
-        cell = next;
+fn frozen_cell_told(alloc: Global, net: &Net<LeafId>, cell: Cell, out: &mut String) {
+    match alone(alloc, net, cell) {
+        Ok(state) => {
+            freeze_told(alloc, net, &state, out);
+            drop(state);
+        }
+        Err(Memory) => say(out, "memory"),
     }
-    alone(alloc, net, cell)
+}
+
+/// What the delay keeps: each of the samples.
+fn full_queue(alloc: Global) -> Result<Cell, Memory> {
+    let x = Sample::Int(1);
+    let mut cell = started(Cell::start(alloc, Form::Delay(4_096), Sample::Int(0), &x));
+    for _ in 1..4_096u32 {
+        cell = match cell {
+            Ok(now) => {
+                let next = started(now.step(alloc, 1, &x));
+                drop(now);
+                next
+            }
+            Err(Memory) => return Err(Memory),
+        };
+    }
+    cell
+}
+
+/// The cell of an answer.
+fn started(answer: Result<(Cell, Sample), Memory>) -> Result<Cell, Memory> {
+    match answer {
+        Ok((cell, output)) => {
+            drop(output);
+            Ok(cell)
+        }
+        Err(Memory) => Err(Memory),
+    }
 }
 
 /// The state of a network that keeps one cell.
@@ -47,26 +72,71 @@ fn alone<'n>(alloc: Global, net: &'n Net<LeafId>, cell: Cell) -> Result<State<'n
     }
 }
 
-/// Tells what `freeze` answers on the state of 64 members.
+/// Tells what `freeze` answers on the state of a `pSwitch` of 64 clocks, and one that watches it.
 pub fn members_told(alloc: Global, out: &mut String) {
-    let net = Net::Time;
-    match members(alloc, &net) {
+    match clocks(alloc) {
+        Ok(net) => {
+            frozen_clocks_told(alloc, &net, out);
+            drop(net);
+        }
+        Err(Memory) => say(out, "memory"),
+    }
+}
+
+/// `(pSwitch r (col time ..) time time)` of 64 members.
+fn clocks(alloc: Global) -> Result<Net<LeafId>, Memory> {
+    let mut all = Vec::new(alloc);
+    for _ in 0..64u32 {
+        all.push(Net::Time)?;
+    }
+    let members = Members::new(alloc, all)?;
+    match NetChild::new(alloc, Net::Time) {
+        Ok(watcher) => watched(alloc, members, watcher),
+        Err(Memory) => {
+            drop(members);
+            Err(Memory)
+        }
+    }
+}
+
+fn watched(
+    alloc: Global,
+    members: Members<LeafId>,
+    watcher: NetChild<LeafId>,
+) -> Result<Net<LeafId>, Memory> {
+    match NetChild::new(alloc, Net::Time) {
+        Ok(behind) => Ok(Net::PSwitch(LeafId(0), members, watcher, behind)),
+        Err(Memory) => {
+            drop(members);
+            drop(watcher);
+            Err(Memory)
+        }
+    }
+}
+
+fn frozen_clocks_told(alloc: Global, net: &Net<LeafId>, out: &mut String) {
+    let clock = Net::Time;
+    match ticking(alloc, net, &clock) {
         Ok(state) => {
-            freeze_told(alloc, &net, &state, out);
+            freeze_told(alloc, net, &state, out);
             drop(state);
         }
         Err(Memory) => say(out, "memory"),
     }
-    drop(net);
+    drop(clock);
 }
 
-/// A state that keeps those of 64 members.
-fn members<'n>(alloc: Global, net: &'n Net<LeafId>) -> Result<State<'n>, Memory> {
+/// A state of the network that keeps those of 65 clocks: its members, and the one that watches it.
+fn ticking<'n>(
+    alloc: Global,
+    net: &'n Net<LeafId>,
+    clock: &'n Net<LeafId>,
+) -> Result<State<'n>, Memory> {
     let env = Env::nothing();
     let running = Running::new(alloc, net, &env);
     drop(env);
     let mut running = running?;
-    match add_members(alloc, net, &mut running.kept.places) {
+    match add_clocks(alloc, clock, &mut running.kept.places) {
         Ok(()) => State::new(alloc, running),
         Err(memory) => {
             drop(running);
@@ -75,13 +145,13 @@ fn members<'n>(alloc: Global, net: &'n Net<LeafId>) -> Result<State<'n>, Memory>
     }
 }
 
-fn add_members<'n>(
+fn add_clocks<'n>(
     alloc: Global,
-    net: &'n Net<LeafId>,
+    clock: &'n Net<LeafId>,
     places: &mut Places<'n>,
 ) -> Result<(), Memory> {
-    for _ in 0..64u32 {
-        places.push(alone(alloc, net, Cell::Time(0))?)?;
+    for _ in 0..65u32 {
+        places.push(alone(alloc, clock, Cell::Time(0))?)?;
     }
     Ok(())
 }
