@@ -10,6 +10,7 @@ pub mod CertificateRead
 pub mod CertificateSteps
 pub mod NetRows
 pub mod OlderNetworks
+pub mod NothingNew
 pub mod PrintedFile
 pub mod PrintedCertificate
 pub mod CertificateLines

@@ -2,7 +2,7 @@
 
 ghost use Rattle.leaf_expr.specs.ReadLaws.{FoundLaw, OnlyLaw, OneReadingLaw, FaultLaw, OneFaultLaw};
 ghost use Rattle.net_text.specs.Grammar.{Version, networks};
-ghost use Rattle.net_text.specs.FileLaws.{ReadFileLaw, OneFileLaw, FileFaultLaw, LeafMeaningLaw, OlderNetworkLaw, PrintedFileLaw};
+ghost use Rattle.net_text.specs.FileLaws.{ReadFileLaw, OneFileLaw, FileFaultLaw, LeafMeaningLaw, OlderNetworkLaw, NothingNewLaw, PrintedFileLaw};
 ghost use Rattle.net_text.specs.CertificatePrinting.{PrintedCertificateLaw};
 ghost use Rattle.net_text.specs.CertificateLaws.{ReadCertificateLaw, OneCertificateLaw, CertificateFaultLaw};
 ghost use Rattle.net_text.specs.CertificateRows.{CertificateRows, LawRows, CertificateFaultRows};
@@ -12,7 +12,8 @@ ghost use Rattle.net_text.specs.FileRows.{CellRows, NetworkRows, SugarRows, Iden
 /// grammar, what is in the grammar is read whatever follows, there is one reading, a fault is
 /// answered exactly where it is the first token that doesn't fit, by its place and kind, and there
 /// is one fault, in each version. Types and expressions inside networks are those that they are by
-/// themselves. A network of the first version is the same one in the second.
+/// themselves. A network of the first version is the same one in the second, and none of the forms
+/// that are new there is in it.
 pub fn reading_laws()
     ensures found { (v : Version) → FoundLaw (networks v) }
     ensures only { (v : Version) → OnlyLaw (networks v) }
@@ -21,6 +22,7 @@ pub fn reading_laws()
     ensures one_fault { (v : Version) → OneFaultLaw (networks v) }
     ensures leaves { LeafMeaningLaw }
     ensures older { OlderNetworkLaw }
+    ensures nothing_new { NothingNewLaw }
 {}
 
 /// Reading a whole file: what is read is a network file, a network file is read, it has one

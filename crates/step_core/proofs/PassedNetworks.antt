@@ -1,11 +1,11 @@
 -- What a `-->` or a `>--` is once it has started.
-use Rattle.std.proofs.Common.{◌≡◌, ℕ, ◌≤◌, ◌<◌, refl, sym, ap, ◌∙◌, subst, arith, Some, None}
+use Rattle.std.proofs.Common.{◌≡◌, ℕ, ◌≤◌, List, refl, sym, ap, ◌∙◌, subst, arith, Some}
 use Rattle.sample_core.specs.Datum.{Datum}
 use Rattle.leaf_core.specs.KeyTree.{KeyTree}
 use Rattle.net_syntax.specs.Network.{Network, arr, seq, first, par, loop_pre, initial_out, initial_in, i_pre, delay, hold, accum_by, after, repeatedly, time, integral, switch, d_switch, r_switch, dr_switch, rp_switch, k_switch, p_switch, old}
 use Rattle.state_core.specs.State.{State, Scope, paused}
 use Rattle.state_core.specs.Tree.{Kept, Width, width_of, width, behind, tree, passed}
-use Rattle.step_core.specs.Flow.{Past, past_behind, flowed, standing, Flows}
+use Rattle.step_core.specs.Flow.{Past, past_behind, flowed, Flows}
 use Rattle.step_core.specs.Rank.{frozen_rank}
 use Rattle.step_core.specs.Runs.{RunsWhere}
 use Rattle.step_core.proofs.Levels.{level}
@@ -54,11 +54,14 @@ passed_is : (net : Network ℕ) (s : Scope ℕ) (w : Width) (k : Kept ℕ) (d : 
 passed_is net s w k d = ap (λ (a : State ℕ). paused a d) ((passes net).same_tree s (behind w k))
 
 -- and it weighs as much
-pub passed_rank : (net : Network ℕ) (s : Scope ℕ) (w : Width) (p : Past) (k : Kept ℕ) (d : ℕ) → p ≡ Some (k, d)
-    → frozen_rank (flowed (passed net) s (past_behind w p)) ≡ frozen_rank (flowed net s (past_behind w p))
-passed_rank net s w p k d e =
-    subst (λ q. frozen_rank (flowed (passed net) s (past_behind w q)) ≡ frozen_rank (flowed net s (past_behind w q))) (sym e)
-    (ap frozen_rank (passed_is net s w k d))
+pub passed_falls : (net low : Network ℕ) (s : Scope ℕ) (w : Width) (p : Past) (k : Kept ℕ) (d : ℕ) → low ≡ passed net → p ≡ Some (k, d)
+    → (frozen_rank (flowed low s (past_behind w p)) ≡ frozen_rank (flowed net s (past_behind w p))) × (level low ≤ 19)
+passed_falls net low s w p k d e h =
+    let low_is : level low ≡ level (passed net) = ap level e in
+    let same : frozen_rank (flowed (passed net) s (past_behind w p)) ≡ frozen_rank (flowed net s (past_behind w p)) =
+    subst (λ q. frozen_rank (flowed (passed net) s (past_behind w q)) ≡ frozen_rank (flowed net s (past_behind w q))) (sym h)
+    (ap frozen_rank (passed_is net s w k d)) in
+    (ap (λ z. frozen_rank (flowed z s (past_behind w p))) e ∙ same, omega (arith, low_is, (passes net).low))
 
 -- what flows through what goes on flows through the whole
 pub passed_flows : (keys : List KeyTree) (net low : Network ℕ) (s : Scope ℕ) (p : Past) (k : Kept ℕ) (d : ℕ) (x y : Datum) (before now : Kept ℕ) (n : ℕ)
@@ -74,23 +77,3 @@ passed_flows keys net low s p k d x y before now n e h f = subst (λ q. Flows ke
       runs = subst (λ w. RunsWhere keys w x (tree net s g.kept) y n) (passed_is net s (width_of before) k d)
           (subst (λ a. RunsWhere keys (flowed (passed net) s (past_behind (width_of before) (Some (k, d)))) x a y n) ((passes net).same_tree s g.kept) g.runs);
     }
-
--- what starts is less than the `-->` or the `>--` round it
-pub out_falls : (c : ℕ) (f : Network ℕ) (s : Scope ℕ) (w : Width) (p : Past) → p ≡ None
-    → frozen_rank (flowed f s (past_behind w p)) < frozen_rank (flowed (initial_out c f) s (past_behind w p))
-out_falls c f s w p e =
-    subst (λ q. frozen_rank (flowed f s (past_behind w q)) < frozen_rank (flowed (initial_out c f) s (past_behind w q))) (sym e) (omega arith)
-
-pub in_falls : (c : ℕ) (f : Network ℕ) (s : Scope ℕ) (w : Width) (p : Past) → p ≡ None
-    → frozen_rank (flowed f s (past_behind w p)) < frozen_rank (flowed (initial_in c f) s (past_behind w p))
-in_falls c f s w p e =
-    subst (λ q. frozen_rank (flowed f s (past_behind w q)) < frozen_rank (flowed (initial_in c f) s (past_behind w q))) (sym e) (omega arith)
-
--- the same at a place of its own
-pub out_begins_less : (c : ℕ) (f : Network ℕ) (s : Scope ℕ) (p : Past) → p ≡ None
-    → frozen_rank (standing f s p) < frozen_rank (standing (initial_out c f) s p)
-out_begins_less c f s p e = subst (λ q. frozen_rank (standing f s q) < frozen_rank (standing (initial_out c f) s q)) (sym e) (omega arith)
-
-pub in_begins_less : (c : ℕ) (f : Network ℕ) (s : Scope ℕ) (p : Past) → p ≡ None
-    → frozen_rank (standing f s p) < frozen_rank (standing (initial_in c f) s p)
-in_begins_less c f s p e = subst (λ q. frozen_rank (standing f s q) < frozen_rank (standing (initial_in c f) s q)) (sym e) (omega arith)

@@ -376,7 +376,6 @@ module _ (keys : List KeyTree) where
         let all = each_steps_typed ks as' (λ i b. route_typed r (params_typed h) j u i (omega arith)) in
         let two = steps_typed kb b (pair_has j (list_has all.1)) in
         starts_typed kt t (pushed_olds (pushed_param h (event_typed two.1 e)) (paused_all x.0 as')) j
-
     steps_typed (G.step_dr_switch e ka) (dr_switch_state_typed a h t) j =
         let one = steps_typed ka a (typed_left j) in
         (dr_switch_state_typed one.0 h t, one.1)

@@ -12,14 +12,15 @@ use Rattle.state_core.specs.Tree.{width_of}
 use Rattle.step_core.specs.Called.{Called}
 use Rattle.step_core.specs.EventView.{restart_found}
 use Rattle.step_core.specs.Flow as F
-use Rattle.step_core.specs.Flow.{all_placed, past_behind, past_in, placed, standing, Runs}
+use Rattle.step_core.specs.Flow.{all_placed, members_before, past_behind, past_in, placed, standing, Runs}
 use Rattle.step_core.specs.Runs.{RunsWhere}
+use Rattle.step_core.specs.Switching.{IsChosen}
 use Rattle.step_core.proofs.Flows.{is_switch, is_d_switch, is_k_switch, is_p_switch, is_rp_switch, is_old, placed_by, arr_flows, cell_by, seq_flows, first_flows, loop_flows, par_flows, none_flow, chain_goes, each_begins, each_goes, no_items, placed_flows, restart_goes, restart_cuts, late_goes, late_cuts, initial_out_starts, initial_in_starts}
 use Rattle.step_core.proofs.CollectionRuns.{members_fall, turned_event, turned_none, collection_runs, members_begin, member_goes, members_end, initial_out_begins, initial_in_begins}
 use Rattle.step_core.proofs.Levels.{level_most}
 use Rattle.step_core.proofs.ListedMembers.{before_listed, first_before}
-use Rattle.step_core.proofs.MembersFall.{one_falls}
-use Rattle.step_core.proofs.PassedNetworks.{out_falls, in_falls, passed_flows}
+use Rattle.step_core.proofs.MembersFall.{load, one_falls}
+use Rattle.step_core.proofs.PassedNetworks.{passed_falls, passed_flows}
 use Rattle.step_core.proofs.Plain.{plain, flows_run}
 use Rattle.step_core.proofs.RunJoins.{if_ok, both_ok, fires_by}
 use Rattle.step_core.proofs.StateLists.{one_answered}
@@ -327,16 +328,10 @@ run::run_old-returns-in_ok-resume-in-Some-get g t c =
     old_resumes _ _ _ _ _ _ _ _ _ _ (ap (λ b. past_in b c.args.on.now.dt) c.in-None.is) c.in-Some-get.ensures c.in_ok-resume-in-Some-get.ensures c.node.ensures
 
 pub flow::flow_initial_out-flow-requires : goal.flow::flow_initial_out-flow-requires
-flow::flow_initial_out-flow-requires g t c κs within = (
-  omega (
-    arith,
-    c.decreases,
-    level_most (rows_in c.args.f.now),
-    out_falls (row_number c.args.c) (rows_in c.args.f.now) (scope_of c.args.on.now.env.now) (width_of (kept_of c.args.kept.now))
-        (past_in c.args.on.now.before c.args.on.now.dt) (ap (λ b. past_in b c.args.on.now.dt) c.in-None.is),
-  ),
-  search rules,
-)
+flow::flow_initial_out-flow-requires g t c κs within =
+    let same = passed_falls (initial_out (row_number c.args.c) (rows_in c.args.f.now)) (rows_in c.passed.result.now) (scope_of c.args.on.now.env.now)
+    (width_of (kept_of c.args.kept.now)) (past_in c.args.on.now.before c.args.on.now.dt) _ _ c.passed.ensures (ap (λ b. past_in b c.args.on.now.dt) c.in-Some.is) in
+    (omega (arith, c.decreases, same.0, same.1), search rules)
 
 pub flow::flow_initial_out-returns-in-Some : goal.flow::flow_initial_out-returns-in-Some
 flow::flow_initial_out-returns-in-Some g t c =
@@ -349,16 +344,10 @@ flow::flow_initial_out-returns-in_ok-call_into-in-None g t c =
     c.in_ok-call_into-in-None.ensures.called c.node.ensures
 
 pub flow::flow_initial_in-flow-requires : goal.flow::flow_initial_in-flow-requires
-flow::flow_initial_in-flow-requires g t c κs within = (
-  omega (
-    arith,
-    c.decreases,
-    level_most (rows_in c.args.f.now),
-    in_falls (row_number c.args.c) (rows_in c.args.f.now) (scope_of c.args.on.now.env.now) (width_of (kept_of c.args.kept.now))
-        (past_in c.args.on.now.before c.args.on.now.dt) (ap (λ b. past_in b c.args.on.now.dt) c.in-None.is),
-  ),
-  search rules,
-)
+flow::flow_initial_in-flow-requires g t c κs within =
+    let same = passed_falls (initial_in (row_number c.args.c) (rows_in c.args.f.now)) (rows_in c.passed.result.now) (scope_of c.args.on.now.env.now)
+    (width_of (kept_of c.args.kept.now)) (past_in c.args.on.now.before c.args.on.now.dt) _ _ c.passed.ensures (ap (λ b. past_in b c.args.on.now.dt) c.in-Some.is) in
+    (omega (arith, c.decreases, same.0, same.1), search rules)
 
 pub flow::flow_initial_in-returns-in-Some : goal.flow::flow_initial_in-returns-in-Some
 flow::flow_initial_in-returns-in-Some g t c =
@@ -390,7 +379,7 @@ flow::flow_late_restart-returns-in_ok-run_place-in-None g t c =
 pub flow::flow_late_restart-returns-in_ok-push-in-Ok-two : goal.flow::flow_late_restart-returns-in_ok-push-in-Ok-two
 flow::flow_late_restart-returns-in_ok-push-in-Ok-two g t c =
     late_cuts _ _ _ _ _ _ _ _ _ _ _ _ _ _ _ _ _ _ _ (sym c.restart_of.ensures ∙ ap restart_found c.in-Some.is) c.len-at.ensures c.in-Ok.ensures
-    c.in-Ok-two.ensures refl (c.in_ok-push-in-Ok-two.ensures ∙ ap (λ as'. as' ++ _ ∷ []) c.spare-place.ensures) c.node.ensures
+    c.in-Ok-two.ensures refl (c.in_ok-push-in-Ok-two.ensures ∙ ap (λ as'. as' ++ state_of c.start_under-two.new.place ∷ []) c.spare-place.ensures) c.node.ensures
 
 pub run::run_initial_out-returns-in_ok-call_into-in-None : goal.run::run_initial_out-returns-in_ok-call_into-in-None
 run::run_initial_out-returns-in_ok-call_into-in-None g t c =
@@ -408,25 +397,29 @@ collection::run_collection-returns-in_ok-put_list-in-Ok g t c =
     collection_runs _ _ _ _ _ _ _ _ _ _ _ _ _ _ _ _ c.requires c.end.ensures c.in-Ok.ensures c.in_ok-put_list-in-Ok.ensures c.node.ensures
 
 pub collection::run_turned-resume_each-visits-requires : goal.collection::run_turned-resume_each-visits-requires
-collection::run_turned-resume_each-visits-requires g t c κs within = (
-  omega (
-    arith,
-    c.decreases,
-    members_fall (g.R.Rows.keys c.args.on.now.rows.now) (map_networks row_number (members_of c.args.members.now)) (row_number c.args.choice.chooser)
-        (rows_in c.args.choice.starts.now) (scope_of c.args.on.now.env.now) (past_in c.args.on.now.before c.args.on.now.dt)
-        (Some (datum_of c.in-Some.sample.now, datum_of c.in-Some.value.now)) _ c.in_ok-all-in-Some.ensures,
-  ),
-  search rules,
-)
+collection::run_turned-resume_each-visits-requires g t c κs within =
+    let same = ap (λ fs. load (map frozen_of fs)) c.as_slice.ensures.value in (
+      omega (
+        arith,
+        c.decreases,
+        same,
+        members_fall (g.R.Rows.keys c.args.on.now.rows.now) (map_networks row_number (members_of c.args.members.now)) (row_number c.args.choice.chooser)
+            (rows_in c.args.choice.starts.now) (scope_of c.args.on.now.env.now) (past_in c.args.on.now.before c.args.on.now.dt)
+            (Some (datum_of c.in-Some.sample.now, datum_of c.in-Some.value.now)) _ c.in_ok-all-in-Some.ensures,
+      ),
+      search rules,
+    )
 
 pub collection::run_turned-resume_each-visits-requires-in-None-before : goal.collection::run_turned-resume_each-visits-requires-in-None-before
 collection::run_turned-resume_each-visits-requires-in-None-before g t c κs within =
     let fs = map_networks row_number (members_of c.args.members.now) in
     let s = scope_of c.args.on.now.env.now in
-    let p = past_in c.args.on.now.before c.args.on.now.dt in (
+    let p = past_in c.args.on.now.before c.args.on.now.dt in
+    let same = ap (λ ms. load (map frozen_of ms)) c.as_slice-in-None-before.ensures.value in (
       omega (
         arith,
         c.decreases,
+        same,
         members_fall (g.R.Rows.keys c.args.on.now.rows.now) fs (row_number c.args.choice.chooser) (rows_in c.args.choice.starts.now) s p None _
             (c.in_ok-all-in-None-before.ensures ∙ first_before fs s p (ap (λ b. past_in b c.args.on.now.dt) c.in-None-before.is)),
       ),
@@ -442,20 +435,24 @@ collection::run_turned-step_each-requires g t c κs within =
         arith,
         c.decreases,
         members_fall (g.R.Rows.keys c.args.on.now.rows.now) fs (row_number c.args.choice.chooser) (rows_in c.args.choice.starts.now) s p None _
-            (before_listed fs s p _ c.args.on.now.dt _ (ap (λ b. past_in b c.args.on.now.dt) c.in-Some-before.is) c.as_slice.ensures),
+            (before_listed fs s p _ c.args.on.now.dt _ (ap (λ b. past_in b c.args.on.now.dt) c.in-Some-before.is) c.as_slice-in-Some-before.ensures),
       ),
       search rules,
     )
 
 pub collection::run_turned-returns-in_ok-all-in-Some : goal.collection::run_turned-returns-in_ok-all-in-Some
 collection::run_turned-returns-in_ok-all-in-Some g t c =
+    let s = scope_of c.args.on.now.env.now in
+    let before = members_before (map_networks row_number (members_of c.args.members.now)) s (past_in c.args.on.now.before c.args.on.now.dt) in
+    let chosen = subst (λ fs. IsChosen (g.R.Rows.keys c.args.on.now.rows.now) (row_number c.args.choice.chooser) (rows_in c.args.choice.starts.now) s before
+    (datum_of c.in-Some.value.now) (map frozen_of fs)) (sym c.as_slice.ensures.value) c.in_ok-all-in-Some.ensures in
     if_ok c.resume_each-visits.result _ _ (λ n h. turned_event _ _ _ _ _ _ _ _ _ _ _ _ _ n (sym c.restart_of.ensures ∙ ap restart_found c.in-Some.is)
-    c.in_ok-all-in-Some.ensures h) c.resume_each-visits.ensures
+    chosen h) c.resume_each-visits.ensures
 
 pub collection::run_turned-returns-in-Some-before : goal.collection::run_turned-returns-in-Some-before
 collection::run_turned-returns-in-Some-before g t c =
     if_ok c.step_each.result _ _ (λ n h. turned_none _ _ _ _ _ _ _ _ _ _ _ _ n (sym c.restart_of.ensures ∙ ap restart_found c.in-None.is) c.first.ensures
-    (before_listed _ _ _ _ c.args.on.now.dt _ (ap (λ b. past_in b c.args.on.now.dt) c.in-Some-before.is) c.as_slice.ensures) h) c.step_each.ensures
+    (before_listed _ _ _ _ c.args.on.now.dt _ (ap (λ b. past_in b c.args.on.now.dt) c.in-Some-before.is) c.as_slice-in-Some-before.ensures) h) c.step_each.ensures
 
 pub collection::resume_each-resume_place-requires : goal.collection::resume_each-resume_place-requires
 collection::resume_each-resume_place-requires g t c κs within = (

@@ -3,6 +3,7 @@ use Rattle.net_text.specs.Grammar.{Version, networks}
 use Rattle.net_text.proofs.Carried.{meaning_same}
 use Rattle.net_text.proofs.NetProper.{networks_proper}
 use Rattle.net_text.proofs.OlderNetworks.{older_network}
+use Rattle.net_text.proofs.NothingNew.{nothing_is_new}
 use Rattle.net_text.proofs.laws.reading_laws.Goals as goal
 
 pub returns : goal.returns
@@ -16,4 +17,5 @@ returns c =
       one_fault = λ v. (l v).one_fault;
       leaves = meaning_same;
       older = older_network;
+      nothing_new = nothing_is_new;
     }
