@@ -7,7 +7,7 @@ pub const PROGRAM: &str = "Checks and runs networks of signal functions.";
 pub const VERSION: &str = "\
 2.0
 language 2, and 1
-proved with rattle-kit-13b and rattle-kit-13f, logic dac8208d650f15bf";
+proved with rattle-kit-13b, logic dac8208d650f15bf";
 
 /// What help on the program ends with.
 pub const PROGRAM_MORE: &str = "\
