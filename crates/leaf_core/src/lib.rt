@@ -1,5 +1,15 @@
 //! Expressions: their trees, types, values and shapes, and the keys that closures are found by.
 //! `leaf_expr` passes on all that is asked of a whole expression, beside its text.
+//!
+//!     let ty = type_of_expr(alloc, &params, &input, &expr)?;
+//!     let value = eval(alloc, &expr, &values, &sample)?;
+//!
+//! Contracts see an `Expr` as an `Expression` (`expression_of`). `eval` answers its value
+//! (`value_of`), which every expression has; `type_of_expr` a type exactly where the expression
+//! has it within the limits, else the first fault of the walk. That a typed expression has values
+//! of its type is `typing_laws`.
+//!
+//! First `specs/Expression` and `ExpressionValue`, then `src/expr.rt`, `src/evaluation.rt`.
 #![tactic(auto)]
 
 mod equal;

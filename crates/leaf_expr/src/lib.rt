@@ -1,5 +1,15 @@
 //! Expressions: the total functions that networks are built over. Their trees, types and values
-//! come from `leaf_core`; here are their texts.
+//! come from `leaf_core`; here are their texts: tokens, the grammar, readers and printing.
+//!
+//!     let expr = read_expr(alloc, b"(add x 1)")?;
+//!     let text = print_expr(alloc, &expr)?;
+//!
+//! `read_expr` answers the expression exactly where the text is one (`IsText`), and else the first
+//! token that doesn't fit, with its byte. What is printed is read back within the limits of texts
+//! (`printing_laws`); shorter ways mean longer expressions (`sugar_laws`).
+//!
+//! First `specs/Grammar`, a row for each word, then `src/expr_reader.rt`; a form's word and what
+//! it makes stand in `src/form.rt`.
 #![tactic(auto)]
 
 mod expr_reader;

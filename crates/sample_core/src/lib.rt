@@ -1,4 +1,14 @@
-//! Values and their types: what every sample of a stream is made of.
+//! Values and their types: what every sample of a stream is made of; the one spelling of each, and
+//! reading a value off the front of bytes.
+//!
+//!     let (value, length) = read_value(alloc, b"(pair 5 true)", &ty)?;
+//!     let text = print_value(alloc, &value)?;
+//!
+//! Contracts see a `Sample` as a `Datum` (`datum_of`) and a `Ty` as a `TypeTree` (`type_of`).
+//! `read_value` answers exactly the value whose spelling stands in front, and else the leftmost
+//! fault; `print_value` answers the one spelling, which is read back. Copies share their parts.
+//!
+//! First `specs/Datum`, `TypeTree` and `HasType`, then `src/sample.rt`; reading is `src/read.rt`.
 #![tactic(auto)]
 
 mod equal;

@@ -1,5 +1,15 @@
-//! Streams: their samples from any reader, piece by piece, and readers and writers that count their
-//! failures.
+//! Streams: their samples from any reader, piece by piece, and readers and writers that count
+//! their failures.
+//!
+//!     let mut lines = LineReader::new(alloc, Counted::new(reader))?;
+//!     while let Some((step, value)) = lines.next(&ty)? { .. }
+//!
+//! What a text holds is `samples`. Successive calls of `next` answer these in order, whatever the
+//! pieces; `None` where there is no line more; a line's fault where it has one. A line is read as
+//! soon as what was read settles it. `Read` comes only where the reader's failures rose.
+//!
+//! First `specs/StreamText`, which says what a line holds, then `src/reader.rt`; faults are
+//! `src/fault.rt` and `specs/LineFaults`, devices `src/device.rt`.
 #![tactic(auto)]
 
 mod device;
