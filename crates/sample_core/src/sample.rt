@@ -303,7 +303,7 @@ impl Sample {
     }
 
     /// Puts a copy of a value in the place of this one: of a number at once. It takes no memory;
-    /// `Memory` only where a count of references is full.
+    /// `Memory` only where a count of references is full. After a refusal this value stays.
     #[inline(always)]
     pub fn put_copy(&mut self, alloc: Global, value: &Sample) -> Result<(), Memory>
         ensures { OnOk result (datum_of self.new ≡ datum_of value.now) }
@@ -340,7 +340,7 @@ impl Sample {
     }
 
     /// Puts the list of the values in the place of this one: in its memory, where that is a list that
-    /// no one else holds. `Memory` where a growth was refused.
+    /// no one else holds. `Memory` where a growth was refused; this value stays then.
     #[inline(always)]
     pub fn put_list(&mut self, alloc: Global, all: Vec<Sample>) -> Result<(), Memory>
         ensures { OnOk result (datum_of self.new ≡ list (list_of (map datum_of all.items))) }
