@@ -1,5 +1,14 @@
-//! The laws of expressions: what each makes of an expression, forward and backward, and that it
-//! keeps the expression's value and type.
+//! The laws of expressions, E1 to E18: what each makes of an expression, forward and backward, and
+//! that it keeps the expression's value and type.
+//!
+//!     let right = apply_expr(alloc, law, Direction::Forward, &expr, None)?;
+//!
+//! The rows are `ExpressionRow`, in words that are read aloud; `apply_expr` answers exactly what
+//! the law's row allows: forward the right side, backward the tree that is given, where the row
+//! leads from it to exactly the tree at hand. Each row keeps the type and the value of a typed
+//! left side (`row_laws`), whatever it is put into (`answer_laws`).
+//!
+//! First `specs/Rows`, then `src/table.rt`, the rows as data, and `src/apply.rt`.
 #![tactic(auto)]
 
 mod apply;

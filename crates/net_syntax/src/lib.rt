@@ -1,4 +1,16 @@
 //! Networks: their trees, what they denote, when they are typed, and the laws of every network.
+//!
+//!     let weight = weight(alloc, &net)?;
+//!     let below = at(&net, &position);
+//!     let needs = leaves(alloc, &typed)?;
+//!
+//! Contracts see a `Net` as a `Network` (`tree_of`). What it outputs is `meaning`, one line a
+//! form; `stream_of` is that with nothing in scope. `weight`, `height`, `at`, `replace`, `type_at`
+//! and `leaves` answer what the definitions of these names say. Each network outputs once a sample
+//! and never looks ahead (`stream_laws`); typed ones output typed values (`typing_laws`); what
+//! does the same may stand for what stood at a position (`replacing_laws`).
+//!
+//! First `specs/SignalFunction` and `Meaning`, then `specs/Typing`, then `src/net.rt`.
 #![tactic(auto)]
 
 mod arrow;

@@ -1,4 +1,15 @@
 //! Texts of networks and of certificates: their files, read and printed.
+//!
+//!     let (input, net) = read_net(alloc, bytes)?;
+//!     let text = print_net(alloc, &input, &net)?;
+//!     let steps = read_cert(alloc, bytes)?;
+//!
+//! `read_net` answers the input type and the network exactly where the bytes are a network file
+//! (`IsFile`), and else the first token that doesn't fit, with its byte; `read_cert` the same of
+//! certificates. A print is read back within the limits of files.
+//!
+//! First `specs/Grammar`, a row for each word, then `src/network_reader.rt`; a form's word and
+//! what it makes stand in `src/form.rt`, certificates in `src/certificate_reader.rt`.
 #![tactic(auto)]
 
 mod certificate_reader;
