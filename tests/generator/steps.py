@@ -15,7 +15,7 @@ from model.laws import (
 )
 from model.texts import LAWS, NEW_LAWS, Step
 from model.trees import at, children, expanded, head, is_literal, is_network, preorder, replaced
-from model.typed import ExpressionFault, ExpressionWalk, Scope, check_types, event, is_form, list_of, pair
+from model.typed import WEIGHT, ExpressionFault, ExpressionWalk, Scope, check_types, event, is_form, list_of, pair, weight
 
 
 class LeftSides:
@@ -324,7 +324,9 @@ class StepMaker:
         self.network_growths = NETWORK_GROWTHS + ["L43", "L44", "L46"] * (maker.version == 2)
 
     def with_left_side(self, typed, law):
-        """A network with a left side of the law at a random place of this one, and the position of that side."""
+        """A network with a left side of the law at a random place of this one, and the position of that side.
+
+        Another place is taken where the side would make the network too heavy; at its top none does."""
         places = [place for place in typed.places.values() if is_network(place.tree) == (law[0] == "L")]
         if not places:
             return self.with_left_side(check_types(typed.input, seq(arr("x"), typed.places[()].tree)), law)
@@ -333,6 +335,8 @@ class StepMaker:
         into, tree, out = LeftSides(self.maker, place.scope).of(law, place.input, place.output)
         fitted, position = self.fitted(place, into, tree, out)
         net = replaced(typed.places[()].tree, place.position, fitted)
+        if weight(net) > WEIGHT:
+            return self.with_left_side(typed, law)
         return check_types(typed.input, net), place.position + position
 
     def nearly(self, typed, position):
@@ -343,7 +347,8 @@ class StepMaker:
                 place = typed.places[(*place.position, self.rng.randrange(len(children(place.tree))))]
         make = self.maker.network if is_network(place.tree) else self.maker.expression
         other = expanded(make(place.input, place.output, place.scope, self.rng.choice([0, 1, 2, 2])))
-        return check_types(typed.input, replaced(typed.places[()].tree, place.position, other))
+        net = replaced(typed.places[()].tree, place.position, other)
+        return check_types(typed.input, net) if weight(net) <= WEIGHT else self.nearly(typed, position)
 
     def fitted(self, place, into, tree, out):
         """The tree with the types of the place, and the tree's position in that."""
