@@ -7,7 +7,7 @@ from model.texts import LINE_BYTES, ValueFault, ValueReader
 from model.trees import at, child_places, children, head, is_network, part_at, replaced, shown
 from model.typed import ExpressionFault, ExpressionWalk, NetworkWalk, Scope, TypeFault, check_types
 from workbench.laws import LAWS, difference
-from workbench.source import SyntaxFault, core, excerpt, place, plain, read_file, read_steps
+from workbench.source import SyntaxFault, core, excerpt, place, read_file, read_steps
 
 ROLES = ("network", "source", "target", "certificate")
 

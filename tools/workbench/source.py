@@ -13,8 +13,6 @@ from model.trees import (
     NETWORK_SUGAR_WORDS,
     NETWORK_WORDS,
     NUMBERS,
-    TYPE_FORMS,
-    TYPE_WORDS,
     expanded_form,
     expanded_word,
 )
