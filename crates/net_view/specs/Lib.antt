@@ -1,0 +1,1 @@
+-- What is listed of a network, and its texts, a file a line.

@@ -1,0 +1,11 @@
+//! Views of a typed network: what stands where, which steps may be taken, what steps lead to.
+//!
+//!     let rows = outline(alloc, &net)?;
+//!     let steps = possible_steps(alloc, &net, &position)?;
+//!
+//! `outline` answers a row for each position that is there, in preorder, with what `type_at` and
+//! `weight` say (`IsOutline`). `possible_steps` answers exactly the steps forward at or below a
+//! position that a check would accept, with what then stands there (`ArePossible`).
+//!
+//! First `specs/Listed`, then `src/positions.rt`, which finds the positions.
+#![tactic(auto)]
