@@ -3,3 +3,4 @@ pub mod Sound
 pub mod OneAnswer
 pub mod FewBound
 pub mod Taken
+pub mod StandsNow

@@ -1,9 +1,10 @@
 -- What is known of a check as its steps are taken.
-use Rattle.std.proofs.Common.{◌≡◌, ℕ, suc, ◌+◌, ◌<◌, List, [], ◌∷◌, ◌++◌, length, map, take, drop, get_or, Result, Ok, Err, Some, None, sym, ap, ◌∙◌, subst, arith, add-one}
+use Rattle.std.proofs.Common.{◌≡◌, ℕ, suc, ◌+◌, ◌<◌, List, [], ◌∷◌, ◌++◌, length, map, take, drop, get_or, Result, Ok, Err, Some, None, refl, sym, ap, ◌∙◌, subst, arith, add-one}
 use Rattle.std.specs.Result.{IsErrAnd}
 use Rattle.std.proofs.Math.Seq.{take-suc, drop-cons}
 use Rattle.std.proofs.lemmas.List.{take-append-drop, map-append, length-map, length-take}
 use Rattle.net_syntax.specs.TypedNetwork.{TypedNetwork, HasItsTypes}
+use Rattle.net_syntax.specs.NetworkLimits.{WithinLimits}
 use Rattle.net_syntax.specs.Place.{a_network}
 use Rattle.net_syntax.specs.Placed.{Placed, placed_at}
 use Rattle.net_syntax.specs.LawStep.{Step, step_of, part_of}
@@ -13,6 +14,7 @@ use Rattle.cert_check.specs.declared.answer.CheckFault.{CheckFault}
 use Rattle.cert_check.specs.declared.answer.CheckFault.TheVariants.{InputsDiffer, TooManySteps, NoPosition, NoMatch, IllTyped, EndsElsewhere, Memory}
 use Rattle.cert_check.specs.Derives.{Answered, Next, Steps, no_step, step_then}
 use Rattle.cert_check.specs.CheckAnswer.{NowhereIn, Unmatched, Untyped, FirstFails, Begins, CheckAnswer}
+use Rattle.cert_check.specs.Laws.{AppliedLaw}
 use Rattle.cert_check.specs.StepAnswers.{IsTreeAnswer, StepAnswer, StepsAnswer}
 use Rattle.std.specs.Prelude.{OnOk}
 use Rattle.net_syntax.specs.AlikeEnvironments.{SameOutputs}
@@ -25,13 +27,14 @@ steps_more t u v ss s no_step x = step_then x no_step
 steps_more t u v ss s (step_then {u = w} {ss = rest} y ys) x = step_then y (steps_more w u v rest s ys x)
 
 -- the steps before, at and behind a place of the list
-split : (xs : List LawStep) (i : ℕ) (x : LawStep) → i < length xs → x ≡ get_or xs i x
+pub split : (xs : List LawStep) (i : ℕ) (x : LawStep) → i < length xs → x ≡ get_or xs i x
     → map step_of xs ≡ map step_of (take i xs) ++ step_of x ∷ map step_of (drop (suc i) xs)
 split xs i x h e =
     ap (map step_of) (sym (take-append-drop i xs) ∙ ap (λ ys. take i xs ++ ys) (drop-cons xs i x h ∙ ap (λ y. y ∷ drop (suc i) xs) (sym e)))
     ∙ map-append step_of (take i xs) (x ∷ drop (suc i) xs)
 
-one_more : (xs : List LawStep) (i : ℕ) (x : LawStep) → i < length xs → x ≡ get_or xs i x
+-- one step more is taken from the list
+pub one_more : (xs : List LawStep) (i : ℕ) (x : LawStep) → i < length xs → x ≡ get_or xs i x
     → map step_of (take (i + 1) xs) ≡ map step_of (take i xs) ++ step_of x ∷ []
 one_more xs i x h e =
     ap (λ n. map step_of (take n xs)) (add-one i) ∙ ap (map step_of) (take-suc xs i x h ∙ ap (λ y. take i xs ++ y ∷ []) (sym e))
@@ -59,13 +62,13 @@ first_of_all F t u xs i x n k h e s hn hk f = record {
 pub fault_first : (A : Type 0) (t u v w : TypedNetwork) (xs : List LawStep) (i : ℕ) (x : LawStep) (n : ℕ) (fault : CheckFault) → i < length xs
     → x ≡ get_or xs i x → Steps t (map step_of (take i xs)) u → n ≡ i + 1 → StepAnswer {A = A} u (step_of x) n v (Err fault)
     → StepsAnswer t (map step_of xs) w (Err fault)
-fault_first A t u v w xs i x n (NoPosition k) h e s hn a = first_of_all NowhereIn t u xs i x n k h e s hn a.0 a.1
-fault_first A t u v w xs i x n (NoMatch k) h e s hn a = first_of_all Unmatched t u xs i x n k h e s hn a.0 a.1
-fault_first A t u v w xs i x n (IllTyped k) h e s hn a = first_of_all Untyped t u xs i x n k h e s hn a.0 a.1
+fault_first A t u v w xs i x n (NoPosition k) h e s hn a = first_of_all NowhereIn t u xs i x n k h e s hn a.0.0 a.0.1
+fault_first A t u v w xs i x n (NoMatch k) h e s hn a = first_of_all Unmatched t u xs i x n k h e s hn a.0.0 a.0.1
+fault_first A t u v w xs i x n (IllTyped k) h e s hn a = first_of_all Untyped t u xs i x n k h e s hn a.0.0 a.0.1
 fault_first A t u v w xs i x n Memory h e s hn a = tt
-fault_first A t u v w xs i x n InputsDiffer h e s hn a = absurd a
-fault_first A t u v w xs i x n TooManySteps h e s hn a = absurd a
-fault_first A t u v w xs i x n EndsElsewhere h e s hn a = absurd a
+fault_first A t u v w xs i x n InputsDiffer h e s hn a = absurd a.0
+fault_first A t u v w xs i x n TooManySteps h e s hn a = absurd a.0
+fault_first A t u v w xs i x n EndsElsewhere h e s hn a = absurd a.0
 
 -- a fault of the steps is one of the whole
 pub fault_of_all : (t target u : TypedNetwork) (ss : List Step) (fault : CheckFault) → Begins t target ss → StepsAnswer t ss u (Err fault)
@@ -80,11 +83,11 @@ fault_of_all t target u ss EndsElsewhere b a = absurd a
 
 -- what the law answers at a place that was found
 pub answered_there : (t : TypedNetwork) (s : Step) (p : Placed) (new : C.Tree) → placed_at 0 0 (a_network t.net) s.position ≡ Some p
-    → IsTreeAnswer p.olds s p.tree (Some new) → Answered t s (part_of new)
+    → IsTreeAnswer p.olds s.law s.direction p.tree s.given (Some new) → Answered t s (part_of new)
 answered_there t s p new f a = record { place = p; found = f; answered = a }
 
 pub unmatched_there : (t : TypedNetwork) (s : Step) (p : Placed) → placed_at 0 0 (a_network t.net) s.position ≡ Some p
-    → IsTreeAnswer p.olds s p.tree None → Unmatched t s
+    → IsTreeAnswer p.olds s.law s.direction p.tree s.given None → Unmatched t s
 unmatched_there t s p f a = record { place = p; found = f; no_answer = a }
 
 -- what a `?` returns
@@ -102,3 +105,15 @@ pub accepted_same : (source target : TypedNetwork) (ss : List Step) (r : Result 
     → OnOk r (SameOutputs [] [] source.input source.net target.net)
 accepted_same source target ss (Ok n) h x = derives_same source target ss h x.0
 accepted_same source target ss (Err fault) h x = tt
+
+-- steps keep the input type, and what they lead to is within the limits
+pub led : (t : TypedNetwork) (ss : List Step) (u : TypedNetwork) → WithinLimits t → Steps t ss u → (u.input ≡ t.input) × WithinLimits u
+led t ss u limits no_step = (refl, limits)
+led t ss u limits (step_then {u = next} {ss = more} x xs) =
+    let behind = led next more u x.rewritten.within xs in (behind.0 ∙ x.rewritten.same_input, behind.1)
+
+-- what they lead to is derived by them
+pub applied : AppliedLaw
+applied source last ss x limits =
+    let there = led source ss last limits x.1 in
+    (record { same_input = sym there.0; few = x.0; last = last; leads = x.1; ends = refl }, there.1)

@@ -1,5 +1,5 @@
 -- What a step makes of a typed network, and what steps derive.
-use Rattle.std.specs.Prelude.{◌≡◌, ◌≤◌, List, [], ◌∷◌, length, Some}
+use Rattle.std.specs.Prelude.{◌≡◌, ℕ, ◌≤◌, List, [], ◌∷◌, length, Option, Some, option_map}
 use Rattle.leaf_core.specs.Expression.{Expression}
 use Rattle.net_syntax.specs.Place.{Tree, a_network}
 use Rattle.net_syntax.specs.Placed.{Placed, placed_at}
@@ -7,6 +7,10 @@ use Rattle.net_syntax.specs.Rewriting.{Rewrites}
 use Rattle.net_syntax.specs.LawStep.{Step}
 use Rattle.net_syntax.specs.TypedNetwork.{TypedNetwork}
 use Rattle.cert_check.specs.TreeAnswer.{TreeAnswer}
+
+-- what stands at a position of a typed network, if the position is there
+abbrev pub tree_at : TypedNetwork → List ℕ → Option (Tree Expression)
+tree_at t p = option_map (λ c. c.tree) (placed_at 0 0 (a_network t.net) p)
 
 -- the step's law answers `new` at the step's position in t
 pub record Answered (t : TypedNetwork) (s : Step) (new : Tree Expression) : Type 0 where

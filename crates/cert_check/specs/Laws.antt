@@ -1,15 +1,17 @@
 -- What is to hold of certificates.
-use Rattle.std.specs.Prelude.{◌≡◌, List, [], Result, Err}
+use Rattle.std.specs.Prelude.{◌≡◌, List, [], Some, Result, Ok, Err}
 use Rattle.net_syntax.specs.SignalFunction.{TimedList}
 use Rattle.net_syntax.specs.Typing.{TypedSamples}
 use Rattle.net_syntax.specs.TypedNetwork.{TypedNetwork, HasItsTypes, stream_of}
+use Rattle.net_syntax.specs.NetworkLimits.{WithinLimits}
 use Rattle.net_syntax.specs.AlikeEnvironments.{SameOutputs}
 use Rattle.net_syntax.specs.LawStep.{Step}
 use Rattle.cert_check.specs.declared.answer.Accepted.{Accepted}
 use Rattle.cert_check.specs.declared.answer.CheckFault.{CheckFault}
 use Rattle.cert_check.specs.declared.answer.CheckFault.TheVariants.{Memory}
-use Rattle.cert_check.specs.Derives.{Next, Derives}
+use Rattle.cert_check.specs.Derives.{Next, Derives, tree_at}
 use Rattle.cert_check.specs.CheckAnswer.{CheckAnswer}
+use Rattle.cert_check.specs.StepAnswers.{ApplyAnswer}
 
 -- a network that is derived from another outputs the same in alike environments
 abbrev pub SameLaw : Type 0
@@ -28,6 +30,17 @@ abbrev pub KeptTypesLaw : Type 0
 KeptTypesLaw = (source target : TypedNetwork) (steps : List Step)
     → HasItsTypes source → HasItsTypes target → Derives source target steps
     → (source.input ≡ target.input) × (source.output ≡ target.output)
+
+-- what at most 10,000 steps lead to, as `apply_steps` answers it, is derived by them, and within the
+-- limits where the source is
+abbrev pub AppliedLaw : Type 0
+AppliedLaw = (source last : TypedNetwork) (steps : List Step) → ApplyAnswer source steps (Ok last)
+    → WithinLimits source → Derives source last steps × WithinLimits last
+
+-- where a step led, its law's answer stands at the step's position
+abbrev pub AnswerStandsLaw : Type 0
+AnswerStandsLaw = (t u : TypedNetwork) (s : Step) (x : Next t s u)
+    → tree_at u s.position ≡ Some x.new
 
 -- a step leads from a network to at most one other
 abbrev pub OneNextLaw : Type 0

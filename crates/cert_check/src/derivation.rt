@@ -4,7 +4,7 @@ ghost use Rattle.std.specs.Prelude.{◌≡◌, ◌≤◌, [], length, map, OnOk}
 ghost use Rattle.net_syntax.specs.AlikeEnvironments.{SameOutputs};
 ghost use Rattle.net_syntax.specs.LawStep.{step_of};
 ghost use Rattle.cert_check.specs.CheckAnswer.{Begins, CheckAnswer};
-ghost use Rattle.cert_check.specs.StepAnswers.{StepsAnswer};
+ghost use Rattle.cert_check.specs.StepAnswers.{ApplyAnswer, StepsAnswer};
 
 use crate::answer::{Accepted, CheckFault};
 use crate::step::take_step;
@@ -45,6 +45,25 @@ pub fn check(
     // Both networks have their types.
     let (_from, _to) = (source.net(), target.net());
     derive(alloc, &mut reached, target, steps)
+}
+
+/// The network that the steps lead to from the source, one after the other.
+///
+/// `TooManySteps` for more than 10,000 steps, without taking memory; then the first fault of a step,
+/// as of `check`. `Memory` where a growth was refused.
+pub fn apply_steps(
+    alloc: Global,
+    source: &TypedNet,
+    steps: &[LawStep],
+) -> Result<TypedNet, CheckFault>
+    ensures { ApplyAnswer source.now (map step_of steps.now) result }
+{
+    if steps.len() > MOST_STEPS {
+        return Err(CheckFault::TooManySteps);
+    }
+    let mut reached = source.try_copy(alloc)?;
+    take_steps(alloc, &mut reached, steps)?;
+    Ok(reached)
 }
 
 /// Whether the steps lead from the network to the target's; the network is left where they led.

@@ -6,6 +6,8 @@ ghost use Rattle.cert_check.specs.Laws.{
   KeptTypesLaw,
   OneNextLaw,
   OneAnswerLaw,
+  AppliedLaw,
+  AnswerStandsLaw,
 };
 
 /// What is derived from a network has its types and outputs the same: in alike environments, and
@@ -22,4 +24,11 @@ pub fn derivation_laws()
 pub fn one_answer_laws()
     ensures one_next { OneNextLaw }
     ensures one_answer { OneAnswerLaw }
+{}
+
+/// What `apply_steps` answers is derived by the steps, so a check of it as the target accepts them;
+/// and behind each step its law's answer stands at its position.
+pub fn applied_laws()
+    ensures applied { AppliedLaw }
+    ensures stands { AnswerStandsLaw }
 {}
