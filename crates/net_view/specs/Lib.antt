@@ -1,1 +1,2 @@
 -- What is listed of a network, and its texts, a file a line.
+pub mod Trace

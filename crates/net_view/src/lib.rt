@@ -9,3 +9,7 @@
 //!
 //! First `specs/Listed`, then `src/positions.rt`, which finds the positions.
 #![tactic(auto)]
+
+mod trace;
+
+pub use trace::{Change, Stop, Trace, first_steps, trace_steps};
