@@ -1,0 +1,4 @@
+pub mod Restored
+pub mod PutBack
+pub mod Undone
+pub mod Leading

@@ -1,0 +1,4 @@
+-- Edits of networks: drafts, and steps undone.
+pub mod Drafted
+pub mod Undoing
+pub mod Laws
