@@ -2,3 +2,4 @@ pub mod Beside
 pub mod Tried
 pub mod Insides
 pub mod Walked
+pub mod OneOptimised

@@ -95,11 +95,11 @@ taken_leaf t v p j e r s stands row tried is w = subst (λ s. Takes t s v) (sym 
 })
 
 -- at a network no law of expressions matches, at an expression none of networks
-no_kind_net : (olds n : ℕ) (f : Network Expression) (new : Tree Expression) → TreeAnswer olds (L.E n) Forward (a_network f) None new → ⊥
+pub no_kind_net : (olds n : ℕ) (f : Network Expression) (new : Tree Expression) → TreeAnswer olds (L.E n) Forward (a_network f) None new → ⊥
 no_kind_net olds n f (a_network r) a = elim a [ ]
 no_kind_net olds n f (a_leaf r) a = absurd a
 
-no_kind_leaf : (olds n : ℕ) (e : Expression) (new : Tree Expression) → TreeAnswer olds (L.L n) Forward (a_leaf e) None new → ⊥
+pub no_kind_leaf : (olds n : ℕ) (e : Expression) (new : Tree Expression) → TreeAnswer olds (L.L n) Forward (a_leaf e) None new → ⊥
 no_kind_leaf olds n e (a_leaf r) a = elim a [ ]
 no_kind_leaf olds n e (a_network r) a = absurd a
 

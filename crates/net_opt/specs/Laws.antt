@@ -1,5 +1,7 @@
 -- What is to hold of the optimiser.
 use Rattle.std.specs.Prelude.{◌≡◌, List}
+use Rattle.leaf_core.specs.Expression.{Expression}
+use Rattle.net_syntax.specs.Network.{Network}
 use Rattle.net_syntax.specs.TypedNetwork.{TypedNetwork}
 use Rattle.net_syntax.specs.LawStep.{Step}
 use Rattle.cert_check.specs.Derives.{Derives}
@@ -9,3 +11,8 @@ use Rattle.net_opt.specs.Optimising.{Optimised}
 abbrev pub DerivesLaw : Type 0
 DerivesLaw = (source target : TypedNetwork) (steps : List Step)
     → Optimised source target.net steps → source.input ≡ target.input → Derives source target steps
+
+-- a network is optimised to one network, by one list of steps
+abbrev pub OneOptimisedLaw : Type 0
+OneOptimisedLaw = (t : TypedNetwork) (f g : Network Expression) (ss us : List Step)
+    → Optimised t f ss → Optimised t g us → (f ≡ g) × (ss ≡ us)

@@ -1,8 +1,10 @@
 // Laws of the optimiser: each function is a law, and does nothing.
 
-ghost use Rattle.net_opt.specs.Laws.{DerivesLaw};
+ghost use Rattle.net_opt.specs.Laws.{DerivesLaw, OneOptimisedLaw};
 
-/// The steps derive the answer, so a check of them accepts it.
+/// The steps derive the answer, so a check of them accepts it. There is one answer: two runs of the
+/// optimiser on one network take the same steps to the same network.
 pub fn optimised_laws()
-    ensures { DerivesLaw }
+    ensures derives { DerivesLaw }
+    ensures one { OneOptimisedLaw }
 {}
