@@ -26,7 +26,8 @@ use std::io::{self, BufReader, ErrorKind, Write};
 use std::process::ExitCode;
 use streams::{Input, Output, Printer, ROOM, give_held, has_failed};
 use yampa_run::{
-    Counted, Job, Refusal, RunFault, fault_line, fill_table, prepare, run_network, table_refusal,
+    Counted, Job, Refusal, RunFault, RunReport, fault_line, fill_table, prepare, run_network,
+    run_status, table_refusal,
 };
 
 fn main(rt: HostRuntime) -> ExitCode {
@@ -141,13 +142,18 @@ fn run_printed(
     let status = if !given || has_failed(output) {
         refuse_output(rt)
     } else {
-        match &ended {
-            Ok(_) => 0,
-            Err(refusal) => refuse(rt, refusal),
-        }
+        end_run(rt, &ended)
     };
     drop(ended);
     status
+}
+
+/// Prints why a run stopped, where it was refused. Answers the exit status.
+fn end_run(rt: &HostRuntime, ended: &Result<RunReport, Refusal>) -> u8 {
+    if let Err(refusal) = ended {
+        refuse(rt, refusal);
+    }
+    run_status(ended)
 }
 
 /// Prints the text on standard output. Answers the exit status.

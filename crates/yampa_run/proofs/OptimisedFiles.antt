@@ -1,12 +1,14 @@
--- What the command `optimise` prints is read back, and derives what is printed.
-use Rattle.std.proofs.Common.{◌≡◌, ℕ, Bool, true, false, List, [], ◌∷◌, refl, sym, ap, ◌∙◌, subst, arith}
+-- What two runs of the command `optimise` print of one file is read back, and derives what is printed.
+use Rattle.std.proofs.Common.{◌≡◌, ℕ, Bool, true, false, List, [], ◌∷◌, Option, Some, refl, sym, ap, ◌∙◌, subst, arith}
 use Rattle.std.specs.List.{All, Contains, list_all}
 use Rattle.std.proofs.lemmas.Bool.{leb-true}
 use Rattle.std.proofs.lemmas.List.Elements.{All-head, All-tail}
 use Rattle.std.proofs.lemmas.List.Folds.{list_all_at}
 use Rattle.std.proofs.Math.Dec.{leb}
 use Rattle.leaf_expr.specs.Sexpr.{depths}
+use Rattle.leaf_core.specs.Expression.{Expression}
 use Rattle.net_syntax.specs.LawStep.{Step}
+use Rattle.net_syntax.specs.Network.{Network}
 use Rattle.net_syntax.specs.NetworkLimits.{WithinLimits}
 use Rattle.net_syntax.specs.TypedNetwork.{TypedNetwork}
 use Rattle.net_syntax.specs.declared.law_step.Law.{Law}
@@ -16,10 +18,12 @@ use Rattle.net_text.specs.CertificatePrinting.{ChildrenFit, GivenFits, IsLaw, Pr
 use Rattle.net_text.specs.FileLaws.{IsFile, PrintedFileLaw}
 use Rattle.net_text.specs.Printing.{file_spelling}
 use Rattle.cert_check.specs.Derives.{Steps, no_step, step_then}
-use Rattle.net_opt.specs.Laws.{DerivesLaw}
+use Rattle.net_opt.specs.Laws.{DerivesLaw, OneOptimisedLaw}
 use Rattle.net_opt.specs.Optimising.{IsTried, MayTake, Optimised, expression_laws, network_laws}
-use Rattle.yampa_run.specs.OptimisedFiles.{OptimisedFilesLaw}
-use Rattle.yampa_run.specs.Preparation.{AreStepsOf, IsNetworkOf}
+use Rattle.command_line.specs.CommandLine.{DerivationNames}
+use Rattle.yampa_run.specs.OptimisedFiles.{DerivesOptimised, FitFiles, OptimisedFilesLaw}
+use Rattle.yampa_run.specs.Preparation.{AreStepsOf, IsNetworkIn, IsNetworkOf, IsTold, KnownFiles}
+use Rattle.yampa_run.proofs.Refusals.{one_of_file}
 
 -- a test that each number of a list passes is passed by one that stands in it
 passes : (test : ℕ → Bool) (ns : List ℕ) (n : ℕ) → list_all test ns ≡ true → Contains ns n → test n ≡ true
@@ -60,14 +64,18 @@ led t ss u limits no_step = (refl, limits)
 led t ss u limits (step_then {u = next} {ss = more} x xs) =
     let behind = led next more u x.rewritten.within xs in (behind.0 ∙ x.rewritten.same_input, behind.1)
 
-pub optimised_files : PrintedFileLaw → PrintedCertificateLaw → DerivesLaw → OptimisedFilesLaw
-optimised_files nets certificates derives told names source net steps held fit =
-    let target : TypedNetwork = held.optimised.last in
-    let ends : target.net ≡ net = held.optimised.ends in
-    let there = led source steps target held.source_is.typed held.optimised.exhausts.lead in
+-- files that hold a source, its optimised network and the steps that lead there hold a derivation
+derives_files : PrintedFileLaw → PrintedCertificateLaw → DerivesLaw → (told : KnownFiles) (names : DerivationNames) (source : TypedNetwork)
+    (net : Network Expression) (steps : List Step) → IsNetworkOf (told names.source) source → WithinLimits source → Optimised source net steps
+    → told names.target ≡ Some (file_spelling source.input net) → told names.certificate ≡ Some (certificate_spelling steps)
+    → FitFiles source.input net steps → DerivesOptimised told names net steps
+derives_files nets certificates derives told names source net steps network typed optimised target_told steps_told fit =
+    let target : TypedNetwork = optimised.last in
+    let ends : target.net ≡ net = optimised.ends in
+    let there = led source steps target typed optimised.exhausts.lead in
     let printed : IsFile (file_spelling source.input net) source.input net = nets source.input net fit.numbers fit.type_depth fit.net_depth fit.net_size in
     let listed : IsCertificate (certificate_spelling steps) steps =
-    certificates steps (steps_fit steps held.optimised.exhausts.may_be_taken fit.positions) fit.certificate_size in
+    certificates steps (steps_fit steps optimised.exhausts.may_be_taken fit.positions) fit.certificate_size in
     record {
       target = target;
       target_is = ends;
@@ -75,15 +83,32 @@ optimised_files nets certificates derives told names source net steps held fit =
         source = source;
         steps = steps;
         files = record {
-          is_source = subst (λ known. IsNetworkOf known source) (sym held.source_told) held.source_is;
-          is_target = subst (λ known. IsNetworkOf known target) (sym held.target_told) (record {
+          is_source = network;
+          is_target = subst (λ known. IsNetworkOf known target) (sym target_told) (record {
             file = subst (λ m. IsFile (file_spelling source.input net) target.input m) (sym ends)
                 (subst (λ A. IsFile (file_spelling source.input net) A net) (sym there.0) printed);
             typed = there.1;
           });
-          are_steps = subst (λ known. AreStepsOf known steps) (sym held.steps_told) listed;
+          are_steps = subst (λ known. AreStepsOf known steps) (sym steps_told) listed;
         };
-        derives = derives source target steps (subst (λ m. Optimised source m steps) (sym ends) held.optimised) (sym there.0);
+        derives = derives source target steps (subst (λ m. Optimised source m steps) (sym ends) optimised) (sym there.0);
         counted = refl;
       };
     }
+
+typed_of : (known : Option (List ℕ)) (t : TypedNetwork) → IsTold known → IsNetworkOf known t → WithinLimits t
+typed_of known t (bytes, e) n = let i : IsNetworkIn bytes t = subst (λ o. IsNetworkOf o t) e n in i.typed
+
+-- two runs on one file print of one answer
+pub optimised_files : PrintedFileLaw → PrintedCertificateLaw → DerivesLaw → OneOptimisedLaw → OptimisedFilesLaw
+optimised_files nets certificates derives one told names held fit =
+    let a = held.target in
+    let b = held.certificate in
+    let source : a.source ≡ b.source = one_of_file (told names.source) a.source b.source held.source_told a.network b.network in
+    let other : Optimised a.source b.prints.net b.prints.steps =
+    subst (λ t. Optimised t b.prints.net b.prints.steps) (sym source) b.prints.optimised in
+    let same : (a.prints.net ≡ b.prints.net) × (a.prints.steps ≡ b.prints.steps) =
+    one a.source a.prints.net b.prints.net a.prints.steps b.prints.steps a.prints.optimised other in
+    derives_files nets certificates derives told names a.source a.prints.net b.prints.steps a.network
+    (typed_of (told names.source) a.source held.source_told a.network) (subst (λ ss. Optimised a.source a.prints.net ss) same.1 a.prints.optimised)
+    (held.target_told ∙ ap Some a.prints.printed) (held.certificate_told ∙ ap Some b.prints.printed) fit

@@ -1,4 +1,4 @@
--- Bytes are refused with one line, and have no network then. So nothing that can be run is refused.
+-- Bytes are refused with one line, and have no network then. So nothing that can be done is refused.
 use Rattle.std.proofs.Common.{◌≡◌, ◌≢◌, ℕ, List, refl, sym, ap, ◌∙◌, subst, inl, inr, Option, Some, None, Result, Ok, Err, length}
 use Rattle.std.specs.Prelude.{string_bytes}
 use Rattle.sample_core.specs.TypeTree.{TypeTree}
@@ -25,6 +25,7 @@ use Rattle.yampa_run.specs.RefusalLines.{text_words, type_words}
 use Rattle.yampa_run.specs.Preparation.{AreTold, Fails, HasNoDerivation, HasNoNetwork, HasNoSteps, IsDerivedIn, IsNetworkIn, IsNetworkOf, IsTold, AreStepsOf, KnownFiles, Meets, RefusesCheck, OneRefusalLaw, NoNetworkLaw, OnlyMemoryLaw, by_text, by_types, no_source, no_target, no_steps, not_accepted}
 use Rattle.yampa_run.specs.declared.refused.Role.{Role}
 use Rattle.yampa_run.specs.declared.refused.Role.TheVariants as R
+use Rattle.yampa_run.specs.declared.preparation.Job.{Job}
 use Rattle.yampa_run.specs.declared.preparation.Job.TheVariants as J
 use Rattle.yampa_run.specs.declared.preparation.Refusal.{Refusal}
 use Rattle.yampa_run.specs.declared.preparation.Refusal.TheVariants as Refused
@@ -99,7 +100,7 @@ no_certificate known steps (Refused.Line status line) d (bytes, e) n h =
     go i (inl u) = let q : Some bytes ≡ None = u.1 in absurd (cc)
     go i (inr w) = no_certificate_fault bytes w.1.0 steps w.1.1 w.1.2 i
 
-one_of_file : (known : Option (List ℕ)) (t u : TypedNetwork) → IsTold known → IsNetworkOf known t → IsNetworkOf known u → t ≡ u
+pub one_of_file : (known : Option (List ℕ)) (t u : TypedNetwork) → IsTold known → IsNetworkOf known t → IsNetworkOf known u → t ≡ u
 one_of_file known t u (bytes, e) n m = one_network bytes t u (subst (λ o. IsNetworkOf o t) e n) (subst (λ o. IsNetworkOf o u) e m)
 
 same_steps : (known : Option (List ℕ)) (ss us : List Step) → IsTold known → AreStepsOf known ss → AreStepsOf known us → ss ≡ us
@@ -123,23 +124,28 @@ no_derivation told names t count refusal m k d (not_accepted source target steps
     (subst (λ s. CheckAnswer s t d.steps (Err f)) x (subst (λ u. CheckAnswer source u d.steps (Err f)) y
     (subst (λ ss. CheckAnswer source target ss (Err f)) z a)))
 
-not_failed : (told : KnownFiles) (what : RequestTree) (t : TypedNetwork) (refusal : Refusal) → refusal ≢ Refused.Memory → AreTold told what
-    → Meets told what (J.Run t) → Fails told what refusal → ⊥
-not_failed told (types name) t refusal m k n f = n
-not_failed told (run name) t refusal m k n f = no_file R.Network (told name) t refusal m k n f
-not_failed told (optimise wanted name) t refusal m k n f = n
-not_failed told (checks names) t refusal m k n f = n
-not_failed told (run_checked names) t refusal m k n f = no_derivation told names t n.count refusal m k n.derived f
+not_failed : (told : KnownFiles) (what : RequestTree) (job : Job) (refusal : Refusal) → refusal ≢ Refused.Memory → AreTold told what
+    → Meets told what job → Fails told what refusal → ⊥
+not_failed told (types name) (J.Print text) refusal m k n f = no_file R.Network (told name) n.net refusal m k n.network f
+not_failed told (types name) (J.Run t) refusal m k n f = n
+not_failed told (run name) (J.Print text) refusal m k n f = n
+not_failed told (run name) (J.Run t) refusal m k n f = no_file R.Network (told name) t refusal m k n f
+not_failed told (optimise wanted name) (J.Print text) refusal m k n f = no_file R.Network (told name) n.source refusal m k n.network f
+not_failed told (optimise wanted name) (J.Run t) refusal m k n f = n
+not_failed told (checks names) (J.Print text) refusal m k n f = no_derivation told names n.target n.count refusal m k n.derived f
+not_failed told (checks names) (J.Run t) refusal m k n f = n
+not_failed told (run_checked names) (J.Print text) refusal m k n f = n
+not_failed told (run_checked names) (J.Run t) refusal m k n f = no_derivation told names t n.count refusal m k n.derived f
 
 nothing_asked : (words : List (List ℕ)) (what : RequestTree) → request_in words ≡ Some what → AsksNothing words → ⊥
 unfolding AsksNothing
 nothing_asked words what e h = let q : request_in words ≡ None = h.0 in absurd (cc)
 
 pub only_memory : OnlyMemoryLaw
-only_memory told words what t Refused.Memory asks known n h = refl
-only_memory told words what t (Refused.Line status line) asks known n (inl h) = absurd (nothing_asked words what asks h.1)
-only_memory told words what t (Refused.Line status line) asks known n (inr h) =
+only_memory told words what job Refused.Memory asks known n h = refl
+only_memory told words what job (Refused.Line status line) asks known n (inl h) = absurd (nothing_asked words what asks h.1)
+only_memory told words what job (Refused.Line status line) asks known n (inr h) =
     let again : request_in words ≡ Some h.what = h.asks in
     let same : h.what ≡ what = cc in
     let fails : Fails told what (Refused.Line status line) = subst (λ w. Fails told w (Refused.Line status line)) same h.fails in
-    absurd (not_failed told what t (Refused.Line status line) (λ q. cc) known n fails)
+    absurd (not_failed told what job (Refused.Line status line) (λ q. cc) known n fails)

@@ -60,7 +60,7 @@ module _ (law : FaultLaw) (faults : LineFaultLaw) (t : TypedNetwork) (text : Lis
   -- what is answered of a run tells how much of the output is written
   told_so : (keys : List KeyTree) (answer : Result RunReport Refusal) → RunsOver keys t (Some text) has' holds holds' answer
       → WritesAsTold t text holds holds' answer
-  told_so keys (Ok report) r = whole (writes_output t text has' holds holds' (Ok report) r.1 tt)
+  told_so keys (Ok report) r = whole (writes_output t text has' holds holds' (Ok report) r.1 tt) refl
   told_so keys (Err (Refused.Line status line)) (inl s) = fault_told (Refused.Line status line) s.fault s.stops s.status_is s.line_is
   told_so keys (Err (Refused.Line status line)) (inr u) =
       part (record { written = []; writes = u.still.writes; begins = ((output_in t text).bytes, refl) }) u.status_is (4, omega arith, sym u.line_is)
@@ -70,7 +70,7 @@ module _ (law : FaultLaw) (faults : LineFaultLaw) (t : TypedNetwork) (text : Lis
 as_source : (source target : TypedNetwork) (text : List ℕ) (holds holds' : Option (List ℕ)) (answer : Result RunReport Refusal)
     → source.input ≡ target.input → output_in source text ≡ output_in target text → WritesAsTold target text holds holds' answer
     → WritesAsTold source text holds holds' answer
-as_source source target text holds holds' (Ok report) i e (whole w) = whole (of_source source target text holds holds' (Ok report) i e w)
+as_source source target text holds holds' (Ok report) i e (whole w s) = whole (of_source source target text holds holds' (Ok report) i e w) s
 as_source source target text holds holds' (Err refusal) i e (up_to_fault {lines = lines} {fault = fault} w s l) =
     up_to_fault (of_source source target text holds holds' (Err (U.Stream lines fault)) i e w) s l
 as_source source target text holds holds' (Err refusal) i e (part w s l) = part (record {

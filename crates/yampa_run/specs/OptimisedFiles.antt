@@ -1,5 +1,5 @@
--- What the command `optimise` prints, put into files: a certificate that leads from the source to
--- the network that is printed.
+-- What two runs of the command `optimise` print of one file, put into files: a certificate that
+-- leads from the source to the network that is printed.
 use Rattle.std.specs.Prelude.{◌≡◌, ◌≤◌, ℕ, List, length, Some}
 use Rattle.std.specs.List.{All}
 use Rattle.sample_core.specs.TypeTree.{TypeTree}
@@ -11,10 +11,9 @@ use Rattle.net_syntax.specs.Network.{Network}
 use Rattle.net_syntax.specs.TypedNetwork.{TypedNetwork}
 use Rattle.net_text.specs.CertificatePrinting.{ChildrenFit, certificate_spelling}
 use Rattle.net_text.specs.Printing.{Writable, file_spelling, network_sexpr}
-use Rattle.net_opt.specs.Optimising.{Optimised}
 use Rattle.command_line.specs.CommandLine.{DerivationNames}
 use Rattle.command_line.specs.declared.command.Wanted.TheVariants as W
-use Rattle.yampa_run.specs.Preparation.{IsDerivedIn, IsNetworkIn, KnownFiles, wanted_text}
+use Rattle.yampa_run.specs.Preparation.{IsDerivedIn, IsTold, KnownFiles, TellsOptimised}
 
 -- a network with inputs of type A, the positions of the steps that lead to it, and both printed
 -- texts are within the limits of files
@@ -26,16 +25,16 @@ pub record FitFiles (A : TypeTree) (net : Network Expression) (steps : List Step
   pub positions : All (λ s. ChildrenFit s.position) steps
   pub certificate_size : length (certificate_spelling steps) ≤ 1048576
 
--- three files: that of a source, and those of its optimised network and of the steps that lead
--- there, as the command prints them without its flag and with it
-pub record HoldOptimised (told : KnownFiles) (names : DerivationNames) (source : TypedNetwork)
-    (net : Network Expression) (steps : List Step) : Type 0 where
-  pub file : List ℕ
-  pub source_told : told names.source ≡ Some file
-  pub source_is : IsNetworkIn file source
-  pub optimised : Optimised source net steps
-  pub target_told : told names.target ≡ Some (wanted_text W.Network source.input net steps)
-  pub steps_told : told names.certificate ≡ Some (wanted_text W.Certificate source.input net steps)
+-- three files: that of a source, and what the command printed of it in two runs, one without its
+-- flag and one with it
+pub record HoldOptimised (told : KnownFiles) (names : DerivationNames) : Type 0 where
+  pub source_told : IsTold (told names.source)
+  pub target_file : List ℕ
+  pub target_told : told names.target ≡ Some target_file
+  pub target : TellsOptimised (told names.source) W.Network target_file
+  pub certificate_file : List ℕ
+  pub certificate_told : told names.certificate ≡ Some certificate_file
+  pub certificate : TellsOptimised (told names.source) W.Certificate certificate_file
 
 -- the three files hold a derivation of the optimised network
 pub record DerivesOptimised (told : KnownFiles) (names : DerivationNames)
@@ -44,10 +43,10 @@ pub record DerivesOptimised (told : KnownFiles) (names : DerivationNames)
   pub target_is : target.net ≡ net
   pub derived : IsDerivedIn told names target (length steps)
 
--- Where the network of a file is optimised, and both texts that the command prints of that are put
--- into files, within the limits of files, the printed steps derive the printed network from that of
--- the file.
+-- Where the network of a file is optimised in two runs, and the network that the one prints and the
+-- steps that the other prints are put into files, within the limits of files, the printed steps
+-- derive the printed network from that of the file.
 abbrev pub OptimisedFilesLaw : Type 0
-OptimisedFilesLaw = (told : KnownFiles) (names : DerivationNames) (source : TypedNetwork)
-    (net : Network Expression) (steps : List Step) → HoldOptimised told names source net steps
-    → FitFiles source.input net steps → DerivesOptimised told names net steps
+OptimisedFilesLaw = (told : KnownFiles) (names : DerivationNames) (held : HoldOptimised told names)
+    → FitFiles held.target.source.input held.target.prints.net held.certificate.prints.steps
+    → DerivesOptimised told names held.target.prints.net held.certificate.prints.steps

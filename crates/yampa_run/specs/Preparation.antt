@@ -273,11 +273,12 @@ AreTold told (checks names) = IsTold (told names.source) × IsTold (told names.t
 AreTold told (run_checked names) = IsTold (told names.source) × IsTold (told names.target)
     × IsTold (told names.certificate)
 
--- where the files' bytes are told and there is a network to run, memory alone is a reason to refuse
+-- where the files' bytes are told and some job is what is asked for, memory alone is a reason to
+-- refuse it
 abbrev pub OnlyMemoryLaw : Type 0
-OnlyMemoryLaw = (told : KnownFiles) (words : List (List ℕ)) (what : RequestTree)
-    (t : TypedNetwork) (refusal : Refusal) → request_in words ≡ Some what → AreTold told what
-    → Meets told what (J.Run t) → IsRefusal told words refusal → refusal ≡ Refused.Memory
+OnlyMemoryLaw = (told : KnownFiles) (words : List (List ℕ)) (what : RequestTree) (job : Job)
+    (refusal : Refusal) → request_in words ≡ Some what → AreTold told what → Meets told what job
+    → IsRefusal told words refusal → refusal ≡ Refused.Memory
 
 -- a refusal for a table that takes no more: its line with status 1 where it is full, or memory was
 -- short

@@ -1,5 +1,5 @@
 -- What the program prints of a file that is refused, and of any refusal.
-use Rattle.std.specs.Prelude.{ℕ, List, ◌++◌, codes, string_bytes}
+use Rattle.std.specs.Prelude.{ℕ, List, ◌++◌, Result, Ok, Err, codes, string_bytes}
 use Rattle.std.specs.Fmt.{decimal}
 use Rattle.leaf_core.specs.declared.typing.ExprFault.{ExprFault}
 use Rattle.leaf_core.specs.declared.typing.ExprFault.TheVariants as X
@@ -10,6 +10,7 @@ use Rattle.net_types.specs.declared.fault.TypeFault.{TypeFault}
 use Rattle.net_types.specs.declared.fault.TypeFault.TheVariants as T
 use Rattle.cert_check.specs.declared.answer.CheckFault.{CheckFault}
 use Rattle.cert_check.specs.declared.answer.CheckFault.TheVariants as C
+use Rattle.yampa_run.specs.declared.fault.RunReport.{RunReport}
 use Rattle.yampa_run.specs.declared.preparation.Refusal.{Refusal}
 use Rattle.yampa_run.specs.declared.preparation.Refusal.TheVariants as Refused
 use Rattle.yampa_run.specs.declared.refused.Role.{Role}
@@ -85,6 +86,11 @@ check_words C.Memory = codes "memory"
 abbrev pub refusal_status : Refusal → ℕ
 refusal_status (Refused.Line status line) = status
 refusal_status Refused.Memory = 3
+
+-- the exit status of a run: 0 where it answers a report, else that of its refusal
+abbrev pub answer_status : Result RunReport Refusal → ℕ
+answer_status (Ok report) = 0
+answer_status (Err refusal) = refusal_status refusal
 
 -- the line on standard error of a refusal, without its line feed
 abbrev pub refusal_line : Refusal → List ℕ

@@ -27,7 +27,7 @@ use Rattle.yampa_run.specs.FaultLines.{stream_words}
 use Rattle.yampa_run.specs.Headline.{WritesOutput}
 use Rattle.yampa_run.specs.NetworkRun.{RunsOver}
 use Rattle.yampa_run.specs.Preparation.{IsNetworkIn, IsRequested, KnownFiles}
-use Rattle.yampa_run.specs.RefusalLines.{refusal_line, refusal_status}
+use Rattle.yampa_run.specs.RefusalLines.{answer_status, refusal_line}
 use Rattle.yampa_run.specs.Runs.{BeginsOutput}
 use Rattle.yampa_run.specs.declared.fault.RunFault.TheVariants as U
 use Rattle.yampa_run.specs.declared.fault.RunReport.{RunReport}
@@ -46,18 +46,19 @@ abbrev pub hindrances : List (List ℕ)
 hindrances = codes "memory" ∷ codes "stream: cannot be read" ∷ codes "stream: too many reads"
     ∷ codes "output: cannot be written" ∷ codes "no row" ∷ []
 
--- What is written of a typed network's output on a text, by what is answered. With a report it is
--- all, and the text has no fault; with status 1 it is all up to the text's first fault, which the
--- line names; with status 3 it is a part from the front, and the line tells what hindered the run.
+-- What is written of a typed network's output on a text, by the status and the line of what is
+-- answered. With status 0 it is all, and the text has no fault; with status 1 it is all up to the
+-- text's first fault, which the line names; with status 3 it is a part from the front, and the line
+-- tells what hindered the run. There is no other status.
 pub data WritesAsTold (t : TypedNetwork) (text : List ℕ) (holds holds' : Option (List ℕ)) :
     Result RunReport Refusal → Type 0 where
   whole : {report : RunReport} → WritesOutput t text holds holds' (Ok report)
-      → WritesAsTold t text holds holds' (Ok report)
+      → answer_status (Ok report) ≡ 0 → WritesAsTold t text holds holds' (Ok report)
   up_to_fault : {refusal : Refusal} {lines : ℕ} {fault : StreamFault}
       → WritesOutput t text holds holds' (Err (U.Stream lines fault))
-      → refusal_status refusal ≡ 1 → refusal_line refusal ≡ stream_words fault
+      → answer_status (Err refusal) ≡ 1 → refusal_line refusal ≡ stream_words fault
       → WritesAsTold t text holds holds' (Err refusal)
-  part : {refusal : Refusal} → WritesPart t text holds holds' → refusal_status refusal ≡ 3
+  part : {refusal : Refusal} → WritesPart t text holds holds' → answer_status (Err refusal) ≡ 3
       → Contains hindrances (refusal_line refusal) → WritesAsTold t text holds holds' (Err refusal)
 
 -- A plain run: the bytes are those of a network file, and its network's output is written.

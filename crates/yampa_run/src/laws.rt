@@ -14,9 +14,9 @@ use sample_core::reading_laws;
 use stream_text::stream_laws;
 
 /// The bytes of a file are refused with one line, and bytes that have a network with none. So
-/// `prepare` refuses a run that is asked for, but for lack of memory, only where there is no network
-/// to run: where the file's bytes have none, or those of three files are no source, target and
-/// certificate whose steps derive the target. A full table is told behind it.
+/// `prepare` refuses what is asked for, but for lack of memory, only where no job is that: where the
+/// file's bytes have no network, or those of three files are no source, target and certificate whose
+/// steps derive the target. A full table is told behind it.
 pub fn refusal_laws()
     ensures one_line { OneRefusalLaw }
     ensures no_network { NoNetworkLaw }
@@ -42,9 +42,9 @@ pub fn headline_laws()
 
 /// Where the words ask for a run of a network file, or of a target whose certificate is to be
 /// checked, and the bytes of the files that they name are told: what `run_network` writes of any
-/// text is the output of the file's network, or of the source. Where it answers a report, all of it;
-/// where it answers status 1, all of it up to the text's first fault, which the line names; where it
-/// answers status 3, a part of it from the front, and the line tells what hindered it.
+/// text is the output of the file's network, or of the source. With status 0, by `run_status`, all
+/// of it; with status 1, all of it up to the text's first fault, which the line names; with status 3,
+/// a part of it from the front, and the line tells what hindered it. There is no other status.
 pub fn whole_run_laws()
     ensures whole { WholeRunLaw }
 {
@@ -54,9 +54,9 @@ pub fn whole_run_laws()
     typing_laws();
 }
 
-/// What `optimise` prints of a network and of the steps that lead to it, put into files, within the
-/// limits of files: the steps of the one derive the network of the other from that of NET. So
-/// `prepare` refuses `run-checked` of the three for lack of memory alone.
+/// What two runs of `optimise` print of one file, without the flag and with it, put into files,
+/// within the limits of files: the steps of the one derive the network of the other from that of the
+/// file. So `prepare` refuses `check` and `run-checked` of the three for lack of memory alone.
 pub fn optimised_file_laws()
     ensures { OptimisedFilesLaw }
 {

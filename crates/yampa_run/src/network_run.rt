@@ -1,9 +1,10 @@
 // What the program does behind its table: binding, the run, and the status and line of what stops it.
 
-ghost use Rattle.std.specs.Prelude.{IfErr};
+ghost use Rattle.std.specs.Prelude.{◌≡◌, IfErr};
 ghost use Rattle.leaf_table.specs.Rows.{rows_of};
 ghost use Rattle.yampa_run.specs.FaultLines.{EndsRun};
 ghost use Rattle.yampa_run.specs.NetworkRun.{FailsAsTold, RefusesBinding, RefusesRun, RunsOver};
+ghost use Rattle.yampa_run.specs.RefusalLines.{answer_status};
 
 use crate::fault::{RunFault, RunReport};
 use crate::preparation::Refusal;
@@ -50,6 +51,16 @@ pub fn run_network<R: Read + Device, W: Write + Device>(
             drop(fault);
             Err(refusal)
         }
+    }
+}
+
+/// The exit status of a run, by what `run_network` answers: 0 for a report, else the refusal's.
+pub fn run_status(answer: &Result<RunReport, Refusal>) -> u8
+    ensures { result ≡ answer_status answer.now }
+{
+    match answer {
+        Ok(_) => 0,
+        Err(refusal) => refusal.status(),
     }
 }
 
