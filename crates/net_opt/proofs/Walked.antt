@@ -50,13 +50,13 @@ placed_onward : (p q : List ℕ) (m n : ℕ) (c : Placed) → ((u : Tree Express
 placed_onward p q m n c below None h = absurd (none-some c h)
 placed_onward p q m n c below (Some u) h = below u h
 
-placed_below : (p q : List ℕ) (c : Placed) (m n : ℕ) (u : Tree Expression) → placed_at m n u p ≡ Some c → placed_at m n u (p ++ q) ≡ placed_at c.params c.olds c.tree q
+pub placed_below : (p q : List ℕ) (c : Placed) (m n : ℕ) (u : Tree Expression) → placed_at m n u p ≡ Some c → placed_at m n u (p ++ q) ≡ placed_at c.params c.olds c.tree q
 placed_below p q c m n (a_leaf e) h = leaf_below p q m n e c (part_at e p) refl h
 placed_below [] q c m n (a_network f) h = ap (λ (d : Placed). placed_at d.params d.olds d.tree q) (same_Some (placed m n (a_network f)) c h)
 placed_below (k ∷ p) q c m n (a_network f) h =
     placed_onward p q (m + (bound_in f k).params) (n + (bound_in f k).olds) c (placed_below p q c (m + (bound_in f k).params) (n + (bound_in f k).olds)) (child f k) h
 
-placed_here : (m n : ℕ) (u : Tree Expression) → placed_at m n u [] ≡ Some (placed m n u)
+pub placed_here : (m n : ℕ) (u : Tree Expression) → placed_at m n u [] ≡ Some (placed m n u)
 placed_here m n (a_network f) = refl
 placed_here m n (a_leaf e) = refl
 
@@ -70,7 +70,7 @@ leaf_inside : (m n : ℕ) (o : Option Expression) (d : Placed) → option_map (�
 leaf_inside m n None d h = absurd (none-some d h)
 leaf_inside m n (Some x) d h = ap (λ (y : Placed). Some y.tree) (same_Some (placed m n (a_leaf x)) d h)
 
-found_inside : (c d : Placed) (k : ℕ) → placed_at c.params c.olds c.tree (k ∷ []) ≡ Some d → inside c.tree k ≡ Some d.tree
+pub found_inside : (c d : Placed) (k : ℕ) → placed_at c.params c.olds c.tree (k ∷ []) ≡ Some d → inside c.tree k ≡ Some d.tree
 found_inside c d k h = go c.params c.olds c.tree h
   where
     go : (m n : ℕ) (u : Tree Expression) → placed_at m n u (k ∷ []) ≡ Some d → inside u k ≡ Some d.tree
@@ -86,7 +86,7 @@ no_leaf_inside : (m n : ℕ) (o : Option Expression) → option_map (λ x. place
 no_leaf_inside m n None h = refl
 no_leaf_inside m n (Some x) h = absurd (none-some (placed m n (a_leaf x)) (sym h))
 
-none_inside : (c : Placed) (k : ℕ) → placed_at c.params c.olds c.tree (k ∷ []) ≡ None → inside c.tree k ≡ None
+pub none_inside : (c : Placed) (k : ℕ) → placed_at c.params c.olds c.tree (k ∷ []) ≡ None → inside c.tree k ≡ None
 none_inside c k h = go c.params c.olds c.tree h
   where
     go : (m n : ℕ) (u : Tree Expression) → placed_at m n u (k ∷ []) ≡ None → inside u k ≡ None
@@ -179,7 +179,7 @@ no_part : (o : Option Expression) → option_map a_leaf o ≡ None → o ≡ Non
 no_part None h = refl
 no_part (Some x) h = absurd (none-some (a_leaf x) (sym h))
 
-nothing_behind : (m n k j : ℕ) (q : List ℕ) (u : Tree Expression) → inside u k ≡ None → k ≤ j → placed_at m n u (j ∷ q) ≡ None
+pub nothing_behind : (m n k j : ℕ) (q : List ℕ) (u : Tree Expression) → inside u k ≡ None → k ≤ j → placed_at m n u (j ∷ q) ≡ None
 nothing_behind m n k j q (a_network f) h l =
     ap (λ o. o >>= (λ u. placed_at (m + (bound_in f j).params) (n + (bound_in f j).olds) u q)) (no_later_child f k (j - k) j h (omega arith))
 nothing_behind m n k j q (a_leaf e) h l =
