@@ -1,0 +1,1 @@
+-- Nothing is promised of a search, so nothing is defined for it.

@@ -1,0 +1,121 @@
+// An expression is rewritten from its parts to its root.
+
+use crate::carry::{carried, opened};
+use crate::found::{Rewriting, rewriting_of, told, way_back};
+use crate::log::{Aim, Log, Step};
+use crate::push::{PUSH_DEPTH, pushed, settled};
+use crate::share::shared;
+use crate::tree::{as_part, then_of, with_part};
+use crate::weight::{DEPTH, part_count};
+use leaf_core::{Expr, ExprChild, part, same_expr};
+use sample_core::Memory;
+use std::alloc::Global;
+
+/// What costs less than the expression, and the steps to it. `Memory` where a growth was refused.
+pub fn improve_expr(alloc: Global, expr: &Expr) -> Result<Rewriting, Memory> {
+    searched(alloc, expr, Aim::Cheap)
+}
+
+/// The expression's normal form, and the steps to it: each `then` carried inwards, the terms of
+/// each sum in order. `Memory` where a growth was refused.
+pub fn normal_expr(alloc: Global, expr: &Expr) -> Result<Rewriting, Memory> {
+    searched(alloc, expr, Aim::Normal)
+}
+
+/// What a search with this aim comes to.
+fn searched(alloc: Global, expr: &Expr, aim: Aim) -> Result<Rewriting, Memory> {
+    let mut log = Log::new(alloc, aim);
+    let reached = improved(&mut log, expr, DEPTH)?;
+    told(alloc, &reached, &log.into_steps()?)
+}
+
+/// `(then f g)` and the steps to it from e, where f, carried into g, leads to e; where it leads to
+/// another expression, what costs less than that, or its normal form, may be e too. Nothing where it
+/// isn't. `Memory` where a growth was refused.
+pub fn as_then(alloc: Global, e: &Expr, f: &Expr, g: &Expr) -> Result<Option<Rewriting>, Memory> {
+    let Some(steps) = steps_from(alloc, f, g, e)? else {
+        return Ok(None);
+    };
+    let whole = then_of(alloc, &as_part(alloc, f)?, g)?;
+    rewriting_of(alloc, way_back(alloc, whole, &steps)?)
+}
+
+/// The steps from `(then f g)` to e.
+fn steps_from(alloc: Global, f: &Expr, g: &Expr, e: &Expr) -> Result<Option<Vec<Step>>, Memory> {
+    let mut log = Log::new(alloc, Aim::Plain);
+    if leads_to(&mut log, f, g, e)? {
+        Ok(Some(log.into_steps()?))
+    } else {
+        Ok(None)
+    }
+}
+
+/// Whether `(then f g)` leads to e.
+fn leads_to(log: &mut Log, f: &Expr, g: &Expr, e: &Expr) -> Result<bool, Memory> {
+    log.enter(0);
+    let f = improved(log, f, DEPTH)?;
+    log.leave();
+    let plain = carried(log, &f, g, DEPTH)?;
+    drop(f);
+    if same_expr(plain.get(), e) {
+        return Ok(true);
+    }
+    Ok(reaches(log, Aim::Cheap, &plain, e)? || reaches(log, Aim::Normal, &plain, e)?)
+}
+
+/// Whether a search with this aim comes from the expression to e; if not, its steps are forgotten.
+fn reaches(log: &mut Log, aim: Aim, from: &ExprChild, e: &Expr) -> Result<bool, Memory> {
+    let mark = log.mark();
+    log.aim = aim;
+    let reached = improved(log, from.get(), DEPTH)?;
+    let same = same_expr(reached.get(), e);
+    if !same {
+        log.back_to(mark);
+    }
+    Ok(same)
+}
+
+/// The expression, rewritten from its parts to its root.
+fn improved(log: &mut Log, e: &Expr, depth: u32) -> Result<ExprChild, Memory> {
+    let mut new = as_part(log.alloc, e)?;
+    if depth == 0 {
+        return Ok(new);
+    }
+    for k in 0..part_count(e) {
+        if let Some(inner) = part(e, k) {
+            log.enter(k);
+            let inner = improved(log, inner, depth - 1)?;
+            log.leave();
+            new = with_part(log.alloc, new, k, inner)?;
+        }
+    }
+    finished(log, new)
+}
+
+/// The expression, whose parts are done, rewritten at its root.
+fn finished(log: &mut Log, e: ExprChild) -> Result<ExprChild, Memory> {
+    match log.aim {
+        Aim::Plain => finished_plainly(log, e),
+        Aim::Normal => finished_well(log, e),
+        Aim::Cheap => {
+            let reached = finished_well(log, e)?;
+            shared(log, reached)
+        }
+    }
+}
+
+/// The same: a `then` is carried inwards always, and `fst` or `snd` of a pair opened.
+fn finished_plainly(log: &mut Log, e: ExprChild) -> Result<ExprChild, Memory> {
+    match e.get() {
+        Expr::Then(f, g) => carried(log, f, g.get(), DEPTH),
+        _ => opened(log, e),
+    }
+}
+
+/// The same: a `then` is carried inwards, another form cleared up.
+fn finished_well(log: &mut Log, e: ExprChild) -> Result<ExprChild, Memory> {
+    match e.get() {
+        Expr::Then(f, g) => pushed(log, f, g.get(), PUSH_DEPTH),
+        _ => settled(log, e, PUSH_DEPTH),
+    }
+}

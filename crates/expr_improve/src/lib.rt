@@ -1,0 +1,35 @@
+//! Rewriting of expressions by laws E1 to E18: what costs less, a normal form, and the forms that
+//! laws of networks want, each with the steps to it.
+//!
+//!     let better = improve_expr(alloc, &expr)?;
+//!     let normal = normal_expr(alloc, &expr)?;
+//!
+//! This is a search, and nothing is promised of what it finds: each step is checked again by who
+//! takes it. So its functions have no contracts; they are safe and come to an end, by a depth that
+//! falls. Costs are instructions for each value, about, as they were counted on small networks.
+//!
+//! First `src/improve.rt`, then `src/push.rt`, the heart of it, and `src/weight.rt`, the costs.
+#![tactic(auto)]
+
+mod carry;
+mod choose;
+mod clear;
+mod found;
+mod improve;
+mod log;
+mod order;
+mod push;
+mod shapes;
+mod share;
+mod sums;
+mod tree;
+mod undo;
+mod view;
+mod weight;
+
+pub use found::Rewriting;
+pub use improve::{as_then, improve_expr, normal_expr};
+pub use shapes::{as_left, as_map, as_right};
+pub use share::shared_at;
+pub use view::seen_through;
+pub use weight::{arr_cost, cost_of, is_path, made_of};

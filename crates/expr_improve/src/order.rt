@@ -1,0 +1,84 @@
+// An order of expressions, for the terms of a sum.
+
+use crate::log::Aim;
+use crate::weight::{DEPTH, part_count};
+use leaf_core::{Expr, Literal, part};
+use std::cmp::Ordering;
+
+/// Whether the one term is to come behind the other: literals behind all others, and for the normal
+/// form each where its form and its parts put it.
+pub(crate) fn is_after(aim: Aim, a: &Expr, b: &Expr) -> bool {
+    match aim {
+        Aim::Normal => matches!(compared(a, b, DEPTH), Ordering::Greater),
+        _ => matches!(a, Expr::Literal(_)) && !matches!(b, Expr::Literal(_)),
+    }
+}
+
+/// The order of two expressions: by their forms, then by their own numbers, then part by part.
+#[cycle(order)]
+fn compared(a: &Expr, b: &Expr, depth: u32) -> Ordering {
+    if depth == 0 {
+        return Ordering::Equal;
+    }
+    let forms = form_number(a).cmp(&form_number(b));
+    let numbers = own_number(a).cmp(&own_number(b));
+    match (forms, numbers) {
+        (Ordering::Equal, Ordering::Equal) => compared_parts(a, b, depth - 1),
+        (Ordering::Equal, other) => other,
+        (other, _) => other,
+    }
+}
+
+/// The order of two expressions of one form by their parts.
+#[cycle(order)]
+fn compared_parts(a: &Expr, b: &Expr, depth: u32) -> Ordering {
+    for k in 0..part_count(a) {
+        let order = match (part(a, k), part(b, k)) {
+            (Some(c), Some(d)) => compared(c, d, depth),
+            _ => Ordering::Equal,
+        };
+        if !matches!(order, Ordering::Equal) {
+            return order;
+        }
+    }
+    Ordering::Equal
+}
+
+/// The place of the form in the order; literals come last.
+fn form_number(e: &Expr) -> u8 {
+    match e {
+        Expr::Input => 0,
+        Expr::Param(_) => 1,
+        Expr::Pair(..) => 2,
+        Expr::Fst(_) => 3,
+        Expr::Snd(_) => 4,
+        Expr::Then(..) => 5,
+        Expr::Neg(_) => 6,
+        Expr::Add(..) => 7,
+        Expr::Sub(..) => 8,
+        Expr::Mul(..) => 9,
+        Expr::Less(..) => 10,
+        Expr::Equal(..) => 11,
+        Expr::Not(_) => 12,
+        Expr::And(..) => 13,
+        Expr::Or(..) => 14,
+        Expr::If(..) => 15,
+        Expr::NoEvent(_) => 16,
+        Expr::Event(_) => 17,
+        Expr::On(..) => 18,
+        Expr::List(..) => 19,
+        Expr::Nth(..) => 20,
+        Expr::Len(_) => 21,
+        Expr::Literal(_) => 22,
+    }
+}
+
+/// The number of a parameter or a literal, or how many parts there are.
+fn own_number(e: &Expr) -> i64 {
+    match e {
+        Expr::Param(k) => i64::from(*k),
+        Expr::Literal(Literal::Int(n)) => *n,
+        Expr::Literal(Literal::Bool(b)) => i64::from(*b),
+        _ => i64::from(part_count(e)),
+    }
+}

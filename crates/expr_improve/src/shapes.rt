@@ -1,0 +1,111 @@
+// The shapes that laws of networks want in an `arr`.
+
+use crate::found::{Rewriting, told};
+use crate::log::{Aim, Log};
+use crate::tree::{beside_second, first_input, put, second_input};
+use crate::view::looked_through;
+use leaf_core::{Expr, ExprChild, part_at, same_expr};
+use sample_core::Memory;
+use std::alloc::Global;
+
+/// `(pair (then (fst x) g) (snd x))` and the steps to it. Nothing where the expression isn't that.
+/// `Memory` where a growth was refused.
+pub fn as_left(alloc: Global, e: &Expr) -> Result<Option<Rewriting>, Memory> {
+    let second = second_input(alloc)?;
+    match e {
+        Expr::Pair(_, b) if same_expr(b.get(), second.get()) => looked_at(
+            Log::new(alloc, Aim::Plain),
+            e,
+            &[0],
+            first_input(alloc)?,
+        ),
+        _ => Ok(None),
+    }
+}
+
+/// `(pair (fst x) (then (snd x) g))` and the steps to it. Nothing where the expression isn't that.
+/// `Memory` where a growth was refused.
+pub fn as_right(alloc: Global, e: &Expr) -> Result<Option<Rewriting>, Memory> {
+    let first = first_input(alloc)?;
+    match e {
+        Expr::Pair(a, _) if same_expr(a.get(), first.get()) => looked_at(
+            Log::new(alloc, Aim::Plain),
+            e,
+            &[1],
+            second_input(alloc)?,
+        ),
+        Expr::Input => input_as_right(alloc, first),
+        _ => Ok(None),
+    }
+}
+
+/// The same of `x`.
+fn input_as_right(alloc: Global, first: ExprChild) -> Result<Option<Rewriting>, Memory> {
+    let both = beside_second(alloc, first)?;
+    let mut log = Log::new(alloc, Aim::Plain);
+    log.backward(9, both.try_copy()?);
+    looked_at(log, both.get(), &[1], second_input(alloc)?)
+}
+
+/// `(on x (none T) (event (then (snd x) g)))` and the steps to it. Nothing where the expression
+/// isn't that. `Memory` where a growth was refused.
+pub fn as_map(alloc: Global, e: &Expr) -> Result<Option<Rewriting>, Memory> {
+    if is_mapping(e) {
+        looked_at(
+            Log::new(alloc, Aim::Plain),
+            e,
+            &[2, 0],
+            second_input(alloc)?,
+        )
+    } else {
+        Ok(None)
+    }
+}
+
+/// Whether the expression is `(on x (none T) (event e))`.
+fn is_mapping(e: &Expr) -> bool {
+    let Expr::On(event, none, body) = e else {
+        return false;
+    };
+    matches!(event.get(), Expr::Input)
+        && matches!(none.get(), Expr::NoEvent(_))
+        && matches!(body.get(), Expr::Event(_))
+}
+
+/// The expression with what stands at the path as `(then look g)`, behind the steps so far; nothing
+/// where that uses its input in another way.
+fn looked_at(
+    log: Log,
+    e: &Expr,
+    path: &[u32],
+    look: ExprChild,
+) -> Result<Option<Rewriting>, Memory> {
+    let mut log = log;
+    match seen_at(&mut log, e, path, &look)? {
+        Some(whole) => {
+            let alloc = log.alloc;
+            Ok(Some(told(alloc, &whole, &log.into_steps()?)?))
+        }
+        None => Ok(None),
+    }
+}
+
+/// The same, with the steps added.
+fn seen_at(
+    log: &mut Log,
+    e: &Expr,
+    path: &[u32],
+    look: &ExprChild,
+) -> Result<Option<ExprChild>, Memory> {
+    let Some(inner) = part_at(e, path) else {
+        return Ok(None);
+    };
+    let Some(back) = looked_through(log.alloc, inner, look)? else {
+        return Ok(None);
+    };
+    for k in path {
+        log.enter(*k);
+    }
+    log.add_all(&back.steps);
+    put(log.alloc, e, path, &back.expr)
+}
