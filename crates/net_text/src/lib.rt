@@ -31,6 +31,6 @@ pub use laws::{
     sugar_laws,
 };
 pub use print::{print_net, push_net};
-pub use print_certificate::print_cert;
+pub use print_certificate::{print_cert, push_step, push_tree};
 pub use read::read_net;
 pub use read_certificate::read_cert;

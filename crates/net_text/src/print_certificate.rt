@@ -5,12 +5,13 @@ ghost use Rattle.std.specs.Fmt.{decimal};
 ghost use Rattle.sample_core.specs.Adding.{Adds};
 ghost use Rattle.leaf_expr.specs.Sexpr.{spelling, spellings};
 ghost use Rattle.net_syntax.specs.LawStep.{step_of, part_of};
-ghost use Rattle.net_text.specs.CertificatePrinting.{law_spelling, direction_spelling, given_sexprs, step_sexpr, certificate_spelling, are_new_steps};
+ghost use Rattle.net_text.specs.CertificatePrinting.{law_spelling, direction_spelling, given_sexprs, step_sexpr, tree_sexpr, certificate_spelling, are_new_steps};
 ghost use Rattle.net_text.specs.CertificatePrinting as printing;
 
 use crate::new_forms::{is_new, version_word};
-use crate::print::{push_next, push_next_expr, push_word};
+use crate::print::{push_net, push_next, push_next_expr, push_word};
 use itoa::Buffer;
+use leaf_expr::push_expr;
 use net_syntax::{Direction, Law, LawStep, Tree, push_position};
 use sample_core::Memory;
 use std::alloc::Global;
@@ -32,6 +33,18 @@ pub fn print_cert(alloc: Global, steps: &[LawStep]) -> Result<String, Memory>
         push_step(&mut text, step)?;
     }
     Ok(text)
+}
+
+/// Adds the network's or the expression's one printed form to the end of the text. `Memory` where a
+/// growth was refused; the text may then end with a part of it.
+pub fn push_tree(text: &mut String, tree: &Tree) -> Result<(), Memory>
+    ensures { Adds result (string_bytes text.old) (string_bytes text.new)
+        (spelling (tree_sexpr (part_of tree.now))) }
+{
+    match tree {
+        Tree::Net(net) => push_net(text, net),
+        Tree::Expr(expr) => push_expr(text, expr),
+    }
 }
 
 /// Whether there is something of the second version in the steps.
@@ -67,8 +80,9 @@ fn is_new_given(given: &Option<Tree>) -> bool
     }
 }
 
-/// A step, and the end of its line.
-fn push_step(text: &mut String, step: &LawStep) -> Result<(), Memory>
+/// Adds a step's line, as `print_cert` has it, to the end of the text. `Memory` where a growth was
+/// refused; the text may then end with a part of it.
+pub fn push_step(text: &mut String, step: &LawStep) -> Result<(), Memory>
     ensures { Adds result (string_bytes text.old) (string_bytes text.new)
         (spelling (step_sexpr (step_of step.now)) ++ 10 ∷ []) }
 {
