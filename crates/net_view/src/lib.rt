@@ -10,6 +10,10 @@
 //! First `specs/Listed`, then `src/positions.rt`, which finds the positions.
 #![tactic(auto)]
 
+mod applied;
+mod told;
 mod trace;
 
+pub use applied::applied_text;
+pub use told::trace_text;
 pub use trace::{Change, Stop, Trace, first_steps, trace_steps};
