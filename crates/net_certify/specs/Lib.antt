@@ -1,0 +1,2 @@
+-- Certificates found.
+pub mod Certifying

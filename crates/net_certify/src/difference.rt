@@ -1,0 +1,152 @@
+// Where two networks differ first.
+
+use leaf_core::{Expr, part, same_expr};
+use net_syntax::{Net, Position, Tree, TreeRef, child, same_net};
+use sample_core::{Memory, same_type};
+use std::alloc::Global;
+
+/// The most nodes that stand in one another where a difference is looked for.
+const MOST_DEPTH: u32 = 1_000;
+
+/// Where two networks differ first, and what each has there.
+#[derive(Drop)]
+pub(crate) struct Difference {
+    pub(crate) position: Position,
+    pub(crate) first: Tree,
+    pub(crate) second: Tree,
+}
+
+/// The first position, a node before its children, at which the two have different nodes, with what
+/// each has there; `None` where they are the same.
+pub(crate) fn first_difference(
+    alloc: Global,
+    first: &Net<Expr>,
+    second: &Net<Expr>,
+) -> Result<Option<Difference>, Memory> {
+    if same_net(first, second) {
+        return Ok(None);
+    }
+    let mut path = Vec::new(alloc);
+    let mut pair = (TreeRef::Net(first), TreeRef::Net(second));
+    for _ in 0..MOST_DEPTH {
+        let Some((k, inner)) = child_that_differs(pair.0, pair.1) else {
+            break;
+        };
+        path.push(k)?;
+        pair = inner;
+    }
+    Ok(Some(Difference {
+        position: Position::new(path),
+        first: copied(alloc, pair.0)?,
+        second: copied(alloc, pair.1)?,
+    }))
+}
+
+/// The first number at which two trees of one node have different children, with these; `None`
+/// where the nodes themselves differ.
+fn child_that_differs<'n>(
+    a: TreeRef<'n>,
+    b: TreeRef<'n>,
+) -> Option<(u32, (TreeRef<'n>, TreeRef<'n>))> {
+    if !same_node(a, b) {
+        return None;
+    }
+    for k in 0..MOST_DEPTH {
+        let (inner, other) = (inner_at(a, k)?, inner_at(b, k)?);
+        if !same_tree(inner, other) {
+            return Some((k, (inner, other)));
+        }
+    }
+    None
+}
+
+/// Child k of the tree.
+fn inner_at(tree: TreeRef<'_>, k: u32) -> Option<TreeRef<'_>> {
+    match tree {
+        TreeRef::Net(net) => child(net, k),
+        TreeRef::Expr(expr) => Some(TreeRef::Expr(part(expr, k)?)),
+    }
+}
+
+/// Whether the two trees are the same.
+fn same_tree(a: TreeRef<'_>, b: TreeRef<'_>) -> bool {
+    match (a, b) {
+        (TreeRef::Net(a), TreeRef::Net(b)) => same_net(a, b),
+        (TreeRef::Expr(a), TreeRef::Expr(b)) => same_expr(a, b),
+        _ => false,
+    }
+}
+
+/// Whether the two trees have one form, with one number or type in it.
+fn same_node(a: TreeRef<'_>, b: TreeRef<'_>) -> bool {
+    match (a, b) {
+        (TreeRef::Net(a), TreeRef::Net(b)) => same_net_node(a, b),
+        (TreeRef::Expr(a), TreeRef::Expr(b)) => same_expr_node(a, b),
+        _ => false,
+    }
+}
+
+/// The same of networks.
+fn same_net_node(a: &Net<Expr>, b: &Net<Expr>) -> bool {
+    match (a, b) {
+        (Net::Delay(q, _), Net::Delay(r, _))
+        | (Net::After(q, _), Net::After(r, _))
+        | (Net::Repeatedly(q, _), Net::Repeatedly(r, _)) => *q == *r,
+        (Net::Par(fs), Net::Par(gs))
+        | (Net::PSwitch(_, fs, _, _), Net::PSwitch(_, gs, _, _))
+        | (Net::RpSwitch(fs, _, _), Net::RpSwitch(gs, _, _)) => {
+            fs.as_slice().len() == gs.as_slice().len()
+        }
+        (Net::Arr(_), Net::Arr(_))
+        | (Net::Seq(..), Net::Seq(..))
+        | (Net::First(_), Net::First(_))
+        | (Net::LoopPre(..), Net::LoopPre(..))
+        | (Net::IPre(_), Net::IPre(_))
+        | (Net::Hold(_), Net::Hold(_))
+        | (Net::AccumBy(..), Net::AccumBy(..))
+        | (Net::Switch(..), Net::Switch(..))
+        | (Net::DSwitch(..), Net::DSwitch(..))
+        | (Net::RSwitch(..), Net::RSwitch(..))
+        | (Net::KSwitch(..), Net::KSwitch(..))
+        | (Net::InitialOut(..), Net::InitialOut(..))
+        | (Net::InitialIn(..), Net::InitialIn(..))
+        | (Net::DrSwitch(..), Net::DrSwitch(..)) => true,
+        _ => false,
+    }
+}
+
+/// The same of expressions.
+fn same_expr_node(a: &Expr, b: &Expr) -> bool {
+    match (a, b) {
+        (Expr::List(t, es), Expr::List(u, fs)) => {
+            same_type(t, u) && es.as_slice().len() == fs.as_slice().len()
+        }
+        (Expr::Pair(..), Expr::Pair(..))
+        | (Expr::Fst(_), Expr::Fst(_))
+        | (Expr::Snd(_), Expr::Snd(_))
+        | (Expr::Then(..), Expr::Then(..))
+        | (Expr::Neg(_), Expr::Neg(_))
+        | (Expr::Add(..), Expr::Add(..))
+        | (Expr::Sub(..), Expr::Sub(..))
+        | (Expr::Mul(..), Expr::Mul(..))
+        | (Expr::Less(..), Expr::Less(..))
+        | (Expr::Equal(..), Expr::Equal(..))
+        | (Expr::Not(_), Expr::Not(_))
+        | (Expr::And(..), Expr::And(..))
+        | (Expr::Or(..), Expr::Or(..))
+        | (Expr::If(..), Expr::If(..))
+        | (Expr::Event(_), Expr::Event(_))
+        | (Expr::On(..), Expr::On(..))
+        | (Expr::Nth(..), Expr::Nth(..))
+        | (Expr::Len(_), Expr::Len(_)) => true,
+        _ => false,
+    }
+}
+
+/// A copy of the tree.
+fn copied(alloc: Global, tree: TreeRef<'_>) -> Result<Tree, Memory> {
+    match tree {
+        TreeRef::Net(net) => Ok(Tree::Net(net.try_copy(alloc)?)),
+        TreeRef::Expr(expr) => Ok(Tree::Expr(expr.try_copy(alloc)?)),
+    }
+}
