@@ -1,6 +1,6 @@
 -- What holds of each member before an event, and of each that starts, holds of each that the event
 -- chooses.
-use Rattle.std.proofs.Common.{ℕ, zero, suc, pos, negsuc, List, [], ◌∷◌, ◌++◌, take, map}
+use Rattle.std.proofs.Common.{ℕ, zero, suc, pos, negsuc, List, [], ◌∷◌, ◌++◌, take}
 use Rattle.sample_core.specs.Datum.{Datum, unit, bool, int, pair, no_event, event, list, left, right}
 use Rattle.net_syntax.specs.Network.{Network}
 use Rattle.net_syntax.specs.SignalFunction.{item_at, item_named, items_named, items_of}

@@ -5,11 +5,10 @@ use Rattle.std.proofs.lemmas.List.{drop_all}
 use Rattle.sample_core.specs.Datum.{Datum, unit, left, list, list_of}
 use Rattle.leaf_core.specs.KeyTree.{KeyTree}
 use Rattle.net_syntax.specs.Network.{Network, Networks, initial_out, initial_in, rp_switch}
-use Rattle.net_syntax.specs.Weight.{total}
-use Rattle.state_core.specs.State.{State, States, Scope, Frozen, rp_switch_state, and_state, paused, params_of, frozen_list, all_paused}
+use Rattle.state_core.specs.State.{State, Scope, Frozen, rp_switch_state, params_of}
 use Rattle.state_core.specs.Tree.{Kept, joined, nothing, one_place, all_states, running}
 use Rattle.step_core.specs.Called.{Called}
-use Rattle.step_core.specs.Flow.{Past, standing, flowed, past_behind, members_before, MembersRun, Runs}
+use Rattle.step_core.specs.Flow.{Past, standing, members_before, MembersRun, Runs}
 use Rattle.step_core.specs.Outcome.{outcome}
 use Rattle.step_core.specs.Rank.{frozen_rank}
 use Rattle.step_core.specs.Runs as R

@@ -18,7 +18,7 @@ use Rattle.step_core.specs.StateTyping as T
 use Rattle.step_core.specs.StateTyping.{row_value}
 use Rattle.step_core.specs.Outcome.{outcome}
 use Rattle.step_core.specs.Flow as F
-use Rattle.step_core.specs.Flow.{Past, past_behind, flowed, all_flowed, placed, all_placed, Flows, AllFlow, Runs, AllRun, IsCell, IsKept, IsFedBack}
+use Rattle.step_core.specs.Flow.{Past, past_behind, flowed, all_flowed, placed, all_placed, Flows, AllFlow, Runs, AllRun, IsCell, IsOneCell, IsKept, IsFedBack}
 use Rattle.step_core.specs.Runs as R
 use Rattle.step_core.specs.Runs.{Ran, RunsWhere, RunEachWhere, SeqBy, FirstBy, ParBy, LoopBy, RSwitchBy, DrSwitchBy, to_all, by_row}
 use Rattle.step_core.proofs.CalledRows.{called_value}
@@ -95,8 +95,8 @@ no_items [] e = refl
 no_items (x ∷ xs) e = absurd (omega (arith, e))
 
 -- a cell, by an equation
-pub cell_by : (net m : Network ℕ) (form : Form) (c : Option ℕ) → net ≡ m → IsCell m form c → IsCell net form c
-cell_by net m form c e h = subst (λ z. IsCell z form c) (sym e) h
+pub cell_as : (net m : Network ℕ) (form : Form) (c : Option ℕ) → net ≡ m → IsCell m form c → IsOneCell net
+cell_as net m form c e h = (form, c, subst (λ z. IsCell z form c) (sym e) h)
 
 -- the forms of cells
 pub ruleset cell_forms = (F.is_i_pre, F.is_delay, F.is_hold, F.is_after, F.is_repeatedly, F.is_time, F.is_integral)

@@ -1,5 +1,5 @@
 -- The members of an `rpSwitchB` that run on a sample weigh less than it, all together.
-use Rattle.std.proofs.Common.{◌≡◌, ℕ, zero, suc, ◌+◌, ◌*◌, ◌<◌, ◌≤◌, min, get_or, List, [], ◌∷◌, ◌++◌, Option, Some, None, length, map, take, refl, ap, ◌∙◌, subst, arith}
+use Rattle.std.proofs.Common.{◌≡◌, ℕ, zero, suc, ◌+◌, ◌*◌, ◌<◌, ◌≤◌, min, get_or, List, [], ◌∷◌, Option, Some, None, length, map, take, refl, ap, ◌∙◌, arith}
 use Rattle.std.proofs.lemmas.List.{length-take}
 use Rattle.std.proofs.Math.Nat.{suc-mul}
 use Rattle.std.proofs.lemmas.Nat.{mul-le}
@@ -9,8 +9,8 @@ use Rattle.net_syntax.specs.Height.{greatest}
 use Rattle.net_syntax.specs.Network.{Network, Networks, no_members, and_member}
 use Rattle.net_syntax.specs.SignalFunction.{items_of}
 use Rattle.net_syntax.specs.Weight.{weight, weights, total}
-use Rattle.state_core.specs.State.{States, Scope, Frozen, Frozens, no_state, and_state, no_frozen, and_frozen, unstarted, paused, push_param, all_unstarted, all_paused, frozen_list, first_frozen, chosen_frozen}
-use Rattle.step_core.specs.Rank.{rank, ranks, ranks_in, frozen_rank, frozen_ranks}
+use Rattle.state_core.specs.State.{States, Scope, Frozen, Frozens, no_state, and_state, no_frozen, and_frozen, push_param, all_unstarted, all_paused, frozen_list, first_frozen, chosen_frozen}
+use Rattle.step_core.specs.Rank.{ranks, ranks_in, frozen_rank, frozen_ranks}
 use Rattle.step_core.specs.Runs as R
 use Rattle.step_core.specs.Runs.{EachIs, RpSwitchBy}
 use Rattle.step_core.specs.Switching.{IsTurned}

@@ -1,14 +1,13 @@
 -- What one sample does to the members of an `rpSwitchB`, and to it.
-use Rattle.std.proofs.Common.{◌≡◌, ℕ, suc, ◌+◌, ◌<◌, ◌≤◌, ◌^◌, List, [], ◌∷◌, ◌++◌, Option, Some, None, refl, sym, ap, ◌∙◌, subst, arith}
-use Rattle.sample_core.specs.Datum.{Datum, Datums, pair, event, no_event, left, right, list, list_of, end, more, elements}
+use Rattle.std.proofs.Common.{◌≡◌, ℕ, suc, ◌+◌, ◌<◌, ◌^◌, List, [], ◌∷◌, ◌++◌, Option, Some, None, refl, sym, ap, ◌∙◌, subst, arith}
+use Rattle.sample_core.specs.Datum.{Datum, left, list, list_of}
 use Rattle.sample_core.specs.TypeTree.{TypeTree, pair_ty, event_ty, int_ty, list_ty}
-use Rattle.sample_core.specs.HasType.{HasType, HaveType, pair_has, event_has, no_event_has, list_has, end_has, more_has}
+use Rattle.sample_core.specs.HasType.{HasType, pair_has, event_has, no_event_has}
 use Rattle.leaf_core.specs.KeyTree.{KeyTree}
-use Rattle.net_syntax.specs.Network.{Network, Networks, no_members, and_member}
-use Rattle.net_syntax.specs.SignalFunction.{items_of}
+use Rattle.net_syntax.specs.Network.{Network}
 use Rattle.net_syntax.specs.Typing as N
 use Rattle.net_syntax.specs.Typing.{Arrow, AnyType, Typed, AllTyped}
-use Rattle.state_core.specs.State.{State, States, Scope, Frozen, rp_switch_state, no_state, and_state, unstarted, paused, params_of, push_param, all_unstarted, all_paused, frozen_list, first_frozen, chosen_frozen, turned}
+use Rattle.state_core.specs.State.{State, States, Scope, Frozen, rp_switch_state, no_state, and_state, params_of, all_paused, frozen_list, first_frozen, chosen_frozen, turned}
 use Rattle.step_core.specs.Stepping as G
 use Rattle.step_core.specs.Stepping.{Resumes, ResumesEach, restart_in}
 use Rattle.step_core.specs.RowTyping.{RowTyped}

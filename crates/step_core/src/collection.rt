@@ -7,7 +7,7 @@ ghost use Rattle.net_syntax.specs.NetworkView.{members_of};
 ghost use Rattle.state_core.specs.RowsView.{rows_in, row_number};
 ghost use Rattle.state_core.specs.State.{paused};
 ghost use Rattle.state_core.specs.StateView.{frozen_of, kept_of, running_of, scope_of, state_of};
-ghost use Rattle.step_core.specs.Flow.{MembersRun, Runs, past_in, standing};
+ghost use Rattle.step_core.specs.Flow.{MembersRun, past_in, standing};
 ghost use Rattle.step_core.specs.Runs.{RunsWhere};
 ghost use Rattle.step_core.specs.Switching.{Begins, TurnedRun};
 
@@ -15,7 +15,7 @@ use crate::choice::{Choice, chosen, first_members};
 use crate::on::{On, both, node};
 use crate::part::{first, make_place, restart_of};
 use crate::rows::Rows;
-use crate::run::{resume_over, step};
+use crate::run::{on_frozen, on_state, run_at_next};
 use leaf_table::LeafId;
 use net_syntax::Net;
 use sample_core::{Memory, Sample};
@@ -109,38 +109,13 @@ fn resume_each<'n, R: Rows>(
     let mut visits: u32 = 0;
     for member in members {
         make_place(answers, before)?;
-        let one = resume_place(on, member, x, kept, &mut answers[before])?;
+        let (going, net) = on_frozen(&*on, member)?;
+        let one = run_at_next(&going, net, x, kept, &mut answers[before])?;
         visits = both(visits, one);
         before += 1;
     }
     answers.truncate(before);
     Ok(visits)
-}
-
-/// What was frozen goes on, or begins, at the next place.
-#[cycle(run)]
-#[inline(always)]
-fn resume_place<'n, R: Rows>(
-    on: &On<'_, 'n, R>,
-    member: &Frozen<'n>,
-    x: &Sample,
-    kept: &mut Kept<'n>,
-    out: &mut Sample,
-) -> Result<u32, Memory>
-    ensures { IfOk result (λ n. Runs (R.keys on.now.rows.now) (frozen_of member.now)
-        (datum_of x.now) (kept_of kept.old) (kept_of kept.new) (datum_of out.new) n) }
-{
-    let mut place = kept.places.spare();
-    match resume_over(on, member, x, &mut place, out) {
-        Ok(visits) => {
-            kept.places.push(place)?;
-            Ok(visits)
-        }
-        Err(memory) => {
-            drop(place);
-            Err(memory)
-        }
-    }
 }
 
 /// The same of members that ran: they go on.
@@ -162,37 +137,11 @@ fn step_each<'n, R: Rows>(
     let mut visits: u32 = 0;
     for member in members {
         make_place(answers, before)?;
-        let one = step_place(on, member, x, kept, &mut answers[before])?;
+        let (going, net) = on_state(&*on, member, on.dt)?;
+        let one = run_at_next(&going, net, x, kept, &mut answers[before])?;
         visits = both(visits, one);
         before += 1;
     }
     answers.truncate(before);
     Ok(visits)
-}
-
-/// What runs goes on, at the next place.
-#[cycle(run)]
-#[inline(always)]
-fn step_place<'n, R: Rows>(
-    on: &On<'_, 'n, R>,
-    member: &State<'n>,
-    x: &Sample,
-    kept: &mut Kept<'n>,
-    out: &mut Sample,
-) -> Result<u32, Memory>
-    ensures { IfOk result (λ n. Runs (R.keys on.now.rows.now)
-        (paused (state_of member.now) on.now.dt)
-        (datum_of x.now) (kept_of kept.old) (kept_of kept.new) (datum_of out.new) n) }
-{
-    let mut place = kept.places.spare();
-    match step(on, member, x, &mut place, out) {
-        Ok(visits) => {
-            kept.places.push(place)?;
-            Ok(visits)
-        }
-        Err(memory) => {
-            drop(place);
-            Err(memory)
-        }
-    }
 }

@@ -9,7 +9,7 @@ ghost use Rattle.state_core.specs.RowsView.{rows_in, row_number};
 ghost use Rattle.state_core.specs.StateView.{kept_of, scope_of};
 ghost use Rattle.state_core.specs.Tree.{passed as passed_on};
 ghost use Rattle.step_core.specs.Called.{Called};
-ghost use Rattle.step_core.specs.Flow.{Flows, AllFlow, IsCell, IsFedBack, number_of, past_in};
+ghost use Rattle.step_core.specs.Flow.{Flows, AllFlow, IsCell, IsFedBack, IsOneCell, number_of, past_in};
 
 use crate::cells::{start_accum, start_cell, step_accum};
 use crate::on::{On, both, node};
@@ -419,8 +419,8 @@ fn flow_cell<R: Rows>(
     kept: &mut Kept<'_>,
     out: &mut Sample,
 ) -> Result<u32, Memory>
-    ensures { IfOk result (λ n. (form : _) (c : _) → IsCell (rows_in net.now) form c
-        → Flows (R.keys on.now.rows.now) (rows_in net.now)
+    requires { IsOneCell (rows_in net.now) }
+    ensures { IfOk result (λ n. Flows (R.keys on.now.rows.now) (rows_in net.now)
         (scope_of on.now.env.now) (past_in on.now.before on.now.dt) (datum_of x.now)
         (kept_of kept.old) (kept_of kept.new) (datum_of out.new) n) }
 {
@@ -445,32 +445,33 @@ fn first_cell<R: Rows>(
     kept: &mut Kept<'_>,
     out: &mut Sample,
 ) -> Result<u32, Memory>
+    requires { IsOneCell (rows_in net.now) }
     ensures { IfOk result (λ n. Flows (R.keys on.now.rows.now) (rows_in net.now)
         (scope_of on.now.env.now) None (datum_of x.now) (kept_of kept.old) (kept_of kept.new)
         (datum_of out.new) n) }
 {
-    let (form, constant) = form_of(net)?;
+    let (form, constant) = form_of(net);
     let (first, answer) = start_cell(on.alloc, on.rows, form, constant, on.params(), x)?;
     out.put(answer);
     kept.cells.push(first)?;
     Ok(1)
 }
 
-/// The form of a cell, and its constant, if it has one. `flow` asks for no other network; `Memory`
-/// then.
+/// The form of a cell, and its constant, if it has one.
 #[tactic(auto, using(crate::proofs::Flows::cell_forms))]
-fn form_of(net: &Net<LeafId>) -> Result<(Form, Option<LeafId>), Memory>
-    ensures { IfOk result (λ r. IsCell (rows_in net.now) r.0 (number_of r.1)) }
+fn form_of(net: &Net<LeafId>) -> (Form, Option<LeafId>)
+    requires { IsOneCell (rows_in net.now) }
+    ensures { IsCell (rows_in net.now) result.0 (number_of result.1) }
 {
     match net {
-        Net::IPre(c) => Ok((Form::IPre, Some(*c))),
-        Net::Delay(q, c) => Ok((Form::Delay(*q), Some(*c))),
-        Net::Hold(c) => Ok((Form::Hold, Some(*c))),
-        Net::After(q, c) => Ok((Form::After(*q), Some(*c))),
-        Net::Repeatedly(q, c) => Ok((Form::Repeatedly(*q), Some(*c))),
-        Net::Time => Ok((Form::Time, None)),
-        Net::Integral => Ok((Form::Integral, None)),
-        _ => Err(Memory),
+        Net::IPre(c) => (Form::IPre, Some(*c)),
+        Net::Delay(q, c) => (Form::Delay(*q), Some(*c)),
+        Net::Hold(c) => (Form::Hold, Some(*c)),
+        Net::After(q, c) => (Form::After(*q), Some(*c)),
+        Net::Repeatedly(q, c) => (Form::Repeatedly(*q), Some(*c)),
+        Net::Time => (Form::Time, None),
+        Net::Integral => (Form::Integral, None),
+        _ => unreachable!(),
     }
 }
 

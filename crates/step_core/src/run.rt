@@ -42,18 +42,8 @@ pub(crate) fn run_place<'n, R: Rows>(
         (past_behind (0, length (kept_of kept.old).1) (past_in on.now.before on.now.dt)))
         (datum_of x.now) (kept_of kept.old) (kept_of kept.new) (datum_of out.new) n) }
 {
-    let at = kept.places.len();
-    let mut place = kept.places.spare();
-    match go_on(on, net, at, x, &mut place, out) {
-        Ok(visits) => {
-            kept.places.push(place)?;
-            Ok(visits)
-        }
-        Err(memory) => {
-            drop(place);
-            Err(memory)
-        }
-    }
+    let (going, net) = on_place(&*on, net, kept.places.len())?;
+    run_at_next(&going, net, x, kept, out)
 }
 
 /// What ran at place `at` before goes on, in the memory of what stands in the place; at a start the
@@ -73,36 +63,94 @@ pub(crate) fn go_on<'n, R: Rows>(
         (past_behind (0, at) (past_in on.now.before on.now.dt)))
         (datum_of x.now) (state_of place.new) (datum_of out.new) n) }
 {
-    match on.before {
-        Some(before) => match before.places.get(at) {
-            Some(state) => step(on, state, x, place, out),
-            None => Err(Memory),
-        },
-        None => run_over(on, net, x, place, out),
+    let (going, net) = on_place(&*on, net, at)?;
+    run_over(&going, net, x, place, out)
+}
+
+/// A network that starts or goes on, at the next place.
+#[cycle(run)]
+#[inline(always)]
+pub(crate) fn run_at_next<'n, R: Rows>(
+    on: &On<'_, 'n, R>,
+    net: &'n Net<LeafId>,
+    x: &Sample,
+    kept: &mut Kept<'n>,
+    out: &mut Sample,
+) -> Result<u32, Memory>
+    ensures { IfOk result (λ n. Runs (R.keys on.now.rows.now)
+        (standing (rows_in net.entry.now) (scope_of on.now.env.now)
+        (past_in on.now.before on.now.dt))
+        (datum_of x.now) (kept_of kept.old) (kept_of kept.new) (datum_of out.new) n) }
+{
+    let mut place = kept.places.spare();
+    match run_over(on, net, x, &mut place, out) {
+        Ok(visits) => {
+            kept.places.push(place)?;
+            Ok(visits)
+        }
+        Err(memory) => {
+            drop(place);
+            Err(memory)
+        }
     }
 }
 
-/// What runs goes on, in the memory of what stands in the place. No network comes to keep a state
-/// that keeps nothing; `Memory` then.
-#[cycle(run)]
+/// The network whose state this is, and what it runs on so much time after the sample before. No
+/// network comes to keep a state that keeps nothing; `Memory` then.
 #[inline(always)]
-pub(crate) fn step<'n, R: Rows>(
-    on: &On<'_, 'n, R>,
-    state: &State<'n>,
-    x: &Sample,
-    place: &mut State<'n>,
-    out: &mut Sample,
-) -> Result<u32, Memory>
-    ensures { IfOk result (λ n. RunsWhere (R.keys on.now.rows.now)
-        (paused (state_of state.now) on.now.dt)
-        (datum_of x.now) (state_of place.new) (datum_of out.new) n) }
+pub(crate) fn on_state<'b, 'n, R: Rows>(
+    on: &'b On<'_, 'n, R>,
+    state: &'b State<'n>,
+    dt: u64,
+) -> Result<(On<'b, 'n, R>, &'n Net<LeafId>), Memory>
+    ensures rows { IfOk result (λ r. r.0.rows.now ≡ on.entry.now.rows.now) }
+    ensures stands { IfOk result (λ r. standing (rows_in r.1.now) (scope_of r.0.env.now)
+        (past_in r.0.before r.0.dt) ≡ paused (state_of state.entry.now) dt) }
 {
     match state {
         State::Whole(whole) => {
             let running = whole.get();
-            run_over(&(&*on).going(running, on.dt), running.net, x, place, out)
+            Ok((on.going(running, dt), running.net))
         }
         State::Nothing => Err(Memory),
+    }
+}
+
+/// The network that was frozen, and what it goes on with, after the step that it was frozen with, or
+/// starts with.
+#[inline(always)]
+pub(crate) fn on_frozen<'b, 'n, R: Rows>(
+    on: &'b On<'_, 'n, R>,
+    frozen: &'b Frozen<'n>,
+) -> Result<(On<'b, 'n, R>, &'n Net<LeafId>), Memory>
+    ensures rows { IfOk result (λ r. r.0.rows.now ≡ on.entry.now.rows.now) }
+    ensures stands { IfOk result (λ r. standing (rows_in r.1.now) (scope_of r.0.env.now)
+        (past_in r.0.before r.0.dt) ≡ frozen_of frozen.entry.now) }
+{
+    match frozen {
+        Frozen::Unstarted { net, env } => Ok((on.started(env), *net)),
+        Frozen::Paused { state, step } => on_state(on, state, *step),
+    }
+}
+
+/// The network that ran at place `at` before, and what it goes on with; at a start this network.
+#[inline(always)]
+fn on_place<'b, 'n, R: Rows>(
+    on: &'b On<'_, 'n, R>,
+    net: &'n Net<LeafId>,
+    at: usize,
+) -> Result<(On<'b, 'n, R>, &'n Net<LeafId>), Memory>
+    ensures rows { IfOk result (λ r. r.0.rows.now ≡ on.entry.now.rows.now) }
+    ensures stands { IfOk result (λ r. standing (rows_in r.1.now) (scope_of r.0.env.now)
+        (past_in r.0.before r.0.dt) ≡ placed (rows_in net.entry.now) (scope_of on.entry.now.env.now)
+        (past_behind (0, at) (past_in on.entry.now.before on.entry.now.dt))) }
+{
+    match on.before {
+        Some(before) => match before.places.get(at) {
+            Some(state) => on_state(on, state, on.dt),
+            None => Err(Memory),
+        },
+        None => Ok((on.started(on.env), net)),
     }
 }
 
@@ -586,8 +634,8 @@ fn run_initial_in<'n, R: Rows>(
     }
 }
 
-/// `(old k)`: what was frozen goes on, or starts. What runs at a place is never an `(old k)` that has
-/// resumed, and a typed one finds what was frozen; `Memory` else.
+/// `(old k)`: what was frozen goes on with the step that it was frozen with, or starts. What runs at a
+/// place is never an `(old k)` that has resumed, and a typed one finds what was frozen; `Memory` else.
 #[cycle(run)]
 #[inline(never)]
 fn run_old<'n, R: Rows>(
@@ -604,58 +652,11 @@ fn run_old<'n, R: Rows>(
     match on.before {
         Some(_) => Err(Memory),
         None => match on.env.olds.get(k) {
-            Some(frozen) => Ok(node(resume(on, frozen, x, running, out)?, 0)),
+            Some(frozen) => {
+                let (going, net) = on_frozen(&*on, frozen)?;
+                Ok(node(run_in(&going, net, x, running, out)?, 0))
+            }
             None => Err(Memory),
-        },
-    }
-}
-
-/// What was frozen goes on with the step that it was frozen with, or starts. A state that keeps
-/// nothing isn't frozen; `Memory` then.
-#[cycle(run)]
-fn resume<'n, R: Rows>(
-    on: &On<'_, 'n, R>,
-    frozen: &Frozen<'n>,
-    x: &Sample,
-    running: &mut Running<'n>,
-    out: &mut Sample,
-) -> Result<u32, Memory>
-    ensures { IfOk result (λ n. RunsWhere (R.keys on.now.rows.now) (frozen_of frozen.now)
-        (datum_of x.now) (running_of running.new) (datum_of out.new) n) }
-{
-    match frozen {
-        Frozen::Unstarted { net, env } => run_in(&(&*on).started(env), net, x, running, out),
-        Frozen::Paused { state, step } => match state {
-            State::Whole(whole) => {
-                let paused = whole.get();
-                run_in(&(&*on).going(paused, *step), paused.net, x, running, out)
-            }
-            State::Nothing => Err(Memory),
-        },
-    }
-}
-
-/// The same in the memory of what stands in the place.
-#[cycle(run)]
-#[inline(always)]
-pub(crate) fn resume_over<'n, R: Rows>(
-    on: &On<'_, 'n, R>,
-    frozen: &Frozen<'n>,
-    x: &Sample,
-    place: &mut State<'n>,
-    out: &mut Sample,
-) -> Result<u32, Memory>
-    ensures { IfOk result (λ n. RunsWhere (R.keys on.now.rows.now) (frozen_of frozen.now)
-        (datum_of x.now) (state_of place.new) (datum_of out.new) n) }
-{
-    match frozen {
-        Frozen::Unstarted { net, env } => run_over(&(&*on).started(env), net, x, place, out),
-        Frozen::Paused { state, step } => match state {
-            State::Whole(whole) => {
-                let paused = whole.get();
-                run_over(&(&*on).going(paused, *step), paused.net, x, place, out)
-            }
-            State::Nothing => Err(Memory),
         },
     }
 }

@@ -9,7 +9,7 @@ ghost use Rattle.step_core.specs.{Binding.FitsTable, RunnerState.HasPast, Runs.R
 use crate::bound::Bound;
 use crate::on::On;
 use crate::rows::{Rows, Workspace};
-use crate::run::{run_over, step};
+use crate::run::{on_state, run_over};
 use leaf_table::{LeafId, LeafTable};
 use net_syntax::Net;
 use sample_core::{Memory, Sample};
@@ -134,10 +134,7 @@ fn run_next<'n, R: Rows>(
         (frozen_from (rows_in net.entry.now) (scope_of on.now.env.now) state.entry on.now.dt)
         (datum_of x.now) (state_of place.new) (datum_of r.1) r.0) }
 {
-    let visits = match state {
-        Some(state) => step(on, state, x, place, last)?,
-        None => run_over(&on.started(on.env), net, x, place, last)?,
-    };
+    let visits = run_from(on, net, state, x, place, last)?;
     let mut out = Sample::Int(0);
     match put_out(on.alloc, last, &mut out) {
         Ok(()) => Ok((visits, out)),
@@ -145,6 +142,29 @@ fn run_next<'n, R: Rows>(
             drop(out);
             Err(memory)
         }
+    }
+}
+
+/// The same, which puts the answer in the place of the last one.
+#[inline(always)]
+fn run_from<'n, R: Rows>(
+    on: &On<'_, 'n, R>,
+    net: &'n Net<LeafId>,
+    state: Option<&State<'n>>,
+    x: &Sample,
+    place: &mut State<'n>,
+    last: &mut Sample,
+) -> Result<u32, Memory>
+    ensures { IfOk result (λ n. RunsWhere (R.keys on.now.rows.now)
+        (frozen_from (rows_in net.entry.now) (scope_of on.now.env.now) state.entry on.now.dt)
+        (datum_of x.now) (state_of place.new) (datum_of last.new) n) }
+{
+    match state {
+        Some(state) => {
+            let (going, net) = on_state(on, state, on.dt)?;
+            run_over(&going, net, x, place, last)
+        }
+        None => run_over(&on.started(on.env), net, x, place, last),
     }
 }
 

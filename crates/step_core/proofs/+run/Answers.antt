@@ -12,19 +12,20 @@ use Rattle.state_core.specs.Tree.{width_of}
 use Rattle.step_core.specs.Called.{Called}
 use Rattle.step_core.specs.EventView.{restart_found}
 use Rattle.step_core.specs.Flow as F
+use Rattle.step_core.specs.Rank.{frozen_rank}
 use Rattle.step_core.specs.Flow.{all_placed, members_before, past_behind, past_in, placed, standing, Runs}
 use Rattle.step_core.specs.Runs.{RunsWhere}
 use Rattle.step_core.specs.Switching.{IsChosen}
-use Rattle.step_core.proofs.Flows.{is_switch, is_d_switch, is_k_switch, is_p_switch, is_rp_switch, is_old, placed_by, arr_flows, cell_by, seq_flows, first_flows, loop_flows, par_flows, none_flow, chain_goes, each_begins, each_goes, no_items, placed_flows, restart_goes, restart_cuts, late_goes, late_cuts, initial_out_starts, initial_in_starts}
+use Rattle.step_core.proofs.Flows.{is_switch, is_d_switch, is_k_switch, is_p_switch, is_rp_switch, is_old, placed_by, arr_flows, cell_as, seq_flows, first_flows, loop_flows, par_flows, none_flow, chain_goes, each_begins, each_goes, no_items, placed_flows, restart_goes, restart_cuts, late_goes, late_cuts, initial_out_starts, initial_in_starts}
 use Rattle.step_core.proofs.CollectionRuns.{members_fall, turned_event, turned_none, collection_runs, members_begin, member_goes, members_end, initial_out_begins, initial_in_begins}
 use Rattle.step_core.proofs.Levels.{level_most}
 use Rattle.step_core.proofs.ListedMembers.{before_listed, first_before}
 use Rattle.step_core.proofs.MembersFall.{load, one_falls}
 use Rattle.step_core.proofs.PassedNetworks.{passed_falls, passed_flows}
 use Rattle.step_core.proofs.Plain.{plain, flows_run}
-use Rattle.step_core.proofs.RunJoins.{if_ok, both_ok, fires_by}
+use Rattle.step_core.proofs.RunJoins.{if_ok, both_ok, fires_by, ran_as, runs_as}
 use Rattle.step_core.proofs.StateLists.{one_answered}
-use Rattle.step_core.proofs.Switches.{same_rank, late_start_falls, rest_falls, par_members_fall, one_cell_wider, placed_found, flows_width, runs_width, others_fall, others_placed_fall, loop_part_falls, k_over_falls, p_over_falls, p_members_fall, p_watch_falls, resumed_falls, switch_stays, switch_ends, d_switch_stays, d_switch_ends, k_switch_stays, k_switch_ends, none_run, each_run_begins, each_run_goes, p_switch_stays, p_switch_ends, old_resumes}
+use Rattle.step_core.proofs.Switches.{same_rank, late_start_falls, rest_falls, par_members_fall, one_cell_wider, flows_width, runs_width, others_fall, others_placed_fall, loop_part_falls, k_over_falls, p_over_falls, p_members_fall, p_watch_falls, resumed_falls, switch_stays, switch_ends, d_switch_stays, d_switch_ends, k_switch_stays, k_switch_ends, none_run, each_run_begins, each_run_goes, p_switch_stays, p_switch_ends, old_resumes}
 use Rattle.step_core.proofs.+run.Goals as goal
 
 pub flow::flow-returns-in-Arr : goal.flow::flow-returns-in-Arr
@@ -50,27 +51,26 @@ flow::flow-returns-in-Switch g t c = if_ok c.run_place.result _ _ (λ n h. place
   ]
 ]) h) c.run_place.ensures
 
-pub flow::flow-returns-in-IPre : goal.flow::flow-returns-in-IPre
-flow::flow-returns-in-IPre g t c =
-    if_ok c.flow_cell.result _ _ (λ y h. elim c.in-IPre.is [
-      | inl e ↦ h _ _ (cell_by _ _ _ _ (ap rows_in e.1) F.is_i_pre)
+pub flow::flow-flow_cell-requires : goal.flow::flow-flow_cell-requires
+flow::flow-flow_cell-requires g t c = elim c.in-IPre.is [
+  | inl e ↦ cell_as _ _ _ _ (ap rows_in e.1) F.is_i_pre
+  | inr others ↦ elim others [
+    | inl e ↦ cell_as _ _ _ _ (ap rows_in e.2) F.is_delay
+    | inr others ↦ elim others [
+      | inl e ↦ cell_as _ _ _ _ (ap rows_in e.1) F.is_hold
       | inr others ↦ elim others [
-        | inl e ↦ h _ _ (cell_by _ _ _ _ (ap rows_in e.2) F.is_delay)
+        | inl e ↦ cell_as _ _ _ _ (ap rows_in e.2) F.is_after
         | inr others ↦ elim others [
-          | inl e ↦ h _ _ (cell_by _ _ _ _ (ap rows_in e.1) F.is_hold)
+          | inl e ↦ cell_as _ _ _ _ (ap rows_in e.2) F.is_repeatedly
           | inr others ↦ elim others [
-            | inl e ↦ h _ _ (cell_by _ _ _ _ (ap rows_in e.2) F.is_after)
-            | inr others ↦ elim others [
-              | inl e ↦ h _ _ (cell_by _ _ _ _ (ap rows_in e.2) F.is_repeatedly)
-              | inr others ↦ elim others [
-                | inl e ↦ h _ _ (cell_by _ _ _ _ (ap rows_in e) F.is_time)
-                | inr e ↦ h _ _ (cell_by _ _ _ _ (ap rows_in e) F.is_integral)
-              ]
-            ]
+            | inl e ↦ cell_as _ _ _ _ (ap rows_in e) F.is_time
+            | inr e ↦ cell_as _ _ _ _ (ap rows_in e) F.is_integral
           ]
         ]
       ]
-    ]) c.flow_cell.ensures
+    ]
+  ]
+]
 
 pub flow::flow_first-returns-in_ok-done-in-Ok : goal.flow::flow_first-returns-in_ok-done-in-Ok
 flow::flow_first-returns-in_ok-done-in-Ok g t c =
@@ -160,18 +160,22 @@ flow::flow_restart-returns-in_ok-run_place-in-None g t c =
     restart_goes _ _ _ _ _ _ _ _ _ _ _ _ c.first.ensures (sym c.restart_of.ensures ∙ ap restart_found c.in-None.is) c.in_ok-run_place-in-None.ensures
     c.node-in-None.ensures
 
-pub run::go_on-step-requires : goal.run::go_on-step-requires
-run::go_on-step-requires g t c κs within =
-    let here = placed_found (rows_in c.args.net.now) (scope_of c.args.on.now.env.now) _ _ _ c.args.at _ (ap (λ b. past_in b c.args.on.now.dt) c.in-Some.is)
-    c.in-Some-get.ensures in
-    (omega (arith, c.decreases, same_rank _ _ here), search rules)
+pub run::run_place-run_at_next-requires : goal.run::run_place-run_at_next-requires
+run::run_place-run_at_next-requires g t c κs within =
+    let at = ap (λ i. frozen_rank (placed (rows_in c.args.net.now) (scope_of c.args.on.now.env.now) (past_behind (0, i) (past_in c.args.on.now.before c.args.on.now.dt)))) c.len.ensures in
+    (omega (arith, c.decreases, at, same_rank _ _ c.in_ok-going.ensures.stands), search rules)
 
-pub run::go_on-returns-in-Some-get : goal.run::go_on-returns-in-Some-get
-run::go_on-returns-in-Some-get g t c =
-    let here = placed_found (rows_in c.args.net.now) (scope_of c.args.on.now.env.now) _ _ _ c.args.at _ (ap (λ b. past_in b c.args.on.now.dt) c.in-Some.is)
-    c.in-Some-get.ensures in
-    if_ok c.step.result _ _ (λ n h. subst (λ w. RunsWhere (g.R.Rows.keys c.args.on.now.rows.now) w (datum_of c.args.x.now) (state_of c.step.new.place)
-    (datum_of c.step.new.out) n) (sym here) h) c.step.ensures
+pub run::run_place-returns : goal.run::run_place-returns
+run::run_place-returns g t c =
+    let at = ap (λ i. placed (rows_in c.args.net.now) (scope_of c.args.on.now.env.now) (past_behind (0, i) (past_in c.args.on.now.before c.args.on.now.dt))) c.len.ensures in
+    if_ok c.run_at_next.result _ _ (λ n h. runs_as _ _ _ _ _ _ _ _ n (ap g.R.Rows.keys c.in_ok-going.ensures.rows) (c.in_ok-going.ensures.stands ∙ at) h) c.run_at_next.ensures
+
+pub run::go_on-run_over-requires : goal.run::go_on-run_over-requires
+run::go_on-run_over-requires g t c κs within = (omega (arith, c.decreases, same_rank _ _ c.in_ok-going.ensures.stands), search rules)
+
+pub run::go_on-returns : goal.run::go_on-returns
+run::go_on-returns g t c =
+    if_ok c.run_over.result _ _ (λ n h. ran_as _ _ _ _ _ _ _ n (ap g.R.Rows.keys c.in_ok-going.ensures.rows) c.in_ok-going.ensures.stands h) c.run_over.ensures
 
 pub run::run_in-returns-in_ok-visits-in_default-net : goal.run::run_in-returns-in_ok-visits-in_default-net
 run::run_in-returns-in_ok-visits-in_default-net g t c =
@@ -312,20 +316,22 @@ run::run_each-members-preserved g t c =
       each_run_goes _ _ _ _ _ _ _ _ _ _ _ _ _ _ _ _ _ _ _ _ form c.members.invariant.2 c.in_ok-input.ensures c.in_ok-one.ensures answered c.both-visits.ensures,
     )
 
-pub run::run_old-resume-requires : goal.run::run_old-resume-requires
-run::run_old-resume-requires g t c κs within = (
+pub run::run_old-run_in-requires : goal.run::run_old-run_in-requires
+run::run_old-run_in-requires g t c κs within = (
   omega (
     arith,
     c.decreases,
+    same_rank _ _ c.in_ok-going-in-Some-get.ensures.stands,
     resumed_falls c.args.k (scope_of c.args.on.now.env.now) (past_in c.args.on.now.before c.args.on.now.dt) _
         (ap (λ b. past_in b c.args.on.now.dt) c.in-None.is) c.in-Some-get.ensures,
   ),
   search rules,
 )
 
-pub run::run_old-returns-in_ok-resume-in-Some-get : goal.run::run_old-returns-in_ok-resume-in-Some-get
-run::run_old-returns-in_ok-resume-in-Some-get g t c =
-    old_resumes _ _ _ _ _ _ _ _ _ _ (ap (λ b. past_in b c.args.on.now.dt) c.in-None.is) c.in-Some-get.ensures c.in_ok-resume-in-Some-get.ensures c.node.ensures
+pub run::run_old-returns-in_ok-run_in-in-Some-get : goal.run::run_old-returns-in_ok-run_in-in-Some-get
+run::run_old-returns-in_ok-run_in-in-Some-get g t c =
+    old_resumes _ _ _ _ _ _ _ _ _ _ (ap (λ b. past_in b c.args.on.now.dt) c.in-None.is) c.in-Some-get.ensures
+    (ran_as _ _ _ _ _ _ _ _ (ap g.R.Rows.keys c.in_ok-going-in-Some-get.ensures.rows) c.in_ok-going-in-Some-get.ensures.stands c.in_ok-run_in-in-Some-get.ensures) c.node.ensures
 
 pub flow::flow_initial_out-flow-requires : goal.flow::flow_initial_out-flow-requires
 flow::flow_initial_out-flow-requires g t c κs within =
@@ -454,9 +460,9 @@ collection::run_turned-returns-in-Some-before g t c =
     if_ok c.step_each.result _ _ (λ n h. turned_none _ _ _ _ _ _ _ _ _ _ _ _ n (sym c.restart_of.ensures ∙ ap restart_found c.in-None.is) c.first.ensures
     (before_listed _ _ _ _ c.args.on.now.dt _ (ap (λ b. past_in b c.args.on.now.dt) c.in-Some-before.is) c.as_slice-in-Some-before.ensures) h) c.step_each.ensures
 
-pub collection::resume_each-resume_place-requires : goal.collection::resume_each-resume_place-requires
-collection::resume_each-resume_place-requires g t c κs within = (
-  omega (arith, c.decreases, one_falls frozen_of c.args.members.now c.loop-member.member-index _ c.loop-member-test.true c.member-item.is),
+pub collection::resume_each-run_at_next-requires : goal.collection::resume_each-run_at_next-requires
+collection::resume_each-run_at_next-requires g t c κs within = (
+  omega (arith, c.decreases, one_falls frozen_of c.args.members.now c.loop-member.member-index _ c.loop-member-test.true c.member-item.is, same_rank _ _ c.in_ok-going.ensures.stands),
   search rules,
 )
 
@@ -466,20 +472,26 @@ collection::resume_each-loop-member-init g t c = (refl, omega arith, members_beg
 pub collection::resume_each-loop-member-preserved : goal.collection::resume_each-loop-member-preserved
 collection::resume_each-loop-member-preserved g t c =
     let room = c.in_ok-make_place.ensures in
-    let answered = one_answered c.loop-member.answers.items c.make_place.new.places.items c.loop-member.before c.resume_place.new.out room.0 room.1 in (
+    let answered = one_answered c.loop-member.answers.items c.make_place.new.places.items c.loop-member.before c.run_at_next.new.out room.0 room.1 in (
       omega (arith, c.loop-member.invariant.0),
-      omega (arith, room.0, length-set c.make_place.new.places.items c.loop-member.before c.resume_place.new.out),
+      omega (arith, room.0, length-set c.make_place.new.places.items c.loop-member.before c.run_at_next.new.out),
       member_goes _ frozen_of c.args.members.now c.loop-member.member-index _ _ _ _ _ _ _ _ _ _ _ _ c.loop-member-test.true c.member-item.is refl
-          c.loop-member.invariant.2 c.in_ok-one.ensures answered c.both-visits.ensures,
+          c.loop-member.invariant.2
+          (runs_as _ _ _ _ _ _ _ _ _ (ap g.R.Rows.keys c.in_ok-going.ensures.rows) c.in_ok-going.ensures.stands c.in_ok-one.ensures) answered c.both-visits.ensures,
     )
 
 pub collection::resume_each-returns : goal.collection::resume_each-returns
 collection::resume_each-returns g t c =
     members_end _ frozen_of c.args.members.now _ _ _ _ _ _ _ c.loop-member-test.false c.loop-member.invariant.2 (ap (map datum_of) c.truncate.ensures.items)
 
-pub collection::step_each-step_place-requires : goal.collection::step_each-step_place-requires
-collection::step_each-step_place-requires g t c κs within = (
-  omega (arith, c.decreases, one_falls (λ a. paused (state_of a) c.args.on.now.dt) c.args.members.now c.loop-member.member-index _ c.loop-member-test.true c.member-item.is),
+pub collection::step_each-run_at_next-requires : goal.collection::step_each-run_at_next-requires
+collection::step_each-run_at_next-requires g t c κs within = (
+  omega (
+    arith,
+    c.decreases,
+    one_falls (λ a. paused (state_of a) c.args.on.now.dt) c.args.members.now c.loop-member.member-index _ c.loop-member-test.true c.member-item.is,
+    same_rank _ _ c.in_ok-going.ensures.stands,
+  ),
   search rules,
 )
 
@@ -489,11 +501,12 @@ collection::step_each-loop-member-init g t c = (refl, omega arith, members_begin
 pub collection::step_each-loop-member-preserved : goal.collection::step_each-loop-member-preserved
 collection::step_each-loop-member-preserved g t c =
     let room = c.in_ok-make_place.ensures in
-    let answered = one_answered c.loop-member.answers.items c.make_place.new.places.items c.loop-member.before c.step_place.new.out room.0 room.1 in (
+    let answered = one_answered c.loop-member.answers.items c.make_place.new.places.items c.loop-member.before c.run_at_next.new.out room.0 room.1 in (
       omega (arith, c.loop-member.invariant.0),
-      omega (arith, room.0, length-set c.make_place.new.places.items c.loop-member.before c.step_place.new.out),
+      omega (arith, room.0, length-set c.make_place.new.places.items c.loop-member.before c.run_at_next.new.out),
       member_goes _ (λ a. paused (state_of a) c.args.on.now.dt) c.args.members.now c.loop-member.member-index _ _ _ _ _ _ _ _ _ _ _ _ c.loop-member-test.true c.member-item.is refl
-          c.loop-member.invariant.2 c.in_ok-one.ensures answered c.both-visits.ensures,
+          c.loop-member.invariant.2
+          (runs_as _ _ _ _ _ _ _ _ _ (ap g.R.Rows.keys c.in_ok-going.ensures.rows) c.in_ok-going.ensures.stands c.in_ok-one.ensures) answered c.both-visits.ensures,
     )
 
 pub collection::step_each-returns : goal.collection::step_each-returns

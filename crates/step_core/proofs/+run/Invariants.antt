@@ -72,14 +72,8 @@ decreases-collection::run_turned g l =
 abbrev pub decreases-collection::resume_each : goal.decreases-collection::resume_each
 decreases-collection::resume_each g l = 20 * load (map frozen_of l.members.now) + 20
 
-abbrev pub decreases-collection::resume_place : goal.decreases-collection::resume_place
-decreases-collection::resume_place g l = 20 * frozen_rank (frozen_of l.member.now) + 17
-
 abbrev pub decreases-collection::step_each : goal.decreases-collection::step_each
 decreases-collection::step_each g l = 20 * load (map (λ a. paused (state_of a) l.on.now.dt) l.members.now) + 20
-
-abbrev pub decreases-collection::step_place : goal.decreases-collection::step_place
-decreases-collection::step_place g l = 20 * frozen_rank (paused (state_of l.member.now) l.on.now.dt) + 17
 
 abbrev pub invariant-collection::resume_each-loop-member : goal.invariant-collection::resume_each-loop-member
 invariant-collection::resume_each-loop-member g l =
@@ -102,17 +96,13 @@ abbrev pub decreases-run::go_on : goal.decreases-run::go_on
 decreases-run::go_on g l =
     20 * frozen_rank (placed (rows_in l.net.now) (scope_of l.on.now.env.now) (past_behind (0, l.at) (past_in l.on.now.before l.on.now.dt))) + 17
 
-abbrev pub decreases-run::step : goal.decreases-run::step
-decreases-run::step g l =
-    20 * frozen_rank (paused (state_of l.state.now) l.on.now.dt) + 16
+abbrev pub decreases-run::run_at_next : goal.decreases-run::run_at_next
+decreases-run::run_at_next g l =
+    20 * frozen_rank (standing (rows_in l.net.now) (scope_of l.on.now.env.now) (past_in l.on.now.before l.on.now.dt)) + 16
 
 abbrev pub decreases-run::start_under : goal.decreases-run::start_under
 decreases-run::start_under g l =
     20 * frozen_rank (unstarted (rows_in l.net.now) (push_param (scope_of l.on.now.env.now) (datum_of l.value.now))) + 16
-
-abbrev pub decreases-run::resume_over : goal.decreases-run::resume_over
-decreases-run::resume_over g l =
-    20 * frozen_rank (frozen_of l.frozen.now) + 16
 
 abbrev pub decreases-run::run_initial_out : goal.decreases-run::run_initial_out
 decreases-run::run_initial_out g l =
@@ -137,10 +127,6 @@ decreases-run::run_in g l =
 abbrev pub decreases-run::run_old : goal.decreases-run::run_old
 decreases-run::run_old g l =
     20 * frozen_rank (standing (old l.k) (scope_of l.on.now.env.now) (past_in l.on.now.before l.on.now.dt)) + 12
-
-abbrev pub decreases-run::resume : goal.decreases-run::resume
-decreases-run::resume g l =
-    20 * frozen_rank (frozen_of l.frozen.now) + 14
 
 abbrev pub decreases-run::run_switch : goal.decreases-run::run_switch
 decreases-run::run_switch g l =
