@@ -1,4 +1,8 @@
 -- What is listed of a network, and its texts, a file a line.
+pub mod Listed
+pub mod Rows
+pub mod Possible
+pub mod Texts
 pub mod Applied
 pub mod Trace
 pub mod TraceText

@@ -11,9 +11,18 @@
 #![tactic(auto)]
 
 mod applied;
+mod forms;
+mod positions;
+mod possible;
+mod rows;
+mod texts;
 mod told;
 mod trace;
 
 pub use applied::applied_text;
+pub use positions::{has_position, tree_at};
+pub use possible::{PossibleStep, possible_steps};
+pub use rows::{OutlineRow, outline};
+pub use texts::{outline_text, possible_text};
 pub use told::trace_text;
 pub use trace::{Change, Stop, Trace, first_steps, trace_steps};

@@ -72,7 +72,7 @@ fn push_some(text: &mut String, mark: &str, tree: &Option<Tree>) -> Result<(), M
 }
 
 /// A tree behind a mark, and the end of its line.
-fn push_marked(text: &mut String, mark: &str, tree: &Tree) -> Result<(), Memory>
+pub(crate) fn push_marked(text: &mut String, mark: &str, tree: &Tree) -> Result<(), Memory>
     ensures { Adds result (string_bytes text.old) (string_bytes text.new)
         (marked_line mark.now (part_of tree.now)) }
 {

@@ -1,0 +1,74 @@
+-- The steps that may be taken forward at or below a position.
+use Rattle.std.specs.Prelude.{◌≡◌, ℕ, ◌+◌, ◌<◌, List, map, Option, Some, None}
+use Rattle.std.specs.List.{All}
+use Rattle.leaf_core.specs.Expression.{Expression}
+use Rattle.net_syntax.specs.Place.{Tree}
+use Rattle.net_syntax.specs.LawStep.{Step, step_of, part_of}
+use Rattle.net_syntax.specs.TypedNetwork.{TypedNetwork}
+use Rattle.net_syntax.specs.declared.law_step.Law.{Law}
+use Rattle.net_syntax.specs.declared.law_step.Law.TheVariants as L
+use Rattle.net_syntax.specs.declared.law_step.Direction.TheVariants.{Forward}
+use Rattle.cert_check.specs.Derives.{Next, tree_at}
+use Rattle.net_opt.specs.Optimising.{NoStepBy, forward_step}
+use Rattle.net_opt.specs.Order.{Before}
+use Rattle.net_view.specs.Listed.{IsWithin, Lists}
+use Rattle.net_view.specs.declared.possible.PossibleStep.{PossibleStep}
+
+-- a step, and what stands at its position once it is taken
+pub record Possible : Type 0 where
+  pub step : Step
+  pub tree : Tree Expression
+
+-- what the code's one says
+abbrev pub possible_of : PossibleStep → Possible
+possible_of x = record { step = step_of x.step; tree = part_of x.tree }
+
+-- a step forward, with no tree given, that leads on: a check would accept it
+pub record MayBeTaken (t : TypedNetwork) (s : Step) : Type 0 where
+  pub forward : s.direction ≡ Forward
+  pub none_given : s.given ≡ None
+  pub to : TypedNetwork
+  pub next : Next t s to
+
+-- the laws by number, those of expressions, 1 to 18, before those of networks
+abbrev pub law_rank : Law → ℕ
+law_rank (L.E n) = n
+law_rank (L.L n) = 18 + n
+
+-- the first step is at an earlier position in preorder, or at the same one by an earlier law
+pub data EarlierStep (s r : Step) : Type 0 where
+  earlier_position : Before s.position r.position → EarlierStep s r
+  earlier_law : s.position ≡ r.position → law_rank s.law < law_rank r.law → EarlierStep s r
+
+-- the step leads on, and the tree stands at its position then
+pub record IsPossible (t : TypedNetwork) (x : Possible) : Type 0 where
+  pub to : TypedNetwork
+  pub next : Next t x.step to
+  pub stands : tree_at to x.step.position ≡ Some x.tree
+
+-- the step is forward, with no tree given
+abbrev pub IsForward : Step → Type 0
+IsForward s = (s.direction ≡ Forward) × (s.given ≡ None)
+
+-- the tree is what stands there once the step is taken; none where the step doesn't lead on
+abbrev pub IsTreeAfter : TypedNetwork → Step → Option (Tree Expression) → Type 0
+IsTreeAfter t s None = (u : TypedNetwork) → Next t s u → ⊥
+IsTreeAfter t s (Some tree) = IsPossible t (record { step = s; tree = tree })
+
+-- the step forward by the law at p, where it leads on
+abbrev pub IsFoundBy : TypedNetwork → List ℕ → Law → Option Possible → Type 0
+IsFoundBy t p law None = NoStepBy t p law
+IsFoundBy t p law (Some x) = IsPossible t x × (x.step ≡ forward_step law p)
+
+-- all steps of a kind, each with what stands there then
+pub record ListsSteps (t : TypedNetwork) (So : Step → Type 0) (xs : List Possible) : Type 0 where
+  pub all : Lists EarlierStep So (map (λ x. x.step) xs)
+  pub each : All (IsPossible t) xs
+
+-- all steps at or below p that may be taken, by the positions in preorder and there by the laws
+abbrev pub ArePossible : TypedNetwork → List ℕ → List Possible → Type 0
+ArePossible t p xs = ListsSteps t (λ s. MayBeTaken t s × IsWithin p s.position) xs
+
+-- the same at p itself
+abbrev pub ArePossibleAt : TypedNetwork → List ℕ → List Possible → Type 0
+ArePossibleAt t p xs = ListsSteps t (λ s. MayBeTaken t s × (p ≡ s.position)) xs

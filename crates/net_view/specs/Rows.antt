@@ -1,0 +1,47 @@
+-- The outline of a network: a row for each position that is there.
+use Rattle.std.specs.Prelude.{◌≡◌, ℕ, List, [], map, min, Option, Some, None}
+use Rattle.std.specs.List.{All}
+use Rattle.sample_core.specs.TypeTree.{TypeTree}
+use Rattle.sample_core.specs.TypeView.{type_of}
+use Rattle.leaf_core.specs.Expression.{Expression}
+use Rattle.net_syntax.specs.Place.{Tree, a_network, a_leaf}
+use Rattle.net_syntax.specs.Standing.{alone, TypeAt}
+use Rattle.net_syntax.specs.Weight.{weight}
+use Rattle.net_syntax.specs.LawStep.{part_of}
+use Rattle.net_syntax.specs.TypedNetwork.{TypedNetwork}
+use Rattle.cert_check.specs.Derives.{tree_at}
+use Rattle.net_view.specs.Listed.{ArePositions}
+use Rattle.net_view.specs.declared.rows.OutlineRow.{OutlineRow}
+
+-- a position, what stands there, its output type or type, and the weight of a network
+pub record Row : Type 0 where
+  pub position : List ℕ
+  pub tree : Tree Expression
+  pub output : TypeTree
+  pub weight : Option ℕ
+
+-- what the code's row says
+abbrev pub row_of : OutlineRow → Row
+row_of r =
+    record {
+      position = r.position;
+      tree = part_of r.tree;
+      output = type_of r.output;
+      weight = r.weight;
+    }
+
+-- a network's weight, as `weight` answers it of the network alone; an expression has none
+abbrev pub weight_in : Tree Expression → Option ℕ
+weight_in (a_network f) = Some (min (weight f []) 1000001)
+weight_in (a_leaf e) = None
+
+-- the row says what stands at its position, the type that it has there, and its weight
+pub record IsRow (t : TypedNetwork) (r : Row) : Type 0 where
+  pub there : tree_at t r.position ≡ Some r.tree
+  pub typed : TypeAt (alone t.input) (a_network t.net) r.position r.output
+  pub weighs : r.weight ≡ weight_in r.tree
+
+-- a row for each position at which something stands, in preorder
+pub record IsOutline (t : TypedNetwork) (rows : List Row) : Type 0 where
+  pub all : ArePositions t [] (map (λ r. r.position) rows)
+  pub each : All (IsRow t) rows

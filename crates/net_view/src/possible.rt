@@ -1,0 +1,126 @@
+// The steps that may be taken forward.
+
+ghost use Rattle.std.specs.Prelude.{◌≡◌, ◌≢◌, ◌+◌, ◌<◌, IfOk, OnOk, None, map, option_map};
+ghost use Rattle.net_syntax.specs.LawStep.{part_of, step_of};
+ghost use Rattle.cert_check.specs.declared.answer.CheckFault.TheVariants as F;
+ghost use Rattle.net_text.specs.CertificatePrinting.{IsLaw};
+ghost use Rattle.net_view.specs.Possible.{ArePossible, ArePossibleAt, IsForward, IsFoundBy, IsTreeAfter, law_rank, possible_of};
+
+use crate::positions::{positions_within, tree_at};
+use cert_check::{CheckFault, take_step};
+use net_syntax::{Direction, Law, LawStep, Position, Tree, TypedNet};
+use sample_core::Memory;
+use std::alloc::Global;
+
+/// How many laws there are: 18 of expressions and 46 of networks.
+const LAWS: u8 = 64;
+
+/// A step that a check would accept.
+#[derive(Drop)]
+pub struct PossibleStep {
+    /// The step, forward and with no tree given.
+    pub step: LawStep,
+    /// What stands at its position once it is taken.
+    pub tree: Tree,
+}
+
+/// The steps forward at or below the position that a check would accept, by the positions in
+/// preorder and at each by the laws' numbers; none where the position isn't there. `Memory` where a
+/// growth was refused.
+pub fn possible_steps(
+    alloc: Global,
+    net: &TypedNet,
+    position: &Position,
+) -> Result<Vec<PossibleStep>, Memory>
+    ensures { IfOk result (λ steps. ArePossible net.now position.now (map possible_of steps.items)) }
+{
+    let positions = positions_within(alloc, net, position)?;
+    let mut steps = Vec::new(alloc);
+    for inner in &positions {
+        let mut more = steps_at(alloc, net, inner)?;
+        steps.append(&mut more)?;
+    }
+    Ok(steps)
+}
+
+/// Those at the position itself.
+fn steps_at(alloc: Global, net: &TypedNet, position: &Position) -> Result<Vec<PossibleStep>, Memory>
+    ensures { IfOk result
+        (λ steps. ArePossibleAt net.now position.now (map possible_of steps.items)) }
+{
+    let mut steps = Vec::new(alloc);
+    for k in 0..LAWS {
+        if let Some(step) = step_by(alloc, net, position, law_number(k))? {
+            steps.push(step)?;
+        }
+    }
+    Ok(steps)
+}
+
+/// Law k, from 0: those of expressions, and then those of networks.
+fn law_number(k: u8) -> Law
+    requires { k < 64 }
+    ensures rank { law_rank result ≡ k + 1 }
+    ensures law { IsLaw result }
+{
+    if k < 18 {
+        Law::E(k + 1)
+    } else {
+        Law::L(k - 17)
+    }
+}
+
+/// The step by the law at the position, if a check would accept it.
+fn step_by(
+    alloc: Global,
+    net: &TypedNet,
+    position: &Position,
+    law: Law,
+) -> Result<Option<PossibleStep>, Memory>
+    ensures { IfOk result (λ found. IsFoundBy net.now position.now law
+        (option_map possible_of found)) }
+{
+    let step = LawStep {
+        law,
+        direction: Direction::Forward,
+        position: position.try_copy(alloc)?,
+        given: None,
+    };
+    match tree_after(alloc, net, &step) {
+        Ok(Some(tree)) => Ok(Some(PossibleStep { step, tree })),
+        Ok(None) => {
+            drop(step);
+            Ok(None)
+        }
+        Err(refused) => {
+            drop(step);
+            Err(refused)
+        }
+    }
+}
+
+/// What stands at the step's position once it is taken; `None` where a check would refuse it.
+fn tree_after(alloc: Global, net: &TypedNet, step: &LawStep) -> Result<Option<Tree>, Memory>
+    requires { IsForward (step_of step.now) }
+    ensures { IfOk result (λ found. IsTreeAfter net.now (step_of step.now)
+        (option_map part_of found)) }
+{
+    let mut reached = net.try_copy(alloc)?;
+    let found = match take_step(alloc, &mut reached, step, 1) {
+        Ok(()) => tree_at(alloc, &reached, &step.position),
+        Err(fault) => no_tree(fault),
+    };
+    drop(reached);
+    found
+}
+
+/// Nothing, where the fault isn't want of memory.
+fn no_tree(fault: CheckFault) -> Result<Option<Tree>, Memory>
+    ensures none { OnOk result (fault ≢ F.Memory) }
+    ensures found { IfOk result (λ found. found ≡ None) }
+{
+    match fault {
+        CheckFault::Memory => Err(Memory),
+        _ => Ok(None),
+    }
+}

@@ -1,0 +1,92 @@
+// The outline and the steps that may be taken, as texts.
+
+ghost use Rattle.std.specs.Prelude.{IfOk, string_bytes};
+ghost use Rattle.sample_core.specs.Adding.{Adds};
+ghost use Rattle.net_view.specs.{Possible.possible_of, Rows.row_of};
+ghost use Rattle.net_view.specs.Texts.{OutlineText, PossibleText, indent, possible_spelling, row_spelling, weight_spelling};
+
+use crate::forms::{push_form, push_word};
+use crate::possible::{PossibleStep, possible_steps};
+use crate::rows::{OutlineRow, outline};
+use crate::told::push_marked;
+use itoa::Buffer;
+use net_syntax::{Position, TypedNet, push_position};
+use net_text::push_step;
+use sample_core::{Memory, push_type};
+use std::alloc::Global;
+
+/// The network's outline as a new text, a line a row: two blanks for each level of depth, then the
+/// position, the word of the form, the type, and of networks the weight, parted by tabs. `Memory`
+/// where a growth was refused.
+pub fn outline_text(alloc: Global, net: &TypedNet) -> Result<String, Memory>
+    ensures { IfOk result (λ text. OutlineText net.now (string_bytes text)) }
+{
+    let rows = outline(alloc, net)?;
+    let mut text = String::new(alloc);
+    for row in &rows {
+        push_row(&mut text, row)?;
+    }
+    Ok(text)
+}
+
+/// The steps forward at or below the position that a check would accept, as a new text of two lines
+/// a step: the step as a certificate has it, and behind `+ ` what stands there then. `Memory` where a
+/// growth was refused.
+pub fn possible_text(alloc: Global, net: &TypedNet, position: &Position) -> Result<String, Memory>
+    ensures { IfOk result (λ text. PossibleText net.now position.now (string_bytes text)) }
+{
+    let steps = possible_steps(alloc, net, position)?;
+    let mut text = String::new(alloc);
+    for step in &steps {
+        push_possible(&mut text, step)?;
+    }
+    Ok(text)
+}
+
+/// A step and what stands there then.
+fn push_possible(text: &mut String, step: &PossibleStep) -> Result<(), Memory>
+    ensures { Adds result (string_bytes text.old) (string_bytes text.new)
+        (possible_spelling (possible_of step.now)) }
+{
+    push_step(text, &step.step)?;
+    push_marked(text, "+ ", &step.tree)
+}
+
+/// A row of the outline.
+fn push_row(text: &mut String, row: &OutlineRow) -> Result<(), Memory>
+    ensures { Adds result (string_bytes text.old) (string_bytes text.new)
+        (row_spelling (row_of row.now)) }
+{
+    push_indent(text, row.position.path())?;
+    push_position(text, &row.position)?;
+    push_word(text, "\t")?;
+    push_form(text, &row.tree)?;
+    push_word(text, "\t")?;
+    push_type(text, &row.output)?;
+    push_weight(text, row.weight)?;
+    push_word(text, "\n")
+}
+
+/// Two blanks for each child number.
+fn push_indent(text: &mut String, path: &[u32]) -> Result<(), Memory>
+    ensures { Adds result (string_bytes text.old) (string_bytes text.new) (indent path.now) }
+{
+    'children: for _ in path {
+        push_word(text, "  ")?;
+    }
+    Ok(())
+}
+
+/// A tab and the weight, where there is one.
+fn push_weight(text: &mut String, weight: Option<u32>) -> Result<(), Memory>
+    ensures { Adds result (string_bytes text.old) (string_bytes text.new)
+        (weight_spelling weight) }
+{
+    match weight {
+        Some(weight) => {
+            push_word(text, "\t")?;
+            push_word(text, Buffer::new().format(weight))
+        }
+        None => Ok(()),
+    }
+}
