@@ -5,7 +5,9 @@
 //!
 //! `outline` answers a row for each position that is there, in preorder, with what `type_at` and
 //! `weight` say (`IsOutline`). `possible_steps` answers exactly the steps forward at or below a
-//! position that a check would accept, with what then stands there (`ArePossible`).
+//! position that a check would accept, with what then stands there (`ArePossible`). `applied_text`
+//! is the file of the network that steps lead to (`PrintsApplied`), and `trace_steps` tells what each
+//! of them changes, and why one was refused (`IsTrace`).
 //!
 //! First `specs/Listed`, then `src/positions.rt`, which finds the positions.
 #![tactic(auto)]

@@ -5,8 +5,9 @@ ghost use Rattle.net_syntax.specs.{ChildParts.seen, LawStep.part_of, LawStep.ste
 ghost use Rattle.cert_check.specs.Derives.{tree_at};
 ghost use Rattle.net_view.specs.Trace.{IsLed, IsRefusedSo, IsStepTrace, TraceAnswer, TracesSteps, first_steps};
 
+use crate::positions::tree_at;
 use cert_check::{CheckFault, MOST_STEPS, answer_at, place_in, take_step};
-use net_syntax::{Direction, LawStep, Place, Position, Tree, TreeRef, TypedNet};
+use net_syntax::{Direction, LawStep, Place, Tree, TreeRef, TypedNet};
 use sample_core::Memory;
 use std::alloc::Global;
 
@@ -169,34 +170,5 @@ fn tree_ref(tree: &Tree) -> TreeRef<'_>
     match tree {
         Tree::Net(net) => TreeRef::Net(net),
         Tree::Expr(expr) => TreeRef::Expr(expr),
-    }
-}
-
-/// A copy of what stands at the position, if it is there.
-fn tree_at(alloc: Global, net: &TypedNet, position: &Position) -> Result<Option<Tree>, Memory>
-    ensures { IfOk result (λ tree. option_map part_of tree ≡ tree_at net.now position.now) }
-{
-    match place_in(net, position) {
-        Some(place) => {
-            let tree = copied(alloc, place.tree)?;
-            Ok(Some(tree))
-        }
-        None => Ok(None),
-    }
-}
-
-/// A copy of the tree.
-fn copied(alloc: Global, tree: TreeRef<'_>) -> Result<Tree, Memory>
-    ensures { IfOk result (λ copy. part_of copy ≡ seen tree.entry) }
-{
-    match tree {
-        TreeRef::Net(net) => {
-            let net = net.try_copy(alloc)?;
-            Ok(Tree::Net(net))
-        }
-        TreeRef::Expr(expr) => {
-            let expr = expr.try_copy(alloc)?;
-            Ok(Tree::Expr(expr))
-        }
     }
 }
