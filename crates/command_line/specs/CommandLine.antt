@@ -2,11 +2,14 @@
 use Rattle.std.specs.Prelude.{◌≡◌, ◌≢◌, ℕ, Bool, List, [], ◌∷◌, true, false, Option, Some, None, option_and_then, option_map, Result, Ok, Err, bytes_eq, codes, if◌then◌else◌, ⊤, ◌⊎◌}
 use Rattle.std.specs.Option.{option_map_or}
 use Rattle.clap.specs.Simple.{on_top}
-use Rattle.clap.specs.Words.{App, IsAmong, Kinds, Row, Rule, Shape, fault_of, first_of, new_app, new_rule, subcommand_of, with_rule, with_subcommand}
+use Rattle.clap.specs.Words.{App, IsAmong, Kinds, Row, Rule, fault_of, first_of, new_app, new_rule, subcommand_of, with_rule, with_subcommand}
 use Rattle.clap.specs.declared.builder.action.ArgAction.TheVariants.{Set, SetTrue}
 use Rattle.clap.specs.declared.error.kind.ErrorKind.{ErrorKind}
 use Rattle.clap.specs.declared.error.kind.ErrorKind.TheVariants as kind
 use Rattle.command_line.specs.declared.command.Derivation.{Derivation}
+use Rattle.command_line.specs.declared.command.Leading.{Leading}
+use Rattle.command_line.specs.declared.command.Takes.{Takes}
+use Rattle.command_line.specs.declared.command.Takes.TheVariants as T
 use Rattle.command_line.specs.declared.command.Request.{Request}
 use Rattle.command_line.specs.declared.command.Request.TheVariants as Q
 use Rattle.command_line.specs.declared.command.Reply.{Reply}
@@ -22,22 +25,47 @@ file_name id = record (new_rule id) { action = Some Set; required = true }
 abbrev pub flag : List ℕ → Rule
 flag id = record (new_rule id) { long = Some id; action = Some SetTrue }
 
--- a subcommand that takes the name of a network file
-abbrev pub file_command : List ℕ → Shape
-file_command name = (with_rule (new_app name) (file_name (codes "NET"))).top
+-- an option with one value, written with two hyphens, which need not be there
+abbrev pub valued : List ℕ → List ℕ → Rule
+valued id name = record (new_rule id) { long = Some name; action = Some Set }
 
--- the subcommand that takes the name of a network file and a flag for the certificate
-abbrev pub optimise_command : Shape
-optimise_command =
-    (with_rule (with_rule (new_app (codes "optimise")) (file_name (codes "NET")))
-    (flag (codes "certificate"))).top
+-- a subcommand that takes the name of a network file
+abbrev pub file_command : List ℕ → App
+file_command name = with_rule (new_app name) (file_name (codes "NET"))
+
+-- a subcommand that takes the name of a network file and a flag for the certificate
+abbrev pub wanted_command : List ℕ → App
+wanted_command name = with_rule (file_command name) (flag (codes "certificate"))
+
+-- a subcommand that takes the name of a network file and the place at which it begins
+abbrev pub placed_command : List ℕ → App
+placed_command name = with_rule (file_command name) (valued (codes "P") (codes "at"))
+
+-- a subcommand that takes the names of a source and a target
+abbrev pub pair_command : List ℕ → App
+pair_command name =
+    with_rule (with_rule (new_app name) (file_name (codes "SRC"))) (file_name (codes "TGT"))
 
 -- a subcommand that takes the names of a source, a target and a certificate
-abbrev pub derivation_command : List ℕ → Shape
-derivation_command name =
+abbrev pub derivation_command : List ℕ → App
+derivation_command name = with_rule (pair_command name) (file_name (codes "CERT"))
+
+-- a subcommand that takes the names of a source and a certificate, how many of its steps are
+-- taken, and a flag for the steps
+abbrev pub leading_command : List ℕ → App
+leading_command name =
+    with_rule
     (with_rule
-    (with_rule (with_rule (new_app name) (file_name (codes "SRC"))) (file_name (codes "TGT")))
-    (file_name (codes "CERT"))).top
+    (with_rule (with_rule (new_app name) (file_name (codes "SRC"))) (file_name (codes "CERT")))
+    (valued (codes "N") (codes "first"))) (flag (codes "steps"))
+
+-- the subcommand of that name that takes so much
+abbrev pub command_taking : Takes → List ℕ → App
+command_taking T.Network name = file_command name
+command_taking T.Wanted name = wanted_command name
+command_taking T.Place name = placed_command name
+command_taking T.Derivation name = derivation_command name
+command_taking T.Steps name = leading_command name
 
 -- the program's name, behind which a subcommand must be there; it has a version
 abbrev pub program : App
@@ -45,16 +73,29 @@ program =
     on_top (λ s. record s { subcommand_required = true; has_version = true })
     (new_app (codes "yampa"))
 
--- the program's command line: `types NET`, `run NET`, `optimise NET`, which takes the flag
--- `--certificate` too, `check SRC TGT CERT` or `run-checked SRC TGT CERT`
+-- a command line with one more subcommand, of that name, that takes so much
+abbrev pub and_command : App → Takes → List ℕ → App
+and_command above takes name = with_subcommand above (command_taking takes name).top
+
+-- a command line with the subcommands that rewrite networks, or show how they may be rewritten:
+-- `outline NET`, `laws NET [--at P]`, `apply SRC CERT [--first N] [--steps]`, and `optimise NET`,
+-- which takes the flag `--certificate` too
+abbrev pub and_rewriting : App → App
+and_rewriting above =
+    and_command
+    (and_command
+    (and_command (and_command above T.Network (codes "outline")) T.Place (codes "laws")) T.Steps
+    (codes "apply")) T.Wanted (codes "optimise")
+
+-- the program's command line: `types NET`, `run NET`, `check SRC TGT CERT` or
+-- `run-checked SRC TGT CERT`, or one of the subcommands that rewrite
 abbrev pub command_line : App
 command_line =
-    with_subcommand
-    (with_subcommand
-    (with_subcommand
-    (with_subcommand (with_subcommand program (file_command (codes "types")))
-    (file_command (codes "run"))) optimise_command) (derivation_command (codes "check")))
-    (derivation_command (codes "run-checked"))
+    and_rewriting
+    (and_command
+    (and_command
+    (and_command (and_command program T.Network (codes "types")) T.Network (codes "run"))
+    T.Derivation (codes "check")) T.Derivation (codes "run-checked"))
 
 -- the names of the files of a derivation
 pub record DerivationNames : Type 0 where
@@ -62,15 +103,28 @@ pub record DerivationNames : Type 0 where
   pub target : List ℕ
   pub certificate : List ℕ
 
+-- the names of a source and a certificate; the word that tells how many of its steps are taken, all
+-- where there is none; and whether the steps are shown
+pub record LeadingNames : Type 0 where
+  pub source : List ℕ
+  pub certificate : List ℕ
+  pub first : Option (List ℕ)
+  pub shows : Bool
+
 -- what a command line asks for: the types of the network in the file of that name, or a run of it;
+-- what stands where in it; the steps that may be taken in it, at the place of a word and below;
 -- the network that the optimiser makes of it, or the certificate that leads there; whether a
--- certificate leads from its source to its target, or that and a run of the target
+-- certificate leads from its source to its target, or that and a run of the target; or where steps
+-- lead
 pub data RequestTree : Type 0 where
   types : List ℕ → RequestTree
   run : List ℕ → RequestTree
+  outline : List ℕ → RequestTree
+  laws : Option (List ℕ) → List ℕ → RequestTree
   optimise : Wanted → List ℕ → RequestTree
   check : DerivationNames → RequestTree
   run_checked : DerivationNames → RequestTree
+  apply : LeadingNames → RequestTree
 
 -- the names of a derivation's files among a subcommand's matches, where all three are there
 abbrev pub derivation_in : List Row → Option DerivationNames
@@ -89,19 +143,36 @@ is_given id rows = option_map_or (λ value. bytes_eq value (codes "true")) (firs
 abbrev pub wanted_in : List Row → Wanted
 wanted_in rows = if is_given (codes "certificate") rows then W.Certificate else W.Network
 
--- what the subcommand `optimise` asks for, by its matches
-abbrev pub optimise_in : List Row → Option RequestTree
-optimise_in rows = option_map (optimise (wanted_in rows)) (first_of (codes "NET") rows)
+-- what a subcommand asks for that takes the name of a network file and a flag for the certificate
+abbrev pub wanted_by : (Wanted → List ℕ → RequestTree) → List Row → Option RequestTree
+wanted_by asks rows = option_map (asks (wanted_in rows)) (first_of (codes "NET") rows)
+
+-- what the subcommand `laws` asks for, by its matches
+abbrev pub laws_in : List Row → Option RequestTree
+laws_in rows = option_map (laws (first_of (codes "P") rows)) (first_of (codes "NET") rows)
+
+-- what the subcommand `apply` asks for, by its matches
+abbrev pub apply_in : List Row → Option RequestTree
+apply_in rows = option_and_then (λ source. option_map (λ certificate. apply (record {
+  source = source;
+  certificate = certificate;
+  first = first_of (codes "N") rows;
+  shows = is_given (codes "steps") rows;
+})) (first_of (codes "CERT") rows)) (first_of (codes "SRC") rows)
 
 -- what a subcommand asks for, by its matches
 abbrev pub request_on : List ℕ → List Row → Option RequestTree
 request_on command rows =
     if bytes_eq command (codes "types") then option_map types (first_of (codes "NET") rows)
     else (if bytes_eq command (codes "run") then option_map run (first_of (codes "NET") rows)
-    else (if bytes_eq command (codes "optimise") then optimise_in rows
     else (if bytes_eq command (codes "check") then option_map check (derivation_in rows)
     else (if bytes_eq command (codes "run-checked") then option_map run_checked (derivation_in rows)
-    else None))))
+    else (if bytes_eq command (codes "outline")
+    then option_map outline (first_of (codes "NET") rows)
+    else (if bytes_eq command (codes "laws") then laws_in rows
+    else (if bytes_eq command (codes "apply") then apply_in rows
+    else (if bytes_eq command (codes "optimise") then wanted_by optimise rows
+    else None)))))))
 
 -- what the subcommand and its matches ask for
 abbrev pub request_by : Option (List ℕ × List Row) → Option RequestTree
@@ -137,13 +208,25 @@ derivation_view d = record {
   certificate = d.certificate.now;
 }
 
+-- the code's names of a source and a certificate, and what is wanted of its steps, as such
+abbrev pub leading_view : Leading → LeadingNames
+leading_view l = record {
+  source = l.source.now;
+  certificate = l.certificate.now;
+  first = option_map (λ s. s.now) l.first;
+  shows = l.shows;
+}
+
 -- the code's request as one
 abbrev pub request_view : Request → RequestTree
 request_view (Q.Types net) = types net.now
 request_view (Q.Run net) = run net.now
+request_view (Q.Outline net) = outline net.now
+request_view (Q.Laws net at) = laws (option_map (λ s. s.now) at) net.now
 request_view (Q.Optimise net wanted) = optimise wanted net.now
 request_view (Q.Check d) = check (derivation_view d)
 request_view (Q.RunChecked d) = run_checked (derivation_view d)
+request_view (Q.Apply l) = apply (leading_view l)
 
 -- the reply fits an error of that kind
 abbrev pub RepliesTo : ErrorKind → Reply → Type 0

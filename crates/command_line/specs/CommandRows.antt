@@ -1,6 +1,6 @@
 -- Command lines, word for word, and what they ask for.
-use Rattle.std.specs.Prelude.{◌≡◌, [], ◌∷◌, Some, codes}
-use Rattle.command_line.specs.CommandLine.{AsksHelp, AsksNothing, DerivationNames, check, optimise, request_in, run, run_checked, types}
+use Rattle.std.specs.Prelude.{◌≡◌, [], ◌∷◌, Some, None, true, false, codes}
+use Rattle.command_line.specs.CommandLine.{AsksHelp, AsksNothing, DerivationNames, apply, check, laws, optimise, outline, request_in, run, run_checked, types}
 use Rattle.command_line.specs.declared.command.Wanted.TheVariants as W
 
 -- what is asked for
@@ -37,6 +37,34 @@ DerivationRows =
     (codes "yampa" ∷ codes "run-checked" ∷ codes "a" ∷ codes "b" ∷ codes "c" ∷ [])
     ≡ Some (run_checked three_files))
 
+-- what is asked for of a network's places and steps
+abbrev pub PlaceRows : Type 0
+PlaceRows =
+    (request_in (codes "yampa" ∷ codes "outline" ∷ codes "net" ∷ []) ≡ Some (outline (codes "net")))
+    × (request_in (codes "yampa" ∷ codes "laws" ∷ codes "net" ∷ [])
+    ≡ Some (laws None (codes "net")))
+    × (request_in
+    (codes "yampa" ∷ codes "laws" ∷ codes "net" ∷ codes "--at" ∷ codes "(at 1 0)" ∷ [])
+    ≡ Some (laws (Some (codes "(at 1 0)")) (codes "net")))
+
+-- where steps lead: the source stands first
+abbrev pub StepsRows : Type 0
+StepsRows = (request_in (codes "yampa" ∷ codes "apply" ∷ codes "a" ∷ codes "c" ∷ [])
+    ≡ Some (apply (record {
+      source = codes "a";
+      certificate = codes "c";
+      first = None;
+      shows = false;
+    })))
+    × (request_in
+    (codes "yampa" ∷ codes "apply" ∷ codes "a" ∷ codes "c" ∷ codes "--first" ∷ codes "3"
+    ∷ codes "--steps" ∷ []) ≡ Some (apply (record {
+      source = codes "a";
+      certificate = codes "c";
+      first = Some (codes "3");
+      shows = true;
+    })))
+
 -- what asks for help
 abbrev pub HelpRows : Type 0
 HelpRows = AsksHelp (codes "yampa" ∷ codes "--help" ∷ [])
@@ -71,3 +99,13 @@ NoOptimiseRows = AsksNothing (codes "yampa" ∷ codes "optimise" ∷ [])
     (codes "yampa" ∷ codes "optimise" ∷ codes "net" ∷ codes "--certificate=true" ∷ [])
     × AsksNothing (codes "yampa" ∷ codes "optimise" ∷ codes "net" ∷ codes "--fast" ∷ [])
     × AsksNothing (codes "yampa" ∷ codes "run" ∷ codes "net" ∷ codes "--certificate" ∷ [])
+
+-- what asks for nothing of the commands on places and steps: no file, one too few, an option without
+-- its value or given twice
+abbrev pub NoStepsRows : Type 0
+NoStepsRows = AsksNothing (codes "yampa" ∷ codes "outline" ∷ [])
+    × AsksNothing (codes "yampa" ∷ codes "laws" ∷ codes "net" ∷ codes "--at" ∷ [])
+    × AsksNothing (codes "yampa" ∷ codes "apply" ∷ codes "a" ∷ codes "--steps" ∷ [])
+    × AsksNothing
+    (codes "yampa" ∷ codes "apply" ∷ codes "a" ∷ codes "c" ∷ codes "--first" ∷ codes "1"
+    ∷ codes "--first" ∷ codes "2" ∷ [])

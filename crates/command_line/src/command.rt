@@ -1,12 +1,12 @@
 // The command line.
 
 ghost use Rattle.std.specs.Prelude.{◌≡◌, IfOk, codes, map, option_map, false};
-ghost use Rattle.clap.specs.Words.{app_of, first_of, found_of, kind_of, rows_of, rule_of, shape_of, subcommand_rows_of, with_subcommand};
+ghost use Rattle.clap.specs.Words.{app_of, first_of, found_of, kind_of, rows_of, rule_of, subcommand_rows_of, with_rule};
 ghost use Rattle.clap.specs.declared.builder.command.Command.TheViews.{out-Command};
-ghost use Rattle.command_line.specs.CommandRows.{RequestRows, OptimiseRows, DerivationRows, HelpRows, VersionRows, NothingRows, NoOptimiseRows};
-ghost use Rattle.command_line.specs.CommandLine.{IsNothing, ReadsWords, RepliesTo, request_by, request_on, command_line, derivation_command, derivation_in, derivation_view, file_command, file_name, flag, is_given, optimise_command, optimise_in, request_view, types, run, check, run_checked, wanted_in};
+ghost use Rattle.command_line.specs.CommandRows.{RequestRows, OptimiseRows, DerivationRows, PlaceRows, StepsRows, HelpRows, VersionRows, NothingRows, NoOptimiseRows, NoStepsRows};
+ghost use Rattle.command_line.specs.CommandLine.{IsNothing, ReadsWords, RepliesTo, and_command, and_rewriting, apply_in, command_line, command_taking, derivation_in, derivation_view, file_name, flag, is_given, laws_in, leading_view, request_by, request_on, request_view, valued, wanted_by, wanted_in, types, run, outline, optimise, check, run_checked};
 
-use crate::help;
+use crate::help::{self, Told};
 use clap::error::{Error, ErrorKind};
 use clap::{Arg, ArgAction, ArgMatches, Command};
 use std::alloc::{AllocError, Global};
@@ -20,6 +20,19 @@ pub struct Derivation<'a> {
     pub target: &'a str,
     /// Its steps.
     pub certificate: &'a str,
+}
+
+/// The names of the files of a network and of steps that lead on from it.
+#[derive(Clone, Copy)]
+pub struct Leading<'a> {
+    /// The network that they begin with.
+    pub source: &'a str,
+    /// The steps.
+    pub certificate: &'a str,
+    /// The word that tells how many of them are taken; all where there is none.
+    pub first: Option<&'a str>,
+    /// Whether the steps are shown, in place of the network that they lead to.
+    pub shows: bool,
 }
 
 /// What is wanted of the optimiser.
@@ -38,12 +51,34 @@ pub enum Request<'a> {
     Types { net: &'a str },
     /// A run of the network in a file.
     Run { net: &'a str },
+    /// What stands where in the network in a file.
+    Outline { net: &'a str },
+    /// The steps that may be taken in the network in a file, at the place that a word tells and
+    /// below; at any where there is none.
+    Laws { net: &'a str, at: Option<&'a str> },
     /// What the optimiser makes of the network in a file.
     Optimise { net: &'a str, wanted: Wanted },
     /// Whether a certificate leads from its source to its target.
     Check(Derivation<'a>),
     /// The same, and then a run of the target.
     RunChecked(Derivation<'a>),
+    /// Where steps lead.
+    Apply(Leading<'a>),
+}
+
+/// What a subcommand takes.
+#[derive(Clone, Copy)]
+enum Takes {
+    /// A network file.
+    Network,
+    /// A network file, and a flag for the certificate.
+    Wanted,
+    /// A network file, and a place in it.
+    Place,
+    /// The files of a derivation.
+    Derivation,
+    /// The files of a source and a certificate, how many steps, and a flag for the steps.
+    Steps,
 }
 
 /// Why the command line is no request.
@@ -89,97 +124,104 @@ fn flag<'a>(alloc: Global, id: &'a str, tells: &'a str) -> Arg<'a>
         .help(tells)
 }
 
-/// A subcommand of that name that takes a network file, and what help tells of it.
-fn on_network<'a>(
-    alloc: Global,
-    name: &'a str,
-    does: &'a str,
-    more: &'a str,
-) -> Result<Command<'a>, AllocError>
-    ensures shape { IfOk result (λ c. shape_of c ≡ file_command name.entry.now) }
-    ensures local { IfOk result (λ c. (out-Command c).has_globals ≡ false) }
+/// An option with one value, which may stand before and behind the names of files, and what help
+/// tells of it.
+fn valued<'a>(alloc: Global, id: &'a str, name: &'a str, tells: &'a str) -> Arg<'a>
+    ensures rule { rule_of result ≡ valued id.entry.now name.entry.now }
+    ensures local { result.global ≡ false }
 {
-    let command = Command::new(alloc, name).about(does).after_help(more);
-    command.arg(named_file(alloc, "NET", help::NET))
+    Arg::new(alloc, id)
+        .long(name)
+        .action(ArgAction::Set)
+        .help(tells)
 }
 
-/// The subcommand `optimise`, which takes a network file and a flag for the certificate.
-fn optimise_command<'a>(alloc: Global) -> Result<Command<'a>, AllocError>
-    ensures shape { IfOk result (λ c. shape_of c ≡ optimise_command) }
-    ensures local { IfOk result (λ c. (out-Command c).has_globals ≡ false) }
-{
-    let command = on_network(alloc, "optimise", help::OPTIMISE, help::OPTIMISE_MORE)?;
-    command.arg(flag(alloc, "certificate", help::CERTIFICATE))
-}
-
-/// A subcommand of that name that takes the files of a derivation, and what help tells of it.
-fn on_derivation<'a>(
-    alloc: Global,
-    name: &'a str,
-    does: &'a str,
-    more: &'a str,
-) -> Result<Command<'a>, AllocError>
-    ensures shape { IfOk result (λ c. shape_of c ≡ derivation_command name.entry.now) }
-    ensures local { IfOk result (λ c. (out-Command c).has_globals ≡ false) }
-{
-    let command = Command::new(alloc, name).about(does).after_help(more);
-    let command = command.arg(named_file(alloc, "SRC", help::SRC))?;
-    let command = command.arg(named_file(alloc, "TGT", help::TGT))?;
-    command.arg(named_file(alloc, "CERT", help::CERT))
-}
-
-/// The command with one more subcommand, which has that name, is called in that way and takes a
-/// network file.
-fn with_network<'a>(
+/// The subcommand, which takes the file of that name too, and what help tells of it.
+fn and_file<'a>(
     alloc: Global,
     command: Command<'a>,
-    name: &'a str,
-    usage: &'a str,
-    does: &'a str,
-    more: &'a str,
+    id: &'a str,
+    tells: &'a str,
 ) -> Result<Command<'a>, AllocError>
+    requires { (out-Command command).has_globals ≡ false }
     ensures app { IfOk result
-        (λ c. app_of c ≡ with_subcommand (app_of command.entry) (file_command name.entry.now)) }
+        (λ c. app_of c ≡ with_rule (app_of command.entry) (file_name id.entry.now)) }
+    ensures local { IfOk result (λ c. (out-Command c).has_globals ≡ false) }
 {
-    match on_network(alloc, name, does, more) {
-        Ok(subcommand) => command.subcommand(subcommand.override_usage(usage)),
-        Err(refused) => {
-            drop(command);
-            Err(refused)
+    command.arg(named_file(alloc, id, tells))
+}
+
+/// A subcommand of that name that takes so much, and what help tells of it.
+fn command_taking<'a>(
+    alloc: Global,
+    takes: Takes,
+    name: &'a str,
+    told: Told<'a>,
+) -> Result<Command<'a>, AllocError>
+    ensures app { IfOk result (λ c. app_of c ≡ command_taking takes name.entry.now) }
+    ensures local { IfOk result (λ c. (out-Command c).has_globals ≡ false) }
+{
+    let command = Command::new(alloc, name)
+        .about(told.does)
+        .after_help(told.more)
+        .override_usage(told.usage);
+    match takes {
+        Takes::Network => and_file(alloc, command, "NET", help::NET),
+        Takes::Wanted => and_file(alloc, command, "NET", help::NET)?.arg(flag(
+            alloc,
+            "certificate",
+            help::CERTIFICATE,
+        )),
+        Takes::Place => {
+            and_file(alloc, command, "NET", help::NET)?.arg(valued(alloc, "P", "at", help::AT))
         }
+        Takes::Derivation => {
+            let command = and_pair(alloc, command)?;
+            and_file(alloc, command, "CERT", help::CERT)
+        }
+        Takes::Steps => and_steps(alloc, command),
     }
 }
 
-/// The command with the subcommand `optimise`.
-fn with_optimise<'a>(alloc: Global, command: Command<'a>) -> Result<Command<'a>, AllocError>
-    ensures app { IfOk result
-        (λ c. app_of c ≡ with_subcommand (app_of command.entry) optimise_command) }
+/// The subcommand, which takes a source and a target.
+fn and_pair<'a>(alloc: Global, command: Command<'a>) -> Result<Command<'a>, AllocError>
+    requires { (out-Command command).has_globals ≡ false }
+    ensures app { IfOk result (λ c. app_of c ≡ with_rule
+        (with_rule (app_of command.entry) (file_name (codes "SRC"))) (file_name (codes "TGT"))) }
+    ensures local { IfOk result (λ c. (out-Command c).has_globals ≡ false) }
 {
-    match optimise_command(alloc) {
+    let command = and_file(alloc, command, "SRC", help::SRC)?;
+    and_file(alloc, command, "TGT", help::TGT)
+}
+
+/// The subcommand, which takes a source, a certificate, how many steps, and a flag for the steps.
+fn and_steps<'a>(alloc: Global, command: Command<'a>) -> Result<Command<'a>, AllocError>
+    requires { (out-Command command).has_globals ≡ false }
+    ensures app { IfOk result (λ c. app_of c ≡ with_rule
+        (with_rule
+        (with_rule (with_rule (app_of command.entry) (file_name (codes "SRC")))
+        (file_name (codes "CERT"))) (valued (codes "N") (codes "first"))) (flag (codes "steps"))) }
+    ensures local { IfOk result (λ c. (out-Command c).has_globals ≡ false) }
+{
+    let command = and_file(alloc, command, "SRC", help::SRC)?;
+    let command = and_file(alloc, command, "CERT", help::CERT)?;
+    let command = command.arg(valued(alloc, "N", "first", help::FIRST))?;
+    command.arg(flag(alloc, "steps", help::STEPS))
+}
+
+/// The command with one more subcommand, of that name, that takes so much.
+fn and_command<'a>(
+    alloc: Global,
+    command: Command<'a>,
+    takes: Takes,
+    name: &'a str,
+    told: Told<'a>,
+) -> Result<Command<'a>, AllocError>
+    ensures app { IfOk result
+        (λ c. app_of c ≡ and_command (app_of command.entry) takes name.entry.now) }
+{
+    match command_taking(alloc, takes, name, told) {
         Ok(subcommand) => command.subcommand(subcommand),
-        Err(refused) => {
-            drop(command);
-            Err(refused)
-        }
-    }
-}
-
-/// The command with one more subcommand, which has that name, is called in that way and takes the
-/// files of a derivation.
-fn with_derivation<'a>(
-    alloc: Global,
-    command: Command<'a>,
-    name: &'a str,
-    usage: &'a str,
-    does: &'a str,
-    more: &'a str,
-) -> Result<Command<'a>, AllocError>
-    ensures app { IfOk result
-        (λ c. app_of c ≡ with_subcommand (app_of command.entry)
-        (derivation_command name.entry.now)) }
-{
-    match on_derivation(alloc, name, does, more) {
-        Ok(subcommand) => command.subcommand(subcommand.override_usage(usage)),
         Err(refused) => {
             drop(command);
             Err(refused)
@@ -196,39 +238,27 @@ fn make_command<'a>(alloc: Global) -> Result<Command<'a>, AllocError>
         .subcommand_required(true)
         .about(help::PROGRAM)
         .after_help(help::PROGRAM_MORE);
-    let command = with_network(
+    let command = and_command(alloc, command, Takes::Network, "types", help::TYPES)?;
+    let command = and_command(alloc, command, Takes::Network, "run", help::RUN)?;
+    let command = and_command(alloc, command, Takes::Derivation, "check", help::CHECK)?;
+    let command = and_command(
         alloc,
         command,
-        "types",
-        "yampa types <NET>",
-        help::TYPES,
-        help::TYPES_MORE,
-    )?;
-    let command = with_network(
-        alloc,
-        command,
-        "run",
-        "yampa run <NET> < STREAM",
-        help::RUN,
-        help::RUN_MORE,
-    )?;
-    let command = with_optimise(alloc, command)?;
-    let command = with_derivation(
-        alloc,
-        command,
-        "check",
-        "yampa check <SRC> <TGT> <CERT>",
-        help::CHECK,
-        help::CHECK_MORE,
-    )?;
-    with_derivation(
-        alloc,
-        command,
+        Takes::Derivation,
         "run-checked",
-        "yampa run-checked <SRC> <TGT> <CERT> < STREAM",
         help::RUN_CHECKED,
-        help::RUN_CHECKED_MORE,
-    )
+    )?;
+    and_rewriting(alloc, command)
+}
+
+/// The command with the subcommands that rewrite networks, or show how they may be rewritten.
+fn and_rewriting<'a>(alloc: Global, command: Command<'a>) -> Result<Command<'a>, AllocError>
+    ensures app { IfOk result (λ c. app_of c ≡ and_rewriting (app_of command.entry)) }
+{
+    let command = and_command(alloc, command, Takes::Network, "outline", help::OUTLINE)?;
+    let command = and_command(alloc, command, Takes::Place, "laws", help::LAWS)?;
+    let command = and_command(alloc, command, Takes::Steps, "apply", help::APPLY)?;
+    and_command(alloc, command, Takes::Wanted, "optimise", help::OPTIMISE)
 }
 
 /// What the matches ask for.
@@ -246,9 +276,12 @@ fn request_named<'a>(name: &str, matches: &ArgMatches<'a>) -> Option<Request<'a>
     match name {
         "types" => types_of(matches),
         "run" => run_of(matches),
-        "optimise" => optimise_of(matches),
         "check" => check_of(matches),
         "run-checked" => run_checked_of(matches),
+        "outline" => outline_of(matches),
+        "laws" => laws_of(matches),
+        "apply" => apply_of(matches),
+        "optimise" => optimise_of(matches),
         _ => None,
     }
 }
@@ -269,8 +302,37 @@ fn run_of<'a>(matches: &ArgMatches<'a>) -> Option<Request<'a>>
     Some(Request::Run { net })
 }
 
+fn outline_of<'a>(matches: &ArgMatches<'a>) -> Option<Request<'a>>
+    ensures { option_map request_view result
+        ≡ option_map outline (first_of (codes "NET") (rows_of (found_of matches.now))) }
+{
+    let net = value_of(matches, "NET")?;
+    Some(Request::Outline { net })
+}
+
+fn laws_of<'a>(matches: &ArgMatches<'a>) -> Option<Request<'a>>
+    ensures { option_map request_view result ≡ laws_in (rows_of (found_of matches.now)) }
+{
+    let net = value_of(matches, "NET")?;
+    let at = value_of(matches, "P");
+    Some(Request::Laws { net, at })
+}
+
+fn apply_of<'a>(matches: &ArgMatches<'a>) -> Option<Request<'a>>
+    ensures { option_map request_view result ≡ apply_in (rows_of (found_of matches.now)) }
+{
+    let source = value_of(matches, "SRC")?;
+    let certificate = value_of(matches, "CERT")?;
+    Some(Request::Apply(Leading {
+        source,
+        certificate,
+        first: value_of(matches, "N"),
+        shows: is_given(matches, "steps"),
+    }))
+}
+
 fn optimise_of<'a>(matches: &ArgMatches<'a>) -> Option<Request<'a>>
-    ensures { option_map request_view result ≡ optimise_in (rows_of (found_of matches.now)) }
+    ensures { option_map request_view result ≡ wanted_by optimise (rows_of (found_of matches.now)) }
 {
     let net = value_of(matches, "NET")?;
     let wanted = wanted_of(matches);
@@ -389,13 +451,16 @@ fn no_such_command(alloc: Global) -> Reply
 }
 
 /// Command lines, word for word, and what they ask for: a file's types or its run, the optimiser,
-/// a derivation, help, the version, or nothing that is there.
+/// a derivation, places and steps, help, the version, or nothing that is there.
 pub fn command_rows()
     ensures asked { RequestRows }
     ensures optimise { OptimiseRows }
     ensures derivations { DerivationRows }
+    ensures places { PlaceRows }
+    ensures steps { StepsRows }
     ensures help { HelpRows }
     ensures version { VersionRows }
     ensures nothing { NothingRows }
     ensures no_optimise { NoOptimiseRows }
+    ensures no_steps { NoStepsRows }
 {}

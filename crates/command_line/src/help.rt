@@ -1,5 +1,16 @@
 // What help tells of the program and of its commands.
 
+/// What help tells of a subcommand.
+#[derive(Clone, Copy)]
+pub struct Told<'a> {
+    /// How it is called.
+    pub usage: &'a str,
+    /// What it does, in a line.
+    pub does: &'a str,
+    /// What help on it ends with.
+    pub more: &'a str,
+}
+
 /// What the program does.
 pub const PROGRAM: &str = "Checks and runs networks of signal functions.";
 
@@ -14,7 +25,9 @@ pub const PROGRAM_MORE: &str = "\
 A network is a text file: its input's type, and how each sample of a timed stream leads to an
 output. `yampa types NET` tells what goes in and what comes out, `yampa run NET < STREAM` runs it.
 `yampa check SRC TGT CERT` checks that two networks output the same, by a certificate that says why;
-`yampa optimise NET` finds such a network, and the certificate that leads there, by itself.
+`yampa optimise NET` finds such a network, and the certificate that leads there, by itself. To write
+one by hand, `yampa outline NET` shows what stands where, `yampa laws NET` which steps may be taken,
+and `yampa apply SRC CERT` where steps lead.
 The pages stand in the folder `docs` of the repository that it was built in: LANGUAGE.md teaches the
 language, LAWS.md the laws, and TOOLS.md the tools that `./yampa` calls there beside these commands,
 each with a --help of its own: explain, expand, fmt, draw, plot, watch, csv, timed, tidy, falsify,
@@ -36,11 +49,11 @@ Where it isn't 0, standard error says why.";
 pub const NET: &str =
     "The network's file: `yampa 1` or `yampa 2`, `input` and a type, and the network";
 
-/// What `types` does.
-pub const TYPES: &str = "Checks a network, and prints its types, its weight and its height";
-
-/// What help on `types` ends with.
-pub const TYPES_MORE: &str = "\
+/// What help tells of `types`.
+pub const TYPES: Told<'static> = Told {
+    usage: "yampa types <NET>",
+    does: "Checks a network, and prints its types, its weight and its height",
+    more: "\
 It prints three lines: the types of the input and of the output, how many networks the network is
 made of, and how many stand in one another. It reads no stream.
 
@@ -53,14 +66,14 @@ Example: where the file `net` holds `yampa 1 input Int (>>> (arr (less 9 x)) (iP
 
 Exit status: 0 where the network has types, 1 where the file is refused, 2 where the words of the
 command line are wrong, 3 where the file can't be read, the lines can't be written, or memory is
-short. Where it isn't 0, standard error says why.";
+short. Where it isn't 0, standard error says why.",
+};
 
-/// What `run` does.
-pub const RUN: &str =
-    "Runs a network on the stream on standard input, and prints an output a sample";
-
-/// What help on `run` ends with.
-pub const RUN_MORE: &str = "\
+/// What help tells of `run`.
+pub const RUN: Told<'static> = Told {
+    usage: "yampa run <NET> < STREAM",
+    does: "Runs a network on the stream on standard input, and prints an output a sample",
+    more: "\
 Standard input is lines. The first is a value of the network's input type; each later one is a step
 in time of at least 1 and a value, as `+1 6`, or `+1 =` for the value before. Standard output has a
 line for each, the network's output at it. A faulty line ends the run, behind the outputs before it.
@@ -75,16 +88,14 @@ Example: where the file `net` holds `yampa 1 input Int (>>> (arr (add x 1)) (iPr
 Exit status: 0 where the whole stream is run, 1 where the file or the stream is refused or the
 network has over 4,096 different expressions, 2 where the words of the command line are wrong, 3
 where something can't be read or written, or memory is short. Where it isn't 0, standard error
-says why.";
+says why.",
+};
 
-/// What `optimise` does.
-pub const OPTIMISE: &str = "Rewrites a network by laws, and prints the one that they lead to";
-
-/// What the flag for the certificate does.
-pub const CERTIFICATE: &str = "Prints the certificate that leads there, in the network's place";
-
-/// What help on `optimise` ends with.
-pub const OPTIMISE_MORE: &str = "\
+/// What help tells of `optimise`.
+pub const OPTIMISE: Told<'static> = Told {
+    usage: "yampa optimise [OPTIONS] <NET>",
+    does: "Rewrites a network by laws, and prints the one that they lead to",
+    more: "\
 It takes the first step that may be taken by a law, forward, and then the next one, until there is
 none or 1,000 are taken. Within the limits of files, `yampa check` accepts the certificate from NET
 to the network that is printed, so both output the same on every stream. It is meant to be faster,
@@ -102,7 +113,20 @@ Example: where the file `net` holds `yampa 1 input Int (>>> (arr (add x 1)) (arr
 
 Exit status: 0 where the network or the certificate is printed, 1 where the file is refused, 2 where
 the words of the command line are wrong, 3 where the file can't be read, nothing can be written, or
-memory is short. Where it isn't 0, standard error says why.";
+memory is short. Where it isn't 0, standard error says why.",
+};
+
+/// What the flag for the certificate does.
+pub const CERTIFICATE: &str = "Prints the certificate that leads there, in the network's place";
+
+/// What the option for a place does.
+pub const AT: &str = "The place at which it begins, as `'(at 1 0)'`, in place of the whole network";
+
+/// What the option for the number of steps does.
+pub const FIRST: &str = "Takes the first N steps alone, or all where there are fewer";
+
+/// What the flag for the steps does.
+pub const STEPS: &str = "Prints what each step does, in place of the network that they lead to";
 
 /// What the file of a certificate's source is.
 pub const SRC: &str = "The file of the network that the certificate begins with";
@@ -114,11 +138,11 @@ pub const TGT: &str = "The file of the network that the certificate leads to";
 pub const CERT: &str =
     "The certificate's file: `laws 1` or `laws 2`, and its steps, as `(step L4 forward (at))`";
 
-/// What `check` does.
-pub const CHECK: &str = "Checks that a certificate leads from one network to another";
-
-/// What help on `check` ends with.
-pub const CHECK_MORE: &str = "\
+/// What help tells of `check`.
+pub const CHECK: Told<'static> = Told {
+    usage: "yampa check <SRC> <TGT> <CERT>",
+    does: "Checks that a certificate leads from one network to another",
+    more: "\
 A certificate is a text file of steps. A step names a law, its direction and a place in the network,
 and, where the direction is `backward`, the tree that then stands there. Where the steps lead from
 the network of SRC to that of TGT, both output the same on every stream, and one line is printed,
@@ -133,13 +157,14 @@ holds `laws 1 (step L4 forward (at))`,
 
 Exit status: 0 where the certificate is accepted, 1 where it or a file is refused, 2 where the words
 of the command line are wrong, 3 where a file can't be read, the line can't be written, or memory is
-short. Where it isn't 0, standard error says why.";
+short. Where it isn't 0, standard error says why.",
+};
 
-/// What `run-checked` does.
-pub const RUN_CHECKED: &str = "Checks a certificate, and runs the network that it leads to";
-
-/// What help on `run-checked` ends with.
-pub const RUN_CHECKED_MORE: &str = "\
+/// What help tells of `run-checked`.
+pub const RUN_CHECKED: Told<'static> = Told {
+    usage: "yampa run-checked <SRC> <TGT> <CERT> < STREAM",
+    does: "Checks a certificate, and runs the network that it leads to",
+    more: "\
 It checks as `yampa check SRC TGT CERT` does, but prints nothing of that. Where the certificate is
 accepted, it runs the network of TGT on standard input, as `yampa run TGT` does.
 
@@ -152,4 +177,81 @@ Example: with the three files of the example that `yampa check --help` has,
 Exit status: 0 where the whole stream is run, 1 where a file, the certificate or the stream is
 refused or the network has over 4,096 different expressions, 2 where the words of the command line
 are wrong, 3 where something can't be read or written, or memory is short. Where it isn't 0,
-standard error says why.";
+standard error says why.",
+};
+
+/// What help tells of `outline`.
+pub const OUTLINE: Told<'static> = Told {
+    usage: "yampa outline <NET>",
+    does: "Prints what stands where in a network",
+    more: "\
+It prints a line for each network and each expression that stands in the network, in the order in
+which they begin in its text, two blanks deeper for each that it stands in: its position, as steps
+of certificates have it, the word that it begins with, its type (the output's of a network, the
+value's of an expression), and of a network its weight. Tabs part the four. No stream is read.
+
+Example: where the file `net` holds `yampa 1 input Int (>>> (arr (add x 1)) (arr (mul x 2)))`,
+
+  $ yampa outline net | head -5 | expand -t 22
+  (at)                  >>>                   Int                   3
+    (at 0)              arr                   Int                   1
+      (at 0 0)          add                   Int
+        (at 0 0 0)      x                     Int
+        (at 0 0 1)      1                     Int
+
+Exit status: 0 where the network is printed so, 1 where the file is refused, 2 where the words of
+the command line are wrong, 3 where the file can't be read, the lines can't be written, or memory is
+short. Where it isn't 0, standard error says why.",
+};
+
+/// What help tells of `laws`.
+pub const LAWS: Told<'static> = Told {
+    usage: "yampa laws [OPTIONS] <NET>",
+    does: "Prints the steps that may be taken in a network",
+    more: "\
+It prints each step that may be taken forward, as a certificate has it, at P and at each place below
+it, and under each step `+ ` and what then stands at its place. A step may be taken where its law
+fits what stands there and the network that it leads to has types within the limits. No stream is
+read. docs/LAWS.md has the laws.
+
+Example: where the file `net` holds `yampa 1 input Int (>>> (arr (add x 1)) (arr (mul x 2)))`,
+
+  $ yampa laws net
+  (step L4 forward (at))
+  + (arr (then (add x 1) (mul x 2)))
+  (step E16 forward (at 0 0))
+  + (add 1 x)
+
+Exit status: 0 where the steps are printed, also where there is none, 1 where the file is refused or
+the network has no position P, 2 where the words of the command line are wrong or P is no position,
+3 where the file can't be read, the steps can't be written, or memory is short. Where it isn't 0,
+standard error says why.",
+};
+
+/// What help tells of `apply`.
+pub const APPLY: Told<'static> = Told {
+    usage: "yampa apply [OPTIONS] <SRC> <CERT>",
+    does: "Takes the steps of a certificate, and prints the network that they lead to",
+    more: "\
+It takes the steps of CERT one after the other, from the network of SRC on. With `--steps` it prints
+for each step its line, `- ` and what stood at its place, and `+ ` and what stands there then. A step
+that can't be taken ends it, and standard error says which. With `--steps` the steps before it stand
+on standard output, and then its own line, `- ` and what stands at its place, where there is one,
+and, where it gives a tree that its law rewrites, `> ` and what that becomes. No stream is read.
+
+Example: where the file `net` holds `yampa 1 input Int (>>> (arr (add x 1)) (arr (mul x 2)))`, and
+the file `steps` holds `laws 1 (step L4 forward (at))`,
+
+  $ yampa apply net steps
+  yampa 1
+  input Int
+  (arr (then (add x 1) (mul x 2)))
+  $ yampa apply net steps --steps
+  (step L4 forward (at))
+  - (>>> (arr (add x 1)) (arr (mul x 2)))
+  + (arr (then (add x 1) (mul x 2)))
+
+Exit status: 0 where the steps are taken, 1 where a file or a step is refused, 2 where the words of
+the command line are wrong or N is no number, 3 where a file can't be read, nothing can be written,
+or memory is short. Where it isn't 0, standard error says why.",
+};

@@ -73,11 +73,16 @@ pub fn words_of(alloc: Global, line: &str) -> Vec<&str> {
     words
 }
 
-/// Tells the text that is to be printed, or that it is a run.
+/// Tells the text that is to be printed, and the status and line behind it, if there is one; or that
+/// it is a run.
 fn job_told(job: &Job, out: &mut String) {
     match job {
         Job::Print(text) => text_told(text.as_str(), out),
         Job::Run(_net) => say(out, "run"),
+        Job::PrintAndRefuse { text, line } => {
+            say(out, text.as_str());
+            status_told(1, line.as_str(), out)
+        }
     }
 }
 
@@ -123,6 +128,7 @@ yampa types net -h | ‹increment› => help on yampa types <NET>
 yampa run -h other | ‹increment› => help on yampa run <NET> < STREAM
 yampa check --help | ‹increment› => help on yampa check <SRC> <TGT> <CERT>
 yampa run-checked -h | ‹increment› => help on yampa run-checked <SRC> <TGT> <CERT> < STREAM
+yampa help outline | ‹increment› => help on yampa outline <NET>
 yampa --version | ‹increment› => yampa 2.0␤language 2, and 1␤proved with rattle-kit-13b, logic dac8208d650f15bf␤
  | ‹increment› => wrong words
 yampa | ‹increment› => wrong words
@@ -160,6 +166,23 @@ yampa optimise net --certificate | {1048577*~} => status 1 network: too long
 yampa optimise net --certificate | ‹heaviest› => laws 1␤(step L37 forward (at))␤
 yampa optimise --certificate net net | ‹increment› => wrong words
 yampa optimise --certificate other | ‹increment› => status 3 network: cannot be read
+§ What stands where in a network.
+yampa outline net | ‹increment› => (at)␉>>>␉Int␉3␤  (at 0)␉arr␉Int␉1␤    (at 0 0)␉add␉Int␤      (at 0 0 0)␉x␉Int␤      (at 0 0 1)␉1␉Int␤  (at 1)␉iPre␉Int␉1␤    (at 1 0)␉0␉Int␤
+yampa outline net | yampa 1 input (Pair Int Bool) (first time) => (at)␉first␉(Pair Int Bool)␉2␤  (at 0)␉time␉Int␉1␤
+yampa outline other | ‹increment› => status 3 network: cannot be read
+yampa outline net | ‹parameter› => status 1 network: no parameter in (at 0)
+yampa outline | ‹increment› => wrong words
+yampa outline net net | ‹increment› => wrong words
+§ Steps that may be taken, at a place and below.
+yampa laws net | ‹sum doubled› => (step L4 forward (at))␤+ (arr (then (add x 1) (mul x 2)))␤(step E16 forward (at 0 0))␤+ (add 1 x)␤
+yampa laws net --at (at) | ‹late truth› => status 1 network: types differ at (at 1)
+yampa laws --at (at) net | yampa 1 input Int time => 
+yampa laws net --at (at) | yampa 1 input Int (>>> identity time) => (step L1 forward (at))␤+ time␤
+yampa laws other | ‹increment› => status 3 network: cannot be read
+yampa laws net --at (at0) | yampa 3 => wrong words
+yampa laws net --at at | yampa 3 => wrong words
+yampa laws net --at | ‹increment› => wrong words
+yampa laws --at (at) --at (at) net | ‹increment› => wrong words
 § Files of a derivation, in the order in which they are named.
 yampa check other other other | ‹increment› => status 3 source: cannot be read
 yampa check net other other | ‹increment› => status 3 target: cannot be read
@@ -227,6 +250,29 @@ yampa check src tgt cert | ‹same› | ‹same› | laws 1 (step => status 1 ce
 yampa check src tgt cert | ‹same› | ‹same› | laws 1 (step L4 forward (at 65536)) => status 1 certificate: number at byte 28
 yampa check src tgt cert | ‹same› | ‹same› | laws 1 (step L1 backward (at) {600*(>>> } => status 1 certificate: nesting at byte 3025
 yampa run-checked src tgt cert | ‹same› | ‹same› | {1048577*~} => status 1 certificate: too long
+§ Where steps lead, the first of them, and what they do.
+yampa apply src cert | ‹sum doubled› |  | laws 1 (step L4 forward (at)) => yampa 1␤input Int␤(arr (then (add x 1) (mul x 2)))␤
+yampa apply src cert --first 0 | ‹sum doubled› |  | laws 1 (step L4 forward (at)) => yampa 1␤input Int␤(>>> (arr (add x 1)) (arr (mul x 2)))␤
+yampa apply --first 1 src cert | ‹successor› |  | laws 1 (step E16 forward (at 0)) (step L4 forward (at)) => yampa 1␤input Int␤(arr (add 1 x))␤
+yampa apply --first 99999999999999999999999 src cert | ‹successor› |  | laws 1 (step E16 forward (at 0)) => yampa 1␤input Int␤(arr (add 1 x))␤
+yampa apply src cert --steps | ‹sum doubled› |  | laws 1 (step L4 forward (at)) => (step L4 forward (at))␤- (>>> (arr (add x 1)) (arr (mul x 2)))␤+ (arr (then (add x 1) (mul x 2)))␤
+yampa apply src cert --steps --first 0 | ‹sum doubled› |  | laws 1 (step L4 forward (at)) => 
+yampa apply src cert | ‹sum doubled› |  | laws 1 (step L4 forward (at 5)) => status 1 certificate: no position at step 1
+yampa apply src cert --steps | ‹successor› |  | laws 1 (step E16 forward (at 0)) (step L4 forward (at 5)) => (step E16 forward (at 0))␤- (add x 1)␤+ (add 1 x)␤(step L4 forward (at 5))␤status 1 certificate: no position at step 2
+yampa apply src cert --steps | ‹successor› |  | laws 1 (step E16 backward (at 0) (add 2 x)) => (step E16 backward (at 0) (add 2 x))␤- (add x 1)␤> (add x 2)␤status 1 certificate: no match at step 1
+yampa apply src cert --steps | ‹successor› |  | laws 1 (step E7 backward (at 0) (fst (pair (add x 1) (p 0)))) => (step E7 backward (at 0) (fst (pair (add x 1) (p 0))))␤- (add x 1)␤> (add x 1)␤status 1 certificate: ill typed at step 1
+yampa apply src cert --steps | ‹successor› |  | laws 1{10001* (step E16 forward (at 0))} => status 1 certificate: too many steps
+yampa apply src cert --first 1 --steps | ‹successor› |  | laws 1{10001* (step E16 forward (at 0))} => (step E16 forward (at 0))␤- (add x 1)␤+ (add 1 x)␤
+yampa apply src cert | ‹successor› |  | laws 1{10001* (step E16 forward (at 0))} => status 1 certificate: too many steps
+yampa apply other other | ‹successor› |  | laws 3 => status 3 source: cannot be read
+yampa apply src other | ‹parameter› |  | laws 3 => status 1 source: no parameter in (at 0)
+yampa apply src other | ‹successor› |  | laws 3 => status 3 certificate: cannot be read
+yampa apply src cert --steps | ‹successor› |  | laws 3 => status 1 certificate: header
+yampa apply other other --first -1 | ‹successor› |  | laws 1 => wrong words
+yampa apply other other --first +1 | ‹successor› |  | laws 1 => wrong words
+yampa apply other other --first 1x | ‹successor› |  | laws 1 => wrong words
+yampa apply src | ‹successor› |  | laws 1 => wrong words
+yampa apply src tgt cert | ‹successor› |  | laws 1 => wrong words
 § Certificates that don't lead from the source to the target.
 yampa check src tgt cert | ‹same› | yampa 1 input Bool (arr x) | laws 1 => status 1 certificate: inputs differ
 yampa check src tgt cert | ‹same› | ‹same› | laws 1{10001* (step E16 forward (at 0))} => status 1 certificate: too many steps

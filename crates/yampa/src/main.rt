@@ -6,7 +6,7 @@
 //! No contract can speak of the host's files and streams, so `main` stays thin: it reads the
 //! words, asks `prepare` for the job, stores a closure for each expression of the network
 //! (`fill_table!`), runs it by `run_network`, and prints a refusal's line. It answers the exit
-//! status: 0, or that of the refusal. `tests/examples` tries it.
+//! status: 0, or that of the refusal, which is 1 where a text is printed before it. `tests/examples` tries it.
 //!
 //! First this file; the host's files are `src/host.rt`, and `src/streams.rt` is standard input and
 //! the writer that holds lines back until more input is asked for.
@@ -45,6 +45,7 @@ fn perform(rt: &HostRuntime, job: &Job) -> u8 {
     match job {
         Job::Print(text) => print(rt, text),
         Job::Run(net) => run(rt, net),
+        Job::PrintAndRefuse { text, line } => print_and_refuse(rt, text, line),
     }
 }
 
@@ -165,6 +166,14 @@ fn print(rt: &HostRuntime, text: &str) -> u8 {
     {
         Ok(()) => 0,
         Err(_) => refuse_output(rt),
+    }
+}
+
+/// Prints the text on standard output, and then the line on standard error. Answers the exit status.
+fn print_and_refuse(rt: &HostRuntime, text: &str, line: &str) -> u8 {
+    match print(rt, text) {
+        0 => complain(rt, 1, line),
+        status => status,
     }
 }
 

@@ -8,3 +8,5 @@ mod NetworkRun
 mod TextFaults
 mod WholeRun
 mod OptimisedFiles
+mod Numbers
+mod Places

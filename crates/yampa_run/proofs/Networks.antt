@@ -1,5 +1,10 @@
 -- What a file leads to, and a command line on it.
-use Rattle.std.proofs.Common.{◌≡◌, ◌≢◌, inr, ℕ, List, Some, Ok, Err}
+use Rattle.std.proofs.Common.{◌≡◌, ◌≢◌, ◌≤◌, inr, ℕ, true, List, length, Option, Some, Result, Ok, Err, subst, sym}
+use Rattle.cert_check.specs.declared.answer.CheckFault.TheVariants as C
+use Rattle.std.specs.Result.{IfErr}
+use Rattle.command_line.specs.CommandLine.{LeadingNames}
+use Rattle.net_syntax.specs.LawStep.{Step}
+use Rattle.yampa_run.specs.Words.{TellsPlace}
 use Rattle.sample_core.specs.TypeTree.{TypeTree}
 use Rattle.leaf_core.specs.Expression.{Expression}
 use Rattle.net_syntax.specs.Network.{Network}
@@ -12,7 +17,7 @@ use Rattle.net_types.specs.declared.fault.TypeFault.{TypeFault}
 use Rattle.net_types.specs.declared.fault.TypeFault.TheVariants as T
 use Rattle.command_line.specs.CommandLine.{RequestTree, request_in}
 use Rattle.net_text.specs.CertificateLaws.{IsCertificateFault}
-use Rattle.yampa_run.specs.Preparation.{Fails, HasNoNetwork, HasNoSteps, IsNetworkIn, IsRefusal, IsRequested, Meets, RefusesText, RefusesTypes, KnownFiles, by_text, by_types}
+use Rattle.yampa_run.specs.Preparation.{Fails, HasNoNetwork, HasNoPlace, HasNoSteps, IsLeading, IsNetworkOf, IsNotApplied, IsNotThere, RefusesCheck, RefusesSteps, not_applied, not_there, IsNetworkIn, IsRefusal, IsRequested, Meets, RefusesText, RefusesTypes, KnownFiles, by_text, by_types}
 use Rattle.yampa_run.specs.declared.refused.Role.{Role}
 use Rattle.yampa_run.specs.declared.refused.Role.TheVariants as R
 use Rattle.yampa_run.specs.declared.preparation.Job.{Job}
@@ -46,6 +51,7 @@ steps_refused bytes f wrong Refused.Memory h = tt
 pub met : (told : KnownFiles) (words : List (List ℕ)) (what : RequestTree) → request_in words ≡ Some what → (job : Job) → Meets told what job
     → IsRequested told words job
 met told words what e (J.Run t) h = record { what = what; asks = e; meets = h }
+met told words what e (J.PrintAndRefuse text line) h = record { what = what; asks = e; meets = h }
 met told words what e (J.Print text) h = inr (record { what = what; asks = e; meets = h })
 
 -- where a request fails, so do the words that ask for it
@@ -53,3 +59,21 @@ pub failed : (told : KnownFiles) (words : List (List ℕ)) (what : RequestTree) 
     → IsRefusal told words r
 failed told words what e (Refused.Line status line) h = inr (record { what = what; asks = e; fails = h })
 failed told words what e Refused.Memory h = tt
+
+-- where nothing stands at the place of a word, the steps there aren't printed
+pub nothing_there : {T : Type 0} (known at : Option (List ℕ)) (net : TypedNetwork) (p : List ℕ) (r : Result T Refusal) → IsNetworkOf known net
+    → TellsPlace at p → IfErr r (IsNotThere net p) → IfErr r (HasNoPlace known at)
+nothing_there known at net p (Ok text) i j h = tt
+nothing_there known at net p (Err e) i j h = not_there net p i j h
+
+-- where the steps that are to be taken are refused, nothing is printed of them
+pub not_taken : {T : Type 0} (told : KnownFiles) (names : LeadingNames) (source : TypedNetwork) (steps : List Step) (r : Result T Refusal)
+    → IsLeading told names source steps → IfErr r (RefusesSteps source steps names.shows) → IfErr r (IsNotApplied told names)
+not_taken told names source steps (Ok job) l h = tt
+not_taken told names source steps (Err e) l h = not_applied source steps l h
+
+-- where memory is short, nothing is shown of at most 10,000 steps
+pub short_of_memory : {T : Type 0} (source : TypedNetwork) (steps : List Step) (r : Result T Refusal) → length steps ≤ 10000
+    → IfErr r (λ e. e ≡ Refused.Memory) → IfErr r (RefusesSteps source steps true)
+short_of_memory source steps (Ok job) few h = tt
+short_of_memory source steps (Err e) few h = record { fault = C.Memory; unapplied = few; refuses = subst (RefusesCheck C.Memory) (sym h) tt }

@@ -1,6 +1,6 @@
 -- Bytes are refused with one line, and have no network then. So nothing that can be done is refused.
-use Rattle.std.proofs.Common.{◌≡◌, ◌≢◌, ℕ, List, refl, sym, ap, ◌∙◌, subst, inl, inr, Option, Some, None, Result, Ok, Err, length}
-use Rattle.std.specs.Prelude.{string_bytes}
+use Rattle.std.proofs.Common.{◌≡◌, ◌≢◌, ◌<◌, ◌≤◌, ℕ, Bool, true, false, List, arith, refl, sym, ap, ◌∙◌, subst, inl, inr, Option, Some, None, Result, Ok, Err, length}
+use Rattle.std.specs.Prelude.{IsSome, string_bytes}
 use Rattle.sample_core.specs.TypeTree.{TypeTree}
 use Rattle.leaf_core.specs.Expression.{Expression}
 use Rattle.net_syntax.specs.Network.{Network}
@@ -14,15 +14,22 @@ use Rattle.net_text.proofs.CertificateRead.{certificate_fault_law, one_certifica
 use Rattle.net_text.proofs.FileRead.{read_file_law, file_fault_law, one_file}
 use Rattle.net_types.proofs.Checks.{check_exact}
 use Rattle.net_types.specs.Check.{check}
-use Rattle.cert_check.specs.CheckAnswer.{CheckAnswer}
+use Rattle.cert_check.specs.CheckAnswer.{Begins, CheckAnswer}
+use Rattle.cert_check.specs.StepAnswers.{ApplyAnswer}
 use Rattle.cert_check.specs.Derives.{Derives}
 use Rattle.cert_check.specs.declared.answer.Accepted.{Accepted}
 use Rattle.cert_check.specs.declared.answer.CheckFault.{CheckFault}
 use Rattle.cert_check.specs.declared.answer.CheckFault.TheVariants as C
 use Rattle.cert_check.proofs.OneAnswer.{one_answer}
-use Rattle.command_line.specs.CommandLine.{DerivationNames, RequestTree, types, run, optimise, check as checks, run_checked, request_in, AsksNothing}
+use Rattle.cert_check.proofs.Taken.{applied}
+use Rattle.net_syntax.specs.NetworkLimits.{WithinLimits}
+use Rattle.net_view.specs.Listed.{IsThere}
+use Rattle.net_view.specs.Trace.{TraceAnswer, first_steps}
+use Rattle.yampa_run.specs.Words.{TellsFirst}
+use Rattle.yampa_run.proofs.Places.{one_place}
+use Rattle.command_line.specs.CommandLine.{DerivationNames, LeadingNames, RequestTree, types, run, outline, laws, optimise, check as checks, run_checked, apply, request_in, AsksNothing}
 use Rattle.yampa_run.specs.RefusalLines.{text_words, type_words}
-use Rattle.yampa_run.specs.Preparation.{AreTold, Fails, HasNoDerivation, HasNoNetwork, HasNoSteps, IsDerivedIn, IsNetworkIn, IsNetworkOf, IsTold, AreStepsOf, KnownFiles, Meets, RefusesCheck, OneRefusalLaw, NoNetworkLaw, OnlyMemoryLaw, by_text, by_types, no_source, no_target, no_steps, not_accepted}
+use Rattle.yampa_run.specs.Preparation.{AreTold, Fails, HasNoDerivation, HasNoNetwork, HasNoSteps, IsDerivedIn, IsNetworkIn, IsNetworkOf, IsApplied, IsLeading, IsNoNumber, IsNotApplied, IsUnapplied, HasNoPlace, IsTold, AreStepsOf, KnownFiles, Meets, RefusesCheck, TellsApplied, TellsLaws, OneRefusalLaw, NoNetworkLaw, OnlyMemoryLaw, no_place, no_network as no_such_network, not_there, no_number, without_source, without_steps, not_applied, by_text, by_types, no_source, no_target, no_steps, not_accepted}
 use Rattle.yampa_run.specs.declared.refused.Role.{Role}
 use Rattle.yampa_run.specs.declared.refused.Role.TheVariants as R
 use Rattle.yampa_run.specs.declared.preparation.Job.{Job}
@@ -124,18 +131,112 @@ no_derivation told names t count refusal m k d (not_accepted source target steps
     (subst (λ s. CheckAnswer s t d.steps (Err f)) x (subst (λ u. CheckAnswer source u d.steps (Err f)) y
     (subst (λ ss. CheckAnswer source target ss (Err f)) z a)))
 
+-- the steps that may be taken at a place that is there are printed
+no_place_fails : (known at : Option (List ℕ)) (text : List ℕ) (refusal : Refusal) → refusal ≢ Refused.Memory → IsTold known → TellsLaws known at text
+    → HasNoPlace known at refusal → ⊥
+no_place_fails known at text Refused.Memory m k n f = m refl
+no_place_fails known at text (Refused.Line status line) m k n (no_place h) = h.0 n.place n.place_is
+no_place_fails known at text (Refused.Line status line) m k n (no_such_network h) = no_file R.Network known n.net (Refused.Line status line) m k n.network h
+no_place_fails known at text (Refused.Line status line) m k n (not_there net p i j h) =
+    let x : net ≡ n.net = one_of_file known net n.net k i n.network in
+    let y : p ≡ n.place = one_place at p n.place j n.place_is in
+    h.0 (subst (λ t. IsThere t p) (sym x) (subst (λ q. IsThere n.net q) (sym y) n.tells.0))
+
+-- where steps lead to a network, a check of them tells no fault
+no_step_fault : (source last : TypedNetwork) (steps : List Step) (f : CheckFault) → f ≢ C.Memory → WithinLimits source
+    → ApplyAnswer source steps (Ok last) → ApplyAnswer source steps (Err f) → ⊥
+no_step_fault source last steps f d l a b =
+    let there : Derives source last steps × WithinLimits last = applied source last steps a l in
+    no_check_fault source last steps f d there.0 (go f b)
+  where
+    begins : Begins source last steps
+    begins = let there : Derives source last steps × WithinLimits last = applied source last steps a l in
+        record { same_input = there.0.same_input; few = a.0 }
+
+    go : (g : CheckFault) → ApplyAnswer source steps (Err g) → CheckAnswer source last steps (Err g)
+    go C.InputsDiffer b = absurd b.1
+    go C.TooManySteps b = absurd (omega (arith, a.0, b))
+    go (C.NoPosition n) b = (begins, b.1)
+    go (C.NoMatch n) b = (begins, b.1)
+    go (C.IllTyped n) b = (begins, b.1)
+    go C.EndsElsewhere b = absurd b.1
+    go C.Memory b = begins
+
+-- what is shown of at most 10,000 steps is no fault
+no_trace_fault : (source : TypedNetwork) (steps : List Step) (f : CheckFault) → f ≢ C.Memory → length steps ≤ 10000 → TraceAnswer source steps (Err f) → ⊥
+no_trace_fault source steps C.TooManySteps d few b = omega (arith, few, b)
+no_trace_fault source steps C.Memory d few b = d refl
+no_trace_fault source steps C.InputsDiffer d few b = b
+no_trace_fault source steps (C.NoPosition n) d few b = b
+no_trace_fault source steps (C.NoMatch n) d few b = b
+no_trace_fault source steps (C.IllTyped n) d few b = b
+no_trace_fault source steps C.EndsElsewhere d few b = b
+
+-- steps of which something is printed aren't refused
+no_unapplied : (source : TypedNetwork) (steps : List Step) (shows : Bool) (job : Job) (f : CheckFault) → f ≢ C.Memory → WithinLimits source
+    → IsApplied source steps shows job → IsUnapplied source steps shows f → ⊥
+no_unapplied source steps false (J.Print text) f d l n u = no_step_fault source n.last steps f d l n.applied u
+no_unapplied source steps false (J.Run t) f d l n u = n
+no_unapplied source steps false (J.PrintAndRefuse text line) f d l n u = n
+no_unapplied source steps true (J.Print text) f d l n u = no_trace_fault source steps f d n.0 u
+no_unapplied source steps true (J.Run t) f d l n u = n
+no_unapplied source steps true (J.PrintAndRefuse text line) f d l n u = no_trace_fault source steps f d n.shows.0 u
+
+none_is_some : IsSome {T = ℕ} None → ⊥
+none_is_some e = cc
+
+-- a word that tells a number of steps isn't refused
+no_number_fails : (word : Option (List ℕ)) (first : Option ℕ) (refusal : Refusal) → refusal ≢ Refused.Memory → TellsFirst word first → IsNoNumber word refusal → ⊥
+no_number_fails word first Refused.Memory m t h = m refl
+no_number_fails None first (Refused.Line status line) m t h = h
+no_number_fails (Some word) first (Refused.Line status line) m t h = none_is_some (subst (λ o. IsSome o) (t.1 ∙ h.0) t.0)
+
+one_first : (word : Option (List ℕ)) (first other : Option ℕ) → TellsFirst word first → TellsFirst word other → first ≡ other
+one_first None first other t u = t ∙ sym u
+one_first (Some word) first other t u = t.1 ∙ sym u.1
+
+typed_of : (known : Option (List ℕ)) (t : TypedNetwork) → IsTold known → IsNetworkOf known t → WithinLimits t
+typed_of known t (bytes, e) n = let i : IsNetworkIn bytes t = subst (λ o. IsNetworkOf o t) e n in i.typed
+
+no_applied_fails : (told : KnownFiles) (names : LeadingNames) (job : Job) (refusal : Refusal) → refusal ≢ Refused.Memory → AreTold told (apply names)
+    → TellsApplied told names job → IsNotApplied told names refusal → ⊥
+no_applied_fails told names job refusal m k n (no_number h) = no_number_fails names.first n.leading.first refusal m n.leading.is_first h
+no_applied_fails told names job refusal m k n (without_source h) = no_file R.Source (told names.source) n.source refusal m k.0 n.leading.is_source h
+no_applied_fails told names job refusal m k n (without_steps source i h) =
+    no_certificate (told names.certificate) n.leading.all refusal m k.1 n.leading.are_steps h
+no_applied_fails told names job refusal m k n (not_applied source steps l h) =
+    let x : source ≡ n.source = one_of_file (told names.source) source n.source k.0 l.is_source n.leading.is_source in
+    let y : l.all ≡ n.leading.all = same_steps (told names.certificate) l.all n.leading.all k.1 l.are_steps n.leading.are_steps in
+    let z : l.first ≡ n.leading.first = one_first names.first l.first n.leading.first l.is_first n.leading.is_first in
+    let s : steps ≡ n.steps = l.leading ∙ ap (λ o. first_steps o l.all) z ∙ ap (first_steps n.leading.first) y ∙ sym n.leading.leading in
+    no_unapplied n.source n.steps names.shows job h.fault (tells_fault h.fault refusal m h.refuses)
+    (typed_of (told names.source) n.source k.0 n.leading.is_source) n.applied
+    (subst (λ t. IsUnapplied t n.steps names.shows h.fault) x (subst (λ ss. IsUnapplied source ss names.shows h.fault) s h.unapplied))
+
 not_failed : (told : KnownFiles) (what : RequestTree) (job : Job) (refusal : Refusal) → refusal ≢ Refused.Memory → AreTold told what
     → Meets told what job → Fails told what refusal → ⊥
 not_failed told (types name) (J.Print text) refusal m k n f = no_file R.Network (told name) n.net refusal m k n.network f
 not_failed told (types name) (J.Run t) refusal m k n f = n
+not_failed told (types name) (J.PrintAndRefuse text line) refusal m k n f = n
 not_failed told (run name) (J.Print text) refusal m k n f = n
 not_failed told (run name) (J.Run t) refusal m k n f = no_file R.Network (told name) t refusal m k n f
+not_failed told (run name) (J.PrintAndRefuse text line) refusal m k n f = n
+not_failed told (outline name) (J.Print text) refusal m k n f = no_file R.Network (told name) n.net refusal m k n.network f
+not_failed told (outline name) (J.Run t) refusal m k n f = n
+not_failed told (outline name) (J.PrintAndRefuse text line) refusal m k n f = n
+not_failed told (laws at name) (J.Print text) refusal m k n f = no_place_fails (told name) at (string_bytes text) refusal m k n f
+not_failed told (laws at name) (J.Run t) refusal m k n f = n
+not_failed told (laws at name) (J.PrintAndRefuse text line) refusal m k n f = n
 not_failed told (optimise wanted name) (J.Print text) refusal m k n f = no_file R.Network (told name) n.source refusal m k n.network f
 not_failed told (optimise wanted name) (J.Run t) refusal m k n f = n
+not_failed told (optimise wanted name) (J.PrintAndRefuse text line) refusal m k n f = n
 not_failed told (checks names) (J.Print text) refusal m k n f = no_derivation told names n.target n.count refusal m k n.derived f
 not_failed told (checks names) (J.Run t) refusal m k n f = n
+not_failed told (checks names) (J.PrintAndRefuse text line) refusal m k n f = n
 not_failed told (run_checked names) (J.Print text) refusal m k n f = n
 not_failed told (run_checked names) (J.Run t) refusal m k n f = no_derivation told names t n.count refusal m k n.derived f
+not_failed told (run_checked names) (J.PrintAndRefuse text line) refusal m k n f = n
+not_failed told (apply names) job refusal m k n f = no_applied_fails told names job refusal m k n f
 
 nothing_asked : (words : List (List ℕ)) (what : RequestTree) → request_in words ≡ Some what → AsksNothing words → ⊥
 unfolding AsksNothing

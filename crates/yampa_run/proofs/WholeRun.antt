@@ -1,18 +1,19 @@
 -- The whole way of a run, from files and a text to what is written.
-use Rattle.std.proofs.Common.{◌≡◌, ℕ, List, [], Option, Some, Result, Ok, Err, refl, sym, ap, ◌∙◌, subst, arith, inl, inr}
+use Rattle.std.proofs.Common.{◌≡◌, ℕ, Bool, true, false, List, [], Option, Some, Result, Ok, Err, refl, sym, ap, ◌∙◌, subst, arith, inl, inr}
 use Rattle.sample_core.specs.ReadingLaws.{FaultLaw, ReadingLaw}
 use Rattle.leaf_core.specs.KeyTree.{KeyTree}
 use Rattle.net_syntax.specs.Laws.{WithinLaw}
 use Rattle.net_syntax.specs.NetworkLimits.{NetworkFits, WithinLimits}
+use Rattle.net_syntax.specs.LawStep.{Step}
 use Rattle.net_syntax.specs.TypedNetwork.{TypedNetwork}
 use Rattle.cert_check.specs.Laws.{SameStreamLaw}
 use Rattle.stream_text.specs.LineFaults.{LineFaultLaw}
 use Rattle.stream_text.specs.declared.fault.StreamFault.TheVariants as S
-use Rattle.command_line.specs.CommandLine.{RequestTree, types, run, optimise, check as checks, run_checked}
+use Rattle.command_line.specs.CommandLine.{RequestTree, types, run, outline, laws, optimise, check as checks, run_checked, apply}
 use Rattle.yampa_run.specs.FaultLines.{line_of, status_of}
 use Rattle.yampa_run.specs.Headline.{RunsSo, output_in}
 use Rattle.yampa_run.specs.NetworkRun.{RunsOver}
-use Rattle.yampa_run.specs.Preparation.{AreStepsOf, IsDerivedIn, IsNetworkIn, IsNetworkOf, Meets}
+use Rattle.yampa_run.specs.Preparation.{AreStepsOf, IsApplied, IsDerivedIn, IsNetworkIn, IsNetworkOf, Meets}
 use Rattle.yampa_run.specs.RefusalLines.{refusal_line, refusal_status}
 use Rattle.yampa_run.specs.Runs.{BeginsOutput, IsOutput, StopsWithin}
 use Rattle.yampa_run.specs.WholeRun.{RunsAsAsked, WholeRunLaw, WritesPart, WritesAsTold, part, up_to_fault, whole}
@@ -66,6 +67,11 @@ module _ (law : FaultLaw) (faults : LineFaultLaw) (t : TypedNetwork) (text : Lis
       part (record { written = []; writes = u.still.writes; begins = ((output_in t text).bytes, refl) }) u.status_is (4, omega arith, sym u.line_is)
   told_so keys (Err Refused.Memory) r = part (part_of r.0 r.1) refl (0, omega arith, refl)
 
+-- a run isn't what is wanted of steps
+not_run : (source : TypedNetwork) (steps : List Step) (shows : Bool) (t : TypedNetwork) → IsApplied source steps shows (J.Run t) → ⊥
+not_run source steps false t n = n
+not_run source steps true t n = n
+
 -- what is written of the target is written of the source
 as_source : (source target : TypedNetwork) (text : List ℕ) (holds holds' : Option (List ℕ)) (answer : Result RunReport Refusal)
     → source.input ≡ target.input → output_in source text ≡ output_in target text → WritesAsTold target text holds holds' answer
@@ -89,6 +95,8 @@ whole_run reads law faults same within told words t keys text has' holds holds' 
     go : (what : RequestTree) → Meets told what (J.Run t) → RunsAsAsked told what text holds holds' answer
     go (types name) m = m
     go (run name) m = λ file e. record { net = t; net_is = subst (λ known. IsNetworkOf known t) e m; writes = so }
+    go (outline name) m = m
+    go (laws at name) m = m
     go (optimise wanted name) m = m
     go (checks names) m = m
     go (run_checked names) m = λ source_file target_file certificate e f g.
@@ -107,3 +115,4 @@ whole_run reads law faults same within told words t keys text has' holds holds' 
           writes = as_source d.source t text holds holds' answer d.derives.same_input
               (same_output reads same d.source t d.steps text (within [] [] d.source.net d.source.input d.source.output fits.typed) d.derives) so;
         }
+    go (apply names) m = absurd (not_run m.source m.steps names.shows t m.applied)

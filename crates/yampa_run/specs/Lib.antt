@@ -4,6 +4,7 @@ pub mod Output
 pub mod Runs
 pub mod KnownFiles
 pub mod RefusalLines
+pub mod Words
 pub mod Preparation
 pub mod Headline
 pub mod NetworkRun

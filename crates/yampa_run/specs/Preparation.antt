@@ -1,5 +1,5 @@
 -- What a command line leads to, by its words and by what is told of files.
-use Rattle.std.specs.Prelude.{◌≡◌, ◌≢◌, ◌⊎◌, ℕ, List, ◌++◌, length, Option, Some, None, Err, codes, string_bytes, ⊤}
+use Rattle.std.specs.Prelude.{◌≡◌, ◌≢◌, ◌⊎◌, ◌≤◌, ℕ, Bool, true, false, List, ◌++◌, length, map, Option, Some, None, option_map, Err, codes, string_bytes, ⊤}
 use Rattle.std.specs.Fmt.{decimal}
 use Rattle.sample_core.specs.TypeTree.{TypeTree}
 use Rattle.sample_core.specs.Spelling.{type_spelling}
@@ -19,15 +19,24 @@ use Rattle.net_types.specs.declared.fault.TypeFault.{TypeFault}
 use Rattle.net_types.specs.declared.fault.TypeFault.TheVariants as T
 use Rattle.cert_check.specs.Derives.{Derives}
 use Rattle.cert_check.specs.CheckAnswer.{CheckAnswer}
+use Rattle.cert_check.specs.StepAnswers.{ApplyAnswer}
 use Rattle.cert_check.specs.declared.answer.CheckFault.{CheckFault}
 use Rattle.cert_check.specs.declared.answer.CheckFault.TheVariants as C
 use Rattle.net_opt.specs.Optimising.{Optimised}
 use Rattle.leaf_table.specs.declared.fault.TableFault.{TableFault}
 use Rattle.leaf_table.specs.declared.fault.TableFault.TheVariants as A
-use Rattle.command_line.specs.CommandLine.{DerivationNames, RequestTree, types, run, optimise, check as checks, run_checked, request_in, AsksHelp, AsksNothing}
+use Rattle.command_line.specs.CommandLine.{DerivationNames, LeadingNames, RequestTree, types, run, outline, laws, optimise, check as checks, run_checked, apply, request_in, AsksHelp, AsksNothing}
 use Rattle.command_line.specs.declared.command.Wanted.{Wanted}
 use Rattle.command_line.specs.declared.command.Wanted.TheVariants as W
-use Rattle.yampa_run.specs.RefusalLines.{check_words, text_words, type_words, unread_words}
+use Rattle.net_view.specs.Applied.{PrintsApplied}
+use Rattle.net_view.specs.Listed.{IsThere}
+use Rattle.net_view.specs.Texts.{OutlineText, PossibleText}
+use Rattle.net_view.specs.Trace.{Stopped, TraceAnswer, changed_of, first_steps, stopped_of}
+use Rattle.net_view.specs.TraceText.{TellsTrace, trace_lines}
+use Rattle.net_view.specs.declared.trace.Stop.{Stop}
+use Rattle.net_view.specs.declared.trace.Trace.{Trace}
+use Rattle.yampa_run.specs.RefusalLines.{check_words, no_number_words, no_place_words, none_found_words, not_there_words, text_words, type_words, unread_words}
+use Rattle.yampa_run.specs.Words.{TellsFirst, TellsPlace, number_in}
 use Rattle.yampa_run.specs.declared.refused.Role.{Role}
 use Rattle.yampa_run.specs.declared.refused.Role.TheVariants as R
 use Rattle.yampa_run.specs.declared.preparation.Job.{Job}
@@ -211,28 +220,154 @@ pub record IsChecked (told : KnownFiles) (names : DerivationNames) (t : TypedNet
   pub count : ℕ
   pub derived : IsDerivedIn told names t count
 
--- the job is what is asked for: the lines on a file's types, a run of its network, what is wanted of
--- an optimised one, the line on a derivation, or a run of a target that is derived
+-- a refusal with that status and that line, or memory was short
+abbrev pub RefusesWith : ℕ → List ℕ → Refusal → Type 0
+RefusesWith code words (Refused.Line status line) = (status ≡ code) × (string_bytes line ≡ words)
+RefusesWith code words Refused.Memory = ⊤
+
+-- the lines are the outline of the typed network of a file, where its bytes are told
+pub record TellsOutline (told : Option (List ℕ)) (text : List ℕ) : Type 0 where
+  pub net : TypedNetwork
+  pub network : IsNetworkOf told net
+  pub lines : OutlineText net text
+
+-- the lines are those on the steps that may be taken at a place of a network and below, where
+-- something stands there
+abbrev pub TellsSteps : TypedNetwork → List ℕ → List ℕ → Type 0
+TellsSteps net place text = IsThere net place × PossibleText net place text
+
+-- the lines are those on the steps that may be taken in the typed network of a file, where its bytes
+-- are told, at the place of a word and below
+pub record TellsLaws (told at : Option (List ℕ)) (text : List ℕ) : Type 0 where
+  pub net : TypedNetwork
+  pub network : IsNetworkOf told net
+  pub place : List ℕ
+  pub place_is : TellsPlace at place
+  pub tells : TellsSteps net place text
+
+-- no position is the place of the word, and that is told with status 2; or memory was short
+abbrev pub IsNowhere : Option (List ℕ) → Refusal → Type 0
+IsNowhere at (Refused.Line status line) = ((p : List ℕ) → TellsPlace at p → ⊥)
+    × RefusesWith 2 no_place_words (Refused.Line status line)
+IsNowhere at Refused.Memory = ⊤
+
+-- nothing stands at the position of the network, and that is told; or memory was short
+abbrev pub IsNotThere : TypedNetwork → List ℕ → Refusal → Type 0
+IsNotThere net p (Refused.Line status line) = (IsThere net p → ⊥)
+    × RefusesWith 1 (not_there_words p) (Refused.Line status line)
+IsNotThere net p Refused.Memory = ⊤
+
+-- why the steps that may be taken aren't printed: the word is no position; or there is no network of
+-- the file; or nothing stands at the position in it
+pub data HasNoPlace (told at : Option (List ℕ)) (refusal : Refusal) : Type 0 where
+  no_place : IsNowhere at refusal → HasNoPlace told at refusal
+  no_network : HasNoNetwork R.Network told refusal → HasNoPlace told at refusal
+  not_there : (net : TypedNetwork) (p : List ℕ) → IsNetworkOf told net → TellsPlace at p
+      → IsNotThere net p refusal → HasNoPlace told at refusal
+
+-- the text tells what the steps do, at most 10,000, up to the one that is refused, if one is
+abbrev pub ShowsSteps : TypedNetwork → List Step → Option Stopped → List ℕ → Type 0
+ShowsSteps source steps stop text = (length steps ≤ 10000) × TellsTrace source steps stop text
+
+-- the text tells what the steps do up to one that is refused, and the line is check's on that
+pub record ShowsStop (source : TypedNetwork) (steps : List Step) (text line : List ℕ) : Type 0
+  where
+    pub stop : Stopped
+    pub shows : ShowsSteps source steps (Some stop) text
+    pub told : line ≡ check_words stop.fault
+
+-- the job is to print the network that the steps lead to; or, where they are shown, what they do
+abbrev pub IsApplied : TypedNetwork → List Step → Bool → Job → Type 0
+IsApplied source steps false (J.Print text) = PrintsApplied source steps (string_bytes text)
+IsApplied source steps true (J.Print text) = ShowsSteps source steps None (string_bytes text)
+IsApplied source steps true (J.PrintAndRefuse text line) =
+    ShowsStop source steps (string_bytes text) (string_bytes line)
+IsApplied _ _ _ _ = ⊥
+
+-- the job is to print what came of steps, as their trace tells it, and check's line on the one that
+-- was refused, if one was
+abbrev pub IsShown : List Step → Trace → Job → Type 0
+IsShown steps trace (J.Print text) = (option_map stopped_of trace.stop ≡ None)
+    × (string_bytes text ≡ trace_lines steps (map changed_of trace.changes.items) None)
+IsShown steps trace (J.PrintAndRefuse text line) =
+    (stop : Stop) × (trace.stop ≡ Some stop)
+    × (string_bytes text
+    ≡ trace_lines steps (map changed_of trace.changes.items) (Some (stopped_of stop)))
+    × (string_bytes line ≡ check_words stop.fault)
+IsShown steps trace (J.Run t) = ⊥
+
+-- the fault for which nothing is printed: the first of the steps; where they are shown, that they
+-- are too many
+abbrev pub IsUnapplied : TypedNetwork → List Step → Bool → CheckFault → Type 0
+IsUnapplied source steps false f = ApplyAnswer source steps (Err f)
+IsUnapplied source steps true f = TraceAnswer source steps (Err f)
+
+-- the steps are refused so
+pub record RefusesSteps (source : TypedNetwork) (steps : List Step) (shows : Bool)
+    (refusal : Refusal) : Type 0 where
+  pub fault : CheckFault
+  pub unapplied : IsUnapplied source steps shows fault
+  pub refuses : RefusesCheck fault refusal
+
+-- a source and the steps of a certificate that are to be taken from it, where their bytes are told
+pub record IsLeading (told : KnownFiles) (names : LeadingNames) (source : TypedNetwork)
+    (steps : List Step) : Type 0 where
+  pub is_source : IsNetworkOf (told names.source) source
+  pub all : List Step
+  pub are_steps : AreStepsOf (told names.certificate) all
+  pub first : Option ℕ
+  pub is_first : TellsFirst names.first first
+  pub leading : steps ≡ first_steps first all
+
+-- the job is what is wanted of the steps that are to be taken
+pub record TellsApplied (told : KnownFiles) (names : LeadingNames) (job : Job) : Type 0 where
+  pub source : TypedNetwork
+  pub steps : List Step
+  pub leading : IsLeading told names source steps
+  pub applied : IsApplied source steps names.shows job
+
+-- the word is no number of steps, and that is told with status 2; or memory was short
+abbrev pub IsNoNumber : Option (List ℕ) → Refusal → Type 0
+IsNoNumber (Some word) (Refused.Line status line) = (number_in word ≡ None)
+    × RefusesWith 2 no_number_words (Refused.Line status line)
+IsNoNumber None (Refused.Line status line) = ⊥
+IsNoNumber word Refused.Memory = ⊤
+
+-- why nothing is printed of steps: the word is no number; or the first of the two files, in this
+-- order, that is no network or has no steps; or the steps are refused
+pub data IsNotApplied (told : KnownFiles) (names : LeadingNames) (refusal : Refusal) : Type 0 where
+  no_number : IsNoNumber names.first refusal → IsNotApplied told names refusal
+  without_source : HasNoNetwork R.Source (told names.source) refusal → IsNotApplied told names refusal
+  without_steps : (source : TypedNetwork) → IsNetworkOf (told names.source) source
+      → HasNoSteps (told names.certificate) refusal → IsNotApplied told names refusal
+  not_applied : (source : TypedNetwork) (steps : List Step) → IsLeading told names source steps
+      → RefusesSteps source steps names.shows refusal → IsNotApplied told names refusal
+
+-- the job is what is asked for: the lines on a file's types, a run of its network, its outline, the
+-- lines on its steps, what is wanted of an optimised one, the line on a derivation, a run of a
+-- target that is derived, or what is wanted of steps
 abbrev pub Meets : KnownFiles → RequestTree → Job → Type 0
 Meets told (types name) (J.Print text) = TellsTypes (told name) (string_bytes text)
-Meets told (types name) (J.Run t) = ⊥
-Meets told (run name) (J.Print text) = ⊥
 Meets told (run name) (J.Run t) = IsNetworkOf (told name) t
+Meets told (outline name) (J.Print text) = TellsOutline (told name) (string_bytes text)
+Meets told (laws at name) (J.Print text) = TellsLaws (told name) at (string_bytes text)
 Meets told (optimise wanted name) (J.Print text) =
     TellsOptimised (told name) wanted (string_bytes text)
-Meets told (optimise wanted name) (J.Run t) = ⊥
 Meets told (checks names) (J.Print text) = TellsAccepted told names (string_bytes text)
-Meets told (checks names) (J.Run t) = ⊥
-Meets told (run_checked names) (J.Print text) = ⊥
 Meets told (run_checked names) (J.Run t) = IsChecked told names t
+Meets told (apply names) job = TellsApplied told names job
+Meets told _ _ = ⊥
 
 -- why what is asked for isn't done
 abbrev pub Fails : KnownFiles → RequestTree → Refusal → Type 0
 Fails told (types name) refusal = HasNoNetwork R.Network (told name) refusal
 Fails told (run name) refusal = HasNoNetwork R.Network (told name) refusal
+Fails told (outline name) refusal = HasNoNetwork R.Network (told name) refusal
+Fails told (laws at name) refusal = HasNoPlace (told name) at refusal
 Fails told (optimise wanted name) refusal = HasNoNetwork R.Network (told name) refusal
 Fails told (checks names) refusal = HasNoDerivation told names refusal
 Fails told (run_checked names) refusal = HasNoDerivation told names refusal
+Fails told (apply names) refusal = IsNotApplied told names refusal
 
 -- the words ask for something that the job is
 pub record MeetsWords (told : KnownFiles) (words : List (List ℕ)) (job : Job) : Type 0 where
@@ -242,8 +377,8 @@ pub record MeetsWords (told : KnownFiles) (words : List (List ℕ)) (job : Job) 
 
 -- what is to be done is what the words ask for: a run, or a text, which may be help
 abbrev pub IsRequested : KnownFiles → List (List ℕ) → Job → Type 0
-IsRequested told words (J.Run t) = MeetsWords told words (J.Run t)
 IsRequested told words (J.Print text) = AsksHelp words ⊎ MeetsWords told words (J.Print text)
+IsRequested told words job = MeetsWords told words job
 
 -- the words ask for something that isn't done
 pub record FailsWords (told : KnownFiles) (words : List (List ℕ)) (refusal : Refusal) : Type 0
@@ -267,11 +402,14 @@ IsTold told = (bytes : List ℕ) × (told ≡ Some bytes)
 abbrev pub AreTold : KnownFiles → RequestTree → Type 0
 AreTold told (types name) = IsTold (told name)
 AreTold told (run name) = IsTold (told name)
+AreTold told (outline name) = IsTold (told name)
+AreTold told (laws at name) = IsTold (told name)
 AreTold told (optimise wanted name) = IsTold (told name)
 AreTold told (checks names) = IsTold (told names.source) × IsTold (told names.target)
     × IsTold (told names.certificate)
 AreTold told (run_checked names) = IsTold (told names.source) × IsTold (told names.target)
     × IsTold (told names.certificate)
+AreTold told (apply names) = IsTold (told names.source) × IsTold (told names.certificate)
 
 -- where the files' bytes are told and some job is what is asked for, memory alone is a reason to
 -- refuse it

@@ -82,6 +82,21 @@ check_words (C.IllTyped n) = step_words (codes "ill typed") n
 check_words C.EndsElsewhere = line_on R.Certificate (codes "ends elsewhere")
 check_words C.Memory = codes "memory"
 
+-- the line on a word that is no number of steps, and on one that is no position
+abbrev pub no_number_words : List ℕ
+no_number_words = codes "--first: no number"
+
+abbrev pub no_place_words : List ℕ
+no_place_words = codes "--at: no position"
+
+-- the line on a position at which nothing stands in the network
+abbrev pub not_there_words : List ℕ → List ℕ
+not_there_words P = place_words R.Network (codes "no position ") P
+
+-- the line where no certificate is found
+abbrev pub none_found_words : List ℕ
+none_found_words = line_on R.Certificate (codes "none found")
+
 -- the exit status of a refusal: its own, or 3 where memory was short
 abbrev pub refusal_status : Refusal → ℕ
 refusal_status (Refused.Line status line) = status

@@ -78,7 +78,7 @@ pub fn derived<F: Files>(
 }
 
 /// The steps of the certificate file of that name.
-fn load_steps<F: Files>(alloc: Global, name: &str, files: &F) -> Result<Vec<LawStep>, Refusal>
+pub fn load_steps<F: Files>(alloc: Global, name: &str, files: &F) -> Result<Vec<LawStep>, Refusal>
     ensures steps { IfOk result
         (λ steps. AreStepsOf (F.told files.now name.now) (map step_of steps.items)) }
     ensures refused { IfErr result (HasNoSteps (F.told files.now name.now)) }
@@ -101,7 +101,7 @@ fn steps_of(alloc: Global, bytes: &[u8]) -> Result<Vec<LawStep>, Refusal>
 }
 
 /// The refusal of a certificate that doesn't lead from its source to its target.
-fn check_refusal(alloc: Global, fault: CheckFault) -> Result<Refusal, Memory>
+pub fn check_refusal(alloc: Global, fault: CheckFault) -> Result<Refusal, Memory>
     ensures { IfOk result (RefusesCheck fault) }
 {
     match &fault {

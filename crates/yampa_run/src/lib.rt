@@ -13,6 +13,7 @@
 //! First `specs/Output` and `Headline`, then `src/stream_run.rt`, `src/preparation.rt`.
 #![tactic(auto)]
 
+mod applied;
 mod certificate;
 mod fault;
 mod files;
@@ -24,6 +25,8 @@ mod preparation;
 mod printed;
 mod refused;
 mod stream_run;
+mod viewed;
+mod words;
 
 pub use command_line::command_rows;
 pub use fault::{RunFault, RunReport};

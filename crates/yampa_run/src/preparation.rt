@@ -5,11 +5,13 @@ ghost use Rattle.command_line.specs.CommandLine.{ReadsWords, request_view};
 ghost use Rattle.yampa_run.specs.RefusalLines.{refusal_line, refusal_status};
 ghost use Rattle.yampa_run.specs.Preparation.{Fails, HasNoNetwork, IsRequested, IsNetworkIn, IsNetworkOf, IsRefusal, Meets, RefusesText, RefusesTypes, TellsTypes, KnownFiles, arrow_line, size_lines, types_lines};
 
+use crate::applied::applied;
 use crate::certificate::{accepted, derived};
 use crate::files::{Files, read_file};
 use crate::optimised::optimised;
 use crate::printed::{push_number, push_words};
 use crate::refused::{Role, text_line, type_line};
+use crate::viewed::{outlined, possible};
 use command_line::{Reply, Request, parse};
 use net_syntax::TypedNet;
 use net_text::{NetTextFault, read_net};
@@ -24,6 +26,8 @@ pub enum Job {
     Print(String),
     /// The network is to be run.
     Run(TypedNet),
+    /// The text is to be printed, and the line on standard error, with status 1.
+    PrintAndRefuse { text: String, line: String },
 }
 
 /// Why nothing is to be done, or a run stopped before the end of its stream.
@@ -98,6 +102,14 @@ fn job_of<F: Files>(alloc: Global, request: Request<'_>, files: &F) -> Result<Jo
             Ok(net) => Ok(Job::Run(net)),
             Err(refusal) => Err(refusal),
         },
+        Request::Outline { net } => match outlined(alloc, net, files) {
+            Ok(text) => Ok(Job::Print(text)),
+            Err(refusal) => Err(refusal),
+        },
+        Request::Laws { net, at } => match possible(alloc, net, at, files) {
+            Ok(text) => Ok(Job::Print(text)),
+            Err(refusal) => Err(refusal),
+        },
         Request::Optimise { net, wanted } => match optimised(alloc, net, wanted, files) {
             Ok(text) => Ok(Job::Print(text)),
             Err(refusal) => Err(refusal),
@@ -110,6 +122,7 @@ fn job_of<F: Files>(alloc: Global, request: Request<'_>, files: &F) -> Result<Jo
             Ok((target, _)) => Ok(Job::Run(target)),
             Err(refusal) => Err(refusal),
         },
+        Request::Apply(names) => applied(alloc, names, files),
     }
 }
 

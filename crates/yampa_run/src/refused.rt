@@ -1,7 +1,7 @@
 // What the program prints of a file that is refused.
 
 ghost use Rattle.std.specs.Prelude.{◌≡◌, codes, IfOk, string_bytes};
-ghost use Rattle.yampa_run.specs.RefusalLines.{byte_words, check_words, expression_words, line_on, place_words, role_words, step_words, text_words, type_words, unread_words};
+ghost use Rattle.yampa_run.specs.RefusalLines.{byte_words, check_words, expression_words, line_on, no_number_words, no_place_words, not_there_words, place_words, role_words, step_words, text_words, type_words, unread_words};
 
 use crate::printed::{push_number, push_words};
 use cert_check::CheckFault;
@@ -115,6 +115,27 @@ fn place_line(alloc: Global, role: Role, what: &str, position: &Position) -> Res
     let mut line = line_of(alloc, role, what)?;
     push_position(&mut line, position)?;
     Ok(line)
+}
+
+/// The line on a position at which nothing stands in the network.
+pub fn not_there_line(alloc: Global, position: &Position) -> Result<String, Memory>
+    ensures { IfOk result (λ line. string_bytes line ≡ not_there_words position.now) }
+{
+    place_line(alloc, Role::Network, "no position ", position)
+}
+
+/// The line on a word that is no number of steps.
+pub fn no_number_line(alloc: Global) -> Result<String, Memory>
+    ensures { IfOk result (λ line. string_bytes line ≡ no_number_words) }
+{
+    Ok(String::from_str(alloc, "--first: no number")?)
+}
+
+/// The line on a word that is no position.
+pub fn no_place_line(alloc: Global) -> Result<String, Memory>
+    ensures { IfOk result (λ line. string_bytes line ≡ no_place_words) }
+{
+    Ok(String::from_str(alloc, "--at: no position")?)
 }
 
 /// The line on a certificate that doesn't lead from its source to its target.

@@ -15,6 +15,14 @@ pub returns-clause-derivations : goal.returns-clause-derivations
 unfolding clap_on_literals request_in
 returns-clause-derivations c = (refl, refl)
 
+pub returns-clause-places : goal.returns-clause-places
+unfolding clap_on_literals request_in
+returns-clause-places c = (refl, refl, refl)
+
+pub returns-clause-steps : goal.returns-clause-steps
+unfolding clap_on_literals request_in
+returns-clause-steps c = (refl, refl)
+
 pub returns-clause-help : goal.returns-clause-help
 unfolding clap_on_literals AsksHelp
 returns-clause-help c = (inl (inl refl), inl (inl refl), inl (inl refl))
@@ -31,3 +39,8 @@ pub returns-clause-no_optimise : goal.returns-clause-no_optimise
 unfolding clap_on_literals request_in AsksNothing
 returns-clause-no_optimise c =
     ((refl, λ e. cc, λ e. cc), (refl, λ e. cc, λ e. cc), (refl, λ e. cc, λ e. cc), (refl, λ e. cc, λ e. cc), (refl, λ e. cc, λ e. cc), (refl, λ e. cc, λ e. cc), (refl, λ e. cc, λ e. cc))
+
+pub returns-clause-no_steps : goal.returns-clause-no_steps
+unfolding clap_on_literals request_in AsksNothing
+returns-clause-no_steps c =
+    ((refl, λ e. cc, λ e. cc), (refl, λ e. cc, λ e. cc), (refl, λ e. cc, λ e. cc), (refl, λ e. cc, λ e. cc))

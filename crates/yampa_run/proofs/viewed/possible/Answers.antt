@@ -1,0 +1,8 @@
+use Rattle.std.proofs.Common.{option_map}
+use Rattle.yampa_run.proofs.Networks.{nothing_there}
+use Rattle.yampa_run.proofs.viewed.possible.Goals as goal
+
+pub returns-in-Ok-load-clause-refused : goal.returns-in-Ok-load-clause-refused
+returns-in-Ok-load-clause-refused g c =
+    nothing_there (g.F.Files.told c.args.files.now c.args.name.now) (option_map (λ w. w.now) c.args.at) c.in-Ok-load.net c.in-Ok.place c.possible_at-text.result
+    c.in-Ok-load.ensures.network c.in-Ok.ensures.place c.possible_at-text.ensures.refused
