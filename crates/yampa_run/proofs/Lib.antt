@@ -8,5 +8,6 @@ mod NetworkRun
 mod TextFaults
 mod WholeRun
 mod OptimisedFiles
+mod AppliedFiles
 mod Numbers
 mod Places

@@ -10,3 +10,4 @@ pub mod Headline
 pub mod NetworkRun
 pub mod WholeRun
 pub mod OptimisedFiles
+pub mod AppliedFiles

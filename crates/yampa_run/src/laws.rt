@@ -3,10 +3,11 @@
 
 ghost use Rattle.yampa_run.specs.Preparation.{NoNetworkLaw, OneRefusalLaw, OnlyMemoryLaw};
 ghost use Rattle.yampa_run.specs.Headline.{SameOutputLaw, SameFrontLaw, WritesOutputLaw, HeadlineLaw};
+ghost use Rattle.yampa_run.specs.AppliedFiles.{AppliedFilesLaw};
 ghost use Rattle.yampa_run.specs.OptimisedFiles.{OptimisedFilesLaw};
 ghost use Rattle.yampa_run.specs.WholeRun.{WholeRunLaw};
 
-use cert_check::derivation_laws;
+use cert_check::{applied_laws, derivation_laws};
 use net_opt::optimised_laws;
 use net_syntax::typing_laws;
 use net_text::printing_laws;
@@ -62,4 +63,14 @@ pub fn optimised_file_laws()
 {
     printing_laws();
     optimised_laws();
+}
+
+/// What `apply` prints of a source and a certificate, put into a file, within the limits of files:
+/// the certificate derives it from the source. So `prepare` refuses `check` and `run-checked` of the
+/// three for lack of memory alone.
+pub fn applied_file_laws()
+    ensures { AppliedFilesLaw }
+{
+    printing_laws();
+    applied_laws();
 }

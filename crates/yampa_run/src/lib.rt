@@ -32,7 +32,9 @@ pub use command_line::command_rows;
 pub use fault::{RunFault, RunReport};
 pub use files::{FileFault, Files};
 pub use fill::table_refusal;
-pub use laws::{headline_laws, optimised_file_laws, refusal_laws, whole_run_laws};
+pub use laws::{
+    applied_file_laws, headline_laws, optimised_file_laws, refusal_laws, whole_run_laws,
+};
 pub use network_run::{run_network, run_status};
 pub use preparation::{Job, Refusal, prepare};
 pub use printed::fault_line;
