@@ -155,6 +155,7 @@ class Case:
     def accepted_steps(self, steps, typeds):
         files = [text_of(typeds[0]), text_of(typeds[-1]), certificate_text(steps).encode()]
         self.accepted(self.hold("check", *files), files, len(steps))
+        self.applied(files, len(steps))
         for step, typed in zip(steps, typeds):
             self.tally[f"laws {step.direction}", step.law] += 1
             self.tally["places of steps", place_of(typed, step.position)] += 1
@@ -163,6 +164,14 @@ class Case:
     def accepted(self, told, files, count):
         if told.output != f"accepted {count}\n".encode():
             raise Find(Command("check", files), "steps that can be taken are refused", told)
+
+    def applied(self, files, count):
+        """What the steps lead to is the target, and is derived; the first of them, and what each changes, are as the model has it."""
+        source, _, certificate = files
+        target = self.hold("apply", source, certificate).output
+        self.accepted(self.hold("check", source, target, certificate), [source, target, certificate], count)
+        self.hold(f"apply --first {self.rng.randint(0, count + 1)}", source, certificate)
+        self.hold("apply --steps", source, certificate)
 
     def same(self, files, stream):
         """Source, target and the checked target write the same bytes."""
@@ -185,6 +194,7 @@ class Case:
             target = network_text(typeds[-1].input, expanded(net)).encode()
         else:
             certificate = certificate_text(self.changed(steps)).encode()
+        self.hold(self.rng.choice(["apply", "apply --steps", "apply --steps --first 1"]), source, certificate)
         command = self.rng.choice(["check", "check", "run-checked"])
         told = self.hold(command, source, target, certificate, stream=self.stream(typeds[0]))
         if told.output.startswith(b"accepted"):
@@ -251,6 +261,7 @@ class Case:
         at = self.rng.choice([0, 1, 2, 2, 2, 2])
         files[at] = self.breaker.broken(files[at])
         self.hold(self.rng.choice(["check", "run-checked"]), *files, stream=self.stream(typed))
+        self.hold("apply", files[0], files[2])
         if self.maker.chance(0.1):
             self.large(text, files)
 
@@ -280,6 +291,7 @@ class Case:
         files = [text, text, b"laws 1"]
         files[self.rng.randrange(3)] = None
         self.hold(self.rng.choice(["check", "run-checked"]), *files)
+        self.hold(self.rng.choice(["apply", "apply --steps"]), *files[:2])
         self.hold(self.rng.choice(["types", "run"]), None)
 
 
@@ -297,6 +309,8 @@ WRONG_WORDS = [
     ["run-checked", "first"],
     ["types", "--certificate", "first"],
     ["optimise"],
+    ["apply", "first"],
+    ["apply", "--first", "x", "first", "second"],
     ["optimise", "--certificates", "first"],
     ["types", "-x", "first"],
     [b"types", b"\xff"],

@@ -9,9 +9,9 @@ from dataclasses import dataclass, field
 from functools import lru_cache
 from pathlib import Path
 
-from model.laws import StepFault, checked, optimised
+from model.laws import StepFault, applied, checked, optimised, traced
 from model.meaning import Environment, Model, TooSlow
-from model.texts import TextFault, certificate_text, network_text, read_certificate, read_network, read_stream
+from model.texts import TextFault, certificate_text, network_text, read_certificate, read_network, read_stream, trace_text
 from model.trees import children, is_network, shown
 from model.typed import TypeFault, check_types
 
@@ -19,9 +19,9 @@ ROLES = {
     "types": ["network"],
     "run": ["network"],
     "optimise": ["network"],
-    "optimise --certificate": ["network"],
     "check": ["source", "target", "certificate"],
     "run-checked": ["source", "target", "certificate"],
+    "apply": ["source", "certificate"],
 }
 MEMORY = Path("/dev/shm")
 FILES = ["first", "second", "third"]
@@ -83,7 +83,7 @@ def fault_kind(line):
 def read_files(command):
     """What the files hold, each with its text before its types."""
     found = []
-    for role, text in zip(ROLES[command.command], command.files):
+    for role, text in zip(ROLES[command.command.split()[0]], command.files):
         if text is None:
             raise Refused(f"{role}: cannot be read")
         try:
@@ -132,11 +132,30 @@ def printed(command, files, tally):
         return Told(certificate_text(counted(optimised_of(command.files[0])[1], tally)).encode())
     if word == "run":
         return ran(command.files[0], command.stream, tally)
+    if word.split()[0] == "apply":
+        return applied_text(word.split()[1:], *files)
     try:
         count = checked(*files)
     except StepFault as fault:
         raise Refused(f"certificate: {fault}") from None
     return Told(f"accepted {count}\n".encode()) if word == "check" else ran(command.files[1], command.stream, tally)
+
+
+def applied_text(flags, source, steps):
+    """The network that the steps lead to, or the lines on each."""
+    if "--first" in flags:
+        steps = steps[: int(flags[flags.index("--first") + 1])]
+    if "--steps" not in flags:
+        try:
+            net = applied(source, steps)
+        except StepFault as fault:
+            raise Refused(f"certificate: {fault}") from None
+        return Told(network_text(net.input, net.places[()].tree).encode())
+    lines, fault = traced(source, steps)
+    if fault and not lines:
+        raise Refused(f"certificate: {fault}")
+    text = trace_text(lines).encode()
+    return Told(text, f"certificate: {fault}\n".encode(), 1) if fault else Told(text)
 
 
 def counted(steps, tally):
@@ -234,7 +253,7 @@ class Program:
             return told
         if told != wanted:
             raise Find(command, "the model says something else", told, wanted)
-        self.tally["commands", command.command] += 1
+        self.tally["commands", " ".join(word for word in command.command.split() if not word.isdigit())] += 1
         return told
 
 

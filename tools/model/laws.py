@@ -297,21 +297,51 @@ def taken(typed, step):
 STEPS = 10_000
 
 
+def applied(source, steps):
+    """The typed network that the steps lead to, one after the other, or a StepFault."""
+    if len(steps) > STEPS:
+        raise StepFault("too many steps")
+    for number, step in enumerate(steps, 1):
+        source = numbered(source, step, number)
+    return source
+
+
+def numbered(typed, step, number):
+    """The typed network behind a step, or a StepFault with its number."""
+    try:
+        return taken(typed, step)
+    except StepFault as fault:
+        raise StepFault(f"{fault} at step {number}") from None
+
+
 def checked(source, target, steps):
     """The number of steps that lead from one typed network to the other, or a StepFault."""
     if source.input != target.input:
         raise StepFault("inputs differ")
-    if len(steps) > STEPS:
-        raise StepFault("too many steps")
-    now = source
-    for number, step in enumerate(steps, 1):
-        try:
-            now = taken(now, step)
-        except StepFault as fault:
-            raise StepFault(f"{fault} at step {number}") from None
-    if now.places[()].tree != target.places[()].tree:
+    if applied(source, steps).places[()].tree != target.places[()].tree:
         raise StepFault("ends elsewhere")
     return len(steps)
+
+
+def traced(source, steps):
+    """What is told of steps, each with its lines: marks and trees; and the fault that stops them, or None."""
+    if len(steps) > STEPS:
+        return [], StepFault("too many steps")
+    lines = []
+    for number, step in enumerate(steps, 1):
+        place = source.places.get(step.position)
+        try:
+            source = numbered(source, step, number)
+        except StepFault as fault:
+            told = [] if place is None else [("-", place.tree), (">", led(step, len(place.scope.olds)))]
+            return [*lines, (step, told)], fault
+        lines.append((step, [("-", place.tree), ("+", source.places[step.position].tree)]))
+    return lines, None
+
+
+def led(step, olds):
+    """What a step's law leads to, forward, from the tree that it gives, or None."""
+    return step.given and answer(Step(step.law, "forward", step.position), step.given, olds)
 
 
 # ---- the optimiser

@@ -63,6 +63,15 @@ def certificate_text(steps):
     return "".join(line + "\n" for line in [f"laws {version}", *map(step_text, steps)])
 
 
+def trace_text(lines):
+    """The text of what `traced` tells."""
+    text = ""
+    for step, told in lines:
+        text += step_text(step) + "\n"
+        text += "".join(f"{mark} {shown(tree)}\n" for mark, tree in told if tree is not None)
+    return text
+
+
 # ---- networks and certificates
 
 
