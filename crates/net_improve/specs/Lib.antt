@@ -1,0 +1,3 @@
+-- What an improved network is.
+pub mod Improving
+pub mod Laws

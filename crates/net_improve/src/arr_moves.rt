@@ -1,0 +1,122 @@
+// Moves of stages that are an `arr`.
+
+use crate::build::arr_pair;
+use crate::cost::cost;
+use crate::moves::Built;
+use crate::sketch::{Clearing, Sketch, Stop};
+use expr_improve::{as_then, shared_at};
+use leaf_core::{Expr, Literal};
+use net_syntax::Net;
+
+/// A move of stages that are an `arr`.
+#[derive(Clone, Copy)]
+pub enum ArrMove {
+    /// A stage before one that doesn't hear it is dropped.
+    Source,
+    /// Two are made one.
+    Fuse,
+    /// One is made two.
+    Split,
+    /// What one computes twice is computed in one before it.
+    Share,
+}
+
+/// The most `arr`s that one is parted into.
+const MOST_PARTS: u32 = 65_536;
+
+impl ArrMove {
+    /// How many stages it looks at.
+    pub fn stages(self) -> usize {
+        match self {
+            ArrMove::Source | ArrMove::Fuse => 2,
+            ArrMove::Split | ArrMove::Share => 1,
+        }
+    }
+
+    /// Makes the move, and tells what it built.
+    pub fn make(self, w: &mut Sketch) -> Result<Built, Stop> {
+        match self {
+            ArrMove::Source => drop_front(w)?,
+            ArrMove::Fuse => fuse(w)?,
+            ArrMove::Split => split(w, &[])?,
+            ArrMove::Share => share(w)?,
+        }
+        Ok(Built::Nothing)
+    }
+}
+
+/// Drops what stands before a source, or before an `arr` that doesn't use its input.
+fn drop_front(w: &mut Sketch) -> Result<(), Stop> {
+    match w.net_at(&[1])? {
+        Net::After(..) | Net::Repeatedly(..) | Net::Time => w.forward(20, &[]),
+        Net::Arr(e) if !hears(e) => {
+            let found = as_then(w.alloc, e, &Expr::Literal(Literal::Unit), e)?;
+            w.rewrite_arr(&[1], found)?;
+            w.forward(25, &[])?;
+            w.clear(&[0])
+        }
+        _ => Err(Stop::Unfit),
+    }
+}
+
+/// Whether the expression may use its input.
+pub fn hears(e: &Expr) -> bool {
+    match e {
+        Expr::Input | Expr::On(..) | Expr::List(..) => true,
+        Expr::Param(_) | Expr::Literal(_) | Expr::NoEvent(_) => false,
+        Expr::Then(a, _)
+        | Expr::Fst(a)
+        | Expr::Snd(a)
+        | Expr::Neg(a)
+        | Expr::Not(a)
+        | Expr::Event(a)
+        | Expr::Len(a) => hears(a.get()),
+        Expr::Pair(a, b)
+        | Expr::Add(a, b)
+        | Expr::Sub(a, b)
+        | Expr::Mul(a, b)
+        | Expr::Less(a, b)
+        | Expr::Equal(a, b)
+        | Expr::And(a, b)
+        | Expr::Or(a, b) => hears(a.get()) || hears(b.get()),
+        Expr::If(a, b, c) | Expr::Nth(a, b, c) => {
+            hears(a.get()) || hears(b.get()) || hears(c.get())
+        }
+    }
+}
+
+/// One `arr` of two, parted again where that costs less.
+fn fuse(w: &mut Sketch) -> Result<(), Stop> {
+    w.forward(4, &[])?;
+    w.clear(&[0])?;
+    split(w, &[])
+}
+
+/// Parts the `arr` at the path, and the one that is then behind it, as long as that costs less.
+fn split(w: &mut Sketch, path: &[u32]) -> Result<(), Stop> {
+    let mut way = path.to_vec(w.alloc)?;
+    let parts = match w.clearing {
+        Clearing::ByCost => MOST_PARTS,
+        Clearing::Always => 0,
+    };
+    for _ in 0..parts {
+        let one = w.net_at(&way)?;
+        let Net::Arr(Expr::Then(f, g)) = one else {
+            return Ok(());
+        };
+        let two = arr_pair(w.alloc, f.get(), g.get())?;
+        if cost(&two) >= cost(one) {
+            return Ok(());
+        }
+        w.backward(4, &way, two)?;
+        way.push(1)?;
+    }
+    Ok(())
+}
+
+/// What the `arr` computes twice, in one before it.
+fn share(w: &mut Sketch) -> Result<(), Stop> {
+    let found = shared_at(w.alloc, w.arr_at(&[])?)?;
+    w.rewrite_arr(&[], found)?;
+    w.part(&[])
+}

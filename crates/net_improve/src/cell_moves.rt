@@ -1,0 +1,183 @@
+// Moves of cells, and of what makes or takes events.
+
+use crate::build::{map_of, pair, seq, swap, then};
+use crate::chain::{behind, head, length};
+use crate::moves::Built;
+use crate::sketch::{Sketch, Stop};
+use crate::types::type_told;
+use expr_improve::as_map;
+use leaf_core::{Expr, same_expr, type_of_expr};
+use net_syntax::Net;
+use sample_core::{Memory, Ty};
+use std::alloc::Global;
+
+/// A move of cells, or of what makes or takes events.
+#[derive(Clone, Copy)]
+pub enum CellMove {
+    /// A `hold` of no event.
+    HoldNone,
+    /// A map of the events that are made before it.
+    MapBack,
+    /// A map of the events that are gathered behind it.
+    MapFront,
+    /// Cells of both parts of a pair are made one.
+    Pair,
+    /// The `arr` behind cells goes before them, to the one that stands there.
+    Pass,
+    /// The `arr` behind a `hold` goes before it, to the one that stands there, for events alone.
+    HoldMap,
+}
+
+impl CellMove {
+    /// How many stages it looks at; none where that depends on them.
+    pub fn stages(self) -> Option<usize> {
+        match self {
+            CellMove::HoldNone | CellMove::MapBack | CellMove::MapFront => Some(2),
+            CellMove::HoldMap => Some(3),
+            CellMove::Pair => Some(4),
+            CellMove::Pass => None,
+        }
+    }
+
+    /// Makes the move, and tells what it built.
+    pub fn make(self, w: &mut Sketch) -> Result<Built, Stop> {
+        match self {
+            CellMove::HoldNone => {
+                w.forward(19, &[])?;
+                w.clear(&[0])?;
+            }
+            CellMove::MapBack => map_back(w)?,
+            CellMove::MapFront => map_front(w)?,
+            CellMove::Pair => pair_cells(w)?,
+            CellMove::Pass => pass(w)?,
+            CellMove::HoldMap => hold_map(w)?,
+        }
+        Ok(Built::Nothing)
+    }
+}
+
+fn map_back(w: &mut Sketch) -> Result<(), Stop> {
+    let number = match w.net_at(&[0])? {
+        Net::After(..) => 21,
+        Net::Repeatedly(..) => 22,
+        _ => return Err(Stop::Unfit),
+    };
+    let found = as_map(w.alloc, w.arr_at(&[1])?)?;
+    w.rewrite_arr(&[1], found)?;
+    w.forward(number, &[])?;
+    w.clear(&[0])
+}
+
+fn map_front(w: &mut Sketch) -> Result<(), Stop> {
+    let Net::AccumBy(..) = w.net_at(&[1])? else {
+        return Err(Stop::Unfit);
+    };
+    let found = as_map(w.alloc, w.arr_at(&[0])?)?;
+    w.rewrite_arr(&[0], found)?;
+    w.forward(24, &[])?;
+    w.clear(&[0])
+}
+
+fn pair_cells(w: &mut Sketch) -> Result<(), Stop> {
+    let alloc = w.alloc;
+    let swap = swap(alloc)?;
+    let Net::IPre(c) = w.first_at(&[0])? else {
+        return Err(Stop::Unfit);
+    };
+    let Net::IPre(d) = w.first_at(&[1, 1, 0])? else {
+        return Err(Stop::Unfit);
+    };
+    if !same_expr(w.arr_at(&[1, 0])?, &swap) {
+        return Err(Stop::Unfit);
+    }
+    let both = Net::IPre(pair(alloc, c.try_copy(alloc)?, d.try_copy(alloc)?)?);
+    if same_expr(w.arr_at(&[1, 1, 1])?, &swap) {
+        return w.backward(12, &[], both);
+    }
+    w.part_behind(&[1, 1, 1], &swap)?;
+    w.gather(&[], 0, 4)?;
+    w.backward(12, &[0], both)
+}
+
+fn pass(w: &mut Sketch) -> Result<(), Stop> {
+    w.arr_at(&[0])?;
+    let count = length(&w.net);
+    for j in (1..count.saturating_sub(1)).rev() {
+        pass_one(w, j, j.saturating_add(2) < count)?;
+    }
+    w.forward(10, &[])?;
+    w.clear(&[0, 0])
+}
+
+/// Takes the `arr` behind the cell past it, which stands behind so many stages; more stand behind
+/// both, or none.
+fn pass_one(w: &mut Sketch, stages: usize, more: bool) -> Result<(), Stop> {
+    let mut way = behind(w.alloc, &[], stages)?;
+    if more {
+        w.regroup(&way)?;
+        way.push(0)?;
+    }
+    pass_cell(w, &way)?;
+    if more {
+        way.pop();
+        w.forward(3, &way)?;
+    }
+    Ok(())
+}
+
+/// Takes the `arr` past the cell, both of which stand at the path.
+fn pass_cell(w: &mut Sketch, path: &[u32]) -> Result<(), Stop> {
+    let number = match head(w.net_at(path)?) {
+        Net::IPre(_) => 11,
+        Net::Delay(..) => 26,
+        _ => return Err(Stop::Unfit),
+    };
+    w.forward(number, path)?;
+    let mut way = behind(w.alloc, path, 1)?;
+    way.push(0)?;
+    w.clear(&way)
+}
+
+fn hold_map(w: &mut Sketch) -> Result<(), Stop> {
+    w.arr_at(&[0])?;
+    let given = map_held(w.alloc, w.net_at(&[1, 0])?, w.arr_at(&[1, 1])?)?;
+    w.backward(23, &[1], given)?;
+    w.forward(10, &[])?;
+    w.clear(&[0, 0])?;
+    w.clear(&[1, 0])
+}
+
+/// The `hold` with g behind it as a map of events before a `hold`.
+fn map_held(alloc: Global, hold: &Net<Expr>, g: &Expr) -> Result<Net<Expr>, Stop> {
+    let Net::Hold(c) = hold else {
+        return Err(Stop::Unfit);
+    };
+    let start = started(alloc, c, g)?;
+    let map = mapped(alloc, &start, g)?;
+    Ok(seq(alloc, Net::Arr(map), Net::Hold(start))?)
+}
+
+/// `(then c g)`.
+fn started(alloc: Global, c: &Expr, g: &Expr) -> Result<Expr, Memory> {
+    let c = c.try_copy(alloc)?;
+    let g = g.try_copy(alloc)?;
+    then(alloc, c, g)
+}
+
+/// The map of g over events, of the type of what a `hold` starts with.
+fn mapped(alloc: Global, start: &Expr, g: &Expr) -> Result<Expr, Stop> {
+    let g = g.try_copy(alloc)?;
+    let carried = type_held(alloc, start)?;
+    Ok(map_of(alloc, carried, g)?)
+}
+
+/// The type of what a `hold` starts with, where that is known whatever the parameters are.
+fn type_held(alloc: Global, start: &Expr) -> Result<Ty, Stop> {
+    if let Ok(held) = type_of_expr(alloc, &[], &Ty::Unit, start) {
+        return Ok(held);
+    }
+    match type_told(alloc, start)? {
+        Some(held) => Ok(held),
+        None => Err(Stop::Unfit),
+    }
+}

@@ -1,0 +1,139 @@
+// Chains of stages, nested to the right.
+
+use crate::sketch::{Sketch, Stop};
+use leaf_core::Expr;
+use net_syntax::{Net, NetChild};
+use std::alloc::Global;
+
+/// How many stages a chain may have to be looked at.
+const MOST_STAGES: usize = 100_000;
+
+/// The way to the chain behind so many stages.
+pub fn behind(alloc: Global, path: &[u32], stages: usize) -> Result<Vec<u32>, Stop> {
+    let mut way = path.to_vec(alloc)?;
+    for _ in 0..stages {
+        way.push(1)?;
+    }
+    Ok(way)
+}
+
+/// The way to a stage of a chain of so many.
+pub fn stage_way(alloc: Global, stage: usize, count: usize) -> Result<Vec<u32>, Stop> {
+    let mut way = behind(alloc, &[], stage)?;
+    if stage.saturating_add(1) < count {
+        way.push(0)?;
+    }
+    Ok(way)
+}
+
+/// The first k stages of the chain.
+pub fn front(alloc: Global, chain: &Net<Expr>, k: usize) -> Result<Net<Expr>, Stop> {
+    match chain {
+        Net::Seq(f, _) if k == 1 => Ok(f.get().try_copy(alloc)?),
+        _ if k == 1 => Ok(chain.try_copy(alloc)?),
+        Net::Seq(f, rest) if k > 1 => {
+            let rest = front(alloc, rest.get(), k - 1)?;
+            let rest = NetChild::new(alloc, rest)?;
+            Ok(Net::Seq(f.try_copy()?, rest))
+        }
+        _ => Err(Stop::Unfit),
+    }
+}
+
+/// The chain's first stage.
+pub fn head(chain: &Net<Expr>) -> &Net<Expr> {
+    match chain {
+        Net::Seq(f, _) => f.get(),
+        _ => chain,
+    }
+}
+
+/// The chain's last stage.
+pub fn last(chain: &Net<Expr>) -> &Net<Expr> {
+    match chain {
+        Net::Seq(_, rest) => last(rest.get()),
+        _ => chain,
+    }
+}
+
+/// What stands behind so many stages of the chain.
+pub fn rest(chain: &Net<Expr>, stages: usize) -> Option<&Net<Expr>> {
+    let mut found = chain;
+    for _ in 0..stages {
+        let Net::Seq(_, rest) = found else {
+            return None;
+        };
+        found = rest.get();
+    }
+    Some(found)
+}
+
+/// How many stages the chain has.
+pub fn length(chain: &Net<Expr>) -> usize {
+    match chain {
+        Net::Seq(_, rest) => length(rest.get()).saturating_add(1),
+        _ => 1,
+    }
+}
+
+impl Sketch {
+    /// Nests the chain at the path to the right, by L3.
+    pub fn flatten(&mut self, path: &[u32]) -> Result<(), Stop> {
+        let mut way = behind(self.alloc, path, 0)?;
+        for _ in 0..MOST_STAGES {
+            let Net::Seq(f, _) = self.net_at(&way)? else {
+                return Ok(());
+            };
+            if let Net::Seq(..) = f.get() {
+                self.forward(3, &way)?;
+            } else {
+                way.push(1)?;
+            }
+        }
+        Ok(())
+    }
+
+    /// Makes k stages of the chain at the path, behind so many, one tree, by L3 backward, and
+    /// answers where it stands.
+    pub fn gather(&mut self, path: &[u32], stages: usize, k: usize) -> Result<Vec<u32>, Stop> {
+        let mut way = behind(self.alloc, path, stages)?;
+        let Some(_) = rest(self.net_at(&way)?, k) else {
+            return Ok(way);
+        };
+        for j in (1..k).rev() {
+            let at = behind(self.alloc, &way, j - 1)?;
+            let given = regrouped(self.alloc, self.net_at(&at)?)?;
+            self.backward(3, &at, given)?;
+        }
+        way.push(0)?;
+        Ok(way)
+    }
+
+    /// Nests to the right again what `gather` made one tree.
+    pub fn scatter(&mut self, path: &[u32]) -> Result<(), Stop> {
+        let mut way = behind(self.alloc, path, 0)?;
+        for _ in 0..MOST_STAGES {
+            let Net::Seq(f, _) = self.net_at(&way)? else {
+                return Ok(());
+            };
+            let Net::Seq(..) = f.get() else {
+                return Ok(());
+            };
+            self.forward(3, &way)?;
+            way.push(1)?;
+        }
+        Ok(())
+    }
+}
+
+/// The chain with its first two stages as one.
+pub fn regrouped(alloc: Global, chain: &Net<Expr>) -> Result<Net<Expr>, Stop> {
+    let Net::Seq(f, rest) = chain else {
+        return Err(Stop::Unfit);
+    };
+    let Net::Seq(g, h) = rest.get() else {
+        return Err(Stop::Unfit);
+    };
+    let both = Net::Seq(f.try_copy()?, g.try_copy()?);
+    Ok(Net::Seq(NetChild::new(alloc, both)?, h.try_copy()?))
+}

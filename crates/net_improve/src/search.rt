@@ -1,0 +1,75 @@
+// The search: each network's parts, then the chain that it is.
+
+use crate::chain::{length, stage_way};
+use crate::settle::{Search, settle};
+use crate::sketch::{Sketch, Stop};
+use net_syntax::{Net, Tree, TreeRef, child};
+
+/// How deep moves are made in what moves build.
+const MOST_BUILT: u32 = 3;
+
+/// How often what moves build is improved in all.
+pub(crate) const MOST_TRIES: u32 = 3_000;
+
+/// The most children of a network.
+const MOST_CHILDREN: u32 = 65_536;
+
+/// Improves the network, which a loop repeats or not, and what stands in it so deep.
+#[cycle(search)]
+pub(crate) fn improve_net(
+    sketch: &mut Sketch,
+    in_loop: bool,
+    depth: u32,
+    tries: &mut u32,
+) -> Result<(), Stop> {
+    match &sketch.net {
+        Net::Seq(..) => improve_stages(sketch, depth, tries)?,
+        _ => improve_children(sketch, depth, tries)?,
+    }
+    let depth = MOST_BUILT;
+    settle(sketch, Search { in_loop, depth }, tries)
+}
+
+/// Improves the stages of the chain, from the last to the first.
+#[cycle(search)]
+fn improve_stages(chain: &mut Sketch, depth: u32, tries: &mut u32) -> Result<(), Stop> {
+    chain.flatten(&[])?;
+    let count = length(&chain.net);
+    for stage in (0..count).rev() {
+        let way = stage_way(chain.alloc, stage, count)?;
+        improve_part(chain, &way, false, depth, tries)?;
+    }
+    Ok(())
+}
+
+/// Improves the children of the network, which is no chain.
+#[cycle(search)]
+fn improve_children(sketch: &mut Sketch, depth: u32, tries: &mut u32) -> Result<(), Stop> {
+    let in_loop = matches!(&sketch.net, Net::LoopPre(..));
+    for k in 0..MOST_CHILDREN {
+        match child(&sketch.net, k) {
+            Some(TreeRef::Net(_)) => improve_part(sketch, &[k], in_loop, depth, tries)?,
+            Some(TreeRef::Expr(_)) => sketch.clear(&[k])?,
+            None => return Ok(()),
+        }
+    }
+    Ok(())
+}
+
+/// Improves the network at the path.
+#[cycle(search)]
+fn improve_part(
+    sketch: &mut Sketch,
+    path: &[u32],
+    in_loop: bool,
+    depth: u32,
+    tries: &mut u32,
+) -> Result<(), Stop> {
+    if depth == 0 {
+        return Ok(());
+    }
+    let mut inner = sketch.inner(path)?;
+    improve_net(&mut inner, in_loop, depth - 1, tries)?;
+    let Sketch { net, steps, .. } = inner;
+    sketch.took(path, &Tree::Net(net), steps)
+}

@@ -1,0 +1,264 @@
+// A network that is rewritten, with the steps so far.
+
+use expr_laws::apply_expr;
+use law_rules::apply_law;
+use leaf_core::{Expr, part};
+use net_syntax::{Direction, Law, LawStep, Net, Position, Tree, TreeRef, child, replace};
+use sample_core::{Memory, OutOfMemory};
+use std::alloc::Global;
+
+/// Why a move isn't made: it doesn't fit what stands there, or a growth was refused.
+#[derive(Clone, Copy)]
+pub enum Stop {
+    Unfit,
+    Memory,
+}
+
+impl<E: OutOfMemory> From<E> for Stop {
+    fn from(_: E) -> Stop {
+        Stop::Memory
+    }
+}
+
+/// How far expressions are cleared up.
+#[derive(Clone, Copy, PartialEq, Eq)]
+pub enum Clearing {
+    /// As far as that costs less.
+    ByCost,
+    /// Always, to their normal form.
+    Always,
+}
+
+/// A network that is rewritten by laws, with the steps so far. Types aren't looked at: who takes the
+/// steps does that.
+#[derive(Drop)]
+pub struct Sketch {
+    /// What its parts are allocated by.
+    pub alloc: Global,
+    /// The network.
+    pub net: Net<Expr>,
+    /// How many frozen networks are in scope.
+    pub olds: u32,
+    /// How far expressions are cleared up.
+    pub clearing: Clearing,
+    /// The steps, in the order in which they were taken.
+    pub steps: Vec<LawStep>,
+}
+
+/// What stands at a place, and how many frozen networks are in scope there.
+#[derive(Clone, Copy)]
+pub struct Spot<'n> {
+    pub tree: TreeRef<'n>,
+    pub olds: u32,
+}
+
+impl Sketch {
+    /// The network, with no step yet.
+    pub fn new(alloc: Global, net: Net<Expr>, olds: u32, clearing: Clearing) -> Sketch {
+        Sketch {
+            alloc,
+            net,
+            olds,
+            clearing,
+            steps: Vec::new(alloc),
+        }
+    }
+
+    /// What stands at the path.
+    pub fn at(&self, path: &[u32]) -> Result<Spot<'_>, Stop> {
+        let mut spot = Spot {
+            tree: TreeRef::Net(&self.net),
+            olds: self.olds,
+        };
+        for k in path {
+            let Some(inner) = below(spot, *k) else {
+                return Err(Stop::Unfit);
+            };
+            spot = inner;
+        }
+        Ok(spot)
+    }
+
+    /// The network at the path, with no step yet.
+    pub fn inner(&self, path: &[u32]) -> Result<Sketch, Stop> {
+        let spot = self.at(path)?;
+        match spot.tree {
+            TreeRef::Net(net) => Ok(Sketch::new(
+                self.alloc,
+                net.try_copy(self.alloc)?,
+                spot.olds,
+                self.clearing,
+            )),
+            TreeRef::Expr(_) => Err(Stop::Unfit),
+        }
+    }
+
+    /// The network at the path.
+    pub fn net_at(&self, path: &[u32]) -> Result<&Net<Expr>, Stop> {
+        match self.at(path)?.tree {
+            TreeRef::Net(net) => Ok(net),
+            TreeRef::Expr(_) => Err(Stop::Unfit),
+        }
+    }
+
+    /// The expression at the path.
+    pub fn expr_at(&self, path: &[u32]) -> Result<&Expr, Stop> {
+        match self.at(path)?.tree {
+            TreeRef::Expr(expr) => Ok(expr),
+            TreeRef::Net(_) => Err(Stop::Unfit),
+        }
+    }
+
+    /// The expression of the `arr` at the path.
+    pub fn arr_at(&self, path: &[u32]) -> Result<&Expr, Stop> {
+        match self.net_at(path)? {
+            Net::Arr(expr) => Ok(expr),
+            _ => Err(Stop::Unfit),
+        }
+    }
+
+    /// The network inside the `first` at the path.
+    pub fn first_at(&self, path: &[u32]) -> Result<&Net<Expr>, Stop> {
+        match self.net_at(path)? {
+            Net::First(inner) => Ok(inner.get()),
+            _ => Err(Stop::Unfit),
+        }
+    }
+
+    /// Takes a step, where its law has an answer.
+    pub fn take(&mut self, step: LawStep) -> Result<(), Stop> {
+        let new = self.answer(&step)?;
+        self.put(&step.position, &new)?;
+        self.steps.push(step)?;
+        Ok(())
+    }
+
+    /// What the step's law answers.
+    fn answer(&self, step: &LawStep) -> Result<Tree, Stop> {
+        let spot = self.at(step.position.path())?;
+        match spot.tree {
+            TreeRef::Net(net) => {
+                let given = given_net(step)?;
+                match apply_law(self.alloc, step.law, step.direction, net, given, spot.olds)? {
+                    Some(new) => Ok(Tree::Net(new)),
+                    None => Err(Stop::Unfit),
+                }
+            }
+            TreeRef::Expr(expr) => {
+                let given = given_expr(step)?;
+                match apply_expr(self.alloc, step.law, step.direction, expr, given)? {
+                    Some(new) => Ok(Tree::Expr(new)),
+                    None => Err(Stop::Unfit),
+                }
+            }
+        }
+    }
+
+    /// Puts the tree at the position.
+    fn put(&mut self, position: &Position, new: &Tree) -> Result<(), Stop> {
+        match replace(self.alloc, &self.net, position, new)? {
+            Some(net) => {
+                self.net = net;
+                Ok(())
+            }
+            None => Err(Stop::Unfit),
+        }
+    }
+
+    /// Takes a law of networks forward at the path.
+    pub fn forward(&mut self, number: u8, path: &[u32]) -> Result<(), Stop> {
+        let position = Position::of_node(self.alloc, path)?;
+        self.take(LawStep {
+            law: Law::L(number),
+            direction: Direction::Forward,
+            position,
+            given: None,
+        })
+    }
+
+    /// Takes a law of networks backward at the path, to the network that is given.
+    pub fn backward(&mut self, number: u8, path: &[u32], given: Net<Expr>) -> Result<(), Stop> {
+        let position = Position::of_node(self.alloc, path)?;
+        self.take(LawStep {
+            law: Law::L(number),
+            direction: Direction::Backward,
+            position,
+            given: Some(Tree::Net(given)),
+        })
+    }
+
+    /// Takes steps whose positions begin at the path.
+    pub fn run(&mut self, path: &[u32], steps: Vec<LawStep>) -> Result<(), Stop> {
+        for step in steps {
+            let step = below_path(self.alloc, path, step)?;
+            self.take(step)?;
+        }
+        Ok(())
+    }
+
+    /// Puts the tree at the path, to which these steps lead there.
+    pub fn took(&mut self, path: &[u32], new: &Tree, steps: Vec<LawStep>) -> Result<(), Stop> {
+        let position = Position::of_node(self.alloc, path)?;
+        self.put(&position, new)?;
+        for step in steps {
+            let step = below_path(self.alloc, path, step)?;
+            self.steps.push(step)?;
+        }
+        Ok(())
+    }
+}
+
+/// Child k of what stands there.
+fn below(spot: Spot<'_>, k: u32) -> Option<Spot<'_>> {
+    match spot.tree {
+        TreeRef::Net(net) => Some(Spot {
+            tree: child(net, k)?,
+            olds: spot.olds.saturating_add(olds_in(net, k)),
+        }),
+        TreeRef::Expr(expr) => Some(Spot {
+            tree: TreeRef::Expr(part(expr, k)?),
+            olds: spot.olds,
+        }),
+    }
+}
+
+/// How many frozen networks the network has in scope in its child k, beside those around it.
+fn olds_in(net: &Net<Expr>, k: u32) -> u32 {
+    match net {
+        Net::KSwitch(..) if k == 2 => 1,
+        Net::PSwitch(_, fs, _, _) if k as usize == fs.as_slice().len().saturating_add(2) => {
+            k.saturating_sub(2)
+        }
+        _ => 0,
+    }
+}
+
+/// The network that a step gives.
+fn given_net(step: &LawStep) -> Result<Option<&Net<Expr>>, Stop> {
+    match &step.given {
+        None => Ok(None),
+        Some(Tree::Net(net)) => Ok(Some(net)),
+        Some(Tree::Expr(_)) => Err(Stop::Unfit),
+    }
+}
+
+/// The expression that a step gives.
+fn given_expr(step: &LawStep) -> Result<Option<&Expr>, Stop> {
+    match &step.given {
+        None => Ok(None),
+        Some(Tree::Expr(expr)) => Ok(Some(expr)),
+        Some(Tree::Net(_)) => Err(Stop::Unfit),
+    }
+}
+
+/// The step with its position below the path.
+fn below_path(alloc: Global, path: &[u32], step: LawStep) -> Result<LawStep, Memory> {
+    let mut numbers = path.to_vec(alloc)?;
+    numbers.extend_from_slice(step.position.path())?;
+    Ok(LawStep {
+        law: step.law,
+        direction: step.direction,
+        position: Position::new(numbers),
+        given: step.given,
+    })
+}

@@ -1,0 +1,203 @@
+// Moves of stages that are a switch, or members.
+
+use crate::build::{pair, seq};
+use crate::chain::{behind, length};
+use crate::moves::Built;
+use crate::sketch::{Sketch, Stop};
+use crate::types::type_told;
+use expr_improve::{Rewriting, as_then};
+use leaf_core::{Expr, Exprs};
+use net_syntax::{Members, Net, same_net};
+use std::alloc::Global;
+
+/// A move of stages that are a switch, or members.
+#[derive(Clone, Copy)]
+pub enum SwitchMove {
+    /// What never switches is what runs first.
+    Never,
+    /// Members that are never frozen.
+    NeverMembers,
+    /// The `arr` before goes in.
+    In,
+    /// The `arr` behind goes in.
+    Out,
+    /// A `first` round a switch, between two `arr`s or beside one, goes in with these.
+    Between,
+    Beside,
+    /// The stage that all members begin with goes before them.
+    MembersFront,
+    /// The `arr` before goes into all members.
+    MembersIn,
+    /// Members that are all `arr`s are made one.
+    MembersArr,
+}
+
+impl SwitchMove {
+    /// How many stages it looks at.
+    pub fn stages(self) -> usize {
+        match self {
+            SwitchMove::Never
+            | SwitchMove::NeverMembers
+            | SwitchMove::MembersFront
+            | SwitchMove::MembersArr => 1,
+            SwitchMove::Between => 3,
+            SwitchMove::In | SwitchMove::Out | SwitchMove::Beside | SwitchMove::MembersIn => 2,
+        }
+    }
+
+    /// Makes the move, and tells what it built.
+    pub fn make(self, w: &mut Sketch) -> Result<Built, Stop> {
+        match self {
+            SwitchMove::Never => never(w),
+            SwitchMove::NeverMembers => {
+                w.forward(39, &[])?;
+                Ok(Built::Members)
+            }
+            SwitchMove::In => switch_in(w),
+            SwitchMove::Out => switch_out(w),
+            SwitchMove::Between => between(w),
+            SwitchMove::Beside => beside(w),
+            SwitchMove::MembersFront => members_front(w),
+            SwitchMove::MembersArr => members_arr(w),
+            SwitchMove::MembersIn => {
+                w.arr_at(&[0])?;
+                w.forward(41, &[])?;
+                Ok(Built::Members)
+            }
+        }
+    }
+}
+
+/// The law of a `switch`, or that of a `dSwitch`.
+fn of_two(net: &Net<Expr>, switch: u8, d_switch: u8) -> Result<u8, Stop> {
+    match net {
+        Net::Switch(..) => Ok(switch),
+        Net::DSwitch(..) => Ok(d_switch),
+        _ => Err(Stop::Unfit),
+    }
+}
+
+fn switch_in(w: &mut Sketch) -> Result<Built, Stop> {
+    let number = of_two(w.net_at(&[1])?, 27, 28)?;
+    w.forward(number, &[])?;
+    Ok(Built::Both)
+}
+
+fn switch_out(w: &mut Sketch) -> Result<Built, Stop> {
+    let number = match w.net_at(&[0])? {
+        Net::RSwitch(..) => 36,
+        Net::DrSwitch(..) => 45,
+        other => of_two(other, 29, 30)?,
+    };
+    w.forward(number, &[])?;
+    Ok(Built::Both)
+}
+
+fn between(w: &mut Sketch) -> Result<Built, Stop> {
+    w.arr_at(&[0])?;
+    w.arr_at(&[1, 1])?;
+    let number = of_two(w.first_at(&[1, 0])?, 33, 34)?;
+    w.forward(number, &[1, 0])?;
+    w.regroup(&[])?;
+    w.forward(number.saturating_sub(6), &[0])?;
+    w.forward(number.saturating_sub(4), &[])?;
+    Ok(Built::Both)
+}
+
+fn beside(w: &mut Sketch) -> Result<Built, Stop> {
+    if let Net::Arr(_) = w.net_at(&[0])? {
+        let number = of_two(w.first_at(&[1])?, 33, 34)?;
+        w.forward(number, &[1])?;
+        return switch_in(w);
+    }
+    w.arr_at(&[1])?;
+    let number = of_two(w.first_at(&[0])?, 33, 34)?;
+    w.forward(number, &[0])?;
+    switch_out(w)
+}
+
+fn never(w: &mut Sketch) -> Result<Built, Stop> {
+    let number = of_two(w.net_at(&[])?, 31, 32)?;
+    let count = length(w.net_at(&[0])?);
+    let way = behind(w.alloc, &[0], count.saturating_sub(1))?;
+    part_never(w, &way)?;
+    w.gather(&[0], 0, count)?;
+    w.forward(number, &[])?;
+    Ok(Built::Nothing)
+}
+
+/// Parts `(arr (pair e (none C)))` at the path in `(arr e)` and what makes the pair of that.
+fn part_never(w: &mut Sketch, path: &[u32]) -> Result<(), Stop> {
+    let found = never_apart(w.alloc, w.arr_at(path)?)?;
+    w.rewrite_arr(path, found)?;
+    w.part(path)
+}
+
+/// The way from `(pair e (none C))` back to `(then e (pair x (none C)))`.
+fn never_apart(alloc: Global, e: &Expr) -> Result<Option<Rewriting>, Stop> {
+    let Expr::Pair(value, none) = e else {
+        return Err(Stop::Unfit);
+    };
+    let Expr::NoEvent(_) = none.get() else {
+        return Err(Stop::Unfit);
+    };
+    let never = none.get().try_copy(alloc)?;
+    let g = pair(alloc, Expr::Input, never)?;
+    Ok(as_then(alloc, e, value.get(), &g)?)
+}
+
+fn members_front(w: &mut Sketch) -> Result<Built, Stop> {
+    let Net::Par(fs) = w.net_at(&[])? else {
+        return Err(Stop::Unfit);
+    };
+    let given = apart(w.alloc, fs.as_slice())?;
+    w.backward(41, &[], given)?;
+    Ok(Built::Nothing)
+}
+
+/// The stage with which all of two or more members begin, and behind it what is left of them.
+fn apart(alloc: Global, fs: &[Net<Expr>]) -> Result<Net<Expr>, Stop> {
+    let [Net::Seq(front, _), _, ..] = fs else {
+        return Err(Stop::Unfit);
+    };
+    let mut rests = Vec::new(alloc);
+    for f in fs {
+        let Net::Seq(begin, rest) = f else {
+            return Err(Stop::Unfit);
+        };
+        if !same_net(begin.get(), front.get()) {
+            return Err(Stop::Unfit);
+        }
+        rests.push(rest.get().try_copy(alloc)?)?;
+    }
+    let members = Net::Par(Members::new(alloc, rests)?);
+    Ok(seq(alloc, front.get().try_copy(alloc)?, members)?)
+}
+
+fn members_arr(w: &mut Sketch) -> Result<Built, Stop> {
+    let Net::Par(fs) = w.net_at(&[])? else {
+        return Err(Stop::Unfit);
+    };
+    let given = Net::Arr(list_of(w.alloc, fs.as_slice())?);
+    w.backward(42, &[], given)?;
+    Ok(Built::Nothing)
+}
+
+/// The list of what members answer that are all `arr`s, where the form of one tells its type.
+fn list_of(alloc: Global, fs: &[Net<Expr>]) -> Result<Expr, Stop> {
+    let mut element = None;
+    let mut all = Vec::new(alloc);
+    for f in fs {
+        let Net::Arr(e) = f else {
+            return Err(Stop::Unfit);
+        };
+        if element.is_none() {
+            element = type_told(alloc, e)?;
+        }
+        all.push(e.try_copy(alloc)?)?;
+    }
+    match element {
+        Some(element) => Ok(Expr::List(element, Exprs::new(alloc, all)?)),
+        None => Err(Stop::Unfit),
+    }
+}
