@@ -78,14 +78,15 @@ abbrev pub and_command : App → Takes → List ℕ → App
 and_command above takes name = with_subcommand above (command_taking takes name).top
 
 -- a command line with the subcommands that rewrite networks, or show how they may be rewritten:
--- `outline NET`, `laws NET [--at P]`, `apply SRC CERT [--first N] [--steps]`, and `optimise NET`,
--- which takes the flag `--certificate` too
+-- `outline NET`, `laws NET [--at P]`, `apply SRC CERT [--first N] [--steps]`, and `optimise NET` and
+-- `improve NET`, which take the flag `--certificate` too
 abbrev pub and_rewriting : App → App
 and_rewriting above =
     and_command
     (and_command
+    (and_command
     (and_command (and_command above T.Network (codes "outline")) T.Place (codes "laws")) T.Steps
-    (codes "apply")) T.Wanted (codes "optimise")
+    (codes "apply")) T.Wanted (codes "optimise")) T.Wanted (codes "improve")
 
 -- the program's command line: `types NET`, `run NET`, `check SRC TGT CERT` or
 -- `run-checked SRC TGT CERT`, or one of the subcommands that rewrite
@@ -113,15 +114,16 @@ pub record LeadingNames : Type 0 where
 
 -- what a command line asks for: the types of the network in the file of that name, or a run of it;
 -- what stands where in it; the steps that may be taken in it, at the place of a word and below;
--- the network that the optimiser makes of it, or the certificate that leads there; whether a
--- certificate leads from its source to its target, or that and a run of the target; or where steps
--- lead
+-- the network that the optimiser makes of it, or the certificate that leads there, and the same of
+-- the stronger one; whether a certificate leads from its source to its target, or that and a run of
+-- the target; or where steps lead
 pub data RequestTree : Type 0 where
   types : List ℕ → RequestTree
   run : List ℕ → RequestTree
   outline : List ℕ → RequestTree
   laws : Option (List ℕ) → List ℕ → RequestTree
   optimise : Wanted → List ℕ → RequestTree
+  improve : Wanted → List ℕ → RequestTree
   check : DerivationNames → RequestTree
   run_checked : DerivationNames → RequestTree
   apply : LeadingNames → RequestTree
@@ -139,7 +141,7 @@ derivation_in rows = option_and_then (λ source.
 abbrev pub is_given : List ℕ → List Row → Bool
 is_given id rows = option_map_or (λ value. bytes_eq value (codes "true")) (first_of id rows) false
 
--- what is wanted of the optimiser: the certificate where the flag for it is given, else the network
+-- what is wanted of an optimiser: the certificate where the flag for it is given, else the network
 abbrev pub wanted_in : List Row → Wanted
 wanted_in rows = if is_given (codes "certificate") rows then W.Certificate else W.Network
 
@@ -172,7 +174,8 @@ request_on command rows =
     else (if bytes_eq command (codes "laws") then laws_in rows
     else (if bytes_eq command (codes "apply") then apply_in rows
     else (if bytes_eq command (codes "optimise") then wanted_by optimise rows
-    else None)))))))
+    else (if bytes_eq command (codes "improve") then wanted_by improve rows
+    else None))))))))
 
 -- what the subcommand and its matches ask for
 abbrev pub request_by : Option (List ℕ × List Row) → Option RequestTree
@@ -224,6 +227,7 @@ request_view (Q.Run net) = run net.now
 request_view (Q.Outline net) = outline net.now
 request_view (Q.Laws net at) = laws (option_map (λ s. s.now) at) net.now
 request_view (Q.Optimise net wanted) = optimise wanted net.now
+request_view (Q.Improve net wanted) = improve wanted net.now
 request_view (Q.Check d) = check (derivation_view d)
 request_view (Q.RunChecked d) = run_checked (derivation_view d)
 request_view (Q.Apply l) = apply (leading_view l)

@@ -1,6 +1,6 @@
 -- Command lines, word for word, and what they ask for.
 use Rattle.std.specs.Prelude.{◌≡◌, [], ◌∷◌, Some, None, true, false, codes}
-use Rattle.command_line.specs.CommandLine.{AsksHelp, AsksNothing, DerivationNames, apply, check, laws, optimise, outline, request_in, run, run_checked, types}
+use Rattle.command_line.specs.CommandLine.{AsksHelp, AsksNothing, DerivationNames, apply, check, improve, laws, optimise, outline, request_in, run, run_checked, types}
 use Rattle.command_line.specs.declared.command.Wanted.TheVariants as W
 
 -- what is asked for
@@ -11,7 +11,7 @@ RequestRows =
     × (request_in (codes "yampa" ∷ codes "run" ∷ codes "--" ∷ codes "-net" ∷ [])
     ≡ Some (run (codes "-net")))
 
--- what is asked of the optimiser: the flag stands behind the file's name or before it
+-- what is asked of the optimisers: the flag stands behind the file's name or before it
 abbrev pub OptimiseRows : Type 0
 OptimiseRows =
     (request_in (codes "yampa" ∷ codes "optimise" ∷ codes "net" ∷ [])
@@ -22,6 +22,9 @@ OptimiseRows =
     × (request_in
     (codes "yampa" ∷ codes "optimise" ∷ codes "--certificate" ∷ codes "net" ∷ [])
     ≡ Some (optimise W.Certificate (codes "net")))
+    × (request_in
+    (codes "yampa" ∷ codes "improve" ∷ codes "net" ∷ codes "--certificate" ∷ [])
+    ≡ Some (improve W.Certificate (codes "net")))
 
 -- the three files of one derivation
 abbrev pub three_files : DerivationNames
@@ -86,7 +89,7 @@ NothingRows = AsksNothing (codes "yampa" ∷ []) × AsksNothing (codes "yampa" �
     × AsksNothing
     (codes "yampa" ∷ codes "run-checked" ∷ codes "a" ∷ codes "b" ∷ codes "c" ∷ codes "d" ∷ [])
 
--- what asks for nothing of the optimiser: no file, two, the flag alone, twice or with a value, and
+-- what asks for nothing of the optimisers: no file, two, the flag alone, twice or with a value, and
 -- a flag that isn't there
 abbrev pub NoOptimiseRows : Type 0
 NoOptimiseRows = AsksNothing (codes "yampa" ∷ codes "optimise" ∷ [])
@@ -99,6 +102,7 @@ NoOptimiseRows = AsksNothing (codes "yampa" ∷ codes "optimise" ∷ [])
     (codes "yampa" ∷ codes "optimise" ∷ codes "net" ∷ codes "--certificate=true" ∷ [])
     × AsksNothing (codes "yampa" ∷ codes "optimise" ∷ codes "net" ∷ codes "--fast" ∷ [])
     × AsksNothing (codes "yampa" ∷ codes "run" ∷ codes "net" ∷ codes "--certificate" ∷ [])
+    × AsksNothing (codes "yampa" ∷ codes "improve" ∷ codes "--certificate" ∷ [])
 
 -- what asks for nothing of the commands on places and steps: no file, one too few, an option without
 -- its value or given twice

@@ -4,7 +4,7 @@ ghost use Rattle.std.specs.Prelude.{◌≡◌, IfOk, codes, map, option_map, fal
 ghost use Rattle.clap.specs.Words.{app_of, first_of, found_of, kind_of, rows_of, rule_of, subcommand_rows_of, with_rule};
 ghost use Rattle.clap.specs.declared.builder.command.Command.TheViews.{out-Command};
 ghost use Rattle.command_line.specs.CommandRows.{RequestRows, OptimiseRows, DerivationRows, PlaceRows, StepsRows, HelpRows, VersionRows, NothingRows, NoOptimiseRows, NoStepsRows};
-ghost use Rattle.command_line.specs.CommandLine.{IsNothing, ReadsWords, RepliesTo, and_command, and_rewriting, apply_in, command_line, command_taking, derivation_in, derivation_view, file_name, flag, is_given, laws_in, leading_view, request_by, request_on, request_view, valued, wanted_by, wanted_in, types, run, outline, optimise, check, run_checked};
+ghost use Rattle.command_line.specs.CommandLine.{IsNothing, ReadsWords, RepliesTo, and_command, and_rewriting, apply_in, command_line, command_taking, derivation_in, derivation_view, file_name, flag, is_given, laws_in, leading_view, request_by, request_on, request_view, valued, wanted_by, wanted_in, types, run, outline, optimise, improve, check, run_checked};
 
 use crate::help::{self, Told};
 use clap::error::{Error, ErrorKind};
@@ -35,7 +35,7 @@ pub struct Leading<'a> {
     pub shows: bool,
 }
 
-/// What is wanted of the optimiser.
+/// What is wanted of an optimiser.
 #[derive(Clone, Copy)]
 pub enum Wanted {
     /// The network that it finds.
@@ -58,6 +58,8 @@ pub enum Request<'a> {
     Laws { net: &'a str, at: Option<&'a str> },
     /// What the optimiser makes of the network in a file.
     Optimise { net: &'a str, wanted: Wanted },
+    /// What the stronger optimiser makes of it.
+    Improve { net: &'a str, wanted: Wanted },
     /// Whether a certificate leads from its source to its target.
     Check(Derivation<'a>),
     /// The same, and then a run of the target.
@@ -258,7 +260,8 @@ fn and_rewriting<'a>(alloc: Global, command: Command<'a>) -> Result<Command<'a>,
     let command = and_command(alloc, command, Takes::Network, "outline", help::OUTLINE)?;
     let command = and_command(alloc, command, Takes::Place, "laws", help::LAWS)?;
     let command = and_command(alloc, command, Takes::Steps, "apply", help::APPLY)?;
-    and_command(alloc, command, Takes::Wanted, "optimise", help::OPTIMISE)
+    let command = and_command(alloc, command, Takes::Wanted, "optimise", help::OPTIMISE)?;
+    and_command(alloc, command, Takes::Wanted, "improve", help::IMPROVE)
 }
 
 /// What the matches ask for.
@@ -282,6 +285,7 @@ fn request_named<'a>(name: &str, matches: &ArgMatches<'a>) -> Option<Request<'a>
         "laws" => laws_of(matches),
         "apply" => apply_of(matches),
         "optimise" => optimise_of(matches),
+        "improve" => improve_of(matches),
         _ => None,
     }
 }
@@ -339,7 +343,15 @@ fn optimise_of<'a>(matches: &ArgMatches<'a>) -> Option<Request<'a>>
     Some(Request::Optimise { net, wanted })
 }
 
-/// What is wanted of the optimiser: the certificate where the flag for it is given.
+fn improve_of<'a>(matches: &ArgMatches<'a>) -> Option<Request<'a>>
+    ensures { option_map request_view result ≡ wanted_by improve (rows_of (found_of matches.now)) }
+{
+    let net = value_of(matches, "NET")?;
+    let wanted = wanted_of(matches);
+    Some(Request::Improve { net, wanted })
+}
+
+/// What is wanted of an optimiser: the certificate where the flag for it is given.
 fn wanted_of(matches: &ArgMatches<'_>) -> Wanted
     ensures { result ≡ wanted_in (rows_of (found_of matches.now)) }
 {
@@ -450,7 +462,7 @@ fn no_such_command(alloc: Global) -> Reply
     }
 }
 
-/// Command lines, word for word, and what they ask for: a file's types or its run, the optimiser,
+/// Command lines, word for word, and what they ask for: a file's types or its run, the optimisers,
 /// a derivation, places and steps, help, the version, or nothing that is there.
 pub fn command_rows()
     ensures asked { RequestRows }

@@ -25,9 +25,9 @@ pub const PROGRAM_MORE: &str = "\
 A network is a text file: its input's type, and how each sample of a timed stream leads to an
 output. `yampa types NET` tells what goes in and what comes out, `yampa run NET < STREAM` runs it.
 `yampa check SRC TGT CERT` checks that two networks output the same, by a certificate that says why;
-`yampa optimise NET` finds such a network, and the certificate that leads there, by itself. To write
-one by hand, `yampa outline NET` shows what stands where, `yampa laws NET` which steps may be taken,
-and `yampa apply SRC CERT` where steps lead.
+`yampa optimise NET` finds such a network, and the certificate that leads there, by itself, and
+`yampa improve NET` mostly a faster one. To write one by hand, `yampa outline NET` shows what stands
+where, `yampa laws NET` which steps may be taken, and `yampa apply SRC CERT` where steps lead.
 The pages stand in the folder `docs` of the repository that it was built in: LANGUAGE.md teaches the
 language, LAWS.md the laws, and TOOLS.md the tools that `./yampa` calls there beside these commands,
 each with a --help of its own: explain, expand, fmt, draw, plot, watch, csv, timed, tidy, falsify,
@@ -110,6 +110,30 @@ Example: where the file `net` holds `yampa 1 input Int (>>> (arr (add x 1)) (arr
   $ yampa optimise net --certificate
   laws 1
   (step L4 forward (at))
+
+Exit status: 0 where the network or the certificate is printed, 1 where the file is refused, 2 where
+the words of the command line are wrong, 3 where the file can't be read, nothing can be written, or
+memory is short. Where it isn't 0, standard error says why.",
+};
+
+/// What help tells of `improve`.
+pub const IMPROVE: Told<'static> = Told {
+    usage: "yampa improve [OPTIONS] <NET>",
+    does: "Rewrites a network by more laws than `optimise`, and prints the one that it ends with",
+    more: "\
+It tries more laws than `optimise`, in both directions, at most 10,000 steps, and reckons what a
+sample costs: where nothing is cheaper, it prints the network as it is, and no step. Within the
+limits of files, `yampa check` accepts the certificate from NET to the network that is printed, so
+both output the same on every stream. It is meant to be faster, but that isn't promised. No stream
+is read. docs/LAWS.md has the laws.
+
+Example: where the file `net` holds
+`yampa 1 input (Pair Int Int) (>>> (first (arr (add x 1))) (arr (fst x)))`,
+
+  $ yampa improve net
+  yampa 1
+  input (Pair Int Int)
+  (arr (add (fst x) 1))
 
 Exit status: 0 where the network or the certificate is printed, 1 where the file is refused, 2 where
 the words of the command line are wrong, 3 where the file can't be read, nothing can be written, or

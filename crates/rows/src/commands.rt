@@ -166,6 +166,14 @@ yampa optimise net --certificate | {1048577*~} => status 1 network: too long
 yampa optimise net --certificate | ‹heaviest› => laws 1␤(step L37 forward (at))␤
 yampa optimise --certificate net net | ‹increment› => wrong words
 yampa optimise --certificate other | ‹increment› => status 3 network: cannot be read
+§ What is found that costs less.
+yampa improve net | yampa 1 input (Pair Int Int) (>>> (first (arr (add x 1))) (arr (fst x))) => yampa 1␤input (Pair Int Int)␤(arr (add (fst x) 1))␤
+yampa improve net | ‹sum doubled› => yampa 1␤input Int␤(>>> (arr (add x 1)) (arr (mul x 2)))␤
+yampa improve net --certificate | ‹sum doubled› => laws 1␤
+yampa improve --certificate net | yampa 1 input Int time => laws 1␤
+yampa improve other | ‹increment› => status 3 network: cannot be read
+yampa improve net | ‹parameter› => status 1 network: no parameter in (at 0)
+yampa improve --certificate | ‹increment› => wrong words
 § What stands where in a network.
 yampa outline net | ‹increment› => (at)␉>>>␉Int␉3␤  (at 0)␉arr␉Int␉1␤    (at 0 0)␉add␉Int␤      (at 0 0 0)␉x␉Int␤      (at 0 0 1)␉1␉Int␤  (at 1)␉iPre␉Int␉1␤    (at 1 0)␉0␉Int␤
 yampa outline net | yampa 1 input (Pair Int Bool) (first time) => (at)␉first␉(Pair Int Bool)␉2␤  (at 0)␉time␉Int␉1␤

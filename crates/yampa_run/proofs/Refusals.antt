@@ -27,7 +27,7 @@ use Rattle.net_view.specs.Listed.{IsThere}
 use Rattle.net_view.specs.Trace.{TraceAnswer, first_steps}
 use Rattle.yampa_run.specs.Words.{TellsFirst}
 use Rattle.yampa_run.proofs.Places.{one_place}
-use Rattle.command_line.specs.CommandLine.{DerivationNames, LeadingNames, RequestTree, types, run, outline, laws, optimise, check as checks, run_checked, apply, request_in, AsksNothing}
+use Rattle.command_line.specs.CommandLine.{DerivationNames, LeadingNames, RequestTree, types, run, outline, laws, optimise, improve, check as checks, run_checked, apply, request_in, AsksNothing}
 use Rattle.yampa_run.specs.RefusalLines.{text_words, type_words}
 use Rattle.yampa_run.specs.Preparation.{AreTold, Fails, HasNoDerivation, HasNoNetwork, HasNoSteps, IsDerivedIn, IsNetworkIn, IsNetworkOf, IsApplied, IsLeading, IsNoNumber, IsNotApplied, IsUnapplied, HasNoPlace, IsTold, AreStepsOf, KnownFiles, Meets, RefusesCheck, TellsApplied, TellsLaws, OneRefusalLaw, NoNetworkLaw, OnlyMemoryLaw, no_place, no_network as no_such_network, not_there, no_number, without_source, without_steps, not_applied, by_text, by_types, no_source, no_target, no_steps, not_accepted}
 use Rattle.yampa_run.specs.declared.refused.Role.{Role}
@@ -230,6 +230,9 @@ not_failed told (laws at name) (J.PrintAndRefuse text line) refusal m k n f = n
 not_failed told (optimise wanted name) (J.Print text) refusal m k n f = no_file R.Network (told name) n.source refusal m k n.network f
 not_failed told (optimise wanted name) (J.Run t) refusal m k n f = n
 not_failed told (optimise wanted name) (J.PrintAndRefuse text line) refusal m k n f = n
+not_failed told (improve wanted name) (J.Print text) refusal m k n f = no_file R.Network (told name) n.source refusal m k n.network f
+not_failed told (improve wanted name) (J.Run t) refusal m k n f = n
+not_failed told (improve wanted name) (J.PrintAndRefuse text line) refusal m k n f = n
 not_failed told (checks names) (J.Print text) refusal m k n f = no_derivation told names n.target n.count refusal m k n.derived f
 not_failed told (checks names) (J.Run t) refusal m k n f = n
 not_failed told (checks names) (J.PrintAndRefuse text line) refusal m k n f = n

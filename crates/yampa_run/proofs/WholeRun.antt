@@ -9,7 +9,7 @@ use Rattle.net_syntax.specs.TypedNetwork.{TypedNetwork}
 use Rattle.cert_check.specs.Laws.{SameStreamLaw}
 use Rattle.stream_text.specs.LineFaults.{LineFaultLaw}
 use Rattle.stream_text.specs.declared.fault.StreamFault.TheVariants as S
-use Rattle.command_line.specs.CommandLine.{RequestTree, types, run, outline, laws, optimise, check as checks, run_checked, apply}
+use Rattle.command_line.specs.CommandLine.{RequestTree, types, run, outline, laws, optimise, improve, check as checks, run_checked, apply}
 use Rattle.yampa_run.specs.FaultLines.{line_of, status_of}
 use Rattle.yampa_run.specs.Headline.{RunsSo, output_in}
 use Rattle.yampa_run.specs.NetworkRun.{RunsOver}
@@ -98,6 +98,7 @@ whole_run reads law faults same within told words t keys text has' holds holds' 
     go (outline name) m = m
     go (laws at name) m = m
     go (optimise wanted name) m = m
+    go (improve wanted name) m = m
     go (checks names) m = m
     go (run_checked names) m = λ source_file target_file certificate e f g.
         let d : IsDerivedIn told names t m.count = m.derived in

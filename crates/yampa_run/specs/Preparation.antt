@@ -23,9 +23,10 @@ use Rattle.cert_check.specs.StepAnswers.{ApplyAnswer}
 use Rattle.cert_check.specs.declared.answer.CheckFault.{CheckFault}
 use Rattle.cert_check.specs.declared.answer.CheckFault.TheVariants as C
 use Rattle.net_opt.specs.Optimising.{Optimised}
+use Rattle.net_improve.specs.Improving.{Improved}
 use Rattle.leaf_table.specs.declared.fault.TableFault.{TableFault}
 use Rattle.leaf_table.specs.declared.fault.TableFault.TheVariants as A
-use Rattle.command_line.specs.CommandLine.{DerivationNames, LeadingNames, RequestTree, types, run, outline, laws, optimise, check as checks, run_checked, apply, request_in, AsksHelp, AsksNothing}
+use Rattle.command_line.specs.CommandLine.{DerivationNames, LeadingNames, RequestTree, types, run, outline, laws, optimise, improve, check as checks, run_checked, apply, request_in, AsksHelp, AsksNothing}
 use Rattle.command_line.specs.declared.command.Wanted.{Wanted}
 use Rattle.command_line.specs.declared.command.Wanted.TheVariants as W
 use Rattle.net_view.specs.Applied.{PrintsApplied}
@@ -203,6 +204,19 @@ pub record TellsOptimised (told : Option (List ℕ)) (wanted : Wanted) (text : L
   pub network : IsNetworkOf told source
   pub prints : PrintsOptimised source wanted text
 
+-- the text is what is wanted of an improved network of the source
+pub record PrintsImproved (source : TypedNetwork) (wanted : Wanted) (text : List ℕ) : Type 0 where
+  pub net : Network Expression
+  pub steps : List Step
+  pub improved : Improved source net steps
+  pub printed : text ≡ wanted_text wanted source.input net steps
+
+-- the text is what is wanted of an improved network of a file's, where its bytes are told
+pub record TellsImproved (told : Option (List ℕ)) (wanted : Wanted) (text : List ℕ) : Type 0 where
+  pub source : TypedNetwork
+  pub network : IsNetworkOf told source
+  pub prints : PrintsImproved source wanted text
+
 -- the line of the command `check`
 abbrev pub accepted_line : ℕ → List ℕ
 accepted_line count = codes "accepted " ++ (decimal count ++ codes "\n")
@@ -344,8 +358,8 @@ pub data IsNotApplied (told : KnownFiles) (names : LeadingNames) (refusal : Refu
       → RefusesSteps source steps names.shows refusal → IsNotApplied told names refusal
 
 -- the job is what is asked for: the lines on a file's types, a run of its network, its outline, the
--- lines on its steps, what is wanted of an optimised one, the line on a derivation, a run of a
--- target that is derived, or what is wanted of steps
+-- lines on its steps, what is wanted of an optimised or an improved one, the line on a derivation, a
+-- run of a target that is derived, or what is wanted of steps
 abbrev pub Meets : KnownFiles → RequestTree → Job → Type 0
 Meets told (types name) (J.Print text) = TellsTypes (told name) (string_bytes text)
 Meets told (run name) (J.Run t) = IsNetworkOf (told name) t
@@ -353,6 +367,8 @@ Meets told (outline name) (J.Print text) = TellsOutline (told name) (string_byte
 Meets told (laws at name) (J.Print text) = TellsLaws (told name) at (string_bytes text)
 Meets told (optimise wanted name) (J.Print text) =
     TellsOptimised (told name) wanted (string_bytes text)
+Meets told (improve wanted name) (J.Print text) =
+    TellsImproved (told name) wanted (string_bytes text)
 Meets told (checks names) (J.Print text) = TellsAccepted told names (string_bytes text)
 Meets told (run_checked names) (J.Run t) = IsChecked told names t
 Meets told (apply names) job = TellsApplied told names job
@@ -365,6 +381,7 @@ Fails told (run name) refusal = HasNoNetwork R.Network (told name) refusal
 Fails told (outline name) refusal = HasNoNetwork R.Network (told name) refusal
 Fails told (laws at name) refusal = HasNoPlace (told name) at refusal
 Fails told (optimise wanted name) refusal = HasNoNetwork R.Network (told name) refusal
+Fails told (improve wanted name) refusal = HasNoNetwork R.Network (told name) refusal
 Fails told (checks names) refusal = HasNoDerivation told names refusal
 Fails told (run_checked names) refusal = HasNoDerivation told names refusal
 Fails told (apply names) refusal = IsNotApplied told names refusal
@@ -405,6 +422,7 @@ AreTold told (run name) = IsTold (told name)
 AreTold told (outline name) = IsTold (told name)
 AreTold told (laws at name) = IsTold (told name)
 AreTold told (optimise wanted name) = IsTold (told name)
+AreTold told (improve wanted name) = IsTold (told name)
 AreTold told (checks names) = IsTold (told names.source) × IsTold (told names.target)
     × IsTold (told names.certificate)
 AreTold told (run_checked names) = IsTold (told names.source) × IsTold (told names.target)

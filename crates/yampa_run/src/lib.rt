@@ -18,6 +18,7 @@ mod certificate;
 mod fault;
 mod files;
 pub mod fill;
+mod improved;
 mod laws;
 mod network_run;
 mod optimised;

@@ -8,6 +8,7 @@ ghost use Rattle.yampa_run.specs.Preparation.{Fails, HasNoNetwork, IsRequested, 
 use crate::applied::applied;
 use crate::certificate::{accepted, derived};
 use crate::files::{Files, read_file};
+use crate::improved::improved;
 use crate::optimised::optimised;
 use crate::printed::{push_number, push_words};
 use crate::refused::{Role, text_line, type_line};
@@ -111,6 +112,10 @@ fn job_of<F: Files>(alloc: Global, request: Request<'_>, files: &F) -> Result<Jo
             Err(refusal) => Err(refusal),
         },
         Request::Optimise { net, wanted } => match optimised(alloc, net, wanted, files) {
+            Ok(text) => Ok(Job::Print(text)),
+            Err(refusal) => Err(refusal),
+        },
+        Request::Improve { net, wanted } => match improved(alloc, net, wanted, files) {
             Ok(text) => Ok(Job::Print(text)),
             Err(refusal) => Err(refusal),
         },

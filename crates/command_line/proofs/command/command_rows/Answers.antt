@@ -9,7 +9,7 @@ returns-clause-asked c = (refl, refl, refl)
 
 pub returns-clause-optimise : goal.returns-clause-optimise
 unfolding clap_on_literals request_in
-returns-clause-optimise c = (refl, refl, refl)
+returns-clause-optimise c = (refl, refl, refl, refl)
 
 pub returns-clause-derivations : goal.returns-clause-derivations
 unfolding clap_on_literals request_in
@@ -38,7 +38,7 @@ returns-clause-nothing c = ((refl, λ e. cc, λ e. cc), (refl, λ e. cc, λ e. c
 pub returns-clause-no_optimise : goal.returns-clause-no_optimise
 unfolding clap_on_literals request_in AsksNothing
 returns-clause-no_optimise c =
-    ((refl, λ e. cc, λ e. cc), (refl, λ e. cc, λ e. cc), (refl, λ e. cc, λ e. cc), (refl, λ e. cc, λ e. cc), (refl, λ e. cc, λ e. cc), (refl, λ e. cc, λ e. cc), (refl, λ e. cc, λ e. cc))
+    ((refl, λ e. cc, λ e. cc), (refl, λ e. cc, λ e. cc), (refl, λ e. cc, λ e. cc), (refl, λ e. cc, λ e. cc), (refl, λ e. cc, λ e. cc), (refl, λ e. cc, λ e. cc), (refl, λ e. cc, λ e. cc), (refl, λ e. cc, λ e. cc))
 
 pub returns-clause-no_steps : goal.returns-clause-no_steps
 unfolding clap_on_literals request_in AsksNothing
