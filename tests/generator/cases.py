@@ -225,21 +225,34 @@ class Case:
 
     def optimised(self):
         """The optimiser's network, given again, and its certificate."""
+        net, count = self.rewritten("optimise", *self.with_law())
+        if count < 1_000 and self.hold("optimise", net).output != net:
+            raise Find(Command("optimise", [net]), "what is printed can be bettered", net)
+
+    def with_law(self):
+        """A network, most often with a left side in it, as it was made, and typed."""
         made, typed = self.network(self.rng.choice([2, 4, 6]))
         if self.maker.chance(0.7):
             typed, _ = self.steps.with_left_side(typed, self.rng.choice(self.laws))
             made = typed.places[()].tree
+        return made, typed
+
+    def rewritten(self, command, made, typed):
+        """What a command makes of a network, of the same types, derived and doing the same, and how many steps lead there."""
         text = self.maker.spaced(network_text(typed.input, made))
-        net = self.hold("optimise", text).output
-        certificate = self.hold("optimise --certificate", text).output
+        net = self.hold(command, text).output
+        certificate = self.hold(f"{command} --certificate", text).output
         types = self.hold("types", net).output.split(b"\n")[0]
         if types != self.hold("types", text).output.split(b"\n")[0]:
-            raise Find(Command("optimise", [text]), "what is printed has other types", net, text)
+            raise Find(Command(command, [text]), "what is printed has other types", net, text)
         count = certificate.count(b"(step ")
         self.accepted(self.hold("check", text, net, certificate), [text, net, certificate], count)
-        if count < 1_000 and self.hold("optimise", net).output != net:
-            raise Find(Command("optimise", [text]), "what is printed can be bettered", net)
         self.same([text, net, certificate], self.stream(typed))
+        return net, count
+
+    def improved(self):
+        """The improved network, and its certificate."""
+        self.rewritten("improve", *self.with_law())
 
     def ill_typed(self):
         """Networks with a part that may not fit."""
@@ -310,6 +323,7 @@ WRONG_WORDS = [
     ["types", "--certificate", "first"],
     ["optimise"],
     ["apply", "first"],
+    ["improve"],
     ["apply", "--first", "x", "first", "second"],
     ["optimise", "--certificates", "first"],
     ["types", "-x", "first"],
@@ -319,7 +333,7 @@ WRONG_WORDS = [
 FORM_WORDS = [word for word in FORM_WEIGHTS if word != "old"] + ["kSwitch", "pSwitch", "rpSwitchB"] * 3
 LAW_WORDS = [*NEW_LAWS, *LAWS, "L38", "L38"]
 SWITCHES = ["switch", "dSwitch", "rSwitch", "kSwitch", "pSwitch", "drSwitch", "rpSwitchB"]
-KINDS = "ran certified hostile ran certified optimised ill_typed certified".split() * 4 + ["limits", "worded"]
+KINDS = "ran certified hostile ran certified optimised ill_typed certified improved".split() * 4 + ["limits", "worded"]
 
 
 def words_of(tree):

@@ -22,7 +22,10 @@ ROLES = {
     "check": ["source", "target", "certificate"],
     "run-checked": ["source", "target", "certificate"],
     "apply": ["source", "certificate"],
+    "improve": ["network"],
 }
+# What these find is a search's choice, which the model doesn't know.
+SEARCHES = ["improve"]
 MEMORY = Path("/dev/shm")
 FILES = ["first", "second", "third"]
 ABSENT = "absent"
@@ -65,7 +68,7 @@ class Refused(Exception):
 
 
 def wanted_of(command, tally):
-    """What the model says of a command, or TooSlow."""
+    """What the model says of a command, nothing of what a search finds, or TooSlow."""
     try:
         files = read_files(command)
         return printed(command, files, tally)
@@ -121,6 +124,8 @@ def run_of(text, stream):
 
 def printed(command, files, tally):
     word = command.command
+    if word.split()[0] in SEARCHES:
+        return None
     if word == "types":
         net = files[0]
         lines = f"{shown(net.input)} -> {shown(net.output)}\nweight {net.weight}\nheight {net.height}\n"
@@ -251,7 +256,7 @@ class Program:
         except TooSlow:
             self.tally["counts", "too slow for the model"] += 1
             return told
-        if told != wanted:
+        if wanted is not None and told != wanted:
             raise Find(command, "the model says something else", told, wanted)
         self.tally["commands", " ".join(word for word in command.command.split() if not word.isdigit())] += 1
         return told
