@@ -1,142 +1,366 @@
 // The normal form of a network, by steps.
 
-use expr_improve::normal_expr;
-use law_rules::apply_law;
+use crate::table::{Row, SOURCE, TABLE, row_fits};
 use leaf_core::Expr;
-use net_syntax::{Direction, Law, LawStep, Net, Position, Tree, TreeRef, child, replace};
+use net_improve::{Built, Clearing, Sketch, Stop, behind, front, head, length, rest};
+use net_syntax::{LawStep, Net, Tree, TreeRef, same_net};
 use sample_core::Memory;
 use std::alloc::Global;
 
 /// The most moves of a search.
 const MOST_MOVES: u32 = 1_500;
 
+/// The most tasks of a search.
+const MOST_TASKS: u32 = 1_000_000;
+
+/// The most networks that stand in one another where a search looks.
+const MOST_DEPTH: u32 = 1_000;
+
 /// The most children of a network.
 const MOST_CHILDREN: u32 = 100;
 
-/// The most networks that are looked at for a move.
-const MOST_LOOKS: u32 = 1_000_000;
+/// What is still to be done.
+#[derive(Drop)]
+enum Task {
+    /// To bring what stands at the path to its normal form.
+    Form(Vec<u32>),
+    /// To drop what stands before this stage of the chain at the path, where that hears nothing.
+    DropFront(Vec<u32>, usize),
+    /// To make moves in the chain at the path, from the stage on that has so many behind it.
+    Settle(Vec<u32>, usize),
+}
 
-/// The laws that lead to the normal form, in the order in which they are tried.
-const LAWS: [u8; 33] = [
-    1, 2, 20, 25, 6, 3, 10, 4, 5, 8, 12, 17, 16, 18, 19, 21, 22, 24, 27, 28, 29, 30, 31, 32, 33,
-    34, 35, 36, 37, 40, 43, 45, 46,
-];
-
-/// What a move makes of a tree, and its steps.
+/// What a move makes of some stages.
 #[derive(Drop)]
 struct Made {
-    new: Tree,
+    stages: usize,
+    new: Net<Expr>,
     steps: Vec<LawStep>,
+    built: Built,
+    fuses: bool,
 }
 
-/// The steps that lead from the network to its normal form. They are only proposed: types aren't
-/// looked at. `Memory` where a growth was refused.
+/// A network on the way to its normal form.
+#[derive(Drop)]
+struct Former {
+    sketch: Sketch,
+    tasks: Vec<Task>,
+    moves: u32,
+}
+
+/// The steps that lead from the network to its normal form, at most some thousands. They are only
+/// proposed: types aren't looked at. `Memory` where a growth was refused.
 pub(crate) fn normal_steps(alloc: Global, net: &Net<Expr>) -> Result<Vec<LawStep>, Memory> {
-    let mut reached = net.try_copy(alloc)?;
-    let mut steps = Vec::new(alloc);
-    for _ in 0..MOST_MOVES {
-        let Some((position, made)) = first_move(alloc, &reached)? else {
-            break;
-        };
-        let Some(changed) = replace(alloc, &reached, &position, &made.new)? else {
-            break;
-        };
-        reached = changed;
-        for step in made.steps {
-            steps.push(step)?;
+    let mut former = Former::new(alloc, net)?;
+    former.perform_all()?;
+    Ok(former.into_steps())
+}
+
+/// To bring the whole to its normal form.
+fn first_tasks(alloc: Global) -> Result<Vec<Task>, Memory> {
+    let mut tasks = Vec::new(alloc);
+    tasks.push(Task::Form(Vec::new(alloc)))?;
+    Ok(tasks)
+}
+
+impl Former {
+    /// The network, of which all is still to be done.
+    fn new(alloc: Global, net: &Net<Expr>) -> Result<Former, Memory> {
+        let tasks = first_tasks(alloc)?;
+        let whole = net.try_copy(alloc)?;
+        Ok(Former {
+            sketch: Sketch::new(alloc, whole, 0, Clearing::Always),
+            tasks,
+            moves: MOST_MOVES,
+        })
+    }
+
+    /// The steps so far.
+    fn into_steps(self) -> Vec<LawStep> {
+        let Former { sketch, .. } = self;
+        let Sketch { steps, .. } = sketch;
+        steps
+    }
+
+    /// Does all that is to be done.
+    fn perform_all(&mut self) -> Result<(), Memory> {
+        for _ in 0..MOST_TASKS {
+            match self.tasks.pop() {
+                Some(task) => self.attempt(task)?,
+                None => return Ok(()),
+            }
+        }
+        Ok(())
+    }
+
+    /// Does what is to be done, as far as it goes.
+    fn attempt(&mut self, task: Task) -> Result<(), Memory> {
+        match self.perform(task) {
+            Err(Stop::Memory) => Err(Memory),
+            _ => Ok(()),
         }
     }
-    Ok(steps)
-}
 
-/// The first move, a node before its children, and where.
-fn first_move(alloc: Global, net: &Net<Expr>) -> Result<Option<(Position, Made)>, Memory> {
-    let mut todo = Vec::new(alloc);
-    todo.push((Vec::new(alloc), TreeRef::Net(net)))?;
-    for _ in 0..MOST_LOOKS {
-        let Some((path, tree)) = todo.pop() else {
+    /// Does what is to be done.
+    fn perform(&mut self, task: Task) -> Result<(), Stop> {
+        match task {
+            Task::Form(path) => self.form(&path),
+            Task::DropFront(path, stage) => self.drop_front(&path, stage),
+            Task::Settle(path, behind) => self.settle(&path, behind),
+        }
+    }
+
+    /// Begins with what stands at the path: its parts are brought to their normal form first.
+    fn form(&mut self, path: &[u32]) -> Result<(), Stop> {
+        spread(&mut self.sketch, path, MOST_DEPTH)?;
+        self.settle_later(path, 0)?;
+        if let Net::Seq(..) = self.sketch.net_at(path)? {
+            return self.form_stages(path);
+        }
+        self.form_children(path)
+    }
+
+    /// The stages of the chain at the path are to be formed, the last one first.
+    fn form_stages(&mut self, path: &[u32]) -> Result<(), Stop> {
+        let alloc = self.sketch.alloc;
+        self.sketch.flatten(path)?;
+        let count = length(self.sketch.net_at(path)?);
+        for i in 0..count {
+            let mut way = behind(alloc, path, i)?;
+            if i + 1 < count {
+                way.push(0)?;
+            }
+            self.tasks
+                .push(Task::DropFront(behind(alloc, path, 0)?, i))?;
+            self.tasks.push(Task::Form(way))?;
+        }
+        Ok(())
+    }
+
+    /// The children of what stands at the path are to be formed.
+    fn form_children(&mut self, path: &[u32]) -> Result<(), Stop> {
+        let alloc = self.sketch.alloc;
+        for k in 0..MOST_CHILDREN {
+            let mut way = behind(alloc, path, 0)?;
+            way.push(k)?;
+            let inner = self.sketch.at(&way)?;
+            match inner.tree {
+                TreeRef::Net(_) => self.tasks.push(Task::Form(way))?,
+                TreeRef::Expr(_) => self.sketch.clear(&way)?,
+            }
+        }
+        Ok(())
+    }
+
+    /// The chain at the path is to be settled, from the stage on that has so many behind it.
+    fn settle_later(&mut self, path: &[u32], stages: usize) -> Result<(), Stop> {
+        let way = behind(self.sketch.alloc, path, 0)?;
+        self.tasks.push(Task::Settle(way, stages))?;
+        Ok(())
+    }
+
+    /// Drops what stands before the stage of the chain at the path, as long as that hears nothing.
+    fn drop_front(&mut self, path: &[u32], stage: usize) -> Result<(), Stop> {
+        for i in (0..stage).rev() {
+            if !self.drop_stage(path, i)? {
+                return Ok(());
+            }
+        }
+        Ok(())
+    }
+
+    /// Drops the stage, where the one behind it hears nothing, and tells whether.
+    fn drop_stage(&mut self, path: &[u32], stage: usize) -> Result<bool, Stop> {
+        match self.made_by(&SOURCE, path, stage)? {
+            Some(made) => {
+                self.put(path, stage, made)?;
+                Ok(true)
+            }
+            None => Ok(false),
+        }
+    }
+
+    /// Makes the first move that fits at the stage which has so many behind it; then goes on at what
+    /// it touched, else to the left.
+    fn settle(&mut self, path: &[u32], stages: usize) -> Result<(), Stop> {
+        self.sketch.flatten(path)?;
+        let count = length(self.sketch.net_at(path)?);
+        if self.moves == 0 || stages >= count {
+            return Ok(());
+        }
+        let stage = count - 1 - stages;
+        match self.found(path, stage)? {
+            Some(made) => self.go_on(path, stages, stage, made),
+            None => self.settle_later(path, stages.saturating_add(1)),
+        }
+    }
+
+    /// Puts what was made at the stage which has so many behind it, and goes on at what it touched.
+    fn go_on(&mut self, path: &[u32], stages: usize, stage: usize, made: Made) -> Result<(), Stop> {
+        self.moves = self.moves.saturating_sub(1);
+        let touched = made.stages.saturating_add(1);
+        self.settle_later(path, stages.saturating_add(1).saturating_sub(touched))?;
+        self.put(path, stage, made)
+    }
+
+    /// What the first move makes that fits at the stage of the chain at the path.
+    fn found(&self, path: &[u32], stage: usize) -> Result<Option<Made>, Stop> {
+        let chain = self.sketch.net_at(path)?;
+        let loops = has_loop(chain, stage);
+        let arr = stage > 0 && is_arr(chain, stage - 1);
+        for row in TABLE {
+            if row.0.fits_behind(loops, arr) {
+                if let Some(made) = self.made_by(&row, path, stage)? {
+                    return Ok(Some(made));
+                }
+            }
+        }
+        Ok(None)
+    }
+
+    /// What the row's move makes at the stage of the chain at the path, where it fits.
+    fn made_by(&self, row: &Row, path: &[u32], stage: usize) -> Result<Option<Made>, Stop> {
+        let spot = self.sketch.at(path)?;
+        let TreeRef::Net(whole) = spot.tree else {
+            return Err(Stop::Unfit);
+        };
+        let Some(chain) = rest(whole, stage) else {
             return Ok(None);
         };
-        if let Some(made) = made_at(alloc, &path, tree)? {
-            return Ok(Some((Position::new(path), made)));
+        let second = match rest(chain, 1) {
+            Some(net) => Some(head(net)),
+            None => None,
+        };
+        if !row_fits(row, length(chain), head(chain), second) {
+            return Ok(None);
         }
-        push_children(alloc, &mut todo, &path, tree)?;
+        let window = front(self.sketch.alloc, chain, row.1)?;
+        tried(self.sketch.alloc, row, window, spot.olds)
     }
-    Ok(None)
+
+    /// Puts what was made of some stages in their place, and what it built is to be formed.
+    fn put(&mut self, path: &[u32], stage: usize, made: Made) -> Result<(), Stop> {
+        let alloc = self.sketch.alloc;
+        let count = length(self.sketch.net_at(path)?);
+        if made.fuses && stage.saturating_add(2) < count {
+            let mut way = behind(alloc, path, stage)?;
+            self.sketch.forward(10, &way)?;
+            way.push(0)?;
+            way.push(0)?;
+            return self.sketch.clear(&way);
+        }
+        let way = self.sketch.gather(path, stage, made.stages)?;
+        let Made {
+            stages: _,
+            new,
+            steps,
+            built,
+            fuses: _,
+        } = made;
+        self.sketch.took(&way, &Tree::Net(new), steps)?;
+        self.form_built(&way, built)
+    }
+
+    /// What a move built at the path is to be formed.
+    fn form_built(&mut self, path: &[u32], built: Built) -> Result<(), Stop> {
+        match built {
+            Built::Nothing => Ok(()),
+            Built::At(inner) => self.form_later(path, inner),
+            Built::Loop => self.form_later(path, &[1]),
+            Built::Both => {
+                self.form_later(path, &[0])?;
+                self.form_later(path, &[1])
+            }
+            Built::Members => self.form_children(path),
+        }
+    }
+
+    /// What stands at a path behind another is to be formed.
+    fn form_later(&mut self, path: &[u32], inner: &[u32]) -> Result<(), Stop> {
+        let mut way = behind(self.sketch.alloc, path, 0)?;
+        way.extend_from_slice(inner)?;
+        self.tasks.push(Task::Form(way))?;
+        Ok(())
+    }
 }
 
-/// Adds the children of what stands at the path, the first one last.
-fn push_children<'n>(
-    alloc: Global,
-    todo: &mut Vec<(Vec<u32>, TreeRef<'n>)>,
-    path: &[u32],
-    tree: TreeRef<'n>,
-) -> Result<(), Memory> {
-    let TreeRef::Net(net) = tree else {
-        return Ok(());
+/// What the row's move makes of the stages, where it fits and changes them.
+fn tried(alloc: Global, row: &Row, window: Net<Expr>, olds: u32) -> Result<Option<Made>, Stop> {
+    let copy = window.try_copy(alloc)?;
+    let mut sketch = Sketch::new(alloc, copy, olds, Clearing::Always);
+    let built = match row.0.make(&mut sketch) {
+        Ok(built) => built,
+        Err(Stop::Unfit) => return Ok(None),
+        Err(Stop::Memory) => return Err(Stop::Memory),
     };
-    for k in (0..MOST_CHILDREN).rev() {
-        if let Some(inner) = child(net, k) {
-            let mut way = path.to_vec(alloc)?;
-            way.push(k)?;
-            todo.push((way, inner))?;
+    if same_net(&sketch.net, &window) {
+        return Ok(None);
+    }
+    Ok(Some(Made {
+        stages: row.1,
+        new: sketch.net,
+        steps: sketch.steps,
+        built,
+        fuses: row.0.fuses(),
+    }))
+}
+
+/// Whether one of the first so many stages of the chain is a loop.
+fn has_loop(chain: &Net<Expr>, stages: usize) -> bool {
+    let mut left = chain;
+    for _ in 0..stages {
+        let Net::Seq(f, g) = left else {
+            return false;
+        };
+        if let Net::LoopPre(..) = f.get() {
+            return true;
         }
+        left = g.get();
+    }
+    false
+}
+
+/// Whether the stage of the chain is an `arr`.
+fn is_arr(chain: &Net<Expr>, stage: usize) -> bool {
+    match rest(chain, stage) {
+        Some(found) => matches!(head(found), Net::Arr(_)),
+        None => false,
+    }
+}
+
+/// Parts each `first` of a chain in the chain at the path, also in other `first`s, by L6.
+fn spread(sketch: &mut Sketch, path: &[u32], depth: u32) -> Result<(), Stop> {
+    if depth == 0 {
+        return Ok(());
+    }
+    let alloc = sketch.alloc;
+    let mut inner = behind(alloc, path, 0)?;
+    inner.push(0)?;
+    match sketch.net_at(path)? {
+        Net::Seq(..) => {
+            spread(sketch, &inner, depth - 1)?;
+            spread(sketch, &behind(alloc, path, 1)?, depth - 1)
+        }
+        Net::First(_) => {
+            spread(sketch, &inner, depth - 1)?;
+            part_first(sketch, path)
+        }
+        _ => Ok(()),
+    }
+}
+
+/// Parts the `first` of a chain at the path.
+fn part_first(sketch: &mut Sketch, path: &[u32]) -> Result<(), Stop> {
+    let mut way = behind(sketch.alloc, path, 0)?;
+    way.push(0)?;
+    sketch.flatten(&way)?;
+    way.pop();
+    for _ in 0..MOST_DEPTH {
+        let Net::Seq(..) = sketch.first_at(&way)? else {
+            return Ok(());
+        };
+        sketch.forward(6, &way)?;
+        way.push(1)?;
     }
     Ok(())
-}
-
-/// What a move makes of the tree at the path: the first law that fits a network, the normal form of
-/// an expression.
-fn made_at(alloc: Global, path: &[u32], tree: TreeRef<'_>) -> Result<Option<Made>, Memory> {
-    match tree {
-        TreeRef::Net(net) => made_by_law(alloc, path, net),
-        TreeRef::Expr(expr) => {
-            let found = normal_expr(alloc, expr)?;
-            if found.steps.is_empty() {
-                return Ok(None);
-            }
-            let steps = placed(alloc, path, found.steps)?;
-            Ok(Some(Made {
-                new: Tree::Expr(found.result),
-                steps,
-            }))
-        }
-    }
-}
-
-/// The steps, each at its place behind the path.
-fn placed(alloc: Global, path: &[u32], steps: Vec<LawStep>) -> Result<Vec<LawStep>, Memory> {
-    let mut all = Vec::new(alloc);
-    for step in steps {
-        let mut numbers = path.to_vec(alloc)?;
-        numbers.extend_from_slice(step.position.path())?;
-        all.push(LawStep {
-            law: step.law,
-            direction: step.direction,
-            position: Position::new(numbers),
-            given: step.given,
-        })?;
-    }
-    Ok(all)
-}
-
-/// What the first law that fits makes of the network at the path.
-fn made_by_law(alloc: Global, path: &[u32], net: &Net<Expr>) -> Result<Option<Made>, Memory> {
-    for number in LAWS {
-        let law = Law::L(number);
-        if let Some(new) = apply_law(alloc, law, Direction::Forward, net, None, 0)? {
-            let mut steps = Vec::new(alloc);
-            steps.push(LawStep {
-                law,
-                direction: Direction::Forward,
-                position: Position::of_node(alloc, path)?,
-                given: None,
-            })?;
-            return Ok(Some(Made {
-                new: Tree::Net(new),
-                steps,
-            }));
-        }
-    }
-    Ok(None)
 }

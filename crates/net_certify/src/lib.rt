@@ -10,8 +10,12 @@
 //! First `specs/Certifying`, then `src/certifying.rt`, then `src/table.rt`.
 #![tactic(auto)]
 
+mod arr_forms;
+mod boxed;
 mod certifying;
 mod difference;
 mod forming;
+mod loop_forms;
+mod table;
 
 pub use certifying::{Certified, certify};

@@ -1,0 +1,326 @@
+// Moves to the normal form, of loops.
+
+use crate::boxed::{boxed, copied, left, left_then, right, through};
+use expr_improve::{Rewriting, as_then};
+use leaf_core::{Expr, ExprChild, part, same_expr};
+use net_improve::{Built, LoopMove, Sketch, Stop, first, seq};
+use net_syntax::{Direction, Law, LawStep, Net, Position, Tree};
+use sample_core::Memory;
+use std::alloc::Global;
+
+/// A move to the normal form, of loops.
+#[derive(Clone, Copy)]
+pub(crate) enum LoopForm {
+    /// A loop that doesn't hear what is fed back is its body.
+    Unheard,
+    /// The stage before goes in.
+    In,
+    /// The stage behind goes in.
+    Out,
+    /// Two `first`s beside one another, of which one holds a loop, are a `first` of one loop.
+    Merge,
+    /// What the `arr` before a `first` of a loop does to the left part goes in.
+    FrontIn,
+    /// What the `arr` behind a `first` of a loop does to the left part alone goes in.
+    BackIn,
+    /// The loop in a `first` gets the whole pair.
+    Whole,
+}
+
+/// The most expressions that stand in one another where a part is looked for.
+const MOST_DEPTH: u32 = 300;
+
+impl LoopForm {
+    /// Makes the move, and tells what it built.
+    pub(crate) fn make(self, w: &mut Sketch) -> Result<Built, Stop> {
+        match self {
+            LoopForm::Unheard => unheard(w),
+            LoopForm::In => LoopMove::In.make(w),
+            LoopForm::Out => LoopMove::Out.make(w),
+            LoopForm::Merge => merge(w),
+            LoopForm::FrontIn => front_in(w),
+            LoopForm::BackIn => back_in(w),
+            LoopForm::Whole => whole(w),
+        }
+    }
+}
+
+fn unheard(w: &mut Sketch) -> Result<Built, Stop> {
+    match w.net_at(&[1])? {
+        Net::Arr(_) | Net::First(_) => LoopMove::Unfirst.make(w),
+        _ => Err(Stop::Unfit),
+    }
+}
+
+fn merge(w: &mut Sketch) -> Result<Built, Stop> {
+    let number = match w.first_at(&[0])? {
+        Net::LoopPre(..) => 14,
+        _ => 13,
+    };
+    let both = first_of_two(w.alloc, w.first_at(&[0])?, w.first_at(&[1])?)?;
+    w.backward(6, &[], both)?;
+    w.forward(number, &[0])?;
+    Ok(Built::At(&[0, 1]))
+}
+
+fn front_in(w: &mut Sketch) -> Result<Built, Stop> {
+    let found = left_behind(w.alloc, w.arr_at(&[0])?)?;
+    w.rewrite_arr(&[0], found)?;
+    w.part(&[0])?;
+    w.forward(3, &[])?;
+    made_first(w, &[1, 0])?;
+    let both = first_of_two(w.alloc, w.first_at(&[1, 0])?, w.first_at(&[1, 1])?)?;
+    w.backward(6, &[1], both)?;
+    w.forward(13, &[1, 0])?;
+    w.forward(5, &[1, 0, 1, 0])?;
+    w.clear(&[1, 0, 1, 0, 0])?;
+    Ok(Built::At(&[1, 0, 1]))
+}
+
+/// `(pair a b)` as `(pair x b)`, and a of the left part behind it.
+fn left_behind(alloc: Global, e: &Expr) -> Result<Option<Rewriting>, Stop> {
+    let front = right_kept(alloc, e)?;
+    let back = left_made(alloc, e)?;
+    Ok(as_then(alloc, e, front.get(), back.get())?)
+}
+
+/// `(pair x b)` of `(pair a b)`.
+fn right_kept(alloc: Global, e: &Expr) -> Result<ExprChild, Stop> {
+    match e {
+        Expr::Pair(_, b) => Ok(beside_input(alloc, b.get())?),
+        _ => Err(Stop::Unfit),
+    }
+}
+
+/// `(pair x e)`.
+fn beside_input(alloc: Global, e: &Expr) -> Result<ExprChild, Memory> {
+    let input = boxed(alloc, Expr::Input)?;
+    let e = copied(alloc, e)?;
+    boxed(alloc, Expr::Pair(input, e))
+}
+
+/// `(pair (then (fst x) a) (snd x))` of `(pair a b)`, where a isn't x.
+fn left_made(alloc: Global, e: &Expr) -> Result<ExprChild, Stop> {
+    match e {
+        Expr::Pair(a, _) if !is_input(a.get()) => Ok(left_of(alloc, a.get())?),
+        _ => Err(Stop::Unfit),
+    }
+}
+
+fn back_in(w: &mut Sketch) -> Result<Built, Stop> {
+    let found = left_before(w.alloc, w.arr_at(&[1])?)?;
+    w.rewrite_arr(&[1], found)?;
+    w.part(&[1])?;
+    w.regroup(&[])?;
+    made_first(w, &[0, 1])?;
+    let both = first_of_two(w.alloc, w.first_at(&[0, 0])?, w.first_at(&[0, 1])?)?;
+    w.backward(6, &[0], both)?;
+    w.forward(14, &[0, 0])?;
+    w.forward(5, &[0, 0, 1, 1])?;
+    w.clear(&[0, 0, 1, 1, 0])?;
+    Ok(Built::At(&[0, 0, 1]))
+}
+
+/// The expression as its largest part of the left part alone, in the place of that, and what is
+/// left of it behind that.
+fn left_before(alloc: Global, e: &Expr) -> Result<Option<Rewriting>, Stop> {
+    let largest = largest_part(alloc, e)?;
+    let front = left_alone(alloc, largest.get())?;
+    let behind = behind_left(alloc, e, largest)?;
+    Ok(as_then(alloc, e, front.get(), behind.get())?)
+}
+
+/// The largest part of the left part alone, where there is one.
+fn largest_part(alloc: Global, e: &Expr) -> Result<ExprChild, Stop> {
+    match largest_left(alloc, e)? {
+        Some(largest) => Ok(boxed(alloc, largest)?),
+        None => Err(Stop::Unfit),
+    }
+}
+
+/// The part, which uses the left part alone, in the place of that, beside the right part.
+fn left_alone(alloc: Global, e: &Expr) -> Result<ExprChild, Stop> {
+    let part = left(alloc)?;
+    let inside = through(alloc, e, part.get())?;
+    Ok(left_of(alloc, inside.get())?)
+}
+
+/// What is left of the expression where its part stands in the place of the left part.
+fn behind_left(alloc: Global, e: &Expr, part: ExprChild) -> Result<ExprChild, Stop> {
+    let seen = beside_right(alloc, part)?;
+    through(alloc, e, seen.get())
+}
+
+/// Makes the `arr` of `(pair (then (fst x) e) (snd x))` at the path `(first (arr e))`.
+fn made_first(w: &mut Sketch, path: &[u32]) -> Result<(), Stop> {
+    let given = first_of_left(w.alloc, w.arr_at(path)?)?;
+    w.backward(5, path, given)
+}
+
+/// `(first (arr e))` of `(pair (then (fst x) e) (snd x))`.
+fn first_of_left(alloc: Global, e: &Expr) -> Result<Net<Expr>, Stop> {
+    let Expr::Pair(left, _) = e else {
+        return Err(Stop::Unfit);
+    };
+    let Expr::Then(_, inside) = left.get() else {
+        return Err(Stop::Unfit);
+    };
+    let inside = inside.get().try_copy(alloc)?;
+    Ok(first(alloc, Net::Arr(inside))?)
+}
+
+/// `(first (>>> f g))`.
+fn first_of_two(alloc: Global, f: &Net<Expr>, g: &Net<Expr>) -> Result<Net<Expr>, Memory> {
+    let f = f.try_copy(alloc)?;
+    let g = g.try_copy(alloc)?;
+    let both = seq(alloc, f, g)?;
+    first(alloc, both)
+}
+
+fn whole(w: &mut Sketch) -> Result<Built, Stop> {
+    let given = behind_input(w.alloc, w.net_at(&[])?)?;
+    w.backward(1, &[], given)?;
+    let position = Position::of_node(w.alloc, &[0, 0])?;
+    let parts = both_parts(w.alloc)?;
+    w.take(LawStep {
+        law: Law::E(9),
+        direction: Direction::Backward,
+        position,
+        given: Some(Tree::Expr(parts)),
+    })?;
+    front_in(w)
+}
+
+/// `(>>> (arr x) f)`.
+fn behind_input(alloc: Global, f: &Net<Expr>) -> Result<Net<Expr>, Memory> {
+    let f = f.try_copy(alloc)?;
+    seq(alloc, Net::Arr(Expr::Input), f)
+}
+
+/// `(pair (fst x) (snd x))`.
+fn both_parts(alloc: Global) -> Result<Expr, Memory> {
+    let first = left(alloc)?;
+    let second = right(alloc)?;
+    Ok(Expr::Pair(first, second))
+}
+
+/// `(pair (then (fst x) e) (snd x))`.
+fn left_of(alloc: Global, e: &Expr) -> Result<ExprChild, Memory> {
+    let part = left_then(alloc, e)?;
+    beside_right(alloc, part)
+}
+
+/// `(pair e (snd x))`.
+fn beside_right(alloc: Global, e: ExprChild) -> Result<ExprChild, Memory> {
+    let second = right(alloc)?;
+    boxed(alloc, Expr::Pair(e, second))
+}
+
+/// What a part of an expression uses of the input, a pair.
+#[derive(Clone, Copy, PartialEq, Eq, Debug)]
+enum Uses {
+    /// Nothing.
+    Nothing,
+    /// The left part alone.
+    Left,
+    /// The right part, or both one by one.
+    Right,
+    /// It may be the whole.
+    Whole,
+}
+
+/// What the expression uses of the input.
+fn uses_of(e: &Expr, depth: u32) -> Uses {
+    if depth == 0 {
+        return Uses::Whole;
+    }
+    match e {
+        Expr::Input | Expr::On(..) => Uses::Whole,
+        Expr::Fst(inner) if is_input(inner.get()) => Uses::Left,
+        Expr::Snd(inner) if is_input(inner.get()) => Uses::Right,
+        Expr::Then(f, _) => uses_of(f.get(), depth - 1),
+        _ => {
+            let mut all = Uses::Nothing;
+            for k in 0..MOST_PARTS {
+                match part(e, k) {
+                    Some(inner) => all = both_used(all, uses_of(inner, depth - 1)),
+                    None => return all,
+                }
+            }
+            Uses::Whole
+        }
+    }
+}
+
+/// The most parts of an expression that are looked at.
+const MOST_PARTS: u32 = 1_000;
+
+/// Whether the expression is the input.
+fn is_input(e: &Expr) -> bool {
+    matches!(e, Expr::Input)
+}
+
+/// What both use.
+fn both_used(a: Uses, b: Uses) -> Uses {
+    match (a, b) {
+        (Uses::Whole, _) | (_, Uses::Whole) => Uses::Whole,
+        (Uses::Right, _) | (_, Uses::Right) => Uses::Right,
+        (Uses::Left, _) | (_, Uses::Left) => Uses::Left,
+        _ => Uses::Nothing,
+    }
+}
+
+/// The one largest part that uses the left part of the input alone, where it is not just that, and
+/// nothing else uses it; the input isn't used as a whole.
+fn largest_left(alloc: Global, e: &Expr) -> Result<Option<Expr>, Stop> {
+    if uses_of(e, MOST_DEPTH) == Uses::Whole {
+        return Ok(None);
+    }
+    let mut todo = Vec::new(alloc);
+    todo.push((e, MOST_DEPTH))?;
+    let mut found: Option<&Expr> = None;
+    for _ in 0..MOST_LOOKS {
+        let Some((e, depth)) = todo.pop() else {
+            return copy_of_part(alloc, found);
+        };
+        match uses_of(e, depth) {
+            Uses::Nothing => {}
+            Uses::Left => match found {
+                Some(other) if !same_expr(other, e) => return Ok(None),
+                _ => found = Some(e),
+            },
+            _ => push_parts(&mut todo, e, depth)?,
+        }
+    }
+    Ok(None)
+}
+
+/// The most parts that are looked at, of a whole expression.
+const MOST_LOOKS: u32 = 10_000;
+
+/// Adds the parts of the expression that get its input, but for paths.
+fn push_parts<'e>(todo: &mut Vec<(&'e Expr, u32)>, e: &'e Expr, depth: u32) -> Result<(), Stop> {
+    let depth = depth.saturating_sub(1);
+    match e {
+        Expr::Then(f, _) => todo.push((f.get(), depth))?,
+        Expr::Snd(inner) if is_input(inner.get()) => {}
+        _ => {
+            for k in 0..MOST_PARTS {
+                let Some(inner) = part(e, k) else {
+                    return Ok(());
+                };
+                todo.push((inner, depth))?;
+            }
+        }
+    }
+    Ok(())
+}
+
+/// A copy of the part, where it isn't just the left part of the input.
+fn copy_of_part(alloc: Global, found: Option<&Expr>) -> Result<Option<Expr>, Stop> {
+    match found {
+        Some(Expr::Fst(inner)) if is_input(inner.get()) => Ok(None),
+        Some(e) => Ok(Some(e.try_copy(alloc)?)),
+        None => Ok(None),
+    }
+}
