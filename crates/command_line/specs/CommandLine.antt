@@ -64,6 +64,7 @@ abbrev pub command_taking : Takes → List ℕ → App
 command_taking T.Network name = file_command name
 command_taking T.Wanted name = wanted_command name
 command_taking T.Place name = placed_command name
+command_taking T.Pair name = pair_command name
 command_taking T.Derivation name = derivation_command name
 command_taking T.Steps name = leading_command name
 
@@ -78,15 +79,17 @@ abbrev pub and_command : App → Takes → List ℕ → App
 and_command above takes name = with_subcommand above (command_taking takes name).top
 
 -- a command line with the subcommands that rewrite networks, or show how they may be rewritten:
--- `outline NET`, `laws NET [--at P]`, `apply SRC CERT [--first N] [--steps]`, and `optimise NET` and
--- `improve NET`, which take the flag `--certificate` too
+-- `outline NET`, `laws NET [--at P]`, `apply SRC CERT [--first N] [--steps]`, `optimise NET` and
+-- `improve NET`, which take the flag `--certificate` too, and `certify SRC TGT`
 abbrev pub and_rewriting : App → App
 and_rewriting above =
     and_command
     (and_command
     (and_command
+    (and_command
     (and_command (and_command above T.Network (codes "outline")) T.Place (codes "laws")) T.Steps
-    (codes "apply")) T.Wanted (codes "optimise")) T.Wanted (codes "improve")
+    (codes "apply")) T.Wanted (codes "optimise")) T.Wanted (codes "improve")) T.Pair
+    (codes "certify")
 
 -- the program's command line: `types NET`, `run NET`, `check SRC TGT CERT` or
 -- `run-checked SRC TGT CERT`, or one of the subcommands that rewrite
@@ -116,7 +119,7 @@ pub record LeadingNames : Type 0 where
 -- what stands where in it; the steps that may be taken in it, at the place of a word and below;
 -- the network that the optimiser makes of it, or the certificate that leads there, and the same of
 -- the stronger one; whether a certificate leads from its source to its target, or that and a run of
--- the target; or where steps lead
+-- the target; where steps lead; or a certificate from a source to a target
 pub data RequestTree : Type 0 where
   types : List ℕ → RequestTree
   run : List ℕ → RequestTree
@@ -127,6 +130,7 @@ pub data RequestTree : Type 0 where
   check : DerivationNames → RequestTree
   run_checked : DerivationNames → RequestTree
   apply : LeadingNames → RequestTree
+  certify : List ℕ → List ℕ → RequestTree
 
 -- the names of a derivation's files among a subcommand's matches, where all three are there
 abbrev pub derivation_in : List Row → Option DerivationNames
@@ -162,6 +166,12 @@ apply_in rows = option_and_then (λ source. option_map (λ certificate. apply (r
   shows = is_given (codes "steps") rows;
 })) (first_of (codes "CERT") rows)) (first_of (codes "SRC") rows)
 
+-- what the subcommand `certify` asks for, by its matches
+abbrev pub certify_in : List Row → Option RequestTree
+certify_in rows =
+    option_and_then (λ source. option_map (certify source) (first_of (codes "TGT") rows))
+    (first_of (codes "SRC") rows)
+
 -- what a subcommand asks for, by its matches
 abbrev pub request_on : List ℕ → List Row → Option RequestTree
 request_on command rows =
@@ -175,7 +185,8 @@ request_on command rows =
     else (if bytes_eq command (codes "apply") then apply_in rows
     else (if bytes_eq command (codes "optimise") then wanted_by optimise rows
     else (if bytes_eq command (codes "improve") then wanted_by improve rows
-    else None))))))))
+    else (if bytes_eq command (codes "certify") then certify_in rows
+    else None)))))))))
 
 -- what the subcommand and its matches ask for
 abbrev pub request_by : Option (List ℕ × List Row) → Option RequestTree
@@ -231,6 +242,7 @@ request_view (Q.Improve net wanted) = improve wanted net.now
 request_view (Q.Check d) = check (derivation_view d)
 request_view (Q.RunChecked d) = run_checked (derivation_view d)
 request_view (Q.Apply l) = apply (leading_view l)
+request_view (Q.Certify source target) = certify source.now target.now
 
 -- the reply fits an error of that kind
 abbrev pub RepliesTo : ErrorKind → Reply → Type 0

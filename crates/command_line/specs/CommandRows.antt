@@ -1,6 +1,6 @@
 -- Command lines, word for word, and what they ask for.
 use Rattle.std.specs.Prelude.{◌≡◌, [], ◌∷◌, Some, None, true, false, codes}
-use Rattle.command_line.specs.CommandLine.{AsksHelp, AsksNothing, DerivationNames, apply, check, improve, laws, optimise, outline, request_in, run, run_checked, types}
+use Rattle.command_line.specs.CommandLine.{AsksHelp, AsksNothing, DerivationNames, apply, certify, check, improve, laws, optimise, outline, request_in, run, run_checked, types}
 use Rattle.command_line.specs.declared.command.Wanted.TheVariants as W
 
 -- what is asked for
@@ -50,7 +50,7 @@ PlaceRows =
     (codes "yampa" ∷ codes "laws" ∷ codes "net" ∷ codes "--at" ∷ codes "(at 1 0)" ∷ [])
     ≡ Some (laws (Some (codes "(at 1 0)")) (codes "net")))
 
--- where steps lead: the source stands first
+-- where steps lead, and which lead from one network to another: the source stands first
 abbrev pub StepsRows : Type 0
 StepsRows = (request_in (codes "yampa" ∷ codes "apply" ∷ codes "a" ∷ codes "c" ∷ [])
     ≡ Some (apply (record {
@@ -67,6 +67,8 @@ StepsRows = (request_in (codes "yampa" ∷ codes "apply" ∷ codes "a" ∷ codes
       first = Some (codes "3");
       shows = true;
     })))
+    × (request_in (codes "yampa" ∷ codes "certify" ∷ codes "a" ∷ codes "b" ∷ [])
+    ≡ Some (certify (codes "a") (codes "b")))
 
 -- what asks for help
 abbrev pub HelpRows : Type 0
@@ -113,3 +115,4 @@ NoStepsRows = AsksNothing (codes "yampa" ∷ codes "outline" ∷ [])
     × AsksNothing
     (codes "yampa" ∷ codes "apply" ∷ codes "a" ∷ codes "c" ∷ codes "--first" ∷ codes "1"
     ∷ codes "--first" ∷ codes "2" ∷ [])
+    × AsksNothing (codes "yampa" ∷ codes "certify" ∷ codes "a" ∷ [])

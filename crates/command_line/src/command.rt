@@ -4,7 +4,7 @@ ghost use Rattle.std.specs.Prelude.{◌≡◌, IfOk, codes, map, option_map, fal
 ghost use Rattle.clap.specs.Words.{app_of, first_of, found_of, kind_of, rows_of, rule_of, subcommand_rows_of, with_rule};
 ghost use Rattle.clap.specs.declared.builder.command.Command.TheViews.{out-Command};
 ghost use Rattle.command_line.specs.CommandRows.{RequestRows, OptimiseRows, DerivationRows, PlaceRows, StepsRows, HelpRows, VersionRows, NothingRows, NoOptimiseRows, NoStepsRows};
-ghost use Rattle.command_line.specs.CommandLine.{IsNothing, ReadsWords, RepliesTo, and_command, and_rewriting, apply_in, command_line, command_taking, derivation_in, derivation_view, file_name, flag, is_given, laws_in, leading_view, request_by, request_on, request_view, valued, wanted_by, wanted_in, types, run, outline, optimise, improve, check, run_checked};
+ghost use Rattle.command_line.specs.CommandLine.{IsNothing, ReadsWords, RepliesTo, and_command, and_rewriting, apply_in, certify_in, command_line, command_taking, derivation_in, derivation_view, file_name, flag, is_given, laws_in, leading_view, request_by, request_on, request_view, valued, wanted_by, wanted_in, types, run, outline, optimise, improve, check, run_checked};
 
 use crate::help::{self, Told};
 use clap::error::{Error, ErrorKind};
@@ -66,6 +66,8 @@ pub enum Request<'a> {
     RunChecked(Derivation<'a>),
     /// Where steps lead.
     Apply(Leading<'a>),
+    /// A certificate from a source to a target.
+    Certify { source: &'a str, target: &'a str },
 }
 
 /// What a subcommand takes.
@@ -77,6 +79,8 @@ enum Takes {
     Wanted,
     /// A network file, and a place in it.
     Place,
+    /// The files of a source and a target.
+    Pair,
     /// The files of a derivation.
     Derivation,
     /// The files of a source and a certificate, how many steps, and a flag for the steps.
@@ -177,6 +181,7 @@ fn command_taking<'a>(
         Takes::Place => {
             and_file(alloc, command, "NET", help::NET)?.arg(valued(alloc, "P", "at", help::AT))
         }
+        Takes::Pair => and_pair(alloc, command),
         Takes::Derivation => {
             let command = and_pair(alloc, command)?;
             and_file(alloc, command, "CERT", help::CERT)
@@ -261,7 +266,8 @@ fn and_rewriting<'a>(alloc: Global, command: Command<'a>) -> Result<Command<'a>,
     let command = and_command(alloc, command, Takes::Place, "laws", help::LAWS)?;
     let command = and_command(alloc, command, Takes::Steps, "apply", help::APPLY)?;
     let command = and_command(alloc, command, Takes::Wanted, "optimise", help::OPTIMISE)?;
-    and_command(alloc, command, Takes::Wanted, "improve", help::IMPROVE)
+    let command = and_command(alloc, command, Takes::Wanted, "improve", help::IMPROVE)?;
+    and_command(alloc, command, Takes::Pair, "certify", help::CERTIFY)
 }
 
 /// What the matches ask for.
@@ -286,6 +292,7 @@ fn request_named<'a>(name: &str, matches: &ArgMatches<'a>) -> Option<Request<'a>
         "apply" => apply_of(matches),
         "optimise" => optimise_of(matches),
         "improve" => improve_of(matches),
+        "certify" => certify_of(matches),
         _ => None,
     }
 }
@@ -333,6 +340,14 @@ fn apply_of<'a>(matches: &ArgMatches<'a>) -> Option<Request<'a>>
         first: value_of(matches, "N"),
         shows: is_given(matches, "steps"),
     }))
+}
+
+fn certify_of<'a>(matches: &ArgMatches<'a>) -> Option<Request<'a>>
+    ensures { option_map request_view result ≡ certify_in (rows_of (found_of matches.now)) }
+{
+    let source = value_of(matches, "SRC")?;
+    let target = value_of(matches, "TGT")?;
+    Some(Request::Certify { source, target })
 }
 
 fn optimise_of<'a>(matches: &ArgMatches<'a>) -> Option<Request<'a>>

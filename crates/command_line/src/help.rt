@@ -27,7 +27,8 @@ output. `yampa types NET` tells what goes in and what comes out, `yampa run NET 
 `yampa check SRC TGT CERT` checks that two networks output the same, by a certificate that says why;
 `yampa optimise NET` finds such a network, and the certificate that leads there, by itself, and
 `yampa improve NET` mostly a faster one. To write one by hand, `yampa outline NET` shows what stands
-where, `yampa laws NET` which steps may be taken, and `yampa apply SRC CERT` where steps lead.
+where, `yampa laws NET` which steps may be taken, and `yampa apply SRC CERT` where steps lead;
+`yampa certify SRC TGT` looks for them itself.
 The pages stand in the folder `docs` of the repository that it was built in: LANGUAGE.md teaches the
 language, LAWS.md the laws, and TOOLS.md the tools that `./yampa` calls there beside these commands,
 each with a --help of its own: explain, expand, fmt, draw, plot, watch, csv, timed, tidy, falsify,
@@ -278,4 +279,27 @@ the file `steps` holds `laws 1 (step L4 forward (at))`,
 Exit status: 0 where the steps are taken, 1 where a file or a step is refused, 2 where the words of
 the command line are wrong or N is no number, 3 where a file can't be read, nothing can be written,
 or memory is short. Where it isn't 0, standard error says why.",
+};
+
+/// What help tells of `certify`.
+pub const CERTIFY: Told<'static> = Told {
+    usage: "yampa certify <SRC> <TGT>",
+    does: "Looks for a certificate that leads from one network to another",
+    more: "\
+It rewrites both networks to a normal form. Where that is one, it prints the steps of SRC, and then
+those of TGT undone: within the limits of files, `yampa check` accepts them from SRC to TGT, so both
+output the same on every stream. Else it prints the first position at which the two normal forms
+differ, `- ` and what that of SRC has there, and `+ ` and what that of TGT has; they may output the
+same nevertheless. No stream is read. docs/LAWS.md has the laws.
+
+Example: where the file `source` holds `yampa 1 input Int (>>> (arr (add x 1)) (arr (mul x 2)))`,
+and the file `target` holds `yampa 1 input Int (arr (then (add x 1) (mul x 2)))`,
+
+  $ yampa certify source target > steps
+  $ printf '5\\n' | yampa run-checked source target steps
+  12
+
+Exit status: 0 where a certificate is printed, 1 where none is found or a file is refused, 2 where
+the words of the command line are wrong, 3 where a file can't be read, nothing can be written, or
+memory is short. Where it isn't 0, standard error says why.",
 };

@@ -281,6 +281,12 @@ yampa apply other other --first +1 | ‹successor› |  | laws 1 => wrong words
 yampa apply other other --first 1x | ‹successor› |  | laws 1 => wrong words
 yampa apply src | ‹successor› |  | laws 1 => wrong words
 yampa apply src tgt cert | ‹successor› |  | laws 1 => wrong words
+§ Certificates that are looked for.
+yampa certify src tgt | ‹sum doubled› | ‹sum doubled› => laws 1␤
+yampa certify src tgt | ‹same› | yampa 1 input Bool (arr x) => status 1 certificate: inputs differ
+yampa certify src tgt | ‹parameter› | yampa 3 => status 1 source: no parameter in (at 0)
+yampa certify src tgt | ‹same› | yampa 3 => status 1 target: header
+yampa certify src | ‹same› => wrong words
 § Certificates that don't lead from the source to the target.
 yampa check src tgt cert | ‹same› | yampa 1 input Bool (arr x) | laws 1 => status 1 certificate: inputs differ
 yampa check src tgt cert | ‹same› | ‹same› | laws 1{10001* (step E16 forward (at 0))} => status 1 certificate: too many steps

@@ -17,7 +17,7 @@ use Rattle.net_types.specs.declared.fault.TypeFault.{TypeFault}
 use Rattle.net_types.specs.declared.fault.TypeFault.TheVariants as T
 use Rattle.command_line.specs.CommandLine.{RequestTree, request_in}
 use Rattle.net_text.specs.CertificateLaws.{IsCertificateFault}
-use Rattle.yampa_run.specs.Preparation.{Fails, HasNoNetwork, HasNoPlace, HasNoSteps, IsLeading, IsNetworkOf, IsNotApplied, IsNotThere, RefusesCheck, RefusesSteps, not_applied, not_there, IsNetworkIn, IsRefusal, IsRequested, Meets, RefusesText, RefusesTypes, KnownFiles, by_text, by_types}
+use Rattle.yampa_run.specs.Preparation.{Fails, HasNoNetwork, HasNoPlace, HasNoSteps, ArePair, HaveOtherInputs, IsNotCertified, other_inputs, IsLeading, IsNetworkOf, IsNotApplied, IsNotThere, RefusesCheck, RefusesSteps, not_applied, not_there, IsNetworkIn, IsRefusal, IsRequested, Meets, RefusesText, RefusesTypes, KnownFiles, by_text, by_types}
 use Rattle.yampa_run.specs.declared.refused.Role.{Role}
 use Rattle.yampa_run.specs.declared.refused.Role.TheVariants as R
 use Rattle.yampa_run.specs.declared.preparation.Job.{Job}
@@ -71,6 +71,12 @@ pub not_taken : {T : Type 0} (told : KnownFiles) (names : LeadingNames) (source 
     → IsLeading told names source steps → IfErr r (RefusesSteps source steps names.shows) → IfErr r (IsNotApplied told names)
 not_taken told names source steps (Ok job) l h = tt
 not_taken told names source steps (Err e) l h = not_applied source steps l h
+
+-- where the input types of a source and a target differ, nothing is printed of them
+pub not_certified : {T : Type 0} (told : KnownFiles) (from to : List ℕ) (source target : TypedNetwork) (r : Result T Refusal)
+    → ArePair told from to source target → IfErr r (HaveOtherInputs source target) → IfErr r (IsNotCertified told from to)
+not_certified told from to source target (Ok job) files h = tt
+not_certified told from to source target (Err e) files h = other_inputs source target files h
 
 -- where memory is short, nothing is shown of at most 10,000 steps
 pub short_of_memory : {T : Type 0} (source : TypedNetwork) (steps : List Step) (r : Result T Refusal) → length steps ≤ 10000

@@ -27,9 +27,9 @@ use Rattle.net_view.specs.Listed.{IsThere}
 use Rattle.net_view.specs.Trace.{TraceAnswer, first_steps}
 use Rattle.yampa_run.specs.Words.{TellsFirst}
 use Rattle.yampa_run.proofs.Places.{one_place}
-use Rattle.command_line.specs.CommandLine.{DerivationNames, LeadingNames, RequestTree, types, run, outline, laws, optimise, improve, check as checks, run_checked, apply, request_in, AsksNothing}
+use Rattle.command_line.specs.CommandLine.{DerivationNames, LeadingNames, RequestTree, types, run, outline, laws, optimise, improve, check as checks, run_checked, apply, certify, request_in, AsksNothing}
 use Rattle.yampa_run.specs.RefusalLines.{text_words, type_words}
-use Rattle.yampa_run.specs.Preparation.{AreTold, Fails, HasNoDerivation, HasNoNetwork, HasNoSteps, IsDerivedIn, IsNetworkIn, IsNetworkOf, IsApplied, IsLeading, IsNoNumber, IsNotApplied, IsUnapplied, HasNoPlace, IsTold, AreStepsOf, KnownFiles, Meets, RefusesCheck, TellsApplied, TellsLaws, OneRefusalLaw, NoNetworkLaw, OnlyMemoryLaw, no_place, no_network as no_such_network, not_there, no_number, without_source, without_steps, not_applied, by_text, by_types, no_source, no_target, no_steps, not_accepted}
+use Rattle.yampa_run.specs.Preparation.{AreTold, Fails, HasNoDerivation, HasNoNetwork, HasNoSteps, IsDerivedIn, IsNetworkIn, IsNetworkOf, IsApplied, IsLeading, IsNoNumber, IsCertified, IsNotCertified, TellsCertified, no_such_source, no_such_target, other_inputs, IsNotApplied, IsUnapplied, HasNoPlace, IsTold, AreStepsOf, KnownFiles, Meets, RefusesCheck, TellsApplied, TellsLaws, OneRefusalLaw, NoNetworkLaw, OnlyMemoryLaw, no_place, no_network as no_such_network, not_there, no_number, without_source, without_steps, not_applied, by_text, by_types, no_source, no_target, no_steps, not_accepted}
 use Rattle.yampa_run.specs.declared.refused.Role.{Role}
 use Rattle.yampa_run.specs.declared.refused.Role.TheVariants as R
 use Rattle.yampa_run.specs.declared.preparation.Job.{Job}
@@ -213,6 +213,22 @@ no_applied_fails told names job refusal m k n (not_applied source steps l h) =
     (typed_of (told names.source) n.source k.0 n.leading.is_source) n.applied
     (subst (λ t. IsUnapplied t n.steps names.shows h.fault) x (subst (λ ss. IsUnapplied source ss names.shows h.fault) s h.unapplied))
 
+-- where something is told of a certificate, the input types are the same
+same_inputs : (source target : TypedNetwork) (job : Job) → IsCertified source target job → source.input ≡ target.input
+same_inputs source target (J.Print text) n = let d : Derives source target n.0 = n.1 in d.same_input
+same_inputs source target (J.Run t) n = absurd n
+same_inputs source target (J.PrintAndRefuse text line) n = n.0
+
+no_certified_fails : (told : KnownFiles) (from to : List ℕ) (job : Job) (refusal : Refusal) → refusal ≢ Refused.Memory → AreTold told (certify from to)
+    → TellsCertified told from to job → IsNotCertified told from to refusal → ⊥
+no_certified_fails told from to job refusal m k n (no_such_source h) = no_file R.Source (told from) n.source refusal m k.0 n.files.is_source h
+no_certified_fails told from to job refusal m k n (no_such_target source i h) = no_file R.Target (told to) n.target refusal m k.1 n.files.is_target h
+no_certified_fails told from to job Refused.Memory m k n (other_inputs source target files h) = m refl
+no_certified_fails told from to job (Refused.Line status line) m k n (other_inputs source target files h) =
+    let x : source ≡ n.source = one_of_file (told from) source n.source k.0 files.is_source n.files.is_source in
+    let y : target ≡ n.target = one_of_file (told to) target n.target k.1 files.is_target n.files.is_target in
+    h.0 (ap (λ (t : TypedNetwork). t.input) x ∙ same_inputs n.source n.target job n.certified ∙ sym (ap (λ (t : TypedNetwork). t.input) y))
+
 not_failed : (told : KnownFiles) (what : RequestTree) (job : Job) (refusal : Refusal) → refusal ≢ Refused.Memory → AreTold told what
     → Meets told what job → Fails told what refusal → ⊥
 not_failed told (types name) (J.Print text) refusal m k n f = no_file R.Network (told name) n.net refusal m k n.network f
@@ -240,6 +256,7 @@ not_failed told (run_checked names) (J.Print text) refusal m k n f = n
 not_failed told (run_checked names) (J.Run t) refusal m k n f = no_derivation told names t n.count refusal m k n.derived f
 not_failed told (run_checked names) (J.PrintAndRefuse text line) refusal m k n f = n
 not_failed told (apply names) job refusal m k n f = no_applied_fails told names job refusal m k n f
+not_failed told (certify from to) job refusal m k n f = no_certified_fails told from to job refusal m k n f
 
 nothing_asked : (words : List (List ℕ)) (what : RequestTree) → request_in words ≡ Some what → AsksNothing words → ⊥
 unfolding AsksNothing

@@ -9,7 +9,7 @@ use Rattle.net_syntax.specs.TypedNetwork.{TypedNetwork}
 use Rattle.cert_check.specs.Laws.{SameStreamLaw}
 use Rattle.stream_text.specs.LineFaults.{LineFaultLaw}
 use Rattle.stream_text.specs.declared.fault.StreamFault.TheVariants as S
-use Rattle.command_line.specs.CommandLine.{RequestTree, types, run, outline, laws, optimise, improve, check as checks, run_checked, apply}
+use Rattle.command_line.specs.CommandLine.{RequestTree, types, run, outline, laws, optimise, improve, check as checks, run_checked, apply, certify}
 use Rattle.yampa_run.specs.FaultLines.{line_of, status_of}
 use Rattle.yampa_run.specs.Headline.{RunsSo, output_in}
 use Rattle.yampa_run.specs.NetworkRun.{RunsOver}
@@ -117,3 +117,4 @@ whole_run reads law faults same within told words t keys text has' holds holds' 
               (same_output reads same d.source t d.steps text (within [] [] d.source.net d.source.input d.source.output fits.typed) d.derives) so;
         }
     go (apply names) m = absurd (not_run m.source m.steps names.shows t m.applied)
+    go (certify from to) m = absurd m.certified

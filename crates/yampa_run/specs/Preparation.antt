@@ -1,5 +1,5 @@
 -- What a command line leads to, by its words and by what is told of files.
-use Rattle.std.specs.Prelude.{◌≡◌, ◌≢◌, ◌⊎◌, ◌≤◌, ℕ, Bool, true, false, List, ◌++◌, length, map, Option, Some, None, option_map, Err, codes, string_bytes, ⊤}
+use Rattle.std.specs.Prelude.{◌≡◌, ◌≢◌, ◌⊎◌, ◌≤◌, ℕ, Bool, true, false, List, [], ◌∷◌, ◌++◌, length, map, Option, Some, None, option_map, Err, codes, string_bytes, ⊤}
 use Rattle.std.specs.Fmt.{decimal}
 use Rattle.sample_core.specs.TypeTree.{TypeTree}
 use Rattle.sample_core.specs.Spelling.{type_spelling}
@@ -8,6 +8,8 @@ use Rattle.net_syntax.specs.Network.{Network}
 use Rattle.net_syntax.specs.TypedNetwork.{TypedNetwork}
 use Rattle.net_syntax.specs.NetworkLimits.{WithinLimits}
 use Rattle.net_syntax.specs.LawStep.{Step}
+use Rattle.net_syntax.specs.Place.{Tree}
+use Rattle.net_syntax.specs.Position.{position_spelling}
 use Rattle.net_text.specs.CertificateLaws.{IsCertificate, IsCertificateFault}
 use Rattle.net_text.specs.CertificatePrinting.{certificate_spelling}
 use Rattle.net_text.specs.FileLaws.{IsFile, IsFileFault}
@@ -26,14 +28,14 @@ use Rattle.net_opt.specs.Optimising.{Optimised}
 use Rattle.net_improve.specs.Improving.{Improved}
 use Rattle.leaf_table.specs.declared.fault.TableFault.{TableFault}
 use Rattle.leaf_table.specs.declared.fault.TableFault.TheVariants as A
-use Rattle.command_line.specs.CommandLine.{DerivationNames, LeadingNames, RequestTree, types, run, outline, laws, optimise, improve, check as checks, run_checked, apply, request_in, AsksHelp, AsksNothing}
+use Rattle.command_line.specs.CommandLine.{DerivationNames, LeadingNames, RequestTree, types, run, outline, laws, optimise, improve, check as checks, run_checked, apply, certify, request_in, AsksHelp, AsksNothing}
 use Rattle.command_line.specs.declared.command.Wanted.{Wanted}
 use Rattle.command_line.specs.declared.command.Wanted.TheVariants as W
 use Rattle.net_view.specs.Applied.{PrintsApplied}
 use Rattle.net_view.specs.Listed.{IsThere}
 use Rattle.net_view.specs.Texts.{OutlineText, PossibleText}
 use Rattle.net_view.specs.Trace.{Stopped, TraceAnswer, changed_of, first_steps, stopped_of}
-use Rattle.net_view.specs.TraceText.{TellsTrace, trace_lines}
+use Rattle.net_view.specs.TraceText.{TellsTrace, marked_line, trace_lines}
 use Rattle.net_view.specs.declared.trace.Stop.{Stop}
 use Rattle.net_view.specs.declared.trace.Trace.{Trace}
 use Rattle.yampa_run.specs.RefusalLines.{check_words, no_number_words, no_place_words, none_found_words, not_there_words, text_words, type_words, unread_words}
@@ -357,9 +359,57 @@ pub data IsNotApplied (told : KnownFiles) (names : LeadingNames) (refusal : Refu
   not_applied : (source : TypedNetwork) (steps : List Step) → IsLeading told names source steps
       → RefusesSteps source steps names.shows refusal → IsNotApplied told names refusal
 
+-- a source and a target of two files, where their bytes are told
+pub record ArePair (told : KnownFiles) (from to : List ℕ) (source target : TypedNetwork) : Type 0
+  where
+    pub is_source : IsNetworkOf (told from) source
+    pub is_target : IsNetworkOf (told to) target
+
+-- what is printed of two networks that have these trees at a position
+abbrev pub difference_lines : List ℕ → Tree Expression → Tree Expression → List ℕ
+difference_lines p first second = position_spelling p
+    ++ (10 ∷ marked_line (codes "- ") first ++ marked_line (codes "+ ") second)
+
+-- what is printed where no certificate is found: where two networks differ, or nothing
+pub data TellsNone (text : List ℕ) : Type 0 where
+  at_position : (p : List ℕ) (first second : Tree Expression)
+      → text ≡ difference_lines p first second → TellsNone text
+  nowhere : text ≡ [] → TellsNone text
+
+-- the job is to print a certificate from the source to the target; or that none is found, where
+-- their input types are the same
+abbrev pub IsCertified : TypedNetwork → TypedNetwork → Job → Type 0
+IsCertified source target (J.Print text) = (steps : List Step) × Derives source target steps
+    × (string_bytes text ≡ certificate_spelling steps)
+IsCertified source target (J.PrintAndRefuse text line) = (source.input ≡ target.input)
+    × TellsNone (string_bytes text) × (string_bytes line ≡ none_found_words)
+IsCertified source target (J.Run t) = ⊥
+
+-- the job is that of the source and the target of two files
+pub record TellsCertified (told : KnownFiles) (from to : List ℕ) (job : Job) : Type 0 where
+  pub source : TypedNetwork
+  pub target : TypedNetwork
+  pub files : ArePair told from to source target
+  pub certified : IsCertified source target job
+
+-- the input types differ, and that is told as `check` tells it; or memory was short
+abbrev pub HaveOtherInputs : TypedNetwork → TypedNetwork → Refusal → Type 0
+HaveOtherInputs source target (Refused.Line status line) = (source.input ≢ target.input)
+    × RefusesCheck C.InputsDiffer (Refused.Line status line)
+HaveOtherInputs source target Refused.Memory = ⊤
+
+-- why no certificate is looked for: the first of the two files, in this order, that is no network;
+-- or their input types differ
+pub data IsNotCertified (told : KnownFiles) (from to : List ℕ) (refusal : Refusal) : Type 0 where
+  no_such_source : HasNoNetwork R.Source (told from) refusal → IsNotCertified told from to refusal
+  no_such_target : (source : TypedNetwork) → IsNetworkOf (told from) source
+      → HasNoNetwork R.Target (told to) refusal → IsNotCertified told from to refusal
+  other_inputs : (source target : TypedNetwork) → ArePair told from to source target
+      → HaveOtherInputs source target refusal → IsNotCertified told from to refusal
+
 -- the job is what is asked for: the lines on a file's types, a run of its network, its outline, the
 -- lines on its steps, what is wanted of an optimised or an improved one, the line on a derivation, a
--- run of a target that is derived, or what is wanted of steps
+-- run of a target that is derived, what is wanted of steps, or a certificate
 abbrev pub Meets : KnownFiles → RequestTree → Job → Type 0
 Meets told (types name) (J.Print text) = TellsTypes (told name) (string_bytes text)
 Meets told (run name) (J.Run t) = IsNetworkOf (told name) t
@@ -372,6 +422,7 @@ Meets told (improve wanted name) (J.Print text) =
 Meets told (checks names) (J.Print text) = TellsAccepted told names (string_bytes text)
 Meets told (run_checked names) (J.Run t) = IsChecked told names t
 Meets told (apply names) job = TellsApplied told names job
+Meets told (certify from to) job = TellsCertified told from to job
 Meets told _ _ = ⊥
 
 -- why what is asked for isn't done
@@ -385,6 +436,7 @@ Fails told (improve wanted name) refusal = HasNoNetwork R.Network (told name) re
 Fails told (checks names) refusal = HasNoDerivation told names refusal
 Fails told (run_checked names) refusal = HasNoDerivation told names refusal
 Fails told (apply names) refusal = IsNotApplied told names refusal
+Fails told (certify from to) refusal = IsNotCertified told from to refusal
 
 -- the words ask for something that the job is
 pub record MeetsWords (told : KnownFiles) (words : List (List ℕ)) (job : Job) : Type 0 where
@@ -428,6 +480,7 @@ AreTold told (checks names) = IsTold (told names.source) × IsTold (told names.t
 AreTold told (run_checked names) = IsTold (told names.source) × IsTold (told names.target)
     × IsTold (told names.certificate)
 AreTold told (apply names) = IsTold (told names.source) × IsTold (told names.certificate)
+AreTold told (certify from to) = IsTold (told from) × IsTold (told to)
 
 -- where the files' bytes are told and some job is what is asked for, memory alone is a reason to
 -- refuse it

@@ -15,6 +15,7 @@
 
 mod applied;
 mod certificate;
+mod certified;
 mod fault;
 mod files;
 pub mod fill;

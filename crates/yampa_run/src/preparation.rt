@@ -7,6 +7,7 @@ ghost use Rattle.yampa_run.specs.Preparation.{Fails, HasNoNetwork, IsRequested, 
 
 use crate::applied::applied;
 use crate::certificate::{accepted, derived};
+use crate::certified::certified;
 use crate::files::{Files, read_file};
 use crate::improved::improved;
 use crate::optimised::optimised;
@@ -128,6 +129,7 @@ fn job_of<F: Files>(alloc: Global, request: Request<'_>, files: &F) -> Result<Jo
             Err(refusal) => Err(refusal),
         },
         Request::Apply(names) => applied(alloc, names, files),
+        Request::Certify { source, target } => certified(alloc, source, target, files),
     }
 }
 

@@ -1,7 +1,7 @@
 // What the program prints of a file that is refused.
 
 ghost use Rattle.std.specs.Prelude.{◌≡◌, codes, IfOk, string_bytes};
-ghost use Rattle.yampa_run.specs.RefusalLines.{byte_words, check_words, expression_words, line_on, no_number_words, no_place_words, not_there_words, place_words, role_words, step_words, text_words, type_words, unread_words};
+ghost use Rattle.yampa_run.specs.RefusalLines.{byte_words, check_words, expression_words, line_on, no_number_words, no_place_words, none_found_words, not_there_words, place_words, role_words, step_words, text_words, type_words, unread_words};
 
 use crate::printed::{push_number, push_words};
 use cert_check::CheckFault;
@@ -136,6 +136,13 @@ pub fn no_place_line(alloc: Global) -> Result<String, Memory>
     ensures { IfOk result (λ line. string_bytes line ≡ no_place_words) }
 {
     Ok(String::from_str(alloc, "--at: no position")?)
+}
+
+/// The line where no certificate is found.
+pub fn none_found_line(alloc: Global) -> Result<String, Memory>
+    ensures { IfOk result (λ line. string_bytes line ≡ none_found_words) }
+{
+    line_of(alloc, Role::Certificate, "none found")
 }
 
 /// The line on a certificate that doesn't lead from its source to its target.

@@ -21,7 +21,7 @@ returns-clause-places c = (refl, refl, refl)
 
 pub returns-clause-steps : goal.returns-clause-steps
 unfolding clap_on_literals request_in
-returns-clause-steps c = (refl, refl)
+returns-clause-steps c = (refl, refl, refl)
 
 pub returns-clause-help : goal.returns-clause-help
 unfolding clap_on_literals AsksHelp
@@ -43,4 +43,4 @@ returns-clause-no_optimise c =
 pub returns-clause-no_steps : goal.returns-clause-no_steps
 unfolding clap_on_literals request_in AsksNothing
 returns-clause-no_steps c =
-    ((refl, λ e. cc, λ e. cc), (refl, λ e. cc, λ e. cc), (refl, λ e. cc, λ e. cc), (refl, λ e. cc, λ e. cc))
+    ((refl, λ e. cc, λ e. cc), (refl, λ e. cc, λ e. cc), (refl, λ e. cc, λ e. cc), (refl, λ e. cc, λ e. cc), (refl, λ e. cc, λ e. cc))
