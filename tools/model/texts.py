@@ -15,11 +15,11 @@ from model.trees import (
     NUMBERS,
     TYPE_FORMS,
     TYPE_WORDS,
+    at_text,
     expanded,
     is_new,
     shown,
 )
-from model.typed import at_text
 
 FILE_BYTES = 1_048_576
 LINE_BYTES = 65_536

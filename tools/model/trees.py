@@ -96,6 +96,11 @@ def head(tree):
     return tree[0] if isinstance(tree, tuple) else "number" if isinstance(tree, int) else tree
 
 
+def is_form(word, tree):
+    """Whether the tree is a form of this word."""
+    return isinstance(tree, tuple) and tree[0] == word
+
+
 def is_network(tree):
     return head(tree) in NETWORK_FORMS or tree in NETWORK_WORDS
 
@@ -110,6 +115,11 @@ def is_literal(tree):
 
 
 # ---- positions
+
+
+def at_text(position):
+    """The position as it is printed."""
+    return "(" + " ".join(["at", *map(str, position)]) + ")"
 
 
 def child_places(tree):

@@ -2,7 +2,7 @@
 from dataclasses import dataclass
 from functools import lru_cache
 
-from model.trees import child_places, children, head, is_literal
+from model.trees import at_text, child_places, children, head, is_form, is_literal
 
 TYPE_DEPTH, TYPE_NODES = 32, 256
 EXPRESSION_HEIGHT, EXPRESSION_NODES = 256, 100_000
@@ -66,10 +66,6 @@ def list_of(a):
     return ("List", a)
 
 
-def is_form(word, type_):
-    return isinstance(type_, tuple) and type_[0] == word
-
-
 @lru_cache(maxsize=100_000)
 def type_size(type_):
     """The depth and the nodes of a type."""
@@ -82,10 +78,6 @@ def type_size(type_):
 def fits(type_):
     depth, nodes = type_size(type_)
     return depth <= TYPE_DEPTH and nodes <= TYPE_NODES
-
-
-def at_text(position):
-    return "(" + " ".join(["at", *map(str, position)]) + ")"
 
 
 # ---- expressions

@@ -2,11 +2,12 @@
 import shutil
 import subprocess
 
-from model.trees import child_places, children, head, is_network, shown
+from model.trees import at_text, children, head, is_network, shown
 from workbench.ending import UNREADABLE, Refused, Words, ended, write
 from workbench.layout import flat
+from workbench.outline import network_of, scope_of
 from workbench.shorter import shortened
-from workbench.watching import node_of, typed_file
+from workbench.watching import node_of
 
 ABOUT = """Draws NET as boxes and arrows, from left to right: parallel parts stand below one another, what is fed
 back goes back through its constant, and a switch is a frame with its continuation behind a dashed line.
@@ -28,15 +29,15 @@ edge [fontname="sans-serif", fontsize=9, color="#444444", arrowsize=0.7];
 class Drawing:
     """Collects the lines of a graph; each part of a network has a node in which it begins and one in which it ends."""
 
-    def __init__(self, typed, types, positions):
-        self.typed, self.types, self.positions = typed, types, positions
+    def __init__(self, whole, types, positions):
+        self.whole, self.types, self.positions = whole, types, positions
         self.lines, self.count = [], 0
 
     def text(self):
         begin, end = self.point("in"), self.point("out")
         first, last = self.part(())
-        self.edge(begin, first, self.typed.input)
-        self.edge(last, end, self.typed.output)
+        self.edge(begin, first, self.whole.input)
+        self.edge(last, end, self.whole.output(()))
         return STYLE + "\n".join(self.lines) + "\n}\n"
 
     # ---- lines
@@ -48,7 +49,7 @@ class Drawing:
     def node(self, label, position=None, **how):
         name = self.name()
         if self.positions and position is not None:
-            label += "\n" + position_text(position)
+            label += "\n" + at_text(position)
         extra = "".join(f', {key}="{value}"' for key, value in how.items())
         self.lines.append(f'{name} [label={quoted(label)}{extra}];')
         return name
@@ -65,7 +66,7 @@ class Drawing:
     def frame(self, label, position, **how):
         """Opens a frame; what is drawn up to its close stands inside."""
         if self.positions:
-            label += " " + position_text(position)
+            label += " " + at_text(position)
         extra = "".join(f' {key}="{value}";' for key, value in how.items())
         self.lines.append(f"subgraph cluster_{self.name()} {{ label={quoted(label)};{extra}")
 
@@ -74,12 +75,9 @@ class Drawing:
 
     # ---- parts
 
-    def place(self, position):
-        return self.typed.places[position]
-
     def part(self, position):
         """The nodes in which the part at a position begins and ends."""
-        tree = self.place(position).tree
+        tree = self.whole.at(position)
         word = head(tree)
         draw = getattr(self, "draw_" + NAMES[word]) if word in NAMES else self.primitive
         return draw(position, tree)
@@ -94,15 +92,15 @@ class Drawing:
     def draw_seq(self, position, _tree):
         first, last = self.inner(position, 0)
         begin, end = self.inner(position, 1)
-        self.edge(last, begin, self.place((*position, 0)).output)
+        self.edge(last, begin, self.whole.output((*position, 0)))
         return first, end
 
     def draw_first(self, position, _tree):
         begin, end = self.node("", position, shape="point", width="0.06"), self.node("", shape="point", width="0.06")
         first, last = self.inner(position, 0)
-        given = self.place(position).input
+        given = self.whole.given(position)
         self.edge(begin, first, given[1], "fst")
-        self.edge(last, end, self.place((*position, 0)).output)
+        self.edge(last, end, self.whole.output((*position, 0)))
         self.edge(begin, end, given[2], "snd", style="dotted")
         return begin, end
 
@@ -111,17 +109,17 @@ class Drawing:
         for number in range(len(children(tree))):
             first, last = self.inner(position, number)
             self.edge(begin, first)
-            self.edge(last, end, self.place((*position, number)).output, str(number))
+            self.edge(last, end, self.whole.output((*position, number)), str(number))
         return begin, end
 
     def draw_loop(self, position, tree):
         first, last = self.inner(position, 1)
         begin, end = self.node("pair", position), self.node("", shape="point", width="0.06")
         back = self.node(f"at first {short(tree[1])}", (*position, 0), fillcolor="#fff4dd")
-        inner = self.place((*position, 1))
-        self.edge(begin, first, inner.input)
-        self.edge(last, end, inner.output[1], "fst")
-        self.edge(last, back, inner.output[2], "snd", constraint="false")
+        output = self.whole.output((*position, 1))
+        self.edge(begin, first, self.whole.given((*position, 1)))
+        self.edge(last, end, output[1], "fst")
+        self.edge(last, back, output[2], "snd", constraint="false")
         self.edge(back, begin, None, constraint="false")
         return begin, end
 
@@ -130,14 +128,14 @@ class Drawing:
         constant = self.node(("first output " if word == "-->" else "first input ") + short(tree[1]), (*position, 0), fillcolor="#fff4dd")
         first, last = self.inner(position, 1)
         if word == "-->":
-            self.edge(last, constant, self.place((*position, 1)).output)
+            self.edge(last, constant, self.whole.output((*position, 1)))
             return first, constant
-        self.edge(constant, first, self.place((*position, 1)).input)
+        self.edge(constant, first, self.whole.given((*position, 1)))
         return constant, last
 
     def draw_switch(self, position, tree):
         """A frame with what runs and, behind a dashed line, what takes over."""
-        word, level = head(tree), len(self.place(position).scope.params)
+        word, (level, _) = head(tree), scope_of(self.whole.tree, position)
         begin, end = self.point(), self.point()
         self.frame(word, position)
         starts = []
@@ -145,7 +143,7 @@ class Drawing:
             if not is_network(child):
                 self.node(f"{ROLES.get((word, number), 'by')} {short(child)}", (*position, number), fillcolor="#fff4dd")
                 continue
-            last_child = number == len(child_places(tree)) - 1
+            last_child = number == len(children(tree)) - 1
             if last_child:
                 self.frame(f"from the event on, its value (p {level})", (*position, number), style="dashed")
             elif (word, number) in ROLES or word in ("pSwitch", "rpSwitchB", "kSwitch"):
@@ -160,7 +158,7 @@ class Drawing:
             watches = (word, number) in ROLES
             style = "dashed" if last_child else "dotted" if watches else "solid"
             self.edge(begin, first, None, style=style)
-            self.edge(last, end, self.place((*position, number)).output if not watches else None, "event" if watches else "", style=style)
+            self.edge(last, end, self.whole.output((*position, number)) if not watches else None, "event" if watches else "", style=style)
         return begin, end
 
 
@@ -180,10 +178,6 @@ NAMES = {
     "rpSwitchB": "switch",
 }
 ROLES = {("kSwitch", 1): "watches", ("pSwitch", 0): "routes by"}
-
-
-def position_text(position):
-    return "(" + " ".join(["at", *map(str, position)]) + ")"
 
 
 def short(tree):
@@ -213,11 +207,11 @@ def quoted(text):
     return '"' + text.replace("\\", "\\\\").replace('"', '\\"').replace("\n", "\\n") + '"'
 
 
-def svg_of(typed, types, positions):
+def svg_of(whole, types, positions):
     """The drawing as SVG."""
     if not shutil.which("dot"):
         raise Refused("graphviz is missing: install graphviz (Debian: apt-get install graphviz)", UNREADABLE)
-    text = Drawing(typed, types, positions).text()
+    text = Drawing(whole, types, positions).text()
     ran = subprocess.run(["dot", "-Tsvg"], input=text.encode(), capture_output=True, timeout=120)
     if ran.returncode:
         raise Refused("graphviz: " + ran.stderr.decode(errors="replace").split("\n")[0], UNREADABLE)
@@ -231,4 +225,4 @@ def main():
     words.add_argument("--positions", action="store_true", help="positions in the boxes")
     words.add_argument("-o", metavar="FILE", dest="to", help="writes the drawing there")
     given = words.parse_args()
-    ended("draw", lambda: write(given.to, svg_of(typed_file(given.net), given.types, given.positions)))
+    ended("draw", lambda: write(given.to, svg_of(network_of(given.net), given.types, given.positions)))

@@ -1,11 +1,9 @@
 """Explains each fault: the place in the file, what is wanted and what is found, and how to mend it."""
-import contextlib
-import os
 import sys
 
 from workbench.ending import REFUSED, Refused, Words, ended, read
 from workbench.faults import explained, unread
-from workbench.program import call, kept
+from workbench.program import again, call
 
 ABOUT = """Runs the program on the files and explains the fault that it tells, if it tells one.
 
@@ -14,7 +12,7 @@ ABOUT = """Runs the program on the files and explains the fault that it tells, i
   yampa explain SRC TGT CERT        a certificate
   yampa explain --line LINE FILE .. a fault line that was told before, of these files
 
-Where nothing is refused it says so, and the status is 0; else 1."""
+Where nothing is refused it says so, and the status is 0; else 1, or 3 where a file can't be read."""
 
 
 def roles_of(names):
@@ -45,21 +43,24 @@ def main():
 
 def explain(given):
     roles, stream_name = roles_of(given.files)
-    stream = (stream_name, read(stream_name)) if stream_name else None
-    files = {}
-    for role, name in roles.items():
-        try:
-            files[role] = (name, read(name))
-        except Refused:
-            print(unread(name).text(), end="")
-            sys.exit(REFUSED)
-    with contextlib.ExitStack() as room:
-        # A file that can be read once alone, as a pipe, stands in another one for the program.
-        names = {role: name if os.path.isfile(name) else room.enter_context(kept(data)) for role, (name, data) in files.items()}
-        line = given.line or fault_of(names, stream)
+    taken = {role: path_and_bytes(name) for role, name in roles.items()}
+    paths = {role: path for role, (path, _) in taken.items()}
+    files = {role: (roles[role], data) for role, (_, data) in taken.items()}
+    stream = (stream_name, path_and_bytes(stream_name)[1]) if stream_name else None
+    line = given.line or fault_of(paths, stream)
     if not line:
         print("nothing is refused")
         return
     print(line)
-    print(explained(line, files, stream).text(), end="")
+    print(explained(line, files, paths, stream).text(), end="")
     sys.exit(REFUSED)
+
+
+def path_and_bytes(name):
+    """A name under which the file can be read more than once, and what it holds; why it can't be read is told."""
+    try:
+        path = again(name)
+        return path, read(path)
+    except Refused as refused:
+        print(unread(name).text(), end="")
+        sys.exit(refused.status)

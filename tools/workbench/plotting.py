@@ -2,12 +2,12 @@
 import io
 
 from model.texts import read_stream, read_value
-from model.trees import shown
-from model.typed import is_form
+from model.trees import at_text, is_form, shown
 from workbench.ending import Refused, Words, ended, missing, read, write
+from workbench.outline import network_of
 from workbench.recording import columns, lines_of, types_of
 from workbench.program import again, call, kept
-from workbench.watching import file_text, typed_file, watched
+from workbench.watching import file_text, watched
 
 ABOUT = """Plots a run of NET on the stream on standard input: its inputs and its outputs over time, each part of
 a pair in a panel of its own. Numbers are steps, truth is a band, events are marks with their values,
@@ -60,14 +60,12 @@ def run_of(net, stream, at):
 
 
 def watched_signals(net, stream, position):
-    typed = typed_file(net)
-    part = watched(typed, position)
-    text = file_text(typed.input, part.net)
-    name = "(" + " ".join(["at", *map(str, position)]) + ")"
-    with kept(text) as part_file:
+    whole = network_of(net)
+    part = watched(whole, position)
+    with kept(file_text(whole.input, part.net)) as part_file:
         told = call(["run", part_file], stream)
     type_ = ("Event", part.type) if part.sometimes else part.type
-    return signals(name, type_, [read_value(line, type_) for line in lines_of(told.output)])
+    return signals(at_text(position), type_, [read_value(line, type_) for line in lines_of(told.output)])
 
 
 # ---- panels

@@ -6,9 +6,9 @@ import sys
 from decimal import Decimal, InvalidOperation
 
 from model.texts import ValueFault, read_value, step_of
-from model.trees import GREATEST, shown
-from model.typed import is_form
+from model.trees import GREATEST, is_form, shown
 from workbench.ending import Refused, Words, ended, read, write
+from workbench.outline import read_type
 from workbench.program import again, answered, call
 
 CSV = """Makes a stream of NET's input from a table, or a table from a stream.
@@ -40,22 +40,6 @@ def types_of(net):
     line = answered(["types", net]).decode().splitlines()[0]
     given, output = (read_type(part) for part in line.split(" -> "))
     return given, output
-
-
-def read_type(text):
-    """The type that is spelt so."""
-    tokens = re.findall(r"[()]|[^ ()]+", text)
-
-    def tree(at):
-        if tokens[at] != "(":
-            return tokens[at], at + 1
-        found, at = [tokens[at + 1]], at + 2
-        while tokens[at] != ")":
-            part, at = tree(at)
-            found.append(part)
-        return tuple(found), at + 1
-
-    return tree(0)[0]
 
 
 def columns(type_, name="x"):

@@ -2,18 +2,17 @@
 import html
 import re
 
-from model.trees import at, head, is_network, preorder, replaced, shown
-from model.typed import weight
+from model.trees import at_text, is_network, shown
 from workbench.drawing import svg_of as drawing_of
 from workbench.ending import Refused, Words, ended, read, write
-from workbench.faults import answer, position_text
 from workbench.laws import LAWS
 from workbench.layout import laid_out
+from workbench.outline import network_of
 from workbench.plotting import MOST_POINTS, run_of, svg_of as plot_of
 from workbench.program import again, answered, call
 from workbench.shorter import shortened
-from workbench.source import read_steps
-from workbench.watching import node_of, typed_file
+from workbench.tracing import steps_shown
+from workbench.watching import node_of
 
 ABOUT = """Writes one self-contained page on NET and its run on STREAM: the drawing, the outline with types, the
 plots; with TGT and CERT also each step of the certificate, with what stood there before and what stands
@@ -53,49 +52,33 @@ def svg_only(text):
     return text[text.index("<svg") :]
 
 
-def outline(typed):
-    """A row for each network and expression, indented by its depth."""
+def outline(whole):
+    """A row for each part as the program's outline has it, indented by its depth."""
     rows = []
-    for position, tree in preorder(typed.places[()].tree):
-        place = typed.places[position]
-        heavy = weight_at(typed, position) if is_network(tree) else ""
-        name = head(tree) if isinstance(tree, tuple) else shown(tree)
+    for position, row in whole.rows.items():
         indent = "&nbsp;" * 2 * len(position)
         rows.append(
-            f"<tr><td>{escaped(position_text(position))}</td><td class=tree>{indent}{escaped(name)}</td>"
-            f"<td class=type>{escaped(shown(place.output))}</td><td>{heavy}</td></tr>"
+            f"<tr><td>{escaped(at_text(position))}</td><td class=tree>{indent}{escaped(row.word)}</td>"
+            f"<td class=type>{escaped(shown(row.type))}</td><td>{row.weight}</td></tr>"
         )
     return "<table><tr><th>position</th><th>part</th><th>type</th><th>weight</th></tr>" + "".join(rows) + "</table>"
 
 
-def weight_at(typed, position):
-    """The weight of a part where it needs no frozen network from outside; else nothing."""
-    try:
-        return weight(typed.places[position].tree)
-    except IndexError:
-        return ""
-
-
-def steps_of(typed, data):
-    """Each step of a certificate with the tree at its position before and behind it."""
-    tree, parts = typed.places[()].tree, []
-    for number, (law, direction, position, given, _, _) in enumerate(read_steps(data), 1):
-        before = at(tree, position)
-        made = answer(law, direction, tree, position, given)
-        if made is None:
-            raise Refused(f"the certificate's step {number} doesn't match")
-        tree = replaced(tree, position, made)
-        left, right = LAWS[law]
+def steps_of(source, certificate):
+    """Each step of a certificate, with what the program shows at its place before and behind it."""
+    parts = []
+    for number, step in enumerate(steps_shown(source, certificate), 1):
+        law, direction, position = re.match(r"\(step (\w+) (\w+) (\(.*?\))", step.line).groups()
         parts.append(
-            f"<details><summary>{number}. {law} {direction} {escaped(position_text(position))}</summary>"
-            f"<p><code>{escaped(left)}</code> = <code>{escaped(right)}</code></p>"
-            f"<div class=side><pre>{escaped(laid(before))}</pre><pre>{escaped(laid(made))}</pre></div></details>"
+            f"<details><summary>{number}. {law} {direction} {escaped(position)}</summary>"
+            f"<p><code>{escaped(LAWS[law].left)}</code> = <code>{escaped(LAWS[law].right)}</code></p>"
+            f"<div class=side><pre>{escaped(laid(step.before))}</pre><pre>{escaped(laid(step.after))}</pre></div></details>"
         )
     return "".join(parts)
 
 
 def page(net, stream_name, certificate):
-    typed = typed_file(net)
+    whole = network_of(net)
     stream = read(stream_name)
     times, found, fault = run_of(net, stream, [])
     if len(times) > MOST_POINTS:
@@ -104,11 +87,11 @@ def page(net, stream_name, certificate):
     parts = [
         f"<h1>{escaped(net)}</h1>",
         f"<p>{escaped('; '.join(told))} (told by the program).</p>",
-        f"<h2>The network</h2><figure>{svg_only(drawing_of(typed, True, False))}</figure>",
-        f"<details><summary>as text</summary><pre>{escaped(laid(typed.places[()].tree))}</pre></details>",
+        f"<h2>The network</h2><figure>{svg_only(drawing_of(whole, True, False))}</figure>",
+        f"<details><summary>as text</summary><pre>{escaped(laid(whole.tree))}</pre></details>",
         f"<h2>A run on {escaped(stream_name)}</h2>",
         f"<p>{len(times)} samples{', up to ' + escaped(fault) if fault else ''}.</p><figure>{svg_only(plot_of(times, found, ''))}</figure>",
-        f"<h2>Its parts</h2><details open><summary>positions, types and weights</summary>{outline(typed)}</details>",
+        f"<h2>Its parts</h2><details open><summary>positions, types and weights</summary>{outline(whole)}</details>",
     ]
     if certificate:
         target, name = certificate
@@ -116,7 +99,7 @@ def page(net, stream_name, certificate):
         verdict = said.output.decode().strip() if not said.status else f"refused: {said.fault()}"
         parts.append(f"<h2>The certificate {escaped(name)}</h2><p>From {escaped(net)} to {escaped(target)}: the program's check says <b>{escaped(verdict)}</b>.</p>")
         if not said.status:
-            parts.append(steps_of(typed, read(name)))
+            parts.append(steps_of(net, name))
     title = re.sub(r"\s+", " ", net)
     body = "\n".join(parts)
     return f"<!DOCTYPE html>\n<html lang=en><head><meta charset=utf-8><title>{escaped(title)}</title><style>{STYLE}</style></head>\n<body>\n{body}\n</body></html>\n"

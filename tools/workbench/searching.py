@@ -3,8 +3,7 @@ import random
 import sys
 import time
 
-from model.trees import GREATEST, shown
-from model.typed import is_form
+from model.trees import GREATEST, is_form, shown
 from workbench.ending import REFUSED, Refused, Words, ended, missing, read, write
 from workbench.program import again, call
 from workbench.recording import lines_of, types_of

@@ -528,6 +528,18 @@ def read_file(name, data):
     return File(name, data, plain(input_type), node, tree, origins, reader.comments)
 
 
+def tree_of(text, sort):
+    """The tree that a text spells, in core forms."""
+    node = Reader(text.encode()).tree(sort)
+    return plain(node) if sort == "T" else core(node)[0]
+
+
+def read_part(text):
+    """The network or the expression in core forms that is spelt so."""
+    word = re.match(r"\(?([^ ()]*)", text).group(1)
+    return tree_of(text, "N" if word in NETWORK_FORMS or word in NETWORK_WORDS else "E")
+
+
 def read_steps(data):
     """The steps of a certificate's file, each with its bytes, or the first word that doesn't fit."""
     if len(data) > FILE_BYTES:

@@ -2,13 +2,12 @@
 import re
 
 from model.texts import network_text
-from model.trees import at, child_places, children, expanded, head, is_network, part_at
-from model.typed import check_types
-from workbench.ending import Refused, Words, ended, read, write
+from model.trees import at, at_text, child_places, children, expanded, head, is_network, part_at, with_part
+from workbench.ending import Refused, Words, ended, write
 from workbench.layout import laid_out
-from workbench.program import again, answered
+from workbench.outline import network_of, scope_of
 from workbench.shorter import shortened
-from workbench.source import Node, SyntaxFault, place, read_file
+from workbench.source import Node
 
 ABOUT = """Prints the network whose output is what a part of NET outputs, so that `yampa run` and `yampa plot` show
 signals inside. The part is named by its position, as certificates do: `--at 0 1` is the second child of
@@ -20,8 +19,6 @@ the first child.
 Where the part doesn't run at each sample (it stands in a switch), the output is an event of what it
 outputs while it runs. It can't be done of parts of a pSwitch, of an rpSwitchB, of what watches a
 kSwitch, nor of expressions."""
-
-
 
 
 def arr(e):
@@ -48,63 +45,57 @@ class Watch:
         return self if self.sometimes else Watch(seq(self.net, arr(("event", "x"))), self.type, True)
 
 
-def watched(typed, position, at_position=()):
-    """What the part at a position below `at_position` outputs, as a network with the input of what stands there."""
-    place_here = typed.places[at_position]
-    tree = place_here.tree
+def watched(whole, position, here=()):
+    """What the part at a position below `here` outputs, as a network with the input of what stands there."""
+    tree = whole.at(here)
     if not position:
-        return Watch(tree, place_here.output)
+        return Watch(tree, whole.output(here))
     number, rest = position[0], position[1:]
     if number >= len(children(tree)):
-        raise Refused(f"{text(at_position + position)}: nothing stands there: {text(at_position)} has {len(children(tree))} parts")
-    child = at(tree, (number,))
-    if not is_network(child):
-        raise Refused(f"{text(at_position + (number,))}: an expression stands there, and only networks can be watched")
+        raise Refused(f"{at_text(here + position)}: nothing stands there: {at_text(here)} has {len(children(tree))} parts")
+    if not is_network(at(tree, (number,))):
+        raise Refused(f"{at_text((*here, number))}: an expression stands there, and only networks can be watched")
     word = head(tree)
     if word not in WAYS or (word, number) in REFUSED:
-        raise Refused(f"{text(at_position + (number,))}: a part of {word} can't be watched")
-    inner = watched(typed, rest, (*at_position, number))
-    return WAYS[word](typed, at_position, number, inner)
+        raise Refused(f"{at_text((*here, number))}: a part of {word} can't be watched")
+    inner = watched(whole, rest, (*here, number))
+    return WAYS[word](whole, here, number, inner)
 
 
 REFUSED = {("kSwitch", 1)}
 
 
-def text(position):
-    return "(" + " ".join(["at", *map(str, position)]) + ")"
-
-
-def in_seq(typed, here, number, inner):
-    _, f, _ = typed.places[here].tree
+def in_seq(whole, here, number, inner):
+    _, f, _ = whole.at(here)
     return Watch(inner.net if number == 0 else seq(f, inner.net), inner.type, inner.sometimes)
 
 
-def in_first(_typed, _here, _number, inner):
+def in_first(_whole, _here, _number, inner):
     return Watch(seq(arr(("fst", "x")), inner.net), inner.type, inner.sometimes)
 
 
-def in_member(_typed, _here, _number, inner):
+def in_member(_whole, _here, _number, inner):
     return inner
 
 
-def in_loop(typed, here, _number, inner):
+def in_loop(whole, here, _number, inner):
     """The part and the loop's network run side by side, and the second one is fed back."""
-    _, c, f = typed.places[here].tree
+    _, c, f = whole.at(here)
     both = seq(fan(inner.net, f), arr(("pair", ("fst", "x"), ("snd", ("snd", "x")))))
     return Watch(("loopPre", c, both), inner.type, inner.sometimes)
 
 
-def in_first_output(_typed, _here, _number, inner):
+def in_first_output(_whole, _here, _number, inner):
     return inner
 
 
-def in_first_input(typed, here, _number, inner):
-    return Watch((">--", typed.places[here].tree[1], inner.net), inner.type, inner.sometimes)
+def in_first_input(whole, here, _number, inner):
+    return Watch((">--", whole.at(here)[1], inner.net), inner.type, inner.sometimes)
 
 
-def in_switch(typed, here, number, inner):
+def in_switch(whole, here, number, inner):
     """Up to the event the first network runs, at its sample too; from there on the second one."""
-    word, f, _ = typed.places[here].tree
+    word, f, _ = whole.at(here)
     inner = inner.as_events()
     if number == 0:
         both = seq(fan(inner.net, f), arr(("pair", ("fst", "x"), ("snd", ("snd", "x")))))
@@ -117,17 +108,17 @@ def never(type_):
     return arr(("none", type_))
 
 
-def in_restart(typed, here, number, inner):
+def in_restart(whole, here, number, inner):
     inner = inner.as_events()
     parts = (inner.net, never(inner.type)) if number == 0 else (never(inner.type), inner.net)
     return Watch(("rSwitch", *parts), inner.type, True)
 
 
-def in_freezing(typed, here, number, inner):
+def in_freezing(whole, here, number, inner):
     """What is frozen outputs a pair of what is watched and of its own output; what resumes it takes the second."""
-    tree = typed.places[here].tree
+    tree = whole.at(here)
     _, f, e, t = tree
-    level = len(typed.places[here].scope.olds)
+    level = len(scope_of(whole.tree, here)[1])
     inner = inner.as_events()
     mine = inner.net if number == 0 else never(inner.type)
     theirs = with_second(inner.net, level) if number == 2 else never(inner.type)
@@ -143,14 +134,8 @@ def with_second(tree, level):
     for place_of in child_places(tree):
         part = part_at(tree, place_of)
         if is_network(part):
-            tree = replaced_at(tree, place_of, with_second(part, level))
+            tree = with_part(tree, place_of, with_second(part, level))
     return tree
-
-
-def replaced_at(tree, place_of, part):
-    index = place_of[0]
-    inner = part if len(place_of) == 1 else replaced_at(tree[index], place_of[1:], part)
-    return tree[:index] + (inner,) + tree[index + 1 :]
 
 
 WAYS = {
@@ -165,19 +150,6 @@ WAYS = {
     "rSwitch": in_restart,
     "kSwitch": in_freezing,
 }
-
-
-def typed_file(name):
-    """The typed network of a file that the program accepts."""
-    name = again(name)
-    data = read(name)
-    answered(["types", name])
-    try:
-        file = read_file(name, data)
-    except SyntaxFault as fault:
-        line, column = place(data, fault.at)
-        raise Refused(f"{name}:{line}:{column}: {fault}") from None
-    return check_types(file.input, file.tree)
 
 
 def node_of(tree):
@@ -204,8 +176,8 @@ def main():
         words.error("a position is made of numbers: --at 0 1")
 
     def work():
-        typed = typed_file(given.net)
-        found = watched(typed, tuple(map(int, position)))
-        write(given.to, file_text(typed.input, found.net))
+        whole = network_of(given.net)
+        found = watched(whole, tuple(map(int, position)))
+        write(given.to, file_text(whole.input, found.net))
 
     ended("watch", work)
