@@ -39,7 +39,8 @@ def text_of(name):
 
 
 def write(name, text):
-    """Writes the text, or the bytes, beside the file, and then puts it in its place; to standard output where no name is given."""
+    """Writes the text, or the bytes, beside the file, and then puts it in its place; at once to a device or a pipe, and to standard
+    output where no name is given."""
     data = text.encode() if isinstance(text, str) else text
     if name is None:
         sys.stdout.buffer.write(data)
@@ -47,6 +48,10 @@ def write(name, text):
         return
     path = Path(name)
     try:
+        if path.exists() and not path.is_file():
+            path.write_bytes(data)
+            return
+        path = path.resolve()
         handle, beside = tempfile.mkstemp(dir=path.parent, prefix=f".{path.name}.")
         try:
             with os.fdopen(handle, "wb") as file:

@@ -17,8 +17,9 @@ the first child.
   yampa run PART < STREAM
 
 Where the part doesn't run at each sample (it stands in a switch), the output is an event of what it
-outputs while it runs. It can't be done of parts of a pSwitch, of an rpSwitchB, of what watches a
-kSwitch, nor of expressions."""
+outputs while it runs, where it was started several times of what was started last; not of what a
+kSwitch has frozen and resumed. Parts of a pSwitch, of an rpSwitchB, of what watches a kSwitch, and
+expressions can't be watched."""
 
 
 def arr(e):
@@ -57,7 +58,7 @@ def watched(whole, position, here=()):
         raise Refused(f"{at_text((*here, number))}: an expression stands there, and only networks can be watched")
     word = head(tree)
     if word not in WAYS or (word, number) in REFUSED:
-        raise Refused(f"{at_text((*here, number))}: a part of {word} can't be watched")
+        raise Refused(f"{at_text((*here, number))}: this part of a {word} can't be watched")
     inner = watched(whole, rest, (*here, number))
     return WAYS[word](whole, here, number, inner)
 
@@ -109,9 +110,11 @@ def never(type_):
 
 
 def in_restart(whole, here, number, inner):
+    """Up to the first event the first network runs, in a `drSwitch` at its sample too; then the one that was started last."""
+    word, _, _ = whole.at(here)
     inner = inner.as_events()
-    parts = (inner.net, never(inner.type)) if number == 0 else (never(inner.type), inner.net)
-    return Watch(("rSwitch", *parts), inner.type, True)
+    net = (word, inner.net, never(inner.type)) if number == 0 else ("rSwitch", never(inner.type), inner.net)
+    return Watch(net, inner.type, True)
 
 
 def in_freezing(whole, here, number, inner):
@@ -148,6 +151,7 @@ WAYS = {
     "switch": in_switch,
     "dSwitch": in_switch,
     "rSwitch": in_restart,
+    "drSwitch": in_restart,
     "kSwitch": in_freezing,
 }
 
