@@ -44,6 +44,9 @@ def escaped(text):
 
 
 def laid(tree):
+    """The lines of a tree; none where nothing is told of it."""
+    if tree is None:
+        return ""
     return "\n".join(laid_out(node_of(shortened(tree) if is_network(tree) else tree)))
 
 
@@ -65,7 +68,7 @@ def outline(whole):
 
 
 def steps_of(source, certificate):
-    """Each step of a certificate, with what the program shows at its place before and behind it."""
+    """Each step of a certificate up to one that is refused, with what the program shows at its place before and behind it."""
     parts = []
     for number, step in enumerate(steps_shown(source, certificate), 1):
         law, direction, position = re.match(r"\(step (\w+) (\w+) (\(.*?\))", step.line).groups()
@@ -98,8 +101,7 @@ def page(net, stream_name, certificate):
         said = call(["check", net, target, name])
         verdict = said.output.decode().strip() if not said.status else f"refused: {said.fault()}"
         parts.append(f"<h2>The certificate {escaped(name)}</h2><p>From {escaped(net)} to {escaped(target)}: the program's check says <b>{escaped(verdict)}</b>.</p>")
-        if not said.status:
-            parts.append(steps_of(net, name))
+        parts.append(steps_of(net, name))
     title = re.sub(r"\s+", " ", net)
     body = "\n".join(parts)
     return f"<!DOCTYPE html>\n<html lang=en><head><meta charset=utf-8><title>{escaped(title)}</title><style>{STYLE}</style></head>\n<body>\n{body}\n</body></html>\n"
