@@ -14,31 +14,35 @@ from workbench.program import call, kept
 MEMBERS = 64
 
 
-def asked(file, questions):
+def asked(file, questions, base=()):
     """The type that the program tells for each question, a position and the part that stands there in its place, up to the first
-    part that it refuses; or None where it tells nothing, since the file that it is asked with is over a limit."""
+    part that it refuses; or None where it tells nothing, since the file that it is asked with is over a limit. All positions are
+    that of the base, or below it."""
     if not questions:
         return []
-    nets, places = zip(*[cut(file.tree, position, part) for position, part in questions])
+    nets, places = zip(*[cut(at(file.tree, base), position[len(base) :], part) for position, part in questions])
     groups = [members(nets[start : start + MEMBERS]) for start in range(0, len(nets), MEMBERS)]
-    with kept(network_text(file.input, members(groups))) as name:
+    net, before = cut(file.tree, base, members(groups))
+    with kept(network_text(file.input, net)) as name:
         told = call(["outline", name])
     if told.status:
-        number = refused_number(told.fault())
-        return None if number is None else asked(file, questions[:number])
+        number = refused_number(told.fault(), before)
+        return None if number is None else asked(file, questions[:number], base)
     rows = rows_of(told.output)
-    return [rows[(number // MEMBERS, 0, number % MEMBERS, 0, *place)].type for number, place in enumerate(places)]
+    return [rows[(*before, number // MEMBERS, 0, number % MEMBERS, 0, *place)].type for number, place in enumerate(places)]
 
 
-def refused_number(fault):
+def refused_number(fault, before):
     """The number of the question whose part is refused; none where a limit is: that may be for what was put around the part."""
-    found = re.search(r"\(at (\d+) 0 (\d+) 0", fault)
-    return int(found.group(1)) * MEMBERS + int(found.group(2)) if found and "deep" not in fault else None
+    found = re.search(r"\(at([ \d]*)\)", fault)
+    position = tuple(map(int, found.group(1).split())) if found and "deep" not in fault else ()
+    inside = position[len(before) :]
+    return inside[0] * MEMBERS + inside[2] if position[: len(before)] == before and len(inside) > 3 else None
 
 
-def told_of(file, questions):
+def told_of(file, questions, base):
     """The same of questions that have names: the types by name."""
-    types = asked(file, list(questions.values()))
+    types = asked(file, list(questions.values()), base)
     return None if types is None else dict(zip(questions, types))
 
 
