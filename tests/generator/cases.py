@@ -2,13 +2,26 @@
 import random
 
 from generator.breaking import Breaker
-from generator.holding import Command, Find
+from generator.holding import Command, Find, typed_of
 from model.laws import taken
 from generator.limits import Limits
 from generator.making import FORM_WEIGHTS, Maker
 from generator.steps import StepMaker, reversed_steps
-from model.texts import LAWS, NEW_LAWS, Step, certificate_text, network_text
-from model.trees import NEW_FORMS, SUGAR_WORDS, child_places, expanded, head, is_network, preorder, shown
+from generator.viewing import difference_text
+from model.texts import FILE_BYTES, LAWS, NEW_LAWS, Step, TextFault, certificate_text, network_text, read_network
+from model.trees import (
+    NEW_FORMS,
+    SUGAR_WORDS,
+    at_text,
+    child_places,
+    difference,
+    expanded,
+    head,
+    is_network,
+    preorder,
+    replaced,
+    shown,
+)
 from model.typed import WEIGHT, Scope, check_types, weight
 
 
@@ -32,10 +45,11 @@ class Case:
             getattr(self, kind)()
 
     def next_of(self, kind, words):
-        """The words in turn over the cases of a kind, so that in few cases none is left out."""
+        """The words in turn over the cases of a kind, those of version 2 from the middle on, so that in few cases none is left out."""
         words = [word for word in words if self.version == 2 or word not in NEW_FORMS + NEW_LAWS]
         rounds, rest = divmod(self.number, len(KINDS))
-        return words[(rounds // 2 * KINDS.count(kind) + KINDS[:rest].count(kind)) % len(words)]
+        first = 0 if self.version == 1 else len(words) // 2
+        return words[(first + rounds // 2 * KINDS.count(kind) + KINDS[:rest].count(kind)) % len(words)]
 
     # ---- parts
 
@@ -121,6 +135,7 @@ class Case:
         """A law at a random place, and a row of steps from there; then all the way back."""
         law = self.next_of("certified", LAW_WORDS)
         source, position = self.steps.with_left_side(self.surroundings(), law)
+        self.possible(source, position)
         step = Step(law, "forward", position)
         target = taken(source, step)
         steps, typeds = self.steps.walk(target, self.rng.choice([0, 0, 1, 2, 5]))
@@ -254,6 +269,73 @@ class Case:
         """The improved network, and its certificate."""
         self.rewritten("improve", *self.with_law())
 
+    def viewed(self):
+        """What stands where, and the steps that may be taken: all, and those from a place on."""
+        made, typed = self.with_law()
+        text = self.maker.spaced(network_text(typed.input, made))
+        self.hold("outline", text)
+        self.hold("laws", text)
+        self.possible(typed, self.rng.choice([*typed.places, (9,)]))
+
+    def possible(self, typed, position):
+        """The steps that may be taken from a position on."""
+        self.hold(f"laws --at '{at_text(position)}'", text_of(typed))
+
+    def joined(self):
+        """A certificate between two networks that steps lead between, and between two that mostly do something else."""
+        _, typed = self.with_law()
+        way = self.rng.choice(["steps", "steps", "optimise", "improve"])
+        pair = [text_of(typed), self.led(typed, way)]
+        self.rng.shuffle(pair)
+        self.between(way, *pair, self.stream(typed))
+        self.between("another", pair[0], self.another(typed_of(pair[1])), self.stream(typed))
+
+    def led(self, typed, way):
+        """A network that steps lead to, random ones or those of a command."""
+        if way != "steps":
+            return self.hold(way, text_of(typed)).output
+        return text_of(self.steps.walk(typed, self.rng.choice([1, 3, 9]))[1][-1])
+
+    def another(self, typed):
+        """The network with another number in it, or one of another input type."""
+        net = typed.places[()].tree
+        numbers = [position for position, tree in preorder(net) if isinstance(tree, int)]
+        if not numbers or self.maker.chance(0.1):
+            return text_of(self.network(1)[1])
+        position = self.rng.choice(numbers)
+        return network_text(typed.input, replaced(net, position, self.rng.randint(-3, 9))).encode()
+
+    def between(self, way, source, target, stream):
+        """What `certify` finds is accepted, and both do the same; else it tells where their normal forms differ."""
+        told = self.hold("certify", source, target)
+        self.tally["certificates", f"{way}: {told.error.decode().strip() or 'found'}"] += 1
+        files = [source, target, told.output]
+        if not told.status and len(told.output) <= FILE_BYTES:
+            self.accepted(self.program.run(Command("check", files)), files, told.output.count(b"(step "))
+            self.same(files, stream)
+        elif told.error == b"certificate: none found\n":
+            self.told_apart(told, files[:2], stream)
+
+    def told_apart(self, told, files, stream):
+        """The first position at which the normal forms differ is told, with what each has there; nothing where they are one."""
+        found = difference(*[self.normal_form(text, stream) for text in files])
+        wanted = difference_text(*found).encode() if found else b""
+        if told.output != wanted:
+            raise Find(Command("certify", files), "the normal forms differ elsewhere", told, wanted)
+
+    def normal_form(self, text, stream):
+        """The normal form of a network, which does what the network does: all of it is told where the target is `time`."""
+        given = typed_of(text).input
+        told = self.program.run(Command("certify", [text, network_text(given, "time").encode()]))
+        net = whole_of(told.output) if told.status else "time"
+        if net is None:
+            raise Find(Command("certify", [text]), "a normal form other than `time` isn't told", told)
+        form = network_text(given, net).encode()
+        outputs = [self.program.run(Command("run", [file], stream)) for file in (text, form)]
+        if outputs[0] != outputs[1]:
+            raise Find(Command("run", [text, form], stream), "the normal form writes other bytes", *outputs[::-1])
+        return net
+
     def ill_typed(self):
         """Networks with a part that may not fit."""
         _, typed = self.network()
@@ -268,13 +350,15 @@ class Case:
         text = self.maker.spaced(network_text(typed.input, made))
         self.hold("types", self.breaker.broken(text))
         self.hold("run", text, stream=self.breaker.broken(self.stream(typed)))
-        self.hold(self.rng.choice(["run", "types", "optimise"]), self.breaker.broken(text), stream=self.stream(typed))
+        command = self.rng.choice(["run", "types", "optimise", "outline", "laws"])
+        self.hold(command, self.breaker.broken(text), stream=self.stream(typed))
         steps, typeds = self.steps.walk(typed, 3)
         files = [text_of(typeds[0]), text_of(typeds[-1]), self.maker.spaced(certificate_text(steps))]
         at = self.rng.choice([0, 1, 2, 2, 2, 2])
         files[at] = self.breaker.broken(files[at])
         self.hold(self.rng.choice(["check", "run-checked"]), *files, stream=self.stream(typed))
         self.hold("apply", files[0], files[2])
+        self.hold("certify", *files[:2])
         if self.maker.chance(0.1):
             self.large(text, files)
 
@@ -305,7 +389,8 @@ class Case:
         files[self.rng.randrange(3)] = None
         self.hold(self.rng.choice(["check", "run-checked"]), *files)
         self.hold(self.rng.choice(["apply", "apply --steps"]), *files[:2])
-        self.hold(self.rng.choice(["types", "run"]), None)
+        self.hold(self.rng.choice(["types", "run", "outline", "laws"]), None)
+        self.hold("certify", *self.rng.choice([[text, None], [None, text]]))
 
 
 WRONG_WORDS = [
@@ -325,15 +410,24 @@ WRONG_WORDS = [
     ["apply", "first"],
     ["improve"],
     ["apply", "--first", "x", "first", "second"],
+    ["outline"],
+    ["outline", "first", "second"],
+    ["laws", "--at", "first"],
+    ["laws", "--at", "0", "first"],
+    ["laws", "--at", "(at 0", "first"],
+    ["laws", "--at", "(at 65536)", "first"],
+    ["certify", "first"],
+    ["certify", "first", "second", "third"],
     ["optimise", "--certificates", "first"],
     ["types", "-x", "first"],
     [b"types", b"\xff"],
     [b"\xfe"],
 ]
 FORM_WORDS = [word for word in FORM_WEIGHTS if word != "old"] + ["kSwitch", "pSwitch", "rpSwitchB"] * 3
-LAW_WORDS = [*NEW_LAWS, *LAWS, "L38", "L38"]
+LAW_WORDS = [*LAWS, "L38", "L38"]
 SWITCHES = ["switch", "dSwitch", "rSwitch", "kSwitch", "pSwitch", "drSwitch", "rpSwitchB"]
-KINDS = "ran certified hostile ran certified optimised ill_typed certified improved".split() * 4 + ["limits", "worded"]
+OFTEN = "ran certified hostile viewed ran certified optimised ill_typed certified".split()
+KINDS = [*OFTEN, "joined", *OFTEN, "improved"] * 2 + ["limits", "worded"]
 
 
 def words_of(tree):
@@ -360,3 +454,15 @@ def place_of(typed, position):
 
 def text_of(typed):
     return network_text(typed.input, typed.places[()].tree).encode()
+
+
+def whole_of(output):
+    """The network that is told as what the first of two normal forms has at its root, or None."""
+    lines = output.split(b"\n")
+    if len(lines) != 4 or lines[0] != b"(at)" or not lines[1].startswith(b"- "):
+        return None
+    try:
+        _, net = read_network(b"yampa 2 input Int " + lines[1][2:])
+    except TextFault:
+        return None
+    return net if shown(net).encode() == lines[1][2:] else None

@@ -1,5 +1,6 @@
 """What the program must tell of files and a stream by the model, and whether it does."""
 import os
+import shlex
 import signal
 import subprocess
 import tempfile
@@ -9,10 +10,11 @@ from dataclasses import dataclass, field
 from functools import lru_cache
 from pathlib import Path
 
+from generator.viewing import outline_lines, possible_lines, possible_steps
 from model.laws import StepFault, applied, checked, optimised, traced
 from model.meaning import Environment, Model, TooSlow
 from model.texts import TextFault, certificate_text, network_text, read_certificate, read_network, read_stream, trace_text
-from model.trees import children, is_network, shown
+from model.trees import at_text, children, is_network, shown
 from model.typed import TypeFault, check_types
 
 ROLES = {
@@ -23,9 +25,10 @@ ROLES = {
     "run-checked": ["source", "target", "certificate"],
     "apply": ["source", "certificate"],
     "improve": ["network"],
+    "outline": ["network"],
+    "laws": ["network"],
+    "certify": ["source", "target"],
 }
-# What these find is a search's choice, which the model doesn't know.
-SEARCHES = ["improve"]
 MEMORY = Path("/dev/shm")
 FILES = ["first", "second", "third"]
 ABSENT = "absent"
@@ -50,6 +53,10 @@ class Command:
     files: list
     stream: bytes = b""
     pieces: list = field(default_factory=list)
+
+    def words(self):
+        """The command and its flags."""
+        return shlex.split(self.command)
 
 
 class Find(Exception):
@@ -86,7 +93,7 @@ def fault_kind(line):
 def read_files(command):
     """What the files hold, each with its text before its types."""
     found = []
-    for role, text in zip(ROLES[command.command.split()[0]], command.files):
+    for role, text in zip(ROLES[command.words()[0]], command.files):
         if text is None:
             raise Refused(f"{role}: cannot be read")
         try:
@@ -123,27 +130,54 @@ def run_of(text, stream):
 
 
 def printed(command, files, tally):
-    word = command.command
-    if word.split()[0] in SEARCHES:
-        return None
-    if word == "types":
-        net = files[0]
-        lines = f"{shown(net.input)} -> {shown(net.output)}\nweight {net.weight}\nheight {net.height}\n"
-        return Told(lines.encode())
+    word, *flags = command.words()
+    if word in SEARCHES:
+        return searched(files)
+    if word in VIEWS:
+        return Told(VIEWS[word](files[0], flags, tally).encode())
+    if word == "optimise" and flags:
+        return Told(certificate_text(counted(optimised_of(command.files[0])[1], tally)).encode())
     if word == "optimise":
         net, _ = optimised_of(command.files[0])
         return Told(network_text(net.input, net.places[()].tree).encode())
-    if word == "optimise --certificate":
-        return Told(certificate_text(counted(optimised_of(command.files[0])[1], tally)).encode())
     if word == "run":
         return ran(command.files[0], command.stream, tally)
-    if word.split()[0] == "apply":
-        return applied_text(word.split()[1:], *files)
+    if word == "apply":
+        return applied_text(flags, *files)
     try:
         count = checked(*files)
     except StepFault as fault:
         raise Refused(f"certificate: {fault}") from None
     return Told(f"accepted {count}\n".encode()) if word == "check" else ran(command.files[1], command.stream, tally)
+
+
+def searched(files):
+    """Nothing, since the model doesn't know what a search finds; two networks must have one input type."""
+    if any(net.input != files[0].input for net in files):
+        raise Refused("certificate: inputs differ")
+
+
+def types_text(net, _flags, _tally):
+    return f"{shown(net.input)} -> {shown(net.output)}\nweight {net.weight}\nheight {net.height}\n"
+
+
+def outline_text(net, _flags, _tally):
+    return "".join(outline_lines(net))
+
+
+def laws_text(net, flags, tally):
+    """The steps that can be taken from the place that the flags name on."""
+    top = tuple(map(int, flags[1].strip("(at )").split())) if flags else ()
+    if top not in net.places:
+        raise Refused(f"network: no position {at_text(top)}")
+    found = list(possible_steps(net, top))
+    for step, _ in found:
+        tally["laws listed", step.law] += 1
+    return "".join(possible_lines(found))
+
+
+SEARCHES = ["improve", "certify"]
+VIEWS = {"types": types_text, "outline": outline_text, "laws": laws_text}
 
 
 def applied_text(flags, source, steps):
@@ -222,7 +256,7 @@ class Program:
             names.append(ABSENT if text is None else name)
             if text is not None:
                 self.slots[name].hold(text)
-        return self.start(command.command.split() + names, command)
+        return self.start(command.words() + names, command)
 
     def start(self, words, command):
         """Starts the program with these words; what it prints goes to files, so that it never waits for its reader."""
@@ -258,7 +292,7 @@ class Program:
             return told
         if wanted is not None and told != wanted:
             raise Find(command, "the model says something else", told, wanted)
-        self.tally["commands", " ".join(word for word in command.command.split() if not word.isdigit())] += 1
+        self.tally["commands", " ".join(word for word in command.words() if word[0] not in "(0123456789")] += 1
         return told
 
 

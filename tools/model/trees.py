@@ -186,6 +186,25 @@ def preorder(tree, position=()):
         yield from preorder(child, (*position, number))
 
 
+def difference(left, right, position=()):
+    """The first position in preorder at which two trees have other nodes, with what each has there; None where they are one."""
+    if left == right:
+        return None
+    if node(left) != node(right):
+        return position, left, right
+    for number, parts in enumerate(zip(children(left), children(right))):
+        found = difference(*parts, (*position, number))
+        if found:
+            return found
+
+
+def node(tree):
+    """A tree with nothing in the place of its children: its word, and the numbers and types in it."""
+    for place in child_places(tree):
+        tree = with_part(tree, place, None)
+    return tree
+
+
 # ---- sugar
 
 

@@ -434,11 +434,13 @@ NODES = {
 
 
 def measure(net, node, olds=()):
-    """The weight or the height of a network: `node` joins the measures of the child networks of one, of this word."""
+    """The weight or the height of a network: `node` joins the measures of the child networks of one, of this word.
+
+    A frozen network that isn't in `olds`, as in a part that stands alone, counts nothing."""
     word = head(net)
     match net:
         case ("old", level):
-            return node(word, [olds[level]])
+            return node(word, [olds[level] if level < len(olds) else 0])
         case ("kSwitch", f, e, t):
             frozen = measure(f, node, olds)
             return node(word, [frozen, measure(e, node, olds), measure(t, node, (*olds, frozen))])
@@ -464,6 +466,7 @@ def height(net):
     return measure(net, lambda _word, parts: 1 + max(parts, default=0))
 
 
+@lru_cache(maxsize=64)
 def check_types(input_type, net):
     """The typed network, or a TypeFault."""
     walk = NetworkWalk()

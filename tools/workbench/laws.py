@@ -2,7 +2,7 @@
 import re
 from dataclasses import dataclass
 
-from model.trees import child_places, children, head, is_form, part_at
+from model.trees import child_places, children, is_form, part_at
 from workbench.names import TreeReader
 from workbench.program import TOP
 from workbench.source import plain
@@ -61,16 +61,3 @@ def unlike_form(pattern, tree, letters, position):
         if found:
             return found
     return None
-
-
-def difference(left, right, position=()):
-    """The first position in preorder at which two trees differ, with what each has there."""
-    if left == right:
-        return None
-    ours, theirs = children(left), children(right)
-    if head(left) == head(right) and len(ours) == len(theirs):
-        for number, (mine, other) in enumerate(zip(ours, theirs)):
-            found = difference(mine, other, (*position, number))
-            if found:
-                return found
-    return position, left, right

@@ -1,8 +1,8 @@
 """Why a certificate is refused: the step, what stands at its place, the law, and the first difference."""
 import re
 
-from model.trees import at, at_text, children, is_network, shown
-from workbench.laws import LAWS, difference, unlike
+from model.trees import at, at_text, children, difference, is_network, shown
+from workbench.laws import LAWS, unlike
 from workbench.program import answered
 from workbench.source import core, read_file, read_steps
 from workbench.telling import Told, short
