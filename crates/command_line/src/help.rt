@@ -16,9 +16,9 @@ pub const PROGRAM: &str = "Checks and runs networks of signal functions.";
 
 /// The program's version, the language's, and what both are proved with.
 pub const VERSION: &str = "\
-2.0
+2.1
 language 2, and 1
-proved with rattle-kit-13b, logic dac8208d650f15bf";
+proved with rattle-kit-13f, logic dac8208d650f15bf";
 
 /// What help on the program ends with.
 pub const PROGRAM_MORE: &str = "\
@@ -41,7 +41,8 @@ sample late:
 
 Exit status:
   0  all is done
-  1  a file or the stream is refused, or the network has over 4,096 different expressions
+  1  a file, a step or the stream is refused, no certificate is found, there is no position P, or
+     the network has over 4,096 different expressions
   2  the words of the command line are wrong
   3  something can't be read or written, or memory is short
 Where it isn't 0, standard error says why.";
@@ -287,10 +288,10 @@ pub const CERTIFY: Told<'static> = Told {
     does: "Looks for a certificate that leads from one network to another",
     more: "\
 It rewrites both networks to a normal form. Where that is one, it prints the steps of SRC, and then
-those of TGT undone: within the limits of files, `yampa check` accepts them from SRC to TGT, so both
-output the same on every stream. Else it prints the first position at which the two normal forms
-differ, `- ` and what that of SRC has there, and `+ ` and what that of TGT has; they may output the
-same nevertheless. No stream is read. docs/LAWS.md has the laws.
+those of TGT undone, at most 10,000: within the limits of files, `yampa check` accepts them from SRC
+to TGT, so both output the same on every stream. Where the normal forms differ, it prints the first
+position at which they do, `- ` and what that of SRC has there, and `+ ` and what that of TGT has;
+both may output the same nevertheless. No stream is read. docs/LAWS.md has the laws.
 
 Example: where the file `source` holds `yampa 1 input Int (>>> (arr (add x 1)) (arr (mul x 2)))`,
 and the file `target` holds `yampa 1 input Int (arr (then (add x 1) (mul x 2)))`,

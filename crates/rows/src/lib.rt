@@ -1,4 +1,13 @@
 //! Worked rows: tests that cross crates.
+//!
+//!     yampa types net | ‹increment› => Int -> Int␤weight 3␤height 2␤
+//!
+//! A row is what is given, `=>`, and what must be told of it, worked out by hand. A file has the
+//! tables of one topic, and what tells; a `Probe` names it. Texts stand in a short form (`texts`),
+//! in which ‹NAME› is a text of `named` and ␤ a line feed. What begins with `scant` leaves the
+//! calls little memory, or none.
+//!
+//! First `src/found.rt`, the one way to try a row, then `src/runs.rt`.
 #![tactic(auto)]
 
 #[cfg(test)]
