@@ -22,7 +22,8 @@ use Rattle.net_opt.specs.Laws.{DerivesLaw, OneOptimisedLaw}
 use Rattle.net_opt.specs.Optimising.{IsTried, MayTake, Optimised, expression_laws, network_laws}
 use Rattle.command_line.specs.CommandLine.{DerivationNames}
 use Rattle.yampa_run.specs.OptimisedFiles.{DerivesOptimised, FitFiles, OptimisedFilesLaw}
-use Rattle.yampa_run.specs.Preparation.{AreStepsOf, IsNetworkIn, IsNetworkOf, IsTold, KnownFiles}
+use Rattle.command_line.specs.declared.command.Wanted.TheVariants as W
+use Rattle.yampa_run.specs.Preparation.{AreStepsOf, IsNetworkIn, IsNetworkOf, IsTold, KnownFiles, PrintsMade}
 use Rattle.yampa_run.proofs.Refusals.{one_of_file}
 
 -- a test that each number of a list passes is passed by one that stands in it
@@ -104,11 +105,11 @@ pub optimised_files : PrintedFileLaw → PrintedCertificateLaw → DerivesLaw �
 optimised_files nets certificates derives one told names held fit =
     let a = held.target in
     let b = held.certificate in
-    let source : a.source ≡ b.source = one_of_file (told names.source) a.source b.source held.source_told a.network b.network in
-    let other : Optimised a.source b.prints.net b.prints.steps =
-    subst (λ t. Optimised t b.prints.net b.prints.steps) (sym source) b.prints.optimised in
-    let same : (a.prints.net ≡ b.prints.net) × (a.prints.steps ≡ b.prints.steps) =
-    one a.source a.prints.net b.prints.net a.prints.steps b.prints.steps a.prints.optimised other in
-    derives_files nets certificates derives told names a.source a.prints.net b.prints.steps a.network
-    (typed_of (told names.source) a.source held.source_told a.network) (subst (λ ss. Optimised a.source a.prints.net ss) same.1 a.prints.optimised)
-    (held.target_told ∙ ap Some a.prints.printed) (held.certificate_told ∙ ap Some b.prints.printed) fit
+    let x : PrintsMade Optimised a.net W.Network held.target_file = a.tells in
+    let y : PrintsMade Optimised b.net W.Certificate held.certificate_file = b.tells in
+    let source : a.net ≡ b.net = one_of_file (told names.source) a.net b.net held.source_told a.network b.network in
+    let other : Optimised a.net y.net y.steps = subst (λ t. Optimised t y.net y.steps) (sym source) y.made in
+    let same : (x.net ≡ y.net) × (x.steps ≡ y.steps) = one a.net x.net y.net x.steps y.steps x.made other in
+    derives_files nets certificates derives told names a.net x.net y.steps a.network
+    (typed_of (told names.source) a.net held.source_told a.network) (subst (λ ss. Optimised a.net x.net ss) same.1 x.made)
+    (held.target_told ∙ ap Some x.printed) (held.certificate_told ∙ ap Some y.printed) fit

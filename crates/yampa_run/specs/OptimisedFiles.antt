@@ -13,7 +13,8 @@ use Rattle.net_text.specs.CertificatePrinting.{ChildrenFit, certificate_spelling
 use Rattle.net_text.specs.Printing.{Writable, file_spelling, network_sexpr}
 use Rattle.command_line.specs.CommandLine.{DerivationNames}
 use Rattle.command_line.specs.declared.command.Wanted.TheVariants as W
-use Rattle.yampa_run.specs.Preparation.{IsDerivedIn, IsTold, KnownFiles, TellsOptimised}
+use Rattle.yampa_run.specs.Preparation.{IsDerivedIn, IsTold, KnownFiles, Tells}
+use Rattle.yampa_run.specs.declared.telling.Telling.TheVariants as S
 
 -- a network with inputs of type A, the positions of the steps that lead to it, and both printed
 -- texts are within the limits of files
@@ -31,10 +32,10 @@ pub record HoldOptimised (told : KnownFiles) (names : DerivationNames) : Type 0 
   pub source_told : IsTold (told names.source)
   pub target_file : List ℕ
   pub target_told : told names.target ≡ Some target_file
-  pub target : TellsOptimised (told names.source) W.Network target_file
+  pub target : Tells (S.Optimised W.Network) (told names.source) target_file
   pub certificate_file : List ℕ
   pub certificate_told : told names.certificate ≡ Some certificate_file
-  pub certificate : TellsOptimised (told names.source) W.Certificate certificate_file
+  pub certificate : Tells (S.Optimised W.Certificate) (told names.source) certificate_file
 
 -- the three files hold a derivation of the optimised network
 pub record DerivesOptimised (told : KnownFiles) (names : DerivationNames)
@@ -48,5 +49,5 @@ pub record DerivesOptimised (told : KnownFiles) (names : DerivationNames)
 -- derive the printed network from that of the file.
 abbrev pub OptimisedFilesLaw : Type 0
 OptimisedFilesLaw = (told : KnownFiles) (names : DerivationNames) (held : HoldOptimised told names)
-    → FitFiles held.target.source.input held.target.prints.net held.certificate.prints.steps
-    → DerivesOptimised told names held.target.prints.net held.certificate.prints.steps
+    → FitFiles held.target.net.input held.target.tells.net held.certificate.tells.steps
+    → DerivesOptimised told names held.target.tells.net held.certificate.tells.steps

@@ -42,6 +42,8 @@ use Rattle.yampa_run.specs.RefusalLines.{check_words, no_number_words, no_place_
 use Rattle.yampa_run.specs.Words.{TellsFirst, TellsPlace, number_in}
 use Rattle.yampa_run.specs.declared.refused.Role.{Role}
 use Rattle.yampa_run.specs.declared.refused.Role.TheVariants as R
+use Rattle.yampa_run.specs.declared.telling.Telling.{Telling}
+use Rattle.yampa_run.specs.declared.telling.Telling.TheVariants as S
 use Rattle.yampa_run.specs.declared.preparation.Job.{Job}
 use Rattle.yampa_run.specs.declared.preparation.Job.TheVariants as J
 use Rattle.yampa_run.specs.declared.preparation.Refusal.{Refusal}
@@ -181,43 +183,32 @@ size_lines weight height = codes "\nweight "
 abbrev pub types_lines : TypedNetwork → List ℕ
 types_lines t = arrow_line t ++ size_lines t.weight t.height
 
--- the lines are those on the typed network of a file, where its bytes are told
-pub record TellsTypes (told : Option (List ℕ)) (text : List ℕ) : Type 0 where
-  pub net : TypedNetwork
-  pub network : IsNetworkOf told net
-  pub lines : text ≡ types_lines net
-
 -- what is printed of a network with inputs of type A and of the steps that lead to it: the file of
 -- the network, or the certificate of the steps
 abbrev pub wanted_text : Wanted → TypeTree → Network Expression → List Step → List ℕ
 wanted_text W.Network A net steps = file_spelling A net
 wanted_text W.Certificate A net steps = certificate_spelling steps
 
--- the text is what is wanted of an optimised network of the source
-pub record PrintsOptimised (source : TypedNetwork) (wanted : Wanted) (text : List ℕ) : Type 0 where
+-- the text is what is wanted of a network that is made of the source so, and of the steps to it
+pub record PrintsMade (Made : TypedNetwork → Network Expression → List Step → Type 0)
+    (source : TypedNetwork) (wanted : Wanted) (text : List ℕ) : Type 0 where
   pub net : Network Expression
   pub steps : List Step
-  pub optimised : Optimised source net steps
+  pub made : Made source net steps
   pub printed : text ≡ wanted_text wanted source.input net steps
 
--- the text is what is wanted of an optimised network of a file's, where its bytes are told
-pub record TellsOptimised (told : Option (List ℕ)) (wanted : Wanted) (text : List ℕ) : Type 0 where
-  pub source : TypedNetwork
-  pub network : IsNetworkOf told source
-  pub prints : PrintsOptimised source wanted text
+-- the text is what is to be told of the network
+abbrev pub TellsOf : Telling → TypedNetwork → List ℕ → Type 0
+TellsOf S.Types net text = text ≡ types_lines net
+TellsOf S.Outline net text = OutlineText net text
+TellsOf (S.Optimised wanted) net text = PrintsMade Optimised net wanted text
+TellsOf (S.Improved wanted) net text = PrintsMade Improved net wanted text
 
--- the text is what is wanted of an improved network of the source
-pub record PrintsImproved (source : TypedNetwork) (wanted : Wanted) (text : List ℕ) : Type 0 where
-  pub net : Network Expression
-  pub steps : List Step
-  pub improved : Improved source net steps
-  pub printed : text ≡ wanted_text wanted source.input net steps
-
--- the text is what is wanted of an improved network of a file's, where its bytes are told
-pub record TellsImproved (told : Option (List ℕ)) (wanted : Wanted) (text : List ℕ) : Type 0 where
-  pub source : TypedNetwork
-  pub network : IsNetworkOf told source
-  pub prints : PrintsImproved source wanted text
+-- the text is what is to be told of the typed network of a file, where its bytes are told
+pub record Tells (telling : Telling) (told : Option (List ℕ)) (text : List ℕ) : Type 0 where
+  pub net : TypedNetwork
+  pub network : IsNetworkOf told net
+  pub tells : TellsOf telling net text
 
 -- the line of the command `check`
 abbrev pub accepted_line : ℕ → List ℕ
@@ -240,12 +231,6 @@ pub record IsChecked (told : KnownFiles) (names : DerivationNames) (t : TypedNet
 abbrev pub RefusesWith : ℕ → List ℕ → Refusal → Type 0
 RefusesWith code words (Refused.Line status line) = (status ≡ code) × (string_bytes line ≡ words)
 RefusesWith code words Refused.Memory = ⊤
-
--- the lines are the outline of the typed network of a file, where its bytes are told
-pub record TellsOutline (told : Option (List ℕ)) (text : List ℕ) : Type 0 where
-  pub net : TypedNetwork
-  pub network : IsNetworkOf told net
-  pub lines : OutlineText net text
 
 -- the lines are those on the steps that may be taken at a place of a network and below, where
 -- something stands there
@@ -411,14 +396,14 @@ pub data IsNotCertified (told : KnownFiles) (from to : List ℕ) (refusal : Refu
 -- lines on its steps, what is wanted of an optimised or an improved one, the line on a derivation, a
 -- run of a target that is derived, what is wanted of steps, or a certificate
 abbrev pub Meets : KnownFiles → RequestTree → Job → Type 0
-Meets told (types name) (J.Print text) = TellsTypes (told name) (string_bytes text)
+Meets told (types name) (J.Print text) = Tells S.Types (told name) (string_bytes text)
 Meets told (run name) (J.Run t) = IsNetworkOf (told name) t
-Meets told (outline name) (J.Print text) = TellsOutline (told name) (string_bytes text)
+Meets told (outline name) (J.Print text) = Tells S.Outline (told name) (string_bytes text)
 Meets told (laws at name) (J.Print text) = TellsLaws (told name) at (string_bytes text)
 Meets told (optimise wanted name) (J.Print text) =
-    TellsOptimised (told name) wanted (string_bytes text)
+    Tells (S.Optimised wanted) (told name) (string_bytes text)
 Meets told (improve wanted name) (J.Print text) =
-    TellsImproved (told name) wanted (string_bytes text)
+    Tells (S.Improved wanted) (told name) (string_bytes text)
 Meets told (checks names) (J.Print text) = TellsAccepted told names (string_bytes text)
 Meets told (run_checked names) (J.Run t) = IsChecked told names t
 Meets told (apply names) job = TellsApplied told names job

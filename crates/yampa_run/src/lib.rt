@@ -19,15 +19,14 @@ mod certified;
 mod fault;
 mod files;
 pub mod fill;
-mod improved;
 mod laws;
 mod network_run;
-mod optimised;
+mod possible;
 mod preparation;
 mod printed;
 mod refused;
 mod stream_run;
-mod viewed;
+mod telling;
 mod words;
 
 pub use command_line::command_rows;

@@ -1,24 +1,22 @@
 // From the words of a command line to what is to be done.
 
-ghost use Rattle.std.specs.Prelude.{◌≡◌, ◌++◌, ℕ, List, Err, IfErr, IfOk, OnOk, Some, map, string_bytes};
+ghost use Rattle.std.specs.Prelude.{◌≡◌, ℕ, List, Err, IfErr, IfOk, Some, map};
 ghost use Rattle.command_line.specs.CommandLine.{ReadsWords, request_view};
 ghost use Rattle.yampa_run.specs.RefusalLines.{refusal_line, refusal_status};
-ghost use Rattle.yampa_run.specs.Preparation.{Fails, HasNoNetwork, IsRequested, IsNetworkIn, IsNetworkOf, IsRefusal, Meets, RefusesText, RefusesTypes, TellsTypes, KnownFiles, arrow_line, size_lines, types_lines};
+ghost use Rattle.yampa_run.specs.Preparation.{Fails, HasNoNetwork, IsRequested, IsNetworkIn, IsNetworkOf, IsRefusal, Meets, RefusesText, RefusesTypes, KnownFiles};
 
 use crate::applied::applied;
 use crate::certificate::{accepted, derived};
 use crate::certified::certified;
 use crate::files::{Files, read_file};
-use crate::improved::improved;
-use crate::optimised::optimised;
-use crate::printed::{push_number, push_words};
+use crate::possible::possible;
 use crate::refused::{Role, text_line, type_line};
-use crate::viewed::{outlined, possible};
+use crate::telling::{Telling, told};
 use command_line::{Reply, Request, parse};
 use net_syntax::TypedNet;
 use net_text::{NetTextFault, read_net};
 use net_types::{TypeFault, check_types};
-use sample_core::{Memory, push_type};
+use sample_core::Memory;
 use std::alloc::Global;
 
 /// What is to be done.
@@ -96,7 +94,7 @@ fn job_of<F: Files>(alloc: Global, request: Request<'_>, files: &F) -> Result<Jo
     ensures refused { IfErr result (Fails (F.told files.now) (request_view request.entry)) }
 {
     match request {
-        Request::Types { net } => match types_of(alloc, net, files) {
+        Request::Types { net } => match told(alloc, Telling::Types, net, files) {
             Ok(text) => Ok(Job::Print(text)),
             Err(refusal) => Err(refusal),
         },
@@ -104,7 +102,7 @@ fn job_of<F: Files>(alloc: Global, request: Request<'_>, files: &F) -> Result<Jo
             Ok(net) => Ok(Job::Run(net)),
             Err(refusal) => Err(refusal),
         },
-        Request::Outline { net } => match outlined(alloc, net, files) {
+        Request::Outline { net } => match told(alloc, Telling::Outline, net, files) {
             Ok(text) => Ok(Job::Print(text)),
             Err(refusal) => Err(refusal),
         },
@@ -112,11 +110,21 @@ fn job_of<F: Files>(alloc: Global, request: Request<'_>, files: &F) -> Result<Jo
             Ok(text) => Ok(Job::Print(text)),
             Err(refusal) => Err(refusal),
         },
-        Request::Optimise { net, wanted } => match optimised(alloc, net, wanted, files) {
+        Request::Optimise { net, wanted } => match told(
+            alloc,
+            Telling::Optimised(wanted),
+            net,
+            files,
+        ) {
             Ok(text) => Ok(Job::Print(text)),
             Err(refusal) => Err(refusal),
         },
-        Request::Improve { net, wanted } => match improved(alloc, net, wanted, files) {
+        Request::Improve { net, wanted } => match told(
+            alloc,
+            Telling::Improved(wanted),
+            net,
+            files,
+        ) {
             Ok(text) => Ok(Job::Print(text)),
             Err(refusal) => Err(refusal),
         },
@@ -144,22 +152,6 @@ fn told_by(reply: Reply) -> Result<Job, Refusal>
         Reply::Help(text) => Ok(Job::Print(text)),
         Reply::Wrong(line) => Err(Refusal::Line { status: 2, line }),
         Reply::Memory => Err(Refusal::Memory),
-    }
-}
-
-/// The lines of the command `types` on the file of that name.
-fn types_of<F: Files>(alloc: Global, name: &str, files: &F) -> Result<String, Refusal>
-    ensures lines { IfOk result
-        (λ text. TellsTypes (F.told files.now name.now) (string_bytes text)) }
-    ensures refused { IfErr result (HasNoNetwork Role.Network (F.told files.now name.now)) }
-{
-    match load(alloc, Role::Network, name, files) {
-        Ok(net) => {
-            let text = types(alloc, &net);
-            drop(net);
-            Ok(text?)
-        }
-        Err(refusal) => Err(refusal),
     }
 }
 
@@ -217,35 +209,4 @@ fn type_refusal(alloc: Global, role: Role, fault: &TypeFault) -> Result<Refusal,
             line: type_line(alloc, role, fault)?,
         }),
     }
-}
-
-/// The lines of the command `types`.
-fn types(alloc: Global, net: &TypedNet) -> Result<String, Memory>
-    ensures { IfOk result (λ text. string_bytes text ≡ types_lines net.now) }
-{
-    let mut text = String::new(alloc);
-    push_arrow(&mut text, net)?;
-    push_sizes(&mut text, net.weight(), net.height())?;
-    Ok(text)
-}
-
-/// Adds the network's input type and output type.
-fn push_arrow(text: &mut String, net: &TypedNet) -> Result<(), Memory>
-    ensures { OnOk result (string_bytes text.new ≡ string_bytes text.old ++ arrow_line net.now) }
-{
-    push_type(text, net.input())?;
-    push_words(text, " -> ")?;
-    push_type(text, net.output())
-}
-
-/// Adds a line feed, and the lines of a network's weight and height.
-fn push_sizes(text: &mut String, weight: u32, height: u32) -> Result<(), Memory>
-    ensures { OnOk result (string_bytes text.new ≡ string_bytes text.old
-        ++ size_lines weight height) }
-{
-    push_words(text, "\nweight ")?;
-    push_number(text, u64::from(weight))?;
-    push_words(text, "\nheight ")?;
-    push_number(text, u64::from(height))?;
-    push_words(text, "\n")
 }

@@ -1,32 +1,15 @@
-// What stands where in the networks of files, and the steps that may be taken there.
+// The steps that may be taken in the networks of files.
 
 ghost use Rattle.std.specs.Prelude.{IfErr, IfOk, option_map, string_bytes};
-ghost use Rattle.net_view.specs.Texts.{OutlineText};
-ghost use Rattle.yampa_run.specs.Preparation.{HasNoNetwork, HasNoPlace, IsNotThere, TellsLaws, TellsOutline, TellsSteps};
+ghost use Rattle.yampa_run.specs.Preparation.{HasNoPlace, IsNotThere, TellsLaws, TellsSteps};
 
 use crate::files::Files;
 use crate::preparation::{Refusal, load};
 use crate::refused::{Role, not_there_line};
 use crate::words::place_of;
 use net_syntax::{Position, TypedNet};
-use net_view::{has_position, outline_text, possible_text};
+use net_view::{has_position, possible_text};
 use std::alloc::Global;
-
-/// The text of the command `outline` on the file of that name.
-pub fn outlined<F: Files>(alloc: Global, name: &str, files: &F) -> Result<String, Refusal>
-    ensures lines { IfOk result
-        (λ text. TellsOutline (F.told files.now name.now) (string_bytes text)) }
-    ensures refused { IfErr result (HasNoNetwork Role.Network (F.told files.now name.now)) }
-{
-    match load(alloc, Role::Network, name, files) {
-        Ok(net) => {
-            let text = outline_text(alloc, &net);
-            drop(net);
-            Ok(text?)
-        }
-        Err(refusal) => Err(refusal),
-    }
-}
 
 /// The text of the command `laws` on the file of that name, at the place of a word and below; of the
 /// whole network, where there is none.
