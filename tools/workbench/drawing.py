@@ -5,7 +5,7 @@ import subprocess
 from model.trees import at_text, children, head, is_network, shown
 from workbench.ending import UNREADABLE, Refused, Words, ended, write
 from workbench.layout import flat
-from workbench.outline import network_of, scope_of
+from workbench.outline import SWITCHES, network_of, scope_of
 from workbench.shorter import shortened
 from workbench.watching import node_of
 
@@ -135,31 +135,47 @@ class Drawing:
 
     def draw_switch(self, position, tree):
         """A frame with what runs and, behind a dashed line, what takes over."""
-        word, (level, _) = head(tree), scope_of(self.whole.tree, position)
+        level, _ = scope_of(self.whole.tree, position)
         begin, end = self.point(), self.point()
-        self.frame(word, position)
-        starts = []
+        self.frame(head(tree), position)
+        ends = []
         for number, child in enumerate(children(tree)):
+            role = role_of(tree, number)
             if not is_network(child):
-                self.node(f"{ROLES.get((word, number), 'by')} {short(child)}", (*position, number), fillcolor="#fff4dd")
+                self.node(f"{role} {short(child)}", (*position, number), fillcolor="#fff4dd")
                 continue
-            last_child = number == len(children(tree)) - 1
-            if last_child:
+            if role == TAKES_OVER:
                 self.frame(f"from the event on, its value (p {level})", (*position, number), style="dashed")
-            elif (word, number) in ROLES or word in ("pSwitch", "rpSwitchB", "kSwitch"):
-                self.frame(ROLES.get((word, number), "member" if word != "kSwitch" else "runs"), (*position, number), color="#cccccc")
             else:
-                self.frame("runs", (*position, number), color="#cccccc")
-            first, last = self.inner(position, number)
+                self.frame(role, (*position, number), color="#cccccc")
+            ends.append((number, role, *self.inner(position, number)))
             self.close()
-            starts.append((number, first, last, last_child))
         self.close()
-        for number, first, last, last_child in starts:
-            watches = (word, number) in ROLES
-            style = "dashed" if last_child else "dotted" if watches else "solid"
+        for number, role, first, last in ends:
+            style = {TAKES_OVER: "dashed", WATCHES: "dotted"}.get(role, "solid")
             self.edge(begin, first, None, style=style)
-            self.edge(last, end, self.whole.output((*position, number)) if not watches else None, "event" if watches else "", style=style)
+            if role == WATCHES:
+                self.edge(last, end, None, "event", style=style)
+            else:
+                self.edge(last, end, self.whole.output((*position, number)), style=style)
         return begin, end
+
+
+TAKES_OVER, WATCHES = "takes over", "watches"
+
+
+def role_of(tree, number):
+    """What a part of a switch does in it."""
+    word, last = head(tree), len(children(tree)) - 1
+    if number == last:
+        return TAKES_OVER
+    if word in ("kSwitch", "pSwitch") and number == last - 1:
+        return WATCHES
+    if word == "pSwitch":
+        return "routes by" if number == 0 else "member"
+    if word == "rpSwitchB":
+        return "chooses by" if number == last - 1 else "member"
+    return "runs"
 
 
 NAMES = {
@@ -169,15 +185,8 @@ NAMES = {
     "loopPre": "loop",
     "-->": "opening",
     ">--": "opening",
-    "switch": "switch",
-    "dSwitch": "switch",
-    "rSwitch": "switch",
-    "drSwitch": "switch",
-    "kSwitch": "switch",
-    "pSwitch": "switch",
-    "rpSwitchB": "switch",
+    **dict.fromkeys(SWITCHES, "switch"),
 }
-ROLES = {("kSwitch", 1): "watches", ("pSwitch", 0): "routes by"}
 
 
 def short(tree):

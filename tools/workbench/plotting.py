@@ -127,7 +127,7 @@ def bands(axis, times, values):
     ends = [*times[1:], times[-1] + 1] if times else []
     for start, end, value in zip(times, ends, values):
         if value == "true":
-            axis.axvspan(start, end, color="tab:green", alpha=0.6, linewidth=0)
+            axis.axvspan(start, end, color="tab:green", alpha=0.9, linewidth=0)
     axis.set_yticks([])
 
 
