@@ -40,7 +40,7 @@ def refused_number(fault, before):
     return inside[0] * MEMBERS + inside[2] if position[: len(before)] == before and len(inside) > 3 else None
 
 
-def told_of(file, questions, base):
+def asked_by_name(file, questions, base):
     """The same of questions that have names: the types by name."""
     types = asked(file, list(questions.values()), base)
     return None if types is None else dict(zip(questions, types))

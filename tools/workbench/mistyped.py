@@ -3,7 +3,7 @@ import re
 from dataclasses import dataclass
 
 from model.trees import at, at_text, children, head, is_network, shown
-from workbench.asking import asked, told_of
+from workbench.asking import asked, asked_by_name
 from workbench.outline import scope_of
 from workbench.telling import article, short, told_at
 
@@ -124,7 +124,7 @@ def misfit(file, position):
     """Where the program stops in an expression that it refuses: the node, the number of the part at which it stops, and the types of
     the node's parts up to that one; where it doesn't tell, the whole without types. None where it refuses none."""
     questions = {(where, number): (where, part) for where, number, part in walked(at(file.tree, position), position)}
-    types = told_of(file, questions, position[:-1])
+    types = asked_by_name(file, questions, position[:-1])
     if types is None:
         return position, -1, []
     if len(types) == len(questions):
@@ -196,7 +196,7 @@ WANTED |= {
 def network_fault(file, fault, position):
     """Why a network has no type: it refuses what goes into it or its parts, or what it is a part of refuses what it outputs."""
     places = [*walked_before(file.tree, position), position, *[position[:-1]][: len(position)]]
-    types = told_of(file, {where: (where, at(file.tree, where)) for where in places}, position[:-1])
+    types = asked_by_name(file, {where: (where, at(file.tree, where)) for where in places}, position[:-1])
     if types is None:
         return told_at(file, position, f"{short(at(file.tree, position))} doesn't fit here: {fault}")
     if len(types) == len(places):

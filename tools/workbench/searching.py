@@ -132,8 +132,8 @@ def searched(name, words, given, type_, breaks, tell):
 
 
 def with_search(words):
-    words.add_argument("--seed", type=int, default=1)
-    words.add_argument("--seconds", type=float, default=30)
+    words.add_argument("--seed", type=int, default=1, metavar="N", help="another number tries other streams")
+    words.add_argument("--seconds", type=float, default=30, metavar="S", help="how long it looks, 30 where it isn't given")
     words.add_argument("-o", metavar="FILE", dest="to", help="writes the stream there")
 
 
