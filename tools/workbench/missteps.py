@@ -18,7 +18,10 @@ def of_steps(fault, files, paths):
         return Told(f"the inputs differ: {shown(source.input)} and {shown(target.input)}", name)
     if fault == "ends elsewhere":
         found = difference(network_made(paths), read_file(*files["target"]).tree)
-        return found and Told(f"the steps end elsewhere: at {at_text(found[0])} they make {short(found[1])}, and the target has {short(found[2])}", name)
+        if found is None:
+            return None
+        where, made, wanted = found
+        return Told(f"the steps end elsewhere: at {at_text(where)} they make {short(made)}, and the target has {short(wanted)}", name)
     found = re.fullmatch(r"(no position|no match|ill typed) at step (\d+)", fault)
     return of_step(found.group(1), int(found.group(2)), files, paths) if found else Told(fault, name)
 

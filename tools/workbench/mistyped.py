@@ -243,8 +243,9 @@ class Refusal:
         given, outs = self.around.given, [shown(self.outputs.get(number)) for number in range(3)]
         if given is None:
             return f"the types of {word}'s parts, or of what goes into it, don't fit"
-        if word == "rpSwitchB" and max(self.outputs) == len(self.tree[1]) - 1:
-            return f"the expression behind the members of rpSwitchB has the type (Pair (List Int) (List V)); this one is {article(self.outputs[max(self.outputs)])}"
+        last = max(self.outputs, default=0)
+        if word == "rpSwitchB" and last == len(self.tree[1]) - 1:
+            return f"the expression behind the members of rpSwitchB has the type (Pair (List Int) (List V)); this one is {article(self.outputs[last])}"
         if word in OTHER_PARTS:
             seen = ", ".join(f"{shown(self.outputs[number])} at child {number}" for number in sorted(self.outputs) if word != "pSwitch" or number)
             return f"all members of {word} output one type, and what it starts or goes on with fits them; they output {seen}"
