@@ -12,7 +12,9 @@ ABOUT = """Runs the program on the files and explains the fault that it tells, i
   yampa explain SRC TGT CERT        a certificate
   yampa explain --line LINE FILE .. a fault line that was told before, of these files
 
-Where nothing is refused it says so, and the status is 0; else 1, or 3 where a file can't be read."""
+The types that it shows are those that the program tells of the parts: it is called some four times, which
+takes minutes where it isn't built yet. Where nothing is refused the tool says so, and the status is 0;
+else 1, or 3 where a file can't be read."""
 
 
 def roles_of(names):
