@@ -15,24 +15,20 @@ use Rattle.net_syntax.specs.declared.law_step.Law.TheVariants as L
 use Rattle.net_syntax.specs.declared.law_step.Direction.{Direction}
 use Rattle.net_syntax.specs.declared.law_step.Direction.TheVariants.{Forward, Backward}
 use Rattle.law_rules.specs.NetworkRow.{NetworkRow}
-use Rattle.law_rules.specs.Forward.{forward}
 use Rattle.law_rules.specs.Answer.{NetworkAnswer, forward_answer, backward_answer, IsNetworkAnswer, IsRightSide}
 use Rattle.law_rules.proofs.SameSides.{same-sides, same-sides_back}
-use Rattle.law_rules.proofs.RowsExact.{forward-sound, forward-complete, one-right_side}
+use Rattle.law_rules.proofs.NamedLaws.{IsRight}
+use Rattle.law_rules.proofs.RowsExact.{one-right_side}
 
 no-some : {A : Type 0} (r : A) → None ≡ Some r → ⊥
 no-some r q = absurd (cc)
 
-at-number : {E : Type 0} (n olds : ℕ) (net : Network Expression) (x : Result (Option (Net Expr)) E) → IfOk x (λ o. option_map tree_of o ≡ forward n olds net)
-    → IfOk x (IsRightSide n olds net)
-at-number n olds net (Ok None) h = λ r k. no-some r (h ∙ forward-complete k)
-at-number n olds net (Ok (Some r)) h = forward-sound olds n net (tree_of r) (sym h)
-at-number n olds net (Err f) h = tt
-
--- what the function of a law of this number answers is the right side of its row
-pub by-function : {E : Type 0} (n m olds : ℕ) (net : Network Expression) (x : Result (Option (Net Expr)) E) → n ≡ m → IfOk x (λ o. option_map tree_of o ≡ forward m olds net)
-    → IfOk x (IsRightSide n olds net)
-by-function n m olds net x q h = subst (λ k. IfOk x (IsRightSide k olds net)) (sym q) (at-number m olds net x h)
+-- what the function of the law of this number answers is the right side of its row
+pub by-function : {E : Type 0} (n m olds : ℕ) (net : Network Expression) (law : Option (Network Expression)) (x : Result (Option (Net Expr)) E) → n ≡ m → IsRight m olds net law
+    → ((r : Network Expression) → NetworkRow m olds net r → m ≡ m → law ≡ Some r) → IfOk x (λ o. option_map tree_of o ≡ law) → IfOk x (IsRightSide n olds net)
+by-function n m olds net law (Ok None) q g k h = λ r row. no-some r (h ∙ k r (subst (λ i. NetworkRow i olds net r) q row) refl)
+by-function n m olds net law (Ok (Some r)) q g k h = subst (λ i. NetworkRow i olds net (tree_of r)) (sym q) (subst (IsRight m olds net) (sym h) g)
+by-function n m olds net law (Err f) q g k h = tt
 
 forward-none : (n olds : ℕ) (net : Network Expression) → ((r : Network Expression) → NetworkRow n olds net r → ⊥) → (r : Network Expression) → NetworkAnswer (L.L n) Forward net None olds r → ⊥
 forward-none n olds net q r (forward_answer h) = q r h

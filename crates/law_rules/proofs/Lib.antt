@@ -7,6 +7,7 @@ pub mod SwitchLaws
 pub mod Scopes
 pub mod NetworkLaws
 pub mod SameSides
+pub mod NamedLaws
 pub mod RowsExact
 pub mod Numbers
 pub mod AnsweredParts

@@ -5,55 +5,18 @@ use Rattle.leaf_core.specs.Expression.{input, no_more, and_then}
 use Rattle.leaf_core.specs.Expression.{Expression}
 use Rattle.net_syntax.specs.Network.{Network, Networks, time, no_members, and_member}
 use Rattle.law_rules.specs.NetworkRow.{NetworkRow, time_sees, row_l1, row_l2, row_l3, row_l4, row_l5, row_l6, row_l7, row_l8, row_l9, row_l10, row_l11, row_l12, row_l13, row_l14, row_l15, row_l16, row_l17, row_l18, row_l19, row_l20, row_l21, row_l22, row_l23, row_l24, row_l25, row_l26, row_l27, row_l28, row_l29, row_l30, row_l31, row_l32, row_l33, row_l34, row_l35, row_l36, row_l37, row_l38, row_l39, row_l40, row_l41, row_l42, row_l43, row_l44, row_l45, row_l46}
-use Rattle.law_rules.proofs.RowsExact.{shifted, shifted-is}
+
+abbrev shifted : ℕ → ℕ → ℕ
+shifted k zero = k
+shifted k (suc n) = shifted (suc k) n
+
+shifted-is : (k n : ℕ) → shifted k n ≡ k + n
+shifted-is k zero = omega arith
+shifted-is k (suc n) = let e : shifted (suc k) n ≡ suc k + n = shifted-is (suc k) n in omega arith
 
 numbered : {n olds : ℕ} {l r : Network Expression} → NetworkRow n olds l r → (1 ≤ n) × (n ≤ 46)
 numbered row_l1 = (omega arith, omega arith)
-numbered row_l2 = (omega arith, omega arith)
-numbered row_l3 = (omega arith, omega arith)
-numbered row_l4 = (omega arith, omega arith)
-numbered row_l5 = (omega arith, omega arith)
-numbered row_l6 = (omega arith, omega arith)
-numbered row_l7 = (omega arith, omega arith)
-numbered row_l8 = (omega arith, omega arith)
-numbered row_l9 = (omega arith, omega arith)
-numbered row_l10 = (omega arith, omega arith)
-numbered row_l11 = (omega arith, omega arith)
-numbered row_l12 = (omega arith, omega arith)
-numbered row_l13 = (omega arith, omega arith)
-numbered row_l14 = (omega arith, omega arith)
-numbered row_l15 = (omega arith, omega arith)
-numbered row_l16 = (omega arith, omega arith)
-numbered row_l17 = (omega arith, omega arith)
-numbered row_l18 = (omega arith, omega arith)
-numbered row_l19 = (omega arith, omega arith)
-numbered (row_l20 s) = (omega arith, omega arith)
-numbered row_l21 = (omega arith, omega arith)
-numbered row_l22 = (omega arith, omega arith)
-numbered row_l23 = (omega arith, omega arith)
-numbered row_l24 = (omega arith, omega arith)
-numbered row_l25 = (omega arith, omega arith)
-numbered row_l26 = (omega arith, omega arith)
-numbered row_l27 = (omega arith, omega arith)
-numbered row_l28 = (omega arith, omega arith)
-numbered row_l29 = (omega arith, omega arith)
-numbered row_l30 = (omega arith, omega arith)
-numbered row_l31 = (omega arith, omega arith)
-numbered row_l32 = (omega arith, omega arith)
-numbered row_l33 = (omega arith, omega arith)
-numbered row_l34 = (omega arith, omega arith)
-numbered row_l35 = (omega arith, omega arith)
-numbered row_l36 = (omega arith, omega arith)
-numbered row_l37 = (omega arith, omega arith)
-numbered row_l38 = (omega arith, omega arith)
-numbered (row_l39 some few) = (omega arith, omega arith)
-numbered (row_l40 few h) = (omega arith, omega arith)
-numbered (row_l41 some few) = (omega arith, omega arith)
-numbered (row_l42 some few) = (omega arith, omega arith)
-numbered row_l43 = (omega arith, omega arith)
-numbered row_l44 = (omega arith, omega arith)
-numbered row_l45 = (omega arith, omega arith)
-numbered (row_l46 some few) = (omega arith, omega arith)
+numbered _ = (omega arith, omega arith)
 
 abbrev SomeRow : ℕ → ℕ → Type 0
 SomeRow olds n = (l : Network Expression) × (r : Network Expression) × NetworkRow n olds l r

@@ -1,0 +1,112 @@
+-- What the laws that aren't two patterns make of a network is a right side.
+use Rattle.std.proofs.Common.{◌≡◌, ℕ, ◌≤◌, Bool, true, false, cond, nat_le, nat_eq, ◌&&◌, pos, Option, Some, None, refl, sym, ap, ap₂, ◌∙◌, subst, arith}
+use Rattle.std.proofs.lemmas.Bool.{leb-true, le-leb}
+use Rattle.leaf_core.specs.Expression.{Expression, input, int_expr, pair_expr, no_event_expr, list_expr, nth}
+use Rattle.net_syntax.specs.Network.{Network, Networks, arr, seq, par, after, repeatedly, time, rp_switch, k_switch, p_switch, old}
+use Rattle.net_syntax.specs.Typing.{members}
+use Rattle.net_syntax.specs.Place.{member}
+use Rattle.law_rules.specs.NetworkRow.{after_sees, repeatedly_sees, time_sees, behind_routes, each_after, each_arr, count, NetworkRow, row_l20, row_l38, row_l39, row_l40, row_l41, row_l42, row_l46}
+use Rattle.law_rules.specs.Forward.{one_to_64, law20, law38, law39, law40, law41, law42, beside_none, kept_apart, law46}
+
+-- an answer, if there is one, is a right side
+abbrev pub IsRight : ℕ → ℕ → Network Expression → Option (Network Expression) → Type 0
+IsRight n olds net (Some r) = NetworkRow n olds net r
+IsRight n olds net None = Unit {0}
+
+-- a right side that asks for a test
+gives-where : (n olds : ℕ) (net : Network Expression) (b : Bool) (o : Option (Network Expression)) → (b ≡ true → IsRight n olds net o) → IsRight n olds net (cond b o None)
+gives-where n olds net true o h = h refl
+gives-where n olds net false o h = tt
+
+both : (a b : Bool) → a && b ≡ true → (a ≡ true) × (b ≡ true)
+both true b e = (refl, e)
+both false b e = absurd (cc)
+
+from_1 : (n : ℕ) → one_to_64 n ≡ true → 1 ≤ n
+from_1 n e = leb-true 1 n (both (nat_le 1 n) (nat_le n 64) e).0
+
+to_64 : (n : ℕ) → one_to_64 n ≡ true → n ≤ 64
+to_64 n e = leb-true n 64 (both (nat_le 1 n) (nat_le n 64) e).1
+
+same_number : (m n : ℕ) → nat_eq m n ≡ true → m ≡ n
+same_number m n e = grind arith
+
+same-number : (n : ℕ) → nat_eq n n ≡ true
+same-number n = grind arith
+
+in_bounds : (n : ℕ) → 1 ≤ n → n ≤ 64 → one_to_64 n ≡ true
+in_bounds n l h = ap₂ (λ a b. a && b) (le-leb 1 n l) (le-leb n 64 h)
+
+module _ (olds : ℕ) where
+  pub law20-gives : (net : Network Expression) → IsRight 20 olds net (law20 net)
+  law20-gives (seq f (after q c)) = row_l20 after_sees
+  law20-gives (seq f (repeatedly q c)) = row_l20 repeatedly_sees
+  law20-gives (seq f time) = row_l20 time_sees
+  law20-gives _ = tt
+
+  pub law38-gives : (net : Network Expression) → IsRight 38 olds net (law38 olds net)
+  law38-gives (k_switch f e (old k)) = gives-where 38 olds (k_switch f e (old k)) (nat_eq k olds) (Some f) (λ q. subst (λ v. NetworkRow 38 olds (k_switch f e (old v)) f) (sym (same_number k olds q)) row_l38)
+  law38-gives _ = tt
+
+  pub law39-gives : (net : Network Expression) → IsRight 39 olds net (law39 net)
+  law39-gives (p_switch r fs (arr (no_event_expr C)) t) =
+      gives-where 39 olds (p_switch r fs (arr (no_event_expr C)) t) (one_to_64 (members fs)) (Some (par (behind_routes r 0 fs)))
+      (λ e. row_l39 (from_1 (members fs) e) (to_64 (members fs) e))
+  law39-gives _ = tt
+
+  member-gives : (fs : Networks Expression) (i : ℕ) (d : Expression) → members fs ≤ 64 → (o : Option (Network Expression)) → member fs i ≡ o → IsRight 40 olds (seq (par fs) (arr (nth input (int_expr (pos i)) d))) o
+  member-gives fs i d few (Some f) e = row_l40 few e
+  member-gives fs i d few None e = tt
+
+  pub law40-gives : (net : Network Expression) → IsRight 40 olds net (law40 net)
+  law40-gives (seq (par fs) (arr (nth input (int_expr (pos i)) d))) = gives-where 40 olds (seq (par fs) (arr (nth input (int_expr (pos i)) d))) (nat_le (members fs) 64) (member fs i) (λ e. member-gives fs i d (leb-true (members fs) 64 e) (member fs i) refl)
+  law40-gives _ = tt
+
+  pub law41-gives : (net : Network Expression) → IsRight 41 olds net (law41 net)
+  law41-gives (seq h (par fs)) = gives-where 41 olds (seq h (par fs)) (one_to_64 (members fs)) (Some (par (each_after h fs))) (λ e. row_l41 (from_1 (members fs) e) (to_64 (members fs) e))
+  law41-gives _ = tt
+
+  pub law42-gives : (net : Network Expression) → IsRight 42 olds net (law42 net)
+  law42-gives (arr (list_expr T es)) = gives-where 42 olds (arr (list_expr T es)) (one_to_64 (count es)) (Some (par (each_arr es))) (λ e. row_l42 (from_1 (count es) e) (to_64 (count es) e))
+  law42-gives _ = tt
+
+  kept-gives : (e m : Expression) (fs : Networks Expression) (t : Network Expression) → IsRight 46 olds (seq (arr e) (rp_switch fs m t)) (kept_apart fs (beside_none e))
+  kept-gives (pair_expr e (no_event_expr C)) m fs t =
+      gives-where 46 olds (seq (arr (pair_expr e (no_event_expr C))) (rp_switch fs m t)) (one_to_64 (members fs)) (Some (seq (arr e) (par fs)))
+      (λ q. row_l46 (from_1 (members fs) q) (to_64 (members fs) q))
+  kept-gives _ m fs t = tt
+
+  pub law46-gives : (net : Network Expression) → IsRight 46 olds net (law46 net)
+  law46-gives (seq (arr e) (rp_switch fs m t)) = kept-gives e m fs t
+  law46-gives _ = tt
+
+-- each right side is what the law makes of the left one
+pub law20-complete : {n olds : ℕ} {l r : Network Expression} → NetworkRow n olds l r → n ≡ 20 → law20 l ≡ Some r
+law20-complete (row_l20 after_sees) q = refl
+law20-complete (row_l20 repeatedly_sees) q = refl
+law20-complete (row_l20 time_sees) q = refl
+law20-complete _ q = absurd (omega (arith, q))
+
+pub law38-complete : {n olds : ℕ} {l r : Network Expression} → NetworkRow n olds l r → n ≡ 38 → law38 olds l ≡ Some r
+law38-complete {olds = olds} (row_l38 {f = f}) q = ap (λ b. cond b (Some f) None) (same-number olds)
+law38-complete _ q = absurd (omega (arith, q))
+
+pub law39-complete : {n olds : ℕ} {l r : Network Expression} → NetworkRow n olds l r → n ≡ 39 → law39 l ≡ Some r
+law39-complete (row_l39 {r = r} {fs = fs} some few) q = ap (λ b. cond b (Some (par (behind_routes r 0 fs))) None) (in_bounds (members fs) some few)
+law39-complete _ q = absurd (omega (arith, q))
+
+pub law40-complete : {n olds : ℕ} {l r : Network Expression} → NetworkRow n olds l r → n ≡ 40 → law40 l ≡ Some r
+law40-complete (row_l40 {i = i} {fs = fs} few h) q = ap (λ b. cond b (member fs i) None) (le-leb (members fs) 64 few) ∙ h
+law40-complete _ q = absurd (omega (arith, q))
+
+pub law41-complete : {n olds : ℕ} {l r : Network Expression} → NetworkRow n olds l r → n ≡ 41 → law41 l ≡ Some r
+law41-complete (row_l41 {h = h} {fs = fs} some few) q = ap (λ b. cond b (Some (par (each_after h fs))) None) (in_bounds (members fs) some few)
+law41-complete _ q = absurd (omega (arith, q))
+
+pub law42-complete : {n olds : ℕ} {l r : Network Expression} → NetworkRow n olds l r → n ≡ 42 → law42 l ≡ Some r
+law42-complete (row_l42 {es = es} some few) q = ap (λ b. cond b (Some (par (each_arr es))) None) (in_bounds (count es) some few)
+law42-complete _ q = absurd (omega (arith, q))
+
+pub law46-complete : {n olds : ℕ} {l r : Network Expression} → NetworkRow n olds l r → n ≡ 46 → law46 l ≡ Some r
+law46-complete (row_l46 {e = e} {fs = fs} some few) q = ap (λ b. cond b (Some (seq (arr e) (par fs))) None) (in_bounds (members fs) some few)
+law46-complete _ q = absurd (omega (arith, q))
