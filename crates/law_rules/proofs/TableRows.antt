@@ -1,14 +1,14 @@
--- The table's patterns make the rows.
-use Rattle.std.proofs.Common.{◌≡◌, ℕ, List, [], ◌∷◌, Option, Some, get_or, refl, sym, ap, ◌∙◌, subst}
+-- The table's patterns make the rows, and each number up to 46 has a row.
+use Rattle.std.proofs.Common.{◌≡◌, ℕ, zero, suc, arith, List, [], ◌∷◌, Option, Some, get_or, refl, sym, ap, ◌∙◌, subst}
 use Rattle.sample_core.specs.TypeTree.{TypeTree, unit_ty}
-use Rattle.leaf_core.specs.Expression.{Expression, input, unit_expr, pair_expr, fst, then_expr, no_event_expr, event_expr}
-use Rattle.net_syntax.specs.Network.{Network, arr, seq, first, loop_pre, initial_out, initial_in, i_pre, delay, hold, accum_by, after, repeatedly, time, switch, d_switch, r_switch, dr_switch, k_switch}
+use Rattle.leaf_core.specs.Expression.{Expression, input, unit_expr, pair_expr, fst, then_expr, no_event_expr, event_expr, no_more, and_then}
+use Rattle.net_syntax.specs.Network.{Network, Networks, no_members, and_member, arr, seq, first, loop_pre, initial_out, initial_in, i_pre, delay, hold, accum_by, after, repeatedly, time, switch, d_switch, r_switch, dr_switch, k_switch}
 use Rattle.law_patterns.specs.declared.net_sym.NetSym.{NetSym}
 use Rattle.law_patterns.specs.Pattern.{Assignment}
 use Rattle.law_patterns.specs.Rule.{Related}
 use Rattle.law_patterns.specs.NetPattern.{NetAssignment, net_filled, NetRow}
 use Rattle.law_patterns.specs.NetRule.{NetRuleInstance}
-use Rattle.law_rules.specs.NetworkRow.{swap, assoc, unassoc, event_last, left_by, right_by, event_by, NetworkRow, row_l1, row_l2, row_l3, row_l4, row_l5, row_l6, row_l7, row_l8, row_l9, row_l10, row_l11, row_l12, row_l13, row_l14, row_l15, row_l16, row_l17, row_l18, row_l19, row_l20, row_l21, row_l22, row_l23, row_l24, row_l25, row_l26, row_l27, row_l28, row_l29, row_l30, row_l31, row_l32, row_l33, row_l34, row_l35, row_l36, row_l37, row_l38, row_l39, row_l40, row_l41, row_l42, row_l43, row_l44, row_l45, row_l46}
+use Rattle.law_rules.specs.NetworkRow.{swap, assoc, unassoc, event_last, left_by, right_by, event_by, time_sees, NetworkRow, row_l1, row_l2, row_l3, row_l4, row_l5, row_l6, row_l7, row_l8, row_l9, row_l10, row_l11, row_l12, row_l13, row_l14, row_l15, row_l16, row_l17, row_l18, row_l19, row_l20, row_l21, row_l22, row_l23, row_l24, row_l25, row_l26, row_l27, row_l28, row_l29, row_l30, row_l31, row_l32, row_l33, row_l34, row_l35, row_l36, row_l37, row_l38, row_l39, row_l40, row_l41, row_l42, row_l43, row_l44, row_l45, row_l46}
 
 -- the two sides of a row, over a choice of trees for the letters, or a row that has no two patterns
 pub data Shape : Type 0 where
@@ -149,3 +149,21 @@ by-sides n m left right l r e s p q h olds =
       comes = λ x y k. made-row left right l r p q x y (subst (λ v. Makes v x y) s (makes k));
     } in
     subst (λ k. NetRuleInstance (NetworkRow k olds) left right) (sym e) there
+
+-- a row of a number
+abbrev pub SomeRow : ℕ → ℕ → Type 0
+SomeRow olds n = (l : Network Expression) × (r : Network Expression) × NetworkRow n olds l r
+
+-- rows of the m numbers from k on
+abbrev pub RowsFrom : ℕ → ℕ → ℕ → Type 0
+RowsFrom olds k zero = Unit {0}
+RowsFrom olds k (suc m) = SomeRow olds k × RowsFrom olds (suc k) m
+
+found : {olds n : ℕ} {l r : Network Expression} → NetworkRow n olds l r → SomeRow olds n
+found {l = l} {r = r} h = (l, r, h)
+
+abbrev one_member : Networks Expression
+one_member = and_member time no_members
+
+pub all-rows : (olds : ℕ) → RowsFrom olds 1 46
+all-rows olds = (found (row_l1 {f = time}), (found (row_l2 {f = time}), (found (row_l3 {f = time} {g = time} {h = time}), (found (row_l4 {f = input} {g = input}), (found (row_l5 {f = input}), (found (row_l6 {f = time} {g = time}), (found (row_l7 {f = time} {g = input}), (found (row_l8 {f = time}), (found (row_l9 {f = time}), (found (row_l10 {f = input} {g = input} {h = time}), (found (row_l11 {c = input} {f = input}), (found (row_l12 {c = input} {d = input}), (found (row_l13 {c = input} {f = time} {h = time}), (found (row_l14 {c = input} {f = time} {h = time}), (found (row_l15 {d = input} {g = input} {f = time}), (found (row_l16 {c = input} {d = input} {f = time}), (found (row_l17 {c = input} {f = time}), (found (row_l18 {c = input} {e = input}), (found (row_l19 {T = unit_ty} {c = input}), (found (row_l20 {f = time} time_sees), (found (row_l21 {q = 1} {T = unit_ty} {c = input} {g = input}), (found (row_l22 {q = 1} {T = unit_ty} {c = input} {g = input}), (found (row_l23 {T = unit_ty} {c = input} {g = input}), (found (row_l24 {T = unit_ty} {g = input} {h = input} {z = input}), (found (row_l25 {e = input} {f = time}), (found (row_l26 {q = 1} {c = input} {f = input}), (found (row_l27 {h = input} {f = time} {t = time}), (found (row_l28 {h = input} {f = time} {t = time}), (found (row_l29 {h = input} {f = time} {t = time}), (found (row_l30 {h = input} {f = time} {t = time}), (found (row_l31 {C = unit_ty} {f = time} {t = time}), (found (row_l32 {C = unit_ty} {f = time} {t = time}), (found (row_l33 {f = time} {t = time}), (found (row_l34 {f = time} {t = time}), (found (row_l35 {C = unit_ty} {e = input} {f = time} {t = time}), (found (row_l36 {h = input} {f = time} {t = time}), (found (row_l37 {C = unit_ty} {f = time} {t = time}), (found (row_l38 {f = time} {e = time}), (found (row_l39 {C = unit_ty} {r = input} {fs = one_member} {t = time} (omega arith) (omega arith)), (found (row_l40 {i = 0} {d = input} {fs = one_member} {f = time} (omega arith) refl), (found (row_l41 {h = time} {fs = one_member} (omega arith) (omega arith)), (found (row_l42 {T = unit_ty} {es = and_then input no_more} (omega arith) (omega arith)), (found (row_l43 {c = input} {d = input} {f = time}), (found (row_l44 {c = input} {f = input}), (found (row_l45 {h = input} {f = time} {t = time}), (found (row_l46 {C = unit_ty} {e = input} {m = input} {fs = one_member} {t = time} (omega arith) (omega arith)), tt))))))))))))))))))))))))))))))))))))))))))))))
