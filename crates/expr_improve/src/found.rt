@@ -2,7 +2,7 @@
 
 use crate::log::{Step, law_steps};
 use crate::undo::undone;
-use leaf_core::{Expr, ExprChild};
+use leaf_core::ExprChild;
 use net_syntax::LawStep;
 use sample_core::Memory;
 use std::alloc::Global;
@@ -11,7 +11,7 @@ use std::alloc::Global;
 #[derive(Drop)]
 pub struct Rewriting {
     /// The expression that the steps lead to.
-    pub result: Expr,
+    pub result: ExprChild,
     /// The steps, in their order; positions are told from the expression's own root.
     pub steps: Vec<LawStep>,
 }
@@ -38,10 +38,12 @@ pub(crate) fn way_back(
 }
 
 /// What the steps lead to, as callers see it.
-pub(crate) fn told(alloc: Global, expr: &ExprChild, steps: &[Step]) -> Result<Rewriting, Memory> {
+pub(crate) fn told(alloc: Global, expr: ExprChild, steps: &[Step]) -> Result<Rewriting, Memory> {
     let steps = law_steps(alloc, steps)?;
-    let result = expr.get().try_copy(alloc)?;
-    Ok(Rewriting { result, steps })
+    Ok(Rewriting {
+        result: expr,
+        steps,
+    })
 }
 
 /// What was found, as callers see it.
@@ -49,8 +51,11 @@ pub(crate) fn rewriting_of(
     alloc: Global,
     found: Option<Found>,
 ) -> Result<Option<Rewriting>, Memory> {
-    match &found {
-        Some(found) => Ok(Some(told(alloc, &found.expr, &found.steps)?)),
+    match found {
+        Some(found) => {
+            let Found { expr, steps } = found;
+            Ok(Some(told(alloc, expr, &steps)?))
+        }
         None => Ok(None),
     }
 }

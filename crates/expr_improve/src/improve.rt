@@ -26,7 +26,7 @@ pub fn normal_expr(alloc: Global, expr: &Expr) -> Result<Rewriting, Memory> {
 fn searched(alloc: Global, expr: &Expr, aim: Aim) -> Result<Rewriting, Memory> {
     let mut log = Log::new(alloc, aim);
     let reached = improved(&mut log, expr, DEPTH)?;
-    told(alloc, &reached, &log.into_steps()?)
+    told(alloc, reached, &log.into_steps()?)
 }
 
 /// `(then f g)` and the steps to it from e, where f, carried into g, leads to e; where it leads to

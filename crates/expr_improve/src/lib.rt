@@ -9,6 +9,8 @@
 //! falls. Costs are instructions for each value, about, as they were counted on small networks.
 //!
 //! First `src/improve.rt`, then `src/push.rt`, the heart of it, and `src/weight.rt`, the costs.
+//! `src/tree.rt` makes expressions, here and for the crates above: each as a part of others, since
+//! to let go of one by itself is dear to prove.
 #![tactic(auto)]
 
 mod carry;
@@ -29,7 +31,12 @@ mod weight;
 
 pub use found::Rewriting;
 pub use improve::{as_then, improve_expr, normal_expr};
-pub use shapes::{as_left, as_map, as_right};
+pub use log::joined;
+pub use shapes::{as_late, as_left, as_map, as_right};
 pub use share::shared_at;
+pub use tree::{
+    as_part, beside_second, first_input, first_of, input, of_second, on_left, on_right, pair_of,
+    second_input, second_of, then_of,
+};
 pub use view::seen_through;
 pub use weight::{arr_cost, cost_of, is_path, made_of};

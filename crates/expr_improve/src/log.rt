@@ -150,7 +150,7 @@ impl Log {
 }
 
 /// The two paths, one behind the other.
-fn joined(alloc: Global, path: &[u32], below: &[u32]) -> Result<Vec<u32>, Memory> {
+pub fn joined(alloc: Global, path: &[u32], below: &[u32]) -> Result<Vec<u32>, Memory> {
     let mut whole = path.to_vec(alloc)?;
     whole.extend_from_slice(below)?;
     Ok(whole)

@@ -1,8 +1,9 @@
 // The shapes that laws of networks want in an `arr`.
 
 use crate::found::{Rewriting, told};
+use crate::improve::as_then;
 use crate::log::{Aim, Log};
-use crate::tree::{beside_second, first_input, put, second_input};
+use crate::tree::{beside_second, first_input, input, on_right, pair_of, put, second_input};
 use crate::view::looked_through;
 use leaf_core::{Expr, ExprChild, part_at, same_expr};
 use sample_core::Memory;
@@ -47,6 +48,17 @@ fn input_as_right(alloc: Global, first: ExprChild) -> Result<Option<Rewriting>, 
     looked_at(log, both.get(), &[1], second_input(alloc)?)
 }
 
+/// `(then (pair a x) (pair (fst x) (then (snd x) b)))` and the steps to it, of `(pair a b)`. Nothing
+/// where the expression isn't that. `Memory` where a growth was refused.
+pub fn as_late(alloc: Global, e: &Expr) -> Result<Option<Rewriting>, Memory> {
+    let Expr::Pair(a, b) = e else {
+        return Ok(None);
+    };
+    let front = pair_of(alloc, a.try_copy()?, input(alloc)?)?;
+    let back = on_right(alloc, b.get())?;
+    as_then(alloc, e, front.get(), back.get())
+}
+
 /// `(on x (none T) (event (then (snd x) g)))` and the steps to it. Nothing where the expression
 /// isn't that. `Memory` where a growth was refused.
 pub fn as_map(alloc: Global, e: &Expr) -> Result<Option<Rewriting>, Memory> {
@@ -84,7 +96,7 @@ fn looked_at(
     match seen_at(&mut log, e, path, &look)? {
         Some(whole) => {
             let alloc = log.alloc;
-            Ok(Some(told(alloc, &whole, &log.into_steps()?)?))
+            Ok(Some(told(alloc, whole, &log.into_steps()?)?))
         }
         None => Ok(None),
     }

@@ -3,7 +3,7 @@
 use crate::found::{Found, Rewriting, rewriting_of};
 use crate::log::Log;
 use crate::tree::{as_part, is_constant, then_of};
-use crate::view::{back_to_then, looked_through, viewed};
+use crate::view::{back_to_then, looked_through, seen_through};
 use crate::weight::{DEPTH, cost_of, is_simple, own_parts};
 use leaf_core::{Expr, ExprChild, part, same_expr};
 use sample_core::Memory;
@@ -78,7 +78,7 @@ fn share_of(alloc: Global, e: &Expr, place: &Place) -> Result<Option<ExprChild>,
     if place.count < 2 || cost_of(place.expr.get()) < LEAST_COST {
         return Ok(None);
     }
-    match viewed(alloc, e, place.expr.get())? {
+    match seen_through(alloc, e, place.expr.get())? {
         Some(g) => Ok(Some(then_of(alloc, &place.expr, g.get())?)),
         None => Ok(None),
     }

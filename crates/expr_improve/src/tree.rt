@@ -5,46 +5,71 @@ use sample_core::Memory;
 use std::alloc::Global;
 
 /// The expression as a part of another.
-pub(crate) fn as_part(alloc: Global, expr: &Expr) -> Result<ExprChild, Memory> {
+pub fn as_part(alloc: Global, expr: &Expr) -> Result<ExprChild, Memory> {
     ExprChild::new(alloc, expr.try_copy(alloc)?)
 }
 
 /// `x`.
-pub(crate) fn input(alloc: Global) -> Result<ExprChild, Memory> {
+pub fn input(alloc: Global) -> Result<ExprChild, Memory> {
     ExprChild::new(alloc, Expr::Input)
 }
 
 /// `(fst e)`.
-pub(crate) fn first_of(alloc: Global, e: ExprChild) -> Result<ExprChild, Memory> {
+pub fn first_of(alloc: Global, e: ExprChild) -> Result<ExprChild, Memory> {
     ExprChild::new(alloc, Expr::Fst(e))
 }
 
 /// `(snd e)`.
-pub(crate) fn second_of(alloc: Global, e: ExprChild) -> Result<ExprChild, Memory> {
+pub fn second_of(alloc: Global, e: ExprChild) -> Result<ExprChild, Memory> {
     ExprChild::new(alloc, Expr::Snd(e))
 }
 
 /// `(fst x)`.
-pub(crate) fn first_input(alloc: Global) -> Result<ExprChild, Memory> {
+pub fn first_input(alloc: Global) -> Result<ExprChild, Memory> {
     first_of(alloc, input(alloc)?)
 }
 
 /// `(snd x)`.
-pub(crate) fn second_input(alloc: Global) -> Result<ExprChild, Memory> {
+pub fn second_input(alloc: Global) -> Result<ExprChild, Memory> {
     second_of(alloc, input(alloc)?)
 }
 
+/// `(pair a b)`.
+pub fn pair_of(alloc: Global, a: ExprChild, b: ExprChild) -> Result<ExprChild, Memory> {
+    ExprChild::new(alloc, Expr::Pair(a, b))
+}
+
 /// `(pair a (snd x))`.
-pub(crate) fn beside_second(alloc: Global, a: ExprChild) -> Result<ExprChild, Memory> {
+pub fn beside_second(alloc: Global, a: ExprChild) -> Result<ExprChild, Memory> {
     let second = second_input(alloc)?;
-    ExprChild::new(alloc, Expr::Pair(a, second))
+    pair_of(alloc, a, second)
 }
 
 /// `(then f e)`.
-pub(crate) fn then_of(alloc: Global, f: &ExprChild, e: &Expr) -> Result<ExprChild, Memory> {
+pub fn then_of(alloc: Global, f: &ExprChild, e: &Expr) -> Result<ExprChild, Memory> {
     let f = f.try_copy()?;
     let e = as_part(alloc, e)?;
     ExprChild::new(alloc, Expr::Then(f, e))
+}
+
+/// `(then (snd x) e)`.
+pub fn of_second(alloc: Global, e: &Expr) -> Result<ExprChild, Memory> {
+    let second = second_input(alloc)?;
+    then_of(alloc, &second, e)
+}
+
+/// `(pair (then (fst x) e) (snd x))`: the left part alone is changed.
+pub fn on_left(alloc: Global, e: &Expr) -> Result<ExprChild, Memory> {
+    let first = first_input(alloc)?;
+    let left = then_of(alloc, &first, e)?;
+    beside_second(alloc, left)
+}
+
+/// `(pair (fst x) (then (snd x) e))`: the right part alone is changed.
+pub fn on_right(alloc: Global, e: &Expr) -> Result<ExprChild, Memory> {
+    let first = first_input(alloc)?;
+    let right = of_second(alloc, e)?;
+    pair_of(alloc, first, right)
 }
 
 /// `(then (then f a) b)`.

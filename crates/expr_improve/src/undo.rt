@@ -1,7 +1,7 @@
 // Steps of an expression are undone.
 
 use crate::log::{Step, answer};
-use crate::tree::put;
+use crate::tree::{as_part, put};
 use leaf_core::{Expr, ExprChild, part_at};
 use sample_core::Memory;
 use std::alloc::Global;
@@ -49,7 +49,7 @@ fn inverse_of(alloc: Global, before: &Expr, step: &Step) -> Result<Step, Memory>
     let path = step.path.to_vec(alloc)?;
     let given = match &step.given {
         Some(_) => None,
-        None => Some(ExprChild::new(alloc, before.try_copy(alloc)?)?),
+        None => Some(as_part(alloc, before)?),
     };
     Ok(Step {
         number: step.number,

@@ -22,15 +22,7 @@ struct View {
 
 /// The g for which `(then f g)` is e, where e uses its input by f and by the parts alone of which f
 /// is a pair. Nothing where it uses it in another way. `Memory` where a growth was refused.
-pub fn seen_through(alloc: Global, e: &Expr, f: &Expr) -> Result<Option<Expr>, Memory> {
-    match viewed(alloc, e, f)? {
-        Some(g) => Ok(Some(g.get().try_copy(alloc)?)),
-        None => Ok(None),
-    }
-}
-
-/// The same as a part.
-pub(crate) fn viewed(alloc: Global, e: &Expr, f: &Expr) -> Result<Option<ExprChild>, Memory> {
+pub fn seen_through(alloc: Global, e: &Expr, f: &Expr) -> Result<Option<ExprChild>, Memory> {
     let mut views = Vec::new(alloc);
     add_views(alloc, &mut views, f, input(alloc)?, DEPTH)?;
     replaced(alloc, e, &views, DEPTH)
@@ -42,7 +34,7 @@ pub(crate) fn looked_through(
     e: &Expr,
     f: &ExprChild,
 ) -> Result<Option<Found>, Memory> {
-    match viewed(alloc, e, f.get())? {
+    match seen_through(alloc, e, f.get())? {
         Some(g) => back_to_then(alloc, e, f, &g),
         None => Ok(None),
     }

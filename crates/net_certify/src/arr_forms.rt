@@ -1,13 +1,16 @@
 // Moves to the normal form, of `arr`s, of `first`s and of cells.
 
-use crate::boxed::{boxed, copied, left, right, right_then, through};
-use expr_improve::{Rewriting, as_then, is_path};
+use expr_improve::{
+    Rewriting, as_late, as_part, as_then, first_input, first_of, is_path, on_right, pair_of,
+    second_input, second_of, seen_through, then_of,
+};
 use leaf_core::{Expr, ExprChild, same_expr};
 use net_improve::{
-    Built, Move, Sketch, Stop, SwitchMove, assoc, behind, length, map_of, seq, type_told, unassoc,
+    Built, Move, Sketch, Stop, SwitchMove, assoc, behind, identity, length, map_before_hold,
+    none_told, seq, unassoc,
 };
-use net_syntax::Net;
-use sample_core::{Memory, Ty};
+use net_syntax::{Net, NetChild};
+use sample_core::Memory;
 use std::alloc::Global;
 
 /// A move to the normal form, of `arr`s, of `first`s or of cells.
@@ -53,7 +56,7 @@ impl ArrForm {
     /// Makes a move that builds nothing.
     fn made(self, w: &mut Sketch) -> Result<(), Stop> {
         match self {
-            ArrForm::FirstInput => first_input(w),
+            ArrForm::FirstInput => first_output(w),
             ArrForm::SplitCell => w.forward(12, &[]),
             ArrForm::SplitFirst => split_first(w),
             ArrForm::PassCell => pass_cell(w),
@@ -66,7 +69,7 @@ impl ArrForm {
     }
 }
 
-fn first_input(w: &mut Sketch) -> Result<(), Stop> {
+fn first_output(w: &mut Sketch) -> Result<(), Stop> {
     w.forward(44, &[])?;
     w.clear(&[0])
 }
@@ -103,48 +106,20 @@ fn pass_cell(w: &mut Sketch) -> Result<(), Stop> {
 }
 
 fn pass_hold(w: &mut Sketch) -> Result<(), Stop> {
-    let given = before_hold(w)?;
+    let given = before_hold(w.alloc, w.net_at(&[0])?, w.arr_at(&[1])?)?;
     w.backward(23, &[], given)?;
     w.clear(&[0, 0])?;
     w.clear(&[1, 0])
 }
 
-/// The map of the events by the `arr` behind the `hold`, and the `hold` of what that makes of its
-/// constant.
-fn before_hold(w: &Sketch) -> Result<Net<Expr>, Stop> {
-    let start = held(w.alloc, w.net_at(&[0])?, w.arr_at(&[1])?)?;
-    let map = mapped(w.alloc, w.arr_at(&[1])?)?;
-    Ok(seq(w.alloc, Net::Arr(map), start)?)
-}
-
-/// The map of events by g, whose type its form tells.
-fn mapped(alloc: Global, g: &Expr) -> Result<Expr, Stop> {
-    let carried = told(alloc, g)?;
-    let g = g.try_copy(alloc)?;
-    Ok(map_of(alloc, carried, g)?)
-}
-
-/// The type of what g answers, where its form tells it.
-fn told(alloc: Global, g: &Expr) -> Result<Ty, Stop> {
-    match type_told(alloc, g)? {
-        Some(carried) => Ok(carried),
-        None => Err(Stop::Unfit),
-    }
-}
-
-/// The `hold` of what g makes of its constant.
-fn held(alloc: Global, hold: &Net<Expr>, g: &Expr) -> Result<Net<Expr>, Stop> {
-    match hold {
-        Net::Hold(c) => Ok(Net::Hold(started(alloc, c, g)?)),
-        _ => Err(Stop::Unfit),
-    }
-}
-
-/// `(then c g)`.
-fn started(alloc: Global, c: &Expr, g: &Expr) -> Result<Expr, Memory> {
-    let c = copied(alloc, c)?;
-    let g = copied(alloc, g)?;
-    Ok(Expr::Then(c, g))
+/// The map of the events by g, and behind it the `hold` of what g makes of its constant.
+fn before_hold(alloc: Global, hold: &Net<Expr>, g: &Expr) -> Result<NetChild<Expr>, Stop> {
+    let Net::Hold(c) = hold else {
+        return Err(Stop::Unfit);
+    };
+    let start = then_of(alloc, &as_part(alloc, c)?, g)?;
+    let none = none_told(alloc, g)?;
+    Ok(map_before_hold(alloc, none, g, start.get())?)
 }
 
 /// `(first (first f))` is `(arr ASSOC)`, `(first f)` and `(arr UNASSOC)`.
@@ -152,94 +127,46 @@ fn nested(w: &mut Sketch) -> Result<(), Stop> {
     let Net::First(_) = w.first_at(&[])? else {
         return Err(Stop::Unfit);
     };
-    let given = before_input(w.alloc, w.net_at(&[])?)?;
+    let given = seq(w.alloc, w.net.try_copy()?, identity(w.alloc)?)?;
     w.backward(2, &[], given)?;
-    let found = there_and_back(w.alloc)?;
-    w.rewrite_arr(&[1], found)?;
-    w.part(&[1])?;
+    let found = there_and_back(w.alloc, w.arr_at(&[1])?)?;
+    w.part_by(&[1], found)?;
     w.regroup(&[])?;
     w.forward(9, &[0])?;
     w.forward(3, &[])
 }
 
-/// `(>>> f (arr x))`.
-fn before_input(alloc: Global, f: &Net<Expr>) -> Result<Net<Expr>, Memory> {
-    let f = f.try_copy(alloc)?;
-    seq(alloc, f, Net::Arr(Expr::Input))
-}
-
 /// The input as UNASSOC behind ASSOC.
-fn there_and_back(alloc: Global) -> Result<Option<Rewriting>, Memory> {
-    let there = boxed_assoc(alloc)?;
-    let back = boxed_unassoc(alloc)?;
-    as_then(alloc, &Expr::Input, there.get(), back.get())
-}
-
-fn boxed_assoc(alloc: Global) -> Result<ExprChild, Memory> {
-    let e = assoc(alloc)?;
-    boxed(alloc, e)
-}
-
-fn boxed_unassoc(alloc: Global) -> Result<ExprChild, Memory> {
-    let e = unassoc(alloc)?;
-    boxed(alloc, e)
+fn there_and_back(alloc: Global, input: &Expr) -> Result<Option<Rewriting>, Memory> {
+    let there = assoc(alloc)?;
+    let back = unassoc(alloc)?;
+    as_then(alloc, input, there.get(), back.get())
 }
 
 /// `(arr (pair a b))` and `(first f)` are `(arr (pair a x))`, `(first f)` and b of the right part.
 fn late(w: &mut Sketch) -> Result<(), Stop> {
-    let found = right_behind(w.alloc, w.arr_at(&[0])?)?;
-    w.rewrite_arr(&[0], found)?;
-    w.part(&[0])?;
+    let found = right_late(w.alloc, w.arr_at(&[0])?)?;
+    w.part_by(&[0], found)?;
     w.forward(3, &[])?;
-    let given = two(w.alloc, w.net_at(&[1, 1])?, w.net_at(&[1, 0])?)?;
-    w.backward(7, &[1], given)?;
+    w.exchange(&[1])?;
     w.clear(&[1, 1, 0])
 }
 
-/// `(>>> f g)` of copies.
-fn two(alloc: Global, f: &Net<Expr>, g: &Net<Expr>) -> Result<Net<Expr>, Memory> {
-    let f = f.try_copy(alloc)?;
-    let g = g.try_copy(alloc)?;
-    seq(alloc, f, g)
-}
-
-/// `(pair a b)` as `(pair a x)`, and b of the right part behind it.
-fn right_behind(alloc: Global, e: &Expr) -> Result<Option<Rewriting>, Stop> {
-    let front = left_kept(alloc, e)?;
-    let back = right_made(alloc, e)?;
-    Ok(as_then(alloc, e, front.get(), back.get())?)
-}
-
-/// `(pair a x)` of `(pair a b)`.
-fn left_kept(alloc: Global, e: &Expr) -> Result<ExprChild, Stop> {
+/// `(pair a b)` as `(pair a x)`, and b of the right part behind it, where b is no path.
+fn right_late(alloc: Global, e: &Expr) -> Result<Option<Rewriting>, Memory> {
     match e {
-        Expr::Pair(a, _) => Ok(before_x(alloc, a.get())?),
-        _ => Err(Stop::Unfit),
-    }
-}
-
-/// `(pair e x)`.
-fn before_x(alloc: Global, e: &Expr) -> Result<ExprChild, Memory> {
-    let e = copied(alloc, e)?;
-    let input = boxed(alloc, Expr::Input)?;
-    boxed(alloc, Expr::Pair(e, input))
-}
-
-/// `(pair (fst x) (then (snd x) b))` of `(pair a b)`, where b is no path.
-fn right_made(alloc: Global, e: &Expr) -> Result<ExprChild, Stop> {
-    match e {
-        Expr::Pair(_, b) if !is_path(b.get()) => Ok(of_right(alloc, b.get())?),
-        _ => Err(Stop::Unfit),
+        Expr::Pair(_, b) if !is_path(b.get()) => as_late(alloc, e),
+        _ => Ok(None),
     }
 }
 
 fn narrow_left(w: &mut Sketch) -> Result<(), Stop> {
-    let part = left(w.alloc)?;
+    let part = first_input(w.alloc)?;
     narrow(w, part.get())
 }
 
 fn narrow_right(w: &mut Sketch) -> Result<(), Stop> {
-    let part = right(w.alloc)?;
+    let part = second_input(w.alloc)?;
     narrow(w, part.get())
 }
 
@@ -249,12 +176,11 @@ fn narrow(w: &mut Sketch, part: &Expr) -> Result<(), Stop> {
     let Expr::Pair(..) = w.arr_at(&[0])? else {
         return Err(Stop::Unfit);
     };
-    let count = length(&w.net).saturating_sub(2);
+    let count = length(w.net.get()).saturating_sub(2);
     are_firsts(w, count)?;
     let way = behind(w.alloc, &[1], count)?;
     let found = narrowed(w.alloc, w.arr_at(&way)?, part)?;
-    w.rewrite_arr(&way, found)?;
-    w.part(&way)?;
+    w.part_by(&way, found)?;
     for j in (0..count).rev() {
         pass_first(w, j)?;
     }
@@ -284,40 +210,29 @@ fn pass_first(w: &mut Sketch, stages: usize) -> Result<(), Stop> {
 }
 
 /// The expression as one that leaves this of the right part, and another behind it.
-fn narrowed(alloc: Global, e: &Expr, part: &Expr) -> Result<Option<Rewriting>, Stop> {
-    let g = behind_part(alloc, e, part)?;
-    if same_expr(g.get(), e) {
-        return Err(Stop::Unfit);
+fn narrowed(alloc: Global, e: &Expr, part: &Expr) -> Result<Option<Rewriting>, Memory> {
+    match behind_part(alloc, e, part)? {
+        Some(g) if !same_expr(g.get(), e) => {
+            let front = on_right(alloc, part)?;
+            as_then(alloc, e, front.get(), g.get())
+        }
+        _ => Ok(None),
     }
-    let front = of_right(alloc, part)?;
-    Ok(as_then(alloc, e, front.get(), g.get())?)
 }
 
-/// What is left of the expression where this of the right part alone is there.
-fn behind_part(alloc: Global, e: &Expr, part: &Expr) -> Result<ExprChild, Stop> {
-    let seen = part_seen(alloc, part)?;
-    through(alloc, e, seen.get())
-}
-
-/// The left part, and this of the right part.
-fn part_seen(alloc: Global, part: &Expr) -> Result<ExprChild, Memory> {
-    let first = left(alloc)?;
+/// What is left of the expression where the left part and this of the right part alone are there.
+fn behind_part(alloc: Global, e: &Expr, part: &Expr) -> Result<Option<ExprChild>, Memory> {
+    let first = first_input(alloc)?;
     let second = part_of_right(alloc, part)?;
-    boxed(alloc, Expr::Pair(first, second))
+    let seen = pair_of(alloc, first, second)?;
+    seen_through(alloc, e, seen.get())
 }
 
 /// The part of the right part of the input: `(fst (snd x))` or `(snd (snd x))`.
 fn part_of_right(alloc: Global, part: &Expr) -> Result<ExprChild, Memory> {
-    let of = right(alloc)?;
+    let right = second_input(alloc)?;
     match part {
-        Expr::Fst(_) => boxed(alloc, Expr::Fst(of)),
-        _ => boxed(alloc, Expr::Snd(of)),
+        Expr::Fst(_) => first_of(alloc, right),
+        _ => second_of(alloc, right),
     }
-}
-
-/// `(pair (fst x) (then (snd x) e))`.
-fn of_right(alloc: Global, e: &Expr) -> Result<ExprChild, Memory> {
-    let first = left(alloc)?;
-    let second = right_then(alloc, e)?;
-    boxed(alloc, Expr::Pair(first, second))
 }

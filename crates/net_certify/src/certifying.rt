@@ -116,6 +116,7 @@ fn undone_steps(
 
 /// A copy of the step.
 fn copied_step(alloc: Global, step: &LawStep) -> Result<LawStep, Memory> {
+    let position = step.position.try_copy(alloc)?;
     let given = match &step.given {
         Some(tree) => Some(tree.try_copy(alloc)?),
         None => None,
@@ -123,7 +124,7 @@ fn copied_step(alloc: Global, step: &LawStep) -> Result<LawStep, Memory> {
     Ok(LawStep {
         law: step.law,
         direction: step.direction,
-        position: step.position.try_copy(alloc)?,
+        position,
         given,
     })
 }

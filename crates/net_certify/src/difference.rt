@@ -1,6 +1,7 @@
 // Where two networks differ first.
 
 use leaf_core::{Expr, part, same_expr};
+use net_improve::copy_of;
 use net_syntax::{Net, Position, Tree, TreeRef, child, same_net};
 use sample_core::{Memory, same_type};
 use std::alloc::Global;
@@ -37,8 +38,8 @@ pub(crate) fn first_difference(
     }
     Ok(Some(Difference {
         position: Position::new(path),
-        first: copied(alloc, pair.0)?,
-        second: copied(alloc, pair.1)?,
+        first: copy_of(alloc, pair.0)?,
+        second: copy_of(alloc, pair.1)?,
     }))
 }
 
@@ -140,13 +141,5 @@ fn same_expr_node(a: &Expr, b: &Expr) -> bool {
         | (Expr::Nth(..), Expr::Nth(..))
         | (Expr::Len(_), Expr::Len(_)) => true,
         _ => false,
-    }
-}
-
-/// A copy of the tree.
-fn copied(alloc: Global, tree: TreeRef<'_>) -> Result<Tree, Memory> {
-    match tree {
-        TreeRef::Net(net) => Ok(Tree::Net(net.try_copy(alloc)?)),
-        TreeRef::Expr(expr) => Ok(Tree::Expr(expr.try_copy(alloc)?)),
     }
 }

@@ -1,9 +1,12 @@
 // The normal form of a network, by steps.
 
 use crate::table::{Row, SOURCE, TABLE, row_fits};
+use expr_improve::joined;
 use leaf_core::Expr;
-use net_improve::{Built, Clearing, Sketch, Stop, behind, front, head, length, rest};
-use net_syntax::{LawStep, Net, Tree, TreeRef, same_net};
+use net_improve::{
+    Built, Clearing, Sketch, Stop, behind, copied, front, head, length, rest, stage_way,
+};
+use net_syntax::{LawStep, Net, NetChild, TreeRef, same_net};
 use sample_core::Memory;
 use std::alloc::Global;
 
@@ -34,8 +37,7 @@ enum Task {
 #[derive(Drop)]
 struct Made {
     stages: usize,
-    new: Net<Expr>,
-    steps: Vec<LawStep>,
+    sketch: Sketch,
     built: Built,
     fuses: bool,
 }
@@ -66,8 +68,8 @@ fn first_tasks(alloc: Global) -> Result<Vec<Task>, Memory> {
 impl Former {
     /// The network, of which all is still to be done.
     fn new(alloc: Global, net: &Net<Expr>) -> Result<Former, Memory> {
+        let whole = copied(alloc, net)?;
         let tasks = first_tasks(alloc)?;
-        let whole = net.try_copy(alloc)?;
         Ok(Former {
             sketch: Sketch::new(alloc, whole, 0, Clearing::Always),
             tasks,
@@ -126,13 +128,9 @@ impl Former {
         self.sketch.flatten(path)?;
         let count = length(self.sketch.net_at(path)?);
         for i in 0..count {
-            let mut way = behind(alloc, path, i)?;
-            if i + 1 < count {
-                way.push(0)?;
-            }
+            self.tasks.push(Task::DropFront(path.to_vec(alloc)?, i))?;
             self.tasks
-                .push(Task::DropFront(behind(alloc, path, 0)?, i))?;
-            self.tasks.push(Task::Form(way))?;
+                .push(Task::Form(stage_way(alloc, path, i, count)?))?;
         }
         Ok(())
     }
@@ -141,8 +139,7 @@ impl Former {
     fn form_children(&mut self, path: &[u32]) -> Result<(), Stop> {
         let alloc = self.sketch.alloc;
         for k in 0..MOST_CHILDREN {
-            let mut way = behind(alloc, path, 0)?;
-            way.push(k)?;
+            let way = joined(alloc, path, &[k])?;
             let inner = self.sketch.at(&way)?;
             match inner.tree {
                 TreeRef::Net(_) => self.tasks.push(Task::Form(way))?,
@@ -154,7 +151,7 @@ impl Former {
 
     /// The chain at the path is to be settled, from the stage on that has so many behind it.
     fn settle_later(&mut self, path: &[u32], stages: usize) -> Result<(), Stop> {
-        let way = behind(self.sketch.alloc, path, 0)?;
+        let way = path.to_vec(self.sketch.alloc)?;
         self.tasks.push(Task::Settle(way, stages))?;
         Ok(())
     }
@@ -235,30 +232,32 @@ impl Former {
             return Ok(None);
         }
         let window = front(self.sketch.alloc, chain, row.1)?;
-        tried(self.sketch.alloc, row, window, spot.olds)
+        tried(self.sketch.alloc, row, &window, spot.olds)
     }
 
     /// Puts what was made of some stages in their place, and what it built is to be formed.
     fn put(&mut self, path: &[u32], stage: usize, made: Made) -> Result<(), Stop> {
-        let alloc = self.sketch.alloc;
-        let count = length(self.sketch.net_at(path)?);
-        if made.fuses && stage.saturating_add(2) < count {
-            let mut way = behind(alloc, path, stage)?;
-            self.sketch.forward(10, &way)?;
-            way.push(0)?;
-            way.push(0)?;
-            return self.sketch.clear(&way);
-        }
-        let way = self.sketch.gather(path, stage, made.stages)?;
         let Made {
-            stages: _,
-            new,
-            steps,
+            stages,
+            sketch,
             built,
-            fuses: _,
+            fuses,
         } = made;
-        self.sketch.took(&way, &Tree::Net(new), steps)?;
+        if fuses && rest(self.sketch.net_at(path)?, stage.saturating_add(2)).is_some() {
+            drop(sketch);
+            return self.fuse(path, stage);
+        }
+        let way = self.sketch.gather(path, stage, stages)?;
+        self.sketch.adopt(&way, sketch)?;
         self.form_built(&way, built)
+    }
+
+    /// Makes one `arr` of two at the stage of the chain at the path, with a stage behind them.
+    fn fuse(&mut self, path: &[u32], stage: usize) -> Result<(), Stop> {
+        let alloc = self.sketch.alloc;
+        let way = behind(alloc, path, stage)?;
+        self.sketch.forward(10, &way)?;
+        self.sketch.clear(&joined(alloc, &way, &[0, 0])?)
     }
 
     /// What a move built at the path is to be formed.
@@ -277,32 +276,30 @@ impl Former {
 
     /// What stands at a path behind another is to be formed.
     fn form_later(&mut self, path: &[u32], inner: &[u32]) -> Result<(), Stop> {
-        let mut way = behind(self.sketch.alloc, path, 0)?;
-        way.extend_from_slice(inner)?;
+        let way = joined(self.sketch.alloc, path, inner)?;
         self.tasks.push(Task::Form(way))?;
         Ok(())
     }
 }
 
 /// What the row's move makes of the stages, where it fits and changes them.
-fn tried(alloc: Global, row: &Row, window: Net<Expr>, olds: u32) -> Result<Option<Made>, Stop> {
-    let copy = window.try_copy(alloc)?;
-    let mut sketch = Sketch::new(alloc, copy, olds, Clearing::Always);
-    let built = match row.0.make(&mut sketch) {
-        Ok(built) => built,
-        Err(Stop::Unfit) => return Ok(None),
-        Err(Stop::Memory) => return Err(Stop::Memory),
-    };
-    if same_net(&sketch.net, &window) {
-        return Ok(None);
+fn tried(
+    alloc: Global,
+    row: &Row,
+    window: &NetChild<Expr>,
+    olds: u32,
+) -> Result<Option<Made>, Stop> {
+    let mut sketch = Sketch::new(alloc, window.try_copy()?, olds, Clearing::Always);
+    match row.0.make(&mut sketch) {
+        Ok(built) if !same_net(sketch.net.get(), window.get()) => Ok(Some(Made {
+            stages: row.1,
+            sketch,
+            built,
+            fuses: row.0.fuses(),
+        })),
+        Ok(_) | Err(Stop::Unfit) => Ok(None),
+        Err(Stop::Memory) => Err(Stop::Memory),
     }
-    Ok(Some(Made {
-        stages: row.1,
-        new: sketch.net,
-        steps: sketch.steps,
-        built,
-        fuses: row.0.fuses(),
-    }))
 }
 
 /// Whether one of the first so many stages of the chain is a loop.
@@ -334,8 +331,7 @@ fn spread(sketch: &mut Sketch, path: &[u32], depth: u32) -> Result<(), Stop> {
         return Ok(());
     }
     let alloc = sketch.alloc;
-    let mut inner = behind(alloc, path, 0)?;
-    inner.push(0)?;
+    let inner = joined(alloc, path, &[0])?;
     match sketch.net_at(path)? {
         Net::Seq(..) => {
             spread(sketch, &inner, depth - 1)?;
@@ -351,10 +347,8 @@ fn spread(sketch: &mut Sketch, path: &[u32], depth: u32) -> Result<(), Stop> {
 
 /// Parts the `first` of a chain at the path.
 fn part_first(sketch: &mut Sketch, path: &[u32]) -> Result<(), Stop> {
-    let mut way = behind(sketch.alloc, path, 0)?;
-    way.push(0)?;
-    sketch.flatten(&way)?;
-    way.pop();
+    sketch.flatten(&joined(sketch.alloc, path, &[0])?)?;
+    let mut way = path.to_vec(sketch.alloc)?;
     for _ in 0..MOST_DEPTH {
         let Net::Seq(..) = sketch.first_at(&way)? else {
             return Ok(());

@@ -11,7 +11,6 @@
 #![tactic(auto)]
 
 mod arr_forms;
-mod boxed;
 mod certifying;
 mod difference;
 mod forming;

@@ -1,9 +1,11 @@
 // Moves to the normal form, of loops.
 
-use crate::boxed::{boxed, copied, left, left_then, right, through};
-use expr_improve::{Rewriting, as_then};
+use expr_improve::{
+    Rewriting, as_part, as_then, beside_second, first_input, input, on_left, pair_of, second_input,
+    seen_through,
+};
 use leaf_core::{Expr, ExprChild, part, same_expr};
-use net_improve::{Built, LoopMove, Sketch, Stop, first, seq};
+use net_improve::{Built, LoopMove, Sketch, Stop, identity, seq};
 use net_syntax::{Direction, Law, LawStep, Net, Position, Tree};
 use sample_core::Memory;
 use std::alloc::Global;
@@ -57,64 +59,41 @@ fn merge(w: &mut Sketch) -> Result<Built, Stop> {
         Net::LoopPre(..) => 14,
         _ => 13,
     };
-    let both = first_of_two(w.alloc, w.first_at(&[0])?, w.first_at(&[1])?)?;
-    w.backward(6, &[], both)?;
+    w.join_firsts(&[])?;
     w.forward(number, &[0])?;
     Ok(Built::At(&[0, 1]))
 }
 
 fn front_in(w: &mut Sketch) -> Result<Built, Stop> {
     let found = left_behind(w.alloc, w.arr_at(&[0])?)?;
-    w.rewrite_arr(&[0], found)?;
-    w.part(&[0])?;
+    w.part_by(&[0], found)?;
     w.forward(3, &[])?;
-    made_first(w, &[1, 0])?;
-    let both = first_of_two(w.alloc, w.first_at(&[1, 0])?, w.first_at(&[1, 1])?)?;
-    w.backward(6, &[1], both)?;
+    w.first_arr(&[1, 0])?;
+    w.join_firsts(&[1])?;
     w.forward(13, &[1, 0])?;
     w.forward(5, &[1, 0, 1, 0])?;
     w.clear(&[1, 0, 1, 0, 0])?;
     Ok(Built::At(&[1, 0, 1]))
 }
 
-/// `(pair a b)` as `(pair x b)`, and a of the left part behind it.
-fn left_behind(alloc: Global, e: &Expr) -> Result<Option<Rewriting>, Stop> {
-    let front = right_kept(alloc, e)?;
-    let back = left_made(alloc, e)?;
-    Ok(as_then(alloc, e, front.get(), back.get())?)
-}
-
-/// `(pair x b)` of `(pair a b)`.
-fn right_kept(alloc: Global, e: &Expr) -> Result<ExprChild, Stop> {
+/// `(pair a b)` as `(pair x b)`, and a of the left part behind it, where a isn't x.
+fn left_behind(alloc: Global, e: &Expr) -> Result<Option<Rewriting>, Memory> {
     match e {
-        Expr::Pair(_, b) => Ok(beside_input(alloc, b.get())?),
-        _ => Err(Stop::Unfit),
-    }
-}
-
-/// `(pair x e)`.
-fn beside_input(alloc: Global, e: &Expr) -> Result<ExprChild, Memory> {
-    let input = boxed(alloc, Expr::Input)?;
-    let e = copied(alloc, e)?;
-    boxed(alloc, Expr::Pair(input, e))
-}
-
-/// `(pair (then (fst x) a) (snd x))` of `(pair a b)`, where a isn't x.
-fn left_made(alloc: Global, e: &Expr) -> Result<ExprChild, Stop> {
-    match e {
-        Expr::Pair(a, _) if !is_input(a.get()) => Ok(left_of(alloc, a.get())?),
-        _ => Err(Stop::Unfit),
+        Expr::Pair(a, b) if !is_input(a.get()) => {
+            let front = pair_of(alloc, input(alloc)?, b.try_copy()?)?;
+            let back = on_left(alloc, a.get())?;
+            as_then(alloc, e, front.get(), back.get())
+        }
+        _ => Ok(None),
     }
 }
 
 fn back_in(w: &mut Sketch) -> Result<Built, Stop> {
     let found = left_before(w.alloc, w.arr_at(&[1])?)?;
-    w.rewrite_arr(&[1], found)?;
-    w.part(&[1])?;
+    w.part_by(&[1], found)?;
     w.regroup(&[])?;
-    made_first(w, &[0, 1])?;
-    let both = first_of_two(w.alloc, w.first_at(&[0, 0])?, w.first_at(&[0, 1])?)?;
-    w.backward(6, &[0], both)?;
+    w.first_arr(&[0, 1])?;
+    w.join_firsts(&[0])?;
     w.forward(14, &[0, 0])?;
     w.forward(5, &[0, 0, 1, 1])?;
     w.clear(&[0, 0, 1, 1, 0])?;
@@ -124,61 +103,34 @@ fn back_in(w: &mut Sketch) -> Result<Built, Stop> {
 /// The expression as its largest part of the left part alone, in the place of that, and what is
 /// left of it behind that.
 fn left_before(alloc: Global, e: &Expr) -> Result<Option<Rewriting>, Stop> {
-    let largest = largest_part(alloc, e)?;
+    let largest = largest_left(alloc, e)?;
     let front = left_alone(alloc, largest.get())?;
     let behind = behind_left(alloc, e, largest)?;
     Ok(as_then(alloc, e, front.get(), behind.get())?)
 }
 
-/// The largest part of the left part alone, where there is one.
-fn largest_part(alloc: Global, e: &Expr) -> Result<ExprChild, Stop> {
-    match largest_left(alloc, e)? {
-        Some(largest) => Ok(boxed(alloc, largest)?),
-        None => Err(Stop::Unfit),
-    }
-}
-
 /// The part, which uses the left part alone, in the place of that, beside the right part.
 fn left_alone(alloc: Global, e: &Expr) -> Result<ExprChild, Stop> {
-    let part = left(alloc)?;
-    let inside = through(alloc, e, part.get())?;
-    Ok(left_of(alloc, inside.get())?)
+    let inside = through(alloc, e, first_input(alloc)?)?;
+    Ok(on_left(alloc, inside.get())?)
 }
 
 /// What is left of the expression where its part stands in the place of the left part.
 fn behind_left(alloc: Global, e: &Expr, part: ExprChild) -> Result<ExprChild, Stop> {
-    let seen = beside_right(alloc, part)?;
-    through(alloc, e, seen.get())
+    let seen = beside_second(alloc, part)?;
+    through(alloc, e, seen)
 }
 
-/// Makes the `arr` of `(pair (then (fst x) e) (snd x))` at the path `(first (arr e))`.
-fn made_first(w: &mut Sketch, path: &[u32]) -> Result<(), Stop> {
-    let given = first_of_left(w.alloc, w.arr_at(path)?)?;
-    w.backward(5, path, given)
-}
-
-/// `(first (arr e))` of `(pair (then (fst x) e) (snd x))`.
-fn first_of_left(alloc: Global, e: &Expr) -> Result<Net<Expr>, Stop> {
-    let Expr::Pair(left, _) = e else {
-        return Err(Stop::Unfit);
-    };
-    let Expr::Then(_, inside) = left.get() else {
-        return Err(Stop::Unfit);
-    };
-    let inside = inside.get().try_copy(alloc)?;
-    Ok(first(alloc, Net::Arr(inside))?)
-}
-
-/// `(first (>>> f g))`.
-fn first_of_two(alloc: Global, f: &Net<Expr>, g: &Net<Expr>) -> Result<Net<Expr>, Memory> {
-    let f = f.try_copy(alloc)?;
-    let g = g.try_copy(alloc)?;
-    let both = seq(alloc, f, g)?;
-    first(alloc, both)
+/// What is left of the expression behind f, where it sees no more of the input than f does.
+fn through(alloc: Global, e: &Expr, f: ExprChild) -> Result<ExprChild, Stop> {
+    match seen_through(alloc, e, f.get())? {
+        Some(g) => Ok(g),
+        None => Err(Stop::Unfit),
+    }
 }
 
 fn whole(w: &mut Sketch) -> Result<Built, Stop> {
-    let given = behind_input(w.alloc, w.net_at(&[])?)?;
+    let given = seq(w.alloc, identity(w.alloc)?, w.net.try_copy()?)?;
     w.backward(1, &[], given)?;
     let position = Position::of_node(w.alloc, &[0, 0])?;
     let parts = both_parts(w.alloc)?;
@@ -191,29 +143,11 @@ fn whole(w: &mut Sketch) -> Result<Built, Stop> {
     front_in(w)
 }
 
-/// `(>>> (arr x) f)`.
-fn behind_input(alloc: Global, f: &Net<Expr>) -> Result<Net<Expr>, Memory> {
-    let f = f.try_copy(alloc)?;
-    seq(alloc, Net::Arr(Expr::Input), f)
-}
-
 /// `(pair (fst x) (snd x))`.
 fn both_parts(alloc: Global) -> Result<Expr, Memory> {
-    let first = left(alloc)?;
-    let second = right(alloc)?;
+    let first = first_input(alloc)?;
+    let second = second_input(alloc)?;
     Ok(Expr::Pair(first, second))
-}
-
-/// `(pair (then (fst x) e) (snd x))`.
-fn left_of(alloc: Global, e: &Expr) -> Result<ExprChild, Memory> {
-    let part = left_then(alloc, e)?;
-    beside_right(alloc, part)
-}
-
-/// `(pair e (snd x))`.
-fn beside_right(alloc: Global, e: ExprChild) -> Result<ExprChild, Memory> {
-    let second = right(alloc)?;
-    boxed(alloc, Expr::Pair(e, second))
 }
 
 /// What a part of an expression uses of the input, a pair.
@@ -272,9 +206,9 @@ fn both_used(a: Uses, b: Uses) -> Uses {
 
 /// The one largest part that uses the left part of the input alone, where it is not just that, and
 /// nothing else uses it; the input isn't used as a whole.
-fn largest_left(alloc: Global, e: &Expr) -> Result<Option<Expr>, Stop> {
+fn largest_left(alloc: Global, e: &Expr) -> Result<ExprChild, Stop> {
     if uses_of(e, MOST_DEPTH) == Uses::Whole {
-        return Ok(None);
+        return Err(Stop::Unfit);
     }
     let mut todo = Vec::new(alloc);
     todo.push((e, MOST_DEPTH))?;
@@ -286,13 +220,13 @@ fn largest_left(alloc: Global, e: &Expr) -> Result<Option<Expr>, Stop> {
         match uses_of(e, depth) {
             Uses::Nothing => {}
             Uses::Left => match found {
-                Some(other) if !same_expr(other, e) => return Ok(None),
+                Some(other) if !same_expr(other, e) => return Err(Stop::Unfit),
                 _ => found = Some(e),
             },
             _ => push_parts(&mut todo, e, depth)?,
         }
     }
-    Ok(None)
+    Err(Stop::Unfit)
 }
 
 /// The most parts that are looked at, of a whole expression.
@@ -317,10 +251,10 @@ fn push_parts<'e>(todo: &mut Vec<(&'e Expr, u32)>, e: &'e Expr, depth: u32) -> R
 }
 
 /// A copy of the part, where it isn't just the left part of the input.
-fn copy_of_part(alloc: Global, found: Option<&Expr>) -> Result<Option<Expr>, Stop> {
+fn copy_of_part(alloc: Global, found: Option<&Expr>) -> Result<ExprChild, Stop> {
     match found {
-        Some(Expr::Fst(inner)) if is_input(inner.get()) => Ok(None),
-        Some(e) => Ok(Some(e.try_copy(alloc)?)),
-        None => Ok(None),
+        Some(Expr::Fst(inner)) if is_input(inner.get()) => Err(Stop::Unfit),
+        Some(e) => Ok(as_part(alloc, e)?),
+        None => Err(Stop::Unfit),
     }
 }

@@ -1,12 +1,14 @@
 // Moves of stages that are an `arr`.
 
-use crate::build::arr_pair;
+use crate::build::{arr_pair, unit};
 use crate::cost::cost;
 use crate::moves::Built;
 use crate::sketch::{Clearing, Sketch, Stop};
-use expr_improve::{as_then, shared_at};
-use leaf_core::{Expr, Literal};
+use expr_improve::{Rewriting, as_then, shared_at};
+use leaf_core::Expr;
 use net_syntax::Net;
+use sample_core::Memory;
+use std::alloc::Global;
 
 /// A move of stages that are an `arr`.
 #[derive(Clone, Copy)]
@@ -50,7 +52,7 @@ fn drop_front(w: &mut Sketch) -> Result<(), Stop> {
     match w.net_at(&[1])? {
         Net::After(..) | Net::Repeatedly(..) | Net::Time => w.forward(20, &[]),
         Net::Arr(e) if !hears(e) => {
-            let found = as_then(w.alloc, e, &Expr::Literal(Literal::Unit), e)?;
+            let found = behind_unit(w.alloc, e)?;
             w.rewrite_arr(&[1], found)?;
             w.forward(25, &[])?;
             w.clear(&[0])
@@ -59,8 +61,14 @@ fn drop_front(w: &mut Sketch) -> Result<(), Stop> {
     }
 }
 
+/// The expression, which doesn't use its input, as itself behind `unit`.
+fn behind_unit(alloc: Global, e: &Expr) -> Result<Option<Rewriting>, Memory> {
+    let unit = unit(alloc)?;
+    as_then(alloc, e, unit.get(), e)
+}
+
 /// Whether the expression may use its input.
-pub fn hears(e: &Expr) -> bool {
+fn hears(e: &Expr) -> bool {
     match e {
         Expr::Input | Expr::On(..) | Expr::List(..) => true,
         Expr::Param(_) | Expr::Literal(_) | Expr::NoEvent(_) => false,
@@ -105,7 +113,7 @@ fn split(w: &mut Sketch, path: &[u32]) -> Result<(), Stop> {
             return Ok(());
         };
         let two = arr_pair(w.alloc, f.get(), g.get())?;
-        if cost(&two) >= cost(one) {
+        if cost(two.get()) >= cost(one) {
             return Ok(());
         }
         w.backward(4, &way, two)?;
@@ -117,6 +125,5 @@ fn split(w: &mut Sketch, path: &[u32]) -> Result<(), Stop> {
 /// What the `arr` computes twice, in one before it.
 fn share(w: &mut Sketch) -> Result<(), Stop> {
     let found = shared_at(w.alloc, w.arr_at(&[])?)?;
-    w.rewrite_arr(&[], found)?;
-    w.part(&[])
+    w.part_by(&[], found)
 }

@@ -1,11 +1,10 @@
 // What moves do to an `arr`: its expression changed, and parted in two.
 
-use crate::build::{arr_pair, first};
-use crate::chain::regrouped;
+use crate::build::{arr, arr_pair, first};
 use crate::sketch::{Clearing, Sketch, Stop};
-use expr_improve::{Rewriting, as_left, as_then, improve_expr, normal_expr, seen_through};
+use expr_improve::{Rewriting, as_left, as_then, improve_expr, joined, normal_expr, seen_through};
 use leaf_core::Expr;
-use net_syntax::{Net, Tree};
+use net_syntax::{NetChild, TreeRef};
 use sample_core::Memory;
 use std::alloc::Global;
 
@@ -14,17 +13,24 @@ impl Sketch {
     pub fn clear(&mut self, path: &[u32]) -> Result<(), Stop> {
         let clearing = self.clearing;
         let found = cleared(self.alloc, clearing, self.expr_at(path)?)?;
-        self.took(path, &Tree::Expr(found.result), found.steps)
+        self.rewrite(path, found)
+    }
+
+    /// Rewrites the expression at the path as it was found.
+    fn rewrite(&mut self, path: &[u32], found: Rewriting) -> Result<(), Stop> {
+        let Rewriting {
+            result: expr,
+            steps,
+        } = found;
+        self.took(path, TreeRef::Expr(expr.get()), steps)
     }
 
     /// Rewrites the expression of the `arr` at the path, where a way was found.
     pub fn rewrite_arr(&mut self, path: &[u32], found: Option<Rewriting>) -> Result<(), Stop> {
-        let Some(found) = found else {
-            return Err(Stop::Unfit);
-        };
-        let mut way = path.to_vec(self.alloc)?;
-        way.push(0)?;
-        self.took(&way, &Tree::Expr(found.result), found.steps)
+        match found {
+            Some(found) => self.rewrite(&joined(self.alloc, path, &[0])?, found),
+            None => Err(Stop::Unfit),
+        }
     }
 
     /// Parts `(arr (then f g))` at the path in two.
@@ -36,36 +42,31 @@ impl Sketch {
         self.backward(4, path, two)
     }
 
-    /// Parts the `arr` at the path in `(arr f)` and what is left of it behind that.
-    pub fn part_behind(&mut self, path: &[u32], f: &Expr) -> Result<(), Stop> {
-        let e = self.arr_at(path)?;
-        let Some(g) = seen_through(self.alloc, e, f)? else {
-            return Err(Stop::Unfit);
-        };
-        let found = as_then(self.alloc, e, f, &g)?;
+    /// Rewrites the expression of the `arr` at the path to a `then`, where a way was found, and
+    /// parts it there.
+    pub fn part_by(&mut self, path: &[u32], found: Option<Rewriting>) -> Result<(), Stop> {
         self.rewrite_arr(path, found)?;
         self.part(path)
     }
 
-    /// Makes the first two stages of the chain at the path one, by L3 backward.
-    pub fn regroup(&mut self, path: &[u32]) -> Result<(), Stop> {
-        let given = regrouped(self.alloc, self.net_at(path)?)?;
-        self.backward(3, path, given)
+    /// Parts the `arr` at the path in `(arr f)` and what is left of it behind that.
+    pub fn part_behind(&mut self, path: &[u32], f: &Expr) -> Result<(), Stop> {
+        let found = behind_other(self.alloc, self.arr_at(path)?, f)?;
+        self.part_by(path, found)
     }
 
     /// Makes the `arr` at the path, of the left part alone, `(first (arr h))`.
     pub fn left_at(&mut self, path: &[u32]) -> Result<(), Stop> {
         let found = as_left(self.alloc, self.arr_at(path)?)?;
         self.rewrite_arr(path, found)?;
+        self.first_arr(path)
+    }
+
+    /// Makes the `arr` of `(pair (then (fst x) h) (snd x))` at the path `(first (arr h))`.
+    pub fn first_arr(&mut self, path: &[u32]) -> Result<(), Stop> {
         let given = first_of_left(self.alloc, self.arr_at(path)?)?;
         self.backward(5, path, given)
     }
-}
-
-/// `(first (arr h))`, of `(pair (then (fst x) h) (snd x))`.
-fn first_of_left(alloc: Global, e: &Expr) -> Result<Net<Expr>, Stop> {
-    let inner = inside_left(e)?.try_copy(alloc)?;
-    Ok(first(alloc, Net::Arr(inner))?)
 }
 
 /// The expression cleared up, with the steps.
@@ -76,13 +77,21 @@ fn cleared(alloc: Global, clearing: Clearing, expr: &Expr) -> Result<Rewriting, 
     }
 }
 
-/// The h of `(pair (then (fst x) h) (snd x))`.
-fn inside_left(e: &Expr) -> Result<&Expr, Stop> {
+/// The expression as f and what is left of it behind that.
+fn behind_other(alloc: Global, e: &Expr, f: &Expr) -> Result<Option<Rewriting>, Memory> {
+    match seen_through(alloc, e, f)? {
+        Some(g) => as_then(alloc, e, f, g.get()),
+        None => Ok(None),
+    }
+}
+
+/// `(first (arr h))`, of `(pair (then (fst x) h) (snd x))`.
+fn first_of_left(alloc: Global, e: &Expr) -> Result<NetChild<Expr>, Stop> {
     let Expr::Pair(left, _) = e else {
         return Err(Stop::Unfit);
     };
     match left.get() {
-        Expr::Then(_, h) => Ok(h.get()),
+        Expr::Then(_, h) => Ok(first(alloc, arr(alloc, h.get())?)?),
         _ => Err(Stop::Unfit),
     }
 }

@@ -1,109 +1,98 @@
-// Expressions and networks that moves make.
+// Expressions and networks that moves make, as parts of others: such a part is cheap to let go of.
 
+use expr_improve::{
+    beside_second, first_input, first_of, input, of_second, pair_of, second_input, second_of,
+};
 use leaf_core::{Expr, ExprChild, Literal};
 use net_syntax::{Net, NetChild};
-use sample_core::{Memory, Ty};
+use sample_core::Memory;
 use std::alloc::Global;
 
 /// `unit`.
-pub fn unit() -> Expr {
-    Expr::Literal(Literal::Unit)
-}
-
-/// `(fst e)`.
-pub fn fst(alloc: Global, e: Expr) -> Result<Expr, Memory> {
-    Ok(Expr::Fst(ExprChild::new(alloc, e)?))
-}
-
-/// `(snd e)`.
-pub fn snd(alloc: Global, e: Expr) -> Result<Expr, Memory> {
-    Ok(Expr::Snd(ExprChild::new(alloc, e)?))
-}
-
-/// `(pair a b)`.
-pub fn pair(alloc: Global, a: Expr, b: Expr) -> Result<Expr, Memory> {
-    let a = ExprChild::new(alloc, a)?;
-    let b = ExprChild::new(alloc, b)?;
-    Ok(Expr::Pair(a, b))
-}
-
-/// `(then f g)`.
-pub fn then(alloc: Global, f: Expr, g: Expr) -> Result<Expr, Memory> {
-    let f = ExprChild::new(alloc, f)?;
-    let g = ExprChild::new(alloc, g)?;
-    Ok(Expr::Then(f, g))
+pub(crate) fn unit(alloc: Global) -> Result<ExprChild, Memory> {
+    ExprChild::new(alloc, Expr::Literal(Literal::Unit))
 }
 
 /// `(pair (snd x) (fst x))`.
-pub fn swap(alloc: Global) -> Result<Expr, Memory> {
-    let a = snd(alloc, Expr::Input)?;
-    let b = fst(alloc, Expr::Input)?;
-    pair(alloc, a, b)
+pub(crate) fn swap(alloc: Global) -> Result<ExprChild, Memory> {
+    let first = second_input(alloc)?;
+    let second = first_input(alloc)?;
+    pair_of(alloc, first, second)
 }
 
 /// `(pair (fst (fst x)) (pair (snd (fst x)) (snd x)))`.
-pub fn assoc(alloc: Global) -> Result<Expr, Memory> {
-    let a = fst(alloc, Expr::Input)?;
-    let a = fst(alloc, a)?;
-    let b = behind_fst(alloc)?;
-    pair(alloc, a, b)
-}
-
-/// `(pair (snd (fst x)) (snd x))`.
-fn behind_fst(alloc: Global) -> Result<Expr, Memory> {
-    let a = fst(alloc, Expr::Input)?;
-    let a = snd(alloc, a)?;
-    let b = snd(alloc, Expr::Input)?;
-    pair(alloc, a, b)
+pub fn assoc(alloc: Global) -> Result<ExprChild, Memory> {
+    let second = beside_second(alloc, second_of(alloc, first_input(alloc)?)?)?;
+    let first = first_of(alloc, first_input(alloc)?)?;
+    pair_of(alloc, first, second)
 }
 
 /// `(pair (pair (fst x) (fst (snd x))) (snd (snd x)))`.
-pub fn unassoc(alloc: Global) -> Result<Expr, Memory> {
-    let a = before_snd(alloc)?;
-    let b = snd(alloc, Expr::Input)?;
-    let b = snd(alloc, b)?;
-    pair(alloc, a, b)
+pub fn unassoc(alloc: Global) -> Result<ExprChild, Memory> {
+    let inner = first_of(alloc, second_input(alloc)?)?;
+    let first = pair_of(alloc, first_input(alloc)?, inner)?;
+    let second = second_of(alloc, second_input(alloc)?)?;
+    pair_of(alloc, first, second)
 }
 
-/// `(pair (fst x) (fst (snd x)))`.
-fn before_snd(alloc: Global) -> Result<Expr, Memory> {
-    let a = fst(alloc, Expr::Input)?;
-    let b = snd(alloc, Expr::Input)?;
-    let b = fst(alloc, b)?;
-    pair(alloc, a, b)
+/// `(on x none (event (then (snd x) g)))`, with `none` of the type of what g answers: g of each
+/// event.
+fn map_of(alloc: Global, none: ExprChild, g: &Expr) -> Result<ExprChild, Memory> {
+    let event = ExprChild::new(alloc, Expr::Event(of_second(alloc, g)?))?;
+    let input = input(alloc)?;
+    ExprChild::new(alloc, Expr::On(input, none, event))
 }
 
-/// `(on x (none T) (event (then (snd x) g)))`, with the type T of what g answers: g of each event.
-pub fn map_of(alloc: Global, carried: Ty, g: Expr) -> Result<Expr, Memory> {
-    let event = event_behind(alloc, g)?;
-    let none = ExprChild::new(alloc, Expr::NoEvent(carried))?;
-    let input = ExprChild::new(alloc, Expr::Input)?;
-    Ok(Expr::On(input, none, event))
+/// `(>>> (arr m) (hold start))`, where m is g of each event, and `none` of the type of what g
+/// answers.
+pub fn map_before_hold(
+    alloc: Global,
+    none: ExprChild,
+    g: &Expr,
+    start: &Expr,
+) -> Result<NetChild<Expr>, Memory> {
+    let map = arr(alloc, map_of(alloc, none, g)?.get())?;
+    let hold = NetChild::new(alloc, Net::Hold(start.try_copy(alloc)?))?;
+    seq(alloc, map, hold)
 }
 
-/// `(event (then (snd x) g))`.
-fn event_behind(alloc: Global, g: Expr) -> Result<ExprChild, Memory> {
-    let value = snd(alloc, Expr::Input)?;
-    let value = then(alloc, value, g)?;
-    let value = ExprChild::new(alloc, value)?;
-    ExprChild::new(alloc, Expr::Event(value))
+/// A copy of the network.
+pub fn copied(alloc: Global, net: &Net<Expr>) -> Result<NetChild<Expr>, Memory> {
+    NetChild::new(alloc, net.try_copy(alloc)?)
+}
+
+/// `(arr x)`.
+pub fn identity(alloc: Global) -> Result<NetChild<Expr>, Memory> {
+    NetChild::new(alloc, Net::Arr(Expr::Input))
+}
+
+/// `(arr e)`.
+pub(crate) fn arr(alloc: Global, e: &Expr) -> Result<NetChild<Expr>, Memory> {
+    NetChild::new(alloc, Net::Arr(e.try_copy(alloc)?))
 }
 
 /// `(>>> f g)`.
-pub fn seq(alloc: Global, f: Net<Expr>, g: Net<Expr>) -> Result<Net<Expr>, Memory> {
-    let f = NetChild::new(alloc, f)?;
-    let g = NetChild::new(alloc, g)?;
-    Ok(Net::Seq(f, g))
-}
-
-/// `(first f)`.
-pub fn first(alloc: Global, f: Net<Expr>) -> Result<Net<Expr>, Memory> {
-    Ok(Net::First(NetChild::new(alloc, f)?))
+pub fn seq(alloc: Global, f: NetChild<Expr>, g: NetChild<Expr>) -> Result<NetChild<Expr>, Memory> {
+    NetChild::new(alloc, Net::Seq(f, g))
 }
 
 /// `(>>> (arr f) (arr g))`.
-pub fn arr_pair(alloc: Global, f: &Expr, g: &Expr) -> Result<Net<Expr>, Memory> {
-    let f = f.try_copy(alloc)?;
-    let g = g.try_copy(alloc)?;
-    seq(alloc, Net::Arr(f), Net::Arr(g))
+pub(crate) fn arr_pair(alloc: Global, f: &Expr, g: &Expr) -> Result<NetChild<Expr>, Memory> {
+    let f = arr(alloc, f)?;
+    let g = arr(alloc, g)?;
+    seq(alloc, f, g)
+}
+
+/// `(first f)`.
+pub(crate) fn first(alloc: Global, f: NetChild<Expr>) -> Result<NetChild<Expr>, Memory> {
+    NetChild::new(alloc, Net::First(f))
+}
+
+/// `(loopPre c f)`.
+pub(crate) fn loop_pre(
+    alloc: Global,
+    c: &Expr,
+    f: NetChild<Expr>,
+) -> Result<NetChild<Expr>, Memory> {
+    NetChild::new(alloc, Net::LoopPre(c.try_copy(alloc)?, f))
 }

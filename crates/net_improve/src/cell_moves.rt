@@ -1,14 +1,14 @@
 // Moves of cells, and of what makes or takes events.
 
-use crate::build::{map_of, pair, seq, swap, then};
+use crate::build::{map_before_hold, swap};
 use crate::chain::{behind, head, length};
 use crate::moves::Built;
 use crate::sketch::{Sketch, Stop};
-use crate::types::type_told;
-use expr_improve::as_map;
-use leaf_core::{Expr, same_expr, type_of_expr};
-use net_syntax::Net;
-use sample_core::{Memory, Ty};
+use crate::types::none_told;
+use expr_improve::{as_map, as_part, joined, pair_of, then_of};
+use leaf_core::{Expr, ExprChild, type_of_expr};
+use net_syntax::{Net, NetChild};
+use sample_core::Ty;
 use std::alloc::Global;
 
 /// A move of cells, or of what makes or takes events.
@@ -79,29 +79,49 @@ fn map_front(w: &mut Sketch) -> Result<(), Stop> {
 }
 
 fn pair_cells(w: &mut Sketch) -> Result<(), Stop> {
-    let alloc = w.alloc;
-    let swap = swap(alloc)?;
-    let Net::IPre(c) = w.first_at(&[0])? else {
-        return Err(Stop::Unfit);
-    };
-    let Net::IPre(d) = w.first_at(&[1, 1, 0])? else {
-        return Err(Stop::Unfit);
-    };
-    if !same_expr(w.arr_at(&[1, 0])?, &swap) {
+    if !is_swap(w.arr_at(&[1, 0])?) {
         return Err(Stop::Unfit);
     }
-    let both = Net::IPre(pair(alloc, c.try_copy(alloc)?, d.try_copy(alloc)?)?);
-    if same_expr(w.arr_at(&[1, 1, 1])?, &swap) {
+    let both = cell_of_both(w.alloc, w.first_at(&[0])?, w.first_at(&[1, 1, 0])?)?;
+    if is_swap(w.arr_at(&[1, 1, 1])?) {
         return w.backward(12, &[], both);
     }
-    w.part_behind(&[1, 1, 1], &swap)?;
+    w.part_behind(&[1, 1, 1], swap(w.alloc)?.get())?;
     w.gather(&[], 0, 4)?;
     w.backward(12, &[0], both)
 }
 
+/// Whether the expression is `(pair (snd x) (fst x))`.
+fn is_swap(e: &Expr) -> bool {
+    let Expr::Pair(first, second) = e else {
+        return false;
+    };
+    match (first.get(), second.get()) {
+        (Expr::Snd(a), Expr::Fst(b)) => {
+            matches!(a.get(), Expr::Input) && matches!(b.get(), Expr::Input)
+        }
+        _ => false,
+    }
+}
+
+/// `(iPre (pair c d))` of `(iPre c)` and `(iPre d)`.
+fn cell_of_both(
+    alloc: Global,
+    first: &Net<Expr>,
+    second: &Net<Expr>,
+) -> Result<NetChild<Expr>, Stop> {
+    match (first, second) {
+        (Net::IPre(c), Net::IPre(d)) => {
+            let both = pair_of(alloc, as_part(alloc, c)?, as_part(alloc, d)?)?;
+            Ok(NetChild::new(alloc, Net::IPre(both.get().try_copy(alloc)?))?)
+        }
+        _ => Err(Stop::Unfit),
+    }
+}
+
 fn pass(w: &mut Sketch) -> Result<(), Stop> {
     w.arr_at(&[0])?;
-    let count = length(&w.net);
+    let count = length(w.net.get());
     for j in (1..count.saturating_sub(1)).rev() {
         pass_one(w, j, j.saturating_add(2) < count)?;
     }
@@ -133,9 +153,7 @@ fn pass_cell(w: &mut Sketch, path: &[u32]) -> Result<(), Stop> {
         _ => return Err(Stop::Unfit),
     };
     w.forward(number, path)?;
-    let mut way = behind(w.alloc, path, 1)?;
-    way.push(0)?;
-    w.clear(&way)
+    w.clear(&joined(w.alloc, path, &[1, 0])?)
 }
 
 fn hold_map(w: &mut Sketch) -> Result<(), Stop> {
@@ -148,36 +166,20 @@ fn hold_map(w: &mut Sketch) -> Result<(), Stop> {
 }
 
 /// The `hold` with g behind it as a map of events before a `hold`.
-fn map_held(alloc: Global, hold: &Net<Expr>, g: &Expr) -> Result<Net<Expr>, Stop> {
+fn map_held(alloc: Global, hold: &Net<Expr>, g: &Expr) -> Result<NetChild<Expr>, Stop> {
     let Net::Hold(c) = hold else {
         return Err(Stop::Unfit);
     };
-    let start = started(alloc, c, g)?;
-    let map = mapped(alloc, &start, g)?;
-    Ok(seq(alloc, Net::Arr(map), Net::Hold(start))?)
+    let start = then_of(alloc, &as_part(alloc, c)?, g)?;
+    let none = none_held(alloc, start.get())?;
+    Ok(map_before_hold(alloc, none, g, start.get())?)
 }
 
-/// `(then c g)`.
-fn started(alloc: Global, c: &Expr, g: &Expr) -> Result<Expr, Memory> {
-    let c = c.try_copy(alloc)?;
-    let g = g.try_copy(alloc)?;
-    then(alloc, c, g)
-}
-
-/// The map of g over events, of the type of what a `hold` starts with.
-fn mapped(alloc: Global, start: &Expr, g: &Expr) -> Result<Expr, Stop> {
-    let g = g.try_copy(alloc)?;
-    let carried = type_held(alloc, start)?;
-    Ok(map_of(alloc, carried, g)?)
-}
-
-/// The type of what a `hold` starts with, where that is known whatever the parameters are.
-fn type_held(alloc: Global, start: &Expr) -> Result<Ty, Stop> {
-    if let Ok(held) = type_of_expr(alloc, &[], &Ty::Unit, start) {
-        return Ok(held);
-    }
-    match type_told(alloc, start)? {
-        Some(held) => Ok(held),
-        None => Err(Stop::Unfit),
+/// `(none T)`, with the type T of what a `hold` starts with, where that is known whatever the
+/// parameters are.
+fn none_held(alloc: Global, start: &Expr) -> Result<ExprChild, Stop> {
+    match type_of_expr(alloc, &[], &Ty::Unit, start) {
+        Ok(held) => Ok(ExprChild::new(alloc, Expr::NoEvent(held))?),
+        Err(_) => none_told(alloc, start),
     }
 }

@@ -1,5 +1,6 @@
 // Chains of stages, nested to the right.
 
+use crate::build::{copied, first, seq};
 use crate::sketch::{Sketch, Stop};
 use leaf_core::Expr;
 use net_syntax::{Net, NetChild};
@@ -17,9 +18,14 @@ pub fn behind(alloc: Global, path: &[u32], stages: usize) -> Result<Vec<u32>, St
     Ok(way)
 }
 
-/// The way to a stage of a chain of so many.
-pub fn stage_way(alloc: Global, stage: usize, count: usize) -> Result<Vec<u32>, Stop> {
-    let mut way = behind(alloc, &[], stage)?;
+/// The way to a stage of the chain of so many at the path.
+pub fn stage_way(
+    alloc: Global,
+    path: &[u32],
+    stage: usize,
+    count: usize,
+) -> Result<Vec<u32>, Stop> {
+    let mut way = behind(alloc, path, stage)?;
     if stage.saturating_add(1) < count {
         way.push(0)?;
     }
@@ -27,14 +33,13 @@ pub fn stage_way(alloc: Global, stage: usize, count: usize) -> Result<Vec<u32>, 
 }
 
 /// The first k stages of the chain.
-pub fn front(alloc: Global, chain: &Net<Expr>, k: usize) -> Result<Net<Expr>, Stop> {
+pub fn front(alloc: Global, chain: &Net<Expr>, k: usize) -> Result<NetChild<Expr>, Stop> {
     match chain {
-        Net::Seq(f, _) if k == 1 => Ok(f.get().try_copy(alloc)?),
-        _ if k == 1 => Ok(chain.try_copy(alloc)?),
+        Net::Seq(f, _) if k == 1 => Ok(f.try_copy()?),
+        _ if k == 1 => Ok(copied(alloc, chain)?),
         Net::Seq(f, rest) if k > 1 => {
             let rest = front(alloc, rest.get(), k - 1)?;
-            let rest = NetChild::new(alloc, rest)?;
-            Ok(Net::Seq(f.try_copy()?, rest))
+            Ok(seq(alloc, f.try_copy()?, rest)?)
         }
         _ => Err(Stop::Unfit),
     }
@@ -49,7 +54,7 @@ pub fn head(chain: &Net<Expr>) -> &Net<Expr> {
 }
 
 /// The chain's last stage.
-pub fn last(chain: &Net<Expr>) -> &Net<Expr> {
+pub(crate) fn last(chain: &Net<Expr>) -> &Net<Expr> {
     match chain {
         Net::Seq(_, rest) => last(rest.get()),
         _ => chain,
@@ -79,7 +84,7 @@ pub fn length(chain: &Net<Expr>) -> usize {
 impl Sketch {
     /// Nests the chain at the path to the right, by L3.
     pub fn flatten(&mut self, path: &[u32]) -> Result<(), Stop> {
-        let mut way = behind(self.alloc, path, 0)?;
+        let mut way = path.to_vec(self.alloc)?;
         for _ in 0..MOST_STAGES {
             let Net::Seq(f, _) = self.net_at(&way)? else {
                 return Ok(());
@@ -101,9 +106,7 @@ impl Sketch {
             return Ok(way);
         };
         for j in (1..k).rev() {
-            let at = behind(self.alloc, &way, j - 1)?;
-            let given = regrouped(self.alloc, self.net_at(&at)?)?;
-            self.backward(3, &at, given)?;
+            self.regroup(&behind(self.alloc, &way, j - 1)?)?;
         }
         way.push(0)?;
         Ok(way)
@@ -111,7 +114,7 @@ impl Sketch {
 
     /// Nests to the right again what `gather` made one tree.
     pub fn scatter(&mut self, path: &[u32]) -> Result<(), Stop> {
-        let mut way = behind(self.alloc, path, 0)?;
+        let mut way = path.to_vec(self.alloc)?;
         for _ in 0..MOST_STAGES {
             let Net::Seq(f, _) = self.net_at(&way)? else {
                 return Ok(());
@@ -124,16 +127,56 @@ impl Sketch {
         }
         Ok(())
     }
+
+    /// Makes the first two stages of the chain at the path one, by L3 backward.
+    pub fn regroup(&mut self, path: &[u32]) -> Result<(), Stop> {
+        let given = regrouped(self.alloc, self.net_at(path)?)?;
+        self.backward(3, path, given)
+    }
+
+    /// Makes `(>>> (first f) (first g))` at the path `(first (>>> f g))`, by L6 backward.
+    pub fn join_firsts(&mut self, path: &[u32]) -> Result<(), Stop> {
+        let given = first_of_both(self.alloc, self.net_at(path)?)?;
+        self.backward(6, path, given)
+    }
+
+    /// Makes `(>>> f (first g))` at the path `(>>> (first g) f)`, by L7 backward.
+    pub fn exchange(&mut self, path: &[u32]) -> Result<(), Stop> {
+        let given = exchanged(self.alloc, self.net_at(path)?)?;
+        self.backward(7, path, given)
+    }
 }
 
 /// The chain with its first two stages as one.
-pub fn regrouped(alloc: Global, chain: &Net<Expr>) -> Result<Net<Expr>, Stop> {
+fn regrouped(alloc: Global, chain: &Net<Expr>) -> Result<NetChild<Expr>, Stop> {
     let Net::Seq(f, rest) = chain else {
         return Err(Stop::Unfit);
     };
     let Net::Seq(g, h) = rest.get() else {
         return Err(Stop::Unfit);
     };
-    let both = Net::Seq(f.try_copy()?, g.try_copy()?);
-    Ok(Net::Seq(NetChild::new(alloc, both)?, h.try_copy()?))
+    let both = seq(alloc, f.try_copy()?, g.try_copy()?)?;
+    Ok(seq(alloc, both, h.try_copy()?)?)
+}
+
+/// `(first (>>> f g))` of `(>>> (first f) (first g))`.
+fn first_of_both(alloc: Global, chain: &Net<Expr>) -> Result<NetChild<Expr>, Stop> {
+    let Net::Seq(a, b) = chain else {
+        return Err(Stop::Unfit);
+    };
+    match (a.get(), b.get()) {
+        (Net::First(f), Net::First(g)) => {
+            let both = seq(alloc, f.try_copy()?, g.try_copy()?)?;
+            Ok(first(alloc, both)?)
+        }
+        _ => Err(Stop::Unfit),
+    }
+}
+
+/// `(>>> g f)` of `(>>> f g)`.
+fn exchanged(alloc: Global, chain: &Net<Expr>) -> Result<NetChild<Expr>, Stop> {
+    match chain {
+        Net::Seq(f, g) => Ok(seq(alloc, g.try_copy()?, f.try_copy()?)?),
+        _ => Err(Stop::Unfit),
+    }
 }

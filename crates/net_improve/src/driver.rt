@@ -5,9 +5,11 @@ ghost use Rattle.net_syntax.specs.NetworkView.{tree_of};
 ghost use Rattle.net_syntax.specs.LawStep.{step_of};
 ghost use Rattle.net_improve.specs.Improving.{Improved};
 
+use crate::build::copied;
 use crate::cost::cost;
 use crate::search::{MOST_TRIES, improve_net};
 use crate::sketch::{Clearing, Sketch, Stop};
+use cert_check::MOST_STEPS;
 use leaf_core::Expr;
 use net_edit::Draft;
 use net_syntax::{LawStep, Net, TypedNet};
@@ -32,7 +34,7 @@ pub fn improve(alloc: Global, source: &TypedNet) -> Result<(Net<Expr>, Vec<LawSt
 {
     let found = searched(alloc, source.net())?;
     let mut draft = Draft::new(alloc, source)?;
-    take_steps(alloc, &mut draft, found)?;
+    make_moves(alloc, &mut draft, found)?;
     if cost(draft.net().net()) < cost(source.net()) {
         answered(alloc, draft)
     } else {
@@ -50,33 +52,68 @@ fn answered(alloc: Global, draft: Draft) -> Result<(Net<Expr>, Vec<LawStep>), Me
     Ok((net, steps))
 }
 
-/// Steps that make the network cost less, where each may be taken.
-fn searched(alloc: Global, net: &Net<Expr>) -> Result<Vec<LawStep>, Memory> {
-    let mut sketch = Sketch::new(alloc, net.try_copy(alloc)?, 0, Clearing::ByCost);
+/// Moves that make the network cost less, where each may be made.
+fn searched(alloc: Global, net: &Net<Expr>) -> Result<Sketch, Memory> {
+    let mut sketch = Sketch::new(alloc, copied(alloc, net)?, 0, Clearing::ByCost);
     let mut tries = MOST_TRIES;
     match improve_net(&mut sketch, false, MOST_DEEP, &mut tries) {
         Ok(()) | Err(Stop::Unfit) => {
-            let Sketch { steps, .. } = sketch;
-            Ok(steps)
+            sketch.ends.push(sketch.steps.len())?;
+            Ok(sketch)
         }
         Err(Stop::Memory) => Err(Memory),
     }
 }
 
-/// Takes the steps, up to the first that may not be taken, or with which a certificate has too many
-/// bytes.
-fn take_steps(alloc: Global, draft: &mut Draft, steps: Vec<LawStep>) -> Result<(), Memory>
+/// Makes the moves, as far as a certificate has room for their steps, but for each of which a step
+/// may not be taken.
+fn make_moves(alloc: Global, draft: &mut Draft, found: Sketch) -> Result<(), Memory>
     ensures { draft.new.source ≡ draft.old.source }
 {
-    let count = fitting(alloc, &steps)?;
+    let Sketch { steps, ends, .. } = found;
+    let count = fitting(alloc, &steps)?.min(MOST_STEPS);
     let mut steps = steps;
     steps.truncate(count);
-    for step in steps {
-        if !draft.take(alloc, step)? {
-            return Ok(());
+    steps.reverse();
+    for end in ends {
+        let moved = last_steps(alloc, &mut steps, count.saturating_sub(end))?;
+        if let Some(moved) = made_again(alloc, draft.net().net(), moved)? {
+            let _made = draft.take_all(alloc, moved)?;
         }
     }
     Ok(())
+}
+
+/// Takes off the last steps, the last one first, until so many are left.
+fn last_steps(
+    alloc: Global,
+    steps: &mut Vec<LawStep>,
+    left: usize,
+) -> Result<Vec<LawStep>, Memory> {
+    let mut last = Vec::new(alloc);
+    for _ in left..steps.len() {
+        if let Some(step) = steps.pop() {
+            last.push(step)?;
+        }
+    }
+    Ok(last)
+}
+
+/// The steps of a move that was found, as it is made of this network; nothing where it doesn't fit.
+fn made_again(
+    alloc: Global,
+    net: &Net<Expr>,
+    moved: Vec<LawStep>,
+) -> Result<Option<Vec<LawStep>>, Memory> {
+    let mut sketch = Sketch::new(alloc, copied(alloc, net)?, 0, Clearing::ByCost);
+    match sketch.make_again(moved) {
+        Ok(()) => {
+            let Sketch { steps, .. } = sketch;
+            Ok(Some(steps))
+        }
+        Err(Stop::Unfit) => Ok(None),
+        Err(Stop::Memory) => Err(Memory),
+    }
 }
 
 /// How many of the steps a certificate has room for.

@@ -1,12 +1,17 @@
 // Moves of stages that are a `first`.
 
-use crate::build::{assoc, first, fst, pair, seq, snd, then, unassoc, unit};
+use crate::build::{assoc, unassoc, unit};
 use crate::chain::length;
 use crate::moves::Built;
 use crate::sketch::{Sketch, Stop};
-use expr_improve::{as_right, as_then, seen_through};
-use leaf_core::Expr;
+use expr_improve::{
+    Rewriting, as_late, as_right, as_then, first_input, on_left, second_input, seen_through,
+    then_of,
+};
+use leaf_core::{Expr, ExprChild};
 use net_syntax::Net;
+use sample_core::Memory;
+use std::alloc::Global;
 
 /// A move of stages that are a `first`.
 #[derive(Clone, Copy)]
@@ -100,45 +105,60 @@ fn before_arr(w: &mut Sketch) -> Result<(), Stop> {
 }
 
 fn heard(w: &mut Sketch) -> Result<(), Stop> {
-    let alloc = w.alloc;
     w.first_at(&[0])?;
-    if let Ok(()) = w.forward(8, &[]) {
-        return w.flatten(&[]);
+    match w.forward(8, &[]) {
+        Ok(()) => {}
+        Err(Stop::Unfit) => heard_apart(w)?,
+        Err(Stop::Memory) => return Err(Stop::Memory),
     }
-    w.part_behind(&[1], &fst(alloc, Expr::Input)?)?;
-    w.regroup(&[])?;
-    w.forward(8, &[0])?;
     w.flatten(&[])
 }
 
-fn unheard(w: &mut Sketch) -> Result<(), Stop> {
-    let alloc = w.alloc;
-    let inner = w.first_at(&[0])?.try_copy(alloc)?;
-    let e = w.arr_at(&[1])?;
-    let Some(_) = seen_through(alloc, e, &snd(alloc, Expr::Input)?)? else {
-        return Err(Stop::Unfit);
-    };
-    let nothing = then(alloc, unit(), unit())?;
-    let left = then(alloc, fst(alloc, Expr::Input)?, nothing.try_copy(alloc)?)?;
-    let front = pair(alloc, left, snd(alloc, Expr::Input)?)?;
-    let found = as_then(alloc, e, &front, e)?;
-    w.rewrite_arr(&[1], found)?;
-    w.part(&[1])?;
+/// The same, where the `arr` takes the left part and does more with it.
+fn heard_apart(w: &mut Sketch) -> Result<(), Stop> {
+    w.part_behind(&[1], first_input(w.alloc)?.get())?;
     w.regroup(&[])?;
-    let ended = Net::Arr(nothing);
-    w.backward(5, &[0, 1], first(alloc, ended.try_copy(alloc)?)?)?;
-    w.backward(6, &[0], first(alloc, seq(alloc, inner, ended)?)?)?;
+    w.forward(8, &[0])
+}
+
+fn unheard(w: &mut Sketch) -> Result<(), Stop> {
+    w.first_at(&[0])?;
+    let found = behind_unit_left(w.alloc, w.arr_at(&[1])?)?;
+    w.part_by(&[1], found)?;
+    w.regroup(&[])?;
+    w.first_arr(&[0, 1])?;
+    w.join_firsts(&[0])?;
     w.forward(25, &[0, 0])?;
     w.forward(5, &[0])?;
     w.forward(4, &[])?;
     w.clear(&[0])
 }
 
+/// The expression, where it uses the right part alone, as itself behind what makes the left part
+/// `unit`.
+fn behind_unit_left(alloc: Global, e: &Expr) -> Result<Option<Rewriting>, Memory> {
+    if !is_of_right(alloc, e)? {
+        return Ok(None);
+    }
+    let front = unit_left(alloc)?;
+    as_then(alloc, e, front.get(), e)
+}
+
+/// Whether the expression uses the right part alone.
+fn is_of_right(alloc: Global, e: &Expr) -> Result<bool, Memory> {
+    let second = second_input(alloc)?;
+    Ok(seen_through(alloc, e, second.get())?.is_some())
+}
+
+/// `(pair (then (fst x) (then unit unit)) (snd x))`.
+fn unit_left(alloc: Global) -> Result<ExprChild, Memory> {
+    let unit = unit(alloc)?;
+    let nothing = then_of(alloc, &unit, unit.get())?;
+    on_left(alloc, nothing.get())
+}
+
 fn two(w: &mut Sketch) -> Result<Built, Stop> {
-    let alloc = w.alloc;
-    let f = w.first_at(&[0])?.try_copy(alloc)?;
-    let g = w.first_at(&[1])?.try_copy(alloc)?;
-    w.backward(6, &[], first(alloc, seq(alloc, f, g)?)?)?;
+    w.join_firsts(&[])?;
     Ok(Built::At(&[0]))
 }
 
@@ -174,60 +194,50 @@ fn right_front(w: &mut Sketch) -> Result<(), Stop> {
 }
 
 fn right_back(w: &mut Sketch) -> Result<(), Stop> {
-    let alloc = w.alloc;
-    let stage = w.net_at(&[1, 0])?.try_copy(alloc)?;
     w.first_at(&[1, 0])?;
     w.arr_at(&[1, 1])?;
-    let found = as_right(alloc, w.arr_at(&[0])?)?;
+    let found = as_right(w.alloc, w.arr_at(&[0])?)?;
     w.rewrite_arr(&[0], found)?;
-    let right = w.net_at(&[0])?.try_copy(alloc)?;
     w.regroup(&[])?;
-    w.backward(7, &[0], seq(alloc, stage, right)?)?;
+    w.exchange(&[0])?;
     w.forward(3, &[])?;
     w.forward(4, &[1])?;
     w.clear(&[1, 0])
 }
 
 fn late(w: &mut Sketch) -> Result<(), Stop> {
-    let alloc = w.alloc;
-    let stage = w.net_at(&[1, 0])?.try_copy(alloc)?;
     w.first_at(&[1, 0])?;
     w.arr_at(&[1, 1])?;
-    let e = w.arr_at(&[0])?;
-    let Expr::Pair(a, b) = e else {
-        return Err(Stop::Unfit);
-    };
-    let kept = pair(alloc, a.get().try_copy(alloc)?, Expr::Input)?;
-    let made = then(alloc, snd(alloc, Expr::Input)?, b.get().try_copy(alloc)?)?;
-    let right = pair(alloc, fst(alloc, Expr::Input)?, made)?;
-    let found = as_then(alloc, e, &kept, &right)?;
-    w.rewrite_arr(&[0], found)?;
-    w.part(&[0])?;
+    let found = as_late(w.alloc, w.arr_at(&[0])?)?;
+    w.part_by(&[0], found)?;
     w.forward(3, &[])?;
     w.regroup(&[1])?;
-    w.backward(7, &[1, 0], seq(alloc, stage, Net::Arr(right))?)?;
+    w.exchange(&[1, 0])?;
     w.forward(3, &[1])?;
     w.forward(4, &[1, 1])?;
     w.clear(&[1, 1, 0])
 }
 
 fn nested(w: &mut Sketch) -> Result<(), Stop> {
-    let alloc = w.alloc;
     w.arr_at(&[0])?;
     let Net::First(_) = w.first_at(&[1, 0])? else {
         return Err(Stop::Unfit);
     };
-    let e = w.arr_at(&[1, 1])?;
-    let back = then(alloc, unassoc(alloc)?, e.try_copy(alloc)?)?;
-    let found = as_then(alloc, e, &assoc(alloc)?, &back)?;
-    w.rewrite_arr(&[1, 1], found)?;
-    w.part(&[1, 1])?;
+    let found = behind_assoc(w.alloc, w.arr_at(&[1, 1])?)?;
+    w.part_by(&[1, 1], found)?;
     w.regroup(&[1])?;
     w.forward(9, &[1, 0])?;
     w.forward(3, &[1])?;
     w.forward(10, &[])?;
     w.clear(&[0, 0])?;
     w.clear(&[1, 1, 0])
+}
+
+/// The expression as itself behind UNASSOC, and that behind ASSOC.
+fn behind_assoc(alloc: Global, e: &Expr) -> Result<Option<Rewriting>, Memory> {
+    let there = assoc(alloc)?;
+    let back = then_of(alloc, &unassoc(alloc)?, e)?;
+    as_then(alloc, e, there.get(), back.get())
 }
 
 fn push_front(w: &mut Sketch) -> Result<Built, Stop> {

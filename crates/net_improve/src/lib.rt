@@ -6,7 +6,7 @@
 //! promised: what is tried is a search, in which nothing is proved but that it is safe and ends. A
 //! `Sketch` is a network that it rewrites, with the steps so far; a `Move` is what it may do to a few
 //! stages that stand behind one another, which it does where the cost falls. Each step that it finds
-//! is checked again before it is taken.
+//! is checked again before it is taken; a move with one that is refused is left out.
 //!
 //! First `src/driver.rt`, then `src/search.rt` and `src/settle.rt`, then `src/moves.rt`, the moves,
 //! and `src/cost.rt`, what they are compared by.
@@ -29,15 +29,15 @@ mod sketch;
 mod switch_moves;
 mod types;
 
-pub use arr_moves::{ArrMove, hears};
-pub use build::{arr_pair, assoc, first, fst, map_of, pair, seq, snd, swap, then, unassoc, unit};
+pub use arr_moves::ArrMove;
+pub use build::{assoc, copied, identity, map_before_hold, seq, unassoc};
 pub use cell_moves::CellMove;
-pub use chain::{behind, front, head, last, length, rest, stage_way};
+pub use chain::{behind, front, head, length, rest, stage_way};
 pub use driver::improve;
 pub use first_moves::FirstMove;
 pub use laws::improved_laws;
 pub use loop_moves::LoopMove;
 pub use moves::{Built, Move};
-pub use sketch::{Clearing, Sketch, Spot, Stop};
+pub use sketch::{Clearing, Sketch, Spot, Stop, copy_of};
 pub use switch_moves::SwitchMove;
-pub use types::type_told;
+pub use types::none_told;

@@ -1,12 +1,13 @@
 // Moves of stages that are a `loopPre`.
 
-use crate::build::seq;
+use crate::build::{loop_pre, seq};
 use crate::chain::{last, length};
 use crate::moves::Built;
 use crate::sketch::{Sketch, Stop};
-use expr_improve::as_right;
+use expr_improve::{as_right, joined};
 use leaf_core::Expr;
 use net_syntax::{Net, NetChild};
+use std::alloc::Global;
 
 /// A move of stages that are a `loopPre`.
 #[derive(Clone, Copy)]
@@ -55,9 +56,7 @@ fn stage_in(w: &mut Sketch, number: u8, path: &[u32]) -> Result<(), Stop> {
         return Ok(());
     };
     w.forward(5, path)?;
-    let mut way = path.to_vec(w.alloc)?;
-    way.push(0)?;
-    w.clear(&way)
+    w.clear(&joined(w.alloc, path, &[0])?)
 }
 
 fn inner(w: &mut Sketch) -> Result<(), Stop> {
@@ -98,21 +97,27 @@ fn unfirst(w: &mut Sketch) -> Result<(), Stop> {
 
 /// The first stage of the loop, which leaves what is fed back alone, goes before it.
 fn first_out(w: &mut Sketch) -> Result<(), Stop> {
-    let alloc = w.alloc;
-    let Net::LoopPre(c, body) = w.net_at(&[])? else {
+    let given = before_loop(w.alloc, w.net_at(&[])?)?;
+    w.backward(13, &[], given)
+}
+
+/// `(>>> f (loopPre c g))` of `(loopPre c (>>> (first f) g))`.
+fn before_loop(alloc: Global, net: &Net<Expr>) -> Result<NetChild<Expr>, Stop> {
+    let Net::LoopPre(c, body) = net else {
         return Err(Stop::Unfit);
     };
-    let Net::Seq(_, rest) = body.get() else {
+    let Net::Seq(begin, rest) = body.get() else {
         return Err(Stop::Unfit);
     };
-    let inside = Net::LoopPre(c.try_copy(alloc)?, rest.try_copy()?);
-    let before = w.first_at(&[1, 0])?.try_copy(alloc)?;
-    w.backward(13, &[], seq(alloc, before, inside)?)
+    let Net::First(before) = begin.get() else {
+        return Err(Stop::Unfit);
+    };
+    let inside = loop_pre(alloc, c, rest.try_copy()?)?;
+    Ok(seq(alloc, before.try_copy()?, inside)?)
 }
 
 /// The last stage of the loop, which leaves what is fed back alone, goes behind it.
 fn last_out(w: &mut Sketch) -> Result<(), Stop> {
-    let alloc = w.alloc;
     let Net::LoopPre(_, body) = w.net_at(&[])? else {
         return Err(Stop::Unfit);
     };
@@ -121,9 +126,21 @@ fn last_out(w: &mut Sketch) -> Result<(), Stop> {
     };
     let count = length(body.get());
     w.gather(&[1], 0, count.saturating_sub(1))?;
-    let behind = w.first_at(&[1, 1])?.try_copy(alloc)?;
-    let inside = w.net_at(&[1, 0])?.try_copy(alloc)?;
-    let inside = NetChild::new(alloc, inside)?;
-    let start = w.expr_at(&[0])?.try_copy(alloc)?;
-    w.backward(14, &[], seq(alloc, Net::LoopPre(start, inside), behind)?)
+    let given = behind_loop(w.alloc, w.net_at(&[])?)?;
+    w.backward(14, &[], given)
+}
+
+/// `(>>> (loopPre c f) g)` of `(loopPre c (>>> f (first g)))`.
+fn behind_loop(alloc: Global, net: &Net<Expr>) -> Result<NetChild<Expr>, Stop> {
+    let Net::LoopPre(c, body) = net else {
+        return Err(Stop::Unfit);
+    };
+    let Net::Seq(rest, end) = body.get() else {
+        return Err(Stop::Unfit);
+    };
+    let Net::First(behind) = end.get() else {
+        return Err(Stop::Unfit);
+    };
+    let inside = loop_pre(alloc, c, rest.try_copy()?)?;
+    Ok(seq(alloc, inside, behind.try_copy()?)?)
 }

@@ -3,7 +3,7 @@
 use crate::chain::{length, stage_way};
 use crate::settle::{Search, settle};
 use crate::sketch::{Sketch, Stop};
-use net_syntax::{Net, Tree, TreeRef, child};
+use net_syntax::{Net, TreeRef, child};
 
 /// How deep moves are made in what moves build.
 const MOST_BUILT: u32 = 3;
@@ -22,7 +22,7 @@ pub(crate) fn improve_net(
     depth: u32,
     tries: &mut u32,
 ) -> Result<(), Stop> {
-    match &sketch.net {
+    match sketch.net.get() {
         Net::Seq(..) => improve_stages(sketch, depth, tries)?,
         _ => improve_children(sketch, depth, tries)?,
     }
@@ -34,9 +34,10 @@ pub(crate) fn improve_net(
 #[cycle(search)]
 fn improve_stages(chain: &mut Sketch, depth: u32, tries: &mut u32) -> Result<(), Stop> {
     chain.flatten(&[])?;
-    let count = length(&chain.net);
+    chain.end_move()?;
+    let count = length(chain.net.get());
     for stage in (0..count).rev() {
-        let way = stage_way(chain.alloc, stage, count)?;
+        let way = stage_way(chain.alloc, &[], stage, count)?;
         improve_part(chain, &way, false, depth, tries)?;
     }
     Ok(())
@@ -45,11 +46,14 @@ fn improve_stages(chain: &mut Sketch, depth: u32, tries: &mut u32) -> Result<(),
 /// Improves the children of the network, which is no chain.
 #[cycle(search)]
 fn improve_children(sketch: &mut Sketch, depth: u32, tries: &mut u32) -> Result<(), Stop> {
-    let in_loop = matches!(&sketch.net, Net::LoopPre(..));
+    let in_loop = matches!(sketch.net.get(), Net::LoopPre(..));
     for k in 0..MOST_CHILDREN {
-        match child(&sketch.net, k) {
+        match child(sketch.net.get(), k) {
             Some(TreeRef::Net(_)) => improve_part(sketch, &[k], in_loop, depth, tries)?,
-            Some(TreeRef::Expr(_)) => sketch.clear(&[k])?,
+            Some(TreeRef::Expr(_)) => {
+                sketch.clear(&[k])?;
+                sketch.end_move()?;
+            }
             None => return Ok(()),
         }
     }
@@ -70,6 +74,5 @@ fn improve_part(
     }
     let mut inner = sketch.inner(path)?;
     improve_net(&mut inner, in_loop, depth - 1, tries)?;
-    let Sketch { net, steps, .. } = inner;
-    sketch.took(path, &Tree::Net(net), steps)
+    sketch.adopt_moves(path, inner)
 }

@@ -5,7 +5,7 @@ use crate::cost::{cost_before, is_cell};
 use crate::moves::{Built, MOVES, Move};
 use crate::sketch::{Sketch, Stop};
 use leaf_core::Expr;
-use net_syntax::{LawStep, Net, Tree};
+use net_syntax::Net;
 
 /// How many places of a chain are looked at.
 const MOST_PLACES: u32 = 100_000;
@@ -31,7 +31,8 @@ struct Found {
 #[cycle(settle)]
 pub(crate) fn settle(chain: &mut Sketch, search: Search, tries: &mut u32) -> Result<(), Stop> {
     chain.flatten(&[])?;
-    let mut count = length(&chain.net);
+    chain.end_move()?;
+    let mut count = length(chain.net.get());
     let mut next = count;
     for _ in 0..MOST_PLACES {
         if next == 0 {
@@ -43,7 +44,7 @@ pub(crate) fn settle(chain: &mut Sketch, search: Search, tries: &mut u32) -> Res
             Some(found) => {
                 let reach = next.saturating_add(found.stages);
                 make(chain, place, found)?;
-                let now = length(&chain.net);
+                let now = length(chain.net.get());
                 next = reach.saturating_add(now).saturating_sub(count).min(now);
                 count = now;
             }
@@ -60,7 +61,7 @@ fn find(
     search: Search,
     tries: &mut u32,
 ) -> Result<Option<Found>, Stop> {
-    let Some(here) = rest(&chain.net, place) else {
+    let Some(here) = rest(chain.net.get(), place) else {
         return Ok(None);
     };
     for moved in MOVES {
@@ -109,18 +110,29 @@ fn attempt(
 ) -> Result<Option<Sketch>, Stop> {
     let stages = reach(moved, here);
     let window = front(chain.alloc, here, stages)?;
-    let next = rest(here, stages).map(head);
-    let copy = window.try_copy(chain.alloc)?;
-    let mut made = Sketch::new(chain.alloc, copy, chain.olds, chain.clearing);
-    let built = moved.make(&mut made)?;
-    improve_built(&mut made, built, search.depth, tries)?;
-    made.flatten(&[])?;
-    let before = cost_before(&window, next, search.in_loop);
-    if cost_before(&made.net, next, search.in_loop) < before {
+    let mut made = Sketch::new(chain.alloc, window, chain.olds, chain.clearing);
+    build(&mut made, moved, search.depth, tries)?;
+    if pays(&made, here, stages, search.in_loop)? {
         Ok(Some(made))
     } else {
         Ok(None)
     }
+}
+
+/// Makes the move, and improves what it built.
+#[cycle(settle)]
+fn build(made: &mut Sketch, moved: Move, depth: u32, tries: &mut u32) -> Result<(), Stop> {
+    let built = moved.make(made)?;
+    improve_built(made, built, depth, tries)?;
+    made.flatten(&[])
+}
+
+/// Whether what was made of the first stages here costs less than they do.
+fn pays(made: &Sketch, here: &Net<Expr>, stages: usize, in_loop: bool) -> Result<bool, Stop> {
+    let window = front(made.alloc, here, stages)?;
+    let next = rest(here, stages).map(head);
+    let before = cost_before(window.get(), next, in_loop);
+    Ok(cost_before(made.net.get(), next, in_loop) < before)
 }
 
 /// Puts what was found in the place of the stages, where so many stand before.
@@ -130,27 +142,27 @@ fn make(chain: &mut Sketch, place: usize, found: Found) -> Result<(), Stop> {
         stages,
         made,
     } = found;
-    let Sketch { net, steps, .. } = made;
-    if moved.fuses() && rest(&chain.net, place.saturating_add(2)).is_some() {
-        if let Net::Arr(_) = &net {
-            return fuse(chain, place, &Tree::Net(net), steps);
-        }
+    let more = rest(chain.net.get(), place.saturating_add(2)).is_some();
+    if more && moved.fuses() && matches!(made.net.get(), Net::Arr(_)) {
+        return fuse(chain, place, made);
     }
     let way = chain.gather(&[], place, stages)?;
-    chain.took(&way, &Tree::Net(net), steps)?;
-    chain.scatter(&behind(chain.alloc, &[], place)?)
+    chain.adopt(&way, made)?;
+    chain.scatter(&behind(chain.alloc, &[], place)?)?;
+    chain.end_move()
 }
 
 /// Makes one `arr` of two with a stage behind them, by L10 in the place of the first step, L4.
-fn fuse(chain: &mut Sketch, place: usize, made: &Tree, steps: Vec<LawStep>) -> Result<(), Stop> {
+fn fuse(chain: &mut Sketch, place: usize, made: Sketch) -> Result<(), Stop> {
+    let mut made = made;
+    if !made.steps.is_empty() {
+        drop(made.steps.remove(0));
+    }
     let mut way = behind(chain.alloc, &[], place)?;
     chain.forward(10, &way)?;
     way.push(0)?;
-    let mut steps = steps;
-    if !steps.is_empty() {
-        steps.remove(0);
-    }
-    chain.took(&way, made, steps)
+    chain.adopt(&way, made)?;
+    chain.end_move()
 }
 
 /// Improves the networks that a move built.
@@ -165,7 +177,7 @@ fn improve_built(made: &mut Sketch, built: Built, depth: u32, tries: &mut u32) -
             improve_at(made, &[1], false, depth, tries)
         }
         Built::Members => {
-            for k in 0..members(&made.net) {
+            for k in 0..members(made.net.get()) {
                 improve_at(made, &[k], false, depth, tries)?;
             }
             Ok(())
@@ -198,16 +210,15 @@ fn improve_at(
     clear_stages(&mut inner)?;
     let depth = depth - 1;
     settle(&mut inner, Search { in_loop, depth }, tries)?;
-    let Sketch { net, steps, .. } = inner;
-    made.took(path, &Tree::Net(net), steps)
+    made.adopt(path, inner)
 }
 
 /// Improves the expressions of the chain's `arr`s.
 fn clear_stages(chain: &mut Sketch) -> Result<(), Stop> {
     chain.flatten(&[])?;
-    let count = length(&chain.net);
+    let count = length(chain.net.get());
     for stage in 0..count {
-        let mut way = stage_way(chain.alloc, stage, count)?;
+        let mut way = stage_way(chain.alloc, &[], stage, count)?;
         if let Ok(_) = chain.arr_at(&way) {
             way.push(0)?;
             chain.clear(&way)?;

@@ -1,9 +1,11 @@
 // A network that is rewritten, with the steps so far.
 
+use crate::build::copied;
+use expr_improve::joined;
 use expr_laws::apply_expr;
 use law_rules::apply_law;
 use leaf_core::{Expr, part};
-use net_syntax::{Direction, Law, LawStep, Net, Position, Tree, TreeRef, child, replace};
+use net_syntax::{Direction, Law, LawStep, Net, NetChild, Position, Tree, TreeRef, child, replace};
 use sample_core::{Memory, OutOfMemory};
 use std::alloc::Global;
 
@@ -36,13 +38,15 @@ pub struct Sketch {
     /// What its parts are allocated by.
     pub alloc: Global,
     /// The network.
-    pub net: Net<Expr>,
+    pub net: NetChild<Expr>,
     /// How many frozen networks are in scope.
     pub olds: u32,
     /// How far expressions are cleared up.
     pub clearing: Clearing,
     /// The steps, in the order in which they were taken.
     pub steps: Vec<LawStep>,
+    /// How many steps there were at the end of each move.
+    pub(crate) ends: Vec<usize>,
 }
 
 /// What stands at a place, and how many frozen networks are in scope there.
@@ -54,20 +58,21 @@ pub struct Spot<'n> {
 
 impl Sketch {
     /// The network, with no step yet.
-    pub fn new(alloc: Global, net: Net<Expr>, olds: u32, clearing: Clearing) -> Sketch {
+    pub fn new(alloc: Global, net: NetChild<Expr>, olds: u32, clearing: Clearing) -> Sketch {
         Sketch {
             alloc,
             net,
             olds,
             clearing,
             steps: Vec::new(alloc),
+            ends: Vec::new(alloc),
         }
     }
 
     /// What stands at the path.
     pub fn at(&self, path: &[u32]) -> Result<Spot<'_>, Stop> {
         let mut spot = Spot {
-            tree: TreeRef::Net(&self.net),
+            tree: TreeRef::Net(self.net.get()),
             olds: self.olds,
         };
         for k in path {
@@ -83,12 +88,10 @@ impl Sketch {
     pub fn inner(&self, path: &[u32]) -> Result<Sketch, Stop> {
         let spot = self.at(path)?;
         match spot.tree {
-            TreeRef::Net(net) => Ok(Sketch::new(
-                self.alloc,
-                net.try_copy(self.alloc)?,
-                spot.olds,
-                self.clearing,
-            )),
+            TreeRef::Net(net) => {
+                let net = copied(self.alloc, net)?;
+                Ok(Sketch::new(self.alloc, net, spot.olds, self.clearing))
+            }
             TreeRef::Expr(_) => Err(Stop::Unfit),
         }
     }
@@ -127,10 +130,25 @@ impl Sketch {
 
     /// Takes a step, where its law has an answer.
     pub fn take(&mut self, step: LawStep) -> Result<(), Stop> {
-        let new = self.answer(&step)?;
-        self.put(&step.position, &new)?;
-        self.steps.push(step)?;
-        Ok(())
+        match self.after(&step) {
+            Ok(net) => {
+                self.net = net;
+                self.steps.push(step)?;
+                Ok(())
+            }
+            Err(stop) => {
+                drop(step);
+                Err(stop)
+            }
+        }
+    }
+
+    /// The network with what the step's law answers.
+    fn after(&self, step: &LawStep) -> Result<NetChild<Expr>, Stop> {
+        let new = self.answer(step)?;
+        let net = self.with_tree(&step.position, &new);
+        drop(new);
+        net
     }
 
     /// What the step's law answers.
@@ -154,13 +172,10 @@ impl Sketch {
         }
     }
 
-    /// Puts the tree at the position.
-    fn put(&mut self, position: &Position, new: &Tree) -> Result<(), Stop> {
-        match replace(self.alloc, &self.net, position, new)? {
-            Some(net) => {
-                self.net = net;
-                Ok(())
-            }
+    /// The network with the tree at the position.
+    fn with_tree(&self, position: &Position, new: &Tree) -> Result<NetChild<Expr>, Stop> {
+        match replace(self.alloc, self.net.get(), position, new)? {
+            Some(net) => Ok(NetChild::new(self.alloc, net)?),
             None => Err(Stop::Unfit),
         }
     }
@@ -177,34 +192,97 @@ impl Sketch {
     }
 
     /// Takes a law of networks backward at the path, to the network that is given.
-    pub fn backward(&mut self, number: u8, path: &[u32], given: Net<Expr>) -> Result<(), Stop> {
-        let position = Position::of_node(self.alloc, path)?;
-        self.take(LawStep {
-            law: Law::L(number),
-            direction: Direction::Backward,
-            position,
-            given: Some(Tree::Net(given)),
-        })
-    }
-
-    /// Takes steps whose positions begin at the path.
-    pub fn run(&mut self, path: &[u32], steps: Vec<LawStep>) -> Result<(), Stop> {
-        for step in steps {
-            let step = below_path(self.alloc, path, step)?;
-            self.take(step)?;
-        }
-        Ok(())
+    pub fn backward(
+        &mut self,
+        number: u8,
+        path: &[u32],
+        given: NetChild<Expr>,
+    ) -> Result<(), Stop> {
+        let step = step_to(self.alloc, number, path, given.get());
+        drop(given);
+        self.take(step?)
     }
 
     /// Puts the tree at the path, to which these steps lead there.
-    pub fn took(&mut self, path: &[u32], new: &Tree, steps: Vec<LawStep>) -> Result<(), Stop> {
-        let position = Position::of_node(self.alloc, path)?;
-        self.put(&position, new)?;
+    pub(crate) fn took(
+        &mut self,
+        path: &[u32],
+        new: TreeRef<'_>,
+        steps: Vec<LawStep>,
+    ) -> Result<(), Stop> {
+        self.put(path, new)?;
         for step in steps {
             let step = below_path(self.alloc, path, step)?;
             self.steps.push(step)?;
         }
         Ok(())
+    }
+
+    /// Puts the other one's network at the path, to which its steps lead there.
+    pub fn adopt(&mut self, path: &[u32], inner: Sketch) -> Result<(), Stop> {
+        let Sketch { net, steps, .. } = inner;
+        self.took(path, TreeRef::Net(net.get()), steps)
+    }
+
+    /// The same, where each of the other one's moves is one of this.
+    pub(crate) fn adopt_moves(&mut self, path: &[u32], inner: Sketch) -> Result<(), Stop> {
+        let before = self.steps.len();
+        for end in &inner.ends {
+            self.ends.push(before.saturating_add(*end))?;
+        }
+        self.adopt(path, inner)
+    }
+
+    /// Takes a move's steps again.
+    pub(crate) fn make_again(&mut self, steps: Vec<LawStep>) -> Result<(), Stop> {
+        for step in steps {
+            self.take_again(step)?;
+        }
+        Ok(())
+    }
+
+    /// Takes a step again: L3 backward, whose tree has all in it that stands behind, to the tree of
+    /// what stands there.
+    fn take_again(&mut self, step: LawStep) -> Result<(), Stop> {
+        match (step.law, step.direction) {
+            (Law::L(3), Direction::Backward) => {
+                let done = self.regroup(step.position.path());
+                drop(step);
+                done
+            }
+            _ => self.take(step),
+        }
+    }
+
+    /// Ends a move, which stands whether or not those behind it can be made.
+    pub(crate) fn end_move(&mut self) -> Result<(), Stop> {
+        let count = self.steps.len();
+        let ended = match self.ends.last() {
+            Some(end) => *end,
+            None => 0,
+        };
+        if ended < count {
+            self.ends.push(count)?;
+        }
+        Ok(())
+    }
+
+    /// Puts the tree at the path.
+    fn put(&mut self, path: &[u32], new: TreeRef<'_>) -> Result<(), Stop> {
+        let position = Position::of_node(self.alloc, path)?;
+        let new = copy_of(self.alloc, new)?;
+        let net = self.with_tree(&position, &new);
+        drop(new);
+        self.net = net?;
+        Ok(())
+    }
+}
+
+/// A copy of the tree.
+pub fn copy_of(alloc: Global, tree: TreeRef<'_>) -> Result<Tree, Memory> {
+    match tree {
+        TreeRef::Net(net) => Ok(Tree::Net(net.try_copy(alloc)?)),
+        TreeRef::Expr(expr) => Ok(Tree::Expr(expr.try_copy(alloc)?)),
     }
 }
 
@@ -251,14 +329,36 @@ fn given_expr(step: &LawStep) -> Result<Option<&Expr>, Stop> {
     }
 }
 
+/// The step backward by a law of networks at the path, to the network that is given.
+fn step_to(alloc: Global, number: u8, path: &[u32], given: &Net<Expr>) -> Result<LawStep, Memory> {
+    let position = Position::of_node(alloc, path)?;
+    let given = Tree::Net(given.try_copy(alloc)?);
+    Ok(LawStep {
+        law: Law::L(number),
+        direction: Direction::Backward,
+        position,
+        given: Some(given),
+    })
+}
+
 /// The step with its position below the path.
 fn below_path(alloc: Global, path: &[u32], step: LawStep) -> Result<LawStep, Memory> {
-    let mut numbers = path.to_vec(alloc)?;
-    numbers.extend_from_slice(step.position.path())?;
-    Ok(LawStep {
-        law: step.law,
-        direction: step.direction,
-        position: Position::new(numbers),
-        given: step.given,
-    })
+    let LawStep {
+        law,
+        direction,
+        position,
+        given,
+    } = step;
+    match joined(alloc, path, position.path()) {
+        Ok(numbers) => Ok(LawStep {
+            law,
+            direction,
+            position: Position::new(numbers),
+            given,
+        }),
+        Err(refused) => {
+            drop(given);
+            Err(refused)
+        }
+    }
 }

@@ -1,13 +1,14 @@
 // Moves of stages that are a switch, or members.
 
-use crate::build::{pair, seq};
+use crate::build::seq;
 use crate::chain::{behind, length};
 use crate::moves::Built;
 use crate::sketch::{Sketch, Stop};
 use crate::types::type_told;
-use expr_improve::{Rewriting, as_then};
+use expr_improve::{Rewriting, as_then, input, pair_of};
 use leaf_core::{Expr, Exprs};
-use net_syntax::{Members, Net, same_net};
+use net_syntax::{Members, Net, NetChild, same_net};
+use sample_core::{Memory, Ty};
 use std::alloc::Global;
 
 /// A move of stages that are a switch, or members.
@@ -129,21 +130,19 @@ fn never(w: &mut Sketch) -> Result<Built, Stop> {
 /// Parts `(arr (pair e (none C)))` at the path in `(arr e)` and what makes the pair of that.
 fn part_never(w: &mut Sketch, path: &[u32]) -> Result<(), Stop> {
     let found = never_apart(w.alloc, w.arr_at(path)?)?;
-    w.rewrite_arr(path, found)?;
-    w.part(path)
+    w.part_by(path, found)
 }
 
 /// The way from `(pair e (none C))` back to `(then e (pair x (none C)))`.
-fn never_apart(alloc: Global, e: &Expr) -> Result<Option<Rewriting>, Stop> {
+fn never_apart(alloc: Global, e: &Expr) -> Result<Option<Rewriting>, Memory> {
     let Expr::Pair(value, none) = e else {
-        return Err(Stop::Unfit);
+        return Ok(None);
     };
     let Expr::NoEvent(_) = none.get() else {
-        return Err(Stop::Unfit);
+        return Ok(None);
     };
-    let never = none.get().try_copy(alloc)?;
-    let g = pair(alloc, Expr::Input, never)?;
-    Ok(as_then(alloc, e, value.get(), &g)?)
+    let g = pair_of(alloc, input(alloc)?, none.try_copy()?)?;
+    as_then(alloc, e, value.get(), g.get())
 }
 
 fn members_front(w: &mut Sketch) -> Result<Built, Stop> {
@@ -156,48 +155,65 @@ fn members_front(w: &mut Sketch) -> Result<Built, Stop> {
 }
 
 /// The stage with which all of two or more members begin, and behind it what is left of them.
-fn apart(alloc: Global, fs: &[Net<Expr>]) -> Result<Net<Expr>, Stop> {
+fn apart(alloc: Global, fs: &[Net<Expr>]) -> Result<NetChild<Expr>, Stop> {
     let [Net::Seq(front, _), _, ..] = fs else {
         return Err(Stop::Unfit);
     };
-    let mut rests = Vec::new(alloc);
+    let members = Members::new(alloc, rests(alloc, fs, front.get())?)?;
+    let members = NetChild::new(alloc, Net::Par(members))?;
+    Ok(seq(alloc, front.try_copy()?, members)?)
+}
+
+/// What is left of the members behind the stage with which they all begin.
+fn rests(alloc: Global, fs: &[Net<Expr>], front: &Net<Expr>) -> Result<Vec<Net<Expr>>, Stop> {
+    let mut all = Vec::new(alloc);
     for f in fs {
         let Net::Seq(begin, rest) = f else {
             return Err(Stop::Unfit);
         };
-        if !same_net(begin.get(), front.get()) {
+        if !same_net(begin.get(), front) {
             return Err(Stop::Unfit);
         }
-        rests.push(rest.get().try_copy(alloc)?)?;
+        all.push(rest.get().try_copy(alloc)?)?;
     }
-    let members = Net::Par(Members::new(alloc, rests)?);
-    Ok(seq(alloc, front.get().try_copy(alloc)?, members)?)
+    Ok(all)
 }
 
 fn members_arr(w: &mut Sketch) -> Result<Built, Stop> {
     let Net::Par(fs) = w.net_at(&[])? else {
         return Err(Stop::Unfit);
     };
-    let given = Net::Arr(list_of(w.alloc, fs.as_slice())?);
+    let given = list_of(w.alloc, fs.as_slice())?;
     w.backward(42, &[], given)?;
     Ok(Built::Nothing)
 }
 
-/// The list of what members answer that are all `arr`s, where the form of one tells its type.
-fn list_of(alloc: Global, fs: &[Net<Expr>]) -> Result<Expr, Stop> {
-    let mut element = None;
+/// The `arr` of the list of what members answer that are all `arr`s, where the form of one tells its
+/// type.
+fn list_of(alloc: Global, fs: &[Net<Expr>]) -> Result<NetChild<Expr>, Stop> {
+    let all = expressions(alloc, fs)?;
+    let element = element_told(alloc, all.as_slice())?;
+    Ok(NetChild::new(alloc, Net::Arr(Expr::List(element, all)))?)
+}
+
+/// The expressions of members that are all `arr`s.
+fn expressions(alloc: Global, fs: &[Net<Expr>]) -> Result<Exprs, Stop> {
     let mut all = Vec::new(alloc);
     for f in fs {
         let Net::Arr(e) = f else {
             return Err(Stop::Unfit);
         };
-        if element.is_none() {
-            element = type_told(alloc, e)?;
-        }
         all.push(e.try_copy(alloc)?)?;
     }
-    match element {
-        Some(element) => Ok(Expr::List(element, Exprs::new(alloc, all)?)),
-        None => Err(Stop::Unfit),
+    Ok(Exprs::new(alloc, all)?)
+}
+
+/// The type of what all these answer, where the form of one tells it.
+fn element_told(alloc: Global, all: &[Expr]) -> Result<Ty, Stop> {
+    for e in all {
+        if let Some(element) = type_told(alloc, e)? {
+            return Ok(element);
+        }
     }
+    Err(Stop::Unfit)
 }

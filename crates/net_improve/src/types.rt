@@ -1,12 +1,21 @@
 // The type of an expression, where its form tells it.
 
-use leaf_core::{Expr, Literal};
+use crate::sketch::Stop;
+use leaf_core::{Expr, ExprChild, Literal};
 use sample_core::{Memory, Ty, TyChild};
 use std::alloc::Global;
 
+/// `(none T)`, with the type T of the expression's values, where its form tells it.
+pub fn none_told(alloc: Global, e: &Expr) -> Result<ExprChild, Stop> {
+    match type_told(alloc, e)? {
+        Some(told) => Ok(ExprChild::new(alloc, Expr::NoEvent(told))?),
+        None => Err(Stop::Unfit),
+    }
+}
+
 /// The type of the expression's values, where its form tells it, whatever its input and its
 /// parameters are: not that of what is taken from these, nor of a pair or an event.
-pub fn type_told(alloc: Global, e: &Expr) -> Result<Option<Ty>, Memory> {
+pub(crate) fn type_told(alloc: Global, e: &Expr) -> Result<Option<Ty>, Memory> {
     match e {
         Expr::Literal(literal) => Ok(Some(type_of_literal(*literal))),
         Expr::Neg(_) | Expr::Add(..) | Expr::Sub(..) | Expr::Mul(..) | Expr::Len(_) => {
