@@ -104,7 +104,7 @@ impl Earlier {
         }
     }
 
-    /// The same blocks, shared. It takes no memory; `Memory` only where a count of references is
+    /// These blocks, shared. It takes no memory; `Memory` only where a count of references is
     /// full.
     #[inline(always)]
     fn try_copy(&self) -> Result<Earlier, Memory>

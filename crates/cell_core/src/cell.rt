@@ -85,9 +85,9 @@ impl Cell {
         answered(done, next, answer)
     }
 
-    /// The same, with the cell after it in the place of another one, and the answer in that of
-    /// another value. After a refusal some cell stands in the one place, and some value in the
-    /// other.
+    /// The step of `step`, with the cell after it in the place of another one, and the answer in
+    /// that of another value. After a refusal some cell stands in the one place, and some value in
+    /// the other.
     #[inline(always)]
     pub fn step_into(
         &self,

@@ -94,7 +94,7 @@ pub(crate) fn i_pre(
     i_pre_of_any(alloc, before, sample, place, out)
 }
 
-/// The same of any values.
+/// An `iPre` over values of any type, which are copied into their places.
 #[inline(never)]
 fn i_pre_of_any(
     alloc: Global,

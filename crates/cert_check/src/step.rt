@@ -97,7 +97,7 @@ pub fn answer_at(
     }
 }
 
-/// The same at a network, with so many frozen networks in scope.
+/// What a law answers at a network, with so many frozen networks in scope.
 fn answer_at_net(
     alloc: Global,
     law: Law,
@@ -120,7 +120,7 @@ fn answer_at_net(
     }
 }
 
-/// The same at an expression.
+/// What a law answers at an expression.
 fn answer_at_expr(
     alloc: Global,
     law: Law,

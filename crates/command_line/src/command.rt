@@ -62,7 +62,7 @@ pub enum Request<'a> {
     Improve { net: &'a str, wanted: Wanted },
     /// Whether a certificate leads from its source to its target.
     Check(Derivation<'a>),
-    /// The same, and then a run of the target.
+    /// A check, and then a run of the target.
     RunChecked(Derivation<'a>),
     /// Where steps lead.
     Apply(Leading<'a>),

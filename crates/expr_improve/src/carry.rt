@@ -47,7 +47,7 @@ pub(crate) fn regroup(
     Ok(())
 }
 
-/// The same of `(then f (then a b))`: f is carried into a.
+/// Carries f of `(then f (then a b))` into a.
 #[cycle(carry)]
 fn carried_then(
     log: &mut Log,
@@ -66,7 +66,7 @@ fn carried_then(
     }
 }
 
-/// The same of `(then f (on g d body))`.
+/// Carries f of `(then f (on g d body))` into its parts.
 #[cycle(carry)]
 fn carried_on(
     log: &mut Log,
@@ -101,7 +101,7 @@ fn carried_body(
     carried(log, &seen, body.get(), depth)
 }
 
-/// The same of `(then f e)`, where e is an operator.
+/// Carries f of `(then f e)`, where e is an operator, into its parts.
 #[cycle(carry)]
 fn carried_operator(
     log: &mut Log,

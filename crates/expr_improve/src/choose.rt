@@ -57,7 +57,7 @@ fn narrowed(alloc: Global, f: &ExprChild, e: &Expr) -> Result<Option<Found>, Mem
     narrowed_to(alloc, f, e, b, 8)
 }
 
-/// The same for one part, which law E`number` answers.
+/// `(then part e')` of `(then (pair a b) e)`, by law E`number`, which picks the part.
 fn narrowed_to(
     alloc: Global,
     f: &ExprChild,

@@ -16,7 +16,7 @@ pub struct Rewriting {
     pub steps: Vec<LawStep>,
 }
 
-/// The same, as searches hand it on.
+/// An expression that steps lead to, as searches hand it on.
 #[derive(Drop)]
 pub(crate) struct Found {
     /// The expression that the steps lead to.

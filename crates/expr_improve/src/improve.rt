@@ -104,7 +104,7 @@ fn finished(log: &mut Log, e: ExprChild) -> Result<ExprChild, Memory> {
     }
 }
 
-/// The same: a `then` is carried inwards always, and `fst` or `snd` of a pair opened.
+/// A `then` is carried inwards always, and `fst` or `snd` of a pair opened.
 fn finished_plainly(log: &mut Log, e: ExprChild) -> Result<ExprChild, Memory> {
     match e.get() {
         Expr::Then(f, g) => carried(log, f, g.get(), DEPTH),
@@ -112,7 +112,7 @@ fn finished_plainly(log: &mut Log, e: ExprChild) -> Result<ExprChild, Memory> {
     }
 }
 
-/// The same: a `then` is carried inwards, another form cleared up.
+/// A `then` is carried inwards where that is worth it, and another form cleared up.
 fn finished_well(log: &mut Log, e: ExprChild) -> Result<ExprChild, Memory> {
     match e.get() {
         Expr::Then(f, g) => pushed(log, f, g.get(), PUSH_DEPTH),

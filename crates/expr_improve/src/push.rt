@@ -35,7 +35,7 @@ pub(crate) fn pushed(
     }
 }
 
-/// The same of `(then (then a b) e)`.
+/// What becomes of `(then (then a b) e)`.
 #[cycle(push)]
 fn pushed_twice(
     log: &mut Log,
@@ -51,7 +51,8 @@ fn pushed_twice(
     pushed(log, a, inner.get(), depth)
 }
 
-/// The same where f goes to each part of e, or stays before it, whichever is aimed at.
+/// What becomes of `(then f e)` where f goes to each part of e, or stays before it, whichever is
+/// aimed at.
 #[cycle(push)]
 fn pushed_inwards(log: &mut Log, f: &ExprChild, e: &Expr, depth: u32) -> Result<ExprChild, Memory> {
     if size_within(f.get(), DEPTH).saturating_mul(size_within(e, DEPTH)) > MOST_PRODUCT {
@@ -65,7 +66,7 @@ fn pushed_inwards(log: &mut Log, f: &ExprChild, e: &Expr, depth: u32) -> Result<
     }
 }
 
-/// The same where f goes to each part of e.
+/// What becomes of `(then f e)` where f goes to each part of e.
 #[cycle(push)]
 fn through(log: &mut Log, f: &ExprChild, e: &Expr, depth: u32) -> Result<ExprChild, Memory> {
     match e {
@@ -75,8 +76,8 @@ fn through(log: &mut Log, f: &ExprChild, e: &Expr, depth: u32) -> Result<ExprChi
     }
 }
 
-/// The same of `(then f (then a b))`. Where f stays before a, all is left as it is: else it would be
-/// taken up again for ever.
+/// What becomes of `(then f (then a b))`. Where f stays before a, all is left as it is: else it
+/// would be taken up again for ever.
 #[cycle(push)]
 fn through_then(
     log: &mut Log,
@@ -98,7 +99,7 @@ fn through_then(
     pushed(log, &before, b.get(), depth)
 }
 
-/// The same of `(then f (on g d body))`.
+/// What becomes of `(then f (on g d body))`.
 #[cycle(push)]
 fn through_on(
     log: &mut Log,
@@ -134,7 +135,7 @@ fn pushed_body(
     pushed(log, &seen, body.get(), depth)
 }
 
-/// The same of `(then f e)`, where e is an operator.
+/// What becomes of `(then f e)`, where e is an operator.
 #[cycle(push)]
 fn through_operator(
     log: &mut Log,

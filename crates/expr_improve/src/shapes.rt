@@ -40,7 +40,7 @@ pub fn as_right(alloc: Global, e: &Expr) -> Result<Option<Rewriting>, Memory> {
     }
 }
 
-/// The same of `x`.
+/// `(pair (fst x) (then (snd x) g))` and the steps to it, of `x`.
 fn input_as_right(alloc: Global, first: ExprChild) -> Result<Option<Rewriting>, Memory> {
     let both = beside_second(alloc, first)?;
     let mut log = Log::new(alloc, Aim::Plain);
@@ -102,7 +102,8 @@ fn looked_at(
     }
 }
 
-/// The same, with the steps added.
+/// The expression with what stands at the path as `(then look g)`; the steps to it are added to the
+/// log.
 fn seen_at(
     log: &mut Log,
     e: &Expr,

@@ -113,7 +113,7 @@ fn replaced(
     }
 }
 
-/// The same of the expression's parts.
+/// The expression with each of its parts so replaced.
 #[cycle(replace)]
 fn replaced_parts(
     alloc: Global,
@@ -131,8 +131,8 @@ fn replaced_parts(
     Ok(Some(new))
 }
 
-/// The same of part k: what is behind a `then` has another input, and the body of `on` sees its own
-/// under `fst`.
+/// Part k, so replaced: what is behind a `then` has another input, and the body of `on` sees its
+/// own under `fst`.
 #[cycle(replace)]
 fn replaced_part(
     alloc: Global,

@@ -20,7 +20,7 @@ pub fn pick_element(alloc: Global, expr: &Expr) -> Result<Option<Expr>, Memory>
     }
 }
 
-/// The same of the parts of `nth`.
+/// The element that the parts of `nth` pick.
 fn pick_from(
     alloc: Global,
     list: &Expr,

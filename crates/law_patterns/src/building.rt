@@ -72,7 +72,7 @@ fn make_one(alloc: Global, form: Sym, stack: &mut Stack) -> Result<bool, Memory>
     }
 }
 
-/// The same of a form of two parts.
+/// Puts a form of two parts around the two on top of the stack. Whether they were there.
 fn make_two(alloc: Global, form: Sym, stack: &mut Stack) -> Result<bool, Memory>
     ensures { IfOk result (λ b. there b stack.new ≡ around_two (two_form form) stack.old) }
 {
@@ -82,7 +82,7 @@ fn make_two(alloc: Global, form: Sym, stack: &mut Stack) -> Result<bool, Memory>
     }
 }
 
-/// The same of a form of three parts.
+/// Puts a form of three parts around the three on top of the stack. Whether they were there.
 fn make_three(alloc: Global, form: Sym, stack: &mut Stack) -> Result<bool, Memory>
     ensures { IfOk result (λ b. there b stack.new ≡ around_three (three_form form) stack.old) }
 {

@@ -112,7 +112,8 @@ impl<'t> NetLetters<'t> {
         }
     }
 
-    /// The same of a form with a number, for which the number letter stands.
+    /// Whether the pattern fits the expression of a form with a number, for which the number letter
+    /// stands.
     pub fn meet_timed(
         &mut self,
         alloc: Global,

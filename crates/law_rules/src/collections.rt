@@ -111,7 +111,7 @@ pub(crate) fn elements_apart(alloc: Global, net: &Net<Expr>) -> Result<Option<Ne
     }
 }
 
-/// The same of the expression of an `arr`.
+/// The expression of an `arr`, a list, as the `parB` of its elements.
 fn list_apart(alloc: Global, e: &Expr) -> Result<Option<Net<Expr>>, Memory>
     ensures { IfOk result (λ o. option_map tree_of o ≡ law42 (arr (expression_of e.now))) }
 {
@@ -239,7 +239,7 @@ pub(crate) fn unchanging(alloc: Global, net: &Net<Expr>) -> Result<Option<Net<Ex
     }
 }
 
-/// The same of what goes before, and of the `rpSwitchB`.
+/// The `parB` that an `rpSwitchB` begins with, behind what goes before, where no event comes.
 fn unchanged(
     alloc: Global,
     before: &Net<Expr>,

@@ -43,9 +43,9 @@ pub fn eval(alloc: Global, expr: &Expr, params: &[Sample], x: &Sample) -> Result
     }
 }
 
-/// The same, where the value takes the place of another. Its parts stand where parts of that other
-/// stood, as far as no one else holds them, and take no memory there. After a refusal some value
-/// stands there.
+/// The value of `eval`, in the place of another. Its parts stand where parts of that other stood,
+/// as far as no one else holds them, and take no memory there. After a refusal some value stands
+/// there.
 #[inline(always)]
 pub fn eval_over(
     alloc: Global,
@@ -126,7 +126,7 @@ fn eval_pair(
     eval_new_pair(scope, a, b, place)
 }
 
-/// The same, where the pair takes a place of its own.
+/// The value of a pair that takes a place of its own.
 #[cycle(eval)]
 fn eval_new_pair(
     scope: &Scope<'_>,
@@ -183,7 +183,7 @@ fn eval_part(
     }
 }
 
-/// The same, where the value is on no path. No part of a part of it is looked for on a path again.
+/// A part of a value that is on no path. No part of a part of it is looked for on a path again.
 #[cycle(eval)]
 #[inline(never)]
 fn eval_part_off(
@@ -228,7 +228,7 @@ fn look<'v>(scope: &Scope<'v>, expr: &ExprChild) -> Result<Looked<'v>, Memory>
     }
 }
 
-/// The same, where a new value is made.
+/// A new value, to be looked at.
 #[cycle(eval)]
 #[inline(never)]
 fn eval_made<'v>(scope: &Scope<'v>, expr: &ExprChild) -> Result<Looked<'v>, Memory>
@@ -310,7 +310,7 @@ fn eval_event(scope: &Scope<'_>, e: &ExprChild, place: &mut Sample) -> Result<()
     eval_new_event(scope, e, place)
 }
 
-/// The same, where what the event carries takes a place of its own.
+/// The value of an event that carries a part, which takes a place of its own.
 #[cycle(eval)]
 fn eval_new_event(scope: &Scope<'_>, e: &ExprChild, place: &mut Sample) -> Result<(), Memory>
     ensures { OnOk result (datum_of place.new ≡ event (value_in e.now scope.now)) }
@@ -346,7 +346,7 @@ fn eval_on(
     found
 }
 
-/// The same, where the event has this value.
+/// The value of an `on` whose event has this value.
 #[cycle(eval)]
 #[tactic(auto, using(std::proofs::lemmas::Grind::common_steps))]
 fn eval_on_event(
@@ -422,7 +422,7 @@ fn eval_nth(
     found
 }
 
-/// The same, where the list has this value.
+/// The value of an `nth` whose list has this value.
 #[cycle(eval)]
 fn eval_element(
     scope: &Scope<'_>,
@@ -485,7 +485,7 @@ fn eval_number(scope: &Scope<'_>, child: &ExprChild) -> Result<i64, Memory>
     }
 }
 
-/// The same, of a part that is more than a word. A short path is followed here.
+/// The number of a part that is more than a word. A short path is followed here.
 #[cycle(eval)]
 fn far_number(scope: &Scope<'_>, child: &ExprChild) -> Result<i64, Memory>
     ensures { IfOk result (λ n. n ≡ int_of (value_in child.now scope.now)) }

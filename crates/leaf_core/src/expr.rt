@@ -254,7 +254,7 @@ impl ExprChild {
         &self.inner
     }
 
-    /// The same expression, shared. It takes no memory; `Memory` only where a count of references
+    /// This expression, shared. It takes no memory; `Memory` only where a count of references
     /// is full.
     pub fn try_copy(&self) -> Result<ExprChild, Memory>
         ensures { IfOk result (λ p. p ≡ self.now) }
@@ -281,7 +281,7 @@ impl Exprs {
         self.all.as_slice()
     }
 
-    /// The same elements, shared. It takes no memory; `Memory` only where a count of references is
+    /// These elements, shared. It takes no memory; `Memory` only where a count of references is
     /// full.
     pub fn try_copy(&self) -> Result<Exprs, Memory>
         ensures { IfOk result (λ es. es ≡ self.now) }

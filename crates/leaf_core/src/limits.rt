@@ -75,7 +75,7 @@ fn nodes_left(expr: &Expr, height: u32, nodes: u32) -> Option<u32>
     }
 }
 
-/// The same of two parts.
+/// How many of `nodes` two parts leave.
 #[cycle(left)]
 fn nodes_left_of_two(a: &ExprChild, b: &ExprChild, height: u32, nodes: u32) -> Option<u32>
     ensures { NodesLeft result (max (height_of a.now) (height_of b.now))
@@ -85,7 +85,7 @@ fn nodes_left_of_two(a: &ExprChild, b: &ExprChild, height: u32, nodes: u32) -> O
     nodes_left(b.get(), height, nodes)
 }
 
-/// The same of three parts.
+/// How many of `nodes` three parts leave.
 #[cycle(left)]
 fn nodes_left_of_three(
     a: &ExprChild,
@@ -101,7 +101,7 @@ fn nodes_left_of_three(
     nodes_left(c.get(), height, nodes)
 }
 
-/// The same of the elements of a list expression.
+/// How many of `nodes` the elements of a list expression leave.
 #[cycle(left)]
 #[tactic(auto, using(crate::proofs::Places::element_smaller))]
 fn nodes_left_of_all(all: &Exprs, height: u32, nodes: u32) -> Option<u32>

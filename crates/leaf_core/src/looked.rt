@@ -54,7 +54,7 @@ pub fn path_at<'v>(scope: &Scope<'v>, expr: &Expr) -> Option<&'v Sample>
     }
 }
 
-/// The same, in a frame of its own.
+/// Where the value of a path of any length stands, in a frame of its own.
 #[cycle(path)]
 #[inline(never)]
 fn long_path_at<'v>(scope: &Scope<'v>, expr: &Expr) -> Option<&'v Sample>
@@ -64,7 +64,8 @@ fn long_path_at<'v>(scope: &Scope<'v>, expr: &Expr) -> Option<&'v Sample>
     path_at(scope, expr)
 }
 
-/// The same of a path of no step or one off the input; `None` says nothing of another.
+/// Where the value of a path of no step or one off the input stands; `None` says nothing of
+/// another.
 #[inline(always)]
 pub fn short_path_at<'v>(x: &'v Sample, expr: &Expr) -> Option<&'v Sample>
     ensures { IfSome result

@@ -91,7 +91,7 @@ fn with_part(alloc: Global, expr: &Expr, k: u32, other: Expr) -> Result<Option<E
     }
 }
 
-/// The same of a form of one part.
+/// A form of one part, with the other one as part k.
 fn with_part_of_one(
     alloc: Global,
     form: &Expr,
@@ -111,7 +111,7 @@ fn with_part_of_one(
     Ok(Some(with_one_part(form, other)))
 }
 
-/// The same of a form of two parts.
+/// A form of two parts, with the other one as part k.
 fn with_part_of_two(
     alloc: Global,
     form: &Expr,
@@ -138,7 +138,7 @@ fn with_part_of_two(
     }
 }
 
-/// The same of a form of three parts.
+/// A form of three parts, with the other one as part k.
 fn with_part_of_three(
     alloc: Global,
     form: &Expr,
@@ -166,7 +166,7 @@ fn with_part_of_three(
     }
 }
 
-/// The same of a list of elements of the type.
+/// A list of elements of the type, with the other one as element k.
 fn with_element(
     alloc: Global,
     element: &Ty,

@@ -236,7 +236,7 @@ fn walk_on(
     found
 }
 
-/// The same, where the event is of the type.
+/// The type of an `on` whose event is of the type.
 #[cycle(walk)]
 fn walk_on_event(
     scope: &TypeScope<'_>,
@@ -257,7 +257,7 @@ fn walk_on_event(
     }
 }
 
-/// The same, where the event carries the type.
+/// The type of an `on` whose event carries the type.
 #[cycle(walk)]
 fn walk_default(
     scope: &TypeScope<'_>,
@@ -318,7 +318,7 @@ fn walk_nth(
     found
 }
 
-/// The same, where the list is of the type.
+/// The type of an `nth` whose list is of the type.
 #[cycle(walk)]
 fn walk_nth_of(
     scope: &TypeScope<'_>,
@@ -338,7 +338,7 @@ fn walk_nth_of(
     }
 }
 
-/// The same, where the elements are of the type.
+/// The type of an `nth` whose elements are of the type.
 #[cycle(walk)]
 fn walk_element(
     scope: &TypeScope<'_>,

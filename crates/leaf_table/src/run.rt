@@ -118,9 +118,10 @@ pub fn run_general(
     }
 }
 
-/// The same, where `last` keeps the last answer from call to call, unless it is a number: the next
-/// one takes no memory for parts that stand where parts of the last stood, as far as no one else
-/// holds these any more. A sum, a difference or a product is a number, and doesn't ask for it.
+/// The value of `run_general`, where `last` keeps the last answer from call to call, unless it is a
+/// number: the next one takes no memory for parts that stand where parts of the last stood, as far
+/// as no one else holds these any more. A sum, a difference or a product is a number, and doesn't
+/// ask for it.
 #[inline(always)]
 pub fn run_again(
     alloc: Global,
@@ -138,7 +139,7 @@ pub fn run_again(
     }
 }
 
-/// The same, where the last answer is asked for whatever the expression is.
+/// The value at the input, in the place of the last answer, whatever the expression is.
 #[inline(never)]
 fn run_over(
     alloc: Global,

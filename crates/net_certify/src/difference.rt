@@ -87,7 +87,7 @@ fn same_node(a: TreeRef<'_>, b: TreeRef<'_>) -> bool {
     }
 }
 
-/// The same of networks.
+/// Whether two networks have one form, with one number in it.
 fn same_net_node(a: &Net<Expr>, b: &Net<Expr>) -> bool {
     match (a, b) {
         (Net::Delay(q, _), Net::Delay(r, _))
@@ -116,7 +116,7 @@ fn same_net_node(a: &Net<Expr>, b: &Net<Expr>) -> bool {
     }
 }
 
-/// The same of expressions.
+/// Whether two expressions have one form, with one number or type in it.
 fn same_expr_node(a: &Expr, b: &Expr) -> bool {
     match (a, b) {
         (Expr::List(t, es), Expr::List(u, fs)) => {

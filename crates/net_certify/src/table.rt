@@ -366,7 +366,7 @@ impl Shape {
         }
     }
 
-    /// The same of shapes of a `first`.
+    /// Whether the stage is a `first` of the shape.
     fn is_first(self, net: &Net<Expr>) -> bool {
         let Net::First(inner) = net else {
             return false;
@@ -378,7 +378,7 @@ impl Shape {
         }
     }
 
-    /// The same of shapes of a switch.
+    /// Whether the stage is a switch of the shape.
     fn is_switch(self, net: &Net<Expr>) -> bool {
         match self {
             Shape::KSwitch => matches!(net, Net::KSwitch(..)),

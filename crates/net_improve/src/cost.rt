@@ -13,7 +13,7 @@ pub(crate) fn cost(net: &Net<Expr>) -> u64 {
     cost_to(net, MOST_DEEP)
 }
 
-/// The same, where what stands deeper costs nothing.
+/// The cost of a network where what stands deeper costs nothing.
 #[cycle(cost)]
 fn cost_to(net: &Net<Expr>, depth: u32) -> u64 {
     if depth == 0 {

@@ -18,9 +18,9 @@ use std::alloc::Global;
 pub enum FirstMove {
     /// `(first (arr h))` is made an `arr`.
     Alone,
-    /// The same behind an `arr`, and one of both.
+    /// `(first (arr h))` behind an `arr`: one `arr` of both.
     BehindArr,
-    /// The same before an `arr`.
+    /// `(first (arr h))` before an `arr`: one `arr` of both.
     BeforeArr,
     /// Before an `arr` of the left part alone: what is inside it alone is left.
     Heard,
@@ -114,7 +114,7 @@ fn heard(w: &mut Sketch) -> Result<(), Stop> {
     w.flatten(&[])
 }
 
-/// The same, where the `arr` takes the left part and does more with it.
+/// Makes `Heard`, where the `arr` takes the left part and does more with it.
 fn heard_apart(w: &mut Sketch) -> Result<(), Stop> {
     w.part_behind(&[1], first_input(w.alloc)?.get())?;
     w.regroup(&[])?;

@@ -224,7 +224,7 @@ impl Sketch {
         self.took(path, TreeRef::Net(net.get()), steps)
     }
 
-    /// The same, where each of the other one's moves is one of this.
+    /// Puts the other one's network at the path, where each of its moves is one of this.
     pub(crate) fn adopt_moves(&mut self, path: &[u32], inner: Sketch) -> Result<(), Stop> {
         let before = self.steps.len();
         for end in &inner.ends {

@@ -51,7 +51,7 @@ pub(crate) fn step_at(
     }
 }
 
-/// The same where a network stands.
+/// Takes the first step at a network.
 fn step_at_net(
     alloc: Global,
     typed: &mut TypedNet,
@@ -74,7 +74,7 @@ fn step_at_net(
     Ok(None)
 }
 
-/// The same where an expression stands.
+/// Takes the first step at an expression.
 fn step_at_expr(
     alloc: Global,
     typed: &mut TypedNet,

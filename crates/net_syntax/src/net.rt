@@ -133,7 +133,7 @@ impl<L> NetChild<L> {
         &self.inner
     }
 
-    /// The same network, shared. It takes no memory; `Memory` only where a count of references is
+    /// This network, shared. It takes no memory; `Memory` only where a count of references is
     /// full.
     pub fn try_copy(&self) -> Result<NetChild<L>, Memory>
     where
@@ -163,7 +163,7 @@ impl<L> Members<L> {
         self.all.as_slice()
     }
 
-    /// The same members, shared. It takes no memory; `Memory` only where a count of references is
+    /// These members, shared. It takes no memory; `Memory` only where a count of references is
     /// full.
     pub fn try_copy(&self) -> Result<Members<L>, Memory>
     where

@@ -19,7 +19,7 @@ pub(crate) fn pair_of(alloc: Global, left: Ty, right: &Ty) -> Result<Ty, Memory>
     Ok(Ty::Pair(left, right))
 }
 
-/// The same, with the right one given up.
+/// The type of pairs of these, where the right one is given up, and not the left.
 pub(crate) fn pair_under(alloc: Global, left: &Ty, right: Ty) -> Result<Ty, Memory>
     ensures { IfOk result (λ t. type_of t ≡ pair_ty (type_of left.now) (type_of right)) }
 {

@@ -32,7 +32,7 @@ pub fn replace(
     replaced_below(alloc, net, position.path(), other)
 }
 
-/// The same at a path from the network.
+/// The network with the other tree at a path from it.
 fn replaced_below(
     alloc: Global,
     net: &Net<Expr>,
@@ -105,7 +105,7 @@ fn with_leaf(
     }
 }
 
-/// The same of child 0.
+/// The network with the expression as child 0; `None` where child 0 is no expression.
 fn with_first_leaf(alloc: Global, net: &Net<Expr>, other: Expr) -> Result<Option<Net<Expr>>, Memory>
     ensures { IfOk result (λ found. option_map tree_of found
         ≡ with_child (tree_of net.now) 0 (a_leaf (expression_of other))) }
@@ -130,7 +130,7 @@ fn with_first_leaf(alloc: Global, net: &Net<Expr>, other: Expr) -> Result<Option
     }
 }
 
-/// The same of a child behind the first.
+/// The network with the expression as a child behind the first; `None` where that is no expression.
 fn with_later_leaf(
     alloc: Global,
     net: &Net<Expr>,
@@ -303,7 +303,7 @@ fn with_net(
     }
 }
 
-/// The same of `first`.
+/// A `first` with the other network inside.
 fn with_first(alloc: Global, k: u32, other: Net<Expr>) -> Result<Option<Net<Expr>>, Memory>
     ensures { (f : Network Expression) → IfOk result (λ found. option_map tree_of found
         ≡ with_child (first f) k (a_network (tree_of other))) }
@@ -316,7 +316,7 @@ fn with_first(alloc: Global, k: u32, other: Net<Expr>) -> Result<Option<Net<Expr
     Ok(Some(Net::First(other)))
 }
 
-/// The same of a form of an expression and a network.
+/// A form of an expression and a network, with the other network as child k.
 fn with_fed(
     alloc: Global,
     form: FedForm,
@@ -336,7 +336,7 @@ fn with_fed(
     Ok(Some(form.of(c, other)))
 }
 
-/// The same of a form of two networks.
+/// A form of two networks, with the other one as child k.
 fn with_pair(
     alloc: Global,
     form: PairForm,
@@ -362,7 +362,7 @@ fn with_pair(
     }
 }
 
-/// The same of `kSwitch`.
+/// A `kSwitch` with the other network as child k.
 fn with_k_switch(
     alloc: Global,
     f: &NetChild<Expr>,
@@ -396,7 +396,7 @@ fn with_k_switch(
     }
 }
 
-/// The same of `parB`.
+/// A `parB` with the other network as member k.
 fn with_par(
     alloc: Global,
     fs: &Members<Expr>,
@@ -421,7 +421,7 @@ struct Routed<'n> {
     t: &'n NetChild<Expr>,
 }
 
-/// The same of `pSwitch`.
+/// A `pSwitch` with the other network as child k.
 fn with_p_switch(
     alloc: Global,
     parts: Routed<'_>,
@@ -446,7 +446,7 @@ fn with_p_switch(
     }
 }
 
-/// The same of member k.
+/// A `pSwitch` with the other network as member k.
 fn with_routed_member(
     alloc: Global,
     parts: Routed<'_>,
@@ -467,7 +467,7 @@ fn with_routed_member(
     }
 }
 
-/// The same of what stands at number k behind the members.
+/// A `pSwitch` with the other network at number k behind the members.
 fn with_behind_members(
     alloc: Global,
     parts: Routed<'_>,
@@ -508,7 +508,7 @@ fn p_switch_of(
     Ok(Some(Net::PSwitch(r, fs, e, t)))
 }
 
-/// The same of `rpSwitchB`.
+/// An `rpSwitchB` with the other network as child k.
 fn with_collection(
     alloc: Global,
     fs: &Members<Expr>,
@@ -535,7 +535,7 @@ fn with_collection(
     rp_switch_of(alloc, fs, m, other)
 }
 
-/// The same of member k.
+/// An `rpSwitchB` with the other network as member k.
 fn with_collected_member(
     alloc: Global,
     fs: &Members<Expr>,

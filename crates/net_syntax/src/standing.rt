@@ -116,7 +116,7 @@ fn part_type_in(alloc: Global, at: &Standing, e: &Expr, path: &[u32]) -> Result<
     }
 }
 
-/// The same, with why nothing is found.
+/// The types where child k of the network stands, or why there are none.
 fn inside(alloc: Global, at: Standing, net: &Net<Expr>, k: u32) -> Result<Standing, Untyped>
     ensures { Finds (λ s. standing_of s) result (inside (standing_of at) (tree_of net.now) k) }
 {
@@ -135,7 +135,7 @@ fn inside(alloc: Global, at: Standing, net: &Net<Expr>, k: u32) -> Result<Standi
     }
 }
 
-/// The same with another input.
+/// The types with another input.
 fn with_input(at: Standing, input: Ty) -> Standing
     ensures { standing_of result ≡ taking (standing_of at) (type_of input) }
 {
@@ -468,7 +468,7 @@ fn watched_event(
     event
 }
 
-/// The same with so many frozen networks of these types and a parameter more.
+/// The types with so many further frozen networks of these types, and a parameter more.
 fn with_frozen(
     alloc: Global,
     at: Standing,
@@ -492,7 +492,7 @@ fn with_frozen(
     }
 }
 
-/// The same with a parameter more.
+/// The types with a parameter more.
 fn with_param(at: Standing, param: Ty) -> Result<Standing, Untyped>
     ensures { Finds (λ s. standing_of s) result
         (Some (under (standing_of at) (type_of param))) }

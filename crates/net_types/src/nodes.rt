@@ -95,7 +95,7 @@ pub(crate) fn accumulator_type(
     output
 }
 
-/// The same, where the events carry the type and the accumulator has the type.
+/// The output type of an `accumBy` whose events carry the type and whose accumulator has the type.
 fn step_type(
     alloc: Global,
     path: &[u32],

@@ -209,7 +209,7 @@ fn same(before: &Ty, after: &Ty) -> bool
     same_type(before, after)
 }
 
-/// The same in an expression of a network.
+/// Whether an expression of a network keeps its type with the other tree at the path in it.
 fn kept_inside(
     alloc: Global,
     at: Standing,

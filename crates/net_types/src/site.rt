@@ -123,7 +123,7 @@ pub(crate) fn choice_at<'a>(
     Err(TypeFault::Joint { position })
 }
 
-/// The same, where the type is such a pair.
+/// What a type of such a pair starts members with; `None` for another type.
 fn started_by(ty: &Ty) -> Option<&Ty>
     ensures { (P : List ℕ) → MatchOption result
         (as_choice P (type_of ty.now) ≡ Err (Fault.Joint P))

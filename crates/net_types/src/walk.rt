@@ -153,7 +153,7 @@ fn walk_loop(
     output
 }
 
-/// The same, where the second output is of the type.
+/// The output type of a `loopPre` whose second output is of the type.
 #[cycle(walk)]
 fn walk_fed_back(
     alloc: Global,
@@ -261,7 +261,7 @@ fn walk_switch(
     output
 }
 
-/// The same, where the network's outputs are of the type.
+/// The output type of a switch whose network's outputs are of the type.
 #[cycle(walk)]
 fn walk_switched(
     alloc: Global,
@@ -329,7 +329,7 @@ fn walk_k_switch(
     next
 }
 
-/// The same, where the network's outputs are of the type.
+/// The output type of a `kSwitch` whose network's outputs are of the type.
 #[cycle(walk)]
 fn walk_frozen(
     alloc: Global,
@@ -526,7 +526,7 @@ fn scope_started(
     inner
 }
 
-/// The same, where the choice is of the type.
+/// The scope with one more parameter, where the choice is of the type.
 fn scope_chosen(
     alloc: Global,
     path: &[u32],

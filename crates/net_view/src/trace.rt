@@ -75,7 +75,7 @@ pub fn trace_steps(alloc: Global, source: &TypedNet, steps: &[LawStep]) -> Resul
     Ok(trace)
 }
 
-/// The same of the network, which is left where the steps led.
+/// Takes the steps on the network, which is left where they led, and tells what each changes.
 fn trace_on(alloc: Global, net: &mut TypedNet, steps: &[LawStep]) -> Result<Trace, Memory>
     requires { length steps.now ≤ 10000 }
     ensures { IfOk result (TracesSteps net.old (map step_of steps.now)) }

@@ -17,9 +17,9 @@ use std::alloc::Global;
 enum Asked<'a> {
     /// What its check answers.
     Check,
-    /// The same where growths are refused in turn.
+    /// What it answers where growths are refused in turn.
     ScantCheck,
-    /// The same, and what both networks write on this stream.
+    /// What its check answers, and what both networks write on this stream.
     Runs(&'a str),
 }
 

@@ -43,13 +43,13 @@ pub enum Probe {
     Value,
     /// What type is read from a byte on, with so many parentheses open: `BYTE DEPTH | TEXT`.
     TypeAt,
-    /// The same of an expression.
+    /// What expression is read from a byte on, likewise: `BYTE DEPTH | TEXT`.
     ExprAt,
     /// What expression is read of the whole text.
     Expr,
     /// Whether an expression has a type, at an input of a type: `TYPE | EXPR`.
     Typing,
-    /// The same with no parameter in scope.
+    /// Whether it has one with no parameter in scope: `TYPE | EXPR`.
     TypingAlone,
     /// An expression's type and value at an input: `TYPE | VALUE | EXPR`.
     Worked,
@@ -85,7 +85,7 @@ pub enum Probe {
     Command,
     /// What a network's run on a stream writes: `FILE | STREAM`.
     Run,
-    /// The same where binding and running are one call: `FILE | STREAM`.
+    /// What it writes where binding and running are one call: `FILE | STREAM`.
     WholeRun,
     /// What is written where a device fails: `FILE | FAILURE | STREAM`.
     Failing,
@@ -101,9 +101,9 @@ pub enum Probe {
     Called,
     /// Whether a call, by its name, is refused memory at first and answers in the end.
     Scant,
-    /// The same of a call on a whole network: `CALL | FILE`.
+    /// Whether a call on a whole network is and does: `CALL | FILE`.
     ScantNetwork,
-    /// The same of a table, and what is frozen with no memory left.
+    /// Whether a table is and does, and what is frozen with no memory left.
     ScantRun,
     /// Which of three frozen networks a value selects: `TYPE | VALUE`.
     Selected,
@@ -115,11 +115,11 @@ pub enum Probe {
     /// What a network's run on a stream writes, and how runs end where all memory is taken at some
     /// read: `FILE | STREAM`.
     ScantReads,
-    /// The same of the calls of a reader of lines: `TYPE | STREAM`.
+    /// How the calls of a reader of lines end there: `TYPE | STREAM`.
     ScantLines,
     /// What successive calls of a reader of lines answer: `TYPE | STREAM`.
     Calls,
-    /// The same with no memory left.
+    /// What these answer with no memory left: `TYPE | STREAM`.
     ScantCalls,
     /// What is asked of laws, positions and certificates.
     Law(LawProbe),
@@ -130,22 +130,22 @@ pub enum Probe {
 pub enum LawProbe {
     /// What a law makes of an expression: `LAW DIRECTION | EXPR`, or `LAW DIRECTION | EXPR | GIVEN`.
     Expr,
-    /// The same of a network: `LAW DIRECTION | NET`, or `LAW DIRECTION | NET | GIVEN`; behind the
-    /// direction, how many frozen networks are in scope.
+    /// What it makes of a network: `LAW DIRECTION | NET`, or `LAW DIRECTION | NET | GIVEN`; behind
+    /// the direction, how many frozen networks are in scope.
     Net,
     /// What stands at a position: `FILE | E POSITION`.
     Place,
     /// A network with another tree at a position: `FILE | LETTER POSITION TREE`.
     Replacing,
-    /// The same of the typed network.
+    /// The typed network with another tree at a position, where types and limits are kept.
     Rewriting,
     /// How a certificate file is printed.
     File,
     /// What the check of a certificate answers: `SOURCE | TARGET | CERTIFICATE`.
     Check,
-    /// The same where growths are refused in turn.
+    /// What it answers where growths are refused in turn.
     ScantCheck,
-    /// The same, and what both networks write: `STREAM | SOURCE | TARGET | CERTIFICATE`.
+    /// What it answers, and what both networks write: `STREAM | SOURCE | TARGET | CERTIFICATE`.
     CheckedRuns,
     /// What the optimiser makes of a network, by which steps, and what both networks write: `STREAM |
     /// FILE`.
@@ -175,7 +175,7 @@ fn tell(alloc: Global, probe: Probe, given: &str, out: &mut String) {
     }
 }
 
-/// The same of networks and trees.
+/// Tells what is asked of networks and trees.
 fn tell_networks(alloc: Global, probe: Probe, given: &str, out: &mut String) {
     match probe {
         Probe::Tree => tree_told(alloc, given, out),
@@ -192,7 +192,7 @@ fn tell_networks(alloc: Global, probe: Probe, given: &str, out: &mut String) {
     }
 }
 
-/// The same of commands, runs and tables.
+/// Tells what is asked of commands, runs and tables.
 fn tell_runs(alloc: Global, probe: Probe, given: &str, out: &mut String) {
     match probe {
         Probe::Command => command_told(alloc, given, out),
@@ -210,7 +210,7 @@ fn tell_runs(alloc: Global, probe: Probe, given: &str, out: &mut String) {
     }
 }
 
-/// The same where growths are refused, and of laws.
+/// Tells what is asked where growths are refused, and of laws.
 fn tell_scant(alloc: Global, probe: Probe, given: &str, out: &mut String) {
     match probe {
         Probe::Scant => scant_told(alloc, given, out),
@@ -226,7 +226,7 @@ fn tell_scant(alloc: Global, probe: Probe, given: &str, out: &mut String) {
     }
 }
 
-/// The same of a probe of laws.
+/// Tells what a probe of laws asks.
 fn law_told(alloc: Global, probe: LawProbe, given: &str, out: &mut String) {
     match probe {
         LawProbe::Expr => expr_law_told(alloc, given, out),

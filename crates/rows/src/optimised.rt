@@ -139,7 +139,7 @@ static OPTIMISED: &str = "
 5 | yampa 1 input Int (>>> (arr {253*(neg }(fst (pair x 0)){253*)}) ‹negative›) => ‹numbers in›(arr (then {253*(neg }x{253*)} (neg x)))␤laws 1␤(step E7 forward (at 0 0{253* 0}))␤(step L4 forward (at))␤accepted 2: 5␤
 ";
 
-/// The same of each law that the rows above don't try, and of networks with forms of version 2.
+/// What is made by each law that the rows above don't try, and of networks with forms of version 2.
 static OTHER_LAWS: &str = "
 § Each law by itself, or with what it leaves to do.
 5 | yampa 1 input Int (arr (then x (neg x))) => ‹numbers in›‹negative›␤laws 1␤(step E1 forward (at 0))␤accepted 1: -5␤
@@ -168,8 +168,8 @@ none␤+1 (event 4) | yampa 1 input (Event Int) (>>> ‹events negative› (accu
 (pair 2 none)␤+3 (pair 4 (event 9))␤+1 (pair 5 none) | ‹with events› (rpSwitchB (col (>>> (arr x) integral)) (pair (list Int 0 0 5) (list Int (fst (pair x 1)))) (>>> (iPre (p 0)) (arr x))) => yampa 2␤input (Pair Int (Event Int))␤‹collection›␤laws 1␤(step L1 forward (at 0))␤(step E7 forward (at 1 1 0))␤(step L2 forward (at 2))␤accepted 3: (list 0)␤(list 6 6 9)␤(list 10 10 4)␤
 ";
 
-/// The same of networks on which a thousand steps are possible, and one more, and of what is made of
-/// these.
+/// What is made of networks on which a thousand steps are possible, and one more, and what is made
+/// of these.
 static THOUSANDS: &str = "
 § A thousand steps, behind which none is left.
 5 | yampa 1 input Int (parB{50* ‹twenty steps›}) => ‹numbers in›(parB{50* (arr x)})␤‹a thousand taken›accepted 1000: (list{50* 5})␤

@@ -60,7 +60,7 @@ pub fn failing_told(alloc: Global, given: &str, out: &mut String) {
     file_told(alloc, file, Trial::Failing(failure, stream), out);
 }
 
-/// The same of a bound network.
+/// Tells what a run of a bound network writes there.
 pub fn failure_tried(
     alloc: Global,
     bound: &Bound,

@@ -22,7 +22,7 @@ enum Trial {
     Place,
     /// The network with another tree there.
     Replacing,
-    /// The same of the typed network.
+    /// The typed network with another tree there, where types and limits are kept.
     Rewriting,
 }
 

@@ -288,7 +288,8 @@ static EXPRESSIONS_AT: &str = "
 0 599 | (add (neg x) 1) => nesting at 5
 ";
 
-/// The same of types. A type of depth 33 is read, and is over the limits.
+/// A byte and how many parentheses are open, a text, and what type is read from there. A type of
+/// depth 33 is read, and is over the limits.
 static TYPES_AT: &str = "
 § Types inside a text.
 0 0 | Int => Int to 3

@@ -132,7 +132,7 @@ Int | 5  => value 1;ended;ended;ended;ended;
 (Pair Int (Event Int)) | (pair 5 none)␤+2 (pair 6 (event 9)) => + 0 (pair 5 none);+ 2 (pair 6 (event 9));end;end;end;
 ";
 
-/// The same, with no memory left.
+/// What the calls of a reader of lines answer with no memory left.
 static SCANT_CALLS: &str = "
 § Numbers are answered where no growth is granted.
 Int | 5␤+1 6␤+1 7 => + 0 5;+ 1 6;+ 1 7;end;end;

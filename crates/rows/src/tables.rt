@@ -171,8 +171,8 @@ static FILLED: &str = "
 (arr (add x 0)) => a row for each
 ";
 
-/// The same, and what a table answers to it that has a row for each of the others: where the key is
-/// new the leaf comes back.
+/// One more expression, and what a table answers to it that has a row for each of the others: where
+/// the key is new the leaf comes back.
 static ADDED: &str = "
 § One expression more, for a table that is full.
 (arr (add x 4096)) => full, and its leaf comes back

@@ -18,7 +18,7 @@ pub fn say_at(out: &mut String, words: &str, at: usize) {
     drop(write!(out, "{words} {at}"));
 }
 
-/// The same of a number with a sign.
+/// Adds these words and a number with a sign.
 pub fn say_signed(out: &mut String, words: &str, number: i64) {
     drop(write!(out, "{words} {number}"));
 }

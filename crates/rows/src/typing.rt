@@ -12,7 +12,7 @@ pub fn typing_told(alloc: Global, given: &str, out: &mut String) {
     under_told(alloc, &PARAMS, given, out);
 }
 
-/// The same with no parameter in scope.
+/// Tells whether it has one with no parameter in scope.
 pub fn typing_alone_told(alloc: Global, given: &str, out: &mut String) {
     under_told(alloc, &[], given, out);
 }

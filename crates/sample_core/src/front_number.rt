@@ -34,7 +34,7 @@ pub(crate) fn front_number(text: &[u8]) -> Option<(i64, &[u8])>
     }
 }
 
-/// The same of a number with no `-`.
+/// The number with no `-` at the front, and what is behind it.
 #[inline(always)]
 fn front_natural(text: &[u8]) -> Option<(u64, &[u8])>
     ensures spelled { IfSome result (λ x. text.now ≡ decimal x.0 ++ x.1.now) }

@@ -44,9 +44,9 @@ pub fn read_value(alloc: Global, text: &[u8], ty: &Ty) -> Result<(Sample, usize)
     }
 }
 
-/// The same, where the value takes the place of another. What is read stands where parts of that
-/// other stood, as far as no one else holds them: so a value of the same form takes no memory.
-/// After a refusal some value stands there.
+/// Reads the value in the place of another. What is read stands where parts of that other stood, as
+/// far as no one else holds them: so a value of the same form takes no memory. After a refusal some
+/// value stands there.
 pub fn read_value_over(
     alloc: Global,
     text: &[u8],
@@ -303,7 +303,7 @@ fn pair<'t>(
     new_pair(alloc, size, rest, a, b, place)
 }
 
-/// The same behind the word, where the pair takes a place of its own.
+/// Reads a pair behind its word, into a place of its own.
 #[cycle(value)]
 #[inline(never)]
 fn new_pair<'t>(
@@ -380,7 +380,7 @@ fn event<'t>(
     new_event(alloc, size, rest, ty, place)
 }
 
-/// The same behind the word, where what the event carries takes a place of its own.
+/// Reads an event behind its word, where what it carries takes a place of its own.
 #[cycle(value)]
 #[inline(never)]
 fn new_event<'t>(
@@ -450,7 +450,7 @@ fn list<'t>(
     new_list(alloc, size, rest, ty, place)
 }
 
-/// The same behind the word, where the elements take a place of their own.
+/// Reads a list behind its word, where the elements take a place of their own.
 #[cycle(value)]
 #[inline(never)]
 fn new_list<'t>(

@@ -162,7 +162,7 @@ impl SamplePair {
         }
     }
 
-    /// The same parts, shared. It takes no memory; `Memory` only where a count of references is
+    /// These parts, shared. It takes no memory; `Memory` only where a count of references is
     /// full.
     pub fn try_copy(&self) -> Result<SamplePair, Memory>
         ensures { IfOk result (λ p. p ≡ self.now) }
@@ -199,7 +199,7 @@ impl SampleChild {
         Rc::get_mut(&mut self.inner)
     }
 
-    /// The same value, shared. It takes no memory; `Memory` only where a count of references is
+    /// This value, shared. It takes no memory; `Memory` only where a count of references is
     /// full.
     pub fn try_copy(&self) -> Result<SampleChild, Memory>
         ensures { IfOk result (λ c. c ≡ self.now) }
@@ -225,7 +225,7 @@ impl Samples {
         self.all.as_slice()
     }
 
-    /// The same elements, shared. It takes no memory; `Memory` only where a count of references is
+    /// These elements, shared. It takes no memory; `Memory` only where a count of references is
     /// full.
     pub fn try_copy(&self) -> Result<Samples, Memory>
         ensures { IfOk result (λ vs. vs ≡ self.now) }
@@ -317,7 +317,7 @@ impl Sample {
         }
     }
 
-    /// The same of any value.
+    /// Puts a copy of any value in the place of this one.
     #[inline(never)]
     fn put_any_copy(&mut self, alloc: Global, value: &Sample) -> Result<(), Memory>
         ensures { OnOk result (datum_of self.new ≡ datum_of value.now) }
@@ -364,7 +364,7 @@ impl Sample {
         }
     }
 
-    /// The same of any value.
+    /// Lets a value of any form go.
     #[inline(never)]
     fn let_go_on(self) {
         drop(self);

@@ -68,7 +68,7 @@ impl TyChild {
         &self.inner
     }
 
-    /// The same type, shared. It takes no memory; `Memory` only where a count of references is
+    /// This type, shared. It takes no memory; `Memory` only where a count of references is
     /// full.
     pub fn try_copy(&self) -> Result<TyChild, Memory>
         ensures { IfOk result (λ c. c ≡ self.now) }

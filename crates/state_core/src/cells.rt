@@ -107,7 +107,7 @@ impl Cells {
         before.step_into(alloc, dt, sample, &mut self.all[at], out)
     }
 
-    /// The same, where there is no place for the cell yet.
+    /// Puts the answer of a cell there, where there is no place for the cell after it yet.
     #[inline(never)]
     fn push_step_anew(
         &mut self,

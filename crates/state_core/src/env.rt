@@ -100,7 +100,7 @@ impl<'n> OldList<'n> {
         self.all.as_slice()
     }
 
-    /// The same frozen networks, shared. It takes no memory; `Memory` only where a count of
+    /// These frozen networks, shared. It takes no memory; `Memory` only where a count of
     /// references is full.
     fn try_copy(&self) -> Result<OldList<'n>, Memory>
         ensures { IfOk result (λ fs. fs ≡ self.now) }
@@ -121,7 +121,7 @@ impl<'n> Olds<'n> {
         }
     }
 
-    /// The same frozen networks, shared. It takes no memory; `Memory` only where a count of
+    /// These frozen networks, shared. It takes no memory; `Memory` only where a count of
     /// references is full.
     fn try_copy(&self) -> Result<Olds<'n>, Memory>
         ensures { IfOk result (λ fs. fs ≡ self.now) }
@@ -163,7 +163,7 @@ impl<'n> Env<'n> {
         }
     }
 
-    /// The same scope, shared. It takes no memory; `Memory` only where a count of references is
+    /// This scope, shared. It takes no memory; `Memory` only where a count of references is
     /// full.
     pub fn try_copy(&self) -> Result<Env<'n>, Memory>
         ensures { IfOk result (λ e. e ≡ self.now) }

@@ -48,7 +48,7 @@ impl Params {
         }
     }
 
-    /// The same parameters, shared. It takes no memory; `Memory` only where a count of references
+    /// These parameters, shared. It takes no memory; `Memory` only where a count of references
     /// is full.
     pub(crate) fn try_copy(&self) -> Result<Params, Memory>
         ensures { IfOk result (λ ps. ps ≡ self.now) }

@@ -228,7 +228,8 @@ impl<'n> Running<'n> {
         Ok(Running { net, env, kept })
     }
 
-    /// The same in the memory of what ran before. `Memory` only where a count of references is full.
+    /// The network in its scope, which keeps nothing yet, in the memory of what ran before.
+    /// `Memory` only where a count of references is full.
     #[inline(always)]
     pub fn renew(&mut self, net: &'n Net<LeafId>, env: &Env<'n>) -> Result<(), Memory>
         ensures { IfOk result (λ _. (self.new.net.now ≡ net.entry.now)
@@ -249,7 +250,7 @@ impl<'n> Whole<'n> {
         &self.running
     }
 
-    /// The same, shared. It takes no memory; `Memory` only where a count of references is full.
+    /// This state, shared. It takes no memory; `Memory` only where a count of references is full.
     fn try_copy(&self) -> Result<Whole<'n>, Memory>
         ensures { IfOk result (λ w. w ≡ self.now) }
     {

@@ -45,7 +45,7 @@ pub(crate) fn chosen<'n, R: Rows>(
     chosen
 }
 
-/// The same, by those before.
+/// The members that the choice and the event's value choose among those before.
 fn chosen_among<'n, R: Rows>(
     on: &On<'_, 'n, R>,
     all: &[Frozen<'n>],

@@ -118,7 +118,8 @@ fn resume_each<'n, R: Rows>(
     Ok(visits)
 }
 
-/// The same of members that ran: they go on.
+/// Members that ran go on, a place each; puts what they answer, in order, in the places of the
+/// answers.
 #[cycle(run)]
 #[inline(never)]
 fn step_each<'n, R: Rows>(

@@ -36,7 +36,8 @@ pub(crate) fn fire<'n>(
     }
 }
 
-/// The same, with the part at the first place frozen as it was before the sample.
+/// The scope of what takes over, with the event's value and the part at the first place, frozen as
+/// it was before the sample.
 #[inline(never)]
 pub(crate) fn fire_one<'n, R: Rows>(
     on: &On<'_, 'n, R>,
@@ -58,7 +59,8 @@ pub(crate) fn fire_one<'n, R: Rows>(
     }
 }
 
-/// The same, with all members frozen.
+/// The scope of what takes over, with the event's value and all members, frozen as they were before
+/// the sample.
 #[inline(never)]
 pub(crate) fn fire_all<'n, R: Rows>(
     on: &On<'_, 'n, R>,
@@ -96,7 +98,7 @@ fn with_frozen<'n, R: Rows>(
     inner
 }
 
-/// The same with all members.
+/// The scope with all members frozen in it.
 fn with_all_frozen<'n, R: Rows>(
     on: &On<'_, 'n, R>,
     env: &Env<'n>,

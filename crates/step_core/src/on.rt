@@ -21,7 +21,7 @@ pub(crate) struct On<'s, 'n, R> {
 }
 
 impl<'s, 'n, R> On<'s, 'n, R> {
-    /// The same for a network that starts in another scope.
+    /// What a network that starts in another scope runs on.
     #[inline(always)]
     pub(crate) fn started<'b>(&'b self, env: &'b Env<'n>) -> On<'b, 'n, R>
         ensures rows { result.rows.now ≡ self.entry.now.rows.now }
@@ -37,7 +37,7 @@ impl<'s, 'n, R> On<'s, 'n, R> {
         }
     }
 
-    /// The same for what goes on so much time after the sample before.
+    /// What a network that goes on, so much time after the sample before, runs on.
     #[inline(always)]
     pub(crate) fn going<'b>(&'b self, running: &'b Running<'n>, dt: u64) -> On<'b, 'n, R>
         ensures rows { result.rows.now ≡ self.entry.now.rows.now }

@@ -91,7 +91,7 @@ pub(crate) fn let_parts_go(answer: &mut Sample) {
     }
 }
 
-/// The same of an answer that is no number.
+/// Puts a number in the place of an answer that is no number, where it is a pair or an event.
 #[inline(never)]
 fn let_other_parts_go(answer: &mut Sample) {
     if let Sample::Pair(_) | Sample::Event(_) = answer {

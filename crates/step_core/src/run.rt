@@ -199,7 +199,7 @@ pub(crate) fn run_over<'n, R: Rows>(
     run_apart(on, net, x, place, out)
 }
 
-/// The same in memory of its own.
+/// A network that starts or goes on, in memory of its own.
 #[cycle(run)]
 #[inline(never)]
 fn run_apart<'n, R: Rows>(
@@ -228,7 +228,7 @@ fn run_apart<'n, R: Rows>(
     }
 }
 
-/// The same in the memory of what ran before.
+/// A network that starts or goes on, in the memory of what ran before.
 #[cycle(run)]
 #[inline(always)]
 fn run_in<'n, R: Rows>(

@@ -145,7 +145,8 @@ fn run_next<'n, R: Rows>(
     }
 }
 
-/// The same, which puts the answer in the place of the last one.
+/// A start of the network, or a step of its state, which puts the answer in the place of the last
+/// one.
 #[inline(always)]
 fn run_from<'n, R: Rows>(
     on: &On<'_, 'n, R>,

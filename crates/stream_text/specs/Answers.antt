@@ -122,7 +122,8 @@ pub record GivesAnswer (A : TypeTree) (s : ReaderState) (has : Option (List ℕ)
   pub counts : s'.reads ≡ s.reads + length pieces
   pub gives : IsAnswer A (IsAtEnd has') s pieces answer s'
 
--- The same where a sample is answered by its step alone; its value is then the last.
+-- a call reads these pieces, and answers a sample by its step alone; the sample's value is then the
+-- last
 abbrev pub GivesStep : TypeTree → ReaderState → Option (List ℕ) → Result (Option ℕ) StreamFault
     → ReaderState → Option (List ℕ) → Type 0
 GivesStep A s has (Ok (Some d)) s' has' =

@@ -152,7 +152,8 @@ impl LineState {
         }
     }
 
-    /// The same where nothing has ended the stream, and there is a value before.
+    /// The step of the next sample, where nothing has ended the stream, and there is a value
+    /// before.
     #[inline(always)]
     fn take_next(&mut self, ty: &Ty) -> Option<u64>
         requires open { self.old.met ≡ M.Nothing }
@@ -166,8 +167,8 @@ impl LineState {
         }
     }
 
-    /// The same for a short line, which is read before its line feed is looked for. A list's line is
-    /// often longer, and would be read twice, so `None` for a list.
+    /// The step of the next sample on a short line, which is read before its line feed is looked
+    /// for. A list's line is often longer, and would be read twice, so `None` for a list.
     #[inline(always)]
     fn take_short(&mut self, ty: &Ty) -> Option<u64>
         requires open { self.old.met ≡ M.Nothing }
@@ -181,7 +182,7 @@ impl LineState {
         self.take_within(ty, SHORT)
     }
 
-    /// The same for a line of any length.
+    /// The step of the next sample on a line of any length.
     #[inline(never)]
     fn take_long(&mut self, ty: &Ty) -> Option<u64>
         requires open { self.old.met ≡ M.Nothing }
@@ -196,7 +197,7 @@ impl LineState {
         self.take_within(ty, size + 1)
     }
 
-    /// The same for a line that has, with its line feed, at most so many bytes.
+    /// The step of the next sample on a line that has, with its line feed, at most so many bytes.
     #[inline(always)]
     fn take_within(&mut self, ty: &Ty, most: usize) -> Option<u64>
         requires open { self.old.met ≡ M.Nothing }

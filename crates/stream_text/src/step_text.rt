@@ -60,7 +60,7 @@ pub fn split_step(line: &[u8]) -> Option<(u64, &[u8])>
     }
 }
 
-/// The same of a step of any number of digits.
+/// The step of such a line, of any number of digits, and what stands behind it.
 #[inline(never)]
 fn split_digits(line: &[u8]) -> Option<(u64, &[u8])>
     ensures { step_view result ≡ step_in line.now }

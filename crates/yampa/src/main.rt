@@ -121,7 +121,7 @@ fn run_on(rt: &HostRuntime, net: &TypedNet, table: &LeafTable) -> u8 {
     }
 }
 
-/// The same with the output that is held back.
+/// Runs the network, and prints on the output that is held back.
 fn run_printed(
     rt: &HostRuntime,
     net: &TypedNet,

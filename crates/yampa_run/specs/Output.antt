@@ -42,7 +42,7 @@ output_on net held = record { bytes = spelled_lines (stream_of net held.taken); 
 abbrev pub output_of : TypeTree → Network Expression → List ℕ → Output
 output_of A net text = output_on net (samples A text)
 
--- The same of bytes that aren't known to be all.
+-- what a run writes on bytes that aren't known to be all of a text
 abbrev pub front_output_of : TypeTree → Network Expression → List ℕ → Output
 front_output_of A net bs = output_on net (front A bs)
 

@@ -219,7 +219,7 @@ fn put<W: Write + Device>(writer: &mut W, failures: u64, bytes: &[u8]) -> Result
     }
 }
 
-/// The same where a first write took so many bytes, but not all.
+/// Writes the rest of the bytes, where a first write took so many, but not all.
 #[inline(never)]
 fn put_on<W: Write + Device>(
     writer: &mut W,
