@@ -3,8 +3,8 @@
 ghost use Rattle.std.specs.Prelude.{◌≤◌};
 ghost use Rattle.law_rules.specs.Table.{IsRule};
 
+use NetLaw::Sides;
 use NetSym::{AccumBy, After, Arr, Delay, Hold, IPre, InitialIn, InitialOut, LoopPre, Repeatedly};
-use Rule::Sides;
 use law_patterns::{
     D_SWITCH, DR_SWITCH, EVENT, F, FIRST, FST, G, H, K_SWITCH, NET_F, NET_G, NET_H, NONE, NetSym,
     ON, PAIR, R_SWITCH, SEQ, SND, SWITCH, THEN, UNIT, X,
@@ -12,7 +12,7 @@ use law_patterns::{
 
 /// What a law is.
 #[derive(Clone, Copy)]
-pub enum Rule {
+pub enum NetLaw {
     /// No law.
     Nothing,
     /// A left and a right side.
@@ -73,11 +73,11 @@ const LOOP_F: NetSym = LoopPre(&[F]);
 const OUT_F: NetSym = InitialOut(&[F]);
 
 /// The law of this number: a side is written with each form before its parts.
-pub fn law_rule(number: u8) -> Rule
+pub fn law_rule(number: u8) -> NetLaw
     ensures { IsRule number result }
 {
     match number {
-        0 => Rule::Nothing,
+        0 => NetLaw::Nothing,
         1 => Sides(&[SEQ, ARR_X, NET_F], &[NET_F]),
         2 => Sides(&[SEQ, NET_F, ARR_X], &[NET_F]),
         3 => Sides(
@@ -100,7 +100,7 @@ pub fn law_rule(number: u8) -> Rule
 }
 
 /// The law of this number, from 9 on.
-fn arrow_rule(number: u8) -> Rule
+fn arrow_rule(number: u8) -> NetLaw
     requires { 9 ≤ number }
     ensures { IsRule number result }
 {
@@ -122,7 +122,7 @@ fn arrow_rule(number: u8) -> Rule
 }
 
 /// The law of this number, from 13 on.
-fn loop_rule(number: u8) -> Rule
+fn loop_rule(number: u8) -> NetLaw
     requires { 13 ≤ number }
     ensures { IsRule number result }
 {
@@ -156,14 +156,14 @@ fn loop_rule(number: u8) -> Rule
 }
 
 /// The law of this number, from 18 on.
-fn event_rule(number: u8) -> Rule
+fn event_rule(number: u8) -> NetLaw
     requires { 18 ≤ number }
     ensures { IsRule number result }
 {
     match number {
         18 => Sides(&[SEQ, Arr(&[EVENT, F]), Hold(&[G])], &[ARR_F]),
         19 => Sides(&[SEQ, Arr(&[NONE]), Hold(&[F])], &[ARR_CONST]),
-        20 => Rule::WithoutInput,
+        20 => NetLaw::WithoutInput,
         21 => Sides(&[SEQ, After(&[F]), ARR_MAP], &[After(&[THEN, F, G])]),
         22 => Sides(
             &[SEQ, Repeatedly(&[F]), ARR_MAP],
@@ -187,7 +187,7 @@ fn event_rule(number: u8) -> Rule
 }
 
 /// The law of this number, from 27 on.
-fn switch_rule(number: u8) -> Rule
+fn switch_rule(number: u8) -> NetLaw
     requires { 27 ≤ number }
     ensures { IsRule number result }
 {
@@ -223,7 +223,7 @@ fn switch_rule(number: u8) -> Rule
 }
 
 /// The law of this number, from 35 on.
-fn restart_rule(number: u8) -> Rule
+fn restart_rule(number: u8) -> NetLaw
     requires { 35 ≤ number }
     ensures { IsRule number result }
 {
@@ -237,17 +237,17 @@ fn restart_rule(number: u8) -> Rule
             &[R_SWITCH, SEQ, NET_F, ARR_H, SEQ, NET_G, ARR_H],
         ),
         37 => Sides(&[K_SWITCH, NET_F, Arr(&[NONE]), NET_G], &[NET_F]),
-        38 => Rule::Resumed,
-        39 => Rule::MembersApart,
-        40 => Rule::OneMember,
-        41 => Rule::BeforeMembers,
-        42 => Rule::ElementsApart,
+        38 => NetLaw::Resumed,
+        39 => NetLaw::MembersApart,
+        40 => NetLaw::OneMember,
+        41 => NetLaw::BeforeMembers,
+        42 => NetLaw::ElementsApart,
         _ => last_rule(number),
     }
 }
 
 /// The law of this number, from 43 on.
-fn last_rule(number: u8) -> Rule
+fn last_rule(number: u8) -> NetLaw
     requires { 43 ≤ number }
     ensures { IsRule number result }
 {
@@ -261,7 +261,7 @@ fn last_rule(number: u8) -> Rule
             &[SEQ, DR_SWITCH, NET_F, NET_G, ARR_H],
             &[DR_SWITCH, SEQ, NET_F, ARR_H, SEQ, NET_G, ARR_H],
         ),
-        46 => Rule::Unchanging,
-        _ => Rule::Nothing,
+        46 => NetLaw::Unchanging,
+        _ => NetLaw::Nothing,
     }
 }

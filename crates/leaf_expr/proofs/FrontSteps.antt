@@ -6,8 +6,8 @@ use Rattle.leaf_expr.specs.Language.{Language}
 use Rattle.leaf_expr.specs.TreeReader.{word_read, read, read_form}
 use Rattle.leaf_expr.specs.Front.{read_front, front_from, front_left}
 use Rattle.leaf_expr.specs.ReadText.{Gives}
-use Rattle.leaf_expr.specs.declared.tree_front.Front.{Front}
-use Rattle.leaf_expr.specs.declared.tree_front.Front.TheVariants as F
+use Rattle.leaf_expr.specs.declared.tree_front.TreeFront.{TreeFront}
+use Rattle.leaf_expr.specs.declared.tree_front.TreeFront.TheVariants as F
 use Rattle.leaf_expr.specs.declared.text_fault.ExprTextFault.{ExprTextFault}
 use Rattle.leaf_expr.proofs.ReadSteps.{Refuses, given, ok_same, refused_ok, refused_same}
 
@@ -59,7 +59,7 @@ module _ (L : Language) (size : ℕ) where
 
 -- what the code reads behind what it found a tree to begin with is the tree
 module _ (L : Language) (s : L.Sort) {X : Type 0} (view : X → L.Tree s × ℕ × List PlacedToken) (r : Result X ExprTextFault)
-    (text : List ℕ) (room at : ℕ) {front : Front} where
+    (text : List ℕ) (room at : ℕ) {front : TreeFront} where
   pub in_form : {start : ℕ} → L.has_form s ≡ true → front ≡ F.Form start → front_from text room at ≡ Ok (front_left text front) →
       Gives view r (read_form L (length text) (read L (length text) (room - 1)) (room - 1) s (tokens_from (start + 1) text)) →
       Gives view r (read L (length text) room s (tokens_from at text))

@@ -14,8 +14,8 @@ use Rattle.leaf_expr.specs.declared.form.Ternary.{Ternary}
 use Rattle.leaf_expr.specs.declared.form.Ternary.TheVariants as R
 use Rattle.leaf_expr.specs.declared.form.Typed.{Typed}
 use Rattle.leaf_expr.specs.declared.form.Typed.TheVariants as Y
-use Rattle.leaf_expr.specs.declared.form.Form.{Form}
-use Rattle.leaf_expr.specs.declared.form.Form.TheVariants as F
+use Rattle.leaf_expr.specs.declared.form.ExprForm.{ExprForm}
+use Rattle.leaf_expr.specs.declared.form.ExprForm.TheVariants as F
 
 -- a form of types as its row of the grammar
 abbrev pub type_row : TypeForm → Row Sort Tree TypeTree
@@ -108,7 +108,7 @@ abbrev pub typed_row : Typed → Row Sort Tree Expression
 typed_row f = row (typed_name f) (t (e (e no_place))) (λ T. typed_by f (no_event_expr T))
 
 -- a form of expressions as its row of the grammar
-abbrev pub form_row : Form → Row Sort Tree Expression
+abbrev pub form_row : ExprForm → Row Sort Tree Expression
 form_row F.Param = row (codes "p") (k no_place) param
 form_row F.NoEvent = row (codes "none") (t no_place) no_event_expr
 form_row F.List = row (codes "list") (t (places expression_sort))

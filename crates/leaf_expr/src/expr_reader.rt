@@ -12,11 +12,11 @@ ghost use Rattle.leaf_expr.specs.Text.{read_text, whole, IsText, IsTextFault};
 ghost use Rattle.leaf_expr.specs.Token.{PlacedToken, tokens_from};
 ghost use Rattle.leaf_expr.specs.declared.text_fault.ExprTextFault.TheVariants as Fault;
 
-use crate::form::{Binary, Form, Ternary, Typed, Unary, form_named};
+use crate::form::{Binary, ExprForm, Ternary, Typed, Unary, form_named};
 use crate::number_reader::read_index;
 use crate::text_fault::ExprTextFault;
 use crate::token::token_at;
-use crate::tree_front::{Front, Read, closing_at, form_end, form_head, front_at};
+use crate::tree_front::{Read, TreeFront, closing_at, form_end, form_head, front_at};
 use crate::type_reader::{MAX_OPEN, read_type};
 use crate::word::{WordFault, expr_word};
 use leaf_core::{Expr, ExprChild, Exprs};
@@ -33,8 +33,8 @@ fn read_expression(alloc: Global, text: &[u8], at: usize, room: usize) -> Read<E
     ensures { Gives (expression_left text.now) result (tree_at expression_sort text.now room at) }
 {
     match front_at(text, at, room)? {
-        Front::Form(start) => form(alloc, text, start + 1, room - 1),
-        Front::Word(start, end) => word_expr(text, start, end),
+        TreeFront::Form(start) => form(alloc, text, start + 1, room - 1),
+        TreeFront::Word(start, end) => word_expr(text, start, end),
     }
 }
 
@@ -66,24 +66,24 @@ fn form(alloc: Global, text: &[u8], at: usize, room: usize) -> Read<Expr>
 
 /// The parts of a form, and its end.
 #[cycle(read_expression)]
-fn parts(alloc: Global, text: &[u8], at: usize, room: usize, form: Form) -> Read<Expr>
+fn parts(alloc: Global, text: &[u8], at: usize, room: usize, form: ExprForm) -> Read<Expr>
     ensures { Gives (expression_left text.now) result (row_parts (form_row form) text.now room at) }
 {
     match form {
-        Form::Param => param(text, at, room),
-        Form::NoEvent => no_event(alloc, text, at, room),
-        Form::List => list(alloc, text, at, room),
-        Form::Unary(form) => unary(alloc, text, at, room, form),
-        Form::Binary(form) => binary(alloc, text, at, room, form),
-        Form::Ternary(form) => ternary(alloc, text, at, room, form),
-        Form::Typed(form) => typed(alloc, text, at, room, form),
+        ExprForm::Param => param(text, at, room),
+        ExprForm::NoEvent => no_event(alloc, text, at, room),
+        ExprForm::List => list(alloc, text, at, room),
+        ExprForm::Unary(form) => unary(alloc, text, at, room, form),
+        ExprForm::Binary(form) => binary(alloc, text, at, room, form),
+        ExprForm::Ternary(form) => ternary(alloc, text, at, room, form),
+        ExprForm::Typed(form) => typed(alloc, text, at, room, form),
     }
 }
 
 /// The number of a parameter, and the end of the form.
 fn param(text: &[u8], at: usize, room: usize) -> Read<Expr>
     ensures { Gives (expression_left text.now) result
-        (row_parts (form_row Form.Param) text.now room at) }
+        (row_parts (form_row ExprForm.Param) text.now room at) }
 {
     let (k, at) = read_index(text, at, room)?;
     let end = form_end(text, at, room)?;
@@ -93,7 +93,7 @@ fn param(text: &[u8], at: usize, room: usize) -> Read<Expr>
 /// The type of no event, and the end of the form.
 fn no_event(alloc: Global, text: &[u8], at: usize, room: usize) -> Read<Expr>
     ensures { Gives (expression_left text.now) result
-        (row_parts (form_row Form.NoEvent) text.now room at) }
+        (row_parts (form_row ExprForm.NoEvent) text.now room at) }
 {
     let (ty, at) = read_type(alloc, text, at, room)?;
     match form_end(text, at, room) {
@@ -175,7 +175,7 @@ fn typed(alloc: Global, text: &[u8], at: usize, room: usize, form: Typed) -> Rea
 #[cycle(read_expression)]
 fn list(alloc: Global, text: &[u8], at: usize, room: usize) -> Read<Expr>
     ensures { Gives (expression_left text.now) result
-        (row_parts (form_row Form.List) text.now room at) }
+        (row_parts (form_row ExprForm.List) text.now room at) }
 {
     let (ty, at) = read_type(alloc, text, at, room)?;
     match elements(alloc, text, at, room) {

@@ -205,7 +205,7 @@ pub(crate) enum Typed {
 
 /// A form of expressions, by the parts that it takes.
 #[derive(Clone, Copy)]
-pub(crate) enum Form {
+pub(crate) enum ExprForm {
     /// The number of a parameter.
     Param,
     /// A type.
@@ -299,34 +299,34 @@ fn typed_named(word: &[u8]) -> Option<Typed>
 }
 
 /// The form of other parts that the word begins.
-fn other_named(word: &[u8]) -> Option<Form>
+fn other_named(word: &[u8]) -> Option<ExprForm>
     ensures { option_map form_row result ≡ row_among word.now other_rows }
 {
     if word_is(word, "p") {
-        Some(Form::Param)
+        Some(ExprForm::Param)
     } else if word_is(word, "none") {
-        Some(Form::NoEvent)
+        Some(ExprForm::NoEvent)
     } else if word_is(word, "list") {
-        Some(Form::List)
+        Some(ExprForm::List)
     } else {
         None
     }
 }
 
 /// The form of expressions that the word begins.
-pub(crate) fn form_named(word: &[u8]) -> Option<Form>
+pub(crate) fn form_named(word: &[u8]) -> Option<ExprForm>
     ensures { option_map form_row result ≡ row_at expression_sort word.now }
 {
     if let Some(form) = other_named(word) {
         Some(form)
     } else if let Some(form) = unary_named(word) {
-        Some(Form::Unary(form))
+        Some(ExprForm::Unary(form))
     } else if let Some(form) = binary_named(word) {
-        Some(Form::Binary(form))
+        Some(ExprForm::Binary(form))
     } else if let Some(form) = ternary_named(word) {
-        Some(Form::Ternary(form))
+        Some(ExprForm::Ternary(form))
     } else {
         let form = typed_named(word)?;
-        Some(Form::Typed(form))
+        Some(ExprForm::Typed(form))
     }
 }

@@ -35,5 +35,5 @@ pub use text_laws::{
     grammar_rows, number_laws, printing_laws, reading_laws, sugar_laws, whole_text_laws,
 };
 pub use token::{Lexeme, lexeme_at, token_at};
-pub use tree_front::{Front, Read, closing_at, form_end, form_head, front_at};
+pub use tree_front::{Read, TreeFront, closing_at, form_end, form_head, front_at};
 pub use type_reader::MAX_OPEN;

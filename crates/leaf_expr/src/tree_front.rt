@@ -13,7 +13,7 @@ pub type Read<T> = Result<(T, usize), ExprTextFault>;
 
 /// What a tree begins with.
 #[derive(Clone, Copy)]
-pub enum Front {
+pub enum TreeFront {
     /// A form, whose `(` is that byte.
     Form(usize),
     /// A word, from the first byte up to and without the second.
@@ -25,7 +25,7 @@ pub enum Front {
 ///
 /// `TooDeep` at a `(` where there is no room; `Syntax` at a `)`, or at the text's length where no
 /// token follows. Bytes are counted from 0.
-pub fn front_at(text: &[u8], at: usize, room: usize) -> Result<Front, ExprTextFault>
+pub fn front_at(text: &[u8], at: usize, room: usize) -> Result<TreeFront, ExprTextFault>
     ensures front { Gives (front_left text.now) result (front_from text.now room at) }
     ensures within { IfOk result (FrontFits (length text.now) room) }
 {
@@ -33,8 +33,8 @@ pub fn front_at(text: &[u8], at: usize, room: usize) -> Result<Front, ExprTextFa
         Lexeme::End => Err(ExprTextFault::Syntax { at: text.len() }),
         Lexeme::Close(start) => Err(ExprTextFault::Syntax { at: start }),
         Lexeme::Open(start) if room == 0 => Err(ExprTextFault::TooDeep { at: start }),
-        Lexeme::Open(start) => Ok(Front::Form(start)),
-        Lexeme::Word(start, end) => Ok(Front::Word(start, end)),
+        Lexeme::Open(start) => Ok(TreeFront::Form(start)),
+        Lexeme::Word(start, end) => Ok(TreeFront::Word(start, end)),
     }
 }
 
@@ -49,8 +49,8 @@ pub fn form_head(text: &[u8], at: usize, room: usize) -> Result<(usize, usize), 
     ensures within { IfOk result (λ x. (x.0 < x.1) × (x.1 ≤ length text.now)) }
 {
     match front_at(text, at, room)? {
-        Front::Form(start) => Err(ExprTextFault::Syntax { at: start }),
-        Front::Word(start, end) => Ok((start, end)),
+        TreeFront::Form(start) => Err(ExprTextFault::Syntax { at: start }),
+        TreeFront::Word(start, end) => Ok((start, end)),
     }
 }
 

@@ -8,7 +8,7 @@ ghost use Rattle.leaf_expr.specs.Token.{tokens_from};
 
 use crate::form::{TypeForm, type_form_named};
 use crate::text_fault::ExprTextFault;
-use crate::tree_front::{Front, Read, form_end, form_head, front_at};
+use crate::tree_front::{Read, TreeFront, form_end, form_head, front_at};
 use crate::word::type_word;
 use sample_core::{Ty, TyChild};
 use std::alloc::Global;
@@ -22,8 +22,8 @@ pub(crate) fn read_type(alloc: Global, text: &[u8], at: usize, room: usize) -> R
     ensures { Gives (type_left text.now) result (tree_at type_sort text.now room at) }
 {
     match front_at(text, at, room)? {
-        Front::Form(start) => type_form(alloc, text, start + 1, room - 1),
-        Front::Word(start, end) => type_named(text, start, end),
+        TreeFront::Form(start) => type_form(alloc, text, start + 1, room - 1),
+        TreeFront::Word(start, end) => type_named(text, start, end),
     }
 }
 

@@ -8,7 +8,7 @@ use net_syntax::Net;
 
 /// What a stage must be for a move to be tried at it.
 #[derive(Clone, Copy)]
-pub(crate) enum Shape {
+pub(crate) enum StageShape {
     /// Any stage.
     Any,
     /// No stage need be there.
@@ -53,14 +53,14 @@ pub(crate) enum FormMove {
 }
 
 /// A move, how many stages it looks at, and what the first two of them must be.
-pub(crate) type Row = (FormMove, usize, Shape, Shape);
+pub(crate) type Row = (FormMove, usize, StageShape, StageShape);
 
 /// The move that drops what stands before a stage that hears nothing.
 pub(crate) const SOURCE: Row = (
     FormMove::Known(Move::Arr(ArrMove::Source)),
     2,
-    Shape::Any,
-    Shape::Any,
+    StageShape::Any,
+    StageShape::Any,
 );
 
 /// The moves in their order.
@@ -68,237 +68,267 @@ pub(crate) const TABLE: [Row; 45] = [
     (
         FormMove::Known(Move::Law(1, 2)),
         2,
-        Shape::Identity,
-        Shape::Any,
+        StageShape::Identity,
+        StageShape::Any,
     ),
     (
         FormMove::Known(Move::Law(2, 2)),
         2,
-        Shape::Any,
-        Shape::Identity,
+        StageShape::Any,
+        StageShape::Identity,
     ),
     SOURCE,
     (
         FormMove::Known(Move::First(FirstMove::Alone)),
         1,
-        Shape::FirstArr,
-        Shape::None,
+        StageShape::FirstArr,
+        StageShape::None,
     ),
     (
         FormMove::Known(Move::Arr(ArrMove::Fuse)),
         2,
-        Shape::Arr,
-        Shape::Arr,
+        StageShape::Arr,
+        StageShape::Arr,
     ),
     (
         FormMove::Known(Move::Law(37, 1)),
         1,
-        Shape::KSwitch,
-        Shape::None,
+        StageShape::KSwitch,
+        StageShape::None,
     ),
     (
         FormMove::Known(Move::Law(38, 1)),
         1,
-        Shape::KSwitch,
-        Shape::None,
+        StageShape::KSwitch,
+        StageShape::None,
     ),
     (
         FormMove::Known(Move::Switch(SwitchMove::Never)),
         1,
-        Shape::Switch,
-        Shape::None,
+        StageShape::Switch,
+        StageShape::None,
     ),
     (
         FormMove::Known(Move::Switch(SwitchMove::NeverMembers)),
         1,
-        Shape::PSwitch,
-        Shape::None,
+        StageShape::PSwitch,
+        StageShape::None,
     ),
     (
         FormMove::Known(Move::Law(35, 2)),
         2,
-        Shape::Arr,
-        Shape::RSwitch,
+        StageShape::Arr,
+        StageShape::RSwitch,
     ),
     (
         FormMove::Known(Move::Law(46, 2)),
         2,
-        Shape::Arr,
-        Shape::RpSwitch,
+        StageShape::Arr,
+        StageShape::RpSwitch,
     ),
     (
         FormMove::Known(Move::Law(43, 1)),
         1,
-        Shape::Initial,
-        Shape::None,
+        StageShape::Initial,
+        StageShape::None,
     ),
     (
         FormMove::Arr(ArrForm::FirstInput),
         1,
-        Shape::Initial,
-        Shape::None,
+        StageShape::Initial,
+        StageShape::None,
     ),
     (
         FormMove::Known(Move::Law(18, 2)),
         2,
-        Shape::Arr,
-        Shape::Hold,
+        StageShape::Arr,
+        StageShape::Hold,
     ),
     (
         FormMove::Known(Move::Cell(CellMove::HoldNone)),
         2,
-        Shape::Arr,
-        Shape::Hold,
+        StageShape::Arr,
+        StageShape::Hold,
     ),
     (
         FormMove::Known(Move::Cell(CellMove::MapBack)),
         2,
-        Shape::Timer,
-        Shape::Arr,
+        StageShape::Timer,
+        StageShape::Arr,
     ),
     (
         FormMove::Known(Move::Cell(CellMove::MapFront)),
         2,
-        Shape::Arr,
-        Shape::AccumBy,
+        StageShape::Arr,
+        StageShape::AccumBy,
     ),
     (
         FormMove::Known(Move::Law(40, 2)),
         2,
-        Shape::Members,
-        Shape::Arr,
+        StageShape::Members,
+        StageShape::Arr,
     ),
     (
         FormMove::Known(Move::Switch(SwitchMove::MembersArr)),
         1,
-        Shape::Members,
-        Shape::None,
+        StageShape::Members,
+        StageShape::None,
     ),
     (
         FormMove::Known(Move::Switch(SwitchMove::MembersIn)),
         2,
-        Shape::Arr,
-        Shape::Members,
+        StageShape::Arr,
+        StageShape::Members,
     ),
     (
         FormMove::Arr(ArrForm::MembersFront),
         1,
-        Shape::Members,
-        Shape::None,
+        StageShape::Members,
+        StageShape::None,
     ),
     (
         FormMove::Arr(ArrForm::SplitCell),
         1,
-        Shape::Cell,
-        Shape::None,
+        StageShape::Cell,
+        StageShape::None,
     ),
     (
         FormMove::Arr(ArrForm::SplitFirst),
         1,
-        Shape::First,
-        Shape::None,
+        StageShape::First,
+        StageShape::None,
     ),
     (
         FormMove::Arr(ArrForm::SwitchRound),
         1,
-        Shape::First,
-        Shape::None,
+        StageShape::First,
+        StageShape::None,
     ),
     (
         FormMove::Loop(LoopForm::Unheard),
         1,
-        Shape::Loop,
-        Shape::None,
+        StageShape::Loop,
+        StageShape::None,
     ),
     (
         FormMove::Known(Move::Loop(LoopMove::Inner)),
         1,
-        Shape::Loop,
-        Shape::None,
+        StageShape::Loop,
+        StageShape::None,
     ),
     (
         FormMove::Known(Move::First(FirstMove::Heard)),
         2,
-        Shape::First,
-        Shape::Arr,
+        StageShape::First,
+        StageShape::Arr,
     ),
     (
         FormMove::Known(Move::First(FirstMove::Unheard)),
         2,
-        Shape::First,
-        Shape::Arr,
+        StageShape::First,
+        StageShape::Arr,
     ),
-    (FormMove::Loop(LoopForm::Out), 2, Shape::Loop, Shape::Any),
-    (FormMove::Loop(LoopForm::In), 2, Shape::Any, Shape::Loop),
-    (FormMove::Arr(ArrForm::PassCell), 2, Shape::Cell, Shape::Arr),
-    (FormMove::Arr(ArrForm::PassHold), 2, Shape::Hold, Shape::Arr),
+    (
+        FormMove::Loop(LoopForm::Out),
+        2,
+        StageShape::Loop,
+        StageShape::Any,
+    ),
+    (
+        FormMove::Loop(LoopForm::In),
+        2,
+        StageShape::Any,
+        StageShape::Loop,
+    ),
+    (
+        FormMove::Arr(ArrForm::PassCell),
+        2,
+        StageShape::Cell,
+        StageShape::Arr,
+    ),
+    (
+        FormMove::Arr(ArrForm::PassHold),
+        2,
+        StageShape::Hold,
+        StageShape::Arr,
+    ),
     (
         FormMove::Known(Move::Switch(SwitchMove::In)),
         2,
-        Shape::Arr,
-        Shape::Switch,
+        StageShape::Arr,
+        StageShape::Switch,
     ),
     (
         FormMove::Known(Move::Switch(SwitchMove::Out)),
         2,
-        Shape::AnySwitch,
-        Shape::Arr,
+        StageShape::AnySwitch,
+        StageShape::Arr,
     ),
-    (FormMove::Arr(ArrForm::Nested), 1, Shape::First, Shape::None),
+    (
+        FormMove::Arr(ArrForm::Nested),
+        1,
+        StageShape::First,
+        StageShape::None,
+    ),
     (
         FormMove::Loop(LoopForm::Merge),
         2,
-        Shape::First,
-        Shape::FirstLoop,
+        StageShape::First,
+        StageShape::FirstLoop,
     ),
     (
         FormMove::Loop(LoopForm::Merge),
         2,
-        Shape::FirstLoop,
-        Shape::First,
+        StageShape::FirstLoop,
+        StageShape::First,
     ),
     (
         FormMove::Loop(LoopForm::FrontIn),
         2,
-        Shape::Arr,
-        Shape::FirstLoop,
+        StageShape::Arr,
+        StageShape::FirstLoop,
     ),
     (
         FormMove::Loop(LoopForm::BackIn),
         2,
-        Shape::FirstLoop,
-        Shape::Arr,
+        StageShape::FirstLoop,
+        StageShape::Arr,
     ),
     (
         FormMove::Loop(LoopForm::Whole),
         1,
-        Shape::FirstLoop,
-        Shape::None,
+        StageShape::FirstLoop,
+        StageShape::None,
     ),
-    (FormMove::Arr(ArrForm::Late), 2, Shape::Arr, Shape::First),
+    (
+        FormMove::Arr(ArrForm::Late),
+        2,
+        StageShape::Arr,
+        StageShape::First,
+    ),
     (
         FormMove::Arr(ArrForm::NarrowLeft),
         3,
-        Shape::Arr,
-        Shape::First,
+        StageShape::Arr,
+        StageShape::First,
     ),
     (
         FormMove::Arr(ArrForm::NarrowRight),
         3,
-        Shape::Arr,
-        Shape::First,
+        StageShape::Arr,
+        StageShape::First,
     ),
     (
         FormMove::Arr(ArrForm::NarrowLeft),
         4,
-        Shape::Arr,
-        Shape::First,
+        StageShape::Arr,
+        StageShape::First,
     ),
     (
         FormMove::Arr(ArrForm::NarrowRight),
         4,
-        Shape::Arr,
-        Shape::First,
+        StageShape::Arr,
+        StageShape::First,
     ),
 ];
 
@@ -347,21 +377,21 @@ pub(crate) fn row_fits(
     }
 }
 
-impl Shape {
+impl StageShape {
     /// Whether the stage is of the shape.
     pub(crate) fn is(self, net: &Net<Expr>) -> bool {
         match self {
-            Shape::Any | Shape::None => true,
-            Shape::Identity => matches!(net, Net::Arr(Expr::Input)),
-            Shape::FirstArr | Shape::FirstLoop | Shape::First => self.is_first(net),
-            Shape::Arr => matches!(net, Net::Arr(_)),
-            Shape::Loop => matches!(net, Net::LoopPre(..)),
-            Shape::Cell => matches!(net, Net::IPre(_) | Net::Delay(..)),
-            Shape::Hold => matches!(net, Net::Hold(_)),
-            Shape::AccumBy => matches!(net, Net::AccumBy(..)),
-            Shape::Timer => matches!(net, Net::After(..) | Net::Repeatedly(..)),
-            Shape::Members => matches!(net, Net::Par(_)),
-            Shape::Initial => matches!(net, Net::InitialOut(..) | Net::InitialIn(..)),
+            StageShape::Any | StageShape::None => true,
+            StageShape::Identity => matches!(net, Net::Arr(Expr::Input)),
+            StageShape::FirstArr | StageShape::FirstLoop | StageShape::First => self.is_first(net),
+            StageShape::Arr => matches!(net, Net::Arr(_)),
+            StageShape::Loop => matches!(net, Net::LoopPre(..)),
+            StageShape::Cell => matches!(net, Net::IPre(_) | Net::Delay(..)),
+            StageShape::Hold => matches!(net, Net::Hold(_)),
+            StageShape::AccumBy => matches!(net, Net::AccumBy(..)),
+            StageShape::Timer => matches!(net, Net::After(..) | Net::Repeatedly(..)),
+            StageShape::Members => matches!(net, Net::Par(_)),
+            StageShape::Initial => matches!(net, Net::InitialOut(..) | Net::InitialIn(..)),
             _ => self.is_switch(net),
         }
     }
@@ -372,8 +402,8 @@ impl Shape {
             return false;
         };
         match self {
-            Shape::FirstArr => matches!(inner.get(), Net::Arr(_)),
-            Shape::FirstLoop => matches!(inner.get(), Net::LoopPre(..)),
+            StageShape::FirstArr => matches!(inner.get(), Net::Arr(_)),
+            StageShape::FirstLoop => matches!(inner.get(), Net::LoopPre(..)),
             _ => true,
         }
     }
@@ -381,11 +411,11 @@ impl Shape {
     /// Whether the stage is a switch of the shape.
     fn is_switch(self, net: &Net<Expr>) -> bool {
         match self {
-            Shape::KSwitch => matches!(net, Net::KSwitch(..)),
-            Shape::PSwitch => matches!(net, Net::PSwitch(..)),
-            Shape::RSwitch => matches!(net, Net::RSwitch(..)),
-            Shape::RpSwitch => matches!(net, Net::RpSwitch(..)),
-            Shape::Switch => matches!(net, Net::Switch(..) | Net::DSwitch(..)),
+            StageShape::KSwitch => matches!(net, Net::KSwitch(..)),
+            StageShape::PSwitch => matches!(net, Net::PSwitch(..)),
+            StageShape::RSwitch => matches!(net, Net::RSwitch(..)),
+            StageShape::RpSwitch => matches!(net, Net::RpSwitch(..)),
+            StageShape::Switch => matches!(net, Net::Switch(..) | Net::DSwitch(..)),
             _ => matches!(
                 net,
                 Net::Switch(..) | Net::DSwitch(..) | Net::RSwitch(..) | Net::DrSwitch(..)

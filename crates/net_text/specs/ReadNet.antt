@@ -18,7 +18,7 @@ use Rattle.net_syntax.specs.declared.net.Net.{Net}
 use Rattle.net_text.specs.Grammar.{networks, NetSort, NetTree, network_sort, net_word_at, e, f, col}
 use Rattle.net_text.specs.File.{at_end}
 use Rattle.net_text.specs.Form.{form_row, version_of}
-use Rattle.net_text.specs.declared.form.Form.{Form}
+use Rattle.net_text.specs.declared.form.NetForm.{NetForm}
 use Rattle.net_text.specs.declared.text.Text.{Text}
 use Rattle.net_text.specs.declared.fault.NetTextFault.{NetTextFault}
 use Rattle.net_text.specs.declared.fault.NetTextFault.TheVariants as V
@@ -87,7 +87,7 @@ members_left text x = (map_networks expression_of x.0, x.1, from_byte x.1 text)
 
 -- what the call returned is what reading the parts of the form and its end gives, in the text from
 -- byte n on, unless memory ran out
-abbrev pub GivesForm : Result (Net Expr × ℕ) ExprTextFault → Form → Text → ℕ → ℕ → Type 0
+abbrev pub GivesForm : Result (Net Expr × ℕ) ExprTextFault → NetForm → Text → ℕ → ℕ → Type 0
 GivesForm result form text room n = Gives (network_left text) result
     (parts_at (form_row form).takes (form_row form).makes text room n)
 

@@ -16,8 +16,8 @@ ghost use Rattle.net_text.specs.ReadNet.{from_byte, parts_at};
 use crate::network_reader::{both, last_expr_at, network_at};
 use crate::text::{Text, Version};
 use leaf_expr::{
-    ExprTextFault, Front, MAX_OPEN, Read, closing_at, form_end, form_head, front_at, natural_named,
-    read_index, token_at,
+    ExprTextFault, MAX_OPEN, Read, TreeFront, closing_at, form_end, form_head, front_at,
+    natural_named, read_index, token_at,
 };
 use net_syntax::{Direction, Law, LawStep, Position, Tree};
 use sample_core::word_is;
@@ -71,8 +71,8 @@ fn step_front(text: &Text<'_>, at: usize) -> Result<usize, ExprTextFault>
         (from_byte at text.now)) }
 {
     match front_at(text.bytes, at, MAX_OPEN)? {
-        Front::Form(start) => step_name(text, start + 1),
-        Front::Word(start, _) => Err(ExprTextFault::Syntax { at: start }),
+        TreeFront::Form(start) => step_name(text, start + 1),
+        TreeFront::Word(start, _) => Err(ExprTextFault::Syntax { at: start }),
     }
 }
 
@@ -165,8 +165,8 @@ fn position_at(alloc: Global, text: &Text<'_>, at: usize) -> Read<Position>
     ensures { Gives (left text.now) result (part_at position_sort text.now at) }
 {
     match front_at(text.bytes, at, ROOM)? {
-        Front::Form(start) => position_form_at(alloc, text, start + 1),
-        Front::Word(start, _) => Err(ExprTextFault::Syntax { at: start }),
+        TreeFront::Form(start) => position_form_at(alloc, text, start + 1),
+        TreeFront::Word(start, _) => Err(ExprTextFault::Syntax { at: start }),
     }
 }
 

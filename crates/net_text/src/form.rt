@@ -26,7 +26,7 @@ pub(crate) enum NetWord {
 
 /// A form of one expression. `Constant` and `Now` are sugar.
 #[derive(Clone, Copy)]
-pub(crate) enum LeafForm {
+pub(crate) enum NetLeafForm {
     Arr,
     IPre,
     Hold,
@@ -51,14 +51,14 @@ pub(crate) enum Accumulator {
 
 /// A form of one network. `Second` is sugar.
 #[derive(Clone, Copy)]
-pub(crate) enum Unary {
+pub(crate) enum NetUnary {
     First,
     Second,
 }
 
 /// A form of two networks. `Beside`, which is `***`, and `FanOut`, which is `&&&`, are sugar.
 #[derive(Clone, Copy)]
-pub(crate) enum Binary {
+pub(crate) enum NetBinary {
     Seq,
     Switch,
     DSwitch,
@@ -70,12 +70,12 @@ pub(crate) enum Binary {
 
 /// A form of networks, by the parts that it takes. `Never` is sugar.
 #[derive(Clone, Copy)]
-pub(crate) enum Form {
-    Leaf(LeafForm),
+pub(crate) enum NetForm {
+    Leaf(NetLeafForm),
     Timer(Timer),
     Accumulator(Accumulator),
-    Unary(Unary),
-    Binary(Binary),
+    Unary(NetUnary),
+    Binary(NetBinary),
     Fed(FedForm),
     /// Any number of networks.
     Par,
@@ -105,7 +105,7 @@ impl NetWord {
     }
 }
 
-impl LeafForm {
+impl NetLeafForm {
     ghost use Rattle.net_text.specs.Form.{leaf_form_of};
 
     /// The form with that expression.
@@ -113,11 +113,11 @@ impl LeafForm {
         ensures { IfOk result (λ net. tree_of net ≡ leaf_form_of self (expression_of e)) }
     {
         match self {
-            LeafForm::Arr => Ok(Net::Arr(e)),
-            LeafForm::IPre => Ok(Net::IPre(e)),
-            LeafForm::Hold => Ok(Net::Hold(e)),
-            LeafForm::Constant => constant(alloc, e),
-            LeafForm::Now => Ok(Net::After(0, e)),
+            NetLeafForm::Arr => Ok(Net::Arr(e)),
+            NetLeafForm::IPre => Ok(Net::IPre(e)),
+            NetLeafForm::Hold => Ok(Net::Hold(e)),
+            NetLeafForm::Constant => constant(alloc, e),
+            NetLeafForm::Now => Ok(Net::After(0, e)),
         }
     }
 }
@@ -176,7 +176,7 @@ impl Accumulator {
     }
 }
 
-impl Unary {
+impl NetUnary {
     ghost use Rattle.net_text.specs.Form.{unary_of};
 
     /// The form with that network.
@@ -185,13 +185,13 @@ impl Unary {
             (λ net. tree_of net ≡ unary_of self (map_network expression_of f)) }
     {
         match self {
-            Unary::First => Ok(Net::First(f)),
-            Unary::Second => second(alloc, f),
+            NetUnary::First => Ok(Net::First(f)),
+            NetUnary::Second => second(alloc, f),
         }
     }
 }
 
-impl Binary {
+impl NetBinary {
     ghost use Rattle.net_text.specs.Form.{binary_of};
 
     /// The form with those networks.
@@ -201,111 +201,111 @@ impl Binary {
             ≡ binary_of self (map_network expression_of f) (map_network expression_of g)) }
     {
         match self {
-            Binary::Seq => Ok(Net::Seq(f, g)),
-            Binary::Switch => Ok(Net::Switch(f, g)),
-            Binary::DSwitch => Ok(Net::DSwitch(f, g)),
-            Binary::RSwitch => Ok(Net::RSwitch(f, g)),
-            Binary::DrSwitch => Ok(Net::DrSwitch(f, g)),
-            Binary::Beside => beside(alloc, f, g),
-            Binary::FanOut => fan_out(alloc, f, g),
+            NetBinary::Seq => Ok(Net::Seq(f, g)),
+            NetBinary::Switch => Ok(Net::Switch(f, g)),
+            NetBinary::DSwitch => Ok(Net::DSwitch(f, g)),
+            NetBinary::RSwitch => Ok(Net::RSwitch(f, g)),
+            NetBinary::DrSwitch => Ok(Net::DrSwitch(f, g)),
+            NetBinary::Beside => beside(alloc, f, g),
+            NetBinary::FanOut => fan_out(alloc, f, g),
         }
     }
 }
 
 /// The form without networks that the word begins.
-fn cell_named(word: &[u8]) -> Option<Form>
+fn cell_named(word: &[u8]) -> Option<NetForm>
     ensures { option_map form_row result ≡ row_among word.now cell_rows }
 {
     if word_is(word, "arr") {
-        Some(Form::Leaf(LeafForm::Arr))
+        Some(NetForm::Leaf(NetLeafForm::Arr))
     } else if word_is(word, "iPre") {
-        Some(Form::Leaf(LeafForm::IPre))
+        Some(NetForm::Leaf(NetLeafForm::IPre))
     } else if word_is(word, "hold") {
-        Some(Form::Leaf(LeafForm::Hold))
+        Some(NetForm::Leaf(NetLeafForm::Hold))
     } else if word_is(word, "delay") {
-        Some(Form::Timer(Timer::Delay))
+        Some(NetForm::Timer(Timer::Delay))
     } else if word_is(word, "after") {
-        Some(Form::Timer(Timer::After))
+        Some(NetForm::Timer(Timer::After))
     } else if word_is(word, "repeatedly") {
-        Some(Form::Timer(Timer::Repeatedly))
+        Some(NetForm::Timer(Timer::Repeatedly))
     } else if word_is(word, "accumBy") {
-        Some(Form::Accumulator(Accumulator::AccumBy))
+        Some(NetForm::Accumulator(Accumulator::AccumBy))
     } else if word_is(word, "constant") {
-        Some(Form::Leaf(LeafForm::Constant))
+        Some(NetForm::Leaf(NetLeafForm::Constant))
     } else if word_is(word, "now") {
-        Some(Form::Leaf(LeafForm::Now))
+        Some(NetForm::Leaf(NetLeafForm::Now))
     } else if word_is(word, "accumHoldBy") {
-        Some(Form::Accumulator(Accumulator::AccumHoldBy))
+        Some(NetForm::Accumulator(Accumulator::AccumHoldBy))
     } else {
         None
     }
 }
 
 /// The form of one or two networks that the word begins.
-fn pair_named(word: &[u8]) -> Option<Form>
+fn pair_named(word: &[u8]) -> Option<NetForm>
     ensures { option_map form_row result ≡ row_among word.now pair_rows }
 {
     if word_is(word, "first") {
-        Some(Form::Unary(Unary::First))
+        Some(NetForm::Unary(NetUnary::First))
     } else if word_is(word, ">>>") {
-        Some(Form::Binary(Binary::Seq))
+        Some(NetForm::Binary(NetBinary::Seq))
     } else if word_is(word, "switch") {
-        Some(Form::Binary(Binary::Switch))
+        Some(NetForm::Binary(NetBinary::Switch))
     } else if word_is(word, "dSwitch") {
-        Some(Form::Binary(Binary::DSwitch))
+        Some(NetForm::Binary(NetBinary::DSwitch))
     } else if word_is(word, "rSwitch") {
-        Some(Form::Binary(Binary::RSwitch))
+        Some(NetForm::Binary(NetBinary::RSwitch))
     } else if word_is(word, "second") {
-        Some(Form::Unary(Unary::Second))
+        Some(NetForm::Unary(NetUnary::Second))
     } else if word_is(word, "***") {
-        Some(Form::Binary(Binary::Beside))
+        Some(NetForm::Binary(NetBinary::Beside))
     } else if word_is(word, "&&&") {
-        Some(Form::Binary(Binary::FanOut))
+        Some(NetForm::Binary(NetBinary::FanOut))
     } else {
         None
     }
 }
 
 /// The form of other parts that the word begins.
-fn other_named(word: &[u8]) -> Option<Form>
+fn other_named(word: &[u8]) -> Option<NetForm>
     ensures { option_map form_row result ≡ row_among word.now other_rows }
 {
     if word_is(word, "loopPre") {
-        Some(Form::Fed(FedForm::LoopPre))
+        Some(NetForm::Fed(FedForm::LoopPre))
     } else if word_is(word, "parB") {
-        Some(Form::Par)
+        Some(NetForm::Par)
     } else if word_is(word, "kSwitch") {
-        Some(Form::KSwitch)
+        Some(NetForm::KSwitch)
     } else if word_is(word, "pSwitch") {
-        Some(Form::PSwitch)
+        Some(NetForm::PSwitch)
     } else if word_is(word, "old") {
-        Some(Form::Old)
+        Some(NetForm::Old)
     } else if word_is(word, "never") {
-        Some(Form::Never)
+        Some(NetForm::Never)
     } else {
         None
     }
 }
 
 /// The form of the second version alone that the word begins.
-fn new_named(word: &[u8]) -> Option<Form>
+fn new_named(word: &[u8]) -> Option<NetForm>
     ensures { option_map form_row result ≡ row_among word.now (new_rows version_2) }
 {
     if word_is(word, "-->") {
-        Some(Form::Fed(FedForm::InitialOut))
+        Some(NetForm::Fed(FedForm::InitialOut))
     } else if word_is(word, ">--") {
-        Some(Form::Fed(FedForm::InitialIn))
+        Some(NetForm::Fed(FedForm::InitialIn))
     } else if word_is(word, "drSwitch") {
-        Some(Form::Binary(Binary::DrSwitch))
+        Some(NetForm::Binary(NetBinary::DrSwitch))
     } else if word_is(word, "rpSwitchB") {
-        Some(Form::RpSwitch)
+        Some(NetForm::RpSwitch)
     } else {
         None
     }
 }
 
 /// The form that the word begins in that version and in none before it.
-fn added_named(word: &[u8], version: Version) -> Option<Form>
+fn added_named(word: &[u8], version: Version) -> Option<NetForm>
     ensures { option_map form_row result ≡ row_among word.now (new_rows (version_of version)) }
 {
     match version {
@@ -315,7 +315,7 @@ fn added_named(word: &[u8], version: Version) -> Option<Form>
 }
 
 /// The form of networks that the word begins in that version.
-pub(crate) fn form_named(word: &[u8], version: Version) -> Option<Form>
+pub(crate) fn form_named(word: &[u8], version: Version) -> Option<NetForm>
     ensures { option_map form_row result ≡ net_row_at (version_of version) network_sort word.now }
 {
     if let Some(form) = cell_named(word) {

@@ -10,10 +10,12 @@ ghost use Rattle.net_text.specs.Form.{timer_of};
 ghost use Rattle.net_text.specs.Grammar.{network_sort, members_sort, time_sort, e, f};
 ghost use Rattle.net_text.specs.ReadNet.{sort_at, word_network as word_read, form_at as form_read, parts_at as parts_read, last_two_at as last_two_read, last_fed_at as last_fed_read, last_three_at as last_three_read, from_byte, GivesForm, network_left, child_left, members_left};
 
-use crate::form::{Accumulator, Binary, Form, LeafForm, Timer, Unary, form_named, network_named};
+use crate::form::{
+    Accumulator, NetBinary, NetForm, NetLeafForm, NetUnary, Timer, form_named, network_named,
+};
 use crate::text::Text;
 use leaf_expr::{
-    Expr, ExprTextFault, Front, MAX_OPEN, Read, closing_at, form_end, form_head, front_at,
+    Expr, ExprTextFault, MAX_OPEN, Read, TreeFront, closing_at, form_end, form_head, front_at,
     read_expr_at, read_index, read_natural, read_type_at,
 };
 use net_syntax::{FedForm, Members, Net, NetChild};
@@ -34,8 +36,8 @@ pub(crate) fn network_at(alloc: Global, text: &Text<'_>, at: usize, room: usize)
     ensures { Gives (network_left text.now) result (sort_at network_sort text.now room at) }
 {
     match front_at(text.bytes, at, room)? {
-        Front::Form(start) => form_at(alloc, text, start + 1, room - 1),
-        Front::Word(start, end) => word_network(alloc, text, start, end),
+        TreeFront::Form(start) => form_at(alloc, text, start + 1, room - 1),
+        TreeFront::Word(start, end) => word_network(alloc, text, start, end),
     }
 }
 
@@ -65,23 +67,23 @@ fn form_at(alloc: Global, text: &Text<'_>, at: usize, room: usize) -> ReadNet
 
 /// The parts of a form, and its end.
 #[cycle(network)]
-fn parts_at(alloc: Global, text: &Text<'_>, at: usize, room: usize, form: Form) -> ReadNet
+fn parts_at(alloc: Global, text: &Text<'_>, at: usize, room: usize, form: NetForm) -> ReadNet
     requires { room ≤ 600 }
     ensures { GivesForm result form text.now room at }
 {
     match form {
-        Form::Leaf(form) => leaf_form_at(alloc, text, at, room, form),
-        Form::Timer(form) => timer_at(alloc, text, at, room, form),
-        Form::Accumulator(form) => accumulator_at(alloc, text, at, room, form),
-        Form::Unary(form) => unary_at(alloc, text, at, room, form),
-        Form::Binary(form) => binary_at(alloc, text, at, room, form),
-        Form::Fed(form) => fed_at(alloc, text, at, room, form),
-        Form::Par => par_at(alloc, text, at, room),
-        Form::KSwitch => k_switch_at(alloc, text, at, room),
-        Form::PSwitch => p_switch_at(alloc, text, at, room),
-        Form::RpSwitch => rp_switch_at(alloc, text, at, room),
-        Form::Old => old_at(text, at, room),
-        Form::Never => never_at(alloc, text, at, room),
+        NetForm::Leaf(form) => leaf_form_at(alloc, text, at, room, form),
+        NetForm::Timer(form) => timer_at(alloc, text, at, room, form),
+        NetForm::Accumulator(form) => accumulator_at(alloc, text, at, room, form),
+        NetForm::Unary(form) => unary_at(alloc, text, at, room, form),
+        NetForm::Binary(form) => binary_at(alloc, text, at, room, form),
+        NetForm::Fed(form) => fed_at(alloc, text, at, room, form),
+        NetForm::Par => par_at(alloc, text, at, room),
+        NetForm::KSwitch => k_switch_at(alloc, text, at, room),
+        NetForm::PSwitch => p_switch_at(alloc, text, at, room),
+        NetForm::RpSwitch => rp_switch_at(alloc, text, at, room),
+        NetForm::Old => old_at(text, at, room),
+        NetForm::Never => never_at(alloc, text, at, room),
     }
 }
 
@@ -130,9 +132,15 @@ pub(crate) fn last_expr_at(alloc: Global, text: &Text<'_>, at: usize, room: usiz
 }
 
 /// One expression, and the end of the form.
-fn leaf_form_at(alloc: Global, text: &Text<'_>, at: usize, room: usize, form: LeafForm) -> ReadNet
+fn leaf_form_at(
+    alloc: Global,
+    text: &Text<'_>,
+    at: usize,
+    room: usize,
+    form: NetLeafForm,
+) -> ReadNet
     requires { room ≤ 600 }
-    ensures { GivesForm result (Form.Leaf form) text.now room at }
+    ensures { GivesForm result (NetForm.Leaf form) text.now room at }
 {
     let (expr, end) = last_expr_at(alloc, text, at, room)?;
     Ok((form.of(alloc, expr)?, end))
@@ -149,7 +157,7 @@ fn time_at(text: &Text<'_>, at: usize, room: usize, form: Timer) -> Read<u64>
 /// A time and an expression, and the end of the form.
 fn timer_at(alloc: Global, text: &Text<'_>, at: usize, room: usize, form: Timer) -> ReadNet
     requires { room ≤ 600 }
-    ensures { GivesForm result (Form.Timer form) text.now room at }
+    ensures { GivesForm result (NetForm.Timer form) text.now room at }
 {
     let (q, at) = time_at(text, at, room, form)?;
     let (c, end) = last_expr_at(alloc, text, at, room)?;
@@ -165,7 +173,7 @@ fn accumulator_at(
     form: Accumulator,
 ) -> ReadNet
     requires { room ≤ 600 }
-    ensures { GivesForm result (Form.Accumulator form) text.now room at }
+    ensures { GivesForm result (NetForm.Accumulator form) text.now room at }
 {
     let (g, at) = expr_at(alloc, text.bytes, at, room)?;
     let (g, (z, end)) = both(g, last_expr_at(alloc, text, at, room))?;
@@ -174,7 +182,7 @@ fn accumulator_at(
 
 /// The number of a frozen network, and the end of the form.
 fn old_at(text: &Text<'_>, at: usize, room: usize) -> ReadNet
-    ensures { GivesForm result Form.Old text.now room at }
+    ensures { GivesForm result NetForm.Old text.now room at }
 {
     let (k, at) = read_index(text.bytes, at, room)?;
     let end = form_end(text.bytes, at, room)?;
@@ -184,7 +192,7 @@ fn old_at(text: &Text<'_>, at: usize, room: usize) -> ReadNet
 /// A type, and the end of the form.
 fn never_at(alloc: Global, text: &Text<'_>, at: usize, room: usize) -> ReadNet
     requires { room ≤ 600 }
-    ensures { GivesForm result Form.Never text.now room at }
+    ensures { GivesForm result NetForm.Never text.now room at }
 {
     let (carried, at) = type_at(alloc, text.bytes, at, room)?;
     let (carried, end) = both(carried, form_end(text.bytes, at, room))?;
@@ -233,9 +241,9 @@ fn last_two_at(alloc: Global, text: &Text<'_>, at: usize, room: usize) -> Read<(
 
 /// One network, and the end of the form.
 #[cycle(network)]
-fn unary_at(alloc: Global, text: &Text<'_>, at: usize, room: usize, form: Unary) -> ReadNet
+fn unary_at(alloc: Global, text: &Text<'_>, at: usize, room: usize, form: NetUnary) -> ReadNet
     requires { room ≤ 600 }
-    ensures { GivesForm result (Form.Unary form) text.now room at }
+    ensures { GivesForm result (NetForm.Unary form) text.now room at }
 {
     let (g, end) = last_child_at(alloc, text, at, room)?;
     Ok((form.of(alloc, g)?, end))
@@ -243,9 +251,9 @@ fn unary_at(alloc: Global, text: &Text<'_>, at: usize, room: usize, form: Unary)
 
 /// Two networks, and the end of the form.
 #[cycle(network)]
-fn binary_at(alloc: Global, text: &Text<'_>, at: usize, room: usize, form: Binary) -> ReadNet
+fn binary_at(alloc: Global, text: &Text<'_>, at: usize, room: usize, form: NetBinary) -> ReadNet
     requires { room ≤ 600 }
-    ensures { GivesForm result (Form.Binary form) text.now room at }
+    ensures { GivesForm result (NetForm.Binary form) text.now room at }
 {
     let ((g, h), end) = last_two_at(alloc, text, at, room)?;
     Ok((form.of(alloc, g, h)?, end))
@@ -255,7 +263,7 @@ fn binary_at(alloc: Global, text: &Text<'_>, at: usize, room: usize, form: Binar
 #[cycle(network)]
 fn k_switch_at(alloc: Global, text: &Text<'_>, at: usize, room: usize) -> ReadNet
     requires { room ≤ 600 }
-    ensures { GivesForm result Form.KSwitch text.now room at }
+    ensures { GivesForm result NetForm.KSwitch text.now room at }
 {
     let (g, at) = child_at(alloc, text, at, room)?;
     let ((test, t), end) = last_two_at(alloc, text, at, room)?;
@@ -283,7 +291,7 @@ fn last_fed_at(alloc: Global, text: &Text<'_>, at: usize, room: usize) -> Read<(
 #[cycle(network)]
 fn fed_at(alloc: Global, text: &Text<'_>, at: usize, room: usize, form: FedForm) -> ReadNet
     requires { room ≤ 600 }
-    ensures { GivesForm result (Form.Fed form) text.now room at }
+    ensures { GivesForm result (NetForm.Fed form) text.now room at }
 {
     let ((c, g), end) = last_fed_at(alloc, text, at, room)?;
     Ok((form.of(c, g), end))
@@ -293,7 +301,7 @@ fn fed_at(alloc: Global, text: &Text<'_>, at: usize, room: usize, form: FedForm)
 #[cycle(network)]
 fn rp_switch_at(alloc: Global, text: &Text<'_>, at: usize, room: usize) -> ReadNet
     requires { room ≤ 600 }
-    ensures { GivesForm result Form.RpSwitch text.now room at }
+    ensures { GivesForm result NetForm.RpSwitch text.now room at }
 {
     let (all, at) = col_at(alloc, text, at, room)?;
     let ((m, t), end) = last_fed_at(alloc, text, at, room)?;
@@ -304,7 +312,7 @@ fn rp_switch_at(alloc: Global, text: &Text<'_>, at: usize, room: usize) -> ReadN
 #[cycle(network)]
 fn par_at(alloc: Global, text: &Text<'_>, at: usize, room: usize) -> ReadNet
     requires { room ≤ 600 }
-    ensures { GivesForm result Form.Par text.now room at }
+    ensures { GivesForm result NetForm.Par text.now room at }
 {
     let (all, end) = members_at(alloc, text, at, room)?;
     Ok((Net::Par(all), end))
@@ -314,7 +322,7 @@ fn par_at(alloc: Global, text: &Text<'_>, at: usize, room: usize) -> ReadNet
 #[cycle(network)]
 fn p_switch_at(alloc: Global, text: &Text<'_>, at: usize, room: usize) -> ReadNet
     requires { room ≤ 600 }
-    ensures { GivesForm result Form.PSwitch text.now room at }
+    ensures { GivesForm result NetForm.PSwitch text.now room at }
 {
     let (r, at) = expr_at(alloc, text.bytes, at, room)?;
     let (r, ((all, test, t), end)) = both(r, last_three_at(alloc, text, at, room))?;
@@ -355,8 +363,8 @@ fn col_at(alloc: Global, text: &Text<'_>, at: usize, room: usize) -> Read<Member
     ensures { Gives (members_left text.now) result (sort_at members_sort text.now room at) }
 {
     match front_at(text.bytes, at, room)? {
-        Front::Form(start) => col_form_at(alloc, text, start + 1, room - 1),
-        Front::Word(start, _) => Err(ExprTextFault::Syntax { at: start }),
+        TreeFront::Form(start) => col_form_at(alloc, text, start + 1, room - 1),
+        TreeFront::Word(start, _) => Err(ExprTextFault::Syntax { at: start }),
     }
 }
 

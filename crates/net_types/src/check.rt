@@ -5,7 +5,7 @@ ghost use Rattle.net_syntax.specs.NetworkView.{tree_of};
 ghost use Rattle.net_types.specs.Check.{check, Gives};
 
 use crate::fault::TypeFault;
-use crate::scope::Scope;
+use crate::scope::ScopeTypes;
 use crate::walk::walk;
 use leaf_core::{Expr, type_fits};
 use net_syntax::{MOST_HEIGHT, MOST_WEIGHT, Net, TypedNet, height, is_oversized, weight};
@@ -46,7 +46,7 @@ pub fn check_types(alloc: Global, input: Ty, net: Net<Expr>) -> Result<TypedNet,
         return Err(TypeFault::TooHeavy);
     }
     let mut path = Vec::new(alloc);
-    let scope = Scope::new(alloc);
+    let scope = ScopeTypes::new(alloc);
     let output = walk(alloc, &mut path, &scope, &input, &net)?;
     let height = height(alloc, &net)?;
     if height > MOST_HEIGHT {

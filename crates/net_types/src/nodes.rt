@@ -8,7 +8,7 @@ ghost use Rattle.net_types.specs.{Walk.◌↓◌, Walk.expect_same, Walk.old_at,
 ghost use Rattle.net_types.specs.WalkParts.{leaf_walk, route_walk, step_walk, timer_walk, walk_in};
 
 use crate::fault::TypeFault;
-use crate::scope::Scope;
+use crate::scope::ScopeTypes;
 use crate::site::{Site, event_at, in_range, same_at, wanted_at};
 use crate::types::{event_of, pair_of};
 use leaf_core::{Expr, ExprFault, type_of_expr};
@@ -27,7 +27,7 @@ pub(crate) fn leaf_type(
     alloc: Global,
     path: &[u32],
     k: u32,
-    scope: &Scope,
+    scope: &ScopeTypes,
     input: &Ty,
     leaf: &Expr,
 ) -> Result<Ty, TypeFault>
@@ -48,7 +48,7 @@ pub(crate) fn leaf_type(
 pub(crate) fn constant_type(
     alloc: Global,
     path: &[u32],
-    scope: &Scope,
+    scope: &ScopeTypes,
     input: &Ty,
     c: &Expr,
 ) -> Result<Ty, TypeFault>
@@ -63,7 +63,7 @@ pub(crate) fn constant_type(
 pub(crate) fn delay_type(
     alloc: Global,
     path: &[u32],
-    scope: &Scope,
+    scope: &ScopeTypes,
     input: &Ty,
     q: u64,
     c: &Expr,
@@ -79,7 +79,7 @@ pub(crate) fn delay_type(
 pub(crate) fn accumulator_type(
     alloc: Global,
     path: &[u32],
-    scope: &Scope,
+    scope: &ScopeTypes,
     input: &Ty,
     g: &Expr,
     z: &Expr,
@@ -99,7 +99,7 @@ pub(crate) fn accumulator_type(
 fn step_type(
     alloc: Global,
     path: &[u32],
-    scope: &Scope,
+    scope: &ScopeTypes,
     carried: &Ty,
     accumulator: &Ty,
     g: &Expr,
@@ -120,7 +120,7 @@ fn step_type(
 pub(crate) fn timer_type(
     alloc: Global,
     path: &[u32],
-    scope: &Scope,
+    scope: &ScopeTypes,
     low: u64,
     q: u64,
     c: &Expr,
@@ -146,7 +146,7 @@ pub(crate) fn integral_type(alloc: Global, path: &[u32], input: &Ty) -> Result<T
 pub(crate) fn route_type(
     alloc: Global,
     path: &[u32],
-    scope: &Scope,
+    scope: &ScopeTypes,
     input: &Ty,
     r: &Expr,
 ) -> Result<Ty, TypeFault>
@@ -163,7 +163,7 @@ pub(crate) fn route_type(
 pub(crate) fn old_type(
     alloc: Global,
     path: &[u32],
-    scope: &Scope,
+    scope: &ScopeTypes,
     input: &Ty,
     k: u32,
 ) -> Result<Ty, TypeFault>

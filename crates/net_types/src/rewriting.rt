@@ -9,7 +9,7 @@ ghost use Rattle.net_types.specs.Answered.{Answers, NoRewriting};
 ghost use Rattle.net_types.specs.KeptTypes.{checked_output, kept_in_leaf, same_type, type_kept};
 
 use crate::fault::TypeFault;
-use crate::scope::Scope;
+use crate::scope::ScopeTypes;
 use crate::walk::walk;
 use leaf_core::{Expr, expr_fits, part_type, with_part_at};
 use net_syntax::{
@@ -164,7 +164,7 @@ fn kept_here(alloc: Global, at: Standing, net: &Net<Expr>, other: &Tree) -> Resu
         olds,
         input,
     } = at;
-    let scope = Scope::of(params, olds);
+    let scope = ScopeTypes::of(params, olds);
     let before = output_of(alloc, &scope, &input, net)?;
     let after = output_of(alloc, &scope, &input, other)?;
     drop(scope);
@@ -176,7 +176,7 @@ fn kept_here(alloc: Global, at: Standing, net: &Net<Expr>, other: &Tree) -> Resu
 /// within the limits.
 fn output_of(
     alloc: Global,
-    scope: &Scope,
+    scope: &ScopeTypes,
     input: &Ty,
     net: &Net<Expr>,
 ) -> Result<Option<Ty>, Memory>

@@ -12,12 +12,12 @@ use std::marker::Model;
 
 /// The types of the parameters and of the frozen networks in scope, the outermost first.
 #[derive(Drop)]
-pub(crate) struct Scope {
+pub(crate) struct ScopeTypes {
     params: Vec<Ty>,
     olds: Vec<Arrow>,
 }
 
-impl Model for Scope {
+impl Model for ScopeTypes {
     ghost use Rattle.std.specs.Prelude.{map};
     ghost use Rattle.net_types.specs.Scopes.{InScope, in_scope_code};
 
@@ -34,22 +34,22 @@ impl Model for Scope {
     } };
 }
 
-impl Scope {
+impl ScopeTypes {
     /// Nothing in scope.
-    pub(crate) fn new(alloc: Global) -> Scope
+    pub(crate) fn new(alloc: Global) -> ScopeTypes
         ensures { result ≡ empty }
     {
-        Scope {
+        ScopeTypes {
             params: Vec::new(alloc),
             olds: Vec::new(alloc),
         }
     }
 
     /// These in scope.
-    pub(crate) fn of(params: Vec<Ty>, olds: Vec<Arrow>) -> Scope
+    pub(crate) fn of(params: Vec<Ty>, olds: Vec<Arrow>) -> ScopeTypes
         ensures { result ≡ in_scope (map type_of params.items) (map arrow_of olds.items) }
     {
-        Scope { params, olds }
+        ScopeTypes { params, olds }
     }
 
     /// The types of the parameters.
@@ -67,14 +67,14 @@ impl Scope {
     }
 
     /// The scope with one more parameter, of the type. `Memory` where a growth was refused.
-    pub(crate) fn and_param(&self, alloc: Global, param: &Ty) -> Result<Scope, Memory>
+    pub(crate) fn and_param(&self, alloc: Global, param: &Ty) -> Result<ScopeTypes, Memory>
         ensures { IfOk result (λ s. s ≡ and_param self.now (type_of param.now)) }
     {
         let mut params = try_copy_types(alloc, &self.params)?;
         let param = param.try_copy(alloc)?;
         params.push(param)?;
         let olds = copied_olds(alloc, &self.olds)?;
-        Ok(Scope { params, olds })
+        Ok(ScopeTypes { params, olds })
     }
 
     /// Adds frozen networks of the types, `count` of them. `Memory` where a growth was refused.

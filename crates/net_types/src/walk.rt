@@ -14,7 +14,7 @@ use crate::nodes::{
     accumulator_type, constant_type, delay_type, integral_type, leaf_type, old_type, route_type,
     timer_type,
 };
-use crate::scope::{Scope, arrow_between};
+use crate::scope::{ScopeTypes, arrow_between};
 use crate::site::{
     Site, choice_at, count_members, event_at, one_type, pair_at, same_at, wanted_at,
 };
@@ -30,7 +30,7 @@ use std::alloc::Global;
 pub(crate) fn walk(
     alloc: Global,
     path: &mut Vec<u32>,
-    scope: &Scope,
+    scope: &ScopeTypes,
     input: &Ty,
     net: &Net<Expr>,
 ) -> Result<Ty, TypeFault>
@@ -73,7 +73,7 @@ pub(crate) fn walk(
 fn walk_both(
     alloc: Global,
     path: &mut Vec<u32>,
-    scope: &Scope,
+    scope: &ScopeTypes,
     input: &Ty,
     f: &NetChild<Expr>,
     g: &NetChild<Expr>,
@@ -94,7 +94,7 @@ fn walk_both(
 fn walk_first(
     alloc: Global,
     path: &mut Vec<u32>,
-    scope: &Scope,
+    scope: &ScopeTypes,
     input: &Ty,
     f: &NetChild<Expr>,
 ) -> Result<Ty, TypeFault>
@@ -115,7 +115,7 @@ fn walk_first(
 fn walk_par(
     alloc: Global,
     path: &mut Vec<u32>,
-    scope: &Scope,
+    scope: &ScopeTypes,
     input: &Ty,
     fs: &Members<Expr>,
 ) -> Result<Ty, TypeFault>
@@ -137,7 +137,7 @@ fn walk_par(
 fn walk_loop(
     alloc: Global,
     path: &mut Vec<u32>,
-    scope: &Scope,
+    scope: &ScopeTypes,
     input: &Ty,
     c: &Expr,
     f: &NetChild<Expr>,
@@ -158,7 +158,7 @@ fn walk_loop(
 fn walk_fed_back(
     alloc: Global,
     path: &mut Vec<u32>,
-    scope: &Scope,
+    scope: &ScopeTypes,
     input: &Ty,
     back: &Ty,
     f: &NetChild<Expr>,
@@ -194,7 +194,7 @@ fn loop_output(alloc: Global, path: &[u32], back: &Ty, found: &Ty) -> Result<Ty,
 fn walk_initial_out(
     alloc: Global,
     path: &mut Vec<u32>,
-    scope: &Scope,
+    scope: &ScopeTypes,
     input: &Ty,
     c: &Expr,
     f: &NetChild<Expr>,
@@ -223,7 +223,7 @@ fn walk_initial_out(
 fn walk_initial_in(
     alloc: Global,
     path: &mut Vec<u32>,
-    scope: &Scope,
+    scope: &ScopeTypes,
     input: &Ty,
     c: &Expr,
     f: &NetChild<Expr>,
@@ -245,7 +245,7 @@ fn walk_initial_in(
 fn walk_switch(
     alloc: Global,
     path: &mut Vec<u32>,
-    scope: &Scope,
+    scope: &ScopeTypes,
     input: &Ty,
     f: &NetChild<Expr>,
     t: &NetChild<Expr>,
@@ -266,7 +266,7 @@ fn walk_switch(
 fn walk_switched(
     alloc: Global,
     path: &mut Vec<u32>,
-    scope: &Scope,
+    scope: &ScopeTypes,
     input: &Ty,
     found: &Ty,
     t: &NetChild<Expr>,
@@ -287,7 +287,7 @@ fn walk_switched(
 fn walk_r_switch(
     alloc: Global,
     path: &mut Vec<u32>,
-    scope: &Scope,
+    scope: &ScopeTypes,
     input: &Ty,
     f: &NetChild<Expr>,
     t: &NetChild<Expr>,
@@ -311,7 +311,7 @@ fn walk_r_switch(
 fn walk_k_switch(
     alloc: Global,
     path: &mut Vec<u32>,
-    scope: &Scope,
+    scope: &ScopeTypes,
     input: &Ty,
     f: &NetChild<Expr>,
     e: &NetChild<Expr>,
@@ -334,7 +334,7 @@ fn walk_k_switch(
 fn walk_frozen(
     alloc: Global,
     path: &mut Vec<u32>,
-    scope: &Scope,
+    scope: &ScopeTypes,
     input: &Ty,
     output: &Ty,
     e: &NetChild<Expr>,
@@ -361,11 +361,11 @@ fn walk_event(
     alloc: Global,
     path: &mut Vec<u32>,
     k: u32,
-    scope: &Scope,
+    scope: &ScopeTypes,
     input: &Ty,
     output: &Ty,
     e: &NetChild<Expr>,
-) -> Result<Scope, TypeFault>
+) -> Result<ScopeTypes, TypeFault>
     ensures answer { Gives (λ inner. inner) result
         (watch_walk (path.old.items ↓ k) scope.now (type_of input.now) (type_of output.now)
         (map_network expression_of e.now)) }
@@ -385,9 +385,9 @@ fn scope_under(
     alloc: Global,
     path: &[u32],
     k: u32,
-    scope: &Scope,
+    scope: &ScopeTypes,
     event: &Ty,
-) -> Result<Scope, TypeFault>
+) -> Result<ScopeTypes, TypeFault>
     ensures { Gives (λ inner. inner) result
         (under_event (path.now ↓ k) scope.now (type_of event.now)) }
 {
@@ -402,7 +402,7 @@ fn scope_under(
 fn walk_p_switch(
     alloc: Global,
     path: &mut Vec<u32>,
-    scope: &Scope,
+    scope: &ScopeTypes,
     input: &Ty,
     r: &Expr,
     fs: &Members<Expr>,
@@ -428,7 +428,7 @@ fn walk_p_switch(
 fn walk_routed(
     alloc: Global,
     path: &mut Vec<u32>,
-    scope: &Scope,
+    scope: &ScopeTypes,
     input: &Ty,
     r: &Expr,
     members: &[Net<Expr>],
@@ -450,7 +450,7 @@ fn walk_routed(
 fn walk_gathered(
     alloc: Global,
     path: &mut Vec<u32>,
-    scope: &Scope,
+    scope: &ScopeTypes,
     input: &Ty,
     count: u32,
     types: &Arrow,
@@ -477,7 +477,7 @@ fn walk_gathered(
 fn walk_rp_switch(
     alloc: Global,
     path: &mut Vec<u32>,
-    scope: &Scope,
+    scope: &ScopeTypes,
     input: &Ty,
     fs: &Members<Expr>,
     m: &Expr,
@@ -513,10 +513,10 @@ fn scope_started(
     alloc: Global,
     path: &[u32],
     k: u32,
-    scope: &Scope,
+    scope: &ScopeTypes,
     carried: &Ty,
     m: &Expr,
-) -> Result<Scope, TypeFault>
+) -> Result<ScopeTypes, TypeFault>
     ensures { Gives (λ inner. inner) result
         (choice_walk (path.now ↓ k) scope.now (type_of carried.now) (expression_of m.now)) }
 {
@@ -531,9 +531,9 @@ fn scope_chosen(
     alloc: Global,
     path: &[u32],
     k: u32,
-    scope: &Scope,
+    scope: &ScopeTypes,
     choice: &Ty,
-) -> Result<Scope, TypeFault>
+) -> Result<ScopeTypes, TypeFault>
     ensures { Gives (λ inner. inner) result
         (under_choice (path.now ↓ k) scope.now (type_of choice.now)) }
 {
@@ -549,7 +549,7 @@ fn walk_started(
     alloc: Global,
     path: &mut Vec<u32>,
     k: u32,
-    scope: &Scope,
+    scope: &ScopeTypes,
     input: &Ty,
     output: &Ty,
     t: &NetChild<Expr>,
@@ -571,7 +571,7 @@ fn members_type(
     alloc: Global,
     path: &mut Vec<u32>,
     first: u32,
-    scope: &Scope,
+    scope: &ScopeTypes,
     input: &Ty,
     members: &[Net<Expr>],
 ) -> Result<Ty, TypeFault>
@@ -593,7 +593,7 @@ fn walk_members(
     alloc: Global,
     path: &mut Vec<u32>,
     first: u32,
-    scope: &Scope,
+    scope: &ScopeTypes,
     input: &Ty,
     members: &[Net<Expr>],
     outputs: &mut Vec<Ty>,
@@ -622,7 +622,7 @@ fn walk_next(
     alloc: Global,
     path: &mut Vec<u32>,
     k: u32,
-    scope: &Scope,
+    scope: &ScopeTypes,
     input: &Ty,
     wanted: &Ty,
     t: &NetChild<Expr>,
@@ -642,7 +642,7 @@ fn walk_child(
     alloc: Global,
     path: &mut Vec<u32>,
     k: u32,
-    scope: &Scope,
+    scope: &ScopeTypes,
     input: &Ty,
     child: &NetChild<Expr>,
 ) -> Result<Ty, TypeFault>
@@ -660,7 +660,7 @@ fn walk_at(
     alloc: Global,
     path: &mut Vec<u32>,
     k: u32,
-    scope: &Scope,
+    scope: &ScopeTypes,
     input: &Ty,
     net: &Net<Expr>,
 ) -> Result<Ty, TypeFault>

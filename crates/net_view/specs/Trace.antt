@@ -12,7 +12,7 @@ use Rattle.cert_check.specs.TreeAnswer.{TreeAnswer}
 use Rattle.cert_check.specs.Derives.{Next, tree_at}
 use Rattle.cert_check.specs.StepAnswers.{StepFault}
 use Rattle.net_view.specs.declared.trace.Change.{Change}
-use Rattle.net_view.specs.declared.trace.Stop.{Stop}
+use Rattle.net_view.specs.declared.trace.RefusedStep.{RefusedStep}
 use Rattle.net_view.specs.declared.trace.Trace.{Trace}
 use Rattle.net_view.specs.declared.trace.StepTrace.{StepTrace}
 use Rattle.net_view.specs.declared.trace.StepTrace.TheVariants.{Taken, Refused}
@@ -38,8 +38,8 @@ pub record Stopped : Type 0 where
 abbrev pub changed_of : Change → Changed
 changed_of c = record { before = part_of c.before; after = part_of c.after }
 
--- the stop that a `Stop` is
-abbrev pub stopped_of : Stop → Stopped
+-- the stop that a `RefusedStep` is
+abbrev pub stopped_of : RefusedStep → Stopped
 stopped_of s =
     record { fault = s.fault; there = option_map part_of s.there; led = option_map part_of s.led }
 

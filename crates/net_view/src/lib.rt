@@ -27,4 +27,4 @@ pub use possible::{PossibleStep, possible_steps};
 pub use rows::{OutlineRow, outline};
 pub use texts::{outline_text, possible_text};
 pub use told::trace_text;
-pub use trace::{Change, Stop, Trace, first_steps, trace_steps};
+pub use trace::{Change, RefusedStep, Trace, first_steps, trace_steps};

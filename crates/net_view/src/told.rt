@@ -8,7 +8,7 @@ ghost use Rattle.net_text.specs.CertificatePrinting.{tree_sexpr};
 ghost use Rattle.net_view.specs.Trace.{changed_of, stopped_of};
 ghost use Rattle.net_view.specs.TraceText.{change_lines, marked_line, marked_lines, stop_lines, trace_lines};
 
-use crate::trace::{Change, Stop, Trace};
+use crate::trace::{Change, RefusedStep, Trace};
 use net_syntax::{LawStep, Tree};
 use net_text::{push_step, push_tree};
 use sample_core::Memory;
@@ -48,7 +48,7 @@ fn push_change(text: &mut String, step: &LawStep, change: &Change) -> Result<(),
 }
 
 /// The lines of a step that was refused, where one was.
-fn push_stop(text: &mut String, step: &LawStep, stop: &Option<Stop>) -> Result<(), Memory>
+fn push_stop(text: &mut String, step: &LawStep, stop: &Option<RefusedStep>) -> Result<(), Memory>
     ensures { Adds result (string_bytes text.old) (string_bytes text.new)
         (stop_lines (step_of step.now) (option_map stopped_of stop.now)) }
 {

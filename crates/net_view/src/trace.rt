@@ -22,7 +22,7 @@ pub struct Change {
 
 /// A step that was refused.
 #[derive(Drop)]
-pub struct Stop {
+pub struct RefusedStep {
     /// Why, with the step's number; not for lack of memory.
     pub fault: CheckFault,
     /// What stands at the step's position, if that is there.
@@ -38,7 +38,7 @@ pub struct Trace {
     /// What each step that was taken changed, in their order.
     pub changes: Vec<Change>,
     /// The step behind them, where it was refused.
-    pub stop: Option<Stop>,
+    pub stop: Option<RefusedStep>,
 }
 
 /// What came of one step.
@@ -47,7 +47,7 @@ pub(crate) enum StepTrace {
     /// It was taken.
     Taken(Change),
     /// It was refused.
-    Refused(Stop),
+    Refused(RefusedStep),
 }
 
 /// The first steps, so many; all, where there are fewer or no number is given.
@@ -140,7 +140,7 @@ fn refused(
         }
         fault => {
             let led = led_by(alloc, net, step)?;
-            Ok(StepTrace::Refused(Stop { fault, there, led }))
+            Ok(StepTrace::Refused(RefusedStep { fault, there, led }))
         }
     }
 }

@@ -36,7 +36,7 @@ pub enum Piece {
 /// The bytes that were read and not yet answered: contracts see them as their list. They lie in
 /// room for one line and one piece, which is taken once.
 #[derive(Drop)]
-pub struct Kept {
+pub struct Pending {
     /// The bytes, behind those that were answered already.
     bytes: Vec<u8>,
     /// How many were answered.
@@ -45,7 +45,7 @@ pub struct Kept {
     searched: usize,
 }
 
-impl Model for Kept {
+impl Model for Pending {
     ghost Value = { List ℕ };
 
     ghost view = { λ k. drop k.start k.bytes.items };
@@ -55,13 +55,13 @@ impl Model for Kept {
         × IsFeedFree (take k.searched (drop k.start k.bytes.items)) };
 }
 
-impl Kept {
+impl Pending {
     /// No bytes, and all the room. `Memory` where it is refused.
-    pub fn new(alloc: Global) -> Result<Kept, Memory>
+    pub fn new(alloc: Global) -> Result<Pending, Memory>
         ensures { IfOk result (λ k. k ≡ []) }
     {
         let bytes = Vec::with_capacity(alloc, ROOM)?;
-        Ok(Kept {
+        Ok(Pending {
             bytes,
             start: 0,
             searched: 0,

@@ -7,7 +7,7 @@ ghost use Rattle.stream_text.specs.{Calls.FailsBySource, Calls.LastFits, Calls.s
 
 use crate::device::Device;
 use crate::fault::StreamFault;
-use crate::kept::{Kept, MOST_BYTES};
+use crate::kept::{MOST_BYTES, Pending};
 use crate::line::{read_ahead, read_line};
 use crate::settle::{MOST_SAMPLES, Settled, settle};
 use sample_core::{Memory, Sample, Ty, reading_laws};
@@ -35,7 +35,7 @@ pub enum Met {
 #[derive(Drop)]
 pub struct LineState {
     alloc: Global,
-    kept: Kept,
+    kept: Pending,
     lines: u64,
     before: Option<Sample>,
     spare: Sample,
@@ -59,7 +59,7 @@ impl LineState {
     pub fn new(alloc: Global) -> Result<LineState, Memory>
         ensures { IfOk result (λ state. IsFresh (reader_state state)) }
     {
-        let kept = Kept::new(alloc)?;
+        let kept = Pending::new(alloc)?;
         Ok(LineState {
             alloc,
             kept,

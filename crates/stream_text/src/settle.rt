@@ -7,7 +7,7 @@ ghost use Rattle.stream_text.specs.declared.fault.StreamFault.TheVariants as Fau
 
 use crate::device::Device;
 use crate::fault::StreamFault;
-use crate::kept::{Kept, MOST_BYTES, Piece};
+use crate::kept::{MOST_BYTES, Pending, Piece};
 use std::io::Read;
 
 /// The most samples of a run.
@@ -32,7 +32,7 @@ pub enum Settled {
 /// 2^40 reads were made. What is kept then settles no line. After a failed read that the reader
 /// doesn't count it is asked again.
 pub fn settle<R: Read + Device>(
-    kept: &mut Kept,
+    kept: &mut Pending,
     reads: &mut u64,
     number: u64,
     failures: u64,
@@ -67,7 +67,7 @@ pub fn settle<R: Read + Device>(
 }
 
 /// How many bytes line `number` has, where what is kept settles it.
-fn settled_size(kept: &mut Kept, number: u64) -> Option<usize>
+fn settled_size(kept: &mut Pending, number: u64) -> Option<usize>
     ensures same { kept.new ≡ kept.old }
     ensures settled { IfSome result (SettlesLine number kept.old) }
     ensures unsettled { IfNone result (front_lines number kept.old ≡ []) }

@@ -35,8 +35,8 @@ use Rattle.yampa_run.specs.Runs.{RunsToEnd, IsOutput, StopsAtFault, StopsUnread,
 use Rattle.yampa_run.specs.declared.fault.RunFault.{RunFault}
 use Rattle.yampa_run.specs.declared.fault.RunReport.{RunReport}
 use Rattle.yampa_run.specs.declared.fault.RunFault.TheVariants as U
-use Rattle.yampa_run.specs.declared.stream_run.Stop.{Stop}
-use Rattle.yampa_run.specs.declared.stream_run.Stop.TheVariants as T
+use Rattle.yampa_run.specs.declared.stream_run.WriteStop.{WriteStop}
+use Rattle.yampa_run.specs.declared.stream_run.WriteStop.TheVariants as T
 use Rattle.yampa_run.proofs.Written.{appends_none, appends_both, feeds-free, feeds-append, feeds-lines, part_free}
 
 -- So far: the samples p were answered, the runner stands for them, and their lines are written.
@@ -273,7 +273,7 @@ line_stops A net has has' has'' holds holds' holds'' s s' r r' lines most x g a 
         (count (feeds-free b.part (part_free b.part l.rest (spelling l.y) l.parts l.more (spelling_free l.y))))
 
 -- the same as what ends the run
-pub stops : (A : TypeTree) (net : Network Expression) (has has' holds holds' : Option (List ℕ)) (lines : ℕ) (stop : Stop)
+pub stops : (A : TypeTree) (net : Network Expression) (has has' holds holds' : Option (List ℕ)) (lines : ℕ) (stop : WriteStop)
     → StopsWithin A net has has' holds holds' lines
     → Stops A net has has' holds holds' (run_fault_of lines stop)
 stops A net has has' holds holds' lines T.Write h = h

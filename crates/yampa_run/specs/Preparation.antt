@@ -36,7 +36,7 @@ use Rattle.net_view.specs.Listed.{IsThere}
 use Rattle.net_view.specs.Texts.{OutlineText, PossibleText}
 use Rattle.net_view.specs.Trace.{Stopped, TraceAnswer, changed_of, first_steps, stopped_of}
 use Rattle.net_view.specs.TraceText.{TellsTrace, marked_line, trace_lines}
-use Rattle.net_view.specs.declared.trace.Stop.{Stop}
+use Rattle.net_view.specs.declared.trace.RefusedStep.{RefusedStep}
 use Rattle.net_view.specs.declared.trace.Trace.{Trace}
 use Rattle.yampa_run.specs.RefusalLines.{check_words, no_number_words, no_place_words, none_found_words, not_there_words, text_words, type_words, unread_words}
 use Rattle.yampa_run.specs.Words.{TellsFirst, TellsPlace, number_in}
@@ -291,7 +291,7 @@ abbrev pub IsShown : List Step → Trace → Job → Type 0
 IsShown steps trace (J.Print text) = (option_map stopped_of trace.stop ≡ None)
     × (string_bytes text ≡ trace_lines steps (map changed_of trace.changes.items) None)
 IsShown steps trace (J.PrintAndRefuse text line) =
-    (stop : Stop) × (trace.stop ≡ Some stop)
+    (stop : RefusedStep) × (trace.stop ≡ Some stop)
     × (string_bytes text
     ≡ trace_lines steps (map changed_of trace.changes.items) (Some (stopped_of stop)))
     × (string_bytes line ≡ check_words stop.fault)

@@ -15,8 +15,8 @@ use Rattle.stream_text.specs.declared.fault.StreamFault.TheVariants as S
 use Rattle.yampa_run.specs.Output.{line_feeds, line_of_value, most_visits_of, output_of, front_output_of}
 use Rattle.yampa_run.specs.declared.fault.RunFault.{RunFault}
 use Rattle.yampa_run.specs.declared.fault.RunFault.TheVariants as U
-use Rattle.yampa_run.specs.declared.stream_run.Stop.{Stop}
-use Rattle.yampa_run.specs.declared.stream_run.Stop.TheVariants as T
+use Rattle.yampa_run.specs.declared.stream_run.WriteStop.{WriteStop}
+use Rattle.yampa_run.specs.declared.stream_run.WriteStop.TheVariants as T
 
 -- The bytes `read` were read of what the reader had, and the bytes `written` were given to the
 -- writer.
@@ -139,7 +139,7 @@ pub record Breaks (r : RunnerState) (x : ℕ × Datum) (holds : Option (List ℕ
   pub of_line : (part ≡ []) ⊎ IsPartOfLine r x r' part
 
 -- what stops a run at a line
-abbrev pub run_fault_of : ℕ → Stop → RunFault
+abbrev pub run_fault_of : ℕ → WriteStop → RunFault
 run_fault_of lines T.Write = U.Write lines
 run_fault_of lines T.Memory = U.Memory lines
 

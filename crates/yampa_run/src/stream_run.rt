@@ -9,7 +9,7 @@ ghost use Rattle.step_core.specs.{RunnerState.StandsFor, RunnerState.network_in,
 ghost use Rattle.stream_text.specs.{Failures.Rose, Answers.IsFresh, ReaderState.reader_state};
 ghost use Rattle.yampa_run.specs.{FaultLines.EndsRun, Output.line_of_value};
 ghost use Rattle.yampa_run.specs.Runs.{Answers, Breaks, BreaksOff, FailsByDevice, RunsToEnd, Stops, run_fault_of, stream_fault_of};
-ghost use Rattle.yampa_run.specs.declared.stream_run.Stop.TheVariants as T;
+ghost use Rattle.yampa_run.specs.declared.stream_run.WriteStop.TheVariants as T;
 
 use crate::fault::{RunFault, RunReport};
 use leaf_table::LeafTable;
@@ -21,7 +21,7 @@ use stream_text::{Device, LineState, StreamFault};
 
 /// Why a line of output isn't written whole.
 #[derive(Clone, Copy)]
-pub enum Stop {
+pub enum WriteStop {
     /// A write failed.
     Write,
     /// A growth was refused.
@@ -131,12 +131,12 @@ fn run_on<R: Read + Device, W: Write + Device>(
 }
 
 /// What a line that isn't written whole ends a run with.
-fn stopped(lines: u64, stop: Stop) -> RunFault
+fn stopped(lines: u64, stop: WriteStop) -> RunFault
     ensures { result ≡ run_fault_of lines stop }
 {
     match stop {
-        Stop::Write => RunFault::Write { lines },
-        Stop::Memory => RunFault::Memory { lines },
+        WriteStop::Write => RunFault::Write { lines },
+        WriteStop::Memory => RunFault::Memory { lines },
     }
 }
 
@@ -159,7 +159,7 @@ fn answer<W: Write + Device>(
     text: &mut String,
     failures: u64,
     writer: &mut W,
-) -> Result<(), Stop>
+) -> Result<(), WriteStop>
     requires typed { HasType (datum_of sample.now) (runner_state runner.old).input }
     requires later { 0 < (runner_state runner.old).samples → (1 ≤ step) × (step < 2 ^ 63) }
     requires room { (runner_state runner.old).samples < 2 ^ 63 }
@@ -173,7 +173,7 @@ fn answer<W: Write + Device>(
         → Rose failures (W.count writer.new)) }
 {
     let Ok(answer) = runner.push(step, sample) else {
-        return Err(Stop::Memory);
+        return Err(WriteStop::Memory);
     };
     match spell(text, &answer) {
         Ok(()) => {
@@ -182,7 +182,7 @@ fn answer<W: Write + Device>(
         }
         Err(Memory) => {
             drop(answer);
-            Err(Stop::Memory)
+            Err(WriteStop::Memory)
         }
     }
 }
@@ -202,7 +202,7 @@ fn spell(text: &mut String, value: &Sample) -> Result<(), Memory>
 /// that the writer has failed more often than `failures`. A failure that the writer doesn't count
 /// is none, and the write is made again; `Memory` after 2^64 of these.
 #[inline(always)]
-fn put<W: Write + Device>(writer: &mut W, failures: u64, bytes: &[u8]) -> Result<(), Stop>
+fn put<W: Write + Device>(writer: &mut W, failures: u64, bytes: &[u8]) -> Result<(), WriteStop>
     ensures all { OnOk result (Appends (W.contents writer.old) (W.contents writer.new)
         bytes.now) }
     ensures part { OnErr result (BreaksOff (W.contents writer.old) (W.contents writer.new)
@@ -226,7 +226,7 @@ fn put_on<W: Write + Device>(
     failures: u64,
     bytes: &[u8],
     first: usize,
-) -> Result<(), Stop>
+) -> Result<(), WriteStop>
     requires less { first < length bytes.now }
     ensures all { (from : Option (List ℕ)) → Appends from (W.contents writer.old)
         (take first bytes.now) → OnOk result (Appends from (W.contents writer.new) bytes.now) }
@@ -236,7 +236,7 @@ fn put_on<W: Write + Device>(
         → Rose failures (W.count writer.new)) }
 {
     if first == 0 && has_failed(writer, failures) {
-        return Err(Stop::Write);
+        return Err(WriteStop::Write);
     }
     let mut done = first;
     for _turn in 0..u64::MAX {
@@ -245,14 +245,14 @@ fn put_on<W: Write + Device>(
         }
         let taken = write_some(writer, &bytes[done..]);
         if taken == 0 && has_failed(writer, failures) {
-            return Err(Stop::Write);
+            return Err(WriteStop::Write);
         }
         done += taken;
     }
     if done >= bytes.len() {
         return Ok(());
     }
-    Err(Stop::Memory)
+    Err(WriteStop::Memory)
 }
 
 /// Whether the writer has failed more often than that, as far as it counts.

@@ -3,7 +3,7 @@ use Rattle.std.proofs.lemmas.Grind.{common_steps}
 use Rattle.stream_text.specs.TextLines.{IsFeedFree, IsFirstFeed}
 use Rattle.stream_text.proofs.Lines.{free_take}
 use Rattle.stream_text.proofs.KeptBytes.{first_kept, none_kept}
-use Rattle.stream_text.proofs.kept.Kept.feed_at.Goals as goal
+use Rattle.stream_text.proofs.kept.Pending.feed_at.Goals as goal
 
 pub invariant_of-self : goal.invariant_of-self
 invariant_of-self c =
