@@ -39,4 +39,4 @@ pub use tree::{
     second_input, second_of, then_of,
 };
 pub use view::seen_through;
-pub use weight::{arr_cost, cost_of, is_path, made_of};
+pub use weight::{arr_cost, is_path, made_of};

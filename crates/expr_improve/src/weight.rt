@@ -18,7 +18,7 @@ struct Weight {
 const QUARTER: u64 = 55;
 
 /// What an expression costs, in instructions for each value, about.
-pub fn cost_of(expr: &Expr) -> u64 {
+pub(crate) fn cost_of(expr: &Expr) -> u64 {
     weight_of(expr, DEPTH).cost
 }
 

@@ -25,8 +25,7 @@ mod word;
 
 pub use expr_reader::{MAX_LENGTH, read_expr, read_expr_at, read_type_at};
 pub use leaf_core::{
-    Expr, ExprChild, ExprFault, Exprs, LeafKey, Literal, Shape, eval, expr_fits, part_laws,
-    same_expr, shape_laws, shape_of, type_fits, type_of_expr, typing_laws,
+    Expr, ExprChild, ExprFault, LeafKey, Literal, Shape, eval, shape_of, type_of_expr,
 };
 pub use number_reader::{natural_named, read_index, read_natural};
 pub use print::{print_expr, push_expr};

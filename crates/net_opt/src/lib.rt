@@ -17,4 +17,4 @@ mod step;
 mod walk;
 
 pub use laws::optimised_laws;
-pub use optimiser::{MOST_STEPS, optimise};
+pub use optimiser::optimise;

@@ -22,7 +22,7 @@ mod told;
 mod trace;
 
 pub use applied::applied_text;
-pub use positions::{has_position, tree_at};
+pub use positions::has_position;
 pub use possible::{PossibleStep, possible_steps};
 pub use rows::{OutlineRow, outline};
 pub use texts::{outline_text, possible_text};

@@ -20,7 +20,11 @@ pub fn has_position(net: &TypedNet, position: &Position) -> bool
 
 /// A copy of what stands at the position, whose parts are shared with it; `None` where the position
 /// isn't there. `Memory` where a growth was refused.
-pub fn tree_at(alloc: Global, net: &TypedNet, position: &Position) -> Result<Option<Tree>, Memory>
+pub(crate) fn tree_at(
+    alloc: Global,
+    net: &TypedNet,
+    position: &Position,
+) -> Result<Option<Tree>, Memory>
     ensures { IfOk result (λ found. option_map part_of found ≡ tree_at net.now position.now) }
 {
     match place_in(net, position) {

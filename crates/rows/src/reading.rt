@@ -3,10 +3,8 @@
 
 use crate::found::{Probe, all_are_found};
 use crate::texts::{bytes_in, expr_in, number_in, numbered, parted, say, say_at};
-use leaf_expr::{
-    Expr, ExprChild, ExprTextFault, Exprs, push_expr, read_expr, read_expr_at, read_type_at,
-    same_expr, type_fits,
-};
+use leaf_core::{Expr, ExprChild, Exprs, same_expr, type_fits};
+use leaf_expr::{ExprTextFault, push_expr, read_expr, read_expr_at, read_type_at};
 use sample_core::{Memory, Ty, TyChild, push_type, same_type};
 use std::alloc::Global;
 

@@ -2,7 +2,8 @@
 
 use crate::found::{Probe, all_are_found};
 use crate::texts::say;
-use leaf_expr::{Expr, ExprChild, Exprs, push_expr};
+use leaf_core::{Expr, ExprChild, Exprs};
+use leaf_expr::push_expr;
 use sample_core::{
     Memory, Sample, SampleChild, Samples, Ty, TyChild, has_type, print_type, print_value, same,
 };

@@ -2,7 +2,7 @@
 
 use crate::found::{Probe, all_are_found};
 use crate::texts::{expr_in, parted, say, type_in};
-use leaf_expr::{Expr, ExprFault, expr_fits, type_of_expr};
+use leaf_core::{Expr, ExprFault, expr_fits, type_of_expr};
 use sample_core::{Ty, push_type};
 use std::alloc::Global;
 

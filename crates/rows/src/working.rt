@@ -3,7 +3,8 @@
 use crate::found::{Probe, all_are_found};
 use crate::texts::{expr_in, parted, say, type_in, value_in};
 use crate::typing::type_told;
-use leaf_expr::{Expr, eval, expr_fits, print_expr};
+use leaf_core::{Expr, eval, expr_fits};
+use leaf_expr::print_expr;
 use sample_core::{Memory, Sample, Ty, push_value};
 use std::alloc::Global;
 

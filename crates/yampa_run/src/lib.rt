@@ -29,7 +29,6 @@ mod stream_run;
 mod telling;
 mod words;
 
-pub use command_line::command_rows;
 pub use fault::{RunFault, RunReport};
 pub use files::{FileFault, Files};
 pub use fill::table_refusal;
@@ -40,4 +39,4 @@ pub use network_run::{run_network, run_status};
 pub use preparation::{Job, Refusal, prepare};
 pub use printed::fault_line;
 pub use stream_run::run;
-pub use stream_text::{Counted, Device, LineReader, LineState, StreamFault};
+pub use stream_text::{Counted, Device, LineReader, StreamFault};
