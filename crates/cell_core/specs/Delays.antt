@@ -37,8 +37,8 @@ abbrev pub through : Front → Behind → ℕ → Datum × List (ℕ × Datum)
 through f n dt = due dt (place (front_of f) 0).1 (behind f.q (back_of n))
 
 -- the queue and the answer after dt more, where all in front has passed, with v in it
-abbrev pub IsTurned : Front → Behind → ℕ → Datum → Cell × Datum → Type 0
-IsTurned f n dt v r = enqueue f.q v (through f n dt) ≡ r
+abbrev pub IsTurnedOver : Front → Behind → ℕ → Datum → Cell × Datum → Type 0
+IsTurnedOver f n dt v r = enqueue f.q v (through f n dt) ≡ r
 
 -- those that wait dt later, where all in front has passed, and last what is out
 abbrev pub IsGathered : Front → Behind → ℕ → List (ℕ × Datum) → Type 0

@@ -23,8 +23,8 @@ fronted es now zero = []
 fronted es now (suc n) = ((place es n).0 - now, (place es n).1) ∷ fronted es now n
 
 -- what is out moves from one place in front to another in d from now, whatever waits behind
-abbrev pub Moves : List (ℕ × Datum) → ℕ → ℕ → ℕ → ℕ → Type 0
-Moves es now d from to =
+abbrev pub MovesInQueue : List (ℕ × Datum) → ℕ → ℕ → ℕ → ℕ → Type 0
+MovesInQueue es now d from to =
     (more : List (ℕ × Datum)) → due d (place es from).1 (fronted es now from ++ more)
     ≡ due d (place es to).1 (fronted es now to ++ more)
 
@@ -32,7 +32,7 @@ Moves es now d from to =
 abbrev pub IsPassed : List (ℕ × Datum) → ℕ → ℕ → ℕ → ℕ → Type 0
 IsPassed es now d from to =
     (to ≤ from)
-    × Moves es now d from to
+    × MovesInQueue es now d from to
     × (0 < to → d < (place es (to - 1)).0 - now)
     × (0 < to → now + d < 2 ^ 64)
 

@@ -3,7 +3,7 @@
 ghost use Rattle.std.specs.Prelude.{◌≡◌, ◌+◌, ◌<◌, ◌^◌, ◌∷◌, [], reverse, IfOk, OnOk, length};
 ghost use Rattle.sample_core.specs.ValueView.{datum_of};
 ghost use Rattle.cell_core.specs.{Cell.cell_step, CellView.cell_of, CellView.outcome_of};
-ghost use Rattle.cell_core.specs.Delays.{delay_of, queue_of, Follows, IsJoined, IsTurned, IsGathered};
+ghost use Rattle.cell_core.specs.Delays.{delay_of, queue_of, Follows, IsJoined, IsTurnedOver, IsGathered};
 ghost use Rattle.cell_core.specs.{Earlier.back_of, Entries.entries_of, Queue.IsRenewed, Queue.Gathers};
 ghost use Rattle.cell_core.specs.Start.{cell_start};
 
@@ -88,7 +88,7 @@ fn turned(
     place: &mut Cell,
     out: &mut Sample,
 ) -> Result<(), Memory>
-    ensures { OnOk result (IsTurned front.now behind.now dt (datum_of sample.now)
+    ensures { OnOk result (IsTurnedOver front.now behind.now dt (datum_of sample.now)
         (outcome_of (place.new, out.new))) }
 {
     let mut entries = Entries::with_room(alloc, front.entries.as_slice().len())?;

@@ -44,7 +44,7 @@ pub record FirstFails (Fails : TypedNetwork → Step → Type 0) (source : Typed
   pub fails : Fails reached step
 
 -- source and target have the same input type, and there are at most 10,000 steps
-pub record Begins (source target : TypedNetwork) (steps : List Step) : Type 0 where
+pub record BeginsCheck (source target : TypedNetwork) (steps : List Step) : Type 0 where
   pub same_input : source.input ≡ target.input
   pub few : length steps ≤ 10000
 
@@ -64,11 +64,11 @@ CheckAnswer source target steps (Err InputsDiffer) = source.input ≡ target.inp
 CheckAnswer source target steps (Err TooManySteps) =
     (source.input ≡ target.input) × (10000 < length steps)
 CheckAnswer source target steps (Err (NoPosition n)) =
-    Begins source target steps × FirstFails NowhereIn source steps n
+    BeginsCheck source target steps × FirstFails NowhereIn source steps n
 CheckAnswer source target steps (Err (NoMatch n)) =
-    Begins source target steps × FirstFails Unmatched source steps n
+    BeginsCheck source target steps × FirstFails Unmatched source steps n
 CheckAnswer source target steps (Err (IllTyped n)) =
-    Begins source target steps × FirstFails Untyped source steps n
+    BeginsCheck source target steps × FirstFails Untyped source steps n
 CheckAnswer source target steps (Err EndsElsewhere) =
-    Begins source target steps × LeadsElsewhere source target steps
-CheckAnswer source target steps (Err Memory) = Begins source target steps
+    BeginsCheck source target steps × LeadsElsewhere source target steps
+CheckAnswer source target steps (Err Memory) = BeginsCheck source target steps

@@ -52,20 +52,20 @@ StepAnswer t s n t' (Ok a) = Next t s t'
 StepAnswer t s n t' (Err fault) = StepFault t s n fault × (t' ≡ t)
 
 -- the first fault of the steps
-abbrev pub FirstFault : TypedNetwork → List Step → CheckFault → Type 0
-FirstFault t ss (NoPosition n) = FirstFails NowhereIn t ss n
-FirstFault t ss (NoMatch n) = FirstFails Unmatched t ss n
-FirstFault t ss (IllTyped n) = FirstFails Untyped t ss n
-FirstFault t ss Memory = Unit {0}
-FirstFault t ss fault = ⊥
+abbrev pub FirstStepFault : TypedNetwork → List Step → CheckFault → Type 0
+FirstStepFault t ss (NoPosition n) = FirstFails NowhereIn t ss n
+FirstStepFault t ss (NoMatch n) = FirstFails Unmatched t ss n
+FirstStepFault t ss (IllTyped n) = FirstFails Untyped t ss n
+FirstStepFault t ss Memory = Unit {0}
+FirstStepFault t ss fault = ⊥
 
 -- the steps, so many, lead from t to t', or the first fault
 abbrev pub StepsAnswer : TypedNetwork → List Step → TypedNetwork → Result ℕ CheckFault → Type 0
 StepsAnswer t ss t' (Ok n) = Steps t ss t' × (n ≡ length ss)
-StepsAnswer t ss t' (Err fault) = FirstFault t ss fault
+StepsAnswer t ss t' (Err fault) = FirstStepFault t ss fault
 
 -- at most 10,000 steps lead from the network to the answer; else there are more, or the first fault
 abbrev pub ApplyAnswer : TypedNetwork → List Step → Result TypedNetwork CheckFault → Type 0
 ApplyAnswer t ss (Ok last) = (length ss ≤ 10000) × Steps t ss last
 ApplyAnswer t ss (Err TooManySteps) = 10000 < length ss
-ApplyAnswer t ss (Err fault) = (length ss ≤ 10000) × FirstFault t ss fault
+ApplyAnswer t ss (Err fault) = (length ss ≤ 10000) × FirstStepFault t ss fault

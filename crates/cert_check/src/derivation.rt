@@ -3,7 +3,7 @@
 ghost use Rattle.std.specs.Prelude.{◌≡◌, ◌≤◌, [], length, map, OnOk};
 ghost use Rattle.net_syntax.specs.AlikeEnvironments.{SameOutputs};
 ghost use Rattle.net_syntax.specs.LawStep.{step_of};
-ghost use Rattle.cert_check.specs.CheckAnswer.{Begins, CheckAnswer};
+ghost use Rattle.cert_check.specs.CheckAnswer.{BeginsCheck, CheckAnswer};
 ghost use Rattle.cert_check.specs.StepAnswers.{ApplyAnswer, StepsAnswer};
 
 use crate::answer::{Accepted, CheckFault};
@@ -73,7 +73,7 @@ fn derive(
     target: &TypedNet,
     steps: &[LawStep],
 ) -> Result<Accepted, CheckFault>
-    requires { Begins reached.old target.now (map step_of steps.now) }
+    requires { BeginsCheck reached.old target.now (map step_of steps.now) }
     ensures { CheckAnswer reached.old target.now (map step_of steps.now) result }
 {
     let taken = take_steps(alloc, reached, steps)?;

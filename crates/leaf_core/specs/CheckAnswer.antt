@@ -10,8 +10,8 @@ use Rattle.leaf_core.specs.ExpressionCheck.{TypeAnswer}
 
 -- the type or the fault that is answered; only `Memory`, where a growth was refused, says nothing
 -- of the answer
-abbrev pub Gives : Result Ty ExprFault → TypeAnswer → Type 0
-Gives result answer = GivesUnless Memory type_of result answer
+abbrev pub GivesType : Result Ty ExprFault → TypeAnswer → Type 0
+GivesType result answer = GivesUnless Memory type_of result answer
 
 -- a test of an answer that it is the type, or the fault that is answered
 abbrev pub Passes : {X : Type 0} → Result X ExprFault → TypeAnswer → TypeTree → Type 0

@@ -7,7 +7,7 @@ ghost use Rattle.sample_core.specs.TypeView.{type_of};
 ghost use Rattle.leaf_core.specs.Expression.{expressions_of, pair_expr, then_expr, equal, if_expr, event_expr, on, list_expr, nth, len};
 ghost use Rattle.leaf_core.specs.ExpressionView.{expression_of, literal_of};
 ghost use Rattle.leaf_core.specs.ExpressionCheck.{carried_type, element_type, elements_walk, within_limits, expect_then, part_type, type_answer, type_of_param, type_walk, expect};
-ghost use Rattle.leaf_core.specs.{ExpressionLimits.ExpressionTypedWithin, CheckAnswer.Gives, CheckAnswer.Passes};
+ghost use Rattle.leaf_core.specs.{ExpressionLimits.ExpressionTypedWithin, CheckAnswer.GivesType, CheckAnswer.Passes};
 ghost use Rattle.leaf_core.specs.ScopeView.{type_in};
 ghost use Rattle.leaf_core.specs.declared.typing.ExprFault.TheVariants as F;
 
@@ -53,9 +53,9 @@ pub fn type_of_expr(alloc: Global, params: &[Ty], input: &Ty, expr: &Expr) -> Re
     // The type that the expression has within all limits is answered, unless memory runs out.
     ensures only { (t : TypeTree)
         → ExpressionTypedWithin (expression_of expr.now) (map type_of params.now)
-        (type_of input.now) t → Gives result (Ok t) }
+        (type_of input.now) t → GivesType result (Ok t) }
     // Which answer it is.
-    ensures exact { Gives result
+    ensures exact { GivesType result
         (type_answer (map type_of params.now) (type_of input.now) (expression_of expr.now)) }
 {
     whole_type(alloc, params, input, expr)
@@ -64,7 +64,7 @@ pub fn type_of_expr(alloc: Global, params: &[Ty], input: &Ty, expr: &Expr) -> Re
 /// What `type_of_expr` answers. It stands apart, since the other clauses of that contract follow
 /// from its exact one.
 fn whole_type(alloc: Global, params: &[Ty], input: &Ty, expr: &Expr) -> Result<Ty, ExprFault>
-    ensures { Gives result
+    ensures { GivesType result
         (type_answer (map type_of params.now) (type_of input.now) (expression_of expr.now)) }
 {
     if !expr_fits(expr) {
@@ -81,7 +81,7 @@ fn whole_type(alloc: Global, params: &[Ty], input: &Ty, expr: &Expr) -> Result<T
 /// The type of an expression, whose height and size are not tested.
 #[cycle(walk)]
 pub(crate) fn walk(scope: &TypeScope<'_>, expr: &Expr) -> Result<Ty, ExprFault>
-    ensures { Gives result (type_in (expression_of expr.now) scope.now) }
+    ensures { GivesType result (type_in (expression_of expr.now) scope.now) }
 {
     match expr {
         Expr::Input => limited_copy(scope.alloc, scope.input),
@@ -111,7 +111,7 @@ pub(crate) fn walk(scope: &TypeScope<'_>, expr: &Expr) -> Result<Ty, ExprFault>
 /// The type of a pair.
 #[cycle(walk)]
 fn walk_pair(scope: &TypeScope<'_>, a: &ExprChild, b: &ExprChild) -> Result<Ty, ExprFault>
-    ensures { Gives result (type_in (pair_expr a.now b.now) scope.now) }
+    ensures { GivesType result (type_in (pair_expr a.now b.now) scope.now) }
 {
     let first = walk_child(scope, a)?;
     let second = walk_child(scope, b)?;
@@ -121,7 +121,7 @@ fn walk_pair(scope: &TypeScope<'_>, a: &ExprChild, b: &ExprChild) -> Result<Ty, 
 /// The type of the first or the second part of a pair, as the form says.
 #[cycle(walk)]
 fn walk_part(scope: &TypeScope<'_>, form: &Expr, e: &ExprChild) -> Result<Ty, ExprFault>
-    ensures { Gives result
+    ensures { GivesType result
         (on_ok (type_in e.now scope.now)
         (λ P. on_ok (part_type (expression_of form.now) P) within_limits)) }
 {
@@ -134,7 +134,7 @@ fn walk_part(scope: &TypeScope<'_>, form: &Expr, e: &ExprChild) -> Result<Ty, Ex
 /// The type of one expression behind another.
 #[cycle(walk)]
 fn walk_then(scope: &TypeScope<'_>, f: &ExprChild, g: &ExprChild) -> Result<Ty, ExprFault>
-    ensures { Gives result (type_in (then_expr f.now g.now) scope.now) }
+    ensures { GivesType result (type_in (then_expr f.now g.now) scope.now) }
 {
     let between = walk(scope, f.get())?;
     let found = walk_at(scope, &between, g.get());
@@ -145,7 +145,7 @@ fn walk_then(scope: &TypeScope<'_>, f: &ExprChild, g: &ExprChild) -> Result<Ty, 
 /// The type that is answered where a part has the type that is wanted.
 #[cycle(walk)]
 fn walk_one(scope: &TypeScope<'_>, a: &ExprChild, wanted: &Ty, answer: &Ty) -> Result<Ty, ExprFault>
-    ensures { Gives result
+    ensures { GivesType result
         (expect_then (type_in a.now scope.now)
         (type_of wanted.now) (within_limits (type_of answer.now))) }
 {
@@ -162,7 +162,7 @@ fn walk_two(
     wanted: &Ty,
     answer: &Ty,
 ) -> Result<Ty, ExprFault>
-    ensures { Gives result
+    ensures { GivesType result
         (expect_then (type_in a.now scope.now)
         (type_of wanted.now)
         (expect_then (type_in b.now scope.now)
@@ -175,7 +175,7 @@ fn walk_two(
 /// The type of a comparison.
 #[cycle(walk)]
 fn walk_equal(scope: &TypeScope<'_>, a: &ExprChild, b: &ExprChild) -> Result<Ty, ExprFault>
-    ensures { Gives result (type_in (equal a.now b.now) scope.now) }
+    ensures { GivesType result (type_in (equal a.now b.now) scope.now) }
 {
     let first = walk(scope, a.get())?;
     let tested = walk_wanted(scope, b.get(), &first);
@@ -192,7 +192,7 @@ fn walk_if(
     a: &ExprChild,
     b: &ExprChild,
 ) -> Result<Ty, ExprFault>
-    ensures { Gives result (type_in (if_expr c.now a.now b.now) scope.now) }
+    ensures { GivesType result (type_in (if_expr c.now a.now b.now) scope.now) }
 {
     walk_wanted(scope, c.get(), &Ty::Bool)?;
     walk_branches(scope, a, b)
@@ -201,7 +201,7 @@ fn walk_if(
 /// The one type of two branches.
 #[cycle(walk)]
 fn walk_branches(scope: &TypeScope<'_>, a: &ExprChild, b: &ExprChild) -> Result<Ty, ExprFault>
-    ensures { Gives result
+    ensures { GivesType result
         (on_ok (type_in a.now scope.now)
         (λ B. expect_then (type_in b.now scope.now) B
         (within_limits B))) }
@@ -214,7 +214,7 @@ fn walk_branches(scope: &TypeScope<'_>, a: &ExprChild, b: &ExprChild) -> Result<
 /// The type of an event.
 #[cycle(walk)]
 fn walk_event(scope: &TypeScope<'_>, e: &ExprChild) -> Result<Ty, ExprFault>
-    ensures { Gives result (type_in (event_expr e.now) scope.now) }
+    ensures { GivesType result (type_in (event_expr e.now) scope.now) }
 {
     let carried = walk_child(scope, e)?;
     limited(Ty::Event(carried))
@@ -228,7 +228,7 @@ fn walk_on(
     d: &ExprChild,
     b: &ExprChild,
 ) -> Result<Ty, ExprFault>
-    ensures { Gives result (type_in (on e.now d.now b.now) scope.now) }
+    ensures { GivesType result (type_in (on e.now d.now b.now) scope.now) }
 {
     let event = walk(scope, e.get())?;
     let found = walk_on_event(scope, &event, d, b);
@@ -244,7 +244,7 @@ fn walk_on_event(
     d: &ExprChild,
     b: &ExprChild,
 ) -> Result<Ty, ExprFault>
-    ensures { Gives result
+    ensures { GivesType result
         (on_ok (carried_type (type_of event.now))
         (λ V. on_ok (type_in d.now scope.now)
         (λ C. on_ok (within_limits (pair_ty (type_of scope.now.input.now) V))
@@ -265,7 +265,7 @@ fn walk_default(
     d: &ExprChild,
     b: &ExprChild,
 ) -> Result<Ty, ExprFault>
-    ensures { Gives result
+    ensures { GivesType result
         (on_ok (type_in d.now scope.now)
         (λ C. on_ok (within_limits (pair_ty (type_of scope.now.input.now) (type_of carried.now)))
         (λ I. expect_then (type_walk (map type_of scope.now.params.now) I b.now) C
@@ -293,7 +293,7 @@ fn walk_body(scope: &TypeScope<'_>, carried: &Ty, b: &ExprChild, ty: &Ty) -> Res
 /// The type of a list.
 #[cycle(walk)]
 fn walk_list(scope: &TypeScope<'_>, element: &Ty, all: &Exprs) -> Result<Ty, ExprFault>
-    ensures { Gives result
+    ensures { GivesType result
         (type_in (list_expr (type_of element.now) (expressions_of all.now)) scope.now) }
 {
     if !type_fits(element) {
@@ -310,7 +310,7 @@ fn walk_nth(
     i: &ExprChild,
     d: &ExprChild,
 ) -> Result<Ty, ExprFault>
-    ensures { Gives result (type_in (nth e.now i.now d.now) scope.now) }
+    ensures { GivesType result (type_in (nth e.now i.now d.now) scope.now) }
 {
     let list = walk(scope, e.get())?;
     let found = walk_nth_of(scope, &list, i, d);
@@ -326,7 +326,7 @@ fn walk_nth_of(
     i: &ExprChild,
     d: &ExprChild,
 ) -> Result<Ty, ExprFault>
-    ensures { Gives result
+    ensures { GivesType result
         (on_ok (element_type (type_of list.now))
         (λ T. expect_then (type_in i.now scope.now) int_ty
         (expect_then (type_in d.now scope.now) T
@@ -346,7 +346,7 @@ fn walk_element(
     i: &ExprChild,
     d: &ExprChild,
 ) -> Result<Ty, ExprFault>
-    ensures { Gives result
+    ensures { GivesType result
         (expect_then (type_in i.now scope.now) int_ty
         (expect_then (type_in d.now scope.now)
         (type_of element.now) (within_limits (type_of element.now)))) }
@@ -358,7 +358,7 @@ fn walk_element(
 /// The type of a length.
 #[cycle(walk)]
 fn walk_len(scope: &TypeScope<'_>, e: &ExprChild) -> Result<Ty, ExprFault>
-    ensures { Gives result (type_in (len e.now) scope.now) }
+    ensures { GivesType result (type_in (len e.now) scope.now) }
 {
     let list = walk(scope, e.get())?;
     let found = length_type(&list);
@@ -392,7 +392,7 @@ fn walk_wanted(scope: &TypeScope<'_>, expr: &Expr, ty: &Ty) -> Result<(), ExprFa
 /// The type of an expression at another type of its input.
 #[cycle(walk)]
 fn walk_at(scope: &TypeScope<'_>, input: &Ty, expr: &Expr) -> Result<Ty, ExprFault>
-    ensures { Gives result
+    ensures { GivesType result
         (type_walk (map type_of scope.now.params.now) (type_of input.now)
         (expression_of expr.now)) }
 {
@@ -423,7 +423,7 @@ fn wanted_at(scope: &TypeScope<'_>, input: &Ty, expr: &Expr, ty: &Ty) -> Result<
 #[cycle(walk)]
 #[tactic(auto, using(crate::proofs::Places::element_smaller))]
 fn walk_elements(scope: &TypeScope<'_>, element: &Ty, all: &Exprs) -> Result<Ty, ExprFault>
-    ensures { Gives result
+    ensures { GivesType result
         (elements_walk (map type_of scope.now.params.now) (type_of scope.now.input.now)
         (type_of element.now)
         (expressions_of all.now)) }
@@ -447,7 +447,7 @@ fn matching(found: &Ty, ty: &Ty) -> Result<(), ExprFault>
 
 /// The type, where a test was passed and the type is within the limits.
 fn passed(tested: Result<(), ExprFault>, ty: Ty) -> Result<Ty, ExprFault>
-    ensures { MatchResult tested (λ _. Gives result (within_limits (type_of ty)))
+    ensures { MatchResult tested (λ _. GivesType result (within_limits (type_of ty)))
         (λ f. result ≡ Err f) }
 {
     match tested {
@@ -461,7 +461,7 @@ fn passed(tested: Result<(), ExprFault>, ty: Ty) -> Result<Ty, ExprFault>
 
 /// The type of no event that carries the type.
 fn no_event_type(alloc: Global, carried: &Ty) -> Result<Ty, ExprFault>
-    ensures { Gives result
+    ensures { GivesType result
         (on_ok (within_limits (type_of carried.now)) (λ T. within_limits (event_ty T))) }
 {
     if !type_fits(carried) {
@@ -473,7 +473,7 @@ fn no_event_type(alloc: Global, carried: &Ty) -> Result<Ty, ExprFault>
 
 /// The type of the input with what an event carries, where it is within the limits.
 fn body_input(alloc: Global, input: &Ty, carried: &Ty) -> Result<Ty, ExprFault>
-    ensures { Gives result (within_limits (pair_ty (type_of input.now) (type_of carried.now))) }
+    ensures { GivesType result (within_limits (pair_ty (type_of input.now) (type_of carried.now))) }
 {
     let input = copied_child(alloc, input)?;
     let carried = copied_child(alloc, carried)?;
@@ -482,7 +482,7 @@ fn body_input(alloc: Global, input: &Ty, carried: &Ty) -> Result<Ty, ExprFault>
 
 /// The type of lists of the type, where it is within the limits.
 fn list_type(alloc: Global, element: &Ty) -> Result<Ty, ExprFault>
-    ensures { Gives result (within_limits (list_ty (type_of element.now))) }
+    ensures { GivesType result (within_limits (list_ty (type_of element.now))) }
 {
     let element = copied_child(alloc, element)?;
     limited(Ty::List(element))
@@ -508,7 +508,7 @@ fn child_of(alloc: Global, ty: Ty) -> Result<TyChild, ExprFault>
 
 /// A copy of the type.
 fn copied(alloc: Global, ty: &Ty) -> Result<Ty, ExprFault>
-    ensures { Gives result (Ok (type_of ty.now)) }
+    ensures { GivesType result (Ok (type_of ty.now)) }
 {
     match ty.try_copy(alloc) {
         Ok(copy) => Ok(copy),
@@ -518,7 +518,7 @@ fn copied(alloc: Global, ty: &Ty) -> Result<Ty, ExprFault>
 
 /// The type, where it is within the limits.
 fn limited(ty: Ty) -> Result<Ty, ExprFault>
-    ensures { Gives result (within_limits (type_of ty)) }
+    ensures { GivesType result (within_limits (type_of ty)) }
 {
     if type_fits(&ty) {
         Ok(ty)
@@ -530,7 +530,7 @@ fn limited(ty: Ty) -> Result<Ty, ExprFault>
 
 /// A copy of the type, where it is within the limits.
 fn limited_copy(alloc: Global, ty: &Ty) -> Result<Ty, ExprFault>
-    ensures { Gives result (within_limits (type_of ty.now)) }
+    ensures { GivesType result (within_limits (type_of ty.now)) }
 {
     if !type_fits(ty) {
         return Err(ExprFault::TooDeep);
@@ -552,7 +552,7 @@ fn literal_type(literal: Literal) -> Ty
 
 /// The type of parameter k, where it is within the limits.
 fn param_type(alloc: Global, params: &[Ty], k: u32) -> Result<Ty, ExprFault>
-    ensures { Gives result (on_ok (type_of_param (map type_of params.now) k) within_limits) }
+    ensures { GivesType result (on_ok (type_of_param (map type_of params.now) k) within_limits) }
 {
     match params.get(k as usize) {
         Some(ty) => limited_copy(alloc, ty),
@@ -562,7 +562,7 @@ fn param_type(alloc: Global, params: &[Ty], k: u32) -> Result<Ty, ExprFault>
 
 /// The type of a pair's first or second part, as the form says, where it is within the limits.
 fn part_type(alloc: Global, form: &Expr, pair: &Ty) -> Result<Ty, ExprFault>
-    ensures { Gives result
+    ensures { GivesType result
         (on_ok (part_type (expression_of form.now) (type_of pair.now)) within_limits) }
 {
     let Ty::Pair(first, second) = pair else {
@@ -576,7 +576,7 @@ fn part_type(alloc: Global, form: &Expr, pair: &Ty) -> Result<Ty, ExprFault>
 
 /// The type of a list's length.
 fn length_type(list: &Ty) -> Result<Ty, ExprFault>
-    ensures { Gives result (on_ok (element_type (type_of list.now)) (λ _. within_limits int_ty)) }
+    ensures { GivesType result (on_ok (element_type (type_of list.now)) (λ _. within_limits int_ty)) }
 {
     match list {
         Ty::List(_) => limited(Ty::Int),

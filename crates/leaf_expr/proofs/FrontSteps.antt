@@ -5,7 +5,7 @@ use Rattle.leaf_expr.specs.Token.{opening, closing, word, PlacedToken, tokens_fr
 use Rattle.leaf_expr.specs.Language.{Language}
 use Rattle.leaf_expr.specs.TreeReader.{word_read, read, read_form}
 use Rattle.leaf_expr.specs.Front.{read_front, front_from, front_left}
-use Rattle.leaf_expr.specs.ReadText.{Gives}
+use Rattle.leaf_expr.specs.ReadText.{GivesTree}
 use Rattle.leaf_expr.specs.declared.tree_front.TreeFront.{TreeFront}
 use Rattle.leaf_expr.specs.declared.tree_front.TreeFront.TheVariants as F
 use Rattle.leaf_expr.specs.declared.text_fault.ExprTextFault.{ExprTextFault}
@@ -61,12 +61,12 @@ module _ (L : Language) (size : ℕ) where
 module _ (L : Language) (s : L.Sort) {X : Type 0} (view : X → L.Tree s × ℕ × List PlacedToken) (r : Result X ExprTextFault)
     (text : List ℕ) (room at : ℕ) {front : TreeFront} where
   pub in_form : {start : ℕ} → L.has_form s ≡ true → front ≡ F.Form start → front_from text room at ≡ Ok (front_left text front) →
-      Gives view r (read_form L (length text) (read L (length text) (room - 1)) (room - 1) s (tokens_from (start + 1) text)) →
-      Gives view r (read L (length text) room s (tokens_from at text))
+      GivesTree view r (read_form L (length text) (read L (length text) (room - 1)) (room - 1) s (tokens_from (start + 1) text)) →
+      GivesTree view r (read L (length text) room s (tokens_from at text))
   in_form f e p g = given view r (front_form L (length text) room s (tokens_from at text) f (subst (λ z. front_from text room at ≡ Ok (front_left text z)) e p))
       g
 
   pub in_word : {start end : ℕ} → front ≡ F.Word start end → front_from text room at ≡ Ok (front_left text front) →
-      Gives view r (word_read start (slice_range text start end) (tokens_from end text) (L.word_at s (slice_range text start end))) →
-      Gives view r (read L (length text) room s (tokens_from at text))
+      GivesTree view r (word_read start (slice_range text start end) (tokens_from end text) (L.word_at s (slice_range text start end))) →
+      GivesTree view r (read L (length text) room s (tokens_from at text))
   in_word e p g = given view r (front_word L (length text) room s (tokens_from at text) (subst (λ z. front_from text room at ≡ Ok (front_left text z)) e p)) g

@@ -5,7 +5,7 @@ use Rattle.leaf_expr.specs.Token.{opening, closing, word, PlacedToken}
 use Rattle.leaf_expr.specs.Language.{Language}
 use Rattle.leaf_expr.specs.Grammar.{leaf, e}
 use Rattle.leaf_expr.specs.TreeReader.{Read, unfit_token, word_read, read, read_head, read_end}
-use Rattle.leaf_expr.specs.ReadText.{Gives}
+use Rattle.leaf_expr.specs.ReadText.{GivesTree}
 use Rattle.leaf_expr.specs.declared.text_fault.ExprTextFault.{ExprTextFault}
 use Rattle.sample_core.specs.Answer.{◌>>=◌}
 use Rattle.leaf_expr.specs.declared.text_fault.ExprTextFault.TheVariants.{Syntax, Memory}
@@ -59,8 +59,8 @@ with_bind f (Ok x) g h e = e x
 with_bind f (Err d) g h e = refl
 
 -- what a call gives is what reading gives where that is the same
-pub given : {X Y : Type 0} (view : X → Y) (r : Result X ExprTextFault) {a b : Result Y ExprTextFault} → a ≡ b → Gives view r b → Gives view r a
-given view r e g = subst (Gives view r) (sym e) g
+pub given : {X Y : Type 0} (view : X → Y) (r : Result X ExprTextFault) {a b : Result Y ExprTextFault} → a ≡ b → GivesTree view r b → GivesTree view r a
+given view r e g = subst (GivesTree view r) (sym e) g
 
 -- what was read is what was made of it
 pub made : {T : Type 0} {x y : T} {n : ℕ} {us : List PlacedToken} (r : Read T) → r ≡ Ok (x, n, us) → y ≡ x → r ≡ Ok (y, n, us)
@@ -68,10 +68,10 @@ made {n = n} {us = us} r p e = p ∙ ap (λ z. Ok (z, n, us)) (sym e)
 
 -- what a `?` returns of a refusal
 pub told : {X Y : Type 0} (view : X → Y) (r : Result X ExprTextFault) (x : ExprTextFault) (read : Result Y ExprTextFault) → IsErrAnd r (λ y. y ≡ x) →
-    Refuses x read → Gives view r read
+    Refuses x read → GivesTree view r read
 told view (Ok y) x read p q = absurd p
 told view (Err y) x read p q = subst (λ z. Refuses z read) (sym p) q
 
 -- what a `?` returns where memory ran out
-pub told_memory : {X Y : Type 0} (view : X → Y) (r : Result X ExprTextFault) (read : Result Y ExprTextFault) → IsErrAnd r (λ y. y ≡ Memory) → Gives view r read
+pub told_memory : {X Y : Type 0} (view : X → Y) (r : Result X ExprTextFault) (read : Result Y ExprTextFault) → IsErrAnd r (λ y. y ≡ Memory) → GivesTree view r read
 told_memory view r read p = told view r Memory read p (λ m. absurd (m refl))

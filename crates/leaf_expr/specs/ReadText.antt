@@ -20,9 +20,9 @@ use Rattle.sample_core.specs.Answer.{◌>>=◌, GivesUnless}
 use Rattle.leaf_expr.specs.declared.text_fault.ExprTextFault.TheVariants.{TooLong, Memory}
 
 -- what a call returned, seen by view, is what reading gives, unless memory ran out
-abbrev pub Gives : {X Y : Type 0} → (X → Y) → Result X ExprTextFault → Result Y ExprTextFault
+abbrev pub GivesTree : {X Y : Type 0} → (X → Y) → Result X ExprTextFault → Result Y ExprTextFault
     → Type 0
-Gives view result read = GivesUnless Memory view result read
+GivesTree view result read = GivesUnless Memory view result read
 
 -- a tree of the sort in the text from byte n on, with room for so many more parentheses
 abbrev pub tree_at : (s : Sort) → List ℕ → ℕ → ℕ → Read (Tree s)

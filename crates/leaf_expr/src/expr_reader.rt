@@ -6,7 +6,7 @@ ghost use Rattle.sample_core.specs.{TypeView.type_of, TypeTree.TypeTree};
 ghost use Rattle.leaf_core.specs.Expression.{Expression};
 ghost use Rattle.leaf_expr.specs.Form.{form_row, unary_row, binary_row, ternary_row, typed_row};
 ghost use Rattle.leaf_expr.specs.{Grammar.leaf, Grammar.expression_sort, Grammar.type_sort, Language.Begins};
-ghost use Rattle.leaf_expr.specs.ReadText.{Gives, tree_at, word_tree, form_at, row_parts, last_two_at, expression_left, type_left, items_at, items_left, IsFault};
+ghost use Rattle.leaf_expr.specs.ReadText.{GivesTree, tree_at, word_tree, form_at, row_parts, last_two_at, expression_left, type_left, items_at, items_left, IsFault};
 ghost use Rattle.leaf_core.specs.ExpressionView.{expression_of};
 ghost use Rattle.leaf_expr.specs.Text.{read_text, whole, IsText, IsTextFault};
 ghost use Rattle.leaf_expr.specs.Token.{PlacedToken, tokens_from};
@@ -30,7 +30,7 @@ pub const MAX_LENGTH: usize = 1_048_576;
 /// behind it.
 #[cycle(read_expression)]
 fn read_expression(alloc: Global, text: &[u8], at: usize, room: usize) -> Read<Expr>
-    ensures { Gives (expression_left text.now) result (tree_at expression_sort text.now room at) }
+    ensures { GivesTree (expression_left text.now) result (tree_at expression_sort text.now room at) }
 {
     match front_at(text, at, room)? {
         TreeFront::Form(start) => form(alloc, text, start + 1, room - 1),
@@ -42,7 +42,7 @@ fn read_expression(alloc: Global, text: &[u8], at: usize, room: usize) -> Read<E
 /// latter.
 fn word_expr(text: &[u8], start: usize, end: usize) -> Read<Expr>
     requires { (start < end) × (end ≤ length text.now) }
-    ensures { Gives (expression_left text.now) result
+    ensures { GivesTree (expression_left text.now) result
         (word_tree expression_sort text.now start end) }
 {
     match expr_word(&text[start..end]) {
@@ -55,7 +55,7 @@ fn word_expr(text: &[u8], start: usize, end: usize) -> Read<Expr>
 /// What stands behind the parenthesis of a form.
 #[cycle(read_expression)]
 fn form(alloc: Global, text: &[u8], at: usize, room: usize) -> Read<Expr>
-    ensures { Gives (expression_left text.now) result (form_at expression_sort text.now room at) }
+    ensures { GivesTree (expression_left text.now) result (form_at expression_sort text.now room at) }
 {
     let (start, end) = form_head(text, at, room)?;
     match form_named(&text[start..end]) {
@@ -67,7 +67,7 @@ fn form(alloc: Global, text: &[u8], at: usize, room: usize) -> Read<Expr>
 /// The parts of a form, and its end.
 #[cycle(read_expression)]
 fn parts(alloc: Global, text: &[u8], at: usize, room: usize, form: ExprForm) -> Read<Expr>
-    ensures { Gives (expression_left text.now) result (row_parts (form_row form) text.now room at) }
+    ensures { GivesTree (expression_left text.now) result (row_parts (form_row form) text.now room at) }
 {
     match form {
         ExprForm::Param => param(text, at, room),
@@ -82,7 +82,7 @@ fn parts(alloc: Global, text: &[u8], at: usize, room: usize, form: ExprForm) -> 
 
 /// The number of a parameter, and the end of the form.
 fn param(text: &[u8], at: usize, room: usize) -> Read<Expr>
-    ensures { Gives (expression_left text.now) result
+    ensures { GivesTree (expression_left text.now) result
         (row_parts (form_row ExprForm.Param) text.now room at) }
 {
     let (k, at) = read_index(text, at, room)?;
@@ -92,7 +92,7 @@ fn param(text: &[u8], at: usize, room: usize) -> Read<Expr>
 
 /// The type of no event, and the end of the form.
 fn no_event(alloc: Global, text: &[u8], at: usize, room: usize) -> Read<Expr>
-    ensures { Gives (expression_left text.now) result
+    ensures { GivesTree (expression_left text.now) result
         (row_parts (form_row ExprForm.NoEvent) text.now room at) }
 {
     let (ty, at) = read_type(alloc, text, at, room)?;
@@ -108,7 +108,7 @@ fn no_event(alloc: Global, text: &[u8], at: usize, room: usize) -> Read<Expr>
 /// An expression inside an expression.
 #[cycle(read_expression)]
 fn part(alloc: Global, text: &[u8], at: usize, room: usize) -> Read<ExprChild>
-    ensures { Gives (λ x. (x.0, x.1, tokens_from x.1 text.now)) result
+    ensures { GivesTree (λ x. (x.0, x.1, tokens_from x.1 text.now)) result
         (tree_at expression_sort text.now room at) }
 {
     let (expr, at) = read_expression(alloc, text, at, room)?;
@@ -118,7 +118,7 @@ fn part(alloc: Global, text: &[u8], at: usize, room: usize) -> Read<ExprChild>
 /// The last two expressions inside an expression, and the end of the form.
 #[cycle(read_expression)]
 fn last_two(alloc: Global, text: &[u8], at: usize, room: usize) -> Read<(ExprChild, ExprChild)>
-    ensures { Gives (λ x. (x.0, x.1, tokens_from x.1 text.now)) result
+    ensures { GivesTree (λ x. (x.0, x.1, tokens_from x.1 text.now)) result
         (last_two_at text.now room at) }
 {
     let (a, at) = part(alloc, text, at, room)?;
@@ -130,7 +130,7 @@ fn last_two(alloc: Global, text: &[u8], at: usize, room: usize) -> Read<(ExprChi
 /// One expression, and the end of the form.
 #[cycle(read_expression)]
 fn unary(alloc: Global, text: &[u8], at: usize, room: usize, form: Unary) -> Read<Expr>
-    ensures { Gives (expression_left text.now) result
+    ensures { GivesTree (expression_left text.now) result
         (row_parts (unary_row form) text.now room at) }
 {
     let (a, at) = part(alloc, text, at, room)?;
@@ -141,7 +141,7 @@ fn unary(alloc: Global, text: &[u8], at: usize, room: usize, form: Unary) -> Rea
 /// Two expressions, and the end of the form.
 #[cycle(read_expression)]
 fn binary(alloc: Global, text: &[u8], at: usize, room: usize, form: Binary) -> Read<Expr>
-    ensures { Gives (expression_left text.now) result
+    ensures { GivesTree (expression_left text.now) result
         (row_parts (binary_row form) text.now room at) }
 {
     let ((a, b), end) = last_two(alloc, text, at, room)?;
@@ -151,7 +151,7 @@ fn binary(alloc: Global, text: &[u8], at: usize, room: usize, form: Binary) -> R
 /// Three expressions, and the end of the form.
 #[cycle(read_expression)]
 fn ternary(alloc: Global, text: &[u8], at: usize, room: usize, form: Ternary) -> Read<Expr>
-    ensures { Gives (expression_left text.now) result
+    ensures { GivesTree (expression_left text.now) result
         (row_parts (ternary_row form) text.now room at) }
 {
     let (a, at) = part(alloc, text, at, room)?;
@@ -162,7 +162,7 @@ fn ternary(alloc: Global, text: &[u8], at: usize, room: usize, form: Ternary) ->
 /// A type and two expressions, and the end of the form.
 #[cycle(read_expression)]
 fn typed(alloc: Global, text: &[u8], at: usize, room: usize, form: Typed) -> Read<Expr>
-    ensures { Gives (expression_left text.now) result
+    ensures { GivesTree (expression_left text.now) result
         (row_parts (typed_row form) text.now room at) }
 {
     let (ty, at) = read_type(alloc, text, at, room)?;
@@ -174,7 +174,7 @@ fn typed(alloc: Global, text: &[u8], at: usize, room: usize, form: Typed) -> Rea
 /// The type of a list and its elements, and the end of the form.
 #[cycle(read_expression)]
 fn list(alloc: Global, text: &[u8], at: usize, room: usize) -> Read<Expr>
-    ensures { Gives (expression_left text.now) result
+    ensures { GivesTree (expression_left text.now) result
         (row_parts (form_row ExprForm.List) text.now room at) }
 {
     let (ty, at) = read_type(alloc, text, at, room)?;
@@ -190,7 +190,7 @@ fn list(alloc: Global, text: &[u8], at: usize, room: usize) -> Read<Expr>
 /// The elements of a list as its parts, and the end of the form.
 #[cycle(read_expression)]
 fn elements(alloc: Global, text: &[u8], at: usize, room: usize) -> Read<Exprs>
-    ensures { Gives (λ x. (x.0, x.1, tokens_from x.1 text.now)) result (items_at text.now room at) }
+    ensures { GivesTree (λ x. (x.0, x.1, tokens_from x.1 text.now)) result (items_at text.now room at) }
 {
     let (all, end) = items(alloc, text, at, room)?;
     Ok((Exprs::new(alloc, all)?, end))
@@ -199,7 +199,7 @@ fn elements(alloc: Global, text: &[u8], at: usize, room: usize) -> Read<Exprs>
 /// The elements of a list, and the end of the form.
 #[cycle(read_expression)]
 fn items(alloc: Global, text: &[u8], at: usize, room: usize) -> Read<Vec<Expr>>
-    ensures { Gives (λ x. items_left text.now (x.0.items, x.1)) result (items_at text.now room at) }
+    ensures { GivesTree (λ x. items_left text.now (x.0.items, x.1)) result (items_at text.now room at) }
 {
     let mut all = Vec::new(alloc);
     let mut next = at;
@@ -216,7 +216,7 @@ fn items(alloc: Global, text: &[u8], at: usize, room: usize) -> Read<Vec<Expr>>
 /// What `read_type_at` answers. It stands apart, since the clauses of that contract follow from its
 /// own.
 fn type_at(alloc: Global, text: &[u8], at: usize, depth: usize) -> Read<Ty>
-    ensures { Gives (type_left text.now) result (tree_at type_sort text.now (600 - depth) at) }
+    ensures { GivesTree (type_left text.now) result (tree_at type_sort text.now (600 - depth) at) }
 {
     read_type(alloc, text, at, MAX_OPEN.saturating_sub(depth))
 }
@@ -224,7 +224,7 @@ fn type_at(alloc: Global, text: &[u8], at: usize, depth: usize) -> Read<Ty>
 /// What `read_expr_at` answers. It stands apart, since the clauses of that contract follow from its
 /// own.
 fn expr_at(alloc: Global, text: &[u8], at: usize, depth: usize) -> Read<Expr>
-    ensures { Gives (expression_left text.now) result
+    ensures { GivesTree (expression_left text.now) result
         (tree_at expression_sort text.now (600 - depth) at) }
 {
     read_expression(alloc, text, at, MAX_OPEN.saturating_sub(depth))
@@ -232,7 +232,7 @@ fn expr_at(alloc: Global, text: &[u8], at: usize, depth: usize) -> Read<Expr>
 
 /// One expression and nothing else, in a text of whatever length.
 fn only_expr(alloc: Global, text: &[u8]) -> Result<Expr, ExprTextFault>
-    ensures { Gives expression_of result (whole (tree_at expression_sort text.now 600 0)) }
+    ensures { GivesTree expression_of result (whole (tree_at expression_sort text.now 600 0)) }
 {
     let (expr, end) = read_expression(alloc, text, 0, MAX_OPEN)?;
     match token_at(text, end) {
@@ -248,7 +248,7 @@ fn only_expr(alloc: Global, text: &[u8]) -> Result<Expr, ExprTextFault>
 /// own.
 fn whole_expr(alloc: Global, text: &[u8]) -> Result<Expr, ExprTextFault>
     ensures long { 1048576 < length text.now → result ≡ Err Fault.TooLong }
-    ensures exact { Gives expression_of result (read_text expression_sort text.now) }
+    ensures exact { GivesTree expression_of result (read_text expression_sort text.now) }
 {
     if text.len() > MAX_LENGTH {
         return Err(ExprTextFault::TooLong);
@@ -272,7 +272,7 @@ pub fn read_type_at(alloc: Global, text: &[u8], at: usize, depth: usize) -> Read
     // What is in the grammar is read, unless memory runs out.
     ensures only { (t : TypeTree) (n : ℕ) (rest : List PlacedToken)
         → Begins leaf (600 - depth) type_sort t (tokens_from at text.now) n rest
-        → Gives (type_left text.now) result (Ok (t, n, rest)) }
+        → GivesTree (type_left text.now) result (Ok (t, n, rest)) }
     // What is refused is so at the first token that doesn't fit.
     ensures refused { IfErr result (IsFault type_sort text.now (600 - depth) at) }
 {
@@ -297,7 +297,7 @@ pub fn read_expr_at(alloc: Global, text: &[u8], at: usize, depth: usize) -> Read
     // What is in the grammar is read, unless memory runs out.
     ensures only { (t : Expression) (n : ℕ) (rest : List PlacedToken)
         → Begins leaf (600 - depth) expression_sort t (tokens_from at text.now) n rest
-        → Gives (expression_left text.now) result (Ok (t, n, rest)) }
+        → GivesTree (expression_left text.now) result (Ok (t, n, rest)) }
     // What is refused is so at the first token that doesn't fit.
     ensures refused { IfErr result (IsFault expression_sort text.now (600 - depth) at) }
 {
@@ -318,7 +318,7 @@ pub fn read_expr(alloc: Global, text: &[u8]) -> Result<Expr, ExprTextFault>
     ensures found { IfOk result (λ e. IsText expression_sort text.now (expression_of e)) }
     // A text of an expression is read, unless memory runs out.
     ensures only { (e : Expression) → IsText expression_sort text.now e
-        → Gives expression_of result (Ok e) }
+        → GivesTree expression_of result (Ok e) }
     // A text that is too long is refused as such, whatever its bytes are.
     ensures long { 1048576 < length text.now → result ≡ Err Fault.TooLong }
     // What is refused is so at the first token that doesn't fit, or for its length.

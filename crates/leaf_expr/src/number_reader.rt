@@ -1,7 +1,7 @@
 // Reading numbers that forms take.
 
 ghost use Rattle.std.specs.Prelude.{◌≡◌, ◌<◌, ◌≤◌, ◌^◌, IfOk, IfSome};
-ghost use Rattle.leaf_expr.specs.{Grammar.index_sort, ReadText.Gives, ReadText.tree_at, ReadText.natural_read};
+ghost use Rattle.leaf_expr.specs.{Grammar.index_sort, ReadText.GivesTree, ReadText.tree_at, ReadText.natural_read};
 ghost use Rattle.leaf_expr.specs.{Language.read_word, Token.tokens_from, WordReading.natural_at};
 
 use crate::text_fault::ExprTextFault;
@@ -19,7 +19,7 @@ const MAX_INDEX: u64 = 65_535;
 /// are counted from 0.
 pub fn read_natural(text: &[u8], at: usize, room: usize, low: u64, high: u64) -> Read<u64>
     requires { high < 2 ^ 63 }
-    ensures number { Gives (λ x. (x.0, x.1, tokens_from x.1 text.now)) result
+    ensures number { GivesTree (λ x. (x.0, x.1, tokens_from x.1 text.now)) result
         (natural_read low high text.now room at) }
     ensures within { IfOk result (λ x. (low ≤ x.0) × (x.0 ≤ high)) }
 {
@@ -45,7 +45,7 @@ pub fn natural_named(word: &[u8], low: u64, high: u64) -> Option<u64>
 
 /// The number of a parameter or of a frozen network, from 0 to 65,535: as `read_natural`.
 pub fn read_index(text: &[u8], at: usize, room: usize) -> Read<u32>
-    ensures { Gives (λ x. (x.0, x.1, tokens_from x.1 text.now)) result
+    ensures { GivesTree (λ x. (x.0, x.1, tokens_from x.1 text.now)) result
         (tree_at index_sort text.now room at) }
 {
     let (k, end) = read_natural(text, at, room, 0, MAX_INDEX)?;

@@ -2,7 +2,7 @@
 
 ghost use Rattle.std.specs.Prelude.{◌≡◌, ◌-◌, ◌<◌, ◌≤◌, ◌∷◌, false, IfOk, IfSome, MatchOption, length, slice_range};
 ghost use Rattle.leaf_expr.specs.{Front.front_from, Front.front_left, Front.FrontFits, Grammar.leaf};
-ghost use Rattle.leaf_expr.specs.{ReadText.Gives, ReadText.begins_closing, TreeReader.read_end, TreeReader.read_head};
+ghost use Rattle.leaf_expr.specs.{ReadText.GivesTree, ReadText.begins_closing, TreeReader.read_end, TreeReader.read_head};
 ghost use Rattle.leaf_expr.specs.Token.{closing, tokens_from};
 
 use crate::text_fault::ExprTextFault;
@@ -26,7 +26,7 @@ pub enum TreeFront {
 /// `TooDeep` at a `(` where there is no room; `Syntax` at a `)`, or at the text's length where no
 /// token follows. Bytes are counted from 0.
 pub fn front_at(text: &[u8], at: usize, room: usize) -> Result<TreeFront, ExprTextFault>
-    ensures front { Gives (front_left text.now) result (front_from text.now room at) }
+    ensures front { GivesTree (front_left text.now) result (front_from text.now room at) }
     ensures within { IfOk result (FrontFits (length text.now) room) }
 {
     match lexeme_at(text, at) {
@@ -44,7 +44,7 @@ pub fn front_at(text: &[u8], at: usize, room: usize) -> Result<TreeFront, ExprTe
 /// `TooDeep` at a `(` where there is no room; `Syntax` at any other token, or at the text's length
 /// where none follows. Bytes are counted from 0.
 pub fn form_head(text: &[u8], at: usize, room: usize) -> Result<(usize, usize), ExprTextFault>
-    ensures head { Gives (λ x. (x.0, slice_range text.now x.0 x.1, tokens_from x.1 text.now)) result
+    ensures head { GivesTree (λ x. (x.0, slice_range text.now x.0 x.1, tokens_from x.1 text.now)) result
         (read_head leaf (length text.now) room (tokens_from at text.now)) }
     ensures within { IfOk result (λ x. (x.0 < x.1) × (x.1 ≤ length text.now)) }
 {
@@ -61,7 +61,7 @@ pub fn form_head(text: &[u8], at: usize, room: usize) -> Result<(usize, usize), 
 /// where none follows. Bytes are counted from 0.
 #[tactic(auto, using(crate::proofs::ReadSteps::unfit_open, crate::proofs::ReadSteps::closed))]
 pub fn form_end(text: &[u8], at: usize, room: usize) -> Result<usize, ExprTextFault>
-    ensures { Gives (λ n. (n, tokens_from n text.now)) result
+    ensures { GivesTree (λ n. (n, tokens_from n text.now)) result
         (read_end leaf (length text.now) room (tokens_from at text.now)) }
 {
     match lexeme_at(text, at) {

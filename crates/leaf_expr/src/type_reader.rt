@@ -3,7 +3,7 @@
 
 ghost use Rattle.std.specs.Prelude.{◌≡◌, ◌<◌, ◌≤◌, length};
 ghost use Rattle.leaf_expr.specs.{Form.type_row, Grammar.type_sort};
-ghost use Rattle.leaf_expr.specs.ReadText.{Gives, tree_at, word_tree, form_at, row_parts, last_at, type_left};
+ghost use Rattle.leaf_expr.specs.ReadText.{GivesTree, tree_at, word_tree, form_at, row_parts, last_at, type_left};
 ghost use Rattle.leaf_expr.specs.Token.{tokens_from};
 
 use crate::form::{TypeForm, type_form_named};
@@ -19,7 +19,7 @@ pub const MAX_OPEN: usize = 600;
 /// The type at or after byte `at`, with room for so many more parentheses, and the byte behind it.
 #[cycle(read_type)]
 pub(crate) fn read_type(alloc: Global, text: &[u8], at: usize, room: usize) -> Read<Ty>
-    ensures { Gives (type_left text.now) result (tree_at type_sort text.now room at) }
+    ensures { GivesTree (type_left text.now) result (tree_at type_sort text.now room at) }
 {
     match front_at(text, at, room)? {
         TreeFront::Form(start) => type_form(alloc, text, start + 1, room - 1),
@@ -30,7 +30,7 @@ pub(crate) fn read_type(alloc: Global, text: &[u8], at: usize, room: usize) -> R
 /// The type that the word is from the first byte up to and without the second, and the latter.
 fn type_named(text: &[u8], start: usize, end: usize) -> Read<Ty>
     requires { (start < end) × (end ≤ length text.now) }
-    ensures { Gives (type_left text.now) result (word_tree type_sort text.now start end) }
+    ensures { GivesTree (type_left text.now) result (word_tree type_sort text.now start end) }
 {
     match type_word(&text[start..end]) {
         Some(ty) => Ok((ty, end)),
@@ -41,7 +41,7 @@ fn type_named(text: &[u8], start: usize, end: usize) -> Read<Ty>
 /// What stands behind the parenthesis of a form of types.
 #[cycle(read_type)]
 fn type_form(alloc: Global, text: &[u8], at: usize, room: usize) -> Read<Ty>
-    ensures { Gives (type_left text.now) result (form_at type_sort text.now room at) }
+    ensures { GivesTree (type_left text.now) result (form_at type_sort text.now room at) }
 {
     let (start, end) = form_head(text, at, room)?;
     match type_form_named(&text[start..end]) {
@@ -53,7 +53,7 @@ fn type_form(alloc: Global, text: &[u8], at: usize, room: usize) -> Read<Ty>
 /// The types of a form, and its end.
 #[cycle(read_type)]
 fn type_parts(alloc: Global, text: &[u8], at: usize, room: usize, form: TypeForm) -> Read<Ty>
-    ensures { Gives (type_left text.now) result (row_parts (type_row form) text.now room at) }
+    ensures { GivesTree (type_left text.now) result (row_parts (type_row form) text.now room at) }
 {
     match form {
         TypeForm::Pair => pair_type(alloc, text, at, room),
@@ -71,7 +71,7 @@ fn type_parts(alloc: Global, text: &[u8], at: usize, room: usize, form: TypeForm
 /// Two types, and the end of the form.
 #[cycle(read_type)]
 fn pair_type(alloc: Global, text: &[u8], at: usize, room: usize) -> Read<Ty>
-    ensures { Gives (type_left text.now) result
+    ensures { GivesTree (type_left text.now) result
         (row_parts (type_row TypeForm.Pair) text.now room at) }
 {
     let (a, at) = type_part(alloc, text, at, room)?;
@@ -82,7 +82,7 @@ fn pair_type(alloc: Global, text: &[u8], at: usize, room: usize) -> Read<Ty>
 /// A type inside a type.
 #[cycle(read_type)]
 fn type_part(alloc: Global, text: &[u8], at: usize, room: usize) -> Read<TyChild>
-    ensures { Gives (λ x. (x.0, x.1, tokens_from x.1 text.now)) result
+    ensures { GivesTree (λ x. (x.0, x.1, tokens_from x.1 text.now)) result
         (tree_at type_sort text.now room at) }
 {
     let (ty, at) = read_type(alloc, text, at, room)?;
@@ -92,7 +92,7 @@ fn type_part(alloc: Global, text: &[u8], at: usize, room: usize) -> Read<TyChild
 /// The last type inside a type, and the end of the form.
 #[cycle(read_type)]
 fn last_type(alloc: Global, text: &[u8], at: usize, room: usize) -> Read<TyChild>
-    ensures { Gives (λ x. (x.0, x.1, tokens_from x.1 text.now)) result
+    ensures { GivesTree (λ x. (x.0, x.1, tokens_from x.1 text.now)) result
         (last_at type_sort text.now room at) }
 {
     let (ty, at) = type_part(alloc, text, at, room)?;

@@ -6,7 +6,7 @@ use Rattle.net_syntax.specs.LawStep.{Step, step_of}
 use Rattle.net_syntax.specs.declared.law_step.LawStep.{LawStep}
 use Rattle.cert_check.specs.Derives.{Next, Steps, no_step, step_then}
 use Rattle.cert_check.proofs.Taken.{steps_more}
-use Rattle.net_edit.specs.Drafted.{drafted, IsLed, Takes}
+use Rattle.net_edit.specs.Drafted.{drafted, IsLed, TakesOneMore}
 
 -- no step
 pub begun_led : (t a b : TypedNetwork) (ss : List LawStep) → a ≡ t → b ≡ t → ss ≡ [] → IsLed (drafted a b ss)
@@ -25,7 +25,7 @@ taken_led t u v ss more s d l n e =
     })
 
 pub taken_more : (t u v : TypedNetwork) (ss more : List LawStep) (s : LawStep) → Next u (step_of s) v → more ≡ ss ++ s ∷ []
-    → Takes (drafted t u ss) (step_of s) (drafted t v more)
+    → TakesOneMore (drafted t u ss) (step_of s) (drafted t v more)
 taken_more t u v ss more s n e = record { next = n; steps_are = ap (map step_of) e ∙ map-append step_of ss (s ∷ []) }
 
 -- steps behind others

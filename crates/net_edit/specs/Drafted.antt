@@ -25,6 +25,6 @@ pub record IsLed (d : Drafted) : Type 0 where
   pub few : length d.steps ≤ 10000
 
 -- one step more was taken
-pub record Takes (old : Drafted) (s : Step) (new : Drafted) : Type 0 where
+pub record TakesOneMore (old : Drafted) (s : Step) (new : Drafted) : Type 0 where
   pub next : Next old.net s new.net
   pub steps_are : new.steps ≡ old.steps ++ s ∷ []

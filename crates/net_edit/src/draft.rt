@@ -3,7 +3,7 @@
 ghost use Rattle.std.specs.Prelude.{◌≡◌, ◌++◌, ◌∷◌, [], ◌≤◌, length, map, false, IfOk, IfSome, MatchBool};
 ghost use Rattle.net_syntax.specs.LawStep.{step_of};
 ghost use Rattle.cert_check.specs.Derives.{Next, Steps};
-ghost use Rattle.net_edit.specs.Drafted.{begun, Takes};
+ghost use Rattle.net_edit.specs.Drafted.{begun, TakesOneMore};
 
 use cert_check::{CheckFault, MOST_STEPS, take_step};
 use net_syntax::{LawStep, TypedNet};
@@ -83,7 +83,7 @@ impl Draft {
     pub fn take(&mut self, alloc: Global, step: LawStep) -> Result<bool, Memory>
         ensures source { self.new.source ≡ self.old.source }
         ensures taken { IfOk result (λ b.
-            MatchBool b (Takes self.old (step_of step) self.new) (self.new ≡ self.old)) }
+            MatchBool b (TakesOneMore self.old (step_of step) self.new) (self.new ≡ self.old)) }
     {
         if self.steps.len() >= MOST_STEPS {
             return Ok(false);

@@ -5,7 +5,7 @@ use Rattle.std.proofs.lemmas.Bool.{ltb-false, ltb-true, le-ltb, lt-ltb}
 use Rattle.leaf_expr.specs.Token.{PlacedToken, tokens}
 use Rattle.net_text.specs.Grammar.{Version}
 use Rattle.net_text.specs.File.{Headed, in_file, body_fault, read_behind, read_headed}
-use Rattle.net_text.specs.FileLaws.{FaultOf}
+use Rattle.net_text.specs.FileLaws.{FaultOfFile}
 use Rattle.net_text.specs.declared.fault.NetTextFault.{NetTextFault}
 use Rattle.net_text.specs.declared.fault.NetTextFault.TheVariants as V
 use Rattle.sample_core.specs.Answer.{GivesUnless}
@@ -133,7 +133,7 @@ module _ {T : Type 0} (header : List PlacedToken → Headed) (body : ℕ → Ver
         go true q e = ltb-true 1048576 (length bs) q
         go false q e = absurd (here (ltb-false 1048576 (length bs) q) (header (tokens bs)) refl e)
 
-    pub headed_fault : (e : NetTextFault) → e ≢ V.Memory → read_headed header body bs ≡ Err e → FaultOf bs Has Wrong e
+    pub headed_fault : (e : NetTextFault) → e ≢ V.Memory → read_headed header body bs ≡ Err e → FaultOfFile bs Has Wrong e
     headed_fault V.Header d p = headless p
     headed_fault (V.Syntax n) d p = told (E.Syntax n) (λ q. cc) p
     headed_fault (V.Number n) d p = told (E.Number n) (λ q. cc) p
@@ -143,7 +143,7 @@ module _ {T : Type 0} (header : List PlacedToken → Headed) (body : ℕ → Ver
 
     -- what a call that gives it is refused for
     pub headed_told : {X : Type 0} (view : X → T) (r : Result X NetTextFault) → GivesUnless V.Memory view r (read_headed header body bs)
-        → IfErr r (FaultOf bs Has Wrong)
+        → IfErr r (FaultOfFile bs Has Wrong)
     headed_told view (Ok x) h = tt
     headed_told view (Err V.Header) h = headed_fault V.Header (λ q. cc) (h (λ q. cc))
     headed_told view (Err (V.Syntax n)) h = headed_fault (V.Syntax n) (λ q. cc) (h (λ q. cc))
@@ -156,7 +156,7 @@ module _ {T : Type 0} (header : List PlacedToken → Headed) (body : ℕ → Ver
       answered : (e : ExprTextFault) → length bs ≤ 1048576 → Wrong e → read_headed header body bs ≡ Err (in_file e)
       answered e l w = let b = refuse e l w in past_header b.version b.behind b.short b.headed ∙ ap body_fault b.reads
 
-      pub headed_refuses : (e : NetTextFault) → e ≢ V.Memory → FaultOf bs Has Wrong e → read_headed header body bs ≡ Err e
+      pub headed_refuses : (e : NetTextFault) → e ≢ V.Memory → FaultOfFile bs Has Wrong e → read_headed header body bs ≡ Err e
       headed_refuses V.Header d h = past_length h.0 ∙ go (header (tokens bs)) refl
         where
           go : (o : Headed) → header (tokens bs) ≡ o → read_behind (body (length bs)) (header (tokens bs)) ≡ Err V.Header

@@ -8,7 +8,7 @@ use Rattle.leaf_expr.specs.Token.{PlacedToken, tokens_from}
 use Rattle.leaf_expr.specs.WordReading.{natural_at}
 use Rattle.leaf_expr.specs.Language.{Begins, Places, Maker, place, places}
 use Rattle.leaf_expr.specs.Grammar.{leaf, Sort, Tree}
-use Rattle.leaf_expr.specs.ReadText.{Gives, IsFault, tree_at}
+use Rattle.leaf_expr.specs.ReadText.{GivesTree, IsFault, tree_at}
 use Rattle.leaf_expr.specs.TreeReader.{Read, word_read, read, read_head}
 use Rattle.leaf_expr.proofs.ReadSteps.{Refuses, passed, formless_read}
 use Rattle.leaf_expr.proofs.Answered.{tree_given}
@@ -53,21 +53,21 @@ module _ (v : Version) (size room : ℕ) {R : Type 0} where
   no_leaf s x ps make ts p = no_part (networks v) size room (leaf_sort s) x ps make ts (subst (Refuses x) (sym (read_same v size room s ts)) p)
 
 -- what the code reads behind a part, and keeps beside it
-pub read_behind : {X Y : Type 0} (view : X → Y) (r : Result X ExprTextFault) {x : X} {read : Result Y ExprTextFault} → r ≡ Ok x → Gives view r read
+pub read_behind : {X Y : Type 0} (view : X → Y) (r : Result X ExprTextFault) {x : X} {read : Result Y ExprTextFault} → r ≡ Ok x → GivesTree view r read
     → read ≡ Ok (view x)
-read_behind view r {read = read} p g = subst (λ o. Gives view o read) p g
+read_behind view r {read = read} p g = subst (λ o. GivesTree view o read) p g
 
 -- and what is refused behind it
 pub refused_behind : {X Y : Type 0} (view : X → Y) (r : Result X ExprTextFault) {x : ExprTextFault} {read : Result Y ExprTextFault} → r ≡ Err x
-    → Gives view r read → Refuses x read
-refused_behind view r {read = read} p g = subst (λ o. Gives view o read) p g
+    → GivesTree view r read → Refuses x read
+refused_behind view r {read = read} p g = subst (λ o. GivesTree view o read) p g
 
 -- what was read from byte at on, with so many parentheses open as leave that room
 pub room_left : {X : Type 0} (s : Sort) (text : List ℕ) (room at : ℕ) (view : X → Tree s × ℕ × List PlacedToken) (r : Result X ExprTextFault) → room ≤ 600 →
     IfOk r (λ x. Begins leaf (600 - (600 - room)) s (view x).0 (tokens_from at text) (view x).1 (view x).2) → IfErr r (IsFault s text (600 - (600 - room)) at)
-    → Gives view r (tree_at s text room at)
+    → GivesTree view r (tree_at s text room at)
 room_left s text room at view r h found refused =
-    subst (λ m. Gives view r (tree_at s text m at)) (omega arith) (tree_given s text (600 - (600 - room)) at view r found refused)
+    subst (λ m. GivesTree view r (tree_at s text m at)) (omega arith) (tree_given s text (600 - (600 - room)) at view r found refused)
 
 -- the time of a form is a number
 pub time_read : (v : Version) (size room : ℕ) (g : Timer) (ts : List PlacedToken) → read (networks v) size room (time_sort g) ts

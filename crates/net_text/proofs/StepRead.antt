@@ -19,8 +19,8 @@ use Rattle.net_syntax.specs.declared.law_step.Law.{Law}
 use Rattle.net_syntax.specs.declared.law_step.Direction.{Direction}
 use Rattle.net_text.specs.Grammar.{Version, networks, NetTree}
 use Rattle.net_text.specs.StepGrammar.{step_parts, StepSort, StepTree, law_sort, direction_sort, position_sort}
-use Rattle.net_text.specs.Certificate.{given_sort, given_tree, Left, read_name, read_opening, read_given, read_step}
-use Rattle.net_text.specs.CertificateLaws.{step_tokens, IsPart, IsTree, IsFront, IsGiven, no_tree, one_tree, IsStep, Unlike, missing, other, NoStep, unopened, unnamed, no_law, no_direction, no_position, no_end, unclosed}
+use Rattle.net_text.specs.Certificate.{given_sort, given_tree, ReadAndLeft, read_name, read_opening, read_given, read_step}
+use Rattle.net_text.specs.CertificateLaws.{step_tokens, IsPart, IsTree, IsStepFront, IsGiven, no_tree, one_tree, IsStep, Unlike, missing, other, NoStep, unopened, unnamed, no_law, no_direction, no_position, no_end, unclosed}
 use Rattle.net_text.proofs.NetProper.{networks_proper}
 use Rattle.net_text.proofs.StepProper.{step_parts_proper}
 use Rattle.sample_core.specs.Answer.{◌>>=◌}
@@ -184,7 +184,7 @@ module _ (size : ℕ) (v : Version) where
     )
 
   -- no tree stands behind a step's position, or no end behind the tree
-  tree_refused : (law : Law) (direction : Direction) (at : List ℕ) (ts us : List PlacedToken) (e : ExprTextFault) → IsFront v law direction at ts us
+  tree_refused : (law : Law) (direction : Direction) (at : List ℕ) (ts us : List PlacedToken) (e : ExprTextFault) → IsStepFront v law direction at ts us
       → begins_closing us ≡ false → tree_and_end law us ≡ Err e → NoStep v size ts e
   tree_refused law direction at ts us e f b p =
       bind_err (read (networks v) size 599 (given_sort law) us) _ e p
@@ -192,7 +192,7 @@ module _ (size : ℕ) (v : Version) where
       (λ x q r. bind_err (read_end (networks v) size 599 x.2) _ e r
       (λ h. unclosed law direction at us f x.0 x.1 x.2 (found (networks v) size 599 (given_sort law) us x q) (end_refused x.2 e h)) (λ y h k. absurd (cc)))
 
-  given_refused : (law : Law) (direction : Direction) (at : List ℕ) (ts us : List PlacedToken) (e : ExprTextFault) → IsFront v law direction at ts us
+  given_refused : (law : Law) (direction : Direction) (at : List ℕ) (ts us : List PlacedToken) (e : ExprTextFault) → IsStepFront v law direction at ts us
       → read_given size v law us ≡ Err e → NoStep v size ts e
   given_refused law direction at ts [] e f p = tree_refused law direction at ts [] e f refl p
   given_refused law direction at ts ((n, closing) ∷ us) e f p = absurd (cc)
@@ -213,23 +213,23 @@ module _ (size : ℕ) (v : Version) where
   refuses_part s ts e p = refuses (step_parts v) (step_parts_proper v) size 599 s ts e p
 
   -- the step of what was read of it
-  abbrev made : Law → Direction → List ℕ → Option (Tree Expression) × ℕ × List PlacedToken → Left Step
+  abbrev made : Law → Direction → List ℕ → Option (Tree Expression) × ℕ × List PlacedToken → ReadAndLeft Step
   made law direction at g = Ok (record { law = law; direction = direction; position = at; given = g.0 }, g.2)
 
-  abbrev behind_position : Law → Direction → List ℕ × ℕ × List PlacedToken → Left Step
+  abbrev behind_position : Law → Direction → List ℕ × ℕ × List PlacedToken → ReadAndLeft Step
   behind_position law direction p = read_given size v law p.2 >>= made law direction p.0
 
-  abbrev behind_direction : Law → Direction × ℕ × List PlacedToken → Left Step
+  abbrev behind_direction : Law → Direction × ℕ × List PlacedToken → ReadAndLeft Step
   behind_direction law d = read (step_parts v) size 599 position_sort d.2 >>= behind_position law d.0
 
-  abbrev behind_law : Law × ℕ × List PlacedToken → Left Step
+  abbrev behind_law : Law × ℕ × List PlacedToken → ReadAndLeft Step
   behind_law l = read (step_parts v) size 599 direction_sort l.2 >>= behind_direction l.0
 
-  abbrev behind_opening : List PlacedToken → Left Step
+  abbrev behind_opening : List PlacedToken → ReadAndLeft Step
   behind_opening us = read (step_parts v) size 599 law_sort us >>= behind_law
 
   -- behind its front a step is what its end makes it
-  front_read : {y : Left Step} (law : Law) (direction : Direction) (at : List ℕ) (ts rest : List PlacedToken) → IsFront v law direction at ts rest
+  front_read : {y : ReadAndLeft Step} (law : Law) (direction : Direction) (at : List ℕ) (ts rest : List PlacedToken) → IsStepFront v law direction at ts rest
       → (read_given size v law rest >>= made law direction at) ≡ y → read_step size v ts ≡ y
   front_read {y = y} law direction at ts rest f e =
       bind_on (read_opening size v ts) behind_opening f.behind_name y (opening_read f.opened f.named ts f.behind_name f.starts)
@@ -296,7 +296,7 @@ module _ (size : ℕ) (v : Version) where
       (λ d b h. let is_direction : IsPart v direction_sort d.0 l.2 d.1 d.2 = part_found direction_sort l.2 d b in
       bind_err (read (step_parts v) size 599 position_sort d.2) (behind_position l.0 d.0) e h
       (λ q. no_position i.0 i.1 l.1 d.1 l.0 d.0 us l.2 d.2 i.2 is_law is_direction (part_refused position_sort d.2 e q))
-      (λ p c h. let front : IsFront v l.0 d.0 p.0 ts p.2 =
+      (λ p c h. let front : IsStepFront v l.0 d.0 p.0 ts p.2 =
       record {
         opened = i.0;
         named = i.1;

@@ -14,7 +14,7 @@ use Rattle.net_text.specs.Form.{version_of}
 use Rattle.net_text.specs.ReadNet.{from_byte}
 use Rattle.net_text.specs.declared.text.Text.{Text}
 use Rattle.net_text.specs.StepGrammar.{step_parts, StepSort, StepTree, child_sort, position_sort}
-use Rattle.net_text.specs.Certificate.{Left, read_given, read_step, read_all_steps}
+use Rattle.net_text.specs.Certificate.{ReadAndLeft, read_given, read_step, read_all_steps}
 use Rattle.net_text.specs.declared.fault.NetTextFault.{NetTextFault}
 use Rattle.net_text.specs.declared.fault.NetTextFault.TheVariants as V
 use Rattle.sample_core.specs.Answer.{GivesUnless}
@@ -54,7 +54,7 @@ abbrev pub given_left : Text → Option C.Tree × ℕ
 given_left text x = (option_map part_of x.0, x.1, from_byte x.1 text)
 
 -- a step in the text from byte n on
-abbrev pub step_from : Text → ℕ → Left Step
+abbrev pub step_from : Text → ℕ → ReadAndLeft Step
 step_from text n = read_step (length text.bytes.now) (version_of text.version) (from_byte n text)
 
 -- a step, and the tokens from the byte behind it on

@@ -9,7 +9,7 @@ use Rattle.leaf_core.specs.ExpressionView.{expression_of}
 use Rattle.leaf_core.specs.declared.expr.Expr.{Expr}
 use Rattle.leaf_expr.specs.declared.text_fault.ExprTextFault.{ExprTextFault}
 use Rattle.leaf_expr.specs.Language.{Language, Places, Maker, no_place}
-use Rattle.leaf_expr.specs.ReadText.{Gives}
+use Rattle.leaf_expr.specs.ReadText.{GivesTree}
 use Rattle.leaf_expr.specs.Token.{PlacedToken, tokens_from}
 use Rattle.leaf_expr.specs.TreeReader.{word_read, Read, read, read_form, read_parts}
 use Rattle.net_syntax.specs.Network.{Network, Networks, map_network, map_networks}
@@ -88,7 +88,7 @@ members_left text x = (map_networks expression_of x.0, x.1, from_byte x.1 text)
 -- what the call returned is what reading the parts of the form and its end gives, in the text from
 -- byte n on, unless memory ran out
 abbrev pub GivesForm : Result (Net Expr × ℕ) ExprTextFault → NetForm → Text → ℕ → ℕ → Type 0
-GivesForm result form text room n = Gives (network_left text) result
+GivesForm result form text room n = GivesTree (network_left text) result
     (parts_at (form_row form).takes (form_row form).makes text room n)
 
 -- what the call returned is what reading gives, unless memory ran out

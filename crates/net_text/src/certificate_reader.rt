@@ -1,7 +1,7 @@
 // Reading certificates.
 
 ghost use Rattle.std.specs.Prelude.{◌≡◌, ◌<◌, ◌^◌, Some, length, map};
-ghost use Rattle.leaf_expr.specs.{Language.no_place, Language.read_word, ReadText.Gives, ReadText.fit, Grammar.word_among, WordReading.natural_at, WordReading.unfit};
+ghost use Rattle.leaf_expr.specs.{Language.no_place, Language.read_word, ReadText.GivesTree, ReadText.fit, Grammar.word_among, WordReading.natural_at, WordReading.unfit};
 ghost use Rattle.net_syntax.specs.LawStep.{step_of};
 ghost use Rattle.net_text.specs.Certificate.{read_opening};
 ghost use Rattle.net_text.specs.Certificate as certificate;
@@ -32,7 +32,7 @@ pub(crate) fn steps_at(
     text: &Text<'_>,
     at: usize,
 ) -> Result<Vec<LawStep>, ExprTextFault>
-    ensures { Gives (λ steps. map step_of steps.items) result (steps_from text.now at) }
+    ensures { GivesTree (λ steps. map step_of steps.items) result (steps_from text.now at) }
 {
     let mut steps = Vec::new(alloc);
     let mut next = at;
@@ -48,7 +48,7 @@ pub(crate) fn steps_at(
 
 /// The step at or after byte `at`, and the byte behind it.
 fn step_at(alloc: Global, text: &Text<'_>, at: usize) -> Read<LawStep>
-    ensures { Gives (step_left text.now) result (step_from text.now at) }
+    ensures { GivesTree (step_left text.now) result (step_from text.now at) }
 {
     let at = step_front(text, at)?;
     let (law, at) = law_at(text, at)?;
@@ -66,7 +66,7 @@ fn step_at(alloc: Global, text: &Text<'_>, at: usize) -> Read<LawStep>
 
 /// The byte behind `(step`, which must stand at or after byte `at`.
 fn step_front(text: &Text<'_>, at: usize) -> Result<usize, ExprTextFault>
-    ensures { Gives (λ n. from_byte n text.now) result
+    ensures { GivesTree (λ n. from_byte n text.now) result
         (read_opening (length text.now.bytes.now) (version_of text.now.version)
         (from_byte at text.now)) }
 {
@@ -78,7 +78,7 @@ fn step_front(text: &Text<'_>, at: usize) -> Result<usize, ExprTextFault>
 
 /// The byte behind the word `step`, which must be the first token at or after byte `at`.
 fn step_name(text: &Text<'_>, at: usize) -> Result<usize, ExprTextFault>
-    ensures { Gives (λ n. from_byte n text.now) result
+    ensures { GivesTree (λ n. from_byte n text.now) result
         (certificate.read_name (length text.now.bytes.now) (version_of text.now.version)
         (from_byte at text.now)) }
 {
@@ -92,7 +92,7 @@ fn step_name(text: &Text<'_>, at: usize) -> Result<usize, ExprTextFault>
 
 /// The law that must be the first token at or after byte `at`, and the byte behind it.
 fn law_at(text: &Text<'_>, at: usize) -> Read<Law>
-    ensures { Gives (left text.now) result (part_at law_sort text.now at) }
+    ensures { GivesTree (left text.now) result (part_at law_sort text.now at) }
 {
     let (start, end) = form_head(text.bytes, at, ROOM)?;
     match law_named(&text.bytes[start..end], text.version) {
@@ -137,7 +137,7 @@ fn law_number(word: &[u8], most: u8) -> Option<u8>
 /// The direction that must be the first token at or after byte `at`, and the byte behind it.
 #[tactic(auto, unfolding(crate::specs::StepGrammar::step_word_at))]
 fn direction_at(text: &Text<'_>, at: usize) -> Read<Direction>
-    ensures { Gives (left text.now) result (part_at direction_sort text.now at) }
+    ensures { GivesTree (left text.now) result (part_at direction_sort text.now at) }
 {
     let (start, end) = form_head(text.bytes, at, ROOM)?;
     match direction_named(&text.bytes[start..end]) {
@@ -162,7 +162,7 @@ fn direction_named(word: &[u8]) -> Option<Direction>
 
 /// The position `(at N1 .. Nk)` at or after byte `at`, and the byte behind it.
 fn position_at(alloc: Global, text: &Text<'_>, at: usize) -> Read<Position>
-    ensures { Gives (left text.now) result (part_at position_sort text.now at) }
+    ensures { GivesTree (left text.now) result (part_at position_sort text.now at) }
 {
     match front_at(text.bytes, at, ROOM)? {
         TreeFront::Form(start) => position_form_at(alloc, text, start + 1),
@@ -172,7 +172,7 @@ fn position_at(alloc: Global, text: &Text<'_>, at: usize) -> Read<Position>
 
 /// What stands behind the parenthesis of `(at N1 .. Nk)`.
 fn position_form_at(alloc: Global, text: &Text<'_>, at: usize) -> Read<Position>
-    ensures { Gives (left text.now) result (position_form text.now at) }
+    ensures { GivesTree (left text.now) result (position_form text.now at) }
 {
     let (start, end) = form_head(text.bytes, at, ROOM - 1)?;
     if word_is(&text.bytes[start..end], "at") {
@@ -184,7 +184,7 @@ fn position_form_at(alloc: Global, text: &Text<'_>, at: usize) -> Read<Position>
 
 /// Child numbers up to the end of the position, and the byte behind it.
 fn children_at(alloc: Global, text: &Text<'_>, at: usize) -> Read<Position>
-    ensures { Gives (left text.now) result (children_from text.now at) }
+    ensures { GivesTree (left text.now) result (children_from text.now at) }
 {
     let mut path = Vec::new(alloc);
     let mut next = at;
@@ -201,7 +201,7 @@ fn children_at(alloc: Global, text: &Text<'_>, at: usize) -> Read<Position>
 /// The end of a step of that law at or after byte `at`, perhaps with a given tree before it, and
 /// the byte behind the step.
 fn given_at(alloc: Global, text: &Text<'_>, at: usize, law: Law) -> Read<Option<Tree>>
-    ensures { Gives (given_left text.now) result (given_from law text.now at) }
+    ensures { GivesTree (given_left text.now) result (given_from law text.now at) }
 {
     if let Some(end) = closing_at(text.bytes, at) {
         return Ok((None, end));
@@ -214,7 +214,7 @@ fn given_at(alloc: Global, text: &Text<'_>, at: usize, law: Law) -> Read<Option<
 
 /// A given expression, and the end of the step.
 fn given_expr_at(alloc: Global, text: &Text<'_>, at: usize) -> Read<Option<Tree>>
-    ensures { Gives (given_left text.now) result
+    ensures { GivesTree (given_left text.now) result
         (parts_at (e no_place) (λ e. Some (a_leaf e)) text.now 599 at) }
 {
     let (expr, end) = last_expr_at(alloc, text, at, ROOM)?;
@@ -223,7 +223,7 @@ fn given_expr_at(alloc: Global, text: &Text<'_>, at: usize) -> Read<Option<Tree>
 
 /// A given network, and the end of the step.
 fn given_net_at(alloc: Global, text: &Text<'_>, at: usize) -> Read<Option<Tree>>
-    ensures { Gives (given_left text.now) result
+    ensures { GivesTree (given_left text.now) result
         (parts_at (f no_place) (λ f. Some (a_network f)) text.now 599 at) }
 {
     let (net, at) = network_at(alloc, text, at, ROOM)?;

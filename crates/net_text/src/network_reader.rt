@@ -4,7 +4,7 @@ ghost use Rattle.std.specs.Prelude.{◌≡◌, ◌<◌, ◌≤◌, Err, MatchRes
 ghost use Rattle.sample_core.specs.TypeView.{type_of};
 ghost use Rattle.leaf_core.specs.ExpressionView.{expression_of};
 ghost use Rattle.leaf_expr.specs.{Grammar.type_sort, Grammar.expression_sort, Language.no_place, Language.places};
-ghost use Rattle.leaf_expr.specs.ReadText.{Gives, tree_at, expression_left, type_left};
+ghost use Rattle.leaf_expr.specs.ReadText.{GivesTree, tree_at, expression_left, type_left};
 ghost use Rattle.net_syntax.specs.{Network.networks_of, Network.map_network, Network.map_networks, NetworkView.tree_of};
 ghost use Rattle.net_text.specs.Form.{timer_of};
 ghost use Rattle.net_text.specs.Grammar.{network_sort, members_sort, time_sort, e, f};
@@ -33,7 +33,7 @@ type Child = NetChild<Expr>;
 #[cycle(network)]
 pub(crate) fn network_at(alloc: Global, text: &Text<'_>, at: usize, room: usize) -> ReadNet
     requires { room ≤ 600 }
-    ensures { Gives (network_left text.now) result (sort_at network_sort text.now room at) }
+    ensures { GivesTree (network_left text.now) result (sort_at network_sort text.now room at) }
 {
     match front_at(text.bytes, at, room)? {
         TreeFront::Form(start) => form_at(alloc, text, start + 1, room - 1),
@@ -44,7 +44,7 @@ pub(crate) fn network_at(alloc: Global, text: &Text<'_>, at: usize, room: usize)
 /// The network that the word is from the first byte up to and without the second, and the latter.
 fn word_network(alloc: Global, text: &Text<'_>, start: usize, end: usize) -> ReadNet
     requires { (start < end) × (end ≤ length text.now.bytes.now) }
-    ensures { Gives (network_left text.now) result (word_read text.now start end) }
+    ensures { GivesTree (network_left text.now) result (word_read text.now start end) }
 {
     match network_named(&text.bytes[start..end]) {
         Some(word) => { Ok((word.of(alloc)?, end)) }
@@ -56,7 +56,7 @@ fn word_network(alloc: Global, text: &Text<'_>, start: usize, end: usize) -> Rea
 #[cycle(network)]
 fn form_at(alloc: Global, text: &Text<'_>, at: usize, room: usize) -> ReadNet
     requires { room ≤ 600 }
-    ensures { Gives (network_left text.now) result (form_read network_sort text.now room at) }
+    ensures { GivesTree (network_left text.now) result (form_read network_sort text.now room at) }
 {
     let (start, end) = form_head(text.bytes, at, room)?;
     match form_named(&text.bytes[start..end], text.version) {
@@ -108,7 +108,7 @@ pub(crate) fn both<A: Drop, B>(
 /// behind it.
 fn expr_at(alloc: Global, text: &[u8], at: usize, room: usize) -> Read<Expr>
     requires { room ≤ 600 }
-    ensures { Gives (expression_left text.now) result (tree_at expression_sort text.now room at) }
+    ensures { GivesTree (expression_left text.now) result (tree_at expression_sort text.now room at) }
 {
     read_expr_at(alloc, text, at, MAX_OPEN - room)
 }
@@ -116,7 +116,7 @@ fn expr_at(alloc: Global, text: &[u8], at: usize, room: usize) -> Read<Expr>
 /// The type at or after byte `at`, with room for so many more parentheses, and the byte behind it.
 pub(crate) fn type_at(alloc: Global, text: &[u8], at: usize, room: usize) -> Read<Ty>
     requires { room ≤ 600 }
-    ensures { Gives (type_left text.now) result (tree_at type_sort text.now room at) }
+    ensures { GivesTree (type_left text.now) result (tree_at type_sort text.now room at) }
 {
     read_type_at(alloc, text, at, MAX_OPEN - room)
 }
@@ -124,7 +124,7 @@ pub(crate) fn type_at(alloc: Global, text: &[u8], at: usize, room: usize) -> Rea
 /// The last expression of a form, and the form's end.
 pub(crate) fn last_expr_at(alloc: Global, text: &Text<'_>, at: usize, room: usize) -> Read<Expr>
     requires { room ≤ 600 }
-    ensures { Gives (expression_left text.now.bytes.now) result
+    ensures { GivesTree (expression_left text.now.bytes.now) result
         (parts_read (e no_place) (λ c. c) text.now room at) }
 {
     let (expr, at) = expr_at(alloc, text.bytes, at, room)?;
@@ -148,7 +148,7 @@ fn leaf_form_at(
 
 /// The time of the form at or after byte `at`, and the byte behind it.
 fn time_at(text: &Text<'_>, at: usize, room: usize, form: Timer) -> Read<u64>
-    ensures { Gives (λ x. (x.0, x.1, from_byte x.1 text.now)) result
+    ensures { GivesTree (λ x. (x.0, x.1, from_byte x.1 text.now)) result
         (sort_at (time_sort (timer_of form)) text.now room at) }
 {
     read_natural(text.bytes, at, room, form.least(), form.greatest())
@@ -203,7 +203,7 @@ fn never_at(alloc: Global, text: &Text<'_>, at: usize, room: usize) -> ReadNet
 #[cycle(network)]
 fn child_at(alloc: Global, text: &Text<'_>, at: usize, room: usize) -> Read<Child>
     requires { room ≤ 600 }
-    ensures { Gives (child_left text.now) result (sort_at network_sort text.now room at) }
+    ensures { GivesTree (child_left text.now) result (sort_at network_sort text.now room at) }
 {
     let (net, at) = network_at(alloc, text, at, room)?;
     let child = NetChild::new(alloc, net)?;
@@ -214,7 +214,7 @@ fn child_at(alloc: Global, text: &Text<'_>, at: usize, room: usize) -> Read<Chil
 #[cycle(network)]
 fn last_child_at(alloc: Global, text: &Text<'_>, at: usize, room: usize) -> Read<Child>
     requires { room ≤ 600 }
-    ensures { Gives (child_left text.now) result
+    ensures { GivesTree (child_left text.now) result
         (parts_read (f no_place) (λ g. g) text.now room at) }
 {
     let (child, at) = child_at(alloc, text, at, room)?;
@@ -226,7 +226,7 @@ fn last_child_at(alloc: Global, text: &Text<'_>, at: usize, room: usize) -> Read
 #[cycle(network)]
 fn last_two_at(alloc: Global, text: &Text<'_>, at: usize, room: usize) -> Read<(Child, Child)>
     requires { room ≤ 600 }
-    ensures { Gives
+    ensures { GivesTree
         (λ x. (
           (map_network expression_of x.0.0, map_network expression_of x.0.1),
           x.1,
@@ -274,7 +274,7 @@ fn k_switch_at(alloc: Global, text: &Text<'_>, at: usize, room: usize) -> ReadNe
 #[cycle(network)]
 fn last_fed_at(alloc: Global, text: &Text<'_>, at: usize, room: usize) -> Read<(Expr, Child)>
     requires { room ≤ 600 }
-    ensures { Gives
+    ensures { GivesTree
         (λ x. (
           (expression_of x.0.0, map_network expression_of x.0.1),
           x.1,
@@ -338,7 +338,7 @@ fn last_three_at(
     room: usize,
 ) -> Read<(Members<Expr>, Child, Child)>
     requires { room ≤ 600 }
-    ensures { Gives
+    ensures { GivesTree
         (λ x. (
           (
             map_networks expression_of x.0.0,
@@ -360,7 +360,7 @@ fn last_three_at(
 #[cycle(network)]
 fn col_at(alloc: Global, text: &Text<'_>, at: usize, room: usize) -> Read<Members<Expr>>
     requires { room ≤ 600 }
-    ensures { Gives (members_left text.now) result (sort_at members_sort text.now room at) }
+    ensures { GivesTree (members_left text.now) result (sort_at members_sort text.now room at) }
 {
     match front_at(text.bytes, at, room)? {
         TreeFront::Form(start) => col_form_at(alloc, text, start + 1, room - 1),
@@ -372,7 +372,7 @@ fn col_at(alloc: Global, text: &Text<'_>, at: usize, room: usize) -> Read<Member
 #[cycle(network)]
 fn col_form_at(alloc: Global, text: &Text<'_>, at: usize, room: usize) -> Read<Members<Expr>>
     requires { room ≤ 600 }
-    ensures { Gives (members_left text.now) result (form_read members_sort text.now room at) }
+    ensures { GivesTree (members_left text.now) result (form_read members_sort text.now room at) }
 {
     let (start, end) = form_head(text.bytes, at, room)?;
     if word_is(&text.bytes[start..end], "col") {
@@ -386,7 +386,7 @@ fn col_form_at(alloc: Global, text: &Text<'_>, at: usize, room: usize) -> Read<M
 #[cycle(network)]
 fn members_at(alloc: Global, text: &Text<'_>, at: usize, room: usize) -> Read<Members<Expr>>
     requires { room ≤ 600 }
-    ensures { Gives (members_left text.now) result
+    ensures { GivesTree (members_left text.now) result
         (parts_read (places network_sort) networks_of text.now room at) }
 {
     let (all, end) = networks_at(alloc, text, at, room)?;
@@ -398,7 +398,7 @@ fn members_at(alloc: Global, text: &Text<'_>, at: usize, room: usize) -> Read<Me
 #[cycle(network)]
 fn networks_at(alloc: Global, text: &Text<'_>, at: usize, room: usize) -> Read<Vec<Net<Expr>>>
     requires { room ≤ 600 }
-    ensures { Gives (λ x. (map tree_of x.0.items, x.1, from_byte x.1 text.now)) result
+    ensures { GivesTree (λ x. (map tree_of x.0.items, x.1, from_byte x.1 text.now)) result
         (parts_read (places network_sort) (λ fs. fs) text.now room at) }
 {
     let mut all = Vec::new(alloc);

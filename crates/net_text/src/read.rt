@@ -1,7 +1,7 @@
 // Reading network files.
 
 ghost use Rattle.std.specs.Prelude.{◌≡◌, ◌<◌, Err, length, option_map, IfOk, IfErr};
-ghost use Rattle.leaf_expr.specs.{ReadText.Gives, Token.tokens, Token.tokens_from};
+ghost use Rattle.leaf_expr.specs.{ReadText.GivesTree, Token.tokens, Token.tokens_from};
 ghost use Rattle.leaf_core.specs.Expression.{Expression};
 ghost use Rattle.sample_core.specs.TypeTree.{TypeTree};
 ghost use Rattle.net_syntax.specs.{Network.Network, NetworkView.tree_of};
@@ -76,7 +76,7 @@ fn headed(alloc: Global, text: &[u8]) -> Result<(Ty, Net<Expr>), NetTextFault>
 
 /// A type and a network, and nothing behind them, at or after byte `at`.
 fn body_at(alloc: Global, text: &Text<'_>, at: usize) -> Result<(Ty, Net<Expr>), ExprTextFault>
-    ensures { Gives (λ x. (type_of x.0, tree_of x.1)) result
+    ensures { GivesTree (λ x. (type_of x.0, tree_of x.1)) result
         (read_body (length text.now.bytes.now) (version_of text.now.version)
         (from_byte at text.now)) }
 {
@@ -86,7 +86,7 @@ fn body_at(alloc: Global, text: &Text<'_>, at: usize) -> Result<(Ty, Net<Expr>),
 
 /// A network, and nothing behind it, at or after byte `at`.
 fn last_network(alloc: Global, text: &Text<'_>, at: usize) -> Result<Net<Expr>, ExprTextFault>
-    ensures { Gives tree_of result (last_network_at text.now at) }
+    ensures { GivesTree tree_of result (last_network_at text.now at) }
 {
     let (net, end) = network_at(alloc, text, at, MAX_OPEN)?;
     match token_at(text.bytes, end) {

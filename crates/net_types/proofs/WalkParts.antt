@@ -10,14 +10,14 @@ use Rattle.net_syntax.specs.Typing.{Arrow, arrow, members}
 use Rattle.net_syntax.specs.declared.net.Net.{Net}
 use Rattle.net_types.specs.declared.fault.TypeFault.{TypeFault}
 use Rattle.net_types.specs.Walk.{◌>>=◌, ◌>>◌, ◌↓◌, as_choice, as_event, as_pair, expect_same, one_output, test_members, within}
-use Rattle.net_types.specs.Check.{Gives, net_walk_all}
+use Rattle.net_types.specs.Check.{GivesTyped, net_walk_all}
 use Rattle.net_types.specs.Scopes.{InScope, and_olds, and_param}
 use Rattle.net_types.specs.WalkParts.{choice_walk, freezing_walk, leaf_walk, members_walk, next_walk, routed_walk, started_walk, walk_in, watch_walk}
 use Rattle.net_types.proofs.ScopeLists.{members_counted}
 
 -- an answer is given as it is written otherwise
-pub gives_as : {X Y : Type 0} (view : X → Y) (result : Result X TypeFault) {a b : Result Y TypeFault} → a ≡ b → Gives view result b → Gives view result a
-gives_as view result e g = subst (λ a. Gives view result a) (sym e) g
+pub gives_as : {X Y : Type 0} (view : X → Y) (result : Result X TypeFault) {a b : Result Y TypeFault} → a ≡ b → GivesTyped view result b → GivesTyped view result a
+gives_as view result e g = subst (λ a. GivesTyped view result a) (sym e) g
 
 -- what comes after a scope that is known
 watched : (w e : Result TypeTree TypeFault) (c : TypeTree → Result TypeTree TypeFault) (f : TypeTree → InScope) (k : InScope → Result TypeTree TypeFault)
@@ -41,7 +41,7 @@ freezing_as P k S inner A B n o e t h =
 pub freezing_gives : {X : Type 0} (view : X → TypeTree) (result : Result X TypeFault) (P Q : List ℕ) (k j m n : ℕ) (S inner after : InScope)
     (A B L : TypeTree) (o : Arrow) (e t : Network Expression) → L ≡ B → j ≡ k → m ≡ suc k → Q ≡ P
     → after ≡ and_olds inner n o → watch_walk (P ↓ j) S A L e ≡ Ok inner
-    → Gives view result (next_walk (Q ↓ m) after A L t) → Gives view result (freezing_walk P k S A B n o e t)
+    → GivesTyped view result (next_walk (Q ↓ m) after A L t) → GivesTyped view result (freezing_walk P k S A B n o e t)
 freezing_gives view result P Q k j m n S inner after A B L o e t l i g q a h d =
     gives_as view result (freezing_as P k S inner A B n o e t (rw (l, i) at h)) (rw (q, g, a, l) at d)
 
@@ -116,17 +116,17 @@ rp_switch_as P S A D M C fs m t h p e =
 pub rp_switch_gives : {X : Type 0} (view : X → TypeTree) (result : Result X TypeFault) (P : List ℕ) (S : InScope) (A D M C : TypeTree) (ms : Networks Expr)
     (xs : List (Net Expr)) (n : ℕ) (m : Expression) (t : Network Expression) → members_of xs ≡ ms → n ≡ length xs
     → test_members P (map_networks expression_of (members_of xs)) ≡ Ok tt → as_pair P A ≡ Ok (D, M) → as_event P M ≡ Ok C
-    → Gives view result (collection_walk P n S D C (map_networks expression_of (members_of xs)) m t)
-    → Gives view result (walk_in P S A (rp_switch (map_networks expression_of ms) m t))
+    → GivesTyped view result (collection_walk P n S D C (map_networks expression_of (members_of xs)) m t)
+    → GivesTyped view result (walk_in P S A (rp_switch (map_networks expression_of ms) m t))
 rp_switch_gives view result P S A D M C ms xs n m t i l h p e d =
-    subst (λ ns. Gives view result (walk_in P S A (rp_switch (map_networks expression_of ns) m t))) i
+    subst (λ ns. GivesTyped view result (walk_in P S A (rp_switch (map_networks expression_of ns) m t))) i
     (gives_as view result (rp_switch_as P S A D M C (map_networks expression_of (members_of xs)) m t h p e)
     (rw (l ∙ sym (members_counted xs)) at d))
 
 -- and that is what its continuation gives, or the fault of its choice
 pub collection_gives : {X : Type 0} (view : X → TypeTree) (result : Result X TypeFault) (P Q : List ℕ) (n j : ℕ) (S inner : InScope) (D C B : TypeTree)
     (fs : Networks Expression) (m : Expression) (t : Network Expression) → j ≡ suc n → Q ≡ P → members_walk P 0 S D fs ≡ Ok B
-    → choice_walk (Q ↓ n) S C m ≡ Ok inner → Gives view result (started_walk (Q ↓ j) inner D B t) → Gives view result (collection_walk P n S D C fs m t)
+    → choice_walk (Q ↓ n) S C m ≡ Ok inner → GivesTyped view result (started_walk (Q ↓ j) inner D B t) → GivesTyped view result (collection_walk P n S D C fs m t)
 collection_gives view result P Q n j S inner D C B fs m t i q w h d =
     gives_as view result (known _ w ∙ known (λ R. started_walk (P ↓ suc n) R D B t) (rw q at h)) (rw (i, q) at d)
 
@@ -142,9 +142,9 @@ collection_fails P n S D C fs m t x h = ap (λ r. r >>= (λ B. choice_walk (P �
 pub p_switch_gives : {X : Type 0} (view : X → TypeTree) (result : Result X TypeFault) (P Q : List ℕ) (S : InScope) (A : TypeTree) (r : Expression)
     (ms : Networks Expr) (xs : List (Net Expr)) (n : ℕ) (o : Arrow) (e t : Network Expression) → members_of xs ≡ ms → n ≡ length xs → Q ≡ P
     → test_members P (map_networks expression_of (members_of xs)) ≡ Ok tt → routed_walk P S A r (map_networks expression_of (members_of xs)) ≡ Ok o
-    → Gives view result (freezing_walk Q (suc n) S A (list_ty o.output) n o e t)
-    → Gives view result (walk_in P S A (p_switch r (map_networks expression_of ms) e t))
+    → GivesTyped view result (freezing_walk Q (suc n) S A (list_ty o.output) n o e t)
+    → GivesTyped view result (walk_in P S A (p_switch r (map_networks expression_of ms) e t))
 p_switch_gives view result P Q S A r ms xs n o e t m l q c h d =
-    subst (λ ns. Gives view result (walk_in P S A (p_switch r (map_networks expression_of ns) e t))) m
+    subst (λ ns. GivesTyped view result (walk_in P S A (p_switch r (map_networks expression_of ns) e t))) m
     (gives_as view result (p_switch_as P S A r (map_networks expression_of (members_of xs)) e t o c h)
     (rw (q, l ∙ sym (members_counted xs)) at d))

@@ -2,7 +2,7 @@
 
 ghost use Rattle.sample_core.specs.TypeView.{type_of};
 ghost use Rattle.net_syntax.specs.NetworkView.{tree_of};
-ghost use Rattle.net_types.specs.Check.{check, Gives};
+ghost use Rattle.net_types.specs.Check.{check, GivesTyped};
 
 use crate::fault::TypeFault;
 use crate::scope::ScopeTypes;
@@ -37,7 +37,7 @@ use std::alloc::Global;
 /// so many parts, shared ones counted each time, that no file could hold it and that it is too heavy
 /// where it is typed is `TooHeavy` before the walk. `Memory` where a growth was refused.
 pub fn check_types(alloc: Global, input: Ty, net: Net<Expr>) -> Result<TypedNet, TypeFault>
-    ensures { Gives (λ typed. typed) result (check (type_of input) (tree_of net)) }
+    ensures { GivesTyped (λ typed. typed) result (check (type_of input) (tree_of net)) }
 {
     if !type_fits(&input) {
         return Err(TypeFault::TooDeep);

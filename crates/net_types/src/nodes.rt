@@ -4,7 +4,7 @@ ghost use Rattle.std.specs.Prelude.{map};
 ghost use Rattle.sample_core.specs.{TypeTree.int_ty, TypeView.type_of};
 ghost use Rattle.leaf_core.specs.ExpressionView.{expression_of};
 ghost use Rattle.net_syntax.specs.{ArrowView.arrow_of, Network.accum_by, Network.delay, Network.i_pre, Network.old};
-ghost use Rattle.net_types.specs.{Walk.◌↓◌, Walk.expect_same, Walk.old_at, Check.Gives};
+ghost use Rattle.net_types.specs.{Walk.◌↓◌, Walk.expect_same, Walk.old_at, Check.GivesTyped};
 ghost use Rattle.net_types.specs.WalkParts.{leaf_walk, route_walk, step_walk, timer_walk, walk_in};
 
 use crate::fault::TypeFault;
@@ -31,7 +31,7 @@ pub(crate) fn leaf_type(
     input: &Ty,
     leaf: &Expr,
 ) -> Result<Ty, TypeFault>
-    ensures { Gives type_of result
+    ensures { GivesTyped type_of result
         (leaf_walk (path.now ↓ k) scope.now (type_of input.now) (expression_of leaf.now)) }
 {
     match type_of_expr(alloc, scope.params(), input, leaf) {
@@ -52,7 +52,7 @@ pub(crate) fn constant_type(
     input: &Ty,
     c: &Expr,
 ) -> Result<Ty, TypeFault>
-    ensures { Gives type_of result
+    ensures { GivesTyped type_of result
         (walk_in path.now scope.now (type_of input.now) (i_pre (expression_of c.now))) }
 {
     let first = leaf_type(alloc, path, 0, scope, &Ty::Unit, c)?;
@@ -68,7 +68,7 @@ pub(crate) fn delay_type(
     q: u64,
     c: &Expr,
 ) -> Result<Ty, TypeFault>
-    ensures { Gives type_of result
+    ensures { GivesTyped type_of result
         (walk_in path.now scope.now (type_of input.now) (delay q (expression_of c.now))) }
 {
     in_range(alloc, path, 1, MOST_DELAY, q)?;
@@ -84,7 +84,7 @@ pub(crate) fn accumulator_type(
     g: &Expr,
     z: &Expr,
 ) -> Result<Ty, TypeFault>
-    ensures { Gives type_of result
+    ensures { GivesTyped type_of result
         (walk_in path.now scope.now (type_of input.now)
         (accum_by (expression_of g.now) (expression_of z.now))) }
 {
@@ -104,7 +104,7 @@ fn step_type(
     accumulator: &Ty,
     g: &Expr,
 ) -> Result<Ty, TypeFault>
-    ensures { Gives type_of result
+    ensures { GivesTyped type_of result
         (step_walk path.now scope.now (type_of carried.now) (type_of accumulator.now)
         (expression_of g.now)) }
 {
@@ -125,7 +125,7 @@ pub(crate) fn timer_type(
     q: u64,
     c: &Expr,
 ) -> Result<Ty, TypeFault>
-    ensures { Gives type_of result
+    ensures { GivesTyped type_of result
         (timer_walk path.now scope.now low q (expression_of c.now)) }
 {
     in_range(alloc, path, low, MOST_WAIT, q)?;
@@ -135,7 +135,7 @@ pub(crate) fn timer_type(
 
 /// The output type of an `integral`, whose input is of that type too.
 pub(crate) fn integral_type(alloc: Global, path: &[u32], input: &Ty) -> Result<Ty, TypeFault>
-    ensures { Gives type_of result (expect_same path.now int_ty (type_of input.now)) }
+    ensures { GivesTyped type_of result (expect_same path.now int_ty (type_of input.now)) }
 {
     same_at(alloc, path, Site::Node, &Ty::Int, input)?;
     Ok(Ty::Int)
@@ -150,7 +150,7 @@ pub(crate) fn route_type(
     input: &Ty,
     r: &Expr,
 ) -> Result<Ty, TypeFault>
-    ensures { Gives type_of result
+    ensures { GivesTyped type_of result
         (route_walk path.now scope.now (type_of input.now) (expression_of r.now)) }
 {
     let numbered = pair_of(alloc, input, &Ty::Int)?;
@@ -167,7 +167,7 @@ pub(crate) fn old_type(
     input: &Ty,
     k: u32,
 ) -> Result<Ty, TypeFault>
-    ensures { Gives type_of result (walk_in path.now scope.now (type_of input.now) (old k)) }
+    ensures { GivesTyped type_of result (walk_in path.now scope.now (type_of input.now) (old k)) }
 {
     let types = frozen_at(alloc, path, scope.olds(), k)?;
     same_at(alloc, path, Site::Node, &types.input, input)?;
@@ -182,7 +182,7 @@ fn frozen_at<'a>(
     olds: &'a [Arrow],
     k: u32,
 ) -> Result<&'a Arrow, TypeFault>
-    ensures { Gives (λ types. arrow_of types.now) result
+    ensures { GivesTyped (λ types. arrow_of types.now) result
         (old_at path.now (map arrow_of olds.now) k) }
 {
     if let Some(types) = olds.get(k as usize) {

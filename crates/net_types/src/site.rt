@@ -5,7 +5,7 @@ ghost use Rattle.sample_core.specs.TypeView.{type_of};
 ghost use Rattle.net_syntax.specs.{Network.map_networks, NetworkView.members_of};
 ghost use Rattle.leaf_core.specs.ExpressionView.{expression_of};
 ghost use Rattle.net_types.specs.Walk.{all_same, as_choice, as_event, as_pair, expect_same, one_output, test_members, test_range};
-ghost use Rattle.net_types.specs.{Check.Gives, Sites.site_of};
+ghost use Rattle.net_types.specs.{Check.GivesTyped, Sites.site_of};
 ghost use Rattle.net_types.specs.declared.fault.TypeFault.TheVariants as Fault;
 
 use crate::fault::TypeFault;
@@ -42,7 +42,7 @@ pub(crate) fn same_at(
     wanted: &Ty,
     ty: &Ty,
 ) -> Result<(), TypeFault>
-    ensures { Gives (λ _. type_of wanted.now) result
+    ensures { GivesTyped (λ _. type_of wanted.now) result
         (expect_same (site_of path.now site) (type_of wanted.now) (type_of ty.now)) }
 {
     if same_type(wanted, ty) {
@@ -60,7 +60,7 @@ pub(crate) fn wanted_at(
     wanted: &Ty,
     ty: Ty,
 ) -> Result<Ty, TypeFault>
-    ensures { Gives type_of result
+    ensures { GivesTyped type_of result
         (expect_same (site_of path.now site) (type_of wanted.now) (type_of ty)) }
 {
     if same_type(wanted, &ty) {
@@ -78,7 +78,7 @@ pub(crate) fn pair_at<'a>(
     site: Site,
     ty: &'a Ty,
 ) -> Result<(&'a Ty, &'a Ty), TypeFault>
-    ensures { Gives (λ parts. (type_of parts.0.now, type_of parts.1.now)) result
+    ensures { GivesTyped (λ parts. (type_of parts.0.now, type_of parts.1.now)) result
         (as_pair (site_of path.now site) (type_of ty.now)) }
 {
     if let Ty::Pair(left, right) = ty {
@@ -95,7 +95,7 @@ pub(crate) fn event_at<'a>(
     site: Site,
     ty: &'a Ty,
 ) -> Result<&'a Ty, TypeFault>
-    ensures { Gives (λ carried. type_of carried.now) result
+    ensures { GivesTyped (λ carried. type_of carried.now) result
         (as_event (site_of path.now site) (type_of ty.now)) }
 {
     if let Ty::Event(carried) = ty {
@@ -113,7 +113,7 @@ pub(crate) fn choice_at<'a>(
     site: Site,
     ty: &'a Ty,
 ) -> Result<&'a Ty, TypeFault>
-    ensures { Gives (λ started. type_of started.now) result
+    ensures { GivesTyped (λ started. type_of started.now) result
         (as_choice (site_of path.now site) (type_of ty.now)) }
 {
     if let Some(started) = started_by(ty) {
@@ -149,7 +149,7 @@ pub(crate) fn in_range(
     high: u64,
     number: u64,
 ) -> Result<(), TypeFault>
-    ensures { Gives (λ _. tt) result (test_range path.now low high number) }
+    ensures { GivesTyped (λ _. tt) result (test_range path.now low high number) }
 {
     if low <= number && number <= high {
         return Ok(());
@@ -166,7 +166,7 @@ pub(crate) fn count_members(
 ) -> Result<u32, TypeFault>
     ensures counted { IfOk result (λ n. n ≡ length members.now) }
     ensures few { IfOk result (λ n. n ≤ 64) }
-    ensures answer { Gives (λ _. tt) result
+    ensures answer { GivesTyped (λ _. tt) result
         (test_members path.now (map_networks expression_of (members_of members.now))) }
 {
     let count = members.len();
@@ -186,7 +186,7 @@ pub(crate) fn one_type(
     outputs: &[Ty],
 ) -> Result<Ty, TypeFault>
     requires { first + length outputs.now ≤ 4294967295 }
-    ensures { Gives type_of result (one_output path.now first (map type_of outputs.now)) }
+    ensures { GivesTyped type_of result (one_output path.now first (map type_of outputs.now)) }
 {
     let Some((output, others)) = outputs.split_first() else {
         let position = Position::of_node(alloc, path)?;
@@ -207,7 +207,7 @@ fn all_same_at(
     outputs: &[Ty],
 ) -> Result<(), TypeFault>
     requires { first + length outputs.now ≤ 4294967295 }
-    ensures { Gives (λ _. type_of wanted.now) result
+    ensures { GivesTyped (λ _. type_of wanted.now) result
         (all_same path.now first (type_of wanted.now) (map type_of outputs.now)) }
 {
     let mut child = first;

@@ -2,7 +2,7 @@
 
 ghost use Rattle.std.specs.Prelude.{◌≡◌, IfOk, OnOk, map};
 ghost use Rattle.sample_core.specs.{TypeTree.event_ty, TypeTree.list_ty, TypeTree.pair_ty, TypeView.type_of};
-ghost use Rattle.net_types.specs.{Walk.within, Check.Gives};
+ghost use Rattle.net_types.specs.{Walk.within, Check.GivesTyped};
 
 use crate::fault::TypeFault;
 use leaf_core::type_fits;
@@ -11,7 +11,7 @@ use std::alloc::Global;
 
 /// The type, where it is within the limits; else `TooDeep`.
 fn limited(ty: Ty) -> Result<Ty, TypeFault>
-    ensures { Gives type_of result (within (type_of ty)) }
+    ensures { GivesTyped type_of result (within (type_of ty)) }
 {
     if type_fits(&ty) {
         return Ok(ty);
@@ -30,7 +30,7 @@ fn copied_part(alloc: Global, ty: &Ty) -> Result<TyChild, Memory>
 
 /// The type of pairs of the two; `TooDeep` over the limits.
 pub(crate) fn pair_of(alloc: Global, left: &Ty, right: &Ty) -> Result<Ty, TypeFault>
-    ensures { Gives type_of result (within (pair_ty (type_of left.now) (type_of right.now))) }
+    ensures { GivesTyped type_of result (within (pair_ty (type_of left.now) (type_of right.now))) }
 {
     let left = copied_part(alloc, left)?;
     let right = copied_part(alloc, right)?;
@@ -39,7 +39,7 @@ pub(crate) fn pair_of(alloc: Global, left: &Ty, right: &Ty) -> Result<Ty, TypeFa
 
 /// The type of events that carry the type; `TooDeep` over the limits.
 pub(crate) fn event_of(alloc: Global, carried: Ty) -> Result<Ty, TypeFault>
-    ensures { Gives type_of result (within (event_ty (type_of carried))) }
+    ensures { GivesTyped type_of result (within (event_ty (type_of carried))) }
 {
     let carried = TyChild::new(alloc, carried)?;
     limited(Ty::Event(carried))
@@ -55,7 +55,7 @@ pub(crate) fn list_of(alloc: Global, element: &Ty) -> Result<Ty, Memory>
 
 /// The type of lists of the type; `TooDeep` over the limits.
 pub(crate) fn limited_list_of(alloc: Global, element: &Ty) -> Result<Ty, TypeFault>
-    ensures { Gives type_of result (within (list_ty (type_of element.now))) }
+    ensures { GivesTyped type_of result (within (list_ty (type_of element.now))) }
 {
     let list = list_of(alloc, element)?;
     limited(list)

@@ -6,7 +6,7 @@ ghost use Rattle.leaf_core.specs.ExpressionView.{expression_of};
 ghost use Rattle.net_syntax.specs.ArrowView.{arrow_of};
 ghost use Rattle.net_syntax.specs.Network.{first as first_of, initial_in, initial_out, k_switch, loop_pre, map_network, map_networks, p_switch, par, r_switch, rp_switch, seq, switch};
 ghost use Rattle.net_syntax.specs.{NetworkView.members_of, NetworkView.tree_of, Typing.arrow};
-ghost use Rattle.net_types.specs.{Walk.◌↓◌, Check.Gives, Check.net_walk_all};
+ghost use Rattle.net_types.specs.{Walk.◌↓◌, Check.GivesTyped, Check.net_walk_all};
 ghost use Rattle.net_types.specs.WalkParts.{choice_walk, freezing_walk, loop_output, loop_walk, members_walk, next_walk, routed_walk, started_walk, switched_walk, under_choice, under_event, walk_in, watch_walk};
 
 use crate::fault::TypeFault;
@@ -34,7 +34,7 @@ pub(crate) fn walk(
     input: &Ty,
     net: &Net<Expr>,
 ) -> Result<Ty, TypeFault>
-    ensures answer { Gives type_of result
+    ensures answer { GivesTyped type_of result
         (walk_in path.old.items scope.now (type_of input.now) (tree_of net.now)) }
     ensures path { OnOk result (path.new.items ≡ path.old.items) }
 {
@@ -78,7 +78,7 @@ fn walk_both(
     f: &NetChild<Expr>,
     g: &NetChild<Expr>,
 ) -> Result<Ty, TypeFault>
-    ensures answer { Gives type_of result
+    ensures answer { GivesTyped type_of result
         (walk_in path.old.items scope.now (type_of input.now)
         (seq (map_network expression_of f.now) (map_network expression_of g.now))) }
     ensures path { OnOk result (path.new.items ≡ path.old.items) }
@@ -98,7 +98,7 @@ fn walk_first(
     input: &Ty,
     f: &NetChild<Expr>,
 ) -> Result<Ty, TypeFault>
-    ensures answer { Gives type_of result
+    ensures answer { GivesTyped type_of result
         (walk_in path.old.items scope.now (type_of input.now)
         (first_of (map_network expression_of f.now))) }
     ensures path { OnOk result (path.new.items ≡ path.old.items) }
@@ -119,7 +119,7 @@ fn walk_par(
     input: &Ty,
     fs: &Members<Expr>,
 ) -> Result<Ty, TypeFault>
-    ensures answer { Gives type_of result
+    ensures answer { GivesTyped type_of result
         (walk_in path.old.items scope.now (type_of input.now)
         (par (map_networks expression_of fs.now))) }
     ensures path { OnOk result (path.new.items ≡ path.old.items) }
@@ -142,7 +142,7 @@ fn walk_loop(
     c: &Expr,
     f: &NetChild<Expr>,
 ) -> Result<Ty, TypeFault>
-    ensures answer { Gives type_of result
+    ensures answer { GivesTyped type_of result
         (walk_in path.old.items scope.now (type_of input.now)
         (loop_pre (expression_of c.now) (map_network expression_of f.now))) }
     ensures path { OnOk result (path.new.items ≡ path.old.items) }
@@ -163,7 +163,7 @@ fn walk_fed_back(
     back: &Ty,
     f: &NetChild<Expr>,
 ) -> Result<Ty, TypeFault>
-    ensures answer { Gives type_of result
+    ensures answer { GivesTyped type_of result
         (loop_walk path.old.items scope.now (type_of input.now) (type_of back.now)
         (map_network expression_of f.now)) }
     ensures path { OnOk result (path.new.items ≡ path.old.items) }
@@ -180,7 +180,7 @@ fn walk_fed_back(
 /// The output type of a loop whose network outputs what was found, where its second part is of
 /// the type that is fed back.
 fn loop_output(alloc: Global, path: &[u32], back: &Ty, found: &Ty) -> Result<Ty, TypeFault>
-    ensures { Gives type_of result
+    ensures { GivesTyped type_of result
         (loop_output path.now (type_of back.now) (type_of found.now)) }
 {
     let (output, second) = pair_at(alloc, path, Site::Child(1), found)?;
@@ -199,7 +199,7 @@ fn walk_initial_out(
     c: &Expr,
     f: &NetChild<Expr>,
 ) -> Result<Ty, TypeFault>
-    ensures answer { Gives type_of result
+    ensures answer { GivesTyped type_of result
         (walk_in path.old.items scope.now (type_of input.now)
         (initial_out (expression_of c.now) (map_network expression_of f.now))) }
     ensures path { OnOk result (path.new.items ≡ path.old.items) }
@@ -228,7 +228,7 @@ fn walk_initial_in(
     c: &Expr,
     f: &NetChild<Expr>,
 ) -> Result<Ty, TypeFault>
-    ensures answer { Gives type_of result
+    ensures answer { GivesTyped type_of result
         (walk_in path.old.items scope.now (type_of input.now)
         (initial_in (expression_of c.now) (map_network expression_of f.now))) }
     ensures path { OnOk result (path.new.items ≡ path.old.items) }
@@ -250,7 +250,7 @@ fn walk_switch(
     f: &NetChild<Expr>,
     t: &NetChild<Expr>,
 ) -> Result<Ty, TypeFault>
-    ensures answer { Gives type_of result
+    ensures answer { GivesTyped type_of result
         (walk_in path.old.items scope.now (type_of input.now)
         (switch (map_network expression_of f.now) (map_network expression_of t.now))) }
     ensures path { OnOk result (path.new.items ≡ path.old.items) }
@@ -271,7 +271,7 @@ fn walk_switched(
     found: &Ty,
     t: &NetChild<Expr>,
 ) -> Result<Ty, TypeFault>
-    ensures answer { Gives type_of result
+    ensures answer { GivesTyped type_of result
         (switched_walk path.old.items scope.now (type_of input.now) (type_of found.now)
         (map_network expression_of t.now)) }
     ensures path { OnOk result (path.new.items ≡ path.old.items) }
@@ -292,7 +292,7 @@ fn walk_r_switch(
     f: &NetChild<Expr>,
     t: &NetChild<Expr>,
 ) -> Result<Ty, TypeFault>
-    ensures answer { Gives type_of result
+    ensures answer { GivesTyped type_of result
         (walk_in path.old.items scope.now (type_of input.now)
         (r_switch (map_network expression_of f.now) (map_network expression_of t.now))) }
     ensures path { OnOk result (path.new.items ≡ path.old.items) }
@@ -317,7 +317,7 @@ fn walk_k_switch(
     e: &NetChild<Expr>,
     t: &NetChild<Expr>,
 ) -> Result<Ty, TypeFault>
-    ensures answer { Gives type_of result
+    ensures answer { GivesTyped type_of result
         (walk_in path.old.items scope.now (type_of input.now)
         (k_switch (map_network expression_of f.now) (map_network expression_of e.now)
         (map_network expression_of t.now))) }
@@ -340,7 +340,7 @@ fn walk_frozen(
     e: &NetChild<Expr>,
     t: &NetChild<Expr>,
 ) -> Result<Ty, TypeFault>
-    ensures answer { Gives type_of result
+    ensures answer { GivesTyped type_of result
         (freezing_walk path.old.items 1 scope.now (type_of input.now) (type_of output.now) 1
         (arrow (type_of input.now) (type_of output.now)) (map_network expression_of e.now)
         (map_network expression_of t.now)) }
@@ -366,7 +366,7 @@ fn walk_event(
     output: &Ty,
     e: &NetChild<Expr>,
 ) -> Result<ScopeTypes, TypeFault>
-    ensures answer { Gives (λ inner. inner) result
+    ensures answer { GivesTyped (λ inner. inner) result
         (watch_walk (path.old.items ↓ k) scope.now (type_of input.now) (type_of output.now)
         (map_network expression_of e.now)) }
     ensures path { OnOk result (path.new.items ≡ path.old.items) }
@@ -388,7 +388,7 @@ fn scope_under(
     scope: &ScopeTypes,
     event: &Ty,
 ) -> Result<ScopeTypes, TypeFault>
-    ensures { Gives (λ inner. inner) result
+    ensures { GivesTyped (λ inner. inner) result
         (under_event (path.now ↓ k) scope.now (type_of event.now)) }
 {
     let carried = event_at(alloc, path, Site::Child(k), event)?;
@@ -409,7 +409,7 @@ fn walk_p_switch(
     e: &NetChild<Expr>,
     t: &NetChild<Expr>,
 ) -> Result<Ty, TypeFault>
-    ensures answer { Gives type_of result
+    ensures answer { GivesTyped type_of result
         (walk_in path.old.items scope.now (type_of input.now)
         (p_switch (expression_of r.now) (map_networks expression_of fs.now)
         (map_network expression_of e.now) (map_network expression_of t.now))) }
@@ -434,7 +434,7 @@ fn walk_routed(
     members: &[Net<Expr>],
 ) -> Result<Arrow, TypeFault>
     requires { length members.now ≤ 64 }
-    ensures answer { Gives arrow_of result
+    ensures answer { GivesTyped arrow_of result
         (routed_walk path.old.items scope.now (type_of input.now) (expression_of r.now)
         (map_networks expression_of (members_of members.now))) }
     ensures path { OnOk result (path.new.items ≡ path.old.items) }
@@ -458,7 +458,7 @@ fn walk_gathered(
     t: &NetChild<Expr>,
 ) -> Result<Ty, TypeFault>
     requires { count ≤ 64 }
-    ensures answer { Gives type_of result
+    ensures answer { GivesTyped type_of result
         (freezing_walk path.old.items (suc count) scope.now (type_of input.now)
         (list_ty (type_of types.now.output)) count (arrow_of types.now)
         (map_network expression_of e.now)
@@ -483,7 +483,7 @@ fn walk_rp_switch(
     m: &Expr,
     t: &NetChild<Expr>,
 ) -> Result<Ty, TypeFault>
-    ensures answer { Gives type_of result
+    ensures answer { GivesTyped type_of result
         (walk_in path.old.items scope.now (type_of input.now)
         (rp_switch (map_networks expression_of fs.now) (expression_of m.now)
         (map_network expression_of t.now))) }
@@ -517,7 +517,7 @@ fn scope_started(
     carried: &Ty,
     m: &Expr,
 ) -> Result<ScopeTypes, TypeFault>
-    ensures { Gives (λ inner. inner) result
+    ensures { GivesTyped (λ inner. inner) result
         (choice_walk (path.now ↓ k) scope.now (type_of carried.now) (expression_of m.now)) }
 {
     let choice = leaf_type(alloc, path, k, scope, carried, m)?;
@@ -534,7 +534,7 @@ fn scope_chosen(
     scope: &ScopeTypes,
     choice: &Ty,
 ) -> Result<ScopeTypes, TypeFault>
-    ensures { Gives (λ inner. inner) result
+    ensures { GivesTyped (λ inner. inner) result
         (under_choice (path.now ↓ k) scope.now (type_of choice.now)) }
 {
     let started = choice_at(alloc, path, Site::Child(k), choice)?;
@@ -554,7 +554,7 @@ fn walk_started(
     output: &Ty,
     t: &NetChild<Expr>,
 ) -> Result<Ty, TypeFault>
-    ensures answer { Gives type_of result
+    ensures answer { GivesTyped type_of result
         (started_walk (path.old.items ↓ k) scope.now (type_of input.now) (type_of output.now)
         (map_network expression_of t.now)) }
     ensures path { OnOk result (path.new.items ≡ path.old.items) }
@@ -576,7 +576,7 @@ fn members_type(
     members: &[Net<Expr>],
 ) -> Result<Ty, TypeFault>
     requires { first + length members.now ≤ 65 }
-    ensures answer { Gives type_of result
+    ensures answer { GivesTyped type_of result
         (members_walk path.old.items first scope.now (type_of input.now)
         (map_networks expression_of (members_of members.now))) }
     ensures path { OnOk result (path.new.items ≡ path.old.items) }
@@ -599,7 +599,7 @@ fn walk_members(
     outputs: &mut Vec<Ty>,
 ) -> Result<(), TypeFault>
     requires { first + length members.now ≤ 65 }
-    ensures answer { Gives (λ _. map type_of outputs.new.items) result
+    ensures answer { GivesTyped (λ _. map type_of outputs.new.items) result
         (on_ok (net_walk_all path.old.items first scope.now.params scope.now.olds
         (type_of input.now) (map_networks expression_of (members_of members.now)))
         (λ Bs. Ok (map type_of outputs.old.items ++ Bs))) }
@@ -627,7 +627,7 @@ fn walk_next(
     wanted: &Ty,
     t: &NetChild<Expr>,
 ) -> Result<Ty, TypeFault>
-    ensures answer { Gives type_of result
+    ensures answer { GivesTyped type_of result
         (next_walk (path.old.items ↓ k) scope.now (type_of input.now) (type_of wanted.now)
         (map_network expression_of t.now)) }
     ensures path { OnOk result (path.new.items ≡ path.old.items) }
@@ -646,7 +646,7 @@ fn walk_child(
     input: &Ty,
     child: &NetChild<Expr>,
 ) -> Result<Ty, TypeFault>
-    ensures answer { Gives type_of result
+    ensures answer { GivesTyped type_of result
         (walk_in (path.old.items ↓ k) scope.now (type_of input.now)
         (map_network expression_of child.now)) }
     ensures path { OnOk result (path.new.items ≡ path.old.items) }
@@ -664,7 +664,7 @@ fn walk_at(
     input: &Ty,
     net: &Net<Expr>,
 ) -> Result<Ty, TypeFault>
-    ensures answer { Gives type_of result
+    ensures answer { GivesTyped type_of result
         (walk_in (path.old.items ↓ k) scope.now (type_of input.now) (tree_of net.now)) }
     ensures path { OnOk result (path.new.items ≡ path.old.items) }
 {

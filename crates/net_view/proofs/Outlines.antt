@@ -4,7 +4,7 @@ use Rattle.std.specs.List.{All}
 use Rattle.std.proofs.lemmas.List.{map-append, take_more, take_all}
 use Rattle.std.proofs.lemmas.List.Elements.{All-push}
 use Rattle.net_syntax.specs.TypedNetwork.{TypedNetwork}
-use Rattle.net_view.specs.Listed.{IsThere, IsWithin, ArePositions}
+use Rattle.net_view.specs.Listed.{IsThere, IsAtOrBelow, ArePositions}
 use Rattle.net_view.specs.Rows.{Row, row_of, IsRow, IsOutline}
 use Rattle.net_view.specs.declared.rows.OutlineRow.{OutlineRow}
 
@@ -16,7 +16,7 @@ positions_of rows = map (λ r. r.position) (map row_of rows)
 pub there_item : (t : TypedNetwork) (p : List ℕ) (ps items : List (List ℕ)) (i : ℕ) (q : List ℕ) → ArePositions t p ps → items ≡ ps → i < length items
     → q ≡ get_or items i q → IsThere t q
 there_item t p ps items i q all e lt is =
-    let each : All (λ z. IsWithin p z × IsThere t z) items = subst (All (λ z. IsWithin p z × IsThere t z)) (sym e) all.each in
+    let each : All (λ z. IsAtOrBelow p z × IsThere t z) items = subst (All (λ z. IsAtOrBelow p z × IsThere t z)) (sym e) all.each in
     subst (IsThere t) (sym is) (each i q lt).1
 
 -- a row more

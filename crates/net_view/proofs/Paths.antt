@@ -14,7 +14,7 @@ use Rattle.net_syntax.specs.NetworkLimits.{WithinLimits}
 use Rattle.net_opt.specs.Order.{Before, on_the_way, before_at, before_below}
 use Rattle.net_opt.specs.Walk.{Reached}
 use Rattle.net_opt.proofs.Walked.{placed_below, placed_here, none_inside, nothing_behind, reached_root, reached_inside}
-use Rattle.net_view.specs.Listed.{IsThere, IsWithin, ArePositions, IsInside, AddsPositions, IsReached}
+use Rattle.net_view.specs.Listed.{IsThere, IsAtOrBelow, ArePositions, IsInside, AddsPositions, IsReached}
 use Rattle.net_view.proofs.Listings.{lists_none, lists_one, lists_same, lists_joined, lists_mapped}
 
 -- something is there or not
@@ -192,11 +192,11 @@ order_behind : (p a b : List ℕ) → Before a b → Before (p ++ a) (p ++ b)
 order_behind [] a b h = h
 order_behind (k ∷ p) a b h = before_below (order_behind p a b h)
 
-within_there : (t : TypedNetwork) (p q : List ℕ) (c : Placed) → placed_at 0 0 (a_network t.net) p ≡ Some c → IsInside c q → IsWithin p (p ++ q) × IsThere t (p ++ q)
+within_there : (t : TypedNetwork) (p q : List ℕ) (c : Placed) → placed_at 0 0 (a_network t.net) p ≡ Some c → IsInside c q → IsAtOrBelow p (p ++ q) × IsThere t (p ++ q)
 within_there t p q c h i =
     ((q, refl), there_as_tree (placed_at 0 0 (a_network t.net) (p ++ q)) (subst (λ o. IsSome o) (sym (placed_below p q c 0 0 (a_network t.net) h)) i))
 
-there_inside : (t : TypedNetwork) (p : List ℕ) (c : Placed) (q : List ℕ) → placed_at 0 0 (a_network t.net) p ≡ Some c → IsWithin p q × IsThere t q
+there_inside : (t : TypedNetwork) (p : List ℕ) (c : Placed) (q : List ℕ) → placed_at 0 0 (a_network t.net) p ≡ Some c → IsAtOrBelow p q × IsThere t q
     → (rest : List ℕ) × IsInside c rest × (p ++ rest ≡ q)
 there_inside t p c q h w =
     let there : IsThere t (p ++ w.0.0) = subst (IsThere t) w.0.1 w.1 in (
@@ -210,13 +210,13 @@ all_positions : (t : TypedNetwork) (p : List ℕ) (c : Placed) (before now : Lis
 all_positions t p c before now none h x =
     let e : now ≡ map (λ q. p ++ q) x.paths = x.added ∙ ap (λ z. z ++ map (λ q. p ++ q) x.paths) none in
     subst (ArePositions t p) (sym e)
-    (lists_mapped Before Before (IsInside c) (λ q. IsWithin p q × IsThere t q) (λ q. p ++ q) (order_behind p) (λ q. within_there t p q c h) (λ q. there_inside t p c q h)
+    (lists_mapped Before Before (IsInside c) (λ q. IsAtOrBelow p q × IsThere t q) (λ q. p ++ q) (order_behind p) (λ q. within_there t p q c h) (λ q. there_inside t p c q h)
     x.paths x.listed)
 
 pub no_positions : (t : TypedNetwork) (p : List ℕ) (now : List (List ℕ)) → now ≡ [] → placed_at 0 0 (a_network t.net) p ≡ None → ArePositions t p now
 no_positions t p now none h =
     subst (ArePositions t p) (sym none)
-    (lists_none Before (λ q. IsWithin p q × IsThere t q)
+    (lists_none Before (λ q. IsAtOrBelow p q × IsThere t q)
     (λ q w. none_there (placed_at 0 0 (a_network t.net) (p ++ w.0.0)) (none_below p w.0.0 0 0 (a_network t.net) h)
     (there_as_place (placed_at 0 0 (a_network t.net) (p ++ w.0.0)) (subst (IsThere t) w.0.1 w.1))))
 

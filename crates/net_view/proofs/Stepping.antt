@@ -30,7 +30,7 @@ use Rattle.net_opt.proofs.Tried.{refused_net, refused_leaf}
 use Rattle.net_opt.specs.Order.{Before}
 use Rattle.net_opt.specs.Optimising.{forward_step, NoStepBy}
 use Rattle.net_text.specs.CertificatePrinting.{IsLaw}
-use Rattle.net_view.specs.Listed.{IsThere, IsWithin, InOrder, Lists, ArePositions}
+use Rattle.net_view.specs.Listed.{IsThere, IsAtOrBelow, InOrder, Lists, ArePositions}
 use Rattle.net_view.specs.Possible.{Possible, IsForward, IsFoundBy, IsTreeAfter, possible_of, MayBeTaken, law_rank, EarlierStep, earlier_position, earlier_law, IsPossible, ListsSteps, ArePossible, ArePossibleAt}
 use Rattle.net_view.specs.declared.possible.PossibleStep.{PossibleStep}
 use Rattle.net_view.proofs.Listings.{order_split, order_taken, lists_none, lists_one, lists_same, lists_joined}
@@ -191,8 +191,8 @@ there_at t s may = subst (λ (o : Option Placed). IsSome (option_map (λ c. c.tr
 
 pub all_possible : (t : TypedNetwork) (p : List ℕ) (ps : List (List ℕ)) (xs : List Possible) → ArePositions t p ps → ListsSteps t (AtPositions t ps) xs → ArePossible t p xs
 all_possible t p ps xs all h = record {
-  all = lists_same EarlierStep (AtPositions t ps) (λ s. MayBeTaken t s × IsWithin p s.position)
-      (λ s b. (b.0, (All-contains (λ q. IsWithin p q × IsThere t q) ps s.position all.each b.1).0))
+  all = lists_same EarlierStep (AtPositions t ps) (λ s. MayBeTaken t s × IsAtOrBelow p s.position)
+      (λ s b. (b.0, (All-contains (λ q. IsAtOrBelow p q × IsThere t q) ps s.position all.each b.1).0))
       (λ s b. (b.0, all.every s.position (b.1, there_at t s b.0))) (steps_in xs) h.all;
   each = h.each;
 }

@@ -20,7 +20,7 @@ use Rattle.cert_check.proofs.Taken.{split, one_more}
 use Rattle.net_view.specs.declared.trace.Change.{Change}
 use Rattle.net_view.specs.declared.trace.StepTrace.{StepTrace}
 use Rattle.net_view.specs.declared.trace.StepTrace.TheVariants.{Taken, Refused}
-use Rattle.net_view.specs.Trace.{IsLed, IsRefusedSo, IsStepTrace, Changed, Stopped, changed_of, Changes, AreChanges, no_change, change_then, StopsAt, TakenBefore}
+use Rattle.net_view.specs.Trace.{IsLedTo, IsRefusedSo, IsStepTrace, Changed, Stopped, changed_of, Changes, AreChanges, no_change, change_then, StopsAt, TakenBefore}
 
 -- one change more
 changes_more : (t u v : TypedNetwork) (ss : List Step) (s : Step) (cs : List Changed) (c : Changed) → AreChanges t ss cs u → Changes u s c v
@@ -68,13 +68,13 @@ stops_so t u s n fault (Ok (Refused stop)) why e h = record {
   why = subst (StepFault t s n) (sym h.0) why;
   refused = λ m. h.1 (sym h.0 ∙ m);
   there = h.2 ∙ ap (λ z. tree_at z s.position) e;
-  led = subst (λ z. IsLed z s (option_map part_of stop.led)) e h.3;
+  led = subst (λ z. IsLedTo z s (option_map part_of stop.led)) e h.3;
 }
 
 -- what the law leads to from the tree that the step gives
 pub led_by : (t : TypedNetwork) (s : Step) (p : Placed) (g : Tree Expression) (r : Result (Option C.Tree) Memory)
     → placed_at 0 0 (a_network t.net) s.position ≡ Some p → s.given ≡ Some g → IfOk r (IsTreeAnswer p.olds s.law Forward g None)
-    → IfOk r (λ led. IsLed t s (option_map part_of led))
+    → IfOk r (λ led. IsLedTo t s (option_map part_of led))
 led_by t s p g (Err m) i j h = tt
 led_by t s p g (Ok (Some new)) i j h = record { place = p; found = i; given = g; gives = j; answered = h }
 led_by t s p g (Ok None) i j h = λ new l.

@@ -12,8 +12,8 @@ abbrev pub IsThere : TypedNetwork → List ℕ → Type 0
 IsThere t p = IsSome (tree_at t p)
 
 -- the second position is the first one, or leads on from it
-abbrev pub IsWithin : List ℕ → List ℕ → Type 0
-IsWithin p q = (rest : List ℕ) × (q ≡ p ++ rest)
+abbrev pub IsAtOrBelow : List ℕ → List ℕ → Type 0
+IsAtOrBelow p q = (rest : List ℕ) × (q ≡ p ++ rest)
 
 -- each comes so before all behind it
 abbrev pub InOrder : {A : Type 0} → (A → A → Type 0) → List A → Type 0
@@ -29,7 +29,7 @@ pub record Lists {A : Type 0} (Earlier : A → A → Type 0) (So : A → Type 0)
 
 -- the positions at or below p at which something stands, in preorder
 abbrev pub ArePositions : TypedNetwork → List ℕ → List (List ℕ) → Type 0
-ArePositions t p ps = Lists Before (λ q. IsWithin p q × IsThere t q) ps
+ArePositions t p ps = Lists Before (λ q. IsAtOrBelow p q × IsThere t q) ps
 
 -- something stands at the path below a place
 abbrev pub IsInside : Placed → List ℕ → Type 0

@@ -11,7 +11,7 @@ use Rattle.net_syntax.specs.declared.law_step.Direction.TheVariants.{Forward}
 use Rattle.cert_check.specs.Derives.{Next, tree_at}
 use Rattle.net_opt.specs.Optimising.{NoStepBy, forward_step}
 use Rattle.net_opt.specs.Order.{Before}
-use Rattle.net_view.specs.Listed.{IsWithin, Lists}
+use Rattle.net_view.specs.Listed.{IsAtOrBelow, Lists}
 use Rattle.net_view.specs.declared.possible.PossibleStep.{PossibleStep}
 
 -- a step, and what stands at its position once it is taken
@@ -67,7 +67,7 @@ pub record ListsSteps (t : TypedNetwork) (So : Step → Type 0) (xs : List Possi
 
 -- all steps at or below p that may be taken, by the positions in preorder and there by the laws
 abbrev pub ArePossible : TypedNetwork → List ℕ → List Possible → Type 0
-ArePossible t p xs = ListsSteps t (λ s. MayBeTaken t s × IsWithin p s.position) xs
+ArePossible t p xs = ListsSteps t (λ s. MayBeTaken t s × IsAtOrBelow p s.position) xs
 
 -- the same at p itself
 abbrev pub ArePossibleAt : TypedNetwork → List ℕ → List Possible → Type 0

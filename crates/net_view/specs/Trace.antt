@@ -65,15 +65,15 @@ pub record LeadsTo (t : TypedNetwork) (s : Step) (new : Tree Expression) : Type 
   pub answered : TreeAnswer place.olds s.law Forward given None new
 
 -- it leads to this, or to nothing
-abbrev pub IsLed : TypedNetwork → Step → Option (Tree Expression) → Type 0
-IsLed t s led = MatchOption led ((new : Tree Expression) → LeadsTo t s new → ⊥) (LeadsTo t s)
+abbrev pub IsLedTo : TypedNetwork → Step → Option (Tree Expression) → Type 0
+IsLedTo t s led = MatchOption led ((new : Tree Expression) → LeadsTo t s new → ⊥) (LeadsTo t s)
 
 -- step n doesn't lead on from t, for that reason; so much is told of it
 pub record StopsAt (t : TypedNetwork) (s : Step) (n : ℕ) (stop : Stopped) : Type 0 where
   pub why : StepFault t s n stop.fault
   pub refused : stop.fault ≢ Memory
   pub there : stop.there ≡ tree_at t s.position
-  pub led : IsLed t s stop.led
+  pub led : IsLedTo t s stop.led
 
 -- all steps are taken
 pub record AllTaken (t : TypedNetwork) (ss : List Step) (cs : List Changed) : Type 0 where
@@ -119,4 +119,4 @@ IsRefusedSo t s fault (Taken change) = ⊥
 IsRefusedSo t s fault (Refused stop) =
     (stop.fault ≡ fault) × (fault ≢ Memory)
     × (option_map part_of stop.there ≡ tree_at t s.position)
-    × IsLed t s (option_map part_of stop.led)
+    × IsLedTo t s (option_map part_of stop.led)

@@ -3,7 +3,7 @@
 ghost use Rattle.std.specs.Prelude.{◌≡◌, ◌≤◌, length, map, option_map, IfOk};
 ghost use Rattle.net_syntax.specs.{ChildParts.seen, LawStep.part_of, LawStep.step_of};
 ghost use Rattle.cert_check.specs.Derives.{tree_at};
-ghost use Rattle.net_view.specs.Trace.{IsLed, IsRefusedSo, IsStepTrace, TraceAnswer, TracesSteps, first_steps};
+ghost use Rattle.net_view.specs.Trace.{IsLedTo, IsRefusedSo, IsStepTrace, TraceAnswer, TracesSteps, first_steps};
 
 use crate::positions::tree_at;
 use cert_check::{CheckFault, MOST_STEPS, answer_at, place_in, take_step};
@@ -147,7 +147,7 @@ fn refused(
 
 /// What the step's law leads to, forward, from the tree that the step gives.
 fn led_by(alloc: Global, net: &TypedNet, step: &LawStep) -> Result<Option<Tree>, Memory>
-    ensures { IfOk result (λ led. IsLed net.now (step_of step.now) (option_map part_of led)) }
+    ensures { IfOk result (λ led. IsLedTo net.now (step_of step.now) (option_map part_of led)) }
 {
     let Some(place) = place_in(net, &step.position) else {
         return Ok(None);

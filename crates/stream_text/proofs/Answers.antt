@@ -12,7 +12,7 @@ use Rattle.sample_core.specs.TypeTree.{TypeTree}
 use Rattle.sample_core.specs.ValueView.{datum_of}
 use Rattle.sample_core.specs.declared.sample.Sample.{Sample}
 use Rattle.stream_text.specs.Calls.{MayTakeNext, step_of}
-use Rattle.stream_text.specs.Answers.{ReaderState, SameLast, TakesLine, TakesSample, TakesNext, KnownLine, ended, shown, last, FaultyLine, known_bytes, Unfinished, HasFault, IsAnswer, GivesAnswer, GivesStep}
+use Rattle.stream_text.specs.Answers.{ReaderState, SameLast, TakesLine, AnswersSample, TakesNext, KnownLine, ended, shown, last, FaultyLine, known_bytes, Unfinished, HasFault, IsAnswer, GivesAnswer, GivesStep}
 use Rattle.stream_text.specs.LineAhead.{IsAhead}
 use Rattle.stream_text.specs.LineTaken.{TakesKept, TakesLast}
 use Rattle.stream_text.specs.Pieces.{ReadPieces}
@@ -114,7 +114,7 @@ line_given A s s' has has' n kept' reads size (Ok (Some x)) e m h t =
     let settled : SettlesLine (suc s.lines) kept' size = subst (λ k. SettlesLine k kept' size) e h.tells in
     let line : HasLine kept' (take size kept') (drop (size + 1) kept') = ended_line A (suc s.lines) s.before kept' size (sample_view x) settled t.0 in
     given A s s' has has' n kept' reads (Ok (T.Line size)) (Ok (Some x)) e m h t.1.unread
-    (subst (λ bytes. TakesSample A (IsAtEnd has') s bytes (sample_view x) s') h.keeps (record {
+    (subst (λ bytes. AnswersSample A (IsAtEnd has') s bytes (sample_view x) s') h.keeps (record {
       goes_on = m;
       line = take size kept';
       takes = taken (IsAtEnd has') kept' (take size kept') (drop (size + 1) kept') s'.kept M.Nothing s'.met t.1.kept (t.1.met ∙ m) line;
@@ -144,7 +144,7 @@ last_given A s s' has has' n kept' reads (Ok None) e m h t =
 last_given A s s' has has' n kept' reads (Ok (Some x)) e m h t =
     let all : take (length kept') kept' ≡ kept' = take_all kept' (length kept') refl in
     given A s s' has has' n kept' reads (Ok T.Last) (Ok (Some x)) e m h t.1.1.unread
-    (subst (λ bytes. TakesSample A (IsAtEnd has') s bytes (sample_view x) s') h.keeps (record {
+    (subst (λ bytes. AnswersSample A (IsAtEnd has') s bytes (sample_view x) s') h.keeps (record {
       goes_on = m;
       line = kept';
       takes = taken (IsAtEnd has') kept' kept' [] s'.kept M.End s'.met (t.1.1.kept ∙ drop_all kept' (length kept') refl) t.1.1.met
@@ -241,7 +241,7 @@ next_given A s s' has d y e h = record {
   asks = tt;
   ended = λ f. refl;
   counts = let r : s'.reads ≡ s.reads = h.unread in omega (arith, r);
-  gives = subst (λ bytes. TakesSample A (IsAtEnd has) s bytes (d, datum_of y) s') (sym (append-nil s.kept)) (record {
+  gives = subst (λ bytes. AnswersSample A (IsAtEnd has) s bytes (d, datum_of y) s') (sym (append-nil s.kept)) (record {
     goes_on = h.takes.goes_on;
     line = h.takes.line;
     takes = wider s'.met h.takes.takes;
@@ -274,7 +274,7 @@ last_answered A s s' has has' d y z h e =
       asks = h.asks;
       ended = h.ended;
       counts = h.counts;
-      gives = subst (λ v. TakesSample A (IsAtEnd has') s (known_bytes s h.pieces) (d, v) s') same h.gives;
+      gives = subst (λ v. AnswersSample A (IsAtEnd has') s (known_bytes s h.pieces) (d, v) s') same h.gives;
     }
 
 -- its step is in range

@@ -6,7 +6,7 @@ use Rattle.sample_core.specs.Datum.{Datum}
 use Rattle.sample_core.specs.TypeTree.{TypeTree}
 use Rattle.sample_core.specs.declared.sample.Sample.{Sample}
 use Rattle.stream_text.specs.Answers.{ReaderState, IsFresh, TakesLine, KnownLine, ended, shown, last, FaultyLine, known_bytes, Unfinished, HasFault, GivesAnswer}
-use Rattle.stream_text.specs.Hearing.{HoldsOfText, then_held, HoldSamples, IsWithin, Tells, Heard, HeardAll, HeardSo, HeardFront, BeginsWith, BeginLaw, MoreLaw, EndLaw, FaultyLaw, UnreadLaw, TurnsLaw}
+use Rattle.stream_text.specs.Hearing.{HoldsOfText, then_held, HoldSamples, IsHeard, TellsSamples, Heard, HeardAll, HeardSo, HeardFront, BeginsWith, BeginLaw, MoreLaw, EndLaw, FaultyLaw, UnreadLaw, TurnsLaw}
 use Rattle.stream_text.specs.Pieces.{ArePieces, ReadBy, ReadPieces, bytes_read}
 use Rattle.stream_text.specs.StreamText.{IsOfText, samples, front, samples_from, then_samples, line_read}
 use Rattle.stream_text.specs.StreamView.{sample_view}
@@ -33,7 +33,7 @@ heard_none A has s f = record {
   read = [];
   consumes = consumes_none has;
   reads = read_by_none (s.met ≡ M.End) s.reads f.reads;
-  tells = subst (Tells A (IsAtEnd has) s [] []) (sym f.met)
+  tells = subst (TellsSamples A (IsAtEnd has) s [] []) (sym f.met)
       (record { consumed = []; parts = sym f.kept; hold = holds_none A s.lines s.before f.lines f.before });
   count = sym f.lines;
 }
@@ -70,9 +70,9 @@ holds_more A consumed p lines before bytes line rest x h l e = record {
 }
 
 -- what is told where nothing has ended the stream
-within : (A : TypeTree) (end : Type 0) (s : ReaderState) (read : List ℕ) (p : List (ℕ × Datum)) → s.met ≡ M.Nothing → Tells A end s read p s.met
-    → IsWithin A s read p
-within A end s read p m t = subst (Tells A end s read p) m t
+within : (A : TypeTree) (end : Type 0) (s : ReaderState) (read : List ℕ) (p : List (ℕ × Datum)) → s.met ≡ M.Nothing → TellsSamples A end s read p s.met
+    → IsHeard A s read p
+within A end s read p m t = subst (TellsSamples A end s read p) m t
 
 -- while nothing has ended the stream, no read met the end
 still_open : (s : ReaderState) (read : List ℕ) → s.met ≡ M.Nothing → ReadBy (s.met ≡ M.End) read s.reads → ReadBy ⊥ read s.reads
@@ -104,14 +104,14 @@ heard_more A has has' has'' s s' p x h g = record {
     met_end M.End t = pieces-map (IsAtEnd has'') (M.End ≡ M.End) (λ e. refl) g.pieces g.read.are
     met_end M.Fault t = absurd t
 
-    w : IsWithin A s h.read p
+    w : IsHeard A s h.read p
     w = within A (IsAtEnd has') s h.read p g.gives.goes_on h.tells
 
     all : h.read ++ got ≡ w.consumed ++ (s.kept ++ got)
     all = ap (λ r. r ++ got) w.parts ∙ append_assoc w.consumed s.kept got
 
     go : (m : Met) → TakesLine (IsAtEnd has'') (s.kept ++ got) g.gives.line s'.kept m
-        → Tells A (IsAtEnd has'') s' (h.read ++ got) (p ++ sample_view x ∷ []) m
+        → TellsSamples A (IsAtEnd has'') s' (h.read ++ got) (p ++ sample_view x ∷ []) m
     go M.Nothing t = record {
       consumed = w.consumed ++ (g.gives.line ++ 10 ∷ []);
       parts = all ∙ ap (λ b. w.consumed ++ b) t.ended ∙ sym (behind_line w.consumed g.gives.line s'.kept);
@@ -137,7 +137,7 @@ heard_end A has has' has'' s s' p h g = go g.gives.empty
 
     go : (s.met ≡ M.End) ⊎ ((s.met ≡ M.Nothing) × IsAtEnd has'' × (s.kept ++ got ≡ [])) → HeardAll A has has'' p
     go (inl m) =
-        let t = subst (Tells A (IsAtEnd has') s h.read p) m h.tells in
+        let t = subst (TellsSamples A (IsAtEnd has') s h.read p) m h.tells in
         let none : g.pieces ≡ [] = g.ended (λ e. let q : M.Nothing ≡ M.End = sym e ∙ m in cc) in
         record {
           read = h.read ++ got;
@@ -146,7 +146,7 @@ heard_end A has has' has'' s s' p h g = go g.gives.empty
           all = ap (λ ps. samples A (h.read ++ bytes_read ps)) none ∙ ap (samples A) (append-nil h.read) ∙ t.1;
         }
     go (inr (m, e, empty)) =
-        let w : IsWithin A s h.read p = within A (IsAtEnd has') s h.read p m h.tells in
+        let w : IsHeard A s h.read p = within A (IsAtEnd has') s h.read p m h.tells in
         record {
           read = h.read ++ got;
           consumes = consumes_more has has' has'' h.read got h.consumes g.read.consumes;
@@ -194,7 +194,7 @@ pub heard_fault : (A : TypeTree) (has has' has'' : Option (List ℕ)) (s : Reade
     → Heard A has has' s p → Consumes has' has'' got → s.met ≡ M.Nothing → FaultyLine A (IsAtEnd has'') s (s.kept ++ got) fault
     → HeardSo has has'' (λ text. samples A text ≡ record { taken = p; fault = Some fault })
 heard_fault A has has' has'' s p got fault h c m f =
-    let w : IsWithin A s h.read p = within A (IsAtEnd has') s h.read p m h.tells in
+    let w : IsHeard A s h.read p = within A (IsAtEnd has') s h.read p m h.tells in
     record {
       read = h.read ++ got;
       consumes = consumes_more has has' has'' h.read got h.consumes c;
@@ -210,7 +210,7 @@ pub heard_so_far : (A : TypeTree) (has has' : Option (List ℕ)) (s : ReaderStat
     → HeardSo has has' (BeginsWith A p)
 heard_so_far A has has' s p h = record { read = h.read; consumes = h.consumes; so = go s.met h.tells }
   where
-    go : (m : Met) → Tells A (IsAtEnd has') s h.read p m → HoldsOfText (IsAtEnd has') h.read (BeginsWith A p)
+    go : (m : Met) → TellsSamples A (IsAtEnd has') s h.read p m → HoldsOfText (IsAtEnd has') h.read (BeginsWith A p)
     go M.Nothing w = inr (
         λ more. (
           (samples_from A (suc s.lines) s.before (lines_of (s.kept ++ more))).taken,
@@ -225,7 +225,7 @@ heard_so_far A has has' s p h = record { read = h.read; consumes = h.consumes; s
 pub heard_short : (A : TypeTree) (has has' has'' : Option (List ℕ)) (s : ReaderState) (p : List (ℕ × Datum)) (got : List ℕ) → Heard A has has' s p
     → Consumes has' has'' got → s.met ≡ M.Nothing → HeardSo has has'' (BeginsWith A p)
 heard_short A has has' has'' s p got h c m =
-    let w : IsWithin A s h.read p = within A (IsAtEnd has') s h.read p m h.tells in
+    let w : IsHeard A s h.read p = within A (IsAtEnd has') s h.read p m h.tells in
     record {
       read = h.read ++ got;
       consumes = consumes_more has has' has'' h.read got h.consumes c;
@@ -240,7 +240,7 @@ pub heard_unread : (A : TypeTree) (has has' has'' : Option (List ℕ)) (s s' : R
     → Consumes has' has'' (bytes_read pieces) → s'.reads ≡ s.reads + length pieces → Unfinished s pieces s' → HeardFront A has has'' p s'.reads
 heard_unread A has has' has'' s s' p pieces h c e u =
     let got : List ℕ = bytes_read pieces in
-    let w : IsWithin A s h.read p = within A (IsAtEnd has') s h.read p u.goes_on h.tells in
+    let w : IsHeard A s h.read p = within A (IsAtEnd has') s h.read p u.goes_on h.tells in
     record {
       read = h.read ++ got;
       consumes = consumes_more has has' has'' h.read got h.consumes c;

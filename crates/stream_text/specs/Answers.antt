@@ -44,7 +44,7 @@ TakesLine end bytes line rest M.End = end × (lines_of bytes ≡ line ∷ []) ×
 TakesLine end bytes line rest M.Fault = ⊥
 
 -- The next line of the bytes holds the sample x, which is answered; its value is kept.
-pub record TakesSample (A : TypeTree) (end : Type 0) (s : ReaderState) (bytes : List ℕ)
+pub record AnswersSample (A : TypeTree) (end : Type 0) (s : ReaderState) (bytes : List ℕ)
     (x : ℕ × Datum) (s' : ReaderState) : Type 0 where
   pub goes_on : s.met ≡ M.Nothing
   pub line : List ℕ
@@ -106,7 +106,7 @@ pub record MeetsFault (A : TypeTree) (end : Type 0) (s : ReaderState) (pieces : 
 abbrev pub IsAnswer : TypeTree → Type 0 → ReaderState → ReadPieces
     → Result (Option (ℕ × Sample)) StreamFault → ReaderState → Type 0
 IsAnswer A end s pieces (Ok (Some x)) s' =
-    TakesSample A end s (known_bytes s pieces) (sample_view x) s'
+    AnswersSample A end s (known_bytes s pieces) (sample_view x) s'
 IsAnswer A end s pieces (Ok None) s' = MeetsEnd end s (known_bytes s pieces) s'
 IsAnswer A end s pieces (Err fault) s' = MeetsFault A end s pieces fault s'
 
@@ -140,4 +140,4 @@ SettlesNext s = (s.met ≢ M.Nothing) ⊎ (front_lines (suc s.lines) s.kept ≢ 
 pub record TakesNext (A : TypeTree) (s : ReaderState) (d : ℕ) (s' : ReaderState) : Type 0 where
   pub value : Datum
   pub unread : s'.reads ≡ s.reads
-  pub takes : TakesSample A ⊥ s s.kept (d, value) s'
+  pub takes : AnswersSample A ⊥ s s.kept (d, value) s'

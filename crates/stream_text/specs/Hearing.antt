@@ -33,17 +33,17 @@ pub record HoldSamples (A : TypeTree) (consumed : List ℕ) (p : List (ℕ × Da
       ≡ then_held p (samples_from A (suc lines) before (front_lines (suc lines) more))
 
 -- what was read is the bytes of the samples p, and what is kept
-pub record IsWithin (A : TypeTree) (s : ReaderState) (read : List ℕ) (p : List (ℕ × Datum)) : Type 0
+pub record IsHeard (A : TypeTree) (s : ReaderState) (read : List ℕ) (p : List (ℕ × Datum)) : Type 0
   where
     pub consumed : List ℕ
     pub parts : read ≡ consumed ++ s.kept
     pub hold : HoldSamples A consumed p s.lines s.before
 
 -- the samples p are those of the bytes that were read, so far or, at the end, in all
-abbrev pub Tells : TypeTree → Type 0 → ReaderState → List ℕ → List (ℕ × Datum) → Met → Type 0
-Tells A end s read p M.Nothing = IsWithin A s read p
-Tells A end s read p M.End = end × (samples A read ≡ record { taken = p; fault = None })
-Tells A end s read p M.Fault = ⊥
+abbrev pub TellsSamples : TypeTree → Type 0 → ReaderState → List ℕ → List (ℕ × Datum) → Met → Type 0
+TellsSamples A end s read p M.Nothing = IsHeard A s read p
+TellsSamples A end s read p M.End = end × (samples A read ≡ record { taken = p; fault = None })
+TellsSamples A end s read p M.Fault = ⊥
 
 -- The calls so far, since the reader had `has`, answered the samples p. They made as many reads as
 -- are counted, and met the end only where the stream has ended.
@@ -52,7 +52,7 @@ pub record Heard (A : TypeTree) (has has' : Option (List ℕ)) (s : ReaderState)
   pub read : List ℕ
   pub consumes : Consumes has has' read
   pub reads : ReadBy (s.met ≡ M.End) read s.reads
-  pub tells : Tells A (IsAtEnd has') s read p s.met
+  pub tells : TellsSamples A (IsAtEnd has') s read p s.met
   pub count : length p ≡ s.lines
 
 -- all bytes were read: they hold the samples p, and no fault

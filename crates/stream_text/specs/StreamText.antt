@@ -90,5 +90,5 @@ abbrev pub front : TypeTree → List ℕ → Samples
 front A bs = samples_from A 1 None (front_lines 1 bs)
 
 -- What a call returned, seen by view, is what reading gives, unless memory ran out.
-abbrev pub Gives : {X Y : Type 0} → (X → Y) → Result X StreamFault → Result Y StreamFault → Type 0
-Gives view result read = GivesUnless S.Memory view result read
+abbrev pub GivesLine : {X Y : Type 0} → (X → Y) → Result X StreamFault → Result Y StreamFault → Type 0
+GivesLine view result read = GivesUnless S.Memory view result read

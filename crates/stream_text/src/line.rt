@@ -5,7 +5,7 @@ ghost use Rattle.sample_core.specs.{ValueView.datum_of, TypeView.type_of};
 ghost use Rattle.stream_text.specs.LineAhead.{EndsLine, IsAhead};
 ghost use Rattle.stream_text.specs.StepText.{step_in};
 ghost use Rattle.stream_text.specs.StreamView.{before_view, sample_view};
-ghost use Rattle.stream_text.specs.StreamText.{Gives, first_line, later_line, line_read, whole_value};
+ghost use Rattle.stream_text.specs.StreamText.{GivesLine, first_line, later_line, line_read, whole_value};
 
 use crate::fault::StreamFault;
 use crate::step_text::{split_step, strip};
@@ -35,7 +35,7 @@ pub fn read_line(
     before: Option<&Sample>,
     line: &[u8],
 ) -> Result<(u64, Sample), StreamFault>
-    ensures { Gives sample_view result
+    ensures { GivesLine sample_view result
         (line_read (type_of ty.now) number (before_view before.entry) line.now) }
 {
     if number > MOST_SAMPLES {
@@ -56,7 +56,7 @@ fn read_first(
     number: u64,
     line: &[u8],
 ) -> Result<(u64, Sample), StreamFault>
-    ensures { Gives sample_view result (first_line (type_of ty.now) number line.now) }
+    ensures { GivesLine sample_view result (first_line (type_of ty.now) number line.now) }
 {
     if strip(b'+', line).is_some() {
         return Err(StreamFault::Step { line: number });
@@ -75,7 +75,7 @@ fn read_later(
     before: &Sample,
     line: &[u8],
 ) -> Result<(u64, Sample), StreamFault>
-    ensures { Gives sample_view result
+    ensures { GivesLine sample_view result
         (later_line (type_of ty.now) number (datum_of before.now) (step_in line.now)) }
 {
     let Some((step, rest)) = split_step(line) else {
@@ -90,7 +90,7 @@ fn read_later(
 
 /// The value that all of the bytes write.
 fn read_whole(alloc: Global, ty: &Ty, number: u64, bytes: &[u8]) -> Result<Sample, StreamFault>
-    ensures { Gives datum_of result (whole_value (type_of ty.now) number bytes.now) }
+    ensures { GivesLine datum_of result (whole_value (type_of ty.now) number bytes.now) }
 {
     match read_value(alloc, bytes, ty) {
         Ok((value, taken)) => {

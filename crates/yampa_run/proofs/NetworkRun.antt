@@ -14,7 +14,7 @@ use Rattle.stream_text.specs.declared.fault.StreamFault.TheVariants as S
 use Rattle.stream_text.proofs.Settling.{consumes_none}
 use Rattle.yampa_run.specs.NetworkRun.{RefusesBinding, RefusesRun, RunsOver}
 use Rattle.yampa_run.specs.Output.{line_feeds}
-use Rattle.yampa_run.specs.Runs.{BeginsOutput, IsOutput, Stops, StopsAtFault, StopsUnread, StopsWithin}
+use Rattle.yampa_run.specs.Runs.{BeginsOutput, IsOutput, StopsRun, StopsAtFault, StopsUnread, StopsWithin}
 use Rattle.yampa_run.specs.declared.fault.RunFault.{RunFault}
 use Rattle.yampa_run.specs.declared.fault.RunFault.TheVariants as U
 use Rattle.yampa_run.specs.declared.preparation.Refusal.{Refusal}
@@ -51,7 +51,7 @@ module _ (A : TypeTree) (net : Network Expression) (has has' holds holds' : Opti
   )
 
   -- whatever stops a run, what is written begins the output
-  pub stops_within : (fault : RunFault) → Stops A net has has' holds holds' fault → (count : ℕ) × StopsWithin A net has has' holds holds' count
+  pub stops_within : (fault : RunFault) → StopsRun A net has has' holds holds' fault → (count : ℕ) × StopsWithin A net has has' holds holds' count
   stops_within (U.Stream lines (S.Step n)) s = at_fault lines (S.Step n) s
   stops_within (U.Stream lines (S.Value n v)) s = at_fault lines (S.Value n v) s
   stops_within (U.Stream lines (S.NothingBefore n)) s = at_fault lines (S.NothingBefore n) s
@@ -67,12 +67,12 @@ module _ (A : TypeTree) (net : Network Expression) (has has' holds holds' : Opti
 -- where what is bound is the network, its run is the network's
 module _ (keys : List KeyTree) (t : TypedNetwork) (A : TypeTree) (net : Network Expression) (same_input : A ≡ t.input) (same_net : net ≡ t.net)
     (has has' holds holds' : Option (List ℕ)) where
-  pub stopped : (fault : RunFault) (refusal : Refusal) → FindsAll keys t → Stops A net has has' holds holds' fault → RefusesRun fault refusal
+  pub stopped : (fault : RunFault) (refusal : Refusal) → FindsAll keys t → StopsRun A net has has' holds holds' fault → RefusesRun fault refusal
       → RunsOver keys t has has' holds holds' (Err refusal)
   stopped fault refusal f s = go refusal
     where
-      stops : Stops t.input t.net has has' holds holds' fault
-      stops = subst (λ B. Stops B t.net has has' holds holds' fault) same_input (subst (λ m. Stops A m has has' holds holds' fault) same_net s)
+      stops : StopsRun t.input t.net has has' holds holds' fault
+      stops = subst (λ B. StopsRun B t.net has has' holds holds' fault) same_input (subst (λ m. StopsRun A m has has' holds holds' fault) same_net s)
 
       go : (r : Refusal) → RefusesRun fault r → RunsOver keys t has has' holds holds' (Err r)
       go (Refused.Line status line) h = inl (record { found = f; fault = fault; stops = stops; status_is = h.0; line_is = h.1 })

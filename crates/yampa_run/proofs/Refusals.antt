@@ -14,7 +14,7 @@ use Rattle.net_text.proofs.CertificateRead.{certificate_fault_law, one_certifica
 use Rattle.net_text.proofs.FileRead.{read_file_law, file_fault_law, one_file}
 use Rattle.net_types.proofs.Checks.{check_exact}
 use Rattle.net_types.specs.Check.{check}
-use Rattle.cert_check.specs.CheckAnswer.{Begins, CheckAnswer}
+use Rattle.cert_check.specs.CheckAnswer.{BeginsCheck, CheckAnswer}
 use Rattle.cert_check.specs.StepAnswers.{ApplyAnswer}
 use Rattle.cert_check.specs.Derives.{Derives}
 use Rattle.cert_check.specs.declared.answer.Accepted.{Accepted}
@@ -149,7 +149,7 @@ no_step_fault source last steps f d l a b =
     let there : Derives source last steps × WithinLimits last = applied source last steps a l in
     no_check_fault source last steps f d there.0 (go f b)
   where
-    begins : Begins source last steps
+    begins : BeginsCheck source last steps
     begins = let there : Derives source last steps × WithinLimits last = applied source last steps a l in
         record { same_input = there.0.same_input; few = a.0 }
 

@@ -19,7 +19,7 @@ use Rattle.step_core.specs.EnvironmentVisits.{visits_of}
 use Rattle.step_core.specs.RunnerState.{RunnerState, StandsFor, network_in, last_visits_of}
 use Rattle.step_core.proofs.CausalVisits.{visits-take, visits-push}
 use Rattle.stream_text.specs.Answers.{ReaderState, IsFresh, FaultyLine, known_bytes, Unfinished, HasFault, GivesAnswer}
-use Rattle.stream_text.specs.Hearing.{HoldsOfText, Heard, HeardAll, HeardSo, HeardFront, BeginsWith, Tells}
+use Rattle.stream_text.specs.Hearing.{HoldsOfText, Heard, HeardAll, HeardSo, HeardFront, BeginsWith, TellsSamples}
 use Rattle.stream_text.specs.Pieces.{ReadBy, bytes_read}
 use Rattle.stream_text.specs.StreamText.{IsBefore, IsOfText, samples}
 use Rattle.stream_text.specs.StreamView.{sample_view}
@@ -31,7 +31,7 @@ use Rattle.stream_text.proofs.FeedFree.{spelling_free}
 use Rattle.stream_text.proofs.Settling.{consumes_none}
 use Rattle.yampa_run.specs.FaultLines.{EndsRun}
 use Rattle.yampa_run.specs.Output.{spelled_lines, line_feeds, line_of_value, greatest, most_visits_of, output_of}
-use Rattle.yampa_run.specs.Runs.{RunsToEnd, IsOutput, StopsAtFault, StopsUnread, BeginsOutput, StopsWithin, Stops, Answers, IsPartOfLine, Breaks, run_fault_of, stream_fault_of}
+use Rattle.yampa_run.specs.Runs.{RunsToEnd, IsOutput, StopsAtFault, StopsUnread, BeginsOutput, StopsWithin, StopsRun, Answers, IsPartOfLine, Breaks, run_fault_of, stream_fault_of}
 use Rattle.yampa_run.specs.declared.fault.RunFault.{RunFault}
 use Rattle.yampa_run.specs.declared.fault.RunReport.{RunReport}
 use Rattle.yampa_run.specs.declared.fault.RunFault.TheVariants as U
@@ -185,7 +185,7 @@ within A net has has' holds holds' lines p written rest h w e c = record {
 pub stream_stops : (A : TypeTree) (net : Network Expression) (has has' has'' holds holds' : Option (List ℕ)) (s s' : ReaderState) (r : RunnerState)
     (lines most : ℕ)
     (fault : StreamFault) → Progress A net has has' holds holds' s r lines most → GivesAnswer A s has' (Err fault) s' has''
-    → Stops A net has has'' holds holds' (stream_fault_of lines fault)
+    → StopsRun A net has has'' holds holds' (stream_fault_of lines fault)
 stream_stops A net has has' has'' holds holds' s s' r lines most fault g a = go fault a.gives.why
   where
     at_fault : (f : StreamFault) → IsOfText f → HeardSo has has'' (λ text. samples A text ≡ record { taken = g.p; fault = Some f })
@@ -221,7 +221,7 @@ stream_stops A net has has' has'' holds holds' s s' r lines most fault g a = go 
         → StopsAtFault A net has has'' holds holds' lines f
     faulty f o w = at_fault f o (heard_fault A has has' has'' s g.p (bytes_read a.pieces) f g.heard a.read.consumes w.0 w.1)
 
-    go : (f : StreamFault) → HasFault A (IsAtEnd has'') s a.pieces f s' → Stops A net has has'' holds holds' (stream_fault_of lines f)
+    go : (f : StreamFault) → HasFault A (IsAtEnd has'') s a.pieces f s' → StopsRun A net has has'' holds holds' (stream_fault_of lines f)
     go (S.Step k) w = faulty (S.Step k) tt w
     go (S.Value k v) w = faulty (S.Value k v) tt w
     go (S.NothingBefore k) w = faulty (S.NothingBefore k) tt w
@@ -232,7 +232,7 @@ stream_stops A net has has' has'' holds holds' s s' r lines most fault g a = go 
     go S.Memory w = within A net has has'' holds holds' lines g.p (spelled_lines (stream_of net g.p)) []
         (heard_short A has has' has'' s g.p (bytes_read a.pieces) g.heard a.read.consumes w) g.wrote (append-nil (spelled_lines (stream_of net g.p)))
         (g.counted ∙ sym g.heard.count ∙ sym (line_count net g.p))
-    go S.Ended w = absurd (subst (Tells A (IsAtEnd has') s g.heard.read g.p) w g.heard.tells)
+    go S.Ended w = absurd (subst (TellsSamples A (IsAtEnd has') s g.heard.read g.p) w g.heard.tells)
 
 -- a line that isn't written whole
 pub line_stops : (A : TypeTree) (net : Network Expression) (has has' has'' holds holds' holds'' : Option (List ℕ)) (s s' : ReaderState) (r r' : RunnerState)
@@ -275,19 +275,19 @@ line_stops A net has has' has'' holds holds' holds'' s s' r r' lines most x g a 
 -- the same as what ends the run
 pub stops : (A : TypeTree) (net : Network Expression) (has has' holds holds' : Option (List ℕ)) (lines : ℕ) (stop : WriteStop)
     → StopsWithin A net has has' holds holds' lines
-    → Stops A net has has' holds holds' (run_fault_of lines stop)
+    → StopsRun A net has has' holds holds' (run_fault_of lines stop)
 stops A net has has' holds holds' lines T.Write h = h
 stops A net has has' holds holds' lines T.Memory h = h
 
 -- where the network that is run is another's, that is how the other stops
 pub stops_same : (A B : TypeTree) (net net' : Network Expression) (has has' holds holds' : Option (List ℕ)) (result : Result RunReport RunFault)
-    → A ≡ B → net ≡ net' → IfErr result (Stops A net has has' holds holds') → IfErr result (Stops B net' has has' holds holds')
-stops_same A B net net' has has' holds holds' result e f h = subst (λ C. IfErr result (Stops C net' has has' holds holds')) e
-    (subst (λ m. IfErr result (Stops A m has has' holds holds')) f h)
+    → A ≡ B → net ≡ net' → IfErr result (StopsRun A net has has' holds holds') → IfErr result (StopsRun B net' has has' holds holds')
+stops_same A B net net' has has' holds holds' result e f h = subst (λ C. IfErr result (StopsRun C net' has has' holds holds')) e
+    (subst (λ m. IfErr result (StopsRun A m has has' holds holds')) f h)
 
 -- what a run ends with is told by the program
 pub answered : (A : TypeTree) (net : Network Expression) (has has' holds holds' : Option (List ℕ)) (fault : RunFault)
-    → Stops A net has has' holds holds' fault → EndsRun fault
+    → StopsRun A net has has' holds holds' fault → EndsRun fault
 answered A net has has' holds holds' (U.Stream lines (S.Step n)) h = tt
 answered A net has has' holds holds' (U.Stream lines (S.Value n v)) h = tt
 answered A net has has' holds holds' (U.Stream lines (S.NothingBefore n)) h = tt

@@ -9,7 +9,7 @@ use Rattle.stream_text.specs.StreamText.{samples}
 use Rattle.stream_text.specs.declared.fault.StreamFault.{StreamFault}
 use Rattle.stream_text.specs.declared.fault.StreamFault.TheVariants as S
 use Rattle.yampa_run.specs.Output.{Output, output_of, front_output_of}
-use Rattle.yampa_run.specs.Runs.{RunsToEnd, Stops}
+use Rattle.yampa_run.specs.Runs.{RunsToEnd, StopsRun}
 use Rattle.yampa_run.specs.declared.fault.RunReport.{RunReport}
 use Rattle.yampa_run.specs.declared.fault.RunFault.{RunFault}
 use Rattle.yampa_run.specs.declared.fault.RunFault.TheVariants as U
@@ -40,7 +40,7 @@ abbrev pub RunsSo : TypedNetwork → Option (List ℕ) → Option (List ℕ) →
     → Option (List ℕ) → Result RunReport RunFault → Type 0
 RunsSo t has has' holds holds' (Ok report) =
     RunsToEnd t.input t.net has has' holds holds' report.lines report.most_visits
-RunsSo t has has' holds holds' (Err fault) = Stops t.input t.net has has' holds holds' fault
+RunsSo t has has' holds holds' (Err fault) = StopsRun t.input t.net has has' holds holds' fault
 
 -- no growth, read or write was refused, nor a read for the number of reads
 abbrev pub Unhindered : Result RunReport RunFault → Type 0

@@ -88,16 +88,16 @@ pub record StopsWithin (A : TypeTree) (net : Network Expression)
   pub counted : lines ≡ line_feeds written
 
 -- what each fault of a run tells
-abbrev pub Stops : TypeTree → Network Expression → Option (List ℕ) → Option (List ℕ)
+abbrev pub StopsRun : TypeTree → Network Expression → Option (List ℕ) → Option (List ℕ)
     → Option (List ℕ) → Option (List ℕ) → RunFault → Type 0
-Stops A net has has' holds holds' (U.Stream lines S.Read) =
+StopsRun A net has has' holds holds' (U.Stream lines S.Read) =
     StopsUnread A net has has' holds holds' lines
-Stops A net has has' holds holds' (U.Stream lines S.ReadTurns) =
+StopsRun A net has has' holds holds' (U.Stream lines S.ReadTurns) =
     StopsAfterTurns A net has has' holds holds' lines
-Stops A net has has' holds holds' (U.Stream lines fault) =
+StopsRun A net has has' holds holds' (U.Stream lines fault) =
     StopsAtFault A net has has' holds holds' lines fault
-Stops A net has has' holds holds' (U.Write lines) = StopsWithin A net has has' holds holds' lines
-Stops A net has has' holds holds' (U.Memory lines) =
+StopsRun A net has has' holds holds' (U.Write lines) = StopsWithin A net has has' holds holds' lines
+StopsRun A net has has' holds holds' (U.Memory lines) =
     StopsWithin A net has has' holds holds' lines
 
 -- a read or a write is told to have failed only where the reader or the writer failed more often:

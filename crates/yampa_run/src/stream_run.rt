@@ -8,7 +8,7 @@ ghost use Rattle.step_core.specs.{Binding.FitsTable, RowTyping.network_by};
 ghost use Rattle.step_core.specs.{RunnerState.StandsFor, RunnerState.network_in, RunnerView.runner_state};
 ghost use Rattle.stream_text.specs.{Failures.Rose, Answers.IsFresh, ReaderState.reader_state};
 ghost use Rattle.yampa_run.specs.{FaultLines.EndsRun, Output.line_of_value};
-ghost use Rattle.yampa_run.specs.Runs.{Answers, Breaks, BreaksOff, FailsByDevice, RunsToEnd, Stops, run_fault_of, stream_fault_of};
+ghost use Rattle.yampa_run.specs.Runs.{Answers, Breaks, BreaksOff, FailsByDevice, RunsToEnd, StopsRun, run_fault_of, stream_fault_of};
 ghost use Rattle.yampa_run.specs.declared.stream_run.WriteStop.TheVariants as T;
 
 use crate::fault::{RunFault, RunReport};
@@ -48,7 +48,7 @@ pub fn run<R: Read + Device, W: Write + Device>(
         (network_by (rows_of table.now) bound.now.rows) (R.remaining reader.old)
         (R.remaining reader.new) (W.contents writer.old) (W.contents writer.new) report.lines
         report.most_visits) }
-    ensures stopped { IfErr result (Stops bound.now.input
+    ensures stopped { IfErr result (StopsRun bound.now.input
         (network_by (rows_of table.now) bound.now.rows) (R.remaining reader.old)
         (R.remaining reader.new) (W.contents writer.old) (W.contents writer.new)) }
     ensures failed { IfErr result (FailsByDevice (R.count reader.old) (R.count reader.new)
@@ -102,7 +102,7 @@ fn run_on<R: Read + Device, W: Write + Device>(
     ensures done { IfOk result (λ report. RunsToEnd (type_of ty.now)
         (network_in (runner_state runner.old)) (R.remaining reader.old) (R.remaining reader.new)
         (W.contents writer.old) (W.contents writer.new) report.lines report.most_visits) }
-    ensures stopped { IfErr result (Stops (type_of ty.now)
+    ensures stopped { IfErr result (StopsRun (type_of ty.now)
         (network_in (runner_state runner.old)) (R.remaining reader.old) (R.remaining reader.new)
         (W.contents writer.old) (W.contents writer.new)) }
     ensures failed { IfErr result (FailsByDevice failures.reads (R.count reader.new)
