@@ -24,7 +24,7 @@ use Rattle.cert_check.specs.declared.answer.Accepted.{Accepted}
 use Rattle.cert_check.specs.declared.answer.CheckFault.{CheckFault}
 use Rattle.cert_check.specs.declared.answer.CheckFault.TheVariants.{InputsDiffer, TooManySteps, NoPosition, NoMatch, IllTyped, EndsElsewhere, Memory}
 use Rattle.cert_check.specs.CheckAnswer.{NowhereIn, Unmatched, Untyped, FirstFails, LeadsElsewhere, CheckAnswer}
-use Rattle.cert_check.specs.Laws.{OneNextLaw, OneAnswerLaw}
+use Rattle.cert_check.specs.Laws.{OneNextLaw, OneCheckAnswerLaw}
 
 one_expression : (law : Law) (direction : Direction) (e : Expression) (given : Option Expression) (r s : Expression)
     → ExpressionAnswer law direction e given r → ExpressionAnswer law direction e given s → r ≡ s
@@ -237,5 +237,5 @@ module _ (source target : TypedNetwork) (steps : List Step) where
   one-answer (Err EndsElsewhere) (Err Memory) x y p q = absurd (q refl)
   one-answer (Err Memory) b x y p q = absurd (p refl)
 
-pub one_answer : OneAnswerLaw
+pub one_answer : OneCheckAnswerLaw
 one_answer source target steps a b = one-answer source target steps a b

@@ -29,7 +29,7 @@ use Rattle.law_rules.specs.Answer as N
 use Rattle.law_rules.specs.Answer.{NetworkAnswer}
 use Rattle.cert_check.specs.TreeAnswer.{TreeAnswer}
 use Rattle.cert_check.specs.Derives.{Answered, Next, Steps, no_step, step_then, Derives}
-use Rattle.cert_check.specs.Laws.{SameLaw, SameStreamLaw, KeptTypesLaw}
+use Rattle.cert_check.specs.Laws.{DerivedSameLaw, SameStreamLaw, KeptTypesLaw}
 use Rattle.cert_check.proofs.Counted.{placed-stands}
 
 -- a law's answer does the same as the tree at hand, where both have one type
@@ -93,7 +93,7 @@ steps_same t ss v d (step_then {u = u} {s = s} {ss = ss'} x xs) =
 derives_kin : (source target : TypedNetwork) (steps : List Step) (h : HasItsTypes source) (x : Derives source target steps) → Kin source x.last
 derives_kin source target steps h x = steps_same source steps x.last h x.leads
 
-pub derives_same : SameLaw
+pub derives_same : DerivedSameLaw
 derives_same source target steps h x = subst (SameOutputs [] [] source.input source.net) x.ends (derives_kin source target steps h x).kin_same
 
 pub derives_stream : SameStreamLaw

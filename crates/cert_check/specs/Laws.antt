@@ -14,8 +14,8 @@ use Rattle.cert_check.specs.CheckAnswer.{CheckAnswer}
 use Rattle.cert_check.specs.StepAnswers.{ApplyAnswer}
 
 -- a network that is derived from another outputs the same in alike environments
-abbrev pub SameLaw : Type 0
-SameLaw = (source target : TypedNetwork) (steps : List Step)
+abbrev pub DerivedSameLaw : Type 0
+DerivedSameLaw = (source target : TypedNetwork) (steps : List Step)
     → HasItsTypes source → Derives source target steps
     → SameOutputs [] [] source.input source.net target.net
 
@@ -47,7 +47,7 @@ abbrev pub OneNextLaw : Type 0
 OneNextLaw = (t u v : TypedNetwork) (s : Step) → Next t s u → Next t s v → u ≡ v
 
 -- two answers are one, but for want of memory
-abbrev pub OneAnswerLaw : Type 0
-OneAnswerLaw = (source target : TypedNetwork) (steps : List Step) (a b : Result Accepted CheckFault)
+abbrev pub OneCheckAnswerLaw : Type 0
+OneCheckAnswerLaw = (source target : TypedNetwork) (steps : List Step) (a b : Result Accepted CheckFault)
     → CheckAnswer source target steps a → CheckAnswer source target steps b
     → (a ≡ Err Memory → ⊥) → (b ≡ Err Memory → ⊥) → a ≡ b

@@ -1,11 +1,11 @@
 // Laws of certificates: each function is a law, and does nothing.
 
 ghost use Rattle.cert_check.specs.Laws.{
-  SameLaw,
+  DerivedSameLaw,
   SameStreamLaw,
   KeptTypesLaw,
   OneNextLaw,
-  OneAnswerLaw,
+  OneCheckAnswerLaw,
   AppliedLaw,
   AnswerStandsLaw,
 };
@@ -13,7 +13,7 @@ ghost use Rattle.cert_check.specs.Laws.{
 /// What is derived from a network has its types and outputs the same: in alike environments, and
 /// so on every stream of typed samples.
 pub fn derivation_laws()
-    ensures same { SameLaw }
+    ensures same { DerivedSameLaw }
     ensures same_stream { SameStreamLaw }
     ensures kept_types { KeptTypesLaw }
 {}
@@ -23,7 +23,7 @@ pub fn derivation_laws()
 /// first fault.
 pub fn one_answer_laws()
     ensures one_next { OneNextLaw }
-    ensures one_answer { OneAnswerLaw }
+    ensures one_answer { OneCheckAnswerLaw }
 {}
 
 /// What `apply_steps` answers is derived by the steps, so a check of it as the target accepts them;

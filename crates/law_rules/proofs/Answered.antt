@@ -15,7 +15,7 @@ use Rattle.net_syntax.specs.declared.law_step.Law.TheVariants as L
 use Rattle.net_syntax.specs.declared.law_step.Direction.{Direction}
 use Rattle.net_syntax.specs.declared.law_step.Direction.TheVariants.{Forward, Backward}
 use Rattle.law_rules.specs.NetworkRow.{NetworkRow}
-use Rattle.law_rules.specs.Answer.{NetworkAnswer, forward_answer, backward_answer, IsNetworkAnswer, IsRightSide}
+use Rattle.law_rules.specs.Answer.{NetworkAnswer, forward_answer, backward_answer, IsNetworkAnswer, IsNetworkRightSide}
 use Rattle.law_rules.proofs.SameSides.{same-sides, same-sides_back}
 use Rattle.law_rules.proofs.NamedLaws.{IsRight}
 use Rattle.law_rules.proofs.RowsExact.{one-right_side}
@@ -25,7 +25,7 @@ no-some r q = absurd (cc)
 
 -- what the function of the law of this number answers is the right side of its row
 pub by-function : {E : Type 0} (n m olds : ℕ) (net : Network Expression) (law : Option (Network Expression)) (x : Result (Option (Net Expr)) E) → n ≡ m → IsRight m olds net law
-    → ((r : Network Expression) → NetworkRow m olds net r → m ≡ m → law ≡ Some r) → IfOk x (λ o. option_map tree_of o ≡ law) → IfOk x (IsRightSide n olds net)
+    → ((r : Network Expression) → NetworkRow m olds net r → m ≡ m → law ≡ Some r) → IfOk x (λ o. option_map tree_of o ≡ law) → IfOk x (IsNetworkRightSide n olds net)
 by-function n m olds net law (Ok None) q g k h = λ r row. no-some r (h ∙ k r (subst (λ i. NetworkRow i olds net r) q row) refl)
 by-function n m olds net law (Ok (Some r)) q g k h = subst (λ i. NetworkRow i olds net (tree_of r)) (sym q) (subst (IsRight m olds net) (sym h) g)
 by-function n m olds net law (Err f) q g k h = tt
@@ -36,7 +36,7 @@ forward-none n olds net q r (forward_answer h) = q r h
 backward-none : (n olds : ℕ) (net g : Network Expression) → (NetworkRow n olds g net → ⊥) → (r : Network Expression) → NetworkAnswer (L.L n) Backward net (Some g) olds r → ⊥
 backward-none n olds net g q r (backward_answer h) = q h
 
-plain-forward : {E : Type 0} (n olds : ℕ) (net : Network Expression) (x : Result (Option (Net Expr)) E) → IfOk x (IsRightSide n olds net) → IfOk x (IsNetworkAnswer (L.L n) Forward net None olds)
+plain-forward : {E : Type 0} (n olds : ℕ) (net : Network Expression) (x : Result (Option (Net Expr)) E) → IfOk x (IsNetworkRightSide n olds net) → IfOk x (IsNetworkAnswer (L.L n) Forward net None olds)
 plain-forward n olds net (Ok None) h = forward-none n olds net h
 plain-forward n olds net (Ok (Some r)) h = forward_answer h
 plain-forward n olds net (Err f) h = tt
@@ -59,7 +59,7 @@ moved l m d k net g h olds x p q r a =
 
 -- forward, with none given
 pub forward-answered : {E : Type 0} (l : Law) (d : Direction) (n : ℕ) (net : Network Expression) (g : Option (Network Expression)) (olds : ℕ) (x : Result (Option (Net Expr)) E)
-    → l ≡ L.L n → d ≡ Forward → g ≡ None → IfOk x (IsRightSide n olds net) → IfOk x (IsNetworkAnswer l d net g olds)
+    → l ≡ L.L n → d ≡ Forward → g ≡ None → IfOk x (IsNetworkRightSide n olds net) → IfOk x (IsNetworkAnswer l d net g olds)
 forward-answered l d n net g olds x p q r h = moved l (L.L n) d Forward net g None olds x p q r (plain-forward n olds net x h)
 
 -- backward, with one given
@@ -74,8 +74,8 @@ one_answer l d net g olds r s (forward_answer {n = n} h) (forward_answer k) = on
 one_answer l d net g olds r s (backward_answer h) (backward_answer k) = refl
 
 -- the answer, where there is one, is a right side
-pub found-row : (n olds : ℕ) (net : Network Expression) (o : Option (Net Expr)) (r : Net Expr) → IsRightSide n olds net o → o ≡ Some r → NetworkRow n olds net (tree_of r)
-found-row n olds net o r h q = subst (IsRightSide n olds net) q h
+pub found-row : (n olds : ℕ) (net : Network Expression) (o : Option (Net Expr)) (r : Net Expr) → IsNetworkRightSide n olds net o → o ≡ Some r → NetworkRow n olds net (tree_of r)
+found-row n olds net o r h q = subst (IsNetworkRightSide n olds net) q h
 
 -- a right side that isn't the network is the only one
 pub other-side : (n olds : ℕ) (g net r : Network Expression) → NetworkRow n olds g r → (r ≡ net → ⊥) → NetworkRow n olds g net → ⊥

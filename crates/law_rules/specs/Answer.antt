@@ -41,14 +41,14 @@ IsNetworkAnswer law direction net given olds answer =
     (λ r. NetworkAnswer law direction net given olds (tree_of r))
 
 -- the right side of law n's row whose left side is the network, or none where it is no left side
-abbrev pub IsRightSide : ℕ → ℕ → Network Expression → Option (Net Expr) → Type 0
-IsRightSide n olds net answer =
+abbrev pub IsNetworkRightSide : ℕ → ℕ → Network Expression → Option (Net Expr) → Type 0
+IsNetworkRightSide n olds net answer =
     MatchOption answer ((r : Network Expression) → NetworkRow n olds net r → ⊥)
     (λ r. NetworkRow n olds net (tree_of r))
 
 -- there is at most one answer
-abbrev pub OneAnswerLaw : Type 0
-OneAnswerLaw = (law : Law) (direction : Direction) (net : Network Expression)
+abbrev pub OneNetworkAnswerLaw : Type 0
+OneNetworkAnswerLaw = (law : Law) (direction : Direction) (net : Network Expression)
     (given : Option (Network Expression)) (olds : ℕ) (r s : Network Expression)
     → NetworkAnswer law direction net given olds r
     → NetworkAnswer law direction net given olds s → r ≡ s

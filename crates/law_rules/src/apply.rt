@@ -3,7 +3,7 @@
 ghost use Rattle.std.specs.Prelude.{◌≡◌, IfOk, MatchOption};
 ghost use Rattle.net_syntax.specs.NetworkView.{tree_of};
 ghost use Rattle.law_rules.specs.NetworkRow.{NetworkRow};
-ghost use Rattle.law_rules.specs.Answer.{IsNetworkAnswer, IsRightSide, given_net};
+ghost use Rattle.law_rules.specs.Answer.{IsNetworkAnswer, IsNetworkRightSide, given_net};
 
 use crate::collections::{before_members, elements_apart, members_apart, unchanging};
 use crate::parts::{one_member, resumed, without_input};
@@ -46,7 +46,7 @@ fn forward(
     net: &Net<Expr>,
     olds: u32,
 ) -> Result<Option<Net<Expr>>, Memory>
-    ensures { IfOk result (IsRightSide number olds (tree_of net.now)) }
+    ensures { IfOk result (IsNetworkRightSide number olds (tree_of net.now)) }
 {
     match law_rule(number) {
         NetLaw::Nothing => Ok(None),

@@ -1,11 +1,11 @@
 // Laws of the rows and of answers: each function is a law, and does nothing.
 
-ghost use Rattle.law_rules.specs.Answer.{OneAnswerLaw, SameAnswerLaw};
+ghost use Rattle.law_rules.specs.Answer.{OneNetworkAnswerLaw, SameAnswerLaw};
 ghost use Rattle.law_rules.specs.Laws.{
   SameOutputsLaw,
   SameSidesLaw,
-  OneRightSideLaw,
-  RowNumbersLaw,
+  OneNetworkRightSideLaw,
+  NetworkRowNumbersLaw,
 };
 
 /// Both sides of each row do the same where they are typed alike; a left side has one right side;
@@ -13,13 +13,13 @@ ghost use Rattle.law_rules.specs.Laws.{
 pub fn row_laws()
     ensures same_outputs { SameOutputsLaw }
     ensures same_sides { SameSidesLaw }
-    ensures one_right_side { OneRightSideLaw }
-    ensures numbers { RowNumbersLaw }
+    ensures one_right_side { OneNetworkRightSideLaw }
+    ensures numbers { NetworkRowNumbersLaw }
 {}
 
 /// A law has at most one answer, which does the same as the network at hand where both are typed
 /// alike.
 pub fn answer_laws()
-    ensures one_answer { OneAnswerLaw }
+    ensures one_answer { OneNetworkAnswerLaw }
     ensures same { SameAnswerLaw }
 {}

@@ -19,8 +19,8 @@ SoundnessLaw = (e : Expression) (Ps : List TypeTree) (A B : TypeTree) → Expres
     → (ps : List Datum) (x : Datum) → TypedParams Ps ps → HasType x A → HasType (value_of e ps x) B
 
 -- an expression has at most one type
-abbrev pub OneTypeLaw : Type 0
-OneTypeLaw = (e : Expression) (Ps : List TypeTree) (A B C : TypeTree) → ExpressionTyped e Ps A B
+abbrev pub OneExpressionTypeLaw : Type 0
+OneExpressionTypeLaw = (e : Expression) (Ps : List TypeTree) (A B C : TypeTree) → ExpressionTyped e Ps A B
     → ExpressionTyped e Ps A C → B ≡ C
 
 -- the checking walk answers a type exactly where the expression has it within all limits

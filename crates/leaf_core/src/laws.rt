@@ -1,13 +1,13 @@
 // What holds of every expression.
 
-ghost use Rattle.leaf_core.specs.TypingLaws.{EqualityLaw, ExactnessLaw, OneTypeLaw, SoundnessLaw};
+ghost use Rattle.leaf_core.specs.TypingLaws.{EqualityLaw, ExactnessLaw, OneExpressionTypeLaw, SoundnessLaw};
 ghost use Rattle.leaf_core.specs.PartLaws.{SamePartLaw};
 
 /// A typed expression has values of its type, and one type; the checking walk answers it exactly
 /// where the expression has it within the limits; the test that `equal` makes is equality.
 pub fn typing_laws()
     ensures sound { SoundnessLaw }
-    ensures one_type { OneTypeLaw }
+    ensures one_type { OneExpressionTypeLaw }
     ensures exact { ExactnessLaw }
     ensures equality { EqualityLaw }
 {}

@@ -5,7 +5,7 @@ use Rattle.leaf_expr.specs.Token.{Token, closing, word, PlacedToken}
 use Rattle.leaf_expr.specs.Sexpr.{Sexpr, Sexprs, Spells, SpellAll, atom_spells, form_spells, last_spells, more_spells, depth}
 use Rattle.leaf_expr.specs.Language.{Language, Begins, Places, Maker, Row, places, meaning, make_tree}
 use Rattle.leaf_expr.specs.TreeReader.{Read, read}
-use Rattle.leaf_expr.specs.ReadLaws.{Completes, ViablePrefix, Whole, Leads, LeadsIn, at_tree, at_word, in_form, at_end, in_part, behind, in_item, behind_item, fault_at, Misfit, Stops, too_short, at_token, FaultLaw, OneFaultLaw}
+use Rattle.leaf_expr.specs.ReadLaws.{Completes, ViablePrefix, Whole, Leads, LeadsIn, at_tree, at_word, in_form, at_end, in_part, behind, in_item, behind_item, fault_at, Misfit, Stops, too_short, at_token, TokenFaultLaw, OneFaultLaw}
 use Rattle.leaf_expr.proofs.Proper.{Proper}
 use Rattle.leaf_expr.proofs.Opened.{opens_front}
 use Rattle.leaf_expr.proofs.ReadFound.{found}
@@ -203,5 +203,5 @@ module _ (L : Language) where
         go (Ok y) q = absurd (none_begins size room s ts e h y.0 y.1 y.2 (found L size room s ts y q))
         go (Err f) q = q ∙ ap Err (one_fault size room s ts f e (stops L proper size room s ts f q) h)
 
-    pub fault_law : FaultLaw L
+    pub fault_law : TokenFaultLaw L
     fault_law size room s ts e = (stops L proper size room s ts e, refuses size room s ts e)

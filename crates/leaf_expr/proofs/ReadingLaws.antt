@@ -1,6 +1,6 @@
 -- The laws of reading at the front of tokens, together.
 use Rattle.leaf_expr.specs.Language.{Language}
-use Rattle.leaf_expr.specs.ReadLaws.{FoundLaw, OnlyLaw, OneReadingLaw, FaultLaw, OneFaultLaw}
+use Rattle.leaf_expr.specs.ReadLaws.{FoundLaw, OnlyLaw, OneReadingLaw, TokenFaultLaw, OneFaultLaw}
 use Rattle.leaf_expr.proofs.Proper.{Proper}
 use Rattle.leaf_expr.proofs.ReadFound.{found}
 use Rattle.leaf_expr.proofs.ReadOnly.{only}
@@ -11,7 +11,7 @@ pub record ReadingLaws (L : Language) : Type 0 where
   pub found : FoundLaw L
   pub only : OnlyLaw L
   pub one : OneReadingLaw L
-  pub fault : FaultLaw L
+  pub fault : TokenFaultLaw L
   pub one_fault : OneFaultLaw L
 
 -- each proper language obeys them

@@ -120,8 +120,8 @@ module _ (L : Language) where
       → (t ≡ u) × (n ≡ m) × (rest ≡ more)
 
   -- a fault is answered exactly where it is the first token that doesn't fit, or the end
-  abbrev pub FaultLaw : Type 0
-  FaultLaw = (size room : ℕ) (s : L.Sort) (ts : List PlacedToken) (e : ExprTextFault)
+  abbrev pub TokenFaultLaw : Type 0
+  TokenFaultLaw = (size room : ℕ) (s : L.Sort) (ts : List PlacedToken) (e : ExprTextFault)
       → read L size room s ts ≡ Err e ↔ Stops size room s ts e
 
   -- tokens have at most one fault

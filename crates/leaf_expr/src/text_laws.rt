@@ -1,7 +1,7 @@
 // What texts of types and expressions mean, as laws of the definitions.
 
 ghost use Rattle.leaf_expr.specs.{Grammar.leaf, WordReading.NumberLaw, WordReading.NaturalLaw};
-ghost use Rattle.leaf_expr.specs.ReadLaws.{FoundLaw, OnlyLaw, OneReadingLaw, FaultLaw, OneFaultLaw};
+ghost use Rattle.leaf_expr.specs.ReadLaws.{FoundLaw, OnlyLaw, OneReadingLaw, TokenFaultLaw, OneFaultLaw};
 ghost use Rattle.leaf_expr.specs.Text.{ReadTextLaw, OneTextLaw, TextFaultLaw, PrintedLaw, PrintedTypeLaw, PrintedTextLaw};
 ghost use Rattle.leaf_expr.specs.TextRows.{TypeRows, WordRows, UnaryRows, BinaryRows, LongRows, MergeIs, GateIs, TagIs, AttachIs, FaultRows};
 
@@ -12,7 +12,7 @@ pub fn reading_laws()
     ensures found { FoundLaw leaf }
     ensures only { OnlyLaw leaf }
     ensures one { OneReadingLaw leaf }
-    ensures fault { FaultLaw leaf }
+    ensures fault { TokenFaultLaw leaf }
     ensures one_fault { OneFaultLaw leaf }
 {}
 

@@ -6,6 +6,6 @@ use Rattle.cert_check.specs.Derives.{Derives}
 use Rattle.net_improve.specs.Improving.{Improved}
 
 -- what is improved, with its source's input type, is derived from the source by the steps
-abbrev pub DerivesLaw : Type 0
-DerivesLaw = (source target : TypedNetwork) (steps : List Step)
+abbrev pub ImprovedDerivesLaw : Type 0
+ImprovedDerivesLaw = (source target : TypedNetwork) (steps : List Step)
     → Improved source target.net steps → source.input ≡ target.input → Derives source target steps

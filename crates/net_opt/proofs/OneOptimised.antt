@@ -16,7 +16,7 @@ use Rattle.cert_check.specs.Derives.{Next}
 use Rattle.cert_check.specs.TreeAnswer.{TreeAnswer}
 use Rattle.cert_check.proofs.OneAnswer.{one_next}
 use Rattle.net_opt.specs.Laws.{OneOptimisedLaw}
-use Rattle.net_opt.specs.Optimising.{MayTake, NoneLeft, NoStepBy, FirstIn, FirstLaw, IsFirst, FirstSteps, none_first, first_then, Exhausts, expression_laws, forward_step, network_laws}
+use Rattle.net_opt.specs.Optimising.{MayTake, NoneLeft, NoStepBy, FirstIn, FirstTriedLaw, IsFirst, FirstSteps, none_first, first_then, Exhausts, expression_laws, forward_step, network_laws}
 use Rattle.net_opt.specs.Order.{Before, on_the_way, before_at, before_below}
 use Rattle.net_opt.specs.Search.{Takes}
 use Rattle.net_opt.proofs.Tried.{no_kind_net, no_kind_leaf}
@@ -81,7 +81,7 @@ not_both t u v p n m x y =
 
 -- and so they are by one law
 same_law : (t u v : TypedNetwork) (p : List ℕ) (law other : Law) → Next t (forward_step law p) u → Next t (forward_step other p) v
-    → FirstLaw (NoStepBy t p) law → FirstLaw (NoStepBy t p) other → law ≡ other
+    → FirstTriedLaw (NoStepBy t p) law → FirstTriedLaw (NoStepBy t p) other → law ≡ other
 same_law t u v p (L.L n) (L.L m) x y a b =
     ap L.L (one_number (λ k. NoStepBy t p (L.L k)) network_laws n m a b (λ none. none u x) (λ none. none v y) (cases_order a.index b.index))
 same_law t u v p (L.E n) (L.E m) x y a b =
@@ -94,7 +94,7 @@ same_step t u v s r a b i j =
     let place : s.position ≡ r.position = same_position t u v s r a b i j (order s.position r.position) in
     let law : s.law ≡ r.law =
     same_law t u v r.position s.law r.law (subst (λ p. Next t (forward_step s.law p) u) place (leads_on t u s a)) (leads_on t v r b)
-    (subst (λ p. FirstLaw (NoStepBy t p) s.law) place i.first_law) j.first_law in
+    (subst (λ p. FirstTriedLaw (NoStepBy t p) s.law) place i.first_law) j.first_law in
     let alike : forward_step s.law s.position ≡ forward_step r.law r.position = λ k. forward_step (law k) (place k) in
     is_forward s a.may ∙ alike ∙ sym (is_forward r b.may)
 

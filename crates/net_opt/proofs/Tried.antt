@@ -26,8 +26,8 @@ use Rattle.std.proofs.lemmas.List.Elements.{All-nil, All-push}
 use Rattle.cert_check.proofs.Taken.{steps_more}
 use Rattle.cert_check.specs.Derives.{Answered, Next, Steps, no_step}
 use Rattle.net_opt.specs.Order.{Before}
-use Rattle.net_opt.specs.Optimising.{MayTake, NoneLeft, network_laws, expression_laws, forward_step, NoStepBy, FirstLaw, IsFirst, FirstSteps, none_first, first_then}
-use Rattle.net_opt.specs.Search.{StandsThere, ExpressionThere, NoMatchBy, Passed, PassedAt, FirstAt, FirstWithin, Takes, Found, Puts}
+use Rattle.net_opt.specs.Optimising.{MayTake, NoneLeft, network_laws, expression_laws, forward_step, NoStepBy, FirstTriedLaw, IsFirst, FirstSteps, none_first, first_then}
+use Rattle.net_opt.specs.Search.{StandsThere, ExpressionThere, NoMatchBy, Passed, PassedAt, FirstAt, FirstWithin, Takes, FoundStep, Puts}
 
 -- what is answered forward at a network by a law of networks, and that nothing else is
 record NetAnswer (n olds : ℕ) (f : Network Expression) (new : Tree Expression) : Type 0 where
@@ -165,25 +165,25 @@ none_there b t p is = λ law tried. unmatched b t p law (λ new a. none-some a.p
 
 -- what is put there by a law's right side is its step
 put_net : (t u : TypedNetwork) (p : List ℕ) (n j : ℕ) (f r : Network Expression) (a b : Bool) (o : Option LawStep) → StandsThere t p n (a_network f)
-    → Contains network_laws j → NetworkRow j n f r → Puts (L.L j) t p (a_network r) u a b o → Found (Passed b t p (L.L j)) (λ s. s ≡ forward_step (L.L j) p) t u o
+    → Contains network_laws j → NetworkRow j n f r → Puts (L.L j) t p (a_network r) u a b o → FoundStep (Passed b t p (L.L j)) (λ s. s ≡ forward_step (L.L j) p) t u o
 put_net t u p n j f r a b None s tried row h = (h.0, not_taken b t p (L.L j) h.2 (refused_net t p n j f r s row h.1))
 put_net t u p n j f r a b (Some x) s tried row h = (taken_net t u p n j f r (step_of x) s row tried h.0 h.1, h.0)
 
 put_leaf : (t u : TypedNetwork) (p : List ℕ) (j : ℕ) (e r : Expression) (a b : Bool) (o : Option LawStep) → ExpressionThere t p e
-    → Contains expression_laws j → ExpressionRow j e r → Puts (L.E j) t p (a_leaf r) u a b o → Found (Passed b t p (L.E j)) (λ s. s ≡ forward_step (L.E j) p) t u o
+    → Contains expression_laws j → ExpressionRow j e r → Puts (L.E j) t p (a_leaf r) u a b o → FoundStep (Passed b t p (L.E j)) (λ s. s ≡ forward_step (L.E j) p) t u o
 put_leaf t u p j e r a b None s tried row h = (h.0, not_taken b t p (L.E j) h.2 (refused_leaf t p j e r s row h.1))
 put_leaf t u p j e r a b (Some x) s tried row h = (taken_leaf t u p j e r (step_of x) s row tried h.0 h.1, h.0)
 
 -- the same of what the code answers
 pub net_step : (t u : TypedNetwork) (p : List ℕ) (n j : ℕ) (f r : Network Expression) (a b : Bool) (o : Result (Option LawStep) Memory)
     → StandsThere t p n (a_network f) → Contains network_laws j → N.NetworkAnswer (L.L j) Forward f None n r → IfOk o (Puts (L.L j) t p (a_network r) u a b)
-    → IfOk o (Found (Passed b t p (L.L j)) (λ s. s ≡ forward_step (L.L j) p) t u)
+    → IfOk o (FoundStep (Passed b t p (L.L j)) (λ s. s ≡ forward_step (L.L j) p) t u)
 net_step t u p n j f r a b (Ok o) s tried (N.forward_answer row) h = put_net t u p n j f r a b o s tried row h
 net_step t u p n j f r a b (Err m) s tried x h = tt
 
 pub leaf_step : (t u : TypedNetwork) (p : List ℕ) (j : ℕ) (e r : Expression) (a b : Bool) (o : Result (Option LawStep) Memory)
     → ExpressionThere t p e → Contains expression_laws j → E.ExpressionAnswer (L.E j) Forward e None r → IfOk o (Puts (L.E j) t p (a_leaf r) u a b)
-    → IfOk o (Found (Passed b t p (L.E j)) (λ s. s ≡ forward_step (L.E j) p) t u)
+    → IfOk o (FoundStep (Passed b t p (L.E j)) (λ s. s ≡ forward_step (L.E j) p) t u)
 leaf_step t u p j e r a b (Ok o) s tried (E.forward_answer row) h = put_leaf t u p j e r a b o s tried row h
 leaf_step t u p j e r a b (Err m) s tried x h = tt
 
@@ -214,12 +214,12 @@ pub none_taken : (xs : List LawStep) → xs ≡ [] → All MayTake (map step_of 
 none_taken xs e = subst (λ ys. All MayTake (map step_of ys)) (sym e) (All-nil MayTake)
 
 -- no step was taken, or one was
-pub found_none : (N : Type 0) (S : Step → Type 0) (t u : TypedNetwork) (o : Option LawStep) → ((x : LawStep) → o ≡ Some x → ⊥) → Found N S t u o → (u ≡ t) × N
+pub found_none : (N : Type 0) (S : Step → Type 0) (t u : TypedNetwork) (o : Option LawStep) → ((x : LawStep) → o ≡ Some x → ⊥) → FoundStep N S t u o → (u ≡ t) × N
 found_none N S t u None never h = h
 found_none N S t u (Some x) never h = absurd (never x refl)
 
-pub found_some : (N : Type 0) (S : Step → Type 0) (t u : TypedNetwork) (o : Option LawStep) (x : LawStep) → o ≡ Some x → Found N S t u o → Takes t (step_of x) u × S (step_of x)
-found_some N S t u o x e h = subst (Found N S t u) e h
+pub found_some : (N : Type 0) (S : Step → Type 0) (t u : TypedNetwork) (o : Option LawStep) (x : LawStep) → o ≡ Some x → FoundStep N S t u o → Takes t (step_of x) u × S (step_of x)
+found_some N S t u o x e h = subst (FoundStep N S t u) e h
 
 -- one law more was tried
 pub net_law_more : (a b : Bool) (t v : TypedNetwork) (p q : List ℕ) (i : ℕ) → (a ≡ true → b ≡ true) → v ≡ t → q ≡ p
@@ -237,11 +237,11 @@ leaf_law_more a b t v p q i on same way before here =
     (subst (λ w. Passed b w p (L.E (get_or expression_laws i 0))) same (subst (λ x. Passed b v x (L.E (get_or expression_laws i 0))) way here))
 
 -- a step by the law that is tried now is the first there
-first_by : (b : Bool) (t v u : TypedNetwork) (p q : List ℕ) (law : Law) (s : Step) → v ≡ t → q ≡ p → FirstLaw (Passed b t p) law → Takes v s u × (s ≡ forward_step law q)
+first_by : (b : Bool) (t v u : TypedNetwork) (p q : List ℕ) (law : Law) (s : Step) → v ≡ t → q ≡ p → FirstTriedLaw (Passed b t p) law → Takes v s u × (s ≡ forward_step law q)
     → Takes t s u × FirstAt b t p s
 first_by b t v u p q law s same way first h = (
   subst (λ w. Takes w s u) same h.0,
-  record { there = ap (λ (z : Step). z.position) h.1 ∙ way; first_law = subst (FirstLaw (Passed b t p)) (sym (ap (λ (z : Step). z.law) h.1)) first },
+  record { there = ap (λ (z : Step). z.position) h.1 ∙ way; first_law = subst (FirstTriedLaw (Passed b t p)) (sym (ap (λ (z : Step). z.law) h.1)) first },
 )
 
 pub first_net_law : (a b : Bool) (t v u : TypedNetwork) (p q : List ℕ) (i : ℕ) (s : Step) → (a ≡ true → b ≡ true) → v ≡ t → q ≡ p → i < length network_laws
@@ -257,7 +257,7 @@ first_leaf_law a b t v u p q i s on same way lt before h =
     (record { index = i; within = lt; is = refl; before = λ k l. passed_on a b t p (L.E (get_or expression_laws k 0)) on (before k l) }) h
 
 -- the first of the walk from the root is the first of all
-first_law_on : (b : Bool) (t : TypedNetwork) (p : List ℕ) (law : Law) → FirstLaw (Passed b t p) law → FirstLaw (NoStepBy t p) law
+first_law_on : (b : Bool) (t : TypedNetwork) (p : List ℕ) (law : Law) → FirstTriedLaw (Passed b t p) law → FirstTriedLaw (NoStepBy t p) law
 first_law_on b t p (L.L n) h =
     record { index = h.index; within = h.within; is = h.is; before = λ k l. passed_on b true t p (L.L (get_or network_laws k 0)) (λ e. refl) (h.before k l) }
 first_law_on b t p (L.E n) h =

@@ -19,10 +19,10 @@ use Rattle.net_syntax.specs.TypedNetwork.{TypedNetwork}
 use Rattle.net_syntax.proofs.FoundTypes.{ChildThere, child_there}
 use Rattle.net_types.proofs.Sizes.{few_inside}
 use Rattle.cert_check.proofs.FewBound.{few_bound}
-use Rattle.net_opt.specs.Optimising.{NoneLeft, FirstLaw}
+use Rattle.net_opt.specs.Optimising.{NoneLeft, FirstTriedLaw}
 use Rattle.net_syntax.specs.LawStep.{Step, step_of}
 use Rattle.net_opt.specs.Order.{LeftOf, lower, deeper, Before, on_the_way, before_at, before_below, onward}
-use Rattle.net_opt.specs.Search.{Passed, PassedAt, PassedWithin, Settled, FirstAt, FirstWithin, Takes, Found}
+use Rattle.net_opt.specs.Search.{Passed, PassedAt, PassedWithin, Settled, FirstAt, FirstWithin, Takes, FoundStep}
 use Rattle.net_opt.specs.Walk.{Limited, Reached}
 use Rattle.net_opt.proofs.Insides.{inside, ChildFits, PartFits, child_fits, part_fits, no_later_child, no_later_part}
 use Rattle.net_opt.proofs.Beside.{beside}
@@ -264,7 +264,7 @@ first_here b t p s h = record {
   rest = [];
   leads = h.there ∙ sym (append-nil p);
   earlier = λ q i. absurd (none_before i refl);
-  first_law = subst (λ (x : List ℕ). FirstLaw (Passed b t x) s.law) (sym h.there) h.first_law;
+  first_law = subst (λ (x : List ℕ). FirstTriedLaw (Passed b t x) s.law) (sym h.there) h.first_law;
 }
 
 -- a step that is the first in what is inside at a number is the first within, where the laws were passed at the tree and at the numbers below
@@ -293,14 +293,14 @@ first_deeper a b t v u p q r k s on same_net same_path more here before takes h 
 
 -- the walk of the whole network
 from_root_step : (b : Bool) (t u : TypedNetwork) (p q : List ℕ) (o : Option LawStep) → p ≡ []
-    → Found ((q ≡ p) × PassedWithin b t p) (λ s. (q ≡ s.position) × FirstWithin b t p s) t u o
-    → Found (NoneLeft t) (λ s. (q ≡ s.position) × FirstWithin b t [] s) t u o
+    → FoundStep ((q ≡ p) × PassedWithin b t p) (λ s. (q ≡ s.position) × FirstWithin b t p s) t u o
+    → FoundStep (NoneLeft t) (λ s. (q ≡ s.position) × FirstWithin b t [] s) t u o
 from_root_step b t u p q None e h = (h.0, none_anywhere b t (subst (λ x. PassedWithin b t x) e h.1.1))
 from_root_step b t u p q (Some x) e h = (h.0, (h.1.0, subst (λ z. FirstWithin b t z (step_of x)) e h.1.1))
 
 pub from_root : (b : Bool) (t u : TypedNetwork) (p q : List ℕ) (r : Result (Option LawStep) Memory) → p ≡ []
-    → IfOk r (Found ((q ≡ p) × PassedWithin b t p) (λ s. (q ≡ s.position) × FirstWithin b t p s) t u)
-    → IfOk r (Found (NoneLeft t) (λ s. (q ≡ s.position) × FirstWithin b t [] s) t u)
+    → IfOk r (FoundStep ((q ≡ p) × PassedWithin b t p) (λ s. (q ≡ s.position) × FirstWithin b t p s) t u)
+    → IfOk r (FoundStep (NoneLeft t) (λ s. (q ≡ s.position) × FirstWithin b t [] s) t u)
 from_root b t u p q (Ok o) e h = from_root_step b t u p q o e h
 from_root b t u p q (Err m) e h = tt
 

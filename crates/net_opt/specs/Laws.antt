@@ -8,8 +8,8 @@ use Rattle.cert_check.specs.Derives.{Derives}
 use Rattle.net_opt.specs.Optimising.{Optimised}
 
 -- what is optimised, with its source's input type, is derived from the source by the steps
-abbrev pub DerivesLaw : Type 0
-DerivesLaw = (source target : TypedNetwork) (steps : List Step)
+abbrev pub OptimisedDerivesLaw : Type 0
+OptimisedDerivesLaw = (source target : TypedNetwork) (steps : List Step)
     → Optimised source target.net steps → source.input ≡ target.input → Derives source target steps
 
 -- a network is optimised to one network, by one list of steps

@@ -52,15 +52,15 @@ pub record FirstIn (So : ℕ → Type 0) (ns : List ℕ) (n : ℕ) : Type 0 wher
   pub before : (k : ℕ) → k < index → So (get_or ns k 0)
 
 -- the law is tried, and each that is tried before it is so
-abbrev pub FirstLaw : (Law → Type 0) → Law → Type 0
-FirstLaw So (L.L n) = FirstIn (λ m. So (L.L m)) network_laws n
-FirstLaw So (L.E n) = FirstIn (λ m. So (L.E m)) expression_laws n
+abbrev pub FirstTriedLaw : (Law → Type 0) → Law → Type 0
+FirstTriedLaw So (L.L n) = FirstIn (λ m. So (L.L m)) network_laws n
+FirstTriedLaw So (L.E n) = FirstIn (λ m. So (L.E m)) expression_laws n
 
 -- the first step of the walk: none that may be taken leads on at a position before its own, nor
 -- there by a law that is tried before its own
 pub record IsFirst (t : TypedNetwork) (s : Step) : Type 0 where
   pub earlier : (p : List ℕ) → Before p s.position → (law : Law) → IsTried law → NoStepBy t p law
-  pub first_law : FirstLaw (NoStepBy t s.position) s.law
+  pub first_law : FirstTriedLaw (NoStepBy t s.position) s.law
 
 -- steps lead from one network to another, each the first of the walk where it is taken
 pub data FirstSteps : TypedNetwork → List Step → TypedNetwork → Type 0 where

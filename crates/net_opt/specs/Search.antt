@@ -10,7 +10,7 @@ use Rattle.net_syntax.specs.declared.law_step.Law.{Law}
 use Rattle.net_syntax.specs.Rewriting.{Rewrites}
 use Rattle.net_types.specs.Answered.{NoRewriting}
 use Rattle.cert_check.specs.Derives.{Answered, Next}
-use Rattle.net_opt.specs.Optimising.{IsTried, MayTake, forward_step, NoStepBy, FirstLaw}
+use Rattle.net_opt.specs.Optimising.{IsTried, MayTake, forward_step, NoStepBy, FirstTriedLaw}
 use Rattle.net_opt.specs.Order.{Before, LeftOf}
 
 -- what stands at the position, with so many frozen networks in scope
@@ -50,7 +50,7 @@ pub record FirstWithin (refused : Bool) (t : TypedNetwork) (p : List ℕ) (s : S
   pub rest : List ℕ
   pub leads : s.position ≡ p ++ rest
   pub earlier : (q : List ℕ) → Before q rest → PassedAt refused t (p ++ q)
-  pub first_law : FirstLaw (Passed refused t s.position) s.law
+  pub first_law : FirstTriedLaw (Passed refused t s.position) s.law
 
 -- a step that may be taken leads on so
 pub record Takes (t : TypedNetwork) (s : Step) (u : TypedNetwork) : Type 0 where
@@ -58,9 +58,9 @@ pub record Takes (t : TypedNetwork) (s : Step) (u : TypedNetwork) : Type 0 where
   pub next : Next t s u
 
 -- where the network was t and now is u: such a step was taken, or none, which says Nothing
-abbrev pub Found : Type 0 → (Step → Type 0) → TypedNetwork → TypedNetwork → Option LawStep → Type 0
-Found Nothing Such t u None = (u ≡ t) × Nothing
-Found Nothing Such t u (Some s) = Takes t (step_of s) u × Such (step_of s)
+abbrev pub FoundStep : Type 0 → (Step → Type 0) → TypedNetwork → TypedNetwork → Option LawStep → Type 0
+FoundStep Nothing Such t u None = (u ≡ t) × Nothing
+FoundStep Nothing Such t u (Some s) = Takes t (step_of s) u × Such (step_of s)
 
 -- where the network was t and now is u, and something was refused or not, before and now: the law's
 -- step stands there with the tree at the position, or that was refused, and all is as it was
@@ -73,4 +73,4 @@ Puts law t p new u before now (Some s) =
 -- the step is at the position, by the first law that wasn't passed there
 pub record FirstAt (refused : Bool) (t : TypedNetwork) (p : List ℕ) (s : Step) : Type 0 where
   pub there : s.position ≡ p
-  pub first_law : FirstLaw (Passed refused t p) s.law
+  pub first_law : FirstTriedLaw (Passed refused t p) s.law

@@ -1,10 +1,10 @@
 // Laws of the optimiser: each function is a law, and does nothing.
 
-ghost use Rattle.net_opt.specs.Laws.{DerivesLaw, OneOptimisedLaw};
+ghost use Rattle.net_opt.specs.Laws.{OptimisedDerivesLaw, OneOptimisedLaw};
 
 /// The steps derive the answer, so a check of them accepts it. There is one answer: two runs of the
 /// optimiser on one network take the same steps to the same network.
 pub fn optimised_laws()
-    ensures derives { DerivesLaw }
+    ensures derives { OptimisedDerivesLaw }
     ensures one { OneOptimisedLaw }
 {}

@@ -4,7 +4,7 @@ ghost use Rattle.std.specs.Prelude.{◌≡◌, [], IfOk, map};
 ghost use Rattle.net_syntax.specs.NetworkView.{tree_of};
 ghost use Rattle.net_syntax.specs.LawStep.{step_of};
 ghost use Rattle.net_opt.specs.Optimising.{Exhausts, NoneLeft, Optimised};
-ghost use Rattle.net_opt.specs.Search.{FirstWithin, Found, Settled};
+ghost use Rattle.net_opt.specs.Search.{FirstWithin, FoundStep, Settled};
 
 use crate::search::step_within;
 use crate::walk::Walk;
@@ -63,7 +63,7 @@ fn first_step(
 ) -> Result<Option<LawStep>, Memory>
     requires root { walk.old.path.items ≡ [] }
     requires settled { Settled reached.old [] settled.now }
-    ensures { IfOk result (Found (NoneLeft reached.old)
+    ensures { IfOk result (FoundStep (NoneLeft reached.old)
         (λ s. (walk.new.path.items ≡ s.position) × FirstWithin walk.new.refused reached.old [] s)
         reached.old reached.new) }
 {

@@ -3,7 +3,7 @@
 ghost use Rattle.std.specs.Prelude.{◌≡◌, IfOk, get_or, true};
 ghost use Rattle.net_syntax.specs.ChildParts.{seen_place};
 ghost use Rattle.net_opt.specs.Order.{onward};
-ghost use Rattle.net_opt.specs.Search.{FirstWithin, Found, PassedWithin, Settled};
+ghost use Rattle.net_opt.specs.Search.{FirstWithin, FoundStep, PassedWithin, Settled};
 ghost use Rattle.net_opt.specs.Walk.{Reached};
 
 use crate::step::step_at;
@@ -25,7 +25,7 @@ pub(crate) fn step_within(
     requires reached { Reached typed.old walk.old.path.items (seen_place place) }
     requires settled { Settled typed.old walk.old.path.items settled.now }
     ensures more { walk.old.refused ≡ true → walk.new.refused ≡ true }
-    ensures found { IfOk result (Found
+    ensures found { IfOk result (FoundStep
         ((walk.new.path.items ≡ walk.old.path.items)
         × PassedWithin walk.new.refused typed.old walk.old.path.items)
         (λ s. (walk.new.path.items ≡ s.position)

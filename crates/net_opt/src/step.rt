@@ -10,7 +10,7 @@ ghost use Rattle.net_syntax.specs.Place.{a_network};
 ghost use Rattle.net_syntax.specs.Placed.{placed_at};
 ghost use Rattle.net_syntax.specs.declared.law_step.Law.TheVariants as V;
 ghost use Rattle.net_opt.specs.Optimising.{expression_laws, forward_step, network_laws};
-ghost use Rattle.net_opt.specs.Search.{ExpressionThere, FirstAt, Found, Passed, PassedAt, Puts, StandsThere};
+ghost use Rattle.net_opt.specs.Search.{ExpressionThere, FirstAt, FoundStep, Passed, PassedAt, Puts, StandsThere};
 ghost use Rattle.net_opt.specs.Walk.{KeepsWalk};
 
 use crate::walk::Walk;
@@ -40,7 +40,7 @@ pub(crate) fn step_at(
     requires { placed_at 0 0 (a_network typed.old.net) walk.old.path.items
         ≡ Some (seen_place place) }
     ensures keeps { KeepsWalk walk.old walk.new }
-    ensures found { IfOk result (Found
+    ensures found { IfOk result (FoundStep
         (PassedAt walk.new.refused typed.old walk.old.path.items)
         (FirstAt walk.new.refused typed.old walk.old.path.items)
         typed.old typed.new) }
@@ -61,7 +61,7 @@ fn step_at_net(
 ) -> Result<Option<LawStep>, Memory>
     requires { StandsThere typed.old walk.old.path.items olds (a_network (tree_of net.now)) }
     ensures keeps { KeepsWalk walk.old walk.new }
-    ensures found { IfOk result (Found
+    ensures found { IfOk result (FoundStep
         (PassedAt walk.new.refused typed.old walk.old.path.items)
         (FirstAt walk.new.refused typed.old walk.old.path.items)
         typed.old typed.new) }
@@ -83,7 +83,7 @@ fn step_at_expr(
 ) -> Result<Option<LawStep>, Memory>
     requires { ExpressionThere typed.old walk.old.path.items (expression_of expr.now) }
     ensures keeps { KeepsWalk walk.old walk.new }
-    ensures found { IfOk result (Found
+    ensures found { IfOk result (FoundStep
         (PassedAt walk.new.refused typed.old walk.old.path.items)
         (FirstAt walk.new.refused typed.old walk.old.path.items)
         typed.old typed.new) }
@@ -108,7 +108,7 @@ fn step_by_net_law(
     requires stands { StandsThere typed.old walk.old.path.items olds (a_network (tree_of net.now)) }
     requires tried { Contains network_laws number }
     ensures keeps { KeepsWalk walk.old walk.new }
-    ensures found { IfOk result (Found
+    ensures found { IfOk result (FoundStep
         (Passed walk.new.refused typed.old walk.old.path.items (V.L number))
         (λ s. s ≡ forward_step (V.L number) walk.old.path.items)
         typed.old typed.new) }
@@ -131,7 +131,7 @@ fn step_by_expr_law(
     requires stands { ExpressionThere typed.old walk.old.path.items (expression_of expr.now) }
     requires tried { Contains expression_laws number }
     ensures keeps { KeepsWalk walk.old walk.new }
-    ensures found { IfOk result (Found
+    ensures found { IfOk result (FoundStep
         (Passed walk.new.refused typed.old walk.old.path.items (V.E number))
         (λ s. s ≡ forward_step (V.E number) walk.old.path.items)
         typed.old typed.new) }

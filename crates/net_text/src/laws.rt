@@ -1,6 +1,6 @@
 // What network files mean, as laws of the definitions.
 
-ghost use Rattle.leaf_expr.specs.ReadLaws.{FoundLaw, OnlyLaw, OneReadingLaw, FaultLaw, OneFaultLaw};
+ghost use Rattle.leaf_expr.specs.ReadLaws.{FoundLaw, OnlyLaw, OneReadingLaw, TokenFaultLaw, OneFaultLaw};
 ghost use Rattle.net_text.specs.Grammar.{Version, networks};
 ghost use Rattle.net_text.specs.FileLaws.{ReadFileLaw, OneFileLaw, FileFaultLaw, LeafMeaningLaw, OlderNetworkLaw, NothingNewLaw, PrintedFileLaw};
 ghost use Rattle.net_text.specs.CertificatePrinting.{PrintedCertificateLaw};
@@ -18,7 +18,7 @@ pub fn reading_laws()
     ensures found { (v : Version) → FoundLaw (networks v) }
     ensures only { (v : Version) → OnlyLaw (networks v) }
     ensures one { (v : Version) → OneReadingLaw (networks v) }
-    ensures fault { (v : Version) → FaultLaw (networks v) }
+    ensures fault { (v : Version) → TokenFaultLaw (networks v) }
     ensures one_fault { (v : Version) → OneFaultLaw (networks v) }
     ensures leaves { LeafMeaningLaw }
     ensures older { OlderNetworkLaw }

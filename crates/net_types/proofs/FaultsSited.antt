@@ -17,7 +17,7 @@ use Rattle.net_types.specs.declared.fault.TypeFault.TheVariants as Fault
 use Rattle.net_types.specs.Walk.{LeafChecker, ◌>>=◌, ◌↓◌, test, within, expect_same, as_pair, as_event, as_choice, test_range, test_members, old_at, all_same, one_output, leaf_fault_at, leaf, switched, walk, walk_all}
 use Rattle.net_types.specs.Check.{check}
 use Rattle.net_types.specs.FaultPlaces.{FaultStandsIn, NetworkPlace, LeafPlace, JointPlace, joint_at_network, joint_at_choice}
-use Rattle.net_types.specs.TypingLaws.{FaultLaw}
+use Rattle.net_types.specs.TypingLaws.{TypeFaultLaw}
 use Rattle.net_types.proofs.WalkTests.{either}
 
 asked : {A B : Type 0} {r : Option A} (k : A → Option B) {a : A} {v : Option B} → r ≡ Some a → k a ≡ v → place.◌>>=◌ r k ≡ v
@@ -315,5 +315,5 @@ check_sited A net =
     (λ w i. ends_next (by_test t net [] (leb (weight net []) 1000000) Fault.TooHeavy tt) (λ j k. ended tt)))))
     (ends_next (by_within t net [] A) (λ Z u. failed tt))
 
-pub faults_sited : FaultLaw
+pub faults_sited : TypeFaultLaw
 faults_sited A net f e = faulting (check_sited A net) e

@@ -15,10 +15,10 @@ NoRewriting t p new = (u : TypedNetwork) → Rewrites t p new u → ⊥
 
 -- where t was and now is t': done, it is the one with new at the position; else it is as before, and
 -- the position isn't there, or is of another kind, or there is no such network
-abbrev pub Answers : Result Rewritten Memory → TypedNetwork → List ℕ → Tree Expression
+abbrev pub AnswersRewritten : Result Rewritten Memory → TypedNetwork → List ℕ → Tree Expression
     → TypedNetwork → Type 0
-Answers (Ok Done) t p new t' = Rewrites t p new t'
-Answers (Ok NoPosition) t p new t' = (replaced (a_network t.net) p new ≡ None) × (t' ≡ t)
-Answers (Ok IllTyped) t p new t' =
+AnswersRewritten (Ok Done) t p new t' = Rewrites t p new t'
+AnswersRewritten (Ok NoPosition) t p new t' = (replaced (a_network t.net) p new ≡ None) × (t' ≡ t)
+AnswersRewritten (Ok IllTyped) t p new t' =
     (replaced (a_network t.net) p new ≢ None) × NoRewriting t p new × (t' ≡ t)
-Answers (Err m) t p new t' = t' ≡ t
+AnswersRewritten (Err m) t p new t' = t' ≡ t

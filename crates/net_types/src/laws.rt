@@ -1,6 +1,6 @@
 // Laws of the walk and of the check: each function is a law, and does nothing.
 
-ghost use Rattle.net_types.specs.TypingLaws.{WalkLaw, CheckLaw, FaultLaw, SizeLaw};
+ghost use Rattle.net_types.specs.TypingLaws.{WalkLaw, CheckLaw, TypeFaultLaw, SizeLaw};
 
 /// The walk answers a type exactly where the network has it within the limits, and the check
 /// exactly what is within all limits; each fault stands at a part of the network that can have
@@ -8,6 +8,6 @@ ghost use Rattle.net_types.specs.TypingLaws.{WalkLaw, CheckLaw, FaultLaw, SizeLa
 pub fn typing_laws()
     ensures walk { WalkLaw }
     ensures check { CheckLaw }
-    ensures faults { FaultLaw }
+    ensures faults { TypeFaultLaw }
     ensures sizes { SizeLaw }
 {}

@@ -5,7 +5,7 @@ ghost use Rattle.sample_core.specs.TypeView.{type_of};
 ghost use Rattle.leaf_core.specs.{ExpressionView.expression_of, TypeLimits.same_tree};
 ghost use Rattle.net_syntax.specs.NetworkView.{tree_of};
 ghost use Rattle.net_syntax.specs.{LawStep.part_of, NetworkLimits.WithinLimits, Place.a_leaf, Place.a_network, Placed.replaced, Rewriting.Rewrites, Standing.alone, Standing.standing, StandingWalk.standing_of};
-ghost use Rattle.net_types.specs.Answered.{Answers, NoRewriting};
+ghost use Rattle.net_types.specs.Answered.{AnswersRewritten, NoRewriting};
 ghost use Rattle.net_types.specs.KeptTypes.{checked_output, kept_in_leaf, same_type, type_kept};
 
 use crate::fault::TypeFault;
@@ -45,7 +45,7 @@ pub fn rewrite(
     position: &Position,
     tree: Tree,
 ) -> Result<Rewritten, Memory>
-    ensures { Answers result net.old position.now (part_of tree) net.new }
+    ensures { AnswersRewritten result net.old position.now (part_of tree) net.new }
 {
     let found = replace(alloc, net.net(), position, &tree);
     let changed = match found {

@@ -5,7 +5,7 @@ use Rattle.std.proofs.lemmas.List.{map-append, take_more, take_all}
 use Rattle.std.proofs.lemmas.List.Elements.{All-push}
 use Rattle.net_syntax.specs.TypedNetwork.{TypedNetwork}
 use Rattle.net_view.specs.Listed.{IsThere, IsAtOrBelow, ArePositions}
-use Rattle.net_view.specs.Rows.{Row, row_of, IsRow, IsOutline}
+use Rattle.net_view.specs.Rows.{OutlinedRow, row_of, IsRow, IsOutline}
 use Rattle.net_view.specs.declared.rows.OutlineRow.{OutlineRow}
 
 -- the positions of rows
@@ -26,7 +26,7 @@ mapped_more rows now row e = ap (map row_of) e ∙ map-append row_of rows (row �
 pub positions_more : (items : List (List ℕ)) (i : ℕ) (q : List ℕ) (rows now : List OutlineRow) (row : OutlineRow) → i < length items → q ≡ get_or items i q
     → positions_of rows ≡ take i items → now ≡ rows ++ row ∷ [] → row.position ≡ q → positions_of now ≡ take (i + 1) items
 positions_more items i q rows now row lt is before e at =
-    ap (map (λ (r : Row). r.position)) (mapped_more rows now row e) ∙ map-append (λ (r : Row). r.position) (map row_of rows) (row_of row ∷ [])
+    ap (map (λ (r : OutlinedRow). r.position)) (mapped_more rows now row e) ∙ map-append (λ (r : OutlinedRow). r.position) (map row_of rows) (row_of row ∷ [])
     ∙ ap (λ z. z ++ row.position ∷ []) before ∙ ap (λ (z : List ℕ). take i items ++ z ∷ []) (at ∙ is) ∙ sym (take_more items i q lt)
 
 pub rows_more : (t : TypedNetwork) (rows now : List OutlineRow) (row : OutlineRow) → All (IsRow t) (map row_of rows) → now ≡ rows ++ row ∷ [] → IsRow t (row_of row)

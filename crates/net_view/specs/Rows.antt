@@ -14,14 +14,14 @@ use Rattle.net_view.specs.Listed.{ArePositions}
 use Rattle.net_view.specs.declared.rows.OutlineRow.{OutlineRow}
 
 -- a position, what stands there, its output type or type, and the weight of a network
-pub record Row : Type 0 where
+pub record OutlinedRow : Type 0 where
   pub position : List ℕ
   pub tree : Tree Expression
   pub output : TypeTree
   pub weight : Option ℕ
 
 -- what the code's row says
-abbrev pub row_of : OutlineRow → Row
+abbrev pub row_of : OutlineRow → OutlinedRow
 row_of r =
     record {
       position = r.position;
@@ -36,12 +36,12 @@ weight_in (a_network f) = Some (min (weight f []) 1000001)
 weight_in (a_leaf e) = None
 
 -- the row says what stands at its position, the type that it has there, and its weight
-pub record IsRow (t : TypedNetwork) (r : Row) : Type 0 where
+pub record IsRow (t : TypedNetwork) (r : OutlinedRow) : Type 0 where
   pub there : tree_at t r.position ≡ Some r.tree
   pub typed : TypeAt (alone t.input) (a_network t.net) r.position r.output
   pub weighs : r.weight ≡ weight_in r.tree
 
 -- a row for each position at which something stands, in preorder
-pub record IsOutline (t : TypedNetwork) (rows : List Row) : Type 0 where
+pub record IsOutline (t : TypedNetwork) (rows : List OutlinedRow) : Type 0 where
   pub all : ArePositions t [] (map (λ r. r.position) rows)
   pub each : All (IsRow t) rows

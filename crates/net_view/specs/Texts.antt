@@ -8,7 +8,7 @@ use Rattle.net_syntax.specs.Place.{Tree}
 use Rattle.net_syntax.specs.Position.{position_spelling}
 use Rattle.net_syntax.specs.TypedNetwork.{TypedNetwork}
 use Rattle.net_text.specs.CertificatePrinting.{tree_sexpr}
-use Rattle.net_view.specs.Rows.{Row, IsOutline}
+use Rattle.net_view.specs.Rows.{OutlinedRow, IsOutline}
 use Rattle.net_view.specs.Possible.{Possible, ArePossible}
 use Rattle.net_view.specs.TraceText.{step_line, marked_line}
 
@@ -32,20 +32,20 @@ weight_spelling None = []
 weight_spelling (Some w) = 9 ∷ decimal w
 
 -- a line: the position, indented, the form, the type, and of networks the weight, parted by tabs
-abbrev pub row_spelling : Row → List ℕ
+abbrev pub row_spelling : OutlinedRow → List ℕ
 row_spelling r = indent r.position
     ++ (position_spelling r.position
     ++ (9 ∷ (form_word r.tree
     ++ (9 ∷ (type_spelling r.output ++ (weight_spelling r.weight ++ 10 ∷ []))))))
 
 -- a line for each row
-abbrev pub rows_spelling : List Row → List ℕ
+abbrev pub rows_spelling : List OutlinedRow → List ℕ
 rows_spelling [] = []
 rows_spelling (r ∷ rs) = row_spelling r ++ rows_spelling rs
 
 -- the lines of the network's outline
 abbrev pub OutlineText : TypedNetwork → List ℕ → Type 0
-OutlineText t bytes = (rows : List Row) × IsOutline t rows × (bytes ≡ rows_spelling rows)
+OutlineText t bytes = (rows : List OutlinedRow) × IsOutline t rows × (bytes ≡ rows_spelling rows)
 
 -- two lines: the step as certificates have it, and behind `+ ` what stands there then
 abbrev pub possible_spelling : Possible → List ℕ

@@ -18,7 +18,7 @@ use Rattle.net_text.specs.CertificatePrinting.{ChildrenFit, GivenFits, IsLaw, Pr
 use Rattle.net_text.specs.FileLaws.{IsFile, PrintedFileLaw}
 use Rattle.net_text.specs.Printing.{file_spelling}
 use Rattle.cert_check.specs.Derives.{Steps, no_step, step_then}
-use Rattle.net_opt.specs.Laws.{DerivesLaw, OneOptimisedLaw}
+use Rattle.net_opt.specs.Laws.{OptimisedDerivesLaw, OneOptimisedLaw}
 use Rattle.net_opt.specs.Optimising.{IsTried, MayTake, Optimised, expression_laws, network_laws}
 use Rattle.command_line.specs.CommandLine.{DerivationNames}
 use Rattle.yampa_run.specs.OptimisedFiles.{DerivesOptimised, FitFiles, OptimisedFilesLaw}
@@ -66,7 +66,7 @@ led t ss u limits (step_then {u = next} {ss = more} x xs) =
     let behind = led next more u x.rewritten.within xs in (behind.0 ∙ x.rewritten.same_input, behind.1)
 
 -- files that hold a source, its optimised network and the steps that lead there hold a derivation
-derives_files : PrintedFileLaw → PrintedCertificateLaw → DerivesLaw → (told : KnownFiles) (names : DerivationNames) (source : TypedNetwork)
+derives_files : PrintedFileLaw → PrintedCertificateLaw → OptimisedDerivesLaw → (told : KnownFiles) (names : DerivationNames) (source : TypedNetwork)
     (net : Network Expression) (steps : List Step) → IsNetworkOf (told names.source) source → WithinLimits source → Optimised source net steps
     → told names.target ≡ Some (file_spelling source.input net) → told names.certificate ≡ Some (certificate_spelling steps)
     → FitFiles source.input net steps → DerivesOptimised told names net steps
@@ -101,7 +101,7 @@ typed_of : (known : Option (List ℕ)) (t : TypedNetwork) → IsTold known → I
 typed_of known t (bytes, e) n = let i : IsNetworkIn bytes t = subst (λ o. IsNetworkOf o t) e n in i.typed
 
 -- two runs on one file print of one answer
-pub optimised_files : PrintedFileLaw → PrintedCertificateLaw → DerivesLaw → OneOptimisedLaw → OptimisedFilesLaw
+pub optimised_files : PrintedFileLaw → PrintedCertificateLaw → OptimisedDerivesLaw → OneOptimisedLaw → OptimisedFilesLaw
 optimised_files nets certificates derives one told names held fit =
     let a = held.target in
     let b = held.certificate in
