@@ -4,7 +4,7 @@ use Rattle.std.proofs.Math.Nat.{div-eq_of_lt}
 use Rattle.std.proofs.lemmas.Bool.{le-leb, lt-leb, le-ltb}
 use Rattle.std.specs.Int.{int_wrap, w64}
 use Rattle.sample_core.specs.Datum.{Datum, int, no_event, event}
-use Rattle.net_syntax.specs.SignalFunction.{latest_event, if_event, delay_value, after_value, repeatedly_value, when}
+use Rattle.net_meaning.specs.SignalFunction.{latest_event, if_event, delay_value, after_value, repeatedly_value, when}
 use Rattle.cell_core.specs.Cell.{QueueWaits, after_cell, queue, waiting, over, recurring}
 use Rattle.cell_core.specs.CellLaws.{put_in, IsRight, CellStartLaw}
 use Rattle.cell_core.specs.declared.form.Form.TheVariants as F

@@ -2,9 +2,9 @@
 use Rattle.std.proofs.Common.{◌≡◌, ℕ, suc, ◌+◌, ◌-◌, ◌≤◌, ◌<◌, if◌then◌else◌, nat_le, List, [], ◌∷◌, ◌++◌, refl, sym, ap, ap₂, ◌∙◌, arith, subst, inl, inr, append_assoc, length-append, le_refl}
 use Rattle.std.proofs.lemmas.Bool.{cases_lt, le-leb, lt-leb}
 use Rattle.sample_core.specs.Datum.{Datum}
-use Rattle.net_syntax.specs.SignalFunction.{latest_by}
+use Rattle.net_meaning.specs.SignalFunction.{latest_by}
 use Rattle.cell_core.specs.Cell.{Pending, none_pending, one_pending, QueueWaits, due, count_down}
-use Rattle.net_syntax.proofs.CellSteps.{latest_by-append}
+use Rattle.net_meaning.proofs.CellSteps.{latest_by-append}
 
 -- a choice by a comparison
 pub pick : {X : Type 0} (P : X → Type 0) (a b : ℕ) (u v : X) → (a ≤ b → P u) → (b < a → P v) → P (if nat_le a b then u else v)

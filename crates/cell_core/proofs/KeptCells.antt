@@ -6,11 +6,11 @@ use Rattle.std.proofs.lemmas.List.{map_push}
 use Rattle.std.specs.Int.{int_wrap, w64}
 use Rattle.std.proofs.lemmas.Int.{int_wrap-add_left}
 use Rattle.sample_core.specs.Datum.{Datum, unit, bool, int, pair, no_event, event, list, int_of}
-use Rattle.net_syntax.specs.SignalFunction.{TimedList, last_or, values, times, time_at, latest_event, fold_events, if_event, integral_value, when}
+use Rattle.net_meaning.specs.SignalFunction.{TimedList, last_or, values, times, time_at, latest_event, fold_events, if_event, integral_value, when}
 use Rattle.cell_core.specs.Cell.{Keeps, cell_step, previous, queue, latest, accumulating, waiting, over, recurring, ticking, summing, due, QueueWaits}
 use Rattle.cell_core.specs.CellLaws.{put_in, IsRight, CellStepLaw}
-use Rattle.net_syntax.proofs.Steps.{last_or-push}
-use Rattle.net_syntax.proofs.CellSteps.{values_push, i_pre_value_push, latest_event-append, fold_events-append, time_at_push, times_push, after_value_push, repeatedly_value_push, integral_value_push}
+use Rattle.net_meaning.proofs.Steps.{last_or-push}
+use Rattle.net_meaning.proofs.CellSteps.{values_push, i_pre_value_push, latest_event-append, fold_events-append, time_at_push, times_push, after_value_push, repeatedly_value_push, integral_value_push}
 use Rattle.cell_core.proofs.DelayCells.{pick, waits_on, waits-out}
 
 -- what is put in for a value gives the accumulator and the answer

@@ -2,7 +2,7 @@
 use Rattle.std.specs.Prelude.{◌≡◌, ℕ, suc, ◌+◌, ◌-◌, ◌*◌, ◌/◌, ◌%◌, ◌≤◌, ℤ, pos, ◌+ℤ◌, ◌*ℤ◌, nat_le, if◌then◌else◌, List, [], ◌∷◌, ◌++◌, length, map}
 use Rattle.std.specs.Int.{int_wrap, w64}
 use Rattle.sample_core.specs.Datum.{Datum, unit, int, event, no_event, int_of}
-use Rattle.net_syntax.specs.SignalFunction.{TimedList, values, times, time_at, last_or, i_pre_value, latest_event, delay_value, if_event, fold_events, accum_by_value, after_value, repeatedly_value, time_value, integral_value, latest_by}
+use Rattle.net_meaning.specs.SignalFunction.{TimedList, values, times, time_at, last_or, i_pre_value, latest_event, delay_value, if_event, fold_events, accum_by_value, after_value, repeatedly_value, time_value, integral_value, latest_by}
 
 -- what a cell keeps from one sample to the next
 pub data Cell : Type 0 where

@@ -1,7 +1,7 @@
 -- What a cell's start and steps answer: its form's formula.
 use Rattle.std.specs.Prelude.{◌≡◌, ℕ, [], ◌∷◌, ◌++◌}
 use Rattle.sample_core.specs.Datum.{Datum, event, pair}
-use Rattle.net_syntax.specs.SignalFunction.{TimedList, values, i_pre_value, delay_value, latest_event, accum_by_value, after_value, repeatedly_value, time_value, integral_value}
+use Rattle.net_meaning.specs.SignalFunction.{TimedList, values, i_pre_value, delay_value, latest_event, accum_by_value, after_value, repeatedly_value, time_value, integral_value}
 use Rattle.cell_core.specs.Cell.{Cell, accumulating, cell_step, Keeps}
 use Rattle.cell_core.specs.Start.{IsWithin, cell_start}
 use Rattle.cell_core.specs.declared.form.Form.{Form}

@@ -1,7 +1,7 @@
 -- How the forms start.
 use Rattle.std.specs.Prelude.{◌≤◌, pos, [], ◌∷◌}
 use Rattle.sample_core.specs.Datum.{Datum, int, no_event, int_of}
-use Rattle.net_syntax.specs.SignalFunction.{latest_event, if_event}
+use Rattle.net_meaning.specs.SignalFunction.{latest_event, if_event}
 use Rattle.cell_core.specs.Cell.{Cell, previous, queue, latest, accumulating, recurring, ticking, summing, after_cell}
 use Rattle.cell_core.specs.declared.form.Form.{Form}
 use Rattle.cell_core.specs.declared.form.Form.TheVariants as F

@@ -3,7 +3,7 @@
 ghost use Rattle.std.specs.Prelude.{◌≡◌, ◌∷◌, [], pos, ◌+ℤ◌, ◌*ℤ◌, OnOk};
 ghost use Rattle.std.specs.Int.{int_wrap, w64};
 ghost use Rattle.sample_core.specs.{Datum.no_event, Datum.unit, ValueView.datum_of};
-ghost use Rattle.net_syntax.specs.SignalFunction.{latest_event};
+ghost use Rattle.net_meaning.specs.SignalFunction.{latest_event};
 ghost use Rattle.cell_core.specs.CellView.{cell_of, kept_by, outcome_of};
 ghost use Rattle.cell_core.specs.Parts.{after_of, recurring_of};
 ghost use Rattle.cell_core.specs.Cell.{cell_step, previous, latest as holding, accumulating, ticking, summing};

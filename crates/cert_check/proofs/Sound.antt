@@ -5,21 +5,21 @@ use Rattle.sample_core.specs.TypeTree.{TypeTree}
 use Rattle.leaf_core.specs.Expression.{Expression}
 use Rattle.leaf_core.specs.ExpressionTyping.{ExpressionTyped}
 use Rattle.leaf_core.specs.SameValue.{SameValue}
-use Rattle.net_syntax.specs.Network.{Network}
-use Rattle.net_syntax.specs.Environment.{closed, closed_typed}
-use Rattle.net_syntax.specs.TypedNetwork.{TypedNetwork, NetTyped, HasItsTypes}
-use Rattle.net_syntax.specs.AlikeEnvironments.{SameOutputs}
-use Rattle.net_syntax.specs.Place.{Tree, a_network, a_leaf}
+use Rattle.net_tree.specs.Network.{Network}
+use Rattle.net_meaning.specs.Environment.{closed, closed_typed}
+use Rattle.net_meaning.specs.TypedNetwork.{TypedNetwork, NetTyped, HasItsTypes}
+use Rattle.net_meaning.specs.AlikeEnvironments.{SameOutputs}
+use Rattle.net_tree.specs.Place.{Tree, a_network, a_leaf}
 use Rattle.net_syntax.specs.Placed.{placed}
 use Rattle.net_syntax.specs.Standing.{Standing, alone, TreeTyped}
 use Rattle.net_syntax.specs.Rewriting.{Rewrites, KeepsType}
 use Rattle.net_syntax.specs.SamePlace.{SameThere}
-use Rattle.net_syntax.specs.LawStep.{Step}
-use Rattle.net_syntax.specs.declared.law_step.Law.{Law}
-use Rattle.net_syntax.specs.declared.law_step.Direction.{Direction}
+use Rattle.net_tree.specs.LawStep.{Step}
+use Rattle.net_tree.specs.declared.law_step.Law.{Law}
+use Rattle.net_tree.specs.declared.law_step.Direction.{Direction}
 use Rattle.net_syntax.proofs.SamePlaces.{same_place}
-use Rattle.net_syntax.proofs.SameOutputs.{alike-refl, same-sym, same-trans}
-use Rattle.net_syntax.proofs.StreamLaws.{alike-outputs, one-output-type}
+use Rattle.net_meaning.proofs.SameOutputs.{alike-refl, same-sym, same-trans}
+use Rattle.net_meaning.proofs.StreamLaws.{alike-outputs, one-output-type}
 use Rattle.net_syntax.proofs.HoldsTypes.{holds_types}
 use Rattle.expr_laws.proofs.RowValues.{row_value}
 use Rattle.law_rules.proofs.SameSides.{same-side_outputs}

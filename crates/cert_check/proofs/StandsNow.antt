@@ -5,13 +5,13 @@ use Rattle.sample_core.specs.TypeTree.{TypeTree}
 use Rattle.leaf_core.specs.Expression.{Expression}
 use Rattle.leaf_core.specs.Parts.{with_part_at, InputAt}
 use Rattle.leaf_core.proofs.PartTypes.{kept_there}
-use Rattle.net_syntax.specs.Network.{Network}
-use Rattle.net_syntax.specs.Place.{◌>>=◌, Tree, a_network, a_leaf, child}
+use Rattle.net_tree.specs.Network.{Network}
+use Rattle.net_tree.specs.Place.{◌>>=◌, Tree, a_network, a_leaf, child}
 use Rattle.net_syntax.specs.Placed.{Placed, placed, placed_at, bound_in, with_child, replaced}
 use Rattle.net_syntax.specs.Standing.{Standing, alone, StandsAt, at_network, inside_network, inside_expression}
 use Rattle.net_syntax.specs.StandingWalk.{inside}
-use Rattle.net_syntax.specs.LawStep.{Step}
-use Rattle.net_syntax.specs.TypedNetwork.{TypedNetwork}
+use Rattle.net_tree.specs.LawStep.{Step}
+use Rattle.net_meaning.specs.TypedNetwork.{TypedNetwork}
 use Rattle.net_types.proofs.ChangedPlaces.{kept}
 use Rattle.cert_check.specs.Derives.{Next, tree_at}
 

@@ -3,13 +3,13 @@ use Rattle.std.proofs.Common.{◌≡◌, ℕ, suc, ◌+◌, ◌<◌, List, [], �
 use Rattle.std.specs.Result.{IsErrAnd}
 use Rattle.std.proofs.Math.Seq.{take-suc, drop-cons}
 use Rattle.std.proofs.lemmas.List.{take-append-drop, map-append, length-map, length-take}
-use Rattle.net_syntax.specs.TypedNetwork.{TypedNetwork, HasItsTypes}
-use Rattle.net_syntax.specs.NetworkLimits.{WithinLimits}
-use Rattle.net_syntax.specs.Place.{a_network}
+use Rattle.net_meaning.specs.TypedNetwork.{TypedNetwork, HasItsTypes}
+use Rattle.net_meaning.specs.NetworkLimits.{WithinLimits}
+use Rattle.net_tree.specs.Place.{a_network}
 use Rattle.net_syntax.specs.Placed.{Placed, placed_at}
-use Rattle.net_syntax.specs.LawStep.{Step, step_of, part_of}
-use Rattle.net_syntax.specs.declared.law_step.LawStep.{LawStep}
-use Rattle.net_syntax.specs.declared.law_step.Tree as C
+use Rattle.net_tree.specs.LawStep.{Step, step_of, part_of}
+use Rattle.net_tree.specs.declared.law_step.LawStep.{LawStep}
+use Rattle.net_tree.specs.declared.law_step.Tree as C
 use Rattle.cert_check.specs.declared.answer.CheckFault.{CheckFault}
 use Rattle.cert_check.specs.declared.answer.CheckFault.TheVariants.{InputsDiffer, TooManySteps, NoPosition, NoMatch, IllTyped, EndsElsewhere, Memory}
 use Rattle.cert_check.specs.Derives.{Answered, Next, Steps, no_step, step_then}
@@ -17,7 +17,7 @@ use Rattle.cert_check.specs.CheckAnswer.{NowhereIn, Unmatched, Untyped, FirstFai
 use Rattle.cert_check.specs.Laws.{AppliedLaw}
 use Rattle.cert_check.specs.StepAnswers.{IsTreeAnswer, StepAnswer, StepsAnswer}
 use Rattle.std.specs.Prelude.{OnOk}
-use Rattle.net_syntax.specs.AlikeEnvironments.{SameOutputs}
+use Rattle.net_meaning.specs.AlikeEnvironments.{SameOutputs}
 use Rattle.cert_check.specs.declared.answer.Accepted.{Accepted}
 use Rattle.cert_check.proofs.Sound.{derives_same, derives_types}
 

@@ -1,11 +1,11 @@
 -- What a step makes of a typed network, and what steps derive.
 use Rattle.std.specs.Prelude.{◌≡◌, ℕ, ◌≤◌, List, [], ◌∷◌, length, Option, Some, option_map}
 use Rattle.leaf_core.specs.Expression.{Expression}
-use Rattle.net_syntax.specs.Place.{Tree, a_network}
+use Rattle.net_tree.specs.Place.{Tree, a_network}
 use Rattle.net_syntax.specs.Placed.{Placed, placed_at}
 use Rattle.net_syntax.specs.Rewriting.{Rewrites}
-use Rattle.net_syntax.specs.LawStep.{Step}
-use Rattle.net_syntax.specs.TypedNetwork.{TypedNetwork}
+use Rattle.net_tree.specs.LawStep.{Step}
+use Rattle.net_meaning.specs.TypedNetwork.{TypedNetwork}
 use Rattle.cert_check.specs.TreeAnswer.{TreeAnswer}
 
 -- what stands at a position of a typed network, if the position is there

@@ -1,11 +1,11 @@
 -- What is to hold of certificates.
 use Rattle.std.specs.Prelude.{◌≡◌, List, [], Some, Result, Ok, Err}
-use Rattle.net_syntax.specs.SignalFunction.{TimedList}
-use Rattle.net_syntax.specs.Typing.{TypedSamples}
-use Rattle.net_syntax.specs.TypedNetwork.{TypedNetwork, HasItsTypes, stream_of}
-use Rattle.net_syntax.specs.NetworkLimits.{WithinLimits}
-use Rattle.net_syntax.specs.AlikeEnvironments.{SameOutputs}
-use Rattle.net_syntax.specs.LawStep.{Step}
+use Rattle.net_meaning.specs.SignalFunction.{TimedList}
+use Rattle.net_meaning.specs.Typing.{TypedSamples}
+use Rattle.net_meaning.specs.TypedNetwork.{TypedNetwork, HasItsTypes, stream_of}
+use Rattle.net_meaning.specs.NetworkLimits.{WithinLimits}
+use Rattle.net_meaning.specs.AlikeEnvironments.{SameOutputs}
+use Rattle.net_tree.specs.LawStep.{Step}
 use Rattle.cert_check.specs.declared.answer.Accepted.{Accepted}
 use Rattle.cert_check.specs.declared.answer.CheckFault.{CheckFault}
 use Rattle.cert_check.specs.declared.answer.CheckFault.TheVariants.{Memory}

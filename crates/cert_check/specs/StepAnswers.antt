@@ -2,12 +2,12 @@
 use Rattle.std.specs.Prelude.{◌≡◌, ℕ, ◌<◌, ◌≤◌, List, length, Option, Some, None, MatchOption, Result, Ok, Err}
 use Rattle.std.proofs.Common.{Bor}
 use Rattle.leaf_core.specs.Expression.{Expression}
-use Rattle.net_syntax.specs.Place.{Tree}
-use Rattle.net_syntax.specs.LawStep.{Step, part_of}
-use Rattle.net_syntax.specs.declared.law_step.Law.{Law}
-use Rattle.net_syntax.specs.declared.law_step.Direction.{Direction}
-use Rattle.net_syntax.specs.declared.law_step.Tree as C
-use Rattle.net_syntax.specs.TypedNetwork.{TypedNetwork}
+use Rattle.net_tree.specs.Place.{Tree}
+use Rattle.net_tree.specs.LawStep.{Step, part_of}
+use Rattle.net_tree.specs.declared.law_step.Law.{Law}
+use Rattle.net_tree.specs.declared.law_step.Direction.{Direction}
+use Rattle.net_tree.specs.declared.law_step.Tree as C
+use Rattle.net_meaning.specs.TypedNetwork.{TypedNetwork}
 use Rattle.cert_check.specs.declared.answer.CheckFault.{CheckFault}
 use Rattle.cert_check.specs.declared.answer.CheckFault.TheVariants.{TooManySteps, NoPosition, NoMatch, IllTyped, Memory}
 use Rattle.cert_check.specs.TreeAnswer.{TreeAnswer}

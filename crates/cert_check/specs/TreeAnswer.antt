@@ -1,9 +1,9 @@
 -- What a law answers at a tree, a network or an expression.
 use Rattle.std.specs.Prelude.{ℕ, Option, Some, None}
 use Rattle.leaf_core.specs.Expression.{Expression}
-use Rattle.net_syntax.specs.Place.{Tree, a_network, a_leaf}
-use Rattle.net_syntax.specs.declared.law_step.Law.{Law}
-use Rattle.net_syntax.specs.declared.law_step.Direction.{Direction}
+use Rattle.net_tree.specs.Place.{Tree, a_network, a_leaf}
+use Rattle.net_tree.specs.declared.law_step.Law.{Law}
+use Rattle.net_tree.specs.declared.law_step.Direction.{Direction}
 use Rattle.expr_laws.specs.Answer.{ExpressionAnswer}
 use Rattle.law_rules.specs.Answer.{NetworkAnswer}
 

@@ -1,14 +1,15 @@
 // The check of a certificate.
 
 ghost use Rattle.std.specs.Prelude.{◌≡◌, ◌≤◌, [], length, map, OnOk};
-ghost use Rattle.net_syntax.specs.AlikeEnvironments.{SameOutputs};
-ghost use Rattle.net_syntax.specs.LawStep.{step_of};
+ghost use Rattle.net_meaning.specs.AlikeEnvironments.{SameOutputs};
+ghost use Rattle.net_tree.specs.LawStep.{step_of};
 ghost use Rattle.cert_check.specs.CheckAnswer.{BeginsCheck, CheckAnswer};
 ghost use Rattle.cert_check.specs.StepAnswers.{ApplyAnswer, StepsAnswer};
 
 use crate::answer::{Accepted, CheckFault};
 use crate::step::take_step;
-use net_syntax::{LawStep, TypedNet, same_net};
+use net_syntax::TypedNet;
+use net_tree::{LawStep, same_net};
 use sample_core::same_type;
 use std::alloc::Global;
 

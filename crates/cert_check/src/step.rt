@@ -2,17 +2,18 @@
 
 ghost use Rattle.std.specs.Prelude.{◌≡◌, IfOk, option_map};
 ghost use Rattle.leaf_core.specs.ExpressionView.{expression_of};
-ghost use Rattle.net_syntax.specs.Place.{a_leaf, a_network};
-ghost use Rattle.net_syntax.specs.NetworkView.{tree_of};
+ghost use Rattle.net_tree.specs.Place.{a_leaf, a_network};
+ghost use Rattle.net_tree.specs.NetworkView.{tree_of};
 ghost use Rattle.net_syntax.specs.{ChildParts.seen, ChildParts.seen_place, Placed.placed_at};
-ghost use Rattle.net_syntax.specs.LawStep.{step_of};
+ghost use Rattle.net_tree.specs.LawStep.{step_of};
 ghost use Rattle.cert_check.specs.StepAnswers.{IsTreeAnswer, LawAnswer, StepAnswer, given_tree};
 
 use crate::answer::CheckFault;
 use expr_laws::apply_expr;
 use law_rules::apply_law;
 use leaf_core::Expr;
-use net_syntax::{Direction, Law, LawStep, Net, Place, Position, Tree, TreeRef, TypedNet, at};
+use net_syntax::{Place, TreeRef, TypedNet, at};
+use net_tree::{Direction, Law, LawStep, Net, Position, Tree};
 use net_types::{Rewritten, rewrite};
 use sample_core::Memory;
 use std::alloc::Global;

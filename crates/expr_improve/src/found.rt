@@ -3,7 +3,7 @@
 use crate::log::{Step, law_steps};
 use crate::undo::undone;
 use leaf_core::ExprChild;
-use net_syntax::LawStep;
+use net_tree::LawStep;
 use sample_core::Memory;
 use std::alloc::Global;
 

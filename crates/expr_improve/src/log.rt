@@ -2,7 +2,7 @@
 
 use expr_laws::apply_expr;
 use leaf_core::{Expr, ExprChild};
-use net_syntax::{Direction, Law, LawStep, Position, Tree};
+use net_tree::{Direction, Law, LawStep, Position, Tree};
 use sample_core::Memory;
 use std::alloc::Global;
 

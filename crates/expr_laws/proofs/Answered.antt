@@ -8,10 +8,10 @@ use Rattle.leaf_core.specs.ExpressionValue.{value_of}
 use Rattle.leaf_core.specs.ExpressionTyping.{ExpressionTyped}
 use Rattle.leaf_core.specs.ExpressionView.{expression_of}
 use Rattle.leaf_core.specs.declared.expr.Expr.{Expr}
-use Rattle.net_syntax.specs.declared.law_step.Law.{Law}
-use Rattle.net_syntax.specs.declared.law_step.Law.TheVariants as L
-use Rattle.net_syntax.specs.declared.law_step.Direction.{Direction}
-use Rattle.net_syntax.specs.declared.law_step.Direction.TheVariants.{Forward, Backward}
+use Rattle.net_tree.specs.declared.law_step.Law.{Law}
+use Rattle.net_tree.specs.declared.law_step.Law.TheVariants as L
+use Rattle.net_tree.specs.declared.law_step.Direction.{Direction}
+use Rattle.net_tree.specs.declared.law_step.Direction.TheVariants.{Forward, Backward}
 use Rattle.expr_laws.specs.Rows.{ExpressionRow}
 use Rattle.expr_laws.specs.Table.{LawRule, no_rule, Becomes, rule_at}
 use Rattle.expr_laws.specs.Answer.{ExpressionAnswer, forward_answer, backward_answer, IsExpressionAnswer, IsRightSide}

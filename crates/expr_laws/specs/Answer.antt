@@ -9,10 +9,10 @@ use Rattle.leaf_core.specs.ExpressionValue.{value_of}
 use Rattle.leaf_core.specs.ExpressionTyping.{ExpressionTyped}
 use Rattle.leaf_core.specs.ExpressionView.{expression_of}
 use Rattle.leaf_core.specs.declared.expr.Expr.{Expr}
-use Rattle.net_syntax.specs.declared.law_step.Law.{Law}
-use Rattle.net_syntax.specs.declared.law_step.Law.TheVariants as L
-use Rattle.net_syntax.specs.declared.law_step.Direction.{Direction}
-use Rattle.net_syntax.specs.declared.law_step.Direction.TheVariants.{Forward, Backward}
+use Rattle.net_tree.specs.declared.law_step.Law.{Law}
+use Rattle.net_tree.specs.declared.law_step.Law.TheVariants as L
+use Rattle.net_tree.specs.declared.law_step.Direction.{Direction}
+use Rattle.net_tree.specs.declared.law_step.Direction.TheVariants.{Forward, Backward}
 use Rattle.expr_laws.specs.Rows.{ExpressionRow}
 
 -- a law, its direction, the expression at hand, the one that is given, and the answer: forward,

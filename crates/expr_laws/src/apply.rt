@@ -12,7 +12,7 @@ use crate::spread::spread_then;
 use crate::table::{Rule, law_rule};
 use law_patterns::rewrite_expr;
 use leaf_core::{Expr, same_expr};
-use net_syntax::{Direction, Law};
+use net_tree::{Direction, Law};
 use sample_core::Memory;
 use std::alloc::Global;
 

@@ -4,8 +4,8 @@ use Rattle.std.proofs.lemmas.Bool.Decides.{Decides-eqb}
 use Rattle.leaf_core.specs.Expression.{Expression}
 use Rattle.leaf_core.specs.ExpressionCode.{expression_code}
 use Rattle.leaf_core.specs.EqualityByCode.{same_by, same_by_decides}
-use Rattle.net_syntax.specs.Network.{Network, arr, seq, first, loop_pre, initial_out, initial_in, i_pre, delay, hold, accum_by, after, repeatedly, switch, d_switch, r_switch, dr_switch, k_switch}
-use Rattle.net_syntax.specs.NetworkCode.{network_code}
+use Rattle.net_tree.specs.Network.{Network, arr, seq, first, loop_pre, initial_out, initial_in, i_pre, delay, hold, accum_by, after, repeatedly, switch, d_switch, r_switch, dr_switch, k_switch}
+use Rattle.net_tree.specs.NetworkCode.{network_code}
 use Rattle.law_patterns.specs.declared.sym.Sym.{Sym}
 use Rattle.law_patterns.specs.declared.net_sym.NetLetter.{NetLetter}
 use Rattle.law_patterns.specs.declared.net_sym.NetLetter.TheVariants as L

@@ -4,8 +4,8 @@ use Rattle.std.proofs.lemmas.List.{drop_more}
 use Rattle.leaf_core.specs.Expression.{Expression}
 use Rattle.leaf_core.specs.ExpressionCode.{expression_code}
 use Rattle.leaf_core.specs.EqualityByCode.{same_by_is}
-use Rattle.net_syntax.specs.Network.{Network}
-use Rattle.net_syntax.specs.NetworkCode.{network_code}
+use Rattle.net_tree.specs.Network.{Network}
+use Rattle.net_tree.specs.NetworkCode.{network_code}
 use Rattle.law_patterns.specs.declared.net_sym.NetLetter.{NetLetter}
 use Rattle.law_patterns.specs.declared.net_sym.NetSym.{NetSym}
 use Rattle.law_patterns.specs.Pattern.{only}

@@ -3,7 +3,7 @@ use Rattle.std.proofs.Common.{◌≡◌, ℕ, List, [], ◌∷◌, ◌++◌, Opt
 use Rattle.std.specs.List.{All, Contains}
 use Rattle.std.proofs.lemmas.List.Elements.{All-nil, All-cons, All-head, All-tail, All-weaker, All-contains}
 use Rattle.leaf_core.specs.Expression.{Expression, no_event_expr}
-use Rattle.net_syntax.specs.Network.{Network, arr, loop_pre, initial_out, initial_in, i_pre, delay, hold, accum_by, after, repeatedly}
+use Rattle.net_tree.specs.Network.{Network, arr, loop_pre, initial_out, initial_in, i_pre, delay, hold, accum_by, after, repeatedly}
 use Rattle.law_patterns.specs.declared.sym.Sym.{Sym}
 use Rattle.law_patterns.specs.declared.sym.Sym.TheVariants as S
 use Rattle.law_patterns.specs.declared.net_sym.NetSym.{NetSym}

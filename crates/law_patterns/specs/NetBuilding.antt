@@ -1,7 +1,7 @@
 -- Building networks symbol by symbol.
 use Rattle.std.specs.Prelude.{ℕ}
 use Rattle.leaf_core.specs.Expression.{Expression}
-use Rattle.net_syntax.specs.Network.{Network, arr, seq, i_pre, delay, hold, after, repeatedly, switch, d_switch, r_switch, dr_switch}
+use Rattle.net_tree.specs.Network.{Network, arr, seq, i_pre, delay, hold, after, repeatedly, switch, d_switch, r_switch, dr_switch}
 use Rattle.law_patterns.specs.declared.net_sym.NetSym.{NetSym}
 use Rattle.law_patterns.specs.declared.net_sym.NetSym.TheVariants as S
 

@@ -5,10 +5,10 @@ use Rattle.leaf_core.specs.Expression.{Expression}
 use Rattle.leaf_core.specs.ExpressionCode.{expression_code}
 use Rattle.leaf_core.specs.EqualityByCode.{same_by}
 use Rattle.leaf_core.specs.declared.expr.Expr.{Expr}
-use Rattle.net_syntax.specs.Network.{Network, arr, seq, first, loop_pre, initial_out, initial_in, i_pre, delay, hold, accum_by, after, repeatedly, time, switch, d_switch, r_switch, dr_switch, k_switch}
-use Rattle.net_syntax.specs.NetworkCode.{network_code}
-use Rattle.net_syntax.specs.NetworkView.{tree_of}
-use Rattle.net_syntax.specs.declared.net.Net.{Net}
+use Rattle.net_tree.specs.Network.{Network, arr, seq, first, loop_pre, initial_out, initial_in, i_pre, delay, hold, accum_by, after, repeatedly, time, switch, d_switch, r_switch, dr_switch, k_switch}
+use Rattle.net_tree.specs.NetworkCode.{network_code}
+use Rattle.net_tree.specs.NetworkView.{tree_of}
+use Rattle.net_tree.specs.declared.net.Net.{Net}
 use Rattle.law_patterns.specs.declared.sym.Sym.{Sym}
 use Rattle.law_patterns.specs.declared.net_sym.NetLetter.{NetLetter}
 use Rattle.law_patterns.specs.declared.net_sym.NetLetter.TheVariants as L

@@ -2,7 +2,7 @@
 -- that it has.
 use Rattle.std.specs.Prelude.{List}
 use Rattle.leaf_core.specs.Expression.{Expression}
-use Rattle.net_syntax.specs.Network.{Network}
+use Rattle.net_tree.specs.Network.{Network}
 use Rattle.law_patterns.specs.declared.net_sym.NetSym.{NetSym}
 use Rattle.law_patterns.specs.NetPattern.{NetAssignment, net_filled, NetRow}
 use Rattle.law_patterns.specs.Rule.{Related}

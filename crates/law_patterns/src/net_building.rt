@@ -2,9 +2,9 @@
 
 ghost use Rattle.std.specs.Prelude.{◌≡◌, IfOk, MatchOption, ◌∷◌, Some, None};
 ghost use Rattle.leaf_core.specs.ExpressionView.{expression_of};
-ghost use Rattle.net_syntax.specs.FormView.{fed_tree};
-ghost use Rattle.net_syntax.specs.Network.{accum_by, first, k_switch};
-ghost use Rattle.net_syntax.specs.NetworkView.{tree_of, tree};
+ghost use Rattle.net_tree.specs.FormView.{fed_tree};
+ghost use Rattle.net_tree.specs.Network.{accum_by, first, k_switch};
+ghost use Rattle.net_tree.specs.NetworkView.{tree_of, tree};
 ghost use Rattle.law_patterns.specs.Building.{there};
 ghost use Rattle.law_patterns.specs.Matching.{completed, found_of};
 ghost use Rattle.law_patterns.specs.NetBuilding.{leaf_form, pair_form};
@@ -18,7 +18,7 @@ use crate::net_stack::NetStack;
 use crate::net_sym::NetSym;
 use crate::sym::Sym;
 use leaf_core::Expr;
-use net_syntax::{FedForm, LeafForm, Net, NetChild, PairForm};
+use net_tree::{FedForm, LeafForm, Net, NetChild, PairForm};
 use sample_core::Memory;
 use std::alloc::Global;
 

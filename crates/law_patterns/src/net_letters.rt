@@ -2,7 +2,7 @@
 
 ghost use Rattle.std.specs.Prelude.{◌≡◌, IfOk};
 ghost use Rattle.leaf_core.specs.ExpressionView.{expression_of};
-ghost use Rattle.net_syntax.specs.NetworkView.{tree_of};
+ghost use Rattle.net_tree.specs.NetworkView.{tree_of};
 ghost use Rattle.law_patterns.specs.NetPattern.{net_chosen};
 ghost use Rattle.law_patterns.specs.NetMatching.{no_nets_found, nets_found_of, net_found_at, net_found_with, network_in, net_going, net_matching, net_bound, number_bound, leaf_step, net_completed, or_time, or_zero};
 
@@ -11,7 +11,7 @@ use crate::matching::fit;
 use crate::net_sym::NetLetter;
 use crate::sym::Sym;
 use leaf_core::Expr;
-use net_syntax::{Net, same_net};
+use net_tree::{Net, same_net};
 use sample_core::Memory;
 use std::alloc::Global;
 

@@ -2,7 +2,7 @@
 
 ghost use Rattle.std.specs.Prelude.{◌≡◌, IfOk, MatchOption, ◌∷◌, [], Some, None};
 ghost use Rattle.leaf_core.specs.ExpressionView.{expression_of};
-ghost use Rattle.net_syntax.specs.NetworkView.{tree_of, tree};
+ghost use Rattle.net_tree.specs.NetworkView.{tree_of, tree};
 ghost use Rattle.law_patterns.specs.NetMatching.{net_going, net_matching, leaf_step, net_met, net_step, net_fitted, no_nets_found, nets_found_of};
 
 use crate::net_letters::NetLetters;
@@ -10,7 +10,7 @@ use crate::net_sym::NetSym;
 use crate::net_todo::NetTodo;
 use crate::sym::Sym;
 use leaf_core::Expr;
-use net_syntax::{Net, NetChild};
+use net_tree::{Net, NetChild};
 use sample_core::Memory;
 use std::alloc::Global;
 

@@ -1,12 +1,12 @@
 // Networks of which the last that was put on comes off first.
 
 ghost use Rattle.std.specs.Prelude.{◌≡◌, IfOk, MatchOption, ◌∷◌, [], Some, None};
-ghost use Rattle.net_syntax.specs.Network.{seq};
-ghost use Rattle.net_syntax.specs.NetworkView.{tree_of, tree};
+ghost use Rattle.net_tree.specs.Network.{seq};
+ghost use Rattle.net_tree.specs.NetworkView.{tree_of, tree};
 ghost use Rattle.law_patterns.specs.Pattern.{only, around_two};
 
 use leaf_core::Expr;
-use net_syntax::{Net, NetChild};
+use net_tree::{Net, NetChild};
 use sample_core::Memory;
 use std::alloc::Global;
 use std::marker::Model;
@@ -22,9 +22,9 @@ impl Model for NetStack {
     ghost use Rattle.std.specs.Coded.{coded_list};
     ghost use Rattle.leaf_core.specs.Expression.{Expression};
     ghost use Rattle.leaf_core.specs.ExpressionCode.{expression_code};
-    ghost use Rattle.net_syntax.specs.Network.{Network};
-    ghost use Rattle.net_syntax.specs.NetworkCode.{network_code};
-    ghost use Rattle.net_syntax.specs.NetworkView.{tree};
+    ghost use Rattle.net_tree.specs.Network.{Network};
+    ghost use Rattle.net_tree.specs.NetworkCode.{network_code};
+    ghost use Rattle.net_tree.specs.NetworkView.{tree};
 
     ghost Value = { List (Network Expression) };
 

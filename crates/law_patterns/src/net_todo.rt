@@ -1,10 +1,10 @@
 // Networks that are still to be matched.
 
 ghost use Rattle.std.specs.Prelude.{◌≡◌, IfOk, MatchOption, ◌∷◌, [], true};
-ghost use Rattle.net_syntax.specs.NetworkView.{tree_of, tree};
+ghost use Rattle.net_tree.specs.NetworkView.{tree_of, tree};
 
 use leaf_core::Expr;
-use net_syntax::{Net, NetChild};
+use net_tree::{Net, NetChild};
 use sample_core::Memory;
 use std::alloc::Global;
 use std::marker::Model;
@@ -20,9 +20,9 @@ impl<'t> Model for NetTodo<'t> {
     ghost use Rattle.std.specs.Coded.{coded_list};
     ghost use Rattle.leaf_core.specs.Expression.{Expression};
     ghost use Rattle.leaf_core.specs.ExpressionCode.{expression_code};
-    ghost use Rattle.net_syntax.specs.Network.{Network};
-    ghost use Rattle.net_syntax.specs.NetworkCode.{network_code};
-    ghost use Rattle.net_syntax.specs.NetworkView.{tree_of};
+    ghost use Rattle.net_tree.specs.Network.{Network};
+    ghost use Rattle.net_tree.specs.NetworkCode.{network_code};
+    ghost use Rattle.net_tree.specs.NetworkView.{tree_of};
 
     ghost Value = { List (Network Expression) };
 

@@ -7,8 +7,8 @@ ghost use Rattle.law_patterns.specs.Pattern.{Row};
 ghost use Rattle.law_patterns.specs.Matching.{rewritten};
 ghost use Rattle.law_patterns.specs.NetMatching.{net_rewritten};
 ghost use Rattle.law_patterns.specs.NetPattern.{NetRow};
-ghost use Rattle.net_syntax.specs.Network.{Network};
-ghost use Rattle.net_syntax.specs.NetworkView.{tree_of};
+ghost use Rattle.net_tree.specs.Network.{Network};
+ghost use Rattle.net_tree.specs.NetworkView.{tree_of};
 
 use crate::building::build;
 use crate::letters::Letters;
@@ -18,7 +18,7 @@ use crate::net_matching::fit_net;
 use crate::net_sym::NetSym;
 use crate::sym::Sym;
 use leaf_core::Expr;
-use net_syntax::Net;
+use net_tree::Net;
 use sample_core::Memory;
 use std::alloc::Global;
 

@@ -4,16 +4,16 @@ use Rattle.sample_core.specs.TypeTree.{TypeTree}
 use Rattle.leaf_core.specs.Expression.{Expression}
 use Rattle.leaf_core.specs.ExpressionValue.{value_of}
 use Rattle.leaf_core.specs.declared.expr.Expr.{Expr}
-use Rattle.net_syntax.specs.Network.{Network}
-use Rattle.net_syntax.specs.NetworkView.{tree_of}
-use Rattle.net_syntax.specs.Typing.{Arrow}
-use Rattle.net_syntax.specs.TypedNetwork.{NetTyped}
-use Rattle.net_syntax.specs.Sameness.{SameNet}
-use Rattle.net_syntax.specs.declared.net.Net.{Net}
-use Rattle.net_syntax.specs.declared.law_step.Law.{Law}
-use Rattle.net_syntax.specs.declared.law_step.Law.TheVariants as L
-use Rattle.net_syntax.specs.declared.law_step.Direction.{Direction}
-use Rattle.net_syntax.specs.declared.law_step.Direction.TheVariants.{Forward, Backward}
+use Rattle.net_tree.specs.Network.{Network}
+use Rattle.net_tree.specs.NetworkView.{tree_of}
+use Rattle.net_meaning.specs.Typing.{Arrow}
+use Rattle.net_meaning.specs.TypedNetwork.{NetTyped}
+use Rattle.net_meaning.specs.Sameness.{SameNet}
+use Rattle.net_tree.specs.declared.net.Net.{Net}
+use Rattle.net_tree.specs.declared.law_step.Law.{Law}
+use Rattle.net_tree.specs.declared.law_step.Law.TheVariants as L
+use Rattle.net_tree.specs.declared.law_step.Direction.{Direction}
+use Rattle.net_tree.specs.declared.law_step.Direction.TheVariants.{Forward, Backward}
 use Rattle.law_rules.specs.NetworkRow.{NetworkRow}
 use Rattle.law_rules.specs.Answer.{NetworkAnswer, forward_answer, backward_answer, IsNetworkAnswer, IsNetworkRightSide}
 use Rattle.law_rules.proofs.SameSides.{same-sides, same-sides_back}

@@ -3,12 +3,12 @@ use Rattle.std.proofs.Common.{◌≡◌, ℕ, zero, suc, ◌<◌, ◌≤◌, Boo
 use Rattle.std.proofs.lemmas.Bool.{le-leb}
 use Rattle.leaf_core.specs.Expression.{Expression}
 use Rattle.leaf_core.specs.declared.expr.Expr.{Expr}
-use Rattle.net_syntax.specs.Network.{Network, Networks, seq, k_switch}
-use Rattle.net_syntax.specs.NetworkView.{network_of, members_of, tree_of, tree, trees}
-use Rattle.net_syntax.specs.declared.net.Net.{Net}
-use Rattle.net_syntax.specs.declared.net.Net.TheVariants as V
-use Rattle.net_syntax.specs.Typing.{members}
-use Rattle.net_syntax.specs.Place.{member}
+use Rattle.net_tree.specs.Network.{Network, Networks, seq, k_switch}
+use Rattle.net_tree.specs.NetworkView.{network_of, members_of, tree_of, tree, trees}
+use Rattle.net_tree.specs.declared.net.Net.{Net}
+use Rattle.net_tree.specs.declared.net.Net.TheVariants as V
+use Rattle.net_meaning.specs.Typing.{members}
+use Rattle.net_tree.specs.Place.{member}
 use Rattle.law_rules.specs.Forward.{law20, law38, member_by}
 
 -- an answer, by an equal one

@@ -2,7 +2,7 @@
 use Rattle.std.proofs.Common.{List, [], ap, ap₂, arith, length, map, refl, sym, ◌∙◌, ◌∷◌, ◌≡◌}
 use Rattle.std.proofs.lemmas.List.{length-map}
 use Rattle.std.proofs.lemmas.Simd.{map-map}
-use Rattle.net_syntax.specs.SignalFunction.{IsSignalFunction, SignalFunction, TimedList, each_value, first_function, pairs, seq_function, values, with_values}
+use Rattle.net_meaning.specs.SignalFunction.{IsSignalFunction, SignalFunction, TimedList, each_value, first_function, pairs, seq_function, values, with_values}
 use Rattle.sample_core.specs.Datum.{Datum, left, pair, right}
 
 -- `arr`

@@ -4,14 +4,14 @@ use Rattle.std.proofs.lemmas.List.{length-map}
 use Rattle.std.proofs.lemmas.Simd.{map-map}
 use mathlib.Core.Path.{fun_ext}
 use Rattle.leaf_core.specs.ExpressionValue.{on_event}
-use Rattle.net_syntax.specs.SignalFunction.{IsSignalFunction, SignalFunction, TimedList, accum_by_value, after_value, before_last, by_past, delay_value, each_value, first_function, first_sample, fold_events, i_pre_value, if_event, last_or, latest_by, latest_event, pairs, prefixes, repeatedly_value, seq_function, time_at, time_value, times, times_after, values, when, with_values}
-use Rattle.net_syntax.specs.Typing.{TypedSamples, and_sample, no_sample}
+use Rattle.net_meaning.specs.SignalFunction.{IsSignalFunction, SignalFunction, TimedList, accum_by_value, after_value, before_last, by_past, delay_value, each_value, first_function, first_sample, fold_events, i_pre_value, if_event, last_or, latest_by, latest_event, pairs, prefixes, repeatedly_value, seq_function, time_at, time_value, times, times_after, values, when, with_values}
+use Rattle.net_meaning.specs.Typing.{TypedSamples, and_sample, no_sample}
 use Rattle.sample_core.specs.Datum.{Datum, event, left, no_event, pair, right, unit}
 use Rattle.sample_core.specs.HasType.{HasType, pair_has}
 use Rattle.sample_core.specs.TypeTree.{TypeTree, pair_ty}
 use Rattle.law_rules.proofs.ArrowLaws.{after_first, applied, each_value-each_value, each_value-with_values, lefts-pairs, length-applied, length-lefted, map-constant, rights-pairs, sequence-before, values-each_value, values-with_values, with_values-applied}
-use Rattle.net_syntax.proofs.Prefixes.{length-prefixes}
-use Rattle.net_syntax.proofs.TypedLists.{typed_previous_of}
+use Rattle.net_meaning.proofs.Prefixes.{length-prefixes}
+use Rattle.net_meaning.proofs.TypedLists.{typed_previous_of}
 
 -- a formula over the samples so far, by its values there: there is at least one
 pub by_past-same : (h k : TimedList → Datum) (xs : TimedList) → ((x : ℕ × Datum) (p : TimedList) → h (x ∷ p) ≡ k (x ∷ p)) → by_past h xs ≡ by_past k xs

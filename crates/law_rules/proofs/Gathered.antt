@@ -5,10 +5,10 @@ use Rattle.sample_core.specs.TypeTree.{TypeTree}
 use Rattle.leaf_core.specs.Expression.{Expression, list_expr, expressions_of}
 use Rattle.leaf_core.specs.ExpressionView.{expression_of}
 use Rattle.leaf_core.specs.declared.expr.Expr.{Expr}
-use Rattle.net_syntax.specs.Network.{Network, Networks, arr, seq, par, networks_of, and_member}
-use Rattle.net_syntax.specs.NetworkView.{members_of, tree_of, trees}
-use Rattle.net_syntax.specs.declared.net.Net.{Net}
-use Rattle.net_syntax.specs.Typing.{members}
+use Rattle.net_tree.specs.Network.{Network, Networks, arr, seq, par, networks_of, and_member}
+use Rattle.net_tree.specs.NetworkView.{members_of, tree_of, trees}
+use Rattle.net_tree.specs.declared.net.Net.{Net}
+use Rattle.net_meaning.specs.Typing.{members}
 use Rattle.law_rules.specs.NetworkRow.{each_after, each_arr, count, route_to, behind_routes}
 use Rattle.law_rules.specs.Forward.{one_to_64, law41, law42, routed_apart, routed_each, kept_apart}
 

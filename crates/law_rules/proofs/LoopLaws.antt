@@ -1,14 +1,14 @@
 -- Laws of `loopPre`, on signals.
 use Rattle.std.proofs.Common.{List, [], ap, ap₂, arith, le_refl, length, length-take, map, refl, suc, sym, take, take-take, take_all, zero, ℕ, ◌∙◌, ◌∷◌, ◌≡◌, ◌≤◌}
 use Rattle.std.proofs.lemmas.Simd.{map-map}
-use Rattle.net_syntax.specs.Examples.{n}
-use Rattle.net_syntax.specs.SignalFunction.{IsSignalFunction, SignalFunction, TimedList, each_value, feedback_values, first_function, loop_pre_function, pair_samples, pairs, seq_function, values, with_values}
+use Rattle.net_meaning.specs.Examples.{n}
+use Rattle.net_meaning.specs.SignalFunction.{IsSignalFunction, SignalFunction, TimedList, each_value, feedback_values, first_function, loop_pre_function, pair_samples, pairs, seq_function, values, with_values}
 use Rattle.sample_core.specs.Datum.{Datum, left, pair, right}
 use Rattle.law_rules.proofs.ArrowLaws.{applied, each_value-with_values, lefts-pairs, length-lefted, regrouped, rights-pairs, sequence-after, sequence-before, values-with_values}
 use Rattle.law_rules.proofs.SomeLaws.{left-paired}
-use Rattle.net_syntax.proofs.Feedback.{IsSignal-feedback, fed_back-more, fed_back-take, length-fed_back}
-use Rattle.net_syntax.proofs.Plain.{IsSignal-on_left}
-use Rattle.net_syntax.proofs.Zips.{length-zip_with, take-zip_with}
+use Rattle.net_meaning.proofs.Feedback.{IsSignal-feedback, fed_back-more, fed_back-take, length-fed_back}
+use Rattle.net_meaning.proofs.Plain.{IsSignal-on_left}
+use Rattle.net_meaning.proofs.Zips.{length-zip_with, take-zip_with}
 
 -- where what is fed back goes through k
 fed_back-as : (c d : Datum) (f g : SignalFunction) (k : Datum → Datum) → k c ≡ d → (xs : TimedList) → ((ys : TimedList) (vs : List Datum) → map right (g (pair_samples ys (map k vs))) ≡ map k (map right (f (pair_samples ys vs))))

@@ -2,9 +2,9 @@
 use Rattle.std.proofs.Common.{◌≡◌, ℕ, ◌≤◌, Bool, true, false, cond, nat_le, nat_eq, ◌&&◌, pos, Option, Some, None, refl, sym, ap, ap₂, ◌∙◌, subst, arith}
 use Rattle.std.proofs.lemmas.Bool.{leb-true, le-leb}
 use Rattle.leaf_core.specs.Expression.{Expression, input, int_expr, pair_expr, no_event_expr, list_expr, nth}
-use Rattle.net_syntax.specs.Network.{Network, Networks, arr, seq, par, after, repeatedly, time, rp_switch, k_switch, p_switch, old}
-use Rattle.net_syntax.specs.Typing.{members}
-use Rattle.net_syntax.specs.Place.{member}
+use Rattle.net_tree.specs.Network.{Network, Networks, arr, seq, par, after, repeatedly, time, rp_switch, k_switch, p_switch, old}
+use Rattle.net_meaning.specs.Typing.{members}
+use Rattle.net_tree.specs.Place.{member}
 use Rattle.law_rules.specs.NetworkRow.{after_sees, repeatedly_sees, time_sees, behind_routes, each_after, each_arr, count, NetworkRow, row_l20, row_l38, row_l39, row_l40, row_l41, row_l42, row_l46}
 use Rattle.law_rules.specs.Forward.{one_to_64, law20, law38, law39, law40, law41, law42, beside_none, kept_apart, law46}
 

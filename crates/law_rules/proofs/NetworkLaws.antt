@@ -3,11 +3,11 @@ use Rattle.std.proofs.Common.{Some, [], ap, ap₂, pos, refl, suc, sym, length, 
 use Rattle.law_rules.specs.NetworkRow.{SeesSteps, after_sees, assoc, behind_routes, each_after, each_arr, event_by, event_last, left_by, repeatedly_sees, right_by, time_sees, unassoc}
 use Rattle.leaf_core.specs.Expression.{Expression, Expressions, event_expr, fst, input, int_expr, list_expr, no_event_expr, nth, pair_expr, then_expr, unit_expr}
 use Rattle.leaf_core.specs.ExpressionValue.{value_of}
-use Rattle.net_syntax.specs.Meaning.{Context, meaning, meanings, with_olds, with_param}
-use Rattle.net_syntax.specs.Network.{Network, Networks, accum_by, after, and_member, arr, d_switch, delay, first, hold, i_pre, initial_in, initial_out, k_switch, loop_pre, no_members, p_switch, par, r_switch, repeatedly, rp_switch, seq, switch}
-use Rattle.net_syntax.specs.Typing.{members}
-use Rattle.net_syntax.specs.Place.{member}
-use Rattle.net_syntax.specs.SignalFunction.{IsSignalFunction, SignalFunction, TimedList, par_function, route_each}
+use Rattle.net_meaning.specs.Meaning.{Context, meaning, meanings, with_olds, with_param}
+use Rattle.net_tree.specs.Network.{Network, Networks, accum_by, after, and_member, arr, d_switch, delay, first, hold, i_pre, initial_in, initial_out, k_switch, loop_pre, no_members, p_switch, par, r_switch, repeatedly, rp_switch, seq, switch}
+use Rattle.net_meaning.specs.Typing.{members}
+use Rattle.net_tree.specs.Place.{member}
+use Rattle.net_meaning.specs.SignalFunction.{IsSignalFunction, SignalFunction, TimedList, par_function, route_each}
 use Rattle.sample_core.specs.Datum.{Datum, int, pair, unit}
 use Rattle.sample_core.specs.TypeTree.{TypeTree}
 use Rattle.law_rules.proofs.ArrowLaws
@@ -16,8 +16,8 @@ use Rattle.law_rules.proofs.LoopLaws
 use Rattle.law_rules.proofs.ParallelLaws
 use Rattle.law_rules.proofs.SomeLaws.{seq_function_assoc, sequence-feedback}
 use Rattle.law_rules.proofs.SwitchLaws.{choosing-quiet, on_left-switching, on_left-switching_late, pointwise-before, restarting-quiet, switching-quiet, switching_all-quiet, switching_late-quiet, switching_on-quiet}
-use Rattle.net_syntax.proofs.Meanings.{IsSignal-meaning}
-use Rattle.net_syntax.proofs.Plain.{AllSignals, IsSignal-on_left}
+use Rattle.net_meaning.proofs.Meanings.{IsSignal-meaning}
+use Rattle.net_meaning.proofs.Plain.{AllSignals, IsSignal-on_left}
 
 -- one meaning in every context
 abbrev pub AlikeNets : Network Expression → Network Expression → Type 0

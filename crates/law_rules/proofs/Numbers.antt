@@ -1,7 +1,7 @@
 -- There is a row of a law exactly of each number from 1 to 46.
 use Rattle.std.proofs.Common.{◌≡◌, ℕ, zero, suc, ◌+◌, ◌≤◌, ◌∙◌, subst, arith, ◌↔◌}
 use Rattle.leaf_core.specs.Expression.{Expression}
-use Rattle.net_syntax.specs.Network.{Network}
+use Rattle.net_tree.specs.Network.{Network}
 use Rattle.law_rules.specs.NetworkRow.{NetworkRow, row_l1}
 use Rattle.law_rules.proofs.TableRows.{SomeRow, RowsFrom, all-rows}
 

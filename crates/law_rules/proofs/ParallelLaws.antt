@@ -3,13 +3,13 @@ use Rattle.std.proofs.Common.{List, Some, [], ap, ap₂, arith, length, map, pos
 use Rattle.law_rules.specs.NetworkRow.{each_after, each_arr}
 use Rattle.leaf_core.specs.Expression.{Expression, Expressions, and_then, no_more}
 use Rattle.leaf_core.specs.ExpressionValue.{element_at, nth_of, value_of, values_of}
-use Rattle.net_syntax.specs.Meaning.{Context, meaning, meanings}
-use Rattle.net_syntax.specs.Network.{Network, Networks, and_member, no_members}
-use Rattle.net_syntax.specs.Place.{member}
-use Rattle.net_syntax.specs.SignalFunction.{IsSignalFunction, TimedList, all_of, gather, heads, par_function, seq_function, tails, values, with_values}
+use Rattle.net_meaning.specs.Meaning.{Context, meaning, meanings}
+use Rattle.net_tree.specs.Network.{Network, Networks, and_member, no_members}
+use Rattle.net_tree.specs.Place.{member}
+use Rattle.net_meaning.specs.SignalFunction.{IsSignalFunction, TimedList, all_of, gather, heads, par_function, seq_function, tails, values, with_values}
 use Rattle.sample_core.specs.Datum.{Datum, list, list_of}
 use Rattle.law_rules.proofs.ArrowLaws.{applied, values-with_values}
-use Rattle.net_syntax.proofs.Zips.{length-gather, length-zip_with}
+use Rattle.net_meaning.proofs.Zips.{length-gather, length-zip_with}
 
 pub data RowAt : List (List Datum) → ℕ → List Datum → Type 0 where
   row_here : {row : List Datum} {rows : List (List Datum)} → RowAt (row ∷ rows) zero row

@@ -2,7 +2,7 @@
 use Rattle.std.proofs.Common.{◌≡◌, ℕ, Option, Some, refl, sym, ◌∙◌, arith}
 use Rattle.sample_core.specs.TypeTree.{TypeTree}
 use Rattle.leaf_core.specs.Expression.{Expression, then_expr}
-use Rattle.net_syntax.specs.Network.{Network, arr, seq, hold}
+use Rattle.net_tree.specs.Network.{Network, arr, seq, hold}
 use Rattle.law_rules.specs.NetworkRow.{NetworkRow, event_by, row_l1, row_l23, row_l38, row_l40, row_l46}
 use Rattle.law_rules.specs.Forward.{law38, law40}
 use Rattle.law_rules.proofs.NamedLaws.{law38-complete, law40-complete}

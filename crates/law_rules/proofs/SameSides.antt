@@ -8,18 +8,18 @@ use Rattle.leaf_core.specs.Expression.{Expression, pair_expr}
 use Rattle.leaf_core.specs.ExpressionValue.{value_of}
 use Rattle.leaf_core.specs.ExpressionTyping.{ExpressionTyped, pair_typed}
 use Rattle.leaf_core.proofs.Soundness.{typed_value}
-use Rattle.net_syntax.specs.SignalFunction.{SignalFunction, TimedList, IsSignalFunction, seq_function, switch_function, d_switch_function, r_switch_function, dr_switch_function}
-use Rattle.net_syntax.specs.Network.{Network, arr, seq, first, i_pre, switch, d_switch, r_switch, dr_switch, k_switch, old}
-use Rattle.net_syntax.specs.Meaning.{Context, meaning, with_param}
-use Rattle.net_syntax.specs.Typing.{Arrow, TypedSamples, arr_typed, seq_typed, i_pre_typed}
-use Rattle.net_syntax.specs.TypedNetwork.{NetTyped}
-use Rattle.net_syntax.specs.Sameness.{AllOlds, no_olds, and_old, SameNet, context}
-use Rattle.net_syntax.specs.AlikeEnvironments.{SameOutputs}
-use Rattle.net_syntax.proofs.Cells.{IsSignal-previous_of}
-use Rattle.net_syntax.proofs.Plain.{AllSignals}
-use Rattle.net_syntax.proofs.Meanings.{IsSignal-meaning}
-use Rattle.net_syntax.proofs.SameNets.{signals_right, same-from_law}
-use Rattle.net_syntax.proofs.StreamLaws.{same-outputs}
+use Rattle.net_meaning.specs.SignalFunction.{SignalFunction, TimedList, IsSignalFunction, seq_function, switch_function, d_switch_function, r_switch_function, dr_switch_function}
+use Rattle.net_tree.specs.Network.{Network, arr, seq, first, i_pre, switch, d_switch, r_switch, dr_switch, k_switch, old}
+use Rattle.net_meaning.specs.Meaning.{Context, meaning, with_param}
+use Rattle.net_meaning.specs.Typing.{Arrow, TypedSamples, arr_typed, seq_typed, i_pre_typed}
+use Rattle.net_meaning.specs.TypedNetwork.{NetTyped}
+use Rattle.net_meaning.specs.Sameness.{AllOlds, no_olds, and_old, SameNet, context}
+use Rattle.net_meaning.specs.AlikeEnvironments.{SameOutputs}
+use Rattle.net_meaning.proofs.Cells.{IsSignal-previous_of}
+use Rattle.net_meaning.proofs.Plain.{AllSignals}
+use Rattle.net_meaning.proofs.Meanings.{IsSignal-meaning}
+use Rattle.net_meaning.proofs.SameNets.{signals_right, same-from_law}
+use Rattle.net_meaning.proofs.StreamLaws.{same-outputs}
 use Rattle.law_rules.specs.NetworkRow.{NetworkRow, swap, left_by, row_l1, row_l2, row_l3, row_l4, row_l5, row_l6, row_l7, row_l8, row_l9, row_l10, row_l11, row_l12, row_l13, row_l14, row_l15, row_l16, row_l17, row_l18, row_l19, row_l20, row_l21, row_l22, row_l23, row_l24, row_l25, row_l26, row_l27, row_l28, row_l29, row_l30, row_l31, row_l32, row_l33, row_l34, row_l35, row_l36, row_l37, row_l38, row_l39, row_l40, row_l41, row_l42, row_l43, row_l44, row_l45, row_l46}
 use Rattle.law_rules.proofs.Scopes.{value-stays}
 use Rattle.law_rules.proofs.SomeLaws.{switching_on-old}

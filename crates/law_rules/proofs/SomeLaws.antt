@@ -1,16 +1,16 @@
 -- Some of the laws of networks, on signals, to try the shape of the definitions.
 use Rattle.std.proofs.Common.{List, [], ap, ap₂, arith, le_refl, length, length-take, map, refl, suc, sym, take, take-append-drop, zero, ℕ, ◌++◌, ◌<◌, ◌∙◌, ◌∷◌, ◌≡◌, ◌≤◌}
 use mathlib.Core.Path.{fun_ext}
-use Rattle.net_syntax.specs.Examples.{n}
-use Rattle.net_syntax.specs.Meaning.{old_at}
-use Rattle.net_syntax.specs.SignalFunction.{IsSignalFunction, SignalFunction, TimedList, each_value, feedback_values, first_function, k_switch_function, loop_pre_function, pair_samples, pairs, resume, seq_function, switch_at, values, watch, with_values}
+use Rattle.net_meaning.specs.Examples.{n}
+use Rattle.net_meaning.specs.Meaning.{old_at}
+use Rattle.net_meaning.specs.SignalFunction.{IsSignalFunction, SignalFunction, TimedList, each_value, feedback_values, first_function, k_switch_function, loop_pre_function, pair_samples, pairs, resume, seq_function, switch_at, values, watch, with_values}
 use Rattle.sample_core.specs.Datum.{Datum, left, pair, right}
-use Rattle.net_syntax.proofs.Events.{Outlook, never, once, outlook}
-use Rattle.net_syntax.proofs.Feedback.{length-fed_back}
-use Rattle.net_syntax.proofs.Plain.{IsSignal-watching}
-use Rattle.net_syntax.proofs.Switched.{switch_at-none, switch_at-some}
-use Rattle.net_syntax.proofs.Switches.{resume-here}
-use Rattle.net_syntax.proofs.Zips.{length-zip_with, take-zip_with}
+use Rattle.net_meaning.proofs.Events.{Outlook, never, once, outlook}
+use Rattle.net_meaning.proofs.Feedback.{length-fed_back}
+use Rattle.net_meaning.proofs.Plain.{IsSignal-watching}
+use Rattle.net_meaning.proofs.Switched.{switch_at-none, switch_at-some}
+use Rattle.net_meaning.proofs.Switches.{resume-here}
+use Rattle.net_meaning.proofs.Zips.{length-zip_with, take-zip_with}
 
 -- L3
 with_values-with_values : (xs : TimedList) (ys zs : List Datum) → length ys ≡ length xs → with_values (with_values xs ys) zs ≡ with_values xs zs

@@ -3,15 +3,15 @@ use Rattle.std.proofs.Common.{List, None, Option, Some, [], ap, append-nil, ap�
 use Rattle.std.proofs.lemmas.List.{drop-map, length-map, map-append, take-map}
 use Rattle.std.proofs.lemmas.Simd.{map-map}
 use mathlib.Core.Path.{fun_ext}
-use Rattle.net_syntax.specs.Examples.{n}
-use Rattle.net_syntax.specs.SignalFunction.{IsSignalFunction, SignalFunction, TimedList, all_of, by_members, collect, cut_at, d_switch_function, dr_switch_function, each_late, each_value, first_event, first_members, gather, member_outputs, new_members, next_sample, par_function, rp_switch_function, first_function, freeze_all, k_switch_function, later, lefts, p_switch_function, pair_samples, pairs, pieces, put_sample, r_switch_function, resume, rights, seq_function, switch_function, values, watch, with_values}
+use Rattle.net_meaning.specs.Examples.{n}
+use Rattle.net_meaning.specs.SignalFunction.{IsSignalFunction, SignalFunction, TimedList, all_of, by_members, collect, cut_at, d_switch_function, dr_switch_function, each_late, each_value, first_event, first_members, gather, member_outputs, new_members, next_sample, par_function, rp_switch_function, first_function, freeze_all, k_switch_function, later, lefts, p_switch_function, pair_samples, pairs, pieces, put_sample, r_switch_function, resume, rights, seq_function, switch_function, values, watch, with_values}
 use Rattle.sample_core.specs.Datum.{Datum, left, no_event, pair, right}
-use Rattle.net_syntax.proofs.Plain.{IsSignal-on_left}
-use Rattle.net_syntax.proofs.Restarting.{IsSignal-restarting}
-use Rattle.net_syntax.proofs.LateRestarts.{IsSignal-restarting_late}
-use Rattle.net_syntax.proofs.RelatedMembers.{rows_of}
-use Rattle.net_syntax.proofs.Switched.{switch_at-none}
-use Rattle.net_syntax.proofs.Switches.{IsSignal-switching, IsSignal-switching_late}
+use Rattle.net_meaning.proofs.Plain.{IsSignal-on_left}
+use Rattle.net_meaning.proofs.Restarting.{IsSignal-restarting}
+use Rattle.net_meaning.proofs.LateRestarts.{IsSignal-restarting_late}
+use Rattle.net_meaning.proofs.RelatedMembers.{rows_of}
+use Rattle.net_meaning.proofs.Switched.{switch_at-none}
+use Rattle.net_meaning.proofs.Switches.{IsSignal-switching, IsSignal-switching_late}
 
 -- `arr`
 abbrev pub pointwise : (Datum → Datum) → SignalFunction

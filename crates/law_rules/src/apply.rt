@@ -1,7 +1,7 @@
 // Applying a law at a network.
 
 ghost use Rattle.std.specs.Prelude.{◌≡◌, IfOk, MatchOption};
-ghost use Rattle.net_syntax.specs.NetworkView.{tree_of};
+ghost use Rattle.net_tree.specs.NetworkView.{tree_of};
 ghost use Rattle.law_rules.specs.NetworkRow.{NetworkRow};
 ghost use Rattle.law_rules.specs.Answer.{IsNetworkAnswer, IsNetworkRightSide, given_net};
 
@@ -10,7 +10,7 @@ use crate::parts::{one_member, resumed, without_input};
 use crate::table::{NetLaw, law_rule};
 use law_patterns::rewrite_net;
 use leaf_core::Expr;
-use net_syntax::{Direction, Law, Net, same_net};
+use net_tree::{Direction, Law, Net, same_net};
 use sample_core::Memory;
 use std::alloc::Global;
 

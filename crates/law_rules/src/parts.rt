@@ -3,12 +3,12 @@
 ghost use Rattle.std.specs.Prelude.{◌≡◌, IfOk, Some, None, cond, option_map};
 ghost use Rattle.leaf_core.specs.Expression.{input, int_expr, nth};
 ghost use Rattle.leaf_core.specs.ExpressionView.{expression_of};
-ghost use Rattle.net_syntax.specs.Network.{k_switch, seq};
-ghost use Rattle.net_syntax.specs.NetworkView.{tree_of, trees};
+ghost use Rattle.net_tree.specs.Network.{k_switch, seq};
+ghost use Rattle.net_tree.specs.NetworkView.{tree_of, trees};
 ghost use Rattle.law_rules.specs.Forward.{law20, law38, law40, member_by, place_in};
 
 use leaf_core::{Expr, Literal};
-use net_syntax::{Members, Net};
+use net_tree::{Members, Net};
 use sample_core::Memory;
 use std::alloc::Global;
 

@@ -1,8 +1,8 @@
 -- A draft that ends at the target has a certificate.
 use Rattle.std.proofs.Common.{◌≡◌, ◌≤◌, List, length, map, sym, subst}
-use Rattle.net_syntax.specs.TypedNetwork.{TypedNetwork}
-use Rattle.net_syntax.specs.LawStep.{Step, step_of}
-use Rattle.net_syntax.specs.declared.law_step.LawStep.{LawStep}
+use Rattle.net_meaning.specs.TypedNetwork.{TypedNetwork}
+use Rattle.net_tree.specs.LawStep.{Step, step_of}
+use Rattle.net_tree.specs.declared.law_step.LawStep.{LawStep}
 use Rattle.cert_check.specs.Derives.{Steps, Derives}
 
 -- steps that lead from t to u, of which u is the target's network

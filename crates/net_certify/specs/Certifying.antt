@@ -1,7 +1,7 @@
 -- What the search for a certificate answers.
 use Rattle.std.specs.Prelude.{◌≡◌, ◌≢◌, map}
-use Rattle.net_syntax.specs.TypedNetwork.{TypedNetwork}
-use Rattle.net_syntax.specs.LawStep.{step_of}
+use Rattle.net_meaning.specs.TypedNetwork.{TypedNetwork}
+use Rattle.net_tree.specs.LawStep.{step_of}
 use Rattle.cert_check.specs.Derives.{Derives}
 use Rattle.net_certify.specs.declared.certifying.Certified.{Certified}
 use Rattle.net_certify.specs.declared.certifying.Certified.TheVariants.{Found, InputsDiffer, Differ, TooLong}

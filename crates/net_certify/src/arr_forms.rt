@@ -9,7 +9,7 @@ use net_improve::{
     Built, Move, Sketch, Stop, SwitchMove, assoc, behind, identity, length, map_before_hold,
     none_told, seq, unassoc,
 };
-use net_syntax::{Net, NetChild};
+use net_tree::{Net, NetChild};
 use sample_core::Memory;
 use std::alloc::Global;
 

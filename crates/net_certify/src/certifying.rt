@@ -6,7 +6,8 @@ ghost use Rattle.net_certify.specs.Certifying.{CertifyAnswer};
 use crate::difference::{Difference, first_difference};
 use crate::forming::normal_steps;
 use net_edit::{Draft, undo};
-use net_syntax::{LawStep, Position, Tree, TypedNet, same_net};
+use net_syntax::TypedNet;
+use net_tree::{LawStep, Position, Tree, same_net};
 use sample_core::{Memory, same_type};
 use std::alloc::Global;
 

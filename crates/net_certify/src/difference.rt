@@ -2,7 +2,8 @@
 
 use leaf_core::{Expr, part, same_expr};
 use net_improve::copy_of;
-use net_syntax::{Net, Position, Tree, TreeRef, child, same_net};
+use net_syntax::{TreeRef, child};
+use net_tree::{Net, Position, Tree, same_net};
 use sample_core::{Memory, same_type};
 use std::alloc::Global;
 

@@ -6,7 +6,8 @@ use leaf_core::Expr;
 use net_improve::{
     Built, Clearing, Sketch, Stop, behind, copied, front, head, length, rest, stage_way,
 };
-use net_syntax::{LawStep, Net, NetChild, TreeRef, same_net};
+use net_syntax::TreeRef;
+use net_tree::{LawStep, Net, NetChild, same_net};
 use sample_core::Memory;
 use std::alloc::Global;
 

@@ -6,7 +6,7 @@ use expr_improve::{
 };
 use leaf_core::{Expr, ExprChild, part, same_expr};
 use net_improve::{Built, LoopMove, Sketch, Stop, identity, seq};
-use net_syntax::{Direction, Law, LawStep, Net, Position, Tree};
+use net_tree::{Direction, Law, LawStep, Net, Position, Tree};
 use sample_core::Memory;
 use std::alloc::Global;
 

@@ -4,7 +4,7 @@ use crate::arr_forms::ArrForm;
 use crate::loop_forms::LoopForm;
 use leaf_core::Expr;
 use net_improve::{ArrMove, Built, CellMove, FirstMove, LoopMove, Move, Sketch, Stop, SwitchMove};
-use net_syntax::Net;
+use net_tree::Net;
 
 /// What a stage must be for a move to be tried at it.
 #[derive(Clone, Copy)]

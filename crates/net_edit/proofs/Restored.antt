@@ -4,8 +4,8 @@ use Rattle.std.specs.Option.{option_map}
 use Rattle.leaf_core.specs.Expression.{Expression, Expressions, no_more, and_then, bool_expr, pair_expr, fst, snd, then_expr, neg, add, sub, mul, less, equal, not_expr, and_expr, or_expr, if_expr, event_expr, on, list_expr, nth, len}
 use Rattle.leaf_core.specs.Inside.{row}
 use Rattle.leaf_core.specs.Parts.{element, with_element, refilled, part, with_part}
-use Rattle.net_syntax.specs.Network.{Network, Networks, arr, seq, first, par, loop_pre, i_pre, delay, hold, accum_by, after, repeatedly, switch, d_switch, r_switch, k_switch, p_switch, initial_out, initial_in, dr_switch, rp_switch, no_members, and_member}
-use Rattle.net_syntax.specs.Place.{Tree, a_network, a_leaf, member, child, child_network, collection_child, PSwitchChild, p_switch_child, member_child, event_child, continuation_child, no_child}
+use Rattle.net_tree.specs.Network.{Network, Networks, arr, seq, first, par, loop_pre, i_pre, delay, hold, accum_by, after, repeatedly, switch, d_switch, r_switch, k_switch, p_switch, initial_out, initial_in, dr_switch, rp_switch, no_members, and_member}
+use Rattle.net_tree.specs.Place.{Tree, a_network, a_leaf, member, child, child_network, collection_child, PSwitchChild, p_switch_child, member_child, event_child, continuation_child, no_child}
 use Rattle.net_syntax.specs.Placed.{with_member, with_child, with_p_switch_child, with_collection_child}
 
 -- elements

@@ -1,7 +1,7 @@
 -- What is to hold of steps undone.
-use Rattle.net_syntax.specs.NetworkLimits.{WithinLimits}
-use Rattle.net_syntax.specs.TypedNetwork.{TypedNetwork}
-use Rattle.net_syntax.specs.LawStep.{Step}
+use Rattle.net_meaning.specs.NetworkLimits.{WithinLimits}
+use Rattle.net_meaning.specs.TypedNetwork.{TypedNetwork}
+use Rattle.net_tree.specs.LawStep.{Step}
 use Rattle.cert_check.specs.Derives.{Next}
 use Rattle.net_edit.specs.Undoing.{Undoes}
 

@@ -1,13 +1,13 @@
 -- The step that undoes a step.
 use Rattle.std.specs.Prelude.{◌≡◌, Option, Some, None, MatchOption}
 use Rattle.leaf_core.specs.Expression.{Expression}
-use Rattle.net_syntax.specs.Place.{Tree, a_network}
+use Rattle.net_tree.specs.Place.{Tree, a_network}
 use Rattle.net_syntax.specs.Placed.{Placed, placed_at}
-use Rattle.net_syntax.specs.TypedNetwork.{TypedNetwork}
-use Rattle.net_syntax.specs.LawStep.{Step, step_of}
-use Rattle.net_syntax.specs.declared.law_step.LawStep.{LawStep}
-use Rattle.net_syntax.specs.declared.law_step.Direction.{Direction}
-use Rattle.net_syntax.specs.declared.law_step.Direction.TheVariants.{Forward, Backward}
+use Rattle.net_meaning.specs.TypedNetwork.{TypedNetwork}
+use Rattle.net_tree.specs.LawStep.{Step, step_of}
+use Rattle.net_tree.specs.declared.law_step.LawStep.{LawStep}
+use Rattle.net_tree.specs.declared.law_step.Direction.{Direction}
+use Rattle.net_tree.specs.declared.law_step.Direction.TheVariants.{Forward, Backward}
 
 -- the other direction
 abbrev pub turned : Direction → Direction

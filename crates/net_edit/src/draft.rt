@@ -1,12 +1,13 @@
 // A network and the steps that made it.
 
 ghost use Rattle.std.specs.Prelude.{◌≡◌, ◌++◌, ◌∷◌, [], ◌≤◌, length, map, false, IfOk, IfSome, MatchBool};
-ghost use Rattle.net_syntax.specs.LawStep.{step_of};
+ghost use Rattle.net_tree.specs.LawStep.{step_of};
 ghost use Rattle.cert_check.specs.Derives.{Next, Steps};
 ghost use Rattle.net_edit.specs.Drafted.{begun, TakesOneMore};
 
 use cert_check::{CheckFault, MOST_STEPS, take_step};
-use net_syntax::{LawStep, TypedNet};
+use net_syntax::TypedNet;
+use net_tree::LawStep;
 use sample_core::Memory;
 use std::alloc::Global;
 use std::marker::Model;
@@ -27,7 +28,7 @@ impl Model for Draft {
 
     ghost use Rattle.std.specs.Coded.{codes};
     ghost use Rattle.leaf_core.specs.ExpressionCode.{expression_code};
-    ghost use Rattle.net_syntax.specs.NetworkCode.{network_code};
+    ghost use Rattle.net_tree.specs.NetworkCode.{network_code};
     ghost use Rattle.net_syntax.specs.TypedNetworkCode.{typed_network_code};
 
     ghost coded = { Prim.hlevel (codes, typed_network_code, expression_code, network_code) };

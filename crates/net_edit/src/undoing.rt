@@ -1,12 +1,13 @@
 // The step that undoes a step.
 
 ghost use Rattle.std.specs.Prelude.{◌≡◌, IfOk, option_map};
-ghost use Rattle.net_syntax.specs.LawStep.{part_of, step_of};
+ghost use Rattle.net_tree.specs.LawStep.{part_of, step_of};
 ghost use Rattle.net_syntax.specs.ChildParts.{seen};
 ghost use Rattle.net_edit.specs.Undoing.{IsUndoing, given_back, turned};
 
 use cert_check::place_in;
-use net_syntax::{Direction, LawStep, Tree, TreeRef, TypedNet};
+use net_syntax::{TreeRef, TypedNet};
+use net_tree::{Direction, LawStep, Tree};
 use sample_core::Memory;
 use std::alloc::Global;
 

@@ -1,9 +1,9 @@
 -- What the search for a faster network answers.
 use Rattle.std.specs.Prelude.{◌≡◌, ◌≤◌, List, length}
 use Rattle.leaf_core.specs.Expression.{Expression}
-use Rattle.net_syntax.specs.Network.{Network}
-use Rattle.net_syntax.specs.TypedNetwork.{TypedNetwork}
-use Rattle.net_syntax.specs.LawStep.{Step}
+use Rattle.net_tree.specs.Network.{Network}
+use Rattle.net_meaning.specs.TypedNetwork.{TypedNetwork}
+use Rattle.net_tree.specs.LawStep.{Step}
 use Rattle.cert_check.specs.Derives.{Steps}
 
 -- at most 10,000 steps lead from t to a typed network, which is this one

@@ -1,7 +1,7 @@
 -- What is to hold of improved networks.
 use Rattle.std.specs.Prelude.{◌≡◌, List}
-use Rattle.net_syntax.specs.TypedNetwork.{TypedNetwork}
-use Rattle.net_syntax.specs.LawStep.{Step}
+use Rattle.net_meaning.specs.TypedNetwork.{TypedNetwork}
+use Rattle.net_tree.specs.LawStep.{Step}
 use Rattle.cert_check.specs.Derives.{Derives}
 use Rattle.net_improve.specs.Improving.{Improved}
 

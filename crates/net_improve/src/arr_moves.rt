@@ -6,7 +6,7 @@ use crate::moves::Built;
 use crate::sketch::{Clearing, Sketch, Stop};
 use expr_improve::{Rewriting, as_then, shared_at};
 use leaf_core::Expr;
-use net_syntax::Net;
+use net_tree::Net;
 use sample_core::Memory;
 use std::alloc::Global;
 

@@ -4,7 +4,8 @@ use crate::build::{arr, arr_pair, first};
 use crate::sketch::{Clearing, Sketch, Stop};
 use expr_improve::{Rewriting, as_left, as_then, improve_expr, joined, normal_expr, seen_through};
 use leaf_core::Expr;
-use net_syntax::{NetChild, TreeRef};
+use net_syntax::TreeRef;
+use net_tree::NetChild;
 use sample_core::Memory;
 use std::alloc::Global;
 

@@ -4,7 +4,7 @@ use expr_improve::{
     beside_second, first_input, first_of, input, of_second, pair_of, second_input, second_of,
 };
 use leaf_core::{Expr, ExprChild, Literal};
-use net_syntax::{Net, NetChild};
+use net_tree::{Net, NetChild};
 use sample_core::Memory;
 use std::alloc::Global;
 

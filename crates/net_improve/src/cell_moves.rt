@@ -7,7 +7,7 @@ use crate::sketch::{Sketch, Stop};
 use crate::types::none_told;
 use expr_improve::{as_map, as_part, joined, pair_of, then_of};
 use leaf_core::{Expr, ExprChild, type_of_expr};
-use net_syntax::{Net, NetChild};
+use net_tree::{Net, NetChild};
 use sample_core::Ty;
 use std::alloc::Global;
 

@@ -3,7 +3,7 @@
 use crate::build::{copied, first, seq};
 use crate::sketch::{Sketch, Stop};
 use leaf_core::Expr;
-use net_syntax::{Net, NetChild};
+use net_tree::{Net, NetChild};
 use std::alloc::Global;
 
 /// How many stages a chain may have to be looked at.

@@ -3,7 +3,7 @@
 use crate::chain::{head, last};
 use expr_improve::{arr_cost, made_of};
 use leaf_core::Expr;
-use net_syntax::{Members, Net, NetChild};
+use net_tree::{Members, Net, NetChild};
 
 /// How deep networks are looked into.
 const MOST_DEEP: u32 = 1_000;

@@ -1,8 +1,8 @@
 // The driver: what the search found, taken step by step.
 
 ghost use Rattle.std.specs.Prelude.{◌≡◌, IfOk, map};
-ghost use Rattle.net_syntax.specs.NetworkView.{tree_of};
-ghost use Rattle.net_syntax.specs.LawStep.{step_of};
+ghost use Rattle.net_tree.specs.NetworkView.{tree_of};
+ghost use Rattle.net_tree.specs.LawStep.{step_of};
 ghost use Rattle.net_improve.specs.Improving.{Improved};
 
 use crate::build::copied;
@@ -12,8 +12,9 @@ use crate::sketch::{Clearing, Sketch, Stop};
 use cert_check::MOST_STEPS;
 use leaf_core::Expr;
 use net_edit::Draft;
-use net_syntax::{LawStep, Net, TypedNet};
+use net_syntax::TypedNet;
 use net_text::print_cert;
+use net_tree::{LawStep, Net};
 use sample_core::Memory;
 use std::alloc::Global;
 

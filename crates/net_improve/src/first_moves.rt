@@ -9,7 +9,7 @@ use expr_improve::{
     then_of,
 };
 use leaf_core::{Expr, ExprChild};
-use net_syntax::Net;
+use net_tree::Net;
 use sample_core::Memory;
 use std::alloc::Global;
 

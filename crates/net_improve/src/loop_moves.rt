@@ -6,7 +6,7 @@ use crate::moves::Built;
 use crate::sketch::{Sketch, Stop};
 use expr_improve::{as_right, joined};
 use leaf_core::Expr;
-use net_syntax::{Net, NetChild};
+use net_tree::{Net, NetChild};
 use std::alloc::Global;
 
 /// A move of stages that are a `loopPre`.

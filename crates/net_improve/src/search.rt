@@ -3,7 +3,8 @@
 use crate::chain::{length, stage_way};
 use crate::settle::{Search, settle};
 use crate::sketch::{Sketch, Stop};
-use net_syntax::{Net, TreeRef, child};
+use net_syntax::{TreeRef, child};
+use net_tree::Net;
 
 /// How deep moves are made in what moves build.
 const MOST_BUILT: u32 = 3;

@@ -5,7 +5,7 @@ use crate::cost::{cost_before, is_cell};
 use crate::moves::{Built, MOVES, Move};
 use crate::sketch::{Sketch, Stop};
 use leaf_core::Expr;
-use net_syntax::Net;
+use net_tree::Net;
 
 /// How many places of a chain are looked at.
 const MOST_PLACES: u32 = 100_000;

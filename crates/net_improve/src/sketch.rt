@@ -5,7 +5,8 @@ use expr_improve::joined;
 use expr_laws::apply_expr;
 use law_rules::apply_law;
 use leaf_core::{Expr, part};
-use net_syntax::{Direction, Law, LawStep, Net, NetChild, Position, Tree, TreeRef, child, replace};
+use net_syntax::{TreeRef, child, replace};
+use net_tree::{Direction, Law, LawStep, Net, NetChild, Position, Tree};
 use sample_core::{Memory, OutOfMemory};
 use std::alloc::Global;
 

@@ -7,7 +7,7 @@ use crate::sketch::{Sketch, Stop};
 use crate::types::type_told;
 use expr_improve::{Rewriting, as_then, input, pair_of};
 use leaf_core::{Expr, Exprs};
-use net_syntax::{Members, Net, NetChild, same_net};
+use net_tree::{Members, Net, NetChild, same_net};
 use sample_core::{Memory, Ty};
 use std::alloc::Global;
 

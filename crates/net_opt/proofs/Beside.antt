@@ -7,8 +7,8 @@ use Rattle.leaf_core.specs.Expression.{Expression, Expressions, no_more, and_the
 use Rattle.leaf_core.specs.Inside.{Inside, one, two, three, row, inside_of}
 use Rattle.leaf_core.specs.Parts.{element, with_element, part_inside, inside_with, refilled, part, with_part, part_at, with_part_at}
 use Rattle.leaf_core.proofs.PartTypes.{inner}
-use Rattle.net_syntax.specs.Network.{Network, Networks, arr, seq, first, par, loop_pre, i_pre, delay, hold, accum_by, after, repeatedly, switch, d_switch, r_switch, k_switch, p_switch, initial_out, initial_in, dr_switch, rp_switch, no_members, and_member}
-use Rattle.net_syntax.specs.Place.{◌>>=◌, Tree, a_network, a_leaf, member, child, child_network, collection_child, PSwitchChild, p_switch_child, member_child, event_child, continuation_child, no_child}
+use Rattle.net_tree.specs.Network.{Network, Networks, arr, seq, first, par, loop_pre, i_pre, delay, hold, accum_by, after, repeatedly, switch, d_switch, r_switch, k_switch, p_switch, initial_out, initial_in, dr_switch, rp_switch, no_members, and_member}
+use Rattle.net_tree.specs.Place.{◌>>=◌, Tree, a_network, a_leaf, member, child, child_network, collection_child, PSwitchChild, p_switch_child, member_child, event_child, continuation_child, no_child}
 use Rattle.net_syntax.specs.Placed.{Bound, Placed, placed, placed_at, bound_in, bound_behind, bound_started, with_member, with_child, with_p_switch_child, with_collection_child, replaced}
 use Rattle.net_opt.specs.Order.{LeftOf, lower, deeper}
 

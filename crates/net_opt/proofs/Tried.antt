@@ -3,17 +3,17 @@ use Rattle.std.proofs.Common.{◌≡◌, ℕ, ◌+◌, ◌<◌, Bool, true, fals
 use Rattle.std.proofs.lemmas.List.{get_or_default, map-append}
 use Rattle.std.proofs.lemmas.Option.{none-some}
 use Rattle.leaf_core.specs.Expression.{Expression}
-use Rattle.net_syntax.specs.Network.{Network}
-use Rattle.net_syntax.specs.Place.{Tree, a_network, a_leaf}
+use Rattle.net_tree.specs.Network.{Network}
+use Rattle.net_tree.specs.Place.{Tree, a_network, a_leaf}
 use Rattle.sample_core.specs.declared.memory.Memory.{Memory}
 use Rattle.net_syntax.specs.Placed.{Placed, placed, placed_at}
 use Rattle.net_syntax.specs.Rewriting.{Rewrites}
-use Rattle.net_syntax.specs.TypedNetwork.{TypedNetwork}
-use Rattle.net_syntax.specs.LawStep.{Step, step_of}
-use Rattle.net_syntax.specs.declared.law_step.LawStep.{LawStep}
-use Rattle.net_syntax.specs.declared.law_step.Law.{Law}
-use Rattle.net_syntax.specs.declared.law_step.Law.TheVariants as L
-use Rattle.net_syntax.specs.declared.law_step.Direction.TheVariants.{Forward}
+use Rattle.net_meaning.specs.TypedNetwork.{TypedNetwork}
+use Rattle.net_tree.specs.LawStep.{Step, step_of}
+use Rattle.net_tree.specs.declared.law_step.LawStep.{LawStep}
+use Rattle.net_tree.specs.declared.law_step.Law.{Law}
+use Rattle.net_tree.specs.declared.law_step.Law.TheVariants as L
+use Rattle.net_tree.specs.declared.law_step.Direction.TheVariants.{Forward}
 use Rattle.expr_laws.specs.Rows.{ExpressionRow}
 use Rattle.expr_laws.specs.Answer as E
 use Rattle.expr_laws.proofs.Numbers.{one_right_side}

@@ -7,20 +7,20 @@ use Rattle.std.proofs.lemmas.Bool.{cases_lt}
 use Rattle.sample_core.specs.declared.memory.Memory.{Memory}
 use Rattle.leaf_core.specs.Expression.{Expression, nodes_in}
 use Rattle.leaf_core.specs.Parts.{part, part_at}
-use Rattle.net_syntax.specs.Network.{Network, network_size}
-use Rattle.net_syntax.specs.Place.{◌>>=◌, Tree, a_network, a_leaf, child}
+use Rattle.net_tree.specs.Network.{Network, network_size}
+use Rattle.net_tree.specs.Place.{◌>>=◌, Tree, a_network, a_leaf, child}
 use Rattle.net_syntax.specs.Placed.{FewBound, Placed, placed, placed_at, bound_in}
 use Rattle.net_syntax.specs.Standing.{Standing, standing}
 use Rattle.net_syntax.specs.ChildParts.{seen_place}
 use Rattle.net_syntax.specs.declared.place.Place.{Place}
-use Rattle.net_syntax.specs.declared.law_step.LawStep.{LawStep}
-use Rattle.net_syntax.specs.NetworkLimits.{WithinLimits}
-use Rattle.net_syntax.specs.TypedNetwork.{TypedNetwork}
+use Rattle.net_tree.specs.declared.law_step.LawStep.{LawStep}
+use Rattle.net_meaning.specs.NetworkLimits.{WithinLimits}
+use Rattle.net_meaning.specs.TypedNetwork.{TypedNetwork}
 use Rattle.net_syntax.proofs.FoundTypes.{ChildThere, child_there}
 use Rattle.net_types.proofs.Sizes.{few_inside}
 use Rattle.cert_check.proofs.FewBound.{few_bound}
 use Rattle.net_opt.specs.Optimising.{NoneLeft, FirstTriedLaw}
-use Rattle.net_syntax.specs.LawStep.{Step, step_of}
+use Rattle.net_tree.specs.LawStep.{Step, step_of}
 use Rattle.net_opt.specs.Order.{LeftOf, lower, deeper, Before, on_the_way, before_at, before_below, onward}
 use Rattle.net_opt.specs.Search.{Passed, PassedAt, PassedWithin, Settled, FirstAt, FirstWithin, Takes, FoundStep}
 use Rattle.net_opt.specs.Walk.{Limited, Reached}

@@ -1,12 +1,12 @@
 -- Steps forward at a place, and what the walk passed before it took one.
 use Rattle.std.specs.Prelude.{◌≡◌, ℕ, Bool, true, false, List, ◌++◌, Option, Some, None}
 use Rattle.leaf_core.specs.Expression.{Expression}
-use Rattle.net_syntax.specs.Place.{Tree, a_network, a_leaf}
+use Rattle.net_tree.specs.Place.{Tree, a_network, a_leaf}
 use Rattle.net_syntax.specs.Placed.{placed, placed_at}
-use Rattle.net_syntax.specs.TypedNetwork.{TypedNetwork}
-use Rattle.net_syntax.specs.LawStep.{Step, step_of}
-use Rattle.net_syntax.specs.declared.law_step.LawStep.{LawStep}
-use Rattle.net_syntax.specs.declared.law_step.Law.{Law}
+use Rattle.net_meaning.specs.TypedNetwork.{TypedNetwork}
+use Rattle.net_tree.specs.LawStep.{Step, step_of}
+use Rattle.net_tree.specs.declared.law_step.LawStep.{LawStep}
+use Rattle.net_tree.specs.declared.law_step.Law.{Law}
 use Rattle.net_syntax.specs.Rewriting.{Rewrites}
 use Rattle.net_types.specs.Answered.{NoRewriting}
 use Rattle.cert_check.specs.Derives.{Answered, Next}

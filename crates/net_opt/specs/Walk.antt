@@ -2,12 +2,12 @@
 use Rattle.std.specs.Prelude.{◌≡◌, true, ℕ, ◌≤◌, List, Some}
 use Rattle.sample_core.specs.TypeTree.{TypeTree}
 use Rattle.leaf_core.specs.Expression.{Expression, nodes_in}
-use Rattle.net_syntax.specs.Network.{Network, network_size}
-use Rattle.net_syntax.specs.NetworkLimits.{NetTypedWithin, WithinLimits}
-use Rattle.net_syntax.specs.Place.{Tree, a_network, a_leaf}
+use Rattle.net_tree.specs.Network.{Network, network_size}
+use Rattle.net_meaning.specs.NetworkLimits.{NetTypedWithin, WithinLimits}
+use Rattle.net_tree.specs.Place.{Tree, a_network, a_leaf}
 use Rattle.net_syntax.specs.Placed.{Placed, placed_at}
-use Rattle.net_syntax.specs.Typing.{Arrow}
-use Rattle.net_syntax.specs.TypedNetwork.{TypedNetwork}
+use Rattle.net_meaning.specs.Typing.{Arrow}
+use Rattle.net_meaning.specs.TypedNetwork.{TypedNetwork}
 use Rattle.net_opt.specs.declared.walk.Walk.{Walk}
 
 -- the network is typed within the limits, where it stands

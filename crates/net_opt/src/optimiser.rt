@@ -1,15 +1,16 @@
 // The optimiser: steps are taken until none is left.
 
 ghost use Rattle.std.specs.Prelude.{◌≡◌, [], IfOk, map};
-ghost use Rattle.net_syntax.specs.NetworkView.{tree_of};
-ghost use Rattle.net_syntax.specs.LawStep.{step_of};
+ghost use Rattle.net_tree.specs.NetworkView.{tree_of};
+ghost use Rattle.net_tree.specs.LawStep.{step_of};
 ghost use Rattle.net_opt.specs.Optimising.{Exhausts, NoneLeft, Optimised};
 ghost use Rattle.net_opt.specs.Search.{FirstWithin, FoundStep, Settled};
 
 use crate::search::step_within;
 use crate::walk::Walk;
 use leaf_core::Expr;
-use net_syntax::{LawStep, Net, Place, TreeRef, TypedNet};
+use net_syntax::{Place, TreeRef, TypedNet};
+use net_tree::{LawStep, Net};
 use sample_core::Memory;
 use std::alloc::Global;
 

@@ -8,7 +8,8 @@ ghost use Rattle.net_opt.specs.Walk.{Reached};
 
 use crate::step::step_at;
 use crate::walk::Walk;
-use net_syntax::{LawStep, Place, TypedNet, place_below};
+use net_syntax::{Place, TypedNet, place_below};
+use net_tree::LawStep;
 use sample_core::Memory;
 use std::alloc::Global;
 

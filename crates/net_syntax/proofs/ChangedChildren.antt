@@ -2,17 +2,17 @@
 use Rattle.std.proofs.Common.{◌≡◌, ℕ, zero, suc, ◌+◌, ◌≤◌, ◌<◌, ◌≢◌, List, [], ◌∷◌, length, set, Some, None, option_map, refl, ap, sym, ◌∙◌, subst, arith}
 use Rattle.leaf_core.specs.Expression.{Expression}
 use Rattle.leaf_core.specs.declared.expr.Expr.{Expr}
-use Rattle.net_syntax.specs.Network.{Network, Networks, p_switch, no_members, and_member}
-use Rattle.net_syntax.specs.NetworkView.{members_of, tree, tree_of, trees}
-use Rattle.net_syntax.specs.Place.{a_leaf, a_network, p_switch_child}
+use Rattle.net_tree.specs.Network.{Network, Networks, p_switch, no_members, and_member}
+use Rattle.net_tree.specs.NetworkView.{members_of, tree, tree_of, trees}
+use Rattle.net_tree.specs.Place.{a_leaf, a_network, p_switch_child}
 use Rattle.net_syntax.specs.Placed.{with_member, with_child, with_p_switch_child}
 use Rattle.net_syntax.specs.ChildParts.{with_behind}
 use Rattle.net_syntax.proofs.ChildNumbers.{below, past}
-use Rattle.net_syntax.specs.FormView.{fed_form_of}
-use Rattle.net_syntax.specs.declared.forms.FedForm.{FedForm}
-use Rattle.net_syntax.specs.declared.forms.FedForm.TheVariants as D
-use Rattle.net_syntax.specs.declared.net.Net.{Net}
-use Rattle.net_syntax.specs.declared.net.Net.TheVariants as V
+use Rattle.net_tree.specs.FormView.{fed_form_of}
+use Rattle.net_tree.specs.declared.forms.FedForm.{FedForm}
+use Rattle.net_tree.specs.declared.forms.FedForm.TheVariants as D
+use Rattle.net_tree.specs.declared.net.Net.{Net}
+use Rattle.net_tree.specs.declared.net.Net.TheVariants as V
 
 -- no form but `accumBy` and `rpSwitchB` has an expression behind its first child
 pub no_later_leaf : (n : Net Expr) (k : ℕ) (s : Expression) → 0 < k → ((g z : Expr) → n ≢ V.AccumBy g z) → ((fs : Networks Expr) (m : Expr) (t : Network Expr) → n ≢ V.RpSwitch fs m t)

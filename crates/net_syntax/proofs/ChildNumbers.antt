@@ -5,14 +5,14 @@ use Rattle.std.specs.List.{HoldsAt}
 use denote.Bor.{Bor}
 use Rattle.leaf_core.specs.Expression.{Expression}
 use Rattle.leaf_core.specs.declared.expr.Expr.{Expr}
-use Rattle.net_syntax.specs.Network.{Network, Networks, arr, seq, first, par, loop_pre, i_pre, delay, hold, accum_by, after, repeatedly, time, integral, switch, d_switch, r_switch, k_switch, p_switch, old, initial_out, initial_in, dr_switch, rp_switch, no_members, and_member}
-use Rattle.net_syntax.specs.NetworkView.{members_of, tree_of, trees}
-use Rattle.net_syntax.specs.Place.{child, member, member_child, continuation_child, p_switch_child, child_network}
+use Rattle.net_tree.specs.Network.{Network, Networks, arr, seq, first, par, loop_pre, i_pre, delay, hold, accum_by, after, repeatedly, time, integral, switch, d_switch, r_switch, k_switch, p_switch, old, initial_out, initial_in, dr_switch, rp_switch, no_members, and_member}
+use Rattle.net_tree.specs.NetworkView.{members_of, tree_of, trees}
+use Rattle.net_tree.specs.Place.{child, member, member_child, continuation_child, p_switch_child, child_network}
 use Rattle.net_syntax.specs.Placed.{bound, bound_behind, bound_in}
-use Rattle.net_syntax.specs.Typing.{members}
-use Rattle.net_syntax.specs.FormParts.{parts_of}
+use Rattle.net_meaning.specs.Typing.{members}
+use Rattle.net_tree.specs.FormParts.{parts_of}
 use Rattle.net_syntax.specs.ChildParts.{child_inside}
-use Rattle.net_syntax.specs.declared.net.Net.{Net}
+use Rattle.net_tree.specs.declared.net.Net.{Net}
 
 -- a child is one of what stands inside
 pub child_is : (f : Network Expression) (k : ℕ) → child f k ≡ child_inside (parts_of f) k

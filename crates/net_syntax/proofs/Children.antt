@@ -1,8 +1,8 @@
 -- Which child of a `pSwitch` stands at which number, and how many members there can be.
 use Rattle.std.proofs.Common.{◌≡◌, ◌≤◌, ℕ, zero, suc, Some, refl, arith}
-use Rattle.net_syntax.specs.Network.{Network, Networks, no_members, and_member, networks_size}
-use Rattle.net_syntax.specs.Typing.{members}
-use Rattle.net_syntax.specs.Place.{member, p_switch_child, member_child, event_child, continuation_child}
+use Rattle.net_tree.specs.Network.{Network, Networks, no_members, and_member, networks_size}
+use Rattle.net_meaning.specs.Typing.{members}
+use Rattle.net_tree.specs.Place.{member, p_switch_child, member_child, event_child, continuation_child}
 
 module _ {L : Type 0} where
   pub member_is : (fs : Networks L) (k : ℕ) (f : Network L) → member fs k ≡ Some f → p_switch_child fs k ≡ member_child

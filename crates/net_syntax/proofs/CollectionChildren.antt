@@ -2,12 +2,12 @@
 use Rattle.std.proofs.Common.{◌≡◌, ℕ, zero, suc, ◌+◌, ◌-◌, ◌≤◌, ◌<◌, ◌≢◌, List, [], ◌∷◌, length, get_or, Some, None, option_map, refl, ap, sym, ◌∙◌, arith}
 use Rattle.leaf_core.specs.Expression.{Expression}
 use Rattle.leaf_core.specs.declared.expr.Expr.{Expr}
-use Rattle.net_syntax.specs.Network.{Network, Networks, no_members, rp_switch}
-use Rattle.net_syntax.specs.NetworkView.{members_of, tree_of, trees}
-use Rattle.net_syntax.specs.Place.{member, member_child, a_leaf, a_network, collection_child, p_switch_child}
+use Rattle.net_tree.specs.Network.{Network, Networks, no_members, rp_switch}
+use Rattle.net_tree.specs.NetworkView.{members_of, tree_of, trees}
+use Rattle.net_tree.specs.Place.{member, member_child, a_leaf, a_network, collection_child, p_switch_child}
 use Rattle.net_syntax.specs.Placed.{bound, bound_started, with_child, with_collection_child, with_member}
 use Rattle.net_syntax.proofs.ChildNumbers.{below, member_here, past}
-use Rattle.net_syntax.specs.declared.net.Net.{Net}
+use Rattle.net_tree.specs.declared.net.Net.{Net}
 
 -- which child stands among the members, and so far behind them
 child_below : (all : List (Net Expr)) (fs : Networks Expr) (k : ℕ) → members_of all ≡ fs → k < length all → p_switch_child (trees fs) k ≡ member_child

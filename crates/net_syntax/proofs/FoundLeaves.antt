@@ -10,17 +10,17 @@ use Rattle.leaf_core.specs.KeyTree.{KeyTree}
 use Rattle.leaf_core.specs.ExpressionCheck.{type_answer}
 use Rattle.leaf_core.proofs.Exactness.{type_answer-exact}
 use Rattle.net_syntax.specs.ArrowView.{arrow_of}
-use Rattle.net_syntax.specs.Network.{Network, Networks}
-use Rattle.net_syntax.specs.Typing.{Arrow, arrow, copies, OldAt, old_here, old_after, members, LeafTyping, Typed, AllTyped, arr_typed, seq_typed, first_typed, par_typed, loop_typed, i_pre_typed, delay_typed, hold_typed, accum_typed, after_typed, repeatedly_typed, time_typed, integral_typed, switch_typed, d_switch_typed, r_switch_typed, k_switch_typed, p_switch_typed, old_typed, initial_out_typed, initial_in_typed, dr_switch_typed, rp_switch_typed, no_members_typed, and_member_typed}
-use Rattle.net_syntax.specs.TypedNetwork.{TypedNetwork}
-use Rattle.net_syntax.specs.NetworkLimits.{NetTypedWithin}
-use Rattle.net_syntax.specs.Place.{◌>>=◌}
+use Rattle.net_tree.specs.Network.{Network, Networks}
+use Rattle.net_meaning.specs.Typing.{Arrow, arrow, copies, OldAt, old_here, old_after, members, LeafTyping, Typed, AllTyped, arr_typed, seq_typed, first_typed, par_typed, loop_typed, i_pre_typed, delay_typed, hold_typed, accum_typed, after_typed, repeatedly_typed, time_typed, integral_typed, switch_typed, d_switch_typed, r_switch_typed, k_switch_typed, p_switch_typed, old_typed, initial_out_typed, initial_in_typed, dr_switch_typed, rp_switch_typed, no_members_typed, and_member_typed}
+use Rattle.net_meaning.specs.TypedNetwork.{TypedNetwork}
+use Rattle.net_meaning.specs.NetworkLimits.{NetTypedWithin}
+use Rattle.net_tree.specs.Place.{◌>>=◌}
 use Rattle.net_syntax.specs.Leaves.{Need, need_at, leaves_by, member_leaves_by, LeavesOf}
 use Rattle.net_syntax.specs.LeafWalk.{Found, Adds, and_then, only, type_in, find_type, find_leaf, find_choice, started_of, old_of, event_of, find, find_members, find_others, find_routed, find_at}
 use Rattle.net_syntax.specs.NeedView.{need_of}
 use Rattle.net_syntax.specs.declared.needs.Walk.{Walk}
 use Rattle.net_syntax.proofs.LeafWalks.{few_inner}
-use Rattle.net_syntax.proofs.TypingMap.{map_typed, map_all_typed}
+use Rattle.net_meaning.proofs.TypingMap.{map_typed, map_all_typed}
 
 -- the type that the checking walk answers is the expression's
 pub answered_key : (Ps : List TypeTree) (A B : TypeTree) (e : Expression)

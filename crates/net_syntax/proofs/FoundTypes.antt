@@ -12,19 +12,19 @@ use Rattle.leaf_core.specs.ExpressionLimits.{ExpressionTypedWithin}
 use Rattle.leaf_core.specs.Parts.{part_at}
 use Rattle.leaf_core.proofs.Exactness.{type_answer-exact}
 use Rattle.leaf_core.proofs.PartTypes.{TypedThere, there_typed, nothing_there}
-use Rattle.net_syntax.specs.Network.{Network, Networks, seq, par, loop_pre, accum_by, switch, d_switch, k_switch, p_switch, rp_switch, no_members, and_member}
-use Rattle.net_syntax.specs.NetworkView.{tree_of}
+use Rattle.net_tree.specs.Network.{Network, Networks, seq, par, loop_pre, accum_by, switch, d_switch, k_switch, p_switch, rp_switch, no_members, and_member}
+use Rattle.net_tree.specs.NetworkView.{tree_of}
 use Rattle.net_syntax.specs.ArrowView.{arrow_of}
-use Rattle.net_syntax.specs.declared.net.Net.{Net}
+use Rattle.net_tree.specs.declared.net.Net.{Net}
 use Rattle.net_syntax.specs.declared.arrow.Arrow as A
-use Rattle.net_syntax.specs.Typing.{Arrow, arrow, copies, members, OldAt, old_here, old_after, AllTyped, arr_typed, seq_typed, first_typed, par_typed, loop_typed, i_pre_typed, delay_typed, hold_typed, accum_typed, after_typed, repeatedly_typed, time_typed, integral_typed, switch_typed, d_switch_typed, r_switch_typed, k_switch_typed, p_switch_typed, old_typed, initial_out_typed, initial_in_typed, dr_switch_typed, rp_switch_typed, no_members_typed, and_member_typed}
-use Rattle.net_syntax.specs.TypedNetwork.{TypedNetwork, NetTyped}
-use Rattle.net_syntax.specs.NetworkLimits.{NetTypedWithin, WithinLimits}
-use Rattle.net_syntax.specs.Place.{◌>>=◌, Tree, a_network, a_leaf, member, child, child_network, collection_child, PSwitchChild, p_switch_child, member_child, event_child, continuation_child, no_child}
+use Rattle.net_meaning.specs.Typing.{Arrow, arrow, copies, members, OldAt, old_here, old_after, AllTyped, arr_typed, seq_typed, first_typed, par_typed, loop_typed, i_pre_typed, delay_typed, hold_typed, accum_typed, after_typed, repeatedly_typed, time_typed, integral_typed, switch_typed, d_switch_typed, r_switch_typed, k_switch_typed, p_switch_typed, old_typed, initial_out_typed, initial_in_typed, dr_switch_typed, rp_switch_typed, no_members_typed, and_member_typed}
+use Rattle.net_meaning.specs.TypedNetwork.{TypedNetwork, NetTyped}
+use Rattle.net_meaning.specs.NetworkLimits.{NetTypedWithin, WithinLimits}
+use Rattle.net_tree.specs.Place.{◌>>=◌, Tree, a_network, a_leaf, member, child, child_network, collection_child, PSwitchChild, p_switch_child, member_child, event_child, continuation_child, no_child}
 use Rattle.net_syntax.specs.Placed.{placed, placed_at, bound_in}
 use Rattle.net_syntax.specs.Standing.{Standing, standing, alone, MembersTyped, ChildStands, ChildFound, in_arr, first_in_seq, second_in_seq, in_first, in_par, constant_in_loop, network_in_loop, in_i_pre, in_delay, in_hold, step_in_accum, start_in_accum, in_after, in_repeatedly, network_in_switch, continuation_in_switch, network_in_d_switch, continuation_in_d_switch, network_in_r_switch, continuation_in_r_switch, network_in_k_switch, event_in_k_switch, continuation_in_k_switch, route_in_p_switch, member_in_p_switch, event_in_p_switch, continuation_in_p_switch, constant_in_initial_out, network_in_initial_out, constant_in_initial_in, network_in_initial_in, network_in_dr_switch, continuation_in_dr_switch, member_in_rp_switch, choice_in_rp_switch, continuation_in_rp_switch, at_network, inside_network, inside_expression, TypeAt}
 use Rattle.net_syntax.specs.StandingWalk.{taking, under, freezing, left_of, carried_of, right_carried_of, right_listed_of, old_output, leaf_type, output_in, first_output, routed, p_switch_input, collection_input, child_input, frozen, p_switch_scope, collection_scope, child_scope, inside, type_walk_at}
-use Rattle.net_syntax.proofs.TypingMap.{map_typed, map_all_typed}
+use Rattle.net_meaning.proofs.TypingMap.{map_typed, map_all_typed}
 
 -- where there is something, the next step is taken
 onward : {X Y : Type 0} {o : Option X} {x : X} {r : Option Y} (k : X → Option Y) → o ≡ Some x → k x ≡ r → (o >>= k) ≡ r

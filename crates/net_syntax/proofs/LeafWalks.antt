@@ -9,14 +9,14 @@ use Rattle.leaf_core.specs.Expression.{Expression}
 use Rattle.leaf_core.specs.ExpressionView.{expression_of}
 use Rattle.leaf_core.specs.declared.expr.Expr.{Expr}
 use Rattle.net_syntax.specs.ArrowView.{arrow_of}
-use Rattle.net_syntax.specs.Network.{Network, Networks, par, p_switch, rp_switch, no_members, and_member, map_network, map_networks}
-use Rattle.net_syntax.specs.NetworkView.{members_of}
-use Rattle.net_syntax.specs.Typing.{arrow, copies, members}
-use Rattle.net_syntax.specs.declared.net.Net.{Net}
+use Rattle.net_tree.specs.Network.{Network, Networks, par, p_switch, rp_switch, no_members, and_member, map_network, map_networks}
+use Rattle.net_tree.specs.NetworkView.{members_of}
+use Rattle.net_meaning.specs.Typing.{arrow, copies, members}
+use Rattle.net_tree.specs.declared.net.Net.{Net}
 use Rattle.net_syntax.specs.declared.arrow.Arrow.{Arrow}
 use Rattle.net_syntax.specs.declared.needs.Walk.{Walk}
 use Rattle.net_syntax.specs.NeedView.{need_of}
-use Rattle.net_syntax.specs.Place.{◌>>=◌}
+use Rattle.net_tree.specs.Place.{◌>>=◌}
 use Rattle.net_syntax.specs.Leaves.{Need}
 use Rattle.net_syntax.specs.LeafWalk.{Found, and_then, only, event_of, of_pair, find, few, old_of, find_choice, find_at, find_child, find_under, find_leaf_at, find_choice_at, find_members_at, find_routed, find_routed_at, find_resuming, Adds, SamePlace}
 

@@ -11,12 +11,12 @@ use Rattle.std.proofs.lemmas.List.Elements.{Contains-append_left, Contains-appen
 use Rattle.std.proofs.lemmas.Option.{none-some}
 use Rattle.sample_core.specs.TypeTree.{TypeTree}
 use Rattle.leaf_core.specs.Expression.{Expression}
-use Rattle.net_syntax.specs.Network.{Network, Networks, par, p_switch, rp_switch, no_members, and_member}
-use Rattle.net_syntax.specs.Typing.{Arrow, members, LeafTyping, Typed, AllTyped, arr_typed, seq_typed, first_typed, par_typed, loop_typed, i_pre_typed, delay_typed, hold_typed, accum_typed, after_typed, repeatedly_typed, time_typed, integral_typed, switch_typed, d_switch_typed, r_switch_typed, k_switch_typed, p_switch_typed, old_typed, initial_out_typed, initial_in_typed, dr_switch_typed, rp_switch_typed, no_members_typed, and_member_typed}
-use Rattle.net_syntax.specs.Place as P
-use Rattle.net_syntax.specs.Place.{Tree, a_network, a_leaf, child, member, p_switch_child, child_network, collection_child, no_child}
+use Rattle.net_tree.specs.Network.{Network, Networks, par, p_switch, rp_switch, no_members, and_member}
+use Rattle.net_meaning.specs.Typing.{Arrow, members, LeafTyping, Typed, AllTyped, arr_typed, seq_typed, first_typed, par_typed, loop_typed, i_pre_typed, delay_typed, hold_typed, accum_typed, after_typed, repeatedly_typed, time_typed, integral_typed, switch_typed, d_switch_typed, r_switch_typed, k_switch_typed, p_switch_typed, old_typed, initial_out_typed, initial_in_typed, dr_switch_typed, rp_switch_typed, no_members_typed, and_member_typed}
+use Rattle.net_tree.specs.Place as P
+use Rattle.net_tree.specs.Place.{Tree, a_network, a_leaf, child, member, p_switch_child, child_network, collection_child, no_child}
 use Rattle.net_syntax.specs.Leaves.{Need, leaves_by, member_leaves_by}
-use Rattle.net_syntax.specs.Laws.{AllReachedLaw, InOrderLaw}
+use Rattle.net_syntax.specs.TypingLaws.{AllReachedLaw, InOrderLaw}
 use Rattle.net_syntax.proofs.Children.{event_is, continuation_is}
 use Rattle.net_syntax.proofs.NeedPlaces.{child_is_member, child_in_collection, choice_is_child, started_is_child}
 

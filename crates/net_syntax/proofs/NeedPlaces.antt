@@ -3,12 +3,12 @@ use Rattle.std.proofs.Common.{◌≡◌, ℕ, suc, ◌+◌, List, [], ◌∷◌,
 use Rattle.std.proofs.lemmas.List.Elements.{All-append, All-cons, All-nil}
 use Rattle.sample_core.specs.TypeTree.{TypeTree, int_ty, pair_ty, list_ty}
 use Rattle.leaf_core.specs.Expression.{Expression}
-use Rattle.net_syntax.specs.Network.{Network, Networks, par, p_switch, rp_switch, and_member}
-use Rattle.net_syntax.specs.Typing.{Arrow, members, LeafTyping, Typed, AllTyped, arr_typed, seq_typed, first_typed, par_typed, loop_typed, i_pre_typed, delay_typed, hold_typed, accum_typed, after_typed, repeatedly_typed, time_typed, integral_typed, switch_typed, d_switch_typed, r_switch_typed, k_switch_typed, p_switch_typed, old_typed, initial_out_typed, initial_in_typed, dr_switch_typed, rp_switch_typed, no_members_typed, and_member_typed}
-use Rattle.net_syntax.specs.Place as P
-use Rattle.net_syntax.specs.Place.{a_network, a_leaf, child, member, p_switch_child, child_network, collection_child}
+use Rattle.net_tree.specs.Network.{Network, Networks, par, p_switch, rp_switch, and_member}
+use Rattle.net_meaning.specs.Typing.{Arrow, members, LeafTyping, Typed, AllTyped, arr_typed, seq_typed, first_typed, par_typed, loop_typed, i_pre_typed, delay_typed, hold_typed, accum_typed, after_typed, repeatedly_typed, time_typed, integral_typed, switch_typed, d_switch_typed, r_switch_typed, k_switch_typed, p_switch_typed, old_typed, initial_out_typed, initial_in_typed, dr_switch_typed, rp_switch_typed, no_members_typed, and_member_typed}
+use Rattle.net_tree.specs.Place as P
+use Rattle.net_tree.specs.Place.{a_network, a_leaf, child, member, p_switch_child, child_network, collection_child}
 use Rattle.net_syntax.specs.Leaves.{Need, need_at, leaves_by, member_leaves_by}
-use Rattle.net_syntax.specs.Laws.{PositionLaw}
+use Rattle.net_syntax.specs.TypingLaws.{PositionLaw}
 use Rattle.net_syntax.proofs.Children.{member_is, event_is, continuation_is}
 
 -- the need's position is that of the network, and behind it the one of its expression in it

@@ -4,11 +4,11 @@ use Rattle.sample_core.specs.TypeTree.{TypeTree, unit_ty, int_ty, pair_ty, event
 use Rattle.leaf_core.specs.Expression.{Expression}
 use Rattle.leaf_core.specs.ExpressionTyping.{ExpressionTyped}
 use Rattle.leaf_core.proofs.Uniqueness.{one_type}
-use Rattle.net_syntax.specs.Network.{Network, Networks}
-use Rattle.net_syntax.specs.Typing.{Arrow, copies, members, LeafTyping, Typed, AllTyped, AnyType, arr_typed, seq_typed, first_typed, par_typed, loop_typed, i_pre_typed, delay_typed, hold_typed, accum_typed, after_typed, repeatedly_typed, time_typed, integral_typed, switch_typed, d_switch_typed, r_switch_typed, k_switch_typed, p_switch_typed, old_typed, initial_out_typed, initial_in_typed, dr_switch_typed, rp_switch_typed, no_members_typed, and_member_typed}
+use Rattle.net_tree.specs.Network.{Network, Networks}
+use Rattle.net_meaning.specs.Typing.{Arrow, copies, members, LeafTyping, Typed, AllTyped, AnyType, arr_typed, seq_typed, first_typed, par_typed, loop_typed, i_pre_typed, delay_typed, hold_typed, accum_typed, after_typed, repeatedly_typed, time_typed, integral_typed, switch_typed, d_switch_typed, r_switch_typed, k_switch_typed, p_switch_typed, old_typed, initial_out_typed, initial_in_typed, dr_switch_typed, rp_switch_typed, no_members_typed, and_member_typed}
 use Rattle.net_syntax.specs.Leaves.{Need, need_at, leaves_by, member_leaves_by}
-use Rattle.net_syntax.specs.Laws.{OneListLaw}
-use Rattle.net_syntax.proofs.Unique.{unique, all_unique}
+use Rattle.net_syntax.specs.TypingLaws.{OneListLaw}
+use Rattle.net_meaning.proofs.Unique.{unique, all_unique}
 
 abbrev pair_right : TypeTree → TypeTree
 pair_right (pair_ty A B) = B

@@ -4,13 +4,13 @@ use Rattle.sample_core.specs.TypeTree.{TypeTree, unit_ty, int_ty, pair_ty, event
 use Rattle.leaf_core.specs.Expression.{Expression}
 use Rattle.leaf_core.specs.ExpressionTyping.{ExpressionTyped}
 use Rattle.leaf_core.proofs.Uniqueness.{one_type}
-use Rattle.net_syntax.specs.Network.{Network, Networks, p_switch}
-use Rattle.net_syntax.specs.Typing.{Arrow, arrow, copies, members, p_switch_typed}
-use Rattle.net_syntax.specs.TypedNetwork.{NetTyped}
-use Rattle.net_syntax.specs.NetworkLimits.{NetTypedWithin}
+use Rattle.net_tree.specs.Network.{Network, Networks, p_switch}
+use Rattle.net_meaning.specs.Typing.{Arrow, arrow, copies, members, p_switch_typed}
+use Rattle.net_meaning.specs.TypedNetwork.{NetTyped}
+use Rattle.net_meaning.specs.NetworkLimits.{NetTypedWithin}
 use Rattle.net_syntax.specs.Standing.{Standing, standing, MembersTyped, ChildStands, in_arr, first_in_seq, second_in_seq, in_first, in_par, constant_in_loop, network_in_loop, in_i_pre, in_delay, in_hold, step_in_accum, start_in_accum, in_after, in_repeatedly, network_in_switch, continuation_in_switch, network_in_d_switch, continuation_in_d_switch, network_in_r_switch, continuation_in_r_switch, network_in_k_switch, event_in_k_switch, continuation_in_k_switch, route_in_p_switch, member_in_p_switch, event_in_p_switch, continuation_in_p_switch, constant_in_initial_out, network_in_initial_out, constant_in_initial_in, network_in_initial_in, network_in_dr_switch, continuation_in_dr_switch, member_in_rp_switch, choice_in_rp_switch, continuation_in_rp_switch}
-use Rattle.net_syntax.proofs.StreamLaws.{one-output-type}
-use Rattle.net_syntax.proofs.Unique.{all_unique}
+use Rattle.net_meaning.proofs.StreamLaws.{one-output-type}
+use Rattle.net_meaning.proofs.Unique.{all_unique}
 
 abbrev carried : TypeTree → TypeTree
 carried (pair_ty A (event_ty B)) = B

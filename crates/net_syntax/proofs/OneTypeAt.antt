@@ -6,12 +6,12 @@ use Rattle.leaf_core.specs.Expression.{Expression}
 use Rattle.leaf_core.specs.ExpressionTyping.{ExpressionTyped}
 use Rattle.leaf_core.proofs.PartTypes.{one_input}
 use Rattle.leaf_core.proofs.Uniqueness.{one_type}
-use Rattle.net_syntax.specs.Network.{Network}
-use Rattle.net_syntax.specs.Place.{Tree, a_network, a_leaf, child}
+use Rattle.net_tree.specs.Network.{Network}
+use Rattle.net_tree.specs.Place.{Tree, a_network, a_leaf, child}
 use Rattle.net_syntax.specs.Standing.{Standing, ChildStands, TreeTyped, StandsAt, at_network, inside_network, inside_expression}
-use Rattle.net_syntax.specs.NetworkLimits.{NetTypedWithin}
-use Rattle.net_syntax.specs.Laws.{OneTypeAtLaw}
-use Rattle.net_syntax.proofs.StreamLaws.{one-output-type}
+use Rattle.net_meaning.specs.NetworkLimits.{NetTypedWithin}
+use Rattle.net_syntax.specs.TypingLaws.{OneTypeAtLaw}
+use Rattle.net_meaning.proofs.StreamLaws.{one-output-type}
 use Rattle.net_syntax.proofs.FoundTypes.{TreeWithin, ChildThere, child_there}
 use Rattle.net_syntax.proofs.OnePlace.{populated, one_place}
 

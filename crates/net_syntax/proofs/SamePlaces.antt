@@ -10,22 +10,23 @@ use Rattle.leaf_core.specs.Parts.{part_at, with_part_at, InputAt}
 use Rattle.leaf_core.proofs.Soundness.{typed_value}
 use Rattle.leaf_core.proofs.Uniqueness.{one_type}
 use Rattle.leaf_core.proofs.SameParts.{same_part}
-use Rattle.net_syntax.specs.Network.{Network, Networks, arr, seq, first, par, loop_pre, initial_out, initial_in, i_pre, delay, hold, accum_by, after, repeatedly, switch, d_switch, r_switch, dr_switch, rp_switch, k_switch, p_switch, no_members, and_member}
-use Rattle.net_syntax.specs.Typing.{Arrow, arrow, copies, members, arr_typed, seq_typed, first_typed, par_typed, loop_typed, i_pre_typed, delay_typed, hold_typed, accum_typed, after_typed, repeatedly_typed, time_typed, integral_typed, switch_typed, d_switch_typed, r_switch_typed, k_switch_typed, p_switch_typed, old_typed, initial_out_typed, initial_in_typed, dr_switch_typed, rp_switch_typed, no_members_typed, and_member_typed}
-use Rattle.net_syntax.specs.TypedNetwork.{NetTyped}
-use Rattle.net_syntax.specs.Sameness.{SameLeaf, SameNet}
-use Rattle.net_syntax.specs.AlikeEnvironments.{SameOutputs}
-use Rattle.net_syntax.specs.Place as P
-use Rattle.net_syntax.specs.Place.{Tree, a_network, a_leaf, member, child, child_network, collection_child, PSwitchChild, p_switch_child, member_child, event_child, continuation_child}
+use Rattle.net_tree.specs.Network.{Network, Networks, arr, seq, first, par, loop_pre, initial_out, initial_in, i_pre, delay, hold, accum_by, after, repeatedly, switch, d_switch, r_switch, dr_switch, rp_switch, k_switch, p_switch, no_members, and_member}
+use Rattle.net_meaning.specs.Typing.{Arrow, arrow, copies, members, arr_typed, seq_typed, first_typed, par_typed, loop_typed, i_pre_typed, delay_typed, hold_typed, accum_typed, after_typed, repeatedly_typed, time_typed, integral_typed, switch_typed, d_switch_typed, r_switch_typed, k_switch_typed, p_switch_typed, old_typed, initial_out_typed, initial_in_typed, dr_switch_typed, rp_switch_typed, no_members_typed, and_member_typed}
+use Rattle.net_meaning.specs.TypedNetwork.{NetTyped}
+use Rattle.net_meaning.specs.Sameness.{SameLeaf, SameNet}
+use Rattle.net_meaning.specs.AlikeEnvironments.{SameOutputs}
+use Rattle.net_tree.specs.Place as P
+use Rattle.net_tree.specs.Place.{Tree, a_network, a_leaf, member, child, child_network, collection_child, PSwitchChild, p_switch_child, member_child, event_child, continuation_child}
 use Rattle.net_syntax.specs.Placed.{with_member, with_child, with_p_switch_child, with_collection_child, replaced}
 use Rattle.net_syntax.specs.Standing.{Standing, standing, TreeTyped, MembersTyped, ChildStands, in_arr, first_in_seq, second_in_seq, in_first, in_par, constant_in_loop, network_in_loop, in_i_pre, in_delay, in_hold, step_in_accum, start_in_accum, in_after, in_repeatedly, network_in_switch, continuation_in_switch, network_in_d_switch, continuation_in_d_switch, network_in_r_switch, continuation_in_r_switch, network_in_k_switch, event_in_k_switch, continuation_in_k_switch, route_in_p_switch, member_in_p_switch, event_in_p_switch, continuation_in_p_switch, constant_in_initial_out, network_in_initial_out, constant_in_initial_in, network_in_initial_in, network_in_dr_switch, continuation_in_dr_switch, member_in_rp_switch, choice_in_rp_switch, continuation_in_rp_switch, at_network, inside_network, inside_expression}
-use Rattle.net_syntax.specs.Congruence.{TwinLeaf, Twin, TwinMembers, no_twins, and_twins}
+use Rattle.net_meaning.specs.Congruence.{TwinLeaf, Twin, TwinMembers, no_twins, and_twins}
 use Rattle.net_syntax.specs.SamePlace.{SameThere, SamePlaceLaw}
 use Rattle.net_syntax.proofs.Children.{event_is, continuation_is}
-use Rattle.net_syntax.proofs.SameNets.{same-arr, same-loop_pre, same-i_pre, same-delay, same-hold, same-accum_by, same-after, same-repeatedly, same-p_switch, same-typed, same-all_typed}
-use Rattle.net_syntax.proofs.SameForms.{seq_same, first_same, loop_same, switch_same, d_switch_same, r_switch_same, k_switch_same, par_same, p_switch_same, initial_out_congruent, initial_in_congruent, late_restart_congruent, collection_congruent}
-use Rattle.net_syntax.proofs.Unique.{all_unique}
-use Rattle.net_syntax.proofs.StreamLaws.{same-outputs, alike-outputs, one-output-type}
+use Rattle.net_meaning.proofs.SameNets.{same-arr, same-loop_pre, same-i_pre, same-delay, same-hold, same-accum_by, same-after, same-repeatedly, same-p_switch, same-typed, same-all_typed}
+use Rattle.net_meaning.proofs.Congruence.{leaf_same}
+use Rattle.net_meaning.proofs.SameForms.{seq_same, first_same, loop_same, switch_same, d_switch_same, r_switch_same, k_switch_same, par_same, p_switch_same, initial_out_congruent, initial_in_congruent, late_restart_congruent, collection_congruent}
+use Rattle.net_meaning.proofs.Unique.{all_unique}
+use Rattle.net_meaning.proofs.StreamLaws.{same-outputs, alike-outputs, one-output-type}
 
 -- what may fill the place of a tree: another of its kind
 abbrev pub Filler : Tree Expression → Type 0
@@ -105,9 +106,6 @@ event_in A = A
 abbrev started_in : TypeTree → TypeTree
 started_in (pair_ty A (list_ty B)) = B
 started_in A = A
-
-pub leaf_same : (Ps : List TypeTree) (A B : TypeTree) (e s : Expression) → ExpressionTyped e Ps A B → SameValue Ps A e s → SameLeaf value_of Ps A B e s
-leaf_same Ps A B e s d q = record { leaf_same = q; leaf_typed = typed_value e Ps A B d }
 
 -- twins, and a part that stays as it is
 as_twin_leaf : (Ps : List TypeTree) (A B : TypeTree) (e s : Expression) → ExpressionTyped e Ps A B → ExpressionTyped s Ps A B → SameValue Ps A e s

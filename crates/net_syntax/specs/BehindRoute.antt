@@ -1,5 +1,5 @@
 -- What the code says of what stands behind a route.
-use Rattle.net_syntax.specs.Place.{PSwitchChild, member_child, event_child, continuation_child, no_child}
+use Rattle.net_tree.specs.Place.{PSwitchChild, member_child, event_child, continuation_child, no_child}
 use Rattle.net_syntax.specs.declared.standing.Behind.{Behind}
 use Rattle.net_syntax.specs.declared.standing.Behind.TheVariants as V
 

@@ -1,33 +1,10 @@
--- What networks are, what they mean, their typing and their measures, a file a line.
-pub mod Network
-pub mod NetworkCode
-pub mod NetworkView
-pub mod Depth
-pub mod SignalFunction
-pub mod Meaning
-pub mod Environment
-pub mod TypedNetwork
+-- What stands where in a network, and of what type, a file a line.
 pub mod TypedNetworkCode
 pub mod TypedNetworkView
-pub mod Weight
-pub mod Height
-pub mod Typing
-pub mod NetworkLimits
-pub mod Sameness
-pub mod AlikeEnvironments
-pub mod Laws
-pub mod SwitchLaws
-pub mod Examples
-pub mod GoingOn
-pub mod Position
-pub mod Place
 pub mod Leaves
 pub mod NeedView
 pub mod ArrowView
-pub mod Left
 pub mod LeafWalk
-pub mod FormView
-pub mod LawStep
 pub mod Placed
 pub mod Standing
 pub mod Rewriting
@@ -36,5 +13,4 @@ pub mod StandingWalk
 pub mod FoundType
 pub mod BehindRoute
 pub mod SamePlace
-pub mod Congruence
-pub mod FormParts
+pub mod TypingLaws

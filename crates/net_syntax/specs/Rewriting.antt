@@ -2,11 +2,11 @@
 use Rattle.std.specs.Prelude.{◌≡◌, ℕ, List, Some}
 use Rattle.sample_core.specs.TypeTree.{TypeTree}
 use Rattle.leaf_core.specs.Expression.{Expression}
-use Rattle.net_syntax.specs.Place.{Tree, a_network}
+use Rattle.net_tree.specs.Place.{Tree, a_network}
 use Rattle.net_syntax.specs.Placed.{replaced}
 use Rattle.net_syntax.specs.Standing.{Standing, alone, StandsAt, TreeTyped}
-use Rattle.net_syntax.specs.TypedNetwork.{TypedNetwork}
-use Rattle.net_syntax.specs.NetworkLimits.{WithinLimits}
+use Rattle.net_meaning.specs.TypedNetwork.{TypedNetwork}
+use Rattle.net_meaning.specs.NetworkLimits.{WithinLimits}
 
 -- new has the type, where it is to stand, of what stands there
 pub record KeepsType (t : TypedNetwork) (p : List ℕ) (new : Tree Expression) : Type 0 where

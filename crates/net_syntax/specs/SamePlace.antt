@@ -3,10 +3,10 @@ use Rattle.std.specs.Prelude.{◌≡◌, ℕ, List, Some}
 use Rattle.sample_core.specs.TypeTree.{TypeTree}
 use Rattle.leaf_core.specs.Expression.{Expression}
 use Rattle.leaf_core.specs.SameValue.{SameValue}
-use Rattle.net_syntax.specs.Place.{Tree, a_network, a_leaf}
+use Rattle.net_tree.specs.Place.{Tree, a_network, a_leaf}
 use Rattle.net_syntax.specs.Placed.{replaced}
 use Rattle.net_syntax.specs.Standing.{Standing, TreeTyped, StandsAt}
-use Rattle.net_syntax.specs.AlikeEnvironments.{SameOutputs}
+use Rattle.net_meaning.specs.AlikeEnvironments.{SameOutputs}
 
 -- two networks output the same in alike environments, two expressions have the same value
 abbrev pub SameThere : Standing → Tree Expression → Tree Expression → Type 0

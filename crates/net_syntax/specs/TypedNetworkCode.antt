@@ -5,9 +5,9 @@ use Rattle.sample_core.specs.TypeTree.{TypeTree}
 use Rattle.sample_core.specs.TypeCode.{type_code}
 use Rattle.leaf_core.specs.Expression.{Expression}
 use Rattle.leaf_core.specs.ExpressionCode.{expression_code}
-use Rattle.net_syntax.specs.Network.{Network}
-use Rattle.net_syntax.specs.NetworkCode.{network_code}
-use Rattle.net_syntax.specs.TypedNetwork.{TypedNetwork}
+use Rattle.net_tree.specs.Network.{Network}
+use Rattle.net_tree.specs.NetworkCode.{network_code}
+use Rattle.net_meaning.specs.TypedNetwork.{TypedNetwork}
 
 -- networks with their types, told apart by their codes
 abbrev pub typed_network_code : Coded TypedNetwork

@@ -3,9 +3,9 @@ use Rattle.std.specs.Prelude.{ℕ}
 use Rattle.sample_core.specs.TypeView.{type_of}
 use Rattle.sample_core.specs.declared.ty.Ty.{Ty}
 use Rattle.leaf_core.specs.declared.expr.Expr.{Expr}
-use Rattle.net_syntax.specs.declared.net.Net.{Net}
-use Rattle.net_syntax.specs.NetworkView.{tree_of}
-use Rattle.net_syntax.specs.TypedNetwork.{TypedNetwork}
+use Rattle.net_tree.specs.declared.net.Net.{Net}
+use Rattle.net_tree.specs.NetworkView.{tree_of}
+use Rattle.net_meaning.specs.TypedNetwork.{TypedNetwork}
 
 -- the `Net` with these `Ty`s, this weight and this height
 abbrev pub typed_network_of : Ty → Ty → Net Expr → ℕ → ℕ → TypedNetwork

@@ -3,8 +3,8 @@
 ghost use Rattle.sample_core.specs.TypeView.{type_of};
 ghost use Rattle.leaf_core.specs.ExpressionTyping.{ExpressionTyped};
 
-use crate::position::Position;
 use leaf_core::LeafKey;
+use net_tree::Position;
 use sample_core::Ty;
 
 /// An expression of a network: where it stands, by what a stored closure for it is found, and its

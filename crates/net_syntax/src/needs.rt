@@ -4,22 +4,22 @@ ghost use Rattle.std.specs.Prelude.{◌≡◌, ◌≢◌, ◌+◌, ◌≤◌, �
 ghost use Rattle.sample_core.specs.TypeTree.{TypeTree, unit_ty, int_ty, pair_ty, event_ty, list_ty};
 ghost use Rattle.sample_core.specs.TypeView.{type_of};
 ghost use Rattle.leaf_core.specs.{ExpressionView.expression_of, ExpressionCheck.type_answer};
-ghost use Rattle.net_syntax.specs.Network.{first, par, loop_pre, i_pre, hold, accum_by, after, r_switch, p_switch, rp_switch, old};
-ghost use Rattle.net_syntax.specs.NetworkView.{members_of, tree, tree_of, trees};
-ghost use Rattle.net_syntax.specs.{NeedView.need_of, ArrowView.arrow_of, Typing.arrow, Typing.copies, Typing.members};
+ghost use Rattle.net_tree.specs.Network.{first, par, loop_pre, i_pre, hold, accum_by, after, r_switch, p_switch, rp_switch, old};
+ghost use Rattle.net_tree.specs.NetworkView.{members_of, tree, tree_of, trees};
+ghost use Rattle.net_syntax.specs.{NeedView.need_of, ArrowView.arrow_of};
+ghost use Rattle.net_meaning.specs.{Typing.arrow, Typing.copies, Typing.members};
 ghost use Rattle.net_syntax.specs.Leaves.{need_at, LeavesOf};
 ghost use Rattle.net_syntax.specs.LeafWalk.{Finds, and_then, event_of, find_at, find_child, find_choice_at, find_leaf_at, find_members_at, find_others_at, find_resuming, find_routed_at, find_type, find_under};
 
 use crate::arrow::Arrow;
 use crate::need::LeafNeed;
-use crate::net::{Members, Net, NetChild};
 use crate::part_types::{
     add_copies, arrow_from, event_value, event_with, left_part, list_of, old_output, pair_of,
     pair_under, right_event_value, started_value,
 };
-use crate::position::Position;
 use crate::typed_net::TypedNet;
 use leaf_core::{Expr, ExprFault, LeafKey, type_of_expr};
+use net_tree::{Members, Net, NetChild, Position};
 use sample_core::{Memory, Ty, try_copy_types};
 use std::alloc::Global;
 

@@ -5,16 +5,16 @@ ghost use Rattle.sample_core.specs.TypeTree.{int_ty, list_ty, pair_ty};
 ghost use Rattle.sample_core.specs.TypeView.{type_of};
 ghost use Rattle.leaf_core.specs.ExpressionView.{expression_of};
 ghost use Rattle.net_syntax.specs.{ArrowView.arrow_of, FoundType.Finds};
-ghost use Rattle.net_syntax.specs.Network.{first as first_of, loop_pre};
-ghost use Rattle.net_syntax.specs.NetworkView.{tree, tree_of, trees};
+ghost use Rattle.net_tree.specs.Network.{first as first_of, loop_pre};
+ghost use Rattle.net_tree.specs.NetworkView.{tree, tree_of, trees};
 ghost use Rattle.net_syntax.specs.StandingWalk.{carried_of, collection_output, first_output, leaf_type, left_of, old_output, output_in, right_carried_of, right_listed_of, routed, standing_of, taking};
 ghost use Rattle.net_syntax.specs.declared.output.Untyped.TheVariants as U;
 
 use crate::arrow::Arrow;
-use crate::net::{Members, Net, NetChild};
 use crate::part_types::{event_with, list_of, pair_of, pair_under};
 use crate::standing::Standing;
 use leaf_core::{Expr, ExprFault, type_of_expr};
+use net_tree::{Members, Net, NetChild};
 use sample_core::{Memory, Ty};
 use std::alloc::Global;
 

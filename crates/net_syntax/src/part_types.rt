@@ -4,7 +4,7 @@ ghost use Rattle.std.specs.Prelude.{◌≡◌, ◌≢◌, ◌++◌, IfOk, OnOk, 
 ghost use Rattle.sample_core.specs.{TypeTree.pair_ty, TypeTree.event_ty, TypeTree.list_ty, TypeView.type_of};
 ghost use Rattle.net_syntax.specs.ArrowView.{arrow_of};
 ghost use Rattle.net_syntax.specs.LeafWalk.{event_of, left_of, old_of, only, right_event_of, started_of};
-ghost use Rattle.net_syntax.specs.Typing.{arrow};
+ghost use Rattle.net_meaning.specs.Typing.{arrow};
 
 use crate::arrow::Arrow;
 use sample_core::{Memory, Ty, TyChild};

@@ -2,15 +2,13 @@
 
 ghost use Rattle.std.specs.Prelude.{◌≡◌, option_map};
 ghost use Rattle.leaf_core.specs.{Expression.Expression, ExpressionView.expression_of};
-ghost use Rattle.net_syntax.specs.Network.{Network, p_switch};
-ghost use Rattle.net_syntax.specs.NetworkView.{tree, tree_of, trees};
-ghost use Rattle.net_syntax.specs.Place.{a_network, child, child_network, collection_child, member, p_switch_child};
+ghost use Rattle.net_tree.specs.Network.{Network, p_switch};
+ghost use Rattle.net_tree.specs.NetworkView.{tree, tree_of, trees};
+ghost use Rattle.net_tree.specs.Place.{a_network, child, child_network, collection_child, member, p_switch_child};
 ghost use Rattle.net_syntax.specs.{ChildParts.seen, ChildParts.seen_place, Placed.bound, Placed.bound_in, Placed.bound_started, Placed.placed_at, Placed.FewBound};
 
-use crate::equal::{Parts, parts_inside};
-use crate::net::{Members, Net, NetChild};
-use crate::position::Position;
 use leaf_core::{Expr, part_at};
+use net_tree::{Members, Net, NetChild, Parts, Position, parts_inside};
 
 /// A network or an expression that stands in a network.
 #[derive(Clone, Copy)]

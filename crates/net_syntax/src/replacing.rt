@@ -2,17 +2,16 @@
 
 ghost use Rattle.std.specs.Prelude.{◌≡◌, ◌<◌, [], IfOk, Some, length, option_map, set};
 ghost use Rattle.leaf_core.specs.{Expression.Expression, ExpressionView.expression_of};
-ghost use Rattle.net_syntax.specs.Network.{Network, accum_by, first, k_switch, p_switch, par, rp_switch};
-ghost use Rattle.net_syntax.specs.NetworkView.{tree, tree_of, trees};
-ghost use Rattle.net_syntax.specs.{ChildParts.with_behind, FormView.fed_form_of, FormView.pair_form_of, LawStep.part_of};
-ghost use Rattle.net_syntax.specs.{Place.a_leaf, Place.a_network, Placed.replaced, Placed.with_child, Placed.with_member};
+ghost use Rattle.net_tree.specs.Network.{Network, accum_by, first, k_switch, p_switch, par, rp_switch};
+ghost use Rattle.net_tree.specs.NetworkView.{tree, tree_of, trees};
+ghost use Rattle.net_syntax.specs.{ChildParts.with_behind};
+ghost use Rattle.net_tree.specs.{FormView.fed_form_of, FormView.pair_form_of, LawStep.part_of};
+ghost use Rattle.net_tree.specs.{Place.a_leaf, Place.a_network};
+ghost use Rattle.net_syntax.specs.{Placed.replaced, Placed.with_child, Placed.with_member};
 
-use crate::forms::{FedForm, PairForm, copied_children};
-use crate::law_step::Tree;
-use crate::net::{Members, Net, NetChild};
 use crate::place::{TreeRef, child};
-use crate::position::Position;
 use leaf_core::{Expr, with_part_at};
+use net_tree::{FedForm, Members, Net, NetChild, PairForm, Position, Tree, copied_children};
 use sample_core::Memory;
 use std::alloc::Global;
 use std::mem::replace as exchanged;

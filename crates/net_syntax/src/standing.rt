@@ -4,22 +4,21 @@ ghost use Rattle.std.specs.Prelude.{◌≡◌, ◌++◌, ◌∷◌, [], IfOk, Ma
 ghost use Rattle.sample_core.specs.TypeView.{type_of};
 ghost use Rattle.leaf_core.specs.ExpressionView.{expression_of};
 ghost use Rattle.net_syntax.specs.{ArrowView.arrow_of, BehindRoute.behind_of, ChildParts.seen, FoundType.Finds};
-ghost use Rattle.net_syntax.specs.NetworkView.{tree, tree_of, trees};
-ghost use Rattle.net_syntax.specs.Place.{a_leaf, a_network, continuation_child, p_switch_child};
+ghost use Rattle.net_tree.specs.NetworkView.{tree, tree_of, trees};
+ghost use Rattle.net_tree.specs.Place.{a_leaf, a_network, continuation_child, p_switch_child};
 ghost use Rattle.net_syntax.specs.{Placed.placed_at, Standing.ChildFound, Standing.TypeAt, Standing.alone};
 ghost use Rattle.net_syntax.specs.StandingWalk.{child_input, child_scope, collection_input, fed_input, freezing, frozen, frozen_members, frozen_of, frozen_types, inside, k_switch_scope, members_scope, r_switch_scope, routed_input, standing_of, started_scope, started_type, step_input, switch_event, switch_scope, taking, type_walk_at, under, watched_event, watched_input};
 
 use crate::arrow::Arrow;
-use crate::net::{Members, Net, NetChild};
 use crate::output::{
     Untyped, carried_in, leaf_type, left_in, list_under, output_in, right_carried_in,
     right_listed_in, route_type, routed_types,
 };
 use crate::part_types::{add_copies, arrow_from, pair_of, pair_under};
 use crate::place::{TreeRef, child};
-use crate::position::Position;
 use crate::typed_net::TypedNet;
 use leaf_core::{Expr, part_type};
+use net_tree::{Members, Net, NetChild, Position};
 use sample_core::{Memory, Ty};
 use std::alloc::Global;
 use std::mem::replace;

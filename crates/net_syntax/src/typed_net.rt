@@ -2,11 +2,12 @@
 
 ghost use Rattle.std.specs.Prelude.{◌≡◌, IfOk};
 ghost use Rattle.sample_core.specs.TypeView.{type_of};
-ghost use Rattle.net_syntax.specs.{NetworkView.tree_of, TypedNetwork.HasItsTypes, NetworkLimits.WithinLimits};
+ghost use Rattle.net_tree.specs.{NetworkView.tree_of};
+ghost use Rattle.net_meaning.specs.{TypedNetwork.HasItsTypes, NetworkLimits.WithinLimits};
 ghost use Rattle.net_syntax.specs.TypedNetworkView.{typed_network_of};
 
-use crate::net::Net;
 use leaf_core::Expr;
+use net_tree::Net;
 use sample_core::{Memory, Ty};
 use std::alloc::Global;
 use std::marker::Model;
@@ -23,7 +24,7 @@ pub struct TypedNet {
 }
 
 impl Model for TypedNet {
-    ghost use Rattle.net_syntax.specs.TypedNetwork.{TypedNetwork};
+    ghost use Rattle.net_meaning.specs.TypedNetwork.{TypedNetwork};
     ghost use Rattle.net_syntax.specs.TypedNetworkCode.{typed_network_code};
 
     ghost Value = { TypedNetwork };
@@ -31,7 +32,7 @@ impl Model for TypedNet {
     ghost coded = { typed_network_code };
 
     ghost use Rattle.net_syntax.specs.TypedNetworkView.{typed_network_of};
-    ghost use Rattle.net_syntax.specs.NetworkLimits.{WithinLimits};
+    ghost use Rattle.net_meaning.specs.NetworkLimits.{WithinLimits};
 
     ghost view = { λ a. typed_network_of a.input a.output a.net a.weight a.height };
 

@@ -5,8 +5,8 @@ use Rattle.std.specs.Fmt.{decimal}
 use Rattle.sample_core.specs.Adding.{Adds}
 use Rattle.leaf_expr.specs.Sexpr.{form, spelling, spellings}
 use Rattle.leaf_expr.proofs.Joined.{adds_behind}
-use Rattle.net_syntax.specs.Position.{position_spelling, child_numbers}
-use Rattle.net_syntax.specs.LawStep.{Step}
+use Rattle.net_tree.specs.Position.{position_spelling, child_numbers}
+use Rattle.net_tree.specs.LawStep.{Step}
 use Rattle.net_text.specs.CertificatePrinting.{law_spelling, direction_spelling, child_sexprs, given_sexprs, step_sexpr, step_lines}
 
 children_spelled : (ks : List ℕ) → spellings (child_sexprs ks) ≡ child_numbers ks

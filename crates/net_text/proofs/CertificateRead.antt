@@ -8,9 +8,9 @@ use Rattle.leaf_expr.proofs.ReadFound.{bind_ok, ok_is}
 use Rattle.leaf_expr.proofs.ReadOnly.{shorter, some_bind}
 use Rattle.leaf_expr.proofs.ReadFaults.{stops_not_long}
 use Rattle.leaf_core.specs.Expression.{Expression}
-use Rattle.net_syntax.specs.Place.{Tree}
-use Rattle.net_syntax.specs.LawStep.{Step}
-use Rattle.net_syntax.specs.declared.law_step.Law.{Law}
+use Rattle.net_tree.specs.Place.{Tree}
+use Rattle.net_tree.specs.LawStep.{Step}
+use Rattle.net_tree.specs.declared.law_step.Law.{Law}
 use Rattle.net_text.specs.Grammar.{Version, version_1, version_2, networks}
 use Rattle.net_text.specs.StepGrammar.{step_parts, law_sort, direction_sort, position_sort}
 use Rattle.net_text.specs.File.{behind_word, behind_version}

@@ -16,9 +16,9 @@ use Rattle.leaf_expr.proofs.ReadOnly.{only, some_bind}
 use Rattle.leaf_expr.proofs.ReadFaults.{stops, stops_not_long}
 use Rattle.leaf_expr.proofs.OneFault.{refuses}
 use Rattle.leaf_expr.proofs.LeafProper.{leaf_proper}
-use Rattle.net_syntax.specs.Network.{Network}
-use Rattle.net_syntax.specs.NetworkView.{tree_of}
-use Rattle.net_syntax.specs.declared.net.Net.{Net}
+use Rattle.net_tree.specs.Network.{Network}
+use Rattle.net_tree.specs.NetworkView.{tree_of}
+use Rattle.net_tree.specs.declared.net.Net.{Net}
 use Rattle.net_text.specs.Grammar.{Version, version_1, version_2, networks, network_sort}
 use Rattle.net_text.specs.File.{behind_word, version_named, behind_version, then_word, behind_header, at_end, read_network, read_body, read_file}
 use Rattle.net_text.specs.Printing.{version_word}

@@ -5,7 +5,7 @@ use Rattle.sample_core.specs.TypeTree.{TypeTree}
 use Rattle.leaf_core.specs.Expression.{Expression, input, unit_expr, pair_expr, then_expr, no_event_expr}
 use Rattle.leaf_expr.specs.Language.{meaning}
 use Rattle.leaf_expr.specs.Grammar.{type_sort, expression_sort, word_at, row_at, words, rows}
-use Rattle.net_syntax.specs.Network.{Network, arr, seq, first, hold, accum_by}
+use Rattle.net_tree.specs.Network.{Network, arr, seq, first, hold, accum_by}
 use Rattle.net_text.specs.Sugar.{swap, second, beside, fan_out, never, accum_hold_by}
 use Rattle.net_text.specs.Grammar.{net_words, net_word_at, net_rows, net_row_at, col_rows, networks, leaf_sort, network_sort}
 use Rattle.net_text.specs.FileRows.{CellRows, NetworkRows, SugarRows, IdentityIs, ConstantIs, SecondIs, BesideIs, FanOutIs, NeverIs, NowIs, EdgeIs, AccumHoldByIs, NewRows, NewFaultRows, FileFaultRows, NumberFaultRows, MembersFaultRows}

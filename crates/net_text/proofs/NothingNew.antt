@@ -7,7 +7,7 @@ use Rattle.leaf_expr.specs.Sexpr.{Sexpr, Sexprs, atom, form, last, more}
 use Rattle.leaf_expr.specs.Language.{Places, Maker, Row, no_place, place, places, row_among, read_word, meaning, make_tree}
 use Rattle.leaf_expr.specs.Grammar.{word_among}
 use Rattle.leaf_expr.proofs.ReadOnly.{some_bind}
-use Rattle.net_syntax.specs.Network.{Network, networks_of}
+use Rattle.net_tree.specs.Network.{Network, networks_of}
 use Rattle.net_text.specs.Grammar.{version_1, networks, NetSort, NetTree, leaf_sort, network_sort, members_sort, time_sort, net_words, net_word_at, net_row_at, net_rows, col_rows}
 use Rattle.net_text.specs.Printing.{is_new, are_new}
 use Rattle.net_text.specs.FileLaws.{NothingNewLaw}

@@ -14,10 +14,10 @@ use Rattle.leaf_expr.specs.Printing.{expression_sexpr}
 use Rattle.leaf_expr.proofs.Numbers.{natural_spelled, decimal_is_word}
 use Rattle.leaf_expr.proofs.PrintedMeans.{expression_means, expression_plain}
 use Rattle.leaf_expr.proofs.TokenLaws.{spells_printed}
-use Rattle.net_syntax.specs.Place.{Tree, a_network, a_leaf}
-use Rattle.net_syntax.specs.LawStep.{Step}
-use Rattle.net_syntax.specs.declared.law_step.Law.{Law}
-use Rattle.net_syntax.specs.declared.law_step.Direction.{Direction}
+use Rattle.net_tree.specs.Place.{Tree, a_network, a_leaf}
+use Rattle.net_tree.specs.LawStep.{Step}
+use Rattle.net_tree.specs.declared.law_step.Law.{Law}
+use Rattle.net_tree.specs.declared.law_step.Direction.{Direction}
 use Rattle.net_text.specs.Grammar.{Version, version_1, version_2}
 use Rattle.net_text.specs.Printing.{version_by, version_word}
 use Rattle.net_text.specs.StepGrammar.{last_law, step_parts, law_sort, direction_sort, position_sort, child_sort, step_word_at, step_row_at, directions, position_rows}

@@ -13,7 +13,7 @@ use Rattle.leaf_expr.proofs.Numbers.{natural_spelled, decimal_is_word}
 use Rattle.leaf_expr.proofs.PrintedMeans.{expression_means, expression_plain, index_means}
 use Rattle.leaf_expr.proofs.TextLaws.{printed_type_begins}
 use Rattle.leaf_expr.proofs.TokenLaws.{spells_printed}
-use Rattle.net_syntax.specs.Network.{Network, Networks, networks_of, arr, seq, first, par, loop_pre, initial_out, initial_in, i_pre, delay, hold, accum_by, after, repeatedly, time, integral, switch, d_switch, r_switch, dr_switch, rp_switch, k_switch, p_switch, old, no_members, and_member}
+use Rattle.net_tree.specs.Network.{Network, Networks, networks_of, arr, seq, first, par, loop_pre, initial_out, initial_in, i_pre, delay, hold, accum_by, after, repeatedly, time, integral, switch, d_switch, r_switch, dr_switch, rp_switch, k_switch, p_switch, old, no_members, and_member}
 use Rattle.net_text.specs.Grammar.{Version, version_1, version_2, networks, network_sort, members_sort, leaf_sort, time_sort, Timer, delay_timer, after_timer, repeatedly_timer, least, greatest, net_word_at, net_words, net_row_at, net_rows, col_rows}
 use Rattle.net_text.specs.Printing.{network_sexpr, network_sexprs, is_new, are_new, version_by, version_word, Writable, AllWritable, TimeFits}
 use Rattle.net_text.specs.FileLaws.{PrintedFileLaw, header_tokens}

@@ -17,12 +17,12 @@ use Rattle.leaf_expr.specs.declared.text_fault.ExprTextFault.{ExprTextFault}
 use Rattle.leaf_expr.specs.declared.text_fault.ExprTextFault.TheVariants as E
 use Rattle.sample_core.specs.TypeTree.{TypeTree}
 use Rattle.sample_core.specs.Answer.{◌>>=◌}
-use Rattle.net_syntax.specs.Network.{Network, networks_of, and_member, map_network, map_networks}
-use Rattle.net_syntax.specs.FormView.{fed_form_of, fed_tree}
-use Rattle.net_syntax.specs.declared.forms.FedForm.{FedForm}
-use Rattle.net_syntax.specs.declared.forms.FedForm.TheVariants as D
-use Rattle.net_syntax.specs.NetworkView.{tree_of, members_of}
-use Rattle.net_syntax.specs.declared.net.Net.{Net}
+use Rattle.net_tree.specs.Network.{Network, networks_of, and_member, map_network, map_networks}
+use Rattle.net_tree.specs.FormView.{fed_form_of, fed_tree}
+use Rattle.net_tree.specs.declared.forms.FedForm.{FedForm}
+use Rattle.net_tree.specs.declared.forms.FedForm.TheVariants as D
+use Rattle.net_tree.specs.NetworkView.{tree_of, members_of}
+use Rattle.net_tree.specs.declared.net.Net.{Net}
 use Rattle.net_text.specs.File.{at_end, read_network}
 use Rattle.net_text.specs.Grammar.{Version, networks, NetSort, NetTree, network_sort, members_sort, leaf_sort, time_sort, Timer, least, greatest, row, net_row_at, net_word_at, col_rows}
 use Rattle.net_text.proofs.Carried.{read_same}

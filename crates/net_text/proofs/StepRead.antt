@@ -13,10 +13,10 @@ use Rattle.leaf_expr.proofs.ReadFound.{found, bind_ok, ok_is}
 use Rattle.leaf_expr.proofs.ReadOnly.{only}
 use Rattle.leaf_expr.proofs.ReadFaults.{stops, err_is}
 use Rattle.leaf_expr.proofs.OneFault.{refuses}
-use Rattle.net_syntax.specs.Place.{Tree}
-use Rattle.net_syntax.specs.LawStep.{Step}
-use Rattle.net_syntax.specs.declared.law_step.Law.{Law}
-use Rattle.net_syntax.specs.declared.law_step.Direction.{Direction}
+use Rattle.net_tree.specs.Place.{Tree}
+use Rattle.net_tree.specs.LawStep.{Step}
+use Rattle.net_tree.specs.declared.law_step.Law.{Law}
+use Rattle.net_tree.specs.declared.law_step.Direction.{Direction}
 use Rattle.net_text.specs.Grammar.{Version, networks, NetTree}
 use Rattle.net_text.specs.StepGrammar.{step_parts, StepSort, StepTree, law_sort, direction_sort, position_sort}
 use Rattle.net_text.specs.Certificate.{given_sort, given_tree, ReadAndLeft, read_name, read_opening, read_given, read_step}

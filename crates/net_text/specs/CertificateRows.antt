@@ -1,11 +1,11 @@
 -- Certificate files, read once each.
 use Rattle.std.specs.Prelude.{◌≡◌, ℕ, List, [], ◌∷◌, map, pos, Some, None, Ok, Err, codes}
 use Rattle.leaf_core.specs.Expression.{Expression, input, int_expr, pair_expr, fst}
-use Rattle.net_syntax.specs.Network.{seq, arr, time, initial_out}
-use Rattle.net_syntax.specs.Place.{Tree, a_network, a_leaf}
-use Rattle.net_syntax.specs.LawStep.{Step}
-use Rattle.net_syntax.specs.declared.law_step.Law.{Law}
-use Rattle.net_syntax.specs.declared.law_step.Direction.TheVariants as Direction
+use Rattle.net_tree.specs.Network.{seq, arr, time, initial_out}
+use Rattle.net_tree.specs.Place.{Tree, a_network, a_leaf}
+use Rattle.net_tree.specs.LawStep.{Step}
+use Rattle.net_tree.specs.declared.law_step.Law.{Law}
+use Rattle.net_tree.specs.declared.law_step.Direction.TheVariants as Direction
 use Rattle.net_text.specs.Certificate.{read_certificate}
 use Rattle.net_text.specs.declared.fault.NetTextFault.{NetTextFault}
 use Rattle.net_text.specs.declared.fault.NetTextFault.TheVariants as V

@@ -5,7 +5,7 @@ use Rattle.leaf_core.specs.Expression.{Expression, input, unit_expr, bool_expr, 
 use Rattle.leaf_expr.specs.Sexpr.{Sexpr, atom}
 use Rattle.leaf_expr.specs.Language.{meaning}
 use Rattle.leaf_expr.specs.Printing.{one, two, three}
-use Rattle.net_syntax.specs.Network.{Network, arr, seq, first, par, loop_pre, initial_out, initial_in, i_pre, delay, hold, accum_by, after, repeatedly, time, integral, switch, d_switch, r_switch, dr_switch, rp_switch, k_switch, p_switch, old, no_members, and_member}
+use Rattle.net_tree.specs.Network.{Network, arr, seq, first, par, loop_pre, initial_out, initial_in, i_pre, delay, hold, accum_by, after, repeatedly, time, integral, switch, d_switch, r_switch, dr_switch, rp_switch, k_switch, p_switch, old, no_members, and_member}
 use Rattle.net_text.specs.Grammar.{Version, networks, network_sort}
 use Rattle.net_text.specs.File.{read_file}
 use Rattle.net_text.specs.declared.fault.NetTextFault.{NetTextFault}

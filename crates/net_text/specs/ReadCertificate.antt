@@ -5,11 +5,11 @@ use Rattle.leaf_core.specs.Expression.{Expression}
 use Rattle.leaf_expr.specs.Token.{PlacedToken}
 use Rattle.leaf_expr.specs.TreeReader.{Read, read, read_form, read_parts}
 use Rattle.leaf_expr.specs.Language.{Language, places}
-use Rattle.net_syntax.specs.Place.{Tree}
-use Rattle.net_syntax.specs.LawStep.{Step, step_of, part_of}
-use Rattle.net_syntax.specs.declared.law_step.LawStep.{LawStep}
-use Rattle.net_syntax.specs.declared.law_step.Law.{Law}
-use Rattle.net_syntax.specs.declared.law_step.Tree as C
+use Rattle.net_tree.specs.Place.{Tree}
+use Rattle.net_tree.specs.LawStep.{Step, step_of, part_of}
+use Rattle.net_tree.specs.declared.law_step.LawStep.{LawStep}
+use Rattle.net_tree.specs.declared.law_step.Law.{Law}
+use Rattle.net_tree.specs.declared.law_step.Tree as C
 use Rattle.net_text.specs.Form.{version_of}
 use Rattle.net_text.specs.ReadNet.{from_byte}
 use Rattle.net_text.specs.declared.text.Text.{Text}

@@ -12,9 +12,9 @@ use Rattle.leaf_expr.specs.Language.{Language, Places, Maker, no_place}
 use Rattle.leaf_expr.specs.ReadText.{GivesTree}
 use Rattle.leaf_expr.specs.Token.{PlacedToken, tokens_from}
 use Rattle.leaf_expr.specs.TreeReader.{word_read, Read, read, read_form, read_parts}
-use Rattle.net_syntax.specs.Network.{Network, Networks, map_network, map_networks}
-use Rattle.net_syntax.specs.NetworkView.{tree_of}
-use Rattle.net_syntax.specs.declared.net.Net.{Net}
+use Rattle.net_tree.specs.Network.{Network, Networks, map_network, map_networks}
+use Rattle.net_tree.specs.NetworkView.{tree_of}
+use Rattle.net_tree.specs.declared.net.Net.{Net}
 use Rattle.net_text.specs.Grammar.{networks, NetSort, NetTree, network_sort, net_word_at, e, f, col}
 use Rattle.net_text.specs.File.{at_end}
 use Rattle.net_text.specs.Form.{form_row, version_of}

@@ -1,7 +1,7 @@
 -- What sugar means, in core forms.
 use Rattle.sample_core.specs.TypeTree.{TypeTree, unit_ty}
 use Rattle.leaf_core.specs.Expression.{Expression, input, unit_expr, bool_expr, pair_expr, fst, snd, then_expr, not_expr, and_expr, if_expr, no_event_expr, event_expr}
-use Rattle.net_syntax.specs.Network.{Network, arr, seq, first, i_pre, hold, accum_by, after}
+use Rattle.net_tree.specs.Network.{Network, arr, seq, first, i_pre, hold, accum_by, after}
 use Rattle.std.specs.Prelude.{true}
 
 -- the sides of a pair turned round

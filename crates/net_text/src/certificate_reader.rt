@@ -2,14 +2,14 @@
 
 ghost use Rattle.std.specs.Prelude.{◌≡◌, ◌<◌, ◌^◌, Some, length, map};
 ghost use Rattle.leaf_expr.specs.{Language.no_place, Language.read_word, ReadText.GivesTree, ReadText.fit, Grammar.word_among, WordReading.natural_at, WordReading.unfit};
-ghost use Rattle.net_syntax.specs.LawStep.{step_of};
+ghost use Rattle.net_tree.specs.LawStep.{step_of};
 ghost use Rattle.net_text.specs.Certificate.{read_opening};
 ghost use Rattle.net_text.specs.Certificate as certificate;
 ghost use Rattle.net_text.specs.Form.{version_of};
 ghost use Rattle.net_text.specs.StepGrammar.{law_sort, direction_sort, directions, position_sort, step_word_at};
 ghost use Rattle.net_text.specs.StepGrammar as grammar;
 ghost use Rattle.net_text.specs.ReadCertificate.{left, part_at, position_form, children_from, given_from, given_left, step_from, step_left, steps_from};
-ghost use Rattle.net_syntax.specs.Place.{a_network, a_leaf};
+ghost use Rattle.net_tree.specs.Place.{a_network, a_leaf};
 ghost use Rattle.net_text.specs.Grammar.{e, f};
 ghost use Rattle.net_text.specs.ReadNet.{from_byte, parts_at};
 
@@ -19,7 +19,7 @@ use leaf_expr::{
     ExprTextFault, MAX_OPEN, Read, TreeFront, closing_at, form_end, form_head, front_at,
     natural_named, read_index, token_at,
 };
-use net_syntax::{Direction, Law, LawStep, Position, Tree};
+use net_tree::{Direction, Law, LawStep, Position, Tree};
 use sample_core::word_is;
 use std::alloc::Global;
 

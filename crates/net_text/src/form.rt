@@ -3,7 +3,7 @@
 ghost use Rattle.std.specs.Prelude.{◌≡◌, ◌≤◌, ◌^◌, IfOk, option_map};
 ghost use Rattle.leaf_core.specs.ExpressionView.{expression_of};
 ghost use Rattle.leaf_expr.specs.ReadText.{fit};
-ghost use Rattle.net_syntax.specs.{Network.map_network, NetworkView.tree_of};
+ghost use Rattle.net_tree.specs.{Network.map_network, NetworkView.tree_of};
 ghost use Rattle.net_text.specs.Form.{form_row, version_of, word_of};
 ghost use Rattle.leaf_expr.specs.Language.{row_among};
 ghost use Rattle.net_text.specs.Grammar.{cell_rows, pair_rows, other_rows, new_rows, version_2, net_row_at, net_word_at, network_sort};
@@ -11,7 +11,7 @@ ghost use Rattle.net_text.specs.Grammar.{cell_rows, pair_rows, other_rows, new_r
 use crate::sugar::{Made, accum_hold_by, beside, constant, edge, fan_out, second};
 use crate::text::Version;
 use leaf_expr::Expr;
-use net_syntax::{FedForm, Net, NetChild};
+use net_tree::{FedForm, Net, NetChild};
 use sample_core::word_is;
 use std::alloc::Global;
 

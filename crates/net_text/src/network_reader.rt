@@ -5,7 +5,7 @@ ghost use Rattle.sample_core.specs.TypeView.{type_of};
 ghost use Rattle.leaf_core.specs.ExpressionView.{expression_of};
 ghost use Rattle.leaf_expr.specs.{Grammar.type_sort, Grammar.expression_sort, Language.no_place, Language.places};
 ghost use Rattle.leaf_expr.specs.ReadText.{GivesTree, tree_at, expression_left, type_left};
-ghost use Rattle.net_syntax.specs.{Network.networks_of, Network.map_network, Network.map_networks, NetworkView.tree_of};
+ghost use Rattle.net_tree.specs.{Network.networks_of, Network.map_network, Network.map_networks, NetworkView.tree_of};
 ghost use Rattle.net_text.specs.Form.{timer_of};
 ghost use Rattle.net_text.specs.Grammar.{network_sort, members_sort, time_sort, e, f};
 ghost use Rattle.net_text.specs.ReadNet.{sort_at, word_network as word_read, form_at as form_read, parts_at as parts_read, last_two_at as last_two_read, last_fed_at as last_fed_read, last_three_at as last_three_read, from_byte, GivesForm, network_left, child_left, members_left};
@@ -18,7 +18,7 @@ use leaf_expr::{
     Expr, ExprTextFault, MAX_OPEN, Read, TreeFront, closing_at, form_end, form_head, front_at,
     read_expr_at, read_index, read_natural, read_type_at,
 };
-use net_syntax::{FedForm, Members, Net, NetChild};
+use net_tree::{FedForm, Members, Net, NetChild};
 use sample_core::{Ty, word_is};
 use std::alloc::Global;
 

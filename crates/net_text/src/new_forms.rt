@@ -2,11 +2,11 @@
 
 ghost use Rattle.std.specs.Prelude.{◌≡◌};
 ghost use Rattle.leaf_core.specs.ExpressionView.{expression_of};
-ghost use Rattle.net_syntax.specs.{Network.map_networks, NetworkView.tree_of};
+ghost use Rattle.net_tree.specs.{Network.map_networks, NetworkView.tree_of};
 ghost use Rattle.net_text.specs.Printing as printing;
 
 use leaf_expr::Expr;
-use net_syntax::{Members, Net};
+use net_tree::{Members, Net};
 
 /// Whether a form of the second version is in the network.
 #[cycle(is_new)]

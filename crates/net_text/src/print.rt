@@ -6,14 +6,14 @@ ghost use Rattle.sample_core.specs.{Adding.Adds, TypeView.type_of};
 ghost use Rattle.leaf_core.specs.ExpressionView.{expression_of};
 ghost use Rattle.leaf_expr.specs.Sexpr.{atom, form, last, more, spelling, spellings};
 ghost use Rattle.leaf_expr.specs.Printing.{one, two, three, expression_sexpr};
-ghost use Rattle.net_syntax.specs.Network.{map_network, map_networks, old, p_switch, rp_switch};
-ghost use Rattle.net_syntax.specs.NetworkView.{tree_of};
+ghost use Rattle.net_tree.specs.Network.{map_network, map_networks, old, p_switch, rp_switch};
+ghost use Rattle.net_tree.specs.NetworkView.{tree_of};
 ghost use Rattle.net_text.specs.Printing.{network_sexpr, network_sexprs, file_spelling};
 
 use crate::new_forms::{is_new, version_word};
 use itoa::Buffer;
 use leaf_expr::{Expr, push_expr};
-use net_syntax::{Members, Net, NetChild};
+use net_tree::{Members, Net, NetChild};
 use sample_core::{Memory, Ty, push_type};
 use std::alloc::Global;
 

@@ -4,7 +4,7 @@ ghost use Rattle.std.specs.Prelude.{◌≡◌, ◌++◌, ◌∷◌, [], IfOk, ma
 ghost use Rattle.std.specs.Fmt.{decimal};
 ghost use Rattle.sample_core.specs.Adding.{Adds};
 ghost use Rattle.leaf_expr.specs.Sexpr.{spelling, spellings};
-ghost use Rattle.net_syntax.specs.LawStep.{step_of, part_of};
+ghost use Rattle.net_tree.specs.LawStep.{step_of, part_of};
 ghost use Rattle.net_text.specs.CertificatePrinting.{law_spelling, direction_spelling, given_sexprs, step_sexpr, tree_sexpr, certificate_spelling, are_new_steps};
 ghost use Rattle.net_text.specs.CertificatePrinting as printing;
 
@@ -12,7 +12,7 @@ use crate::new_forms::{is_new, version_word};
 use crate::print::{push_net, push_next, push_next_expr, push_word};
 use itoa::Buffer;
 use leaf_expr::push_expr;
-use net_syntax::{Direction, Law, LawStep, Tree, push_position};
+use net_tree::{Direction, Law, LawStep, Tree, push_position};
 use sample_core::Memory;
 use std::alloc::Global;
 

@@ -4,7 +4,7 @@ ghost use Rattle.std.specs.Prelude.{◌≡◌, ◌<◌, Err, length, option_map,
 ghost use Rattle.leaf_expr.specs.{ReadText.GivesTree, Token.tokens, Token.tokens_from};
 ghost use Rattle.leaf_core.specs.Expression.{Expression};
 ghost use Rattle.sample_core.specs.TypeTree.{TypeTree};
-ghost use Rattle.net_syntax.specs.{Network.Network, NetworkView.tree_of};
+ghost use Rattle.net_tree.specs.{Network.Network, NetworkView.tree_of};
 ghost use Rattle.sample_core.specs.TypeView.{type_of};
 ghost use Rattle.net_text.specs.File.{behind_word, behind_version, behind_header, read_body, read_behind, read_file};
 ghost use Rattle.net_text.specs.File as file_specs;
@@ -15,7 +15,7 @@ use crate::fault::NetTextFault;
 use crate::network_reader::{both, network_at, type_at};
 use crate::text::{Text, Version};
 use leaf_expr::{Expr, ExprTextFault, Lexeme, MAX_LENGTH, MAX_OPEN, lexeme_at, token_at};
-use net_syntax::Net;
+use net_tree::Net;
 use sample_core::{Ty, word_is};
 use std::alloc::Global;
 

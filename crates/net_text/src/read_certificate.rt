@@ -2,7 +2,7 @@
 
 ghost use Rattle.std.specs.Prelude.{◌≡◌, ◌<◌, Err, List, Ok, length, map, option_map, IfOk, IfErr};
 ghost use Rattle.leaf_expr.specs.Token.{tokens, tokens_from};
-ghost use Rattle.net_syntax.specs.LawStep.{Step, step_of};
+ghost use Rattle.net_tree.specs.LawStep.{Step, step_of};
 ghost use Rattle.net_text.specs.{File.read_behind, Form.version_of};
 ghost use Rattle.net_text.specs.Certificate.{behind_laws, read_all_steps, read_certificate};
 ghost use Rattle.net_text.specs.{CertificateLaws.IsCertificate, CertificateLaws.IsCertificateFault, ReadCertificate.GivesSteps};
@@ -13,7 +13,7 @@ use crate::fault::NetTextFault;
 use crate::read::{version_end, word_end};
 use crate::text::{Text, Version};
 use leaf_expr::MAX_LENGTH;
-use net_syntax::LawStep;
+use net_tree::LawStep;
 use std::alloc::Global;
 
 /// Reads a certificate file: `laws 1` or `laws 2` and then any number of steps,

@@ -3,12 +3,12 @@
 ghost use Rattle.std.specs.Prelude.{◌≡◌, IfOk};
 ghost use Rattle.leaf_core.specs.Expression.{input, fst, snd, and_expr, not_expr, pair_expr};
 ghost use Rattle.leaf_core.specs.ExpressionView.{expression_of};
-ghost use Rattle.net_syntax.specs.{Network.arr, Network.hold, Network.map_network, NetworkView.tree_of};
+ghost use Rattle.net_tree.specs.{Network.arr, Network.hold, Network.map_network, NetworkView.tree_of};
 ghost use Rattle.net_text.specs.Sugar.{swap, rise};
 ghost use Rattle.net_text.specs.Sugar as sugar;
 
 use leaf_expr::{Expr, ExprChild, Literal};
-use net_syntax::{Net, NetChild};
+use net_tree::{Net, NetChild};
 use sample_core::{Memory, Ty};
 use std::alloc::Global;
 

@@ -1,8 +1,8 @@
 -- Where a part stands is one place, and is the same where the part is another.
 use Rattle.std.proofs.Common.{◌≡◌, ℕ, zero, suc, Option, Some, None, IfSome, option_map, refl, sym, ap, ◌∙◌}
 use Rattle.leaf_core.specs.Expression.{Expression}
-use Rattle.net_syntax.specs.Network.{Network, Networks, arr, seq, first, par, loop_pre, i_pre, delay, hold, accum_by, after, repeatedly, switch, d_switch, r_switch, k_switch, p_switch, initial_out, initial_in, dr_switch, rp_switch, no_members, and_member}
-use Rattle.net_syntax.specs.Place.{◌>>=◌, Tree, a_network, a_leaf, member, child, child_network, collection_child, PSwitchChild, p_switch_child, member_child, event_child, continuation_child, no_child}
+use Rattle.net_tree.specs.Network.{Network, Networks, arr, seq, first, par, loop_pre, i_pre, delay, hold, accum_by, after, repeatedly, switch, d_switch, r_switch, k_switch, p_switch, initial_out, initial_in, dr_switch, rp_switch, no_members, and_member}
+use Rattle.net_tree.specs.Place.{◌>>=◌, Tree, a_network, a_leaf, member, child, child_network, collection_child, PSwitchChild, p_switch_child, member_child, event_child, continuation_child, no_child}
 use Rattle.net_syntax.specs.Placed.{with_member, with_child, with_p_switch_child, with_collection_child}
 use Rattle.net_syntax.specs.Standing.{Standing}
 use Rattle.net_syntax.specs.StandingWalk.{taking, p_switch_input, p_switch_scope, collection_input, collection_scope, inside}

@@ -6,11 +6,11 @@ use Rattle.leaf_core.specs.TypeLimits.{type_fits}
 use Rattle.leaf_core.specs.ExpressionCheck.{type_answer}
 use Rattle.leaf_core.specs.ExpressionLimits.{ExpressionTypedWithin}
 use Rattle.leaf_core.proofs.Exactness.{type_answer-exact}
-use Rattle.net_syntax.specs.Network.{Network, network_size}
-use Rattle.net_syntax.specs.Height.{height}
-use Rattle.net_syntax.specs.Weight.{weight}
-use Rattle.net_syntax.specs.TypedNetwork.{TypedNetwork}
-use Rattle.net_syntax.specs.NetworkLimits.{WithinLimits}
+use Rattle.net_tree.specs.Network.{Network, network_size}
+use Rattle.net_tree.specs.Height.{height}
+use Rattle.net_tree.specs.Weight.{weight}
+use Rattle.net_meaning.specs.TypedNetwork.{TypedNetwork}
+use Rattle.net_meaning.specs.NetworkLimits.{WithinLimits}
 use Rattle.net_types.specs.declared.fault.TypeFault.{TypeFault}
 use Rattle.net_types.specs.declared.fault.TypeFault.TheVariants as Fault
 use Rattle.net_types.specs.Check.{net_walk, first_fault, check}

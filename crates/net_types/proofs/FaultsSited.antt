@@ -5,12 +5,12 @@ use Rattle.leaf_core.specs.TypeLimits.{type_fits, same_tree}
 use Rattle.leaf_core.specs.Expression.{Expression}
 use Rattle.leaf_core.specs.ExpressionCheck.{type_answer}
 use Rattle.leaf_core.specs.declared.typing.ExprFault.{ExprFault}
-use Rattle.net_syntax.specs.Network.{Network, Networks, network_size, arr, seq, first, par, loop_pre, i_pre, delay, hold, accum_by, after, repeatedly, time, integral, switch, d_switch, r_switch, k_switch, p_switch, old, initial_out, initial_in, dr_switch, rp_switch, no_members, and_member}
-use Rattle.net_syntax.specs.Typing.{Arrow, copies, members}
-use Rattle.net_syntax.specs.Height.{height}
-use Rattle.net_syntax.specs.Weight.{weight}
-use Rattle.net_syntax.specs.Place as place
-use Rattle.net_syntax.specs.Place.{a_network, a_leaf, member, child_network, collection_child, child}
+use Rattle.net_tree.specs.Network.{Network, Networks, network_size, arr, seq, first, par, loop_pre, i_pre, delay, hold, accum_by, after, repeatedly, time, integral, switch, d_switch, r_switch, k_switch, p_switch, old, initial_out, initial_in, dr_switch, rp_switch, no_members, and_member}
+use Rattle.net_meaning.specs.Typing.{Arrow, copies, members}
+use Rattle.net_tree.specs.Height.{height}
+use Rattle.net_tree.specs.Weight.{weight}
+use Rattle.net_tree.specs.Place as place
+use Rattle.net_tree.specs.Place.{a_network, a_leaf, member, child_network, collection_child, child}
 use Rattle.net_syntax.proofs.Children.{member_is, event_is, continuation_is}
 use Rattle.net_types.specs.declared.fault.TypeFault.{TypeFault}
 use Rattle.net_types.specs.declared.fault.TypeFault.TheVariants as Fault

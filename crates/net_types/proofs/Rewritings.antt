@@ -14,17 +14,17 @@ use Rattle.leaf_core.proofs.Exactness.{same_tree-true, same_tree-refl}
 use Rattle.leaf_core.proofs.Uniqueness.{one_type}
 use Rattle.leaf_core.proofs.PartTypes.{TypedThere, there_typed, one_input, kept_there, inner}
 use Rattle.leaf_core.proofs.WithinParts.{put_there}
-use Rattle.net_syntax.specs.Network.{Network, network_size}
-use Rattle.net_syntax.specs.Weight.{weight}
-use Rattle.net_syntax.specs.Height.{height}
+use Rattle.net_tree.specs.Network.{Network, network_size}
+use Rattle.net_tree.specs.Weight.{weight}
+use Rattle.net_tree.specs.Height.{height}
 use Rattle.net_syntax.specs.Rewriting.{Rewrites}
-use Rattle.net_syntax.specs.Place.{◌>>=◌, Tree, a_network, a_leaf, child}
+use Rattle.net_tree.specs.Place.{◌>>=◌, Tree, a_network, a_leaf, child}
 use Rattle.net_syntax.specs.Placed.{with_child, replaced}
-use Rattle.net_syntax.specs.TypedNetwork.{TypedNetwork}
-use Rattle.net_syntax.specs.NetworkLimits.{NetTypedWithin, WithinLimits}
+use Rattle.net_meaning.specs.TypedNetwork.{TypedNetwork}
+use Rattle.net_meaning.specs.NetworkLimits.{NetTypedWithin, WithinLimits}
 use Rattle.net_syntax.specs.Standing.{Standing, standing, alone, TreeTyped, StandsAt, at_network, inside_network, inside_expression}
 use Rattle.net_syntax.specs.StandingWalk.{inside}
-use Rattle.net_syntax.proofs.StreamLaws.{one-output-type}
+use Rattle.net_meaning.proofs.StreamLaws.{one-output-type}
 use Rattle.net_syntax.proofs.FoundTypes.{TreeWithin, forget}
 use Rattle.net_syntax.proofs.SamePlaces.{Filler, filled}
 use Rattle.net_types.specs.KeptTypes.{checked_output, same_type, kept_in_leaf, both_there, type_kept}

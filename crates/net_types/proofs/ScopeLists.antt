@@ -4,12 +4,12 @@ use Rattle.std.proofs.lemmas.List.{map-append}
 use Rattle.leaf_core.specs.ExpressionView.{expression_of}
 use Rattle.leaf_core.specs.declared.expr.Expr.{Expr}
 use Rattle.net_syntax.specs.ArrowView.{arrow_of}
-use Rattle.net_syntax.specs.Network.{map_networks}
-use Rattle.net_syntax.specs.NetworkView.{members_of}
-use Rattle.net_syntax.specs.Typing as T
-use Rattle.net_syntax.specs.Typing.{copies, members}
+use Rattle.net_tree.specs.Network.{map_networks}
+use Rattle.net_tree.specs.NetworkView.{members_of}
+use Rattle.net_meaning.specs.Typing as T
+use Rattle.net_meaning.specs.Typing.{copies, members}
 use Rattle.net_syntax.specs.declared.arrow.Arrow.{Arrow}
-use Rattle.net_syntax.specs.declared.net.Net.{Net}
+use Rattle.net_tree.specs.declared.net.Net.{Net}
 use Rattle.net_types.specs.declared.fault.TypeFault.TheVariants as Fault
 use Rattle.net_types.specs.Walk.{old_at, test_members}
 use Rattle.net_types.proofs.WalkTests.{counted_passes, counted_fails}

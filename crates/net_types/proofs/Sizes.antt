@@ -2,10 +2,10 @@
 use Rattle.std.proofs.Common.{◌≡◌, ℕ, suc, ◌+◌, ◌*◌, ◌<◌, ◌≤◌, Bool, true, false, leb, leb-true, leb-false, List, [], ◌∷◌, ◌++◌, refl, arith}
 use Rattle.std.proofs.Math.Nat.{mul-le-mul_right, suc-mul}
 use Rattle.sample_core.specs.TypeTree.{TypeTree}
-use Rattle.net_syntax.specs.Network.{Network, Networks, network_size, networks_size, seq}
-use Rattle.net_syntax.specs.Height.{greatest}
-use Rattle.net_syntax.specs.Typing.{Arrow, LeafTyping, members, Typed, AllTyped, seq_typed, first_typed, par_typed, loop_typed, switch_typed, d_switch_typed, r_switch_typed, k_switch_typed, p_switch_typed, old_typed, initial_out_typed, initial_in_typed, dr_switch_typed, rp_switch_typed, no_members_typed, and_member_typed}
-use Rattle.net_syntax.specs.Weight.{weight, weights, weight_at, total}
+use Rattle.net_tree.specs.Network.{Network, Networks, network_size, networks_size, seq}
+use Rattle.net_tree.specs.Height.{greatest}
+use Rattle.net_meaning.specs.Typing.{Arrow, LeafTyping, members, Typed, AllTyped, seq_typed, first_typed, par_typed, loop_typed, switch_typed, d_switch_typed, r_switch_typed, k_switch_typed, p_switch_typed, old_typed, initial_out_typed, initial_in_typed, dr_switch_typed, rp_switch_typed, no_members_typed, and_member_typed}
+use Rattle.net_tree.specs.Weight.{weight, weights, weight_at, total}
 use Rattle.net_types.specs.TypingLaws.{SizeLaw}
 
 -- a node weighs something

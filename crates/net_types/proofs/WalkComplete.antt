@@ -1,8 +1,8 @@
 -- Where the network has a type within the limits, the walk answers it.
 use Rattle.std.proofs.Common.{◌≡◌, ℕ, suc, List, [], ◌∷◌, ◌++◌, Ok, refl, ap, ◌^◌, ◌≤◌, arith}
-use Rattle.net_syntax.specs.Network.{Network, Networks, no_members, and_member}
+use Rattle.net_tree.specs.Network.{Network, Networks, no_members, and_member}
 use Rattle.sample_core.specs.TypeTree.{TypeTree, unit_ty, int_ty, pair_ty, event_ty, list_ty}
-use Rattle.net_syntax.specs.Typing.{Arrow, LeafTyping, copies, members, Typed, AllTyped, arr_typed, seq_typed, first_typed, par_typed, loop_typed, i_pre_typed, delay_typed, hold_typed, accum_typed, after_typed, repeatedly_typed, time_typed, integral_typed, switch_typed, d_switch_typed, r_switch_typed, k_switch_typed, p_switch_typed, old_typed, initial_out_typed, initial_in_typed, dr_switch_typed, rp_switch_typed, no_members_typed, and_member_typed}
+use Rattle.net_meaning.specs.Typing.{Arrow, LeafTyping, copies, members, Typed, AllTyped, arr_typed, seq_typed, first_typed, par_typed, loop_typed, i_pre_typed, delay_typed, hold_typed, accum_typed, after_typed, repeatedly_typed, time_typed, integral_typed, switch_typed, d_switch_typed, r_switch_typed, k_switch_typed, p_switch_typed, old_typed, initial_out_typed, initial_in_typed, dr_switch_typed, rp_switch_typed, no_members_typed, and_member_typed}
 use Rattle.leaf_core.specs.TypeLimits.{TypeFits}
 use Rattle.net_types.specs.Walk.{LeafChecker, ◌↓◌, all_same, one_output, leaf_fault_at, leaf, walk, walk_all}
 use Rattle.net_types.proofs.WalkTests.{goes_on, within_passes, same_passes, between_passes, counted_passes, frozen_passes, IsExact}

@@ -4,10 +4,10 @@ use Rattle.sample_core.specs.TypeTree.{TypeTree, int_ty, list_ty, pair_ty}
 use Rattle.leaf_core.specs.Expression.{Expression}
 use Rattle.leaf_core.specs.ExpressionView.{expression_of}
 use Rattle.leaf_core.specs.declared.expr.Expr.{Expr}
-use Rattle.net_syntax.specs.Network.{Network, Networks, map_networks, p_switch, rp_switch}
-use Rattle.net_syntax.specs.NetworkView.{members_of}
-use Rattle.net_syntax.specs.Typing.{Arrow, arrow, members}
-use Rattle.net_syntax.specs.declared.net.Net.{Net}
+use Rattle.net_tree.specs.Network.{Network, Networks, map_networks, p_switch, rp_switch}
+use Rattle.net_tree.specs.NetworkView.{members_of}
+use Rattle.net_meaning.specs.Typing.{Arrow, arrow, members}
+use Rattle.net_tree.specs.declared.net.Net.{Net}
 use Rattle.net_types.specs.declared.fault.TypeFault.{TypeFault}
 use Rattle.net_types.specs.Walk.{◌>>=◌, ◌>>◌, ◌↓◌, as_choice, as_event, as_pair, expect_same, one_output, test_members, within}
 use Rattle.net_types.specs.Check.{GivesTyped, net_walk_all}

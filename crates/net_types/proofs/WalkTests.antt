@@ -1,8 +1,8 @@
 -- What the walk's tests tell where they pass, and where they do.
 use Rattle.std.proofs.Common.{◌≡◌, ◌∙◌, ℕ, zero, suc, ◌≤◌, Bool, true, false, cond, ◌&&◌, leb, List, [], ◌∷◌, Result, Ok, Err, ◌↔◌, refl, sym, ap, subst, le-leb, leb-true}
-use Rattle.net_syntax.specs.Network.{Networks}
+use Rattle.net_tree.specs.Network.{Networks}
 use Rattle.sample_core.specs.TypeTree.{TypeTree, depth_of, nodes_of, int_ty, pair_ty, event_ty, list_ty}
-use Rattle.net_syntax.specs.Typing.{Arrow, OldAt, old_here, old_after, members, LeafTyping}
+use Rattle.net_meaning.specs.Typing.{Arrow, OldAt, old_here, old_after, members, LeafTyping}
 use Rattle.leaf_core.specs.TypeLimits.{TypeFits, type_fits, same_tree}
 use Rattle.net_types.specs.declared.fault.TypeFault.{TypeFault}
 use Rattle.net_types.specs.declared.fault.TypeFault.TheVariants as Fault

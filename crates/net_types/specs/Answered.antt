@@ -2,9 +2,9 @@
 use Rattle.std.specs.Prelude.{◌≡◌, ◌≢◌, ℕ, List, Result, Ok, Err, None}
 use Rattle.sample_core.specs.declared.memory.Memory.{Memory}
 use Rattle.leaf_core.specs.Expression.{Expression}
-use Rattle.net_syntax.specs.Place.{Tree, a_network}
+use Rattle.net_tree.specs.Place.{Tree, a_network}
 use Rattle.net_syntax.specs.Placed.{replaced}
-use Rattle.net_syntax.specs.TypedNetwork.{TypedNetwork}
+use Rattle.net_meaning.specs.TypedNetwork.{TypedNetwork}
 use Rattle.net_syntax.specs.Rewriting.{Rewrites}
 use Rattle.net_types.specs.declared.rewriting.Rewritten.{Rewritten}
 use Rattle.net_types.specs.declared.rewriting.Rewritten.TheVariants.{Done, NoPosition, IllTyped}

@@ -7,8 +7,8 @@ use Rattle.leaf_core.specs.ExpressionLimits.{expression_fits}
 use Rattle.leaf_core.specs.TypeLimits.{same_tree}
 use Rattle.leaf_core.specs.Parts.{with_part_at}
 use Rattle.leaf_core.specs.PartWalk.{part_type_at}
-use Rattle.net_syntax.specs.Network.{Network}
-use Rattle.net_syntax.specs.Place.{Tree, a_network, a_leaf, child}
+use Rattle.net_tree.specs.Network.{Network}
+use Rattle.net_tree.specs.Place.{Tree, a_network, a_leaf, child}
 use Rattle.net_syntax.specs.Standing.{Standing}
 use Rattle.net_syntax.specs.StandingWalk.{inside}
 use Rattle.net_types.specs.Check.{net_walk}

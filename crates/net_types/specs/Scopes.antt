@@ -3,7 +3,7 @@ use Rattle.std.specs.Prelude.{ℕ, List, [], ◌∷◌, ◌++◌, refl}
 use Rattle.std.specs.Coded.{Coded, code_by, coded×, coded_list}
 use Rattle.sample_core.specs.TypeTree.{TypeTree}
 use Rattle.sample_core.specs.TypeCode.{type_code}
-use Rattle.net_syntax.specs.Typing.{Arrow, arrow, copies}
+use Rattle.net_meaning.specs.Typing.{Arrow, arrow, copies}
 
 -- the types of the parameters and of the frozen networks in scope
 pub record InScope : Type 0 where

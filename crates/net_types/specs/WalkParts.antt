@@ -3,8 +3,8 @@ use Rattle.std.specs.Prelude.{ℕ, suc, List, ◌^◌, Result, Ok}
 use Rattle.sample_core.specs.TypeTree.{TypeTree, int_ty, unit_ty, pair_ty, event_ty, list_ty}
 use Rattle.leaf_core.specs.Expression.{Expression}
 use Rattle.leaf_core.specs.ExpressionCheck.{type_answer}
-use Rattle.net_syntax.specs.Network.{Network, Networks}
-use Rattle.net_syntax.specs.Typing.{Arrow, arrow}
+use Rattle.net_tree.specs.Network.{Network, Networks}
+use Rattle.net_meaning.specs.Typing.{Arrow, arrow}
 use Rattle.net_types.specs.declared.fault.TypeFault.{TypeFault}
 use Rattle.net_types.specs.Walk.{◌>>=◌, ◌>>◌, ◌↓◌, as_choice, as_event, as_pair, expect_same, leaf_fault_at, one_output, switched, test_range, within}
 use Rattle.net_types.specs.Check.{net_walk, net_walk_all}

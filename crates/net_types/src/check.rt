@@ -1,14 +1,15 @@
 // The check of a whole network.
 
 ghost use Rattle.sample_core.specs.TypeView.{type_of};
-ghost use Rattle.net_syntax.specs.NetworkView.{tree_of};
+ghost use Rattle.net_tree.specs.NetworkView.{tree_of};
 ghost use Rattle.net_types.specs.Check.{check, GivesTyped};
 
 use crate::fault::TypeFault;
 use crate::scope::ScopeTypes;
 use crate::walk::walk;
 use leaf_core::{Expr, type_fits};
-use net_syntax::{MOST_HEIGHT, MOST_WEIGHT, Net, TypedNet, height, is_oversized, weight};
+use net_syntax::TypedNet;
+use net_tree::{MOST_HEIGHT, MOST_WEIGHT, Net, height, is_oversized, weight};
 use sample_core::Ty;
 use std::alloc::Global;
 

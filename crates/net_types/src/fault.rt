@@ -3,7 +3,7 @@
 ghost use Rattle.std.specs.Prelude.{◌≡◌};
 
 use leaf_core::ExprFault;
-use net_syntax::Position;
+use net_tree::Position;
 use sample_core::OutOfMemory;
 use thiserror::Error;
 

@@ -3,7 +3,8 @@
 ghost use Rattle.std.specs.Prelude.{map};
 ghost use Rattle.sample_core.specs.{TypeTree.int_ty, TypeView.type_of};
 ghost use Rattle.leaf_core.specs.ExpressionView.{expression_of};
-ghost use Rattle.net_syntax.specs.{ArrowView.arrow_of, Network.accum_by, Network.delay, Network.i_pre, Network.old};
+ghost use Rattle.net_syntax.specs.{ArrowView.arrow_of};
+ghost use Rattle.net_tree.specs.{Network.accum_by, Network.delay, Network.i_pre, Network.old};
 ghost use Rattle.net_types.specs.{Walk.◌↓◌, Walk.expect_same, Walk.old_at, Check.GivesTyped};
 ghost use Rattle.net_types.specs.WalkParts.{leaf_walk, route_walk, step_walk, timer_walk, walk_in};
 
@@ -12,7 +13,8 @@ use crate::scope::ScopeTypes;
 use crate::site::{Site, event_at, in_range, same_at, wanted_at};
 use crate::types::{event_of, pair_of};
 use leaf_core::{Expr, ExprFault, type_of_expr};
-use net_syntax::{Arrow, Position};
+use net_syntax::Arrow;
+use net_tree::Position;
 use sample_core::Ty;
 use std::alloc::Global;
 

@@ -3,8 +3,10 @@
 ghost use Rattle.std.specs.Prelude.{◌≡◌, [], IfOk, MatchOption, Some, option_map};
 ghost use Rattle.sample_core.specs.TypeView.{type_of};
 ghost use Rattle.leaf_core.specs.{ExpressionView.expression_of, TypeLimits.same_tree};
-ghost use Rattle.net_syntax.specs.NetworkView.{tree_of};
-ghost use Rattle.net_syntax.specs.{LawStep.part_of, NetworkLimits.WithinLimits, Place.a_leaf, Place.a_network, Placed.replaced, Rewriting.Rewrites, Standing.alone, Standing.standing, StandingWalk.standing_of};
+ghost use Rattle.net_tree.specs.NetworkView.{tree_of};
+ghost use Rattle.net_tree.specs.{LawStep.part_of, Place.a_leaf, Place.a_network};
+ghost use Rattle.net_meaning.specs.{NetworkLimits.WithinLimits};
+ghost use Rattle.net_syntax.specs.{Placed.replaced, Rewriting.Rewrites, Standing.alone, Standing.standing, StandingWalk.standing_of};
 ghost use Rattle.net_types.specs.Answered.{AnswersRewritten, NoRewriting};
 ghost use Rattle.net_types.specs.KeptTypes.{checked_output, kept_in_leaf, same_type, type_kept};
 
@@ -12,10 +14,8 @@ use crate::fault::TypeFault;
 use crate::scope::ScopeTypes;
 use crate::walk::walk;
 use leaf_core::{Expr, expr_fits, part_type, with_part_at};
-use net_syntax::{
-    MOST_HEIGHT, MOST_WEIGHT, Net, Position, Standing, Tree, TreeRef, TypedNet, child,
-    child_standing, height, is_oversized, replace, weight,
-};
+use net_syntax::{Standing, TreeRef, TypedNet, child, child_standing, replace};
+use net_tree::{MOST_HEIGHT, MOST_WEIGHT, Net, Position, Tree, height, is_oversized, weight};
 use sample_core::{Memory, Ty, same_type};
 use std::alloc::Global;
 

@@ -2,7 +2,8 @@
 
 ghost use Rattle.std.specs.Prelude.{◌≡◌, ◌++◌, IfOk, OnOk, map};
 ghost use Rattle.sample_core.specs.TypeView.{type_of};
-ghost use Rattle.net_syntax.specs.{ArrowView.arrow_of, Typing.arrow, Typing.copies};
+ghost use Rattle.net_syntax.specs.{ArrowView.arrow_of};
+ghost use Rattle.net_meaning.specs.{Typing.arrow, Typing.copies};
 ghost use Rattle.net_types.specs.Scopes.{and_olds, and_param, empty, in_scope};
 
 use net_syntax::Arrow;

@@ -2,7 +2,7 @@
 
 ghost use Rattle.std.specs.Prelude.{◌≡◌, ◌+◌, ◌≤◌, ℕ, List, Err, IfOk, MatchOption, Ok, length, map};
 ghost use Rattle.sample_core.specs.TypeView.{type_of};
-ghost use Rattle.net_syntax.specs.{Network.map_networks, NetworkView.members_of};
+ghost use Rattle.net_tree.specs.{Network.map_networks, NetworkView.members_of};
 ghost use Rattle.leaf_core.specs.ExpressionView.{expression_of};
 ghost use Rattle.net_types.specs.Walk.{all_same, as_choice, as_event, as_pair, expect_same, one_output, test_members, test_range};
 ghost use Rattle.net_types.specs.{Check.GivesTyped, Sites.site_of};
@@ -10,7 +10,7 @@ ghost use Rattle.net_types.specs.declared.fault.TypeFault.TheVariants as Fault;
 
 use crate::fault::TypeFault;
 use leaf_core::Expr;
-use net_syntax::{Net, Position};
+use net_tree::{Net, Position};
 use sample_core::{Memory, Ty, same_type};
 use std::alloc::Global;
 

@@ -4,8 +4,9 @@ ghost use Rattle.std.specs.Prelude.{◌≡◌, ◌+◌, ◌≤◌, ◌++◌, Ok,
 ghost use Rattle.sample_core.specs.{Answer.◌>>=◌ as on_ok, TypeTree.list_ty, TypeView.type_of};
 ghost use Rattle.leaf_core.specs.ExpressionView.{expression_of};
 ghost use Rattle.net_syntax.specs.ArrowView.{arrow_of};
-ghost use Rattle.net_syntax.specs.Network.{first as first_of, initial_in, initial_out, k_switch, loop_pre, map_network, map_networks, p_switch, par, r_switch, rp_switch, seq, switch};
-ghost use Rattle.net_syntax.specs.{NetworkView.members_of, NetworkView.tree_of, Typing.arrow};
+ghost use Rattle.net_tree.specs.Network.{first as first_of, initial_in, initial_out, k_switch, loop_pre, map_network, map_networks, p_switch, par, r_switch, rp_switch, seq, switch};
+ghost use Rattle.net_tree.specs.{NetworkView.members_of, NetworkView.tree_of};
+ghost use Rattle.net_meaning.specs.{Typing.arrow};
 ghost use Rattle.net_types.specs.{Walk.◌↓◌, Check.GivesTyped, Check.net_walk_all};
 ghost use Rattle.net_types.specs.WalkParts.{choice_walk, freezing_walk, loop_output, loop_walk, members_walk, next_walk, routed_walk, started_walk, switched_walk, under_choice, under_event, walk_in, watch_walk};
 
@@ -20,7 +21,8 @@ use crate::site::{
 };
 use crate::types::{limited_list_of, list_of, pair_of};
 use leaf_core::Expr;
-use net_syntax::{Arrow, Members, Net, NetChild};
+use net_syntax::Arrow;
+use net_tree::{Members, Net, NetChild};
 use sample_core::Ty;
 use std::alloc::Global;
 

@@ -3,7 +3,7 @@ use Rattle.std.proofs.Common.{◌≡◌, ℕ, ◌+◌, ◌<◌, ◌≤◌, List,
 use Rattle.std.specs.List.{All}
 use Rattle.std.proofs.lemmas.List.{map-append, take_more, take_all}
 use Rattle.std.proofs.lemmas.List.Elements.{All-push}
-use Rattle.net_syntax.specs.TypedNetwork.{TypedNetwork}
+use Rattle.net_meaning.specs.TypedNetwork.{TypedNetwork}
 use Rattle.net_view.specs.Listed.{IsThere, IsAtOrBelow, ArePositions}
 use Rattle.net_view.specs.Rows.{OutlinedRow, row_of, IsRow, IsOutline}
 use Rattle.net_view.specs.declared.rows.OutlineRow.{OutlineRow}

@@ -6,11 +6,11 @@ use Rattle.std.proofs.lemmas.List.{append-nil, map-append}
 use Rattle.std.proofs.lemmas.Bool.{cases_lt}
 use Rattle.leaf_core.specs.Expression.{Expression}
 use Rattle.leaf_core.specs.Parts.{part, part_at}
-use Rattle.net_syntax.specs.Network.{Network}
-use Rattle.net_syntax.specs.Place.{◌>>=◌, Tree, a_network, a_leaf, child}
+use Rattle.net_tree.specs.Network.{Network}
+use Rattle.net_tree.specs.Place.{◌>>=◌, Tree, a_network, a_leaf, child}
 use Rattle.net_syntax.specs.Placed.{Placed, placed, placed_at, bound_in}
-use Rattle.net_syntax.specs.TypedNetwork.{TypedNetwork}
-use Rattle.net_syntax.specs.NetworkLimits.{WithinLimits}
+use Rattle.net_meaning.specs.TypedNetwork.{TypedNetwork}
+use Rattle.net_meaning.specs.NetworkLimits.{WithinLimits}
 use Rattle.net_opt.specs.Order.{Before, on_the_way, before_at, before_below}
 use Rattle.net_opt.specs.Walk.{Reached}
 use Rattle.net_opt.proofs.Walked.{placed_below, placed_here, none_inside, nothing_behind, reached_root, reached_inside}

@@ -5,15 +5,15 @@ use Rattle.std.proofs.lemmas.List.{map-append, take_more}
 use Rattle.std.proofs.lemmas.Option.{none-some, same_Some}
 use Rattle.std.proofs.lemmas.List.Elements.{All-nil, All-append, All-push, All-contains, Contains-append_left, Contains-push_cases, Contains-push}
 use Rattle.leaf_core.specs.Expression.{Expression}
-use Rattle.net_syntax.specs.Place.{Tree, a_network, a_leaf}
+use Rattle.net_tree.specs.Place.{Tree, a_network, a_leaf}
 use Rattle.net_syntax.specs.Placed.{Placed, placed, placed_at}
-use Rattle.net_syntax.specs.LawStep.{Step, part_of}
-use Rattle.net_syntax.specs.declared.law_step.Tree as C
+use Rattle.net_tree.specs.LawStep.{Step, part_of}
+use Rattle.net_tree.specs.declared.law_step.Tree as C
 use Rattle.sample_core.specs.declared.memory.Memory as Refusal
-use Rattle.net_syntax.specs.TypedNetwork.{TypedNetwork}
-use Rattle.net_syntax.specs.declared.law_step.Law.{Law}
-use Rattle.net_syntax.specs.declared.law_step.Law.TheVariants as L
-use Rattle.net_syntax.specs.declared.law_step.Direction.TheVariants.{Forward}
+use Rattle.net_meaning.specs.TypedNetwork.{TypedNetwork}
+use Rattle.net_tree.specs.declared.law_step.Law.{Law}
+use Rattle.net_tree.specs.declared.law_step.Law.TheVariants as L
+use Rattle.net_tree.specs.declared.law_step.Direction.TheVariants.{Forward}
 use Rattle.expr_laws.specs.Answer as E
 use Rattle.expr_laws.proofs.Numbers.{row_numbers}
 use Rattle.law_rules.specs.Answer as N

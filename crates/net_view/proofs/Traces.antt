@@ -4,18 +4,18 @@ use Rattle.std.proofs.lemmas.List.{map-append, length-map, length-take}
 use Rattle.std.proofs.lemmas.Option.{none-some, same_Some}
 use Rattle.sample_core.specs.declared.memory.Memory.{Memory}
 use Rattle.leaf_core.specs.Expression.{Expression}
-use Rattle.net_syntax.specs.Place.{Tree, a_network}
+use Rattle.net_tree.specs.Place.{Tree, a_network}
 use Rattle.net_syntax.specs.Placed.{Placed, placed_at}
-use Rattle.net_syntax.specs.declared.law_step.Tree as C
-use Rattle.net_syntax.specs.declared.law_step.Direction.TheVariants.{Forward}
+use Rattle.net_tree.specs.declared.law_step.Tree as C
+use Rattle.net_tree.specs.declared.law_step.Direction.TheVariants.{Forward}
 use Rattle.cert_check.specs.declared.answer.CheckFault.{CheckFault}
 use Rattle.cert_check.specs.Derives.{Next, tree_at}
 use Rattle.cert_check.specs.StepAnswers.{IsTreeAnswer, StepFault}
 use Rattle.cert_check.specs.TreeAnswer.{TreeAnswer}
 use Rattle.cert_check.proofs.StandsNow.{next_there}
-use Rattle.net_syntax.specs.LawStep.{Step, step_of, part_of}
-use Rattle.net_syntax.specs.TypedNetwork.{TypedNetwork}
-use Rattle.net_syntax.specs.declared.law_step.LawStep.{LawStep}
+use Rattle.net_tree.specs.LawStep.{Step, step_of, part_of}
+use Rattle.net_meaning.specs.TypedNetwork.{TypedNetwork}
+use Rattle.net_tree.specs.declared.law_step.LawStep.{LawStep}
 use Rattle.cert_check.proofs.Taken.{split, one_more}
 use Rattle.net_view.specs.declared.trace.Change.{Change}
 use Rattle.net_view.specs.declared.trace.StepTrace.{StepTrace}

@@ -2,7 +2,7 @@
 use Rattle.std.specs.Prelude.{◌≡◌, ℕ, List, [], ◌∷◌, ◌++◌, map, IsSome}
 use Rattle.std.specs.List.{All, Contains}
 use Rattle.net_syntax.specs.Placed.{Placed, placed_at}
-use Rattle.net_syntax.specs.TypedNetwork.{TypedNetwork}
+use Rattle.net_meaning.specs.TypedNetwork.{TypedNetwork}
 use Rattle.cert_check.specs.Derives.{tree_at}
 use Rattle.net_opt.specs.Order.{Before}
 use Rattle.net_opt.specs.Walk.{Reached}

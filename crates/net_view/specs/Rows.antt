@@ -4,11 +4,11 @@ use Rattle.std.specs.List.{All}
 use Rattle.sample_core.specs.TypeTree.{TypeTree}
 use Rattle.sample_core.specs.TypeView.{type_of}
 use Rattle.leaf_core.specs.Expression.{Expression}
-use Rattle.net_syntax.specs.Place.{Tree, a_network, a_leaf}
+use Rattle.net_tree.specs.Place.{Tree, a_network, a_leaf}
 use Rattle.net_syntax.specs.Standing.{alone, TypeAt}
-use Rattle.net_syntax.specs.Weight.{weight}
-use Rattle.net_syntax.specs.LawStep.{part_of}
-use Rattle.net_syntax.specs.TypedNetwork.{TypedNetwork}
+use Rattle.net_tree.specs.Weight.{weight}
+use Rattle.net_tree.specs.LawStep.{part_of}
+use Rattle.net_meaning.specs.TypedNetwork.{TypedNetwork}
 use Rattle.cert_check.specs.Derives.{tree_at}
 use Rattle.net_view.specs.Listed.{ArePositions}
 use Rattle.net_view.specs.declared.rows.OutlineRow.{OutlineRow}

@@ -4,9 +4,9 @@ use Rattle.std.specs.Fmt.{decimal}
 use Rattle.sample_core.specs.Spelling.{type_spelling}
 use Rattle.leaf_core.specs.Expression.{Expression}
 use Rattle.leaf_expr.specs.Sexpr.{Sexpr, atom, form}
-use Rattle.net_syntax.specs.Place.{Tree}
-use Rattle.net_syntax.specs.Position.{position_spelling}
-use Rattle.net_syntax.specs.TypedNetwork.{TypedNetwork}
+use Rattle.net_tree.specs.Place.{Tree}
+use Rattle.net_tree.specs.Position.{position_spelling}
+use Rattle.net_meaning.specs.TypedNetwork.{TypedNetwork}
 use Rattle.net_text.specs.CertificatePrinting.{tree_sexpr}
 use Rattle.net_view.specs.Rows.{OutlinedRow, IsOutline}
 use Rattle.net_view.specs.Possible.{Possible, ArePossible}

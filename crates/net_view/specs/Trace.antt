@@ -1,11 +1,11 @@
 -- Steps taken one after the other, with what each changes.
 use Rattle.std.specs.Prelude.{◌≡◌, ◌≢◌, ℕ, suc, ◌<◌, ◌≤◌, List, [], ◌∷◌, ◌++◌, length, map, take, Option, Some, None, option_map, MatchOption, Result, Ok, Err}
 use Rattle.leaf_core.specs.Expression.{Expression}
-use Rattle.net_syntax.specs.Place.{Tree, a_network}
+use Rattle.net_tree.specs.Place.{Tree, a_network}
 use Rattle.net_syntax.specs.Placed.{Placed, placed_at}
-use Rattle.net_syntax.specs.LawStep.{Step, part_of}
-use Rattle.net_syntax.specs.TypedNetwork.{TypedNetwork}
-use Rattle.net_syntax.specs.declared.law_step.Direction.TheVariants.{Forward}
+use Rattle.net_tree.specs.LawStep.{Step, part_of}
+use Rattle.net_meaning.specs.TypedNetwork.{TypedNetwork}
+use Rattle.net_tree.specs.declared.law_step.Direction.TheVariants.{Forward}
 use Rattle.cert_check.specs.declared.answer.CheckFault.{CheckFault}
 use Rattle.cert_check.specs.declared.answer.CheckFault.TheVariants.{TooManySteps, Memory}
 use Rattle.cert_check.specs.TreeAnswer.{TreeAnswer}

@@ -1,13 +1,14 @@
 // The text of where steps lead.
 
 ghost use Rattle.std.specs.Prelude.{Err, IfErr, IfOk, map, string_bytes};
-ghost use Rattle.net_syntax.specs.LawStep.{step_of};
+ghost use Rattle.net_tree.specs.LawStep.{step_of};
 ghost use Rattle.cert_check.specs.StepAnswers.{ApplyAnswer};
 ghost use Rattle.net_view.specs.Applied.{PrintsApplied};
 
 use cert_check::{CheckFault, apply_steps};
-use net_syntax::{LawStep, TypedNet};
+use net_syntax::TypedNet;
 use net_text::print_net;
+use net_tree::LawStep;
 use std::alloc::Global;
 
 /// The network that the steps lead to from the source, one after the other, as the new text of a

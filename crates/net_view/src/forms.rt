@@ -4,13 +4,13 @@ ghost use Rattle.std.specs.Prelude.{◌≡◌, string_bytes};
 ghost use Rattle.sample_core.specs.Adding.{Adds};
 ghost use Rattle.leaf_core.specs.ExpressionView.{expression_of};
 ghost use Rattle.leaf_expr.specs.Printing.{expression_sexpr};
-ghost use Rattle.net_syntax.specs.{LawStep.part_of, NetworkView.tree_of};
+ghost use Rattle.net_tree.specs.{LawStep.part_of, NetworkView.tree_of};
 ghost use Rattle.net_text.specs.Printing.{network_sexpr};
 ghost use Rattle.net_view.specs.Texts.{first_word, form_word};
 
 use leaf_core::Expr;
 use leaf_expr::push_expr;
-use net_syntax::{Net, Tree};
+use net_tree::{Net, Tree};
 use sample_core::Memory;
 
 /// Adds a word to the end of the text.

@@ -2,12 +2,13 @@
 
 ghost use Rattle.std.specs.Prelude.{◌≡◌, ◌↔◌, IfOk, IsTrue, OnOk, option_map};
 ghost use Rattle.net_syntax.specs.ChildParts.{seen, seen_place};
-ghost use Rattle.net_syntax.specs.LawStep.{part_of};
+ghost use Rattle.net_tree.specs.LawStep.{part_of};
 ghost use Rattle.cert_check.specs.Derives.{tree_at};
 ghost use Rattle.net_view.specs.Listed.{AddsPositions, ArePositions, IsInside, IsReached, IsThere};
 
 use cert_check::place_in;
-use net_syntax::{Place, Position, Tree, TreeRef, TypedNet, place_below};
+use net_syntax::{Place, TreeRef, TypedNet, place_below};
+use net_tree::{Position, Tree};
 use sample_core::Memory;
 use std::alloc::Global;
 

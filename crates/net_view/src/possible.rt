@@ -1,14 +1,15 @@
 // The steps that may be taken forward.
 
 ghost use Rattle.std.specs.Prelude.{◌≡◌, ◌≢◌, ◌+◌, ◌<◌, IfOk, OnOk, None, map, option_map};
-ghost use Rattle.net_syntax.specs.LawStep.{part_of, step_of};
+ghost use Rattle.net_tree.specs.LawStep.{part_of, step_of};
 ghost use Rattle.cert_check.specs.declared.answer.CheckFault.TheVariants as F;
 ghost use Rattle.net_text.specs.CertificatePrinting.{IsLaw};
 ghost use Rattle.net_view.specs.Possible.{ArePossible, ArePossibleAt, IsForward, IsFoundBy, IsTreeAfter, law_rank, possible_of};
 
 use crate::positions::{positions_within, tree_at};
 use cert_check::{CheckFault, take_step};
-use net_syntax::{Direction, Law, LawStep, Position, Tree, TypedNet};
+use net_syntax::TypedNet;
+use net_tree::{Direction, Law, LawStep, Position, Tree};
 use sample_core::Memory;
 use std::alloc::Global;
 

@@ -2,14 +2,16 @@
 
 ghost use Rattle.std.specs.Prelude.{◌≡◌, IfOk, map};
 ghost use Rattle.sample_core.specs.TypeView.{type_of};
-ghost use Rattle.net_syntax.specs.{ChildParts.seen, Place.a_network};
+ghost use Rattle.net_syntax.specs.{ChildParts.seen};
+ghost use Rattle.net_tree.specs.{Place.a_network};
 ghost use Rattle.net_syntax.specs.Standing.{TypeAt, alone};
 ghost use Rattle.net_view.specs.Listed.{IsThere};
 ghost use Rattle.net_view.specs.Rows.{IsOutline, IsRow, row_of, weight_in};
 
 use crate::positions::{copied, positions_within};
 use cert_check::place_in;
-use net_syntax::{Position, Tree, TreeRef, TypedNet, type_at, weight};
+use net_syntax::{TreeRef, TypedNet, type_at};
+use net_tree::{Position, Tree, weight};
 use sample_core::{Memory, Ty};
 use std::alloc::Global;
 

@@ -10,8 +10,9 @@ use crate::possible::{PossibleStep, possible_steps};
 use crate::rows::{OutlineRow, outline};
 use crate::told::push_marked;
 use itoa::Buffer;
-use net_syntax::{Position, TypedNet, push_position};
+use net_syntax::TypedNet;
 use net_text::push_step;
+use net_tree::{Position, push_position};
 use sample_core::{Memory, push_type};
 use std::alloc::Global;
 

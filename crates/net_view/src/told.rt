@@ -3,14 +3,14 @@
 ghost use Rattle.std.specs.Prelude.{◌≡◌, ◌++◌, ◌∷◌, [], map, option_map, string_bytes, IfOk};
 ghost use Rattle.sample_core.specs.Adding.{Adds};
 ghost use Rattle.leaf_expr.specs.Sexpr.{spelling};
-ghost use Rattle.net_syntax.specs.LawStep.{part_of, step_of};
+ghost use Rattle.net_tree.specs.LawStep.{part_of, step_of};
 ghost use Rattle.net_text.specs.CertificatePrinting.{tree_sexpr};
 ghost use Rattle.net_view.specs.Trace.{changed_of, stopped_of};
 ghost use Rattle.net_view.specs.TraceText.{change_lines, marked_line, marked_lines, stop_lines, trace_lines};
 
 use crate::trace::{Change, RefusedStep, Trace};
-use net_syntax::{LawStep, Tree};
 use net_text::{push_step, push_tree};
+use net_tree::{LawStep, Tree};
 use sample_core::Memory;
 use std::alloc::Global;
 

@@ -1,13 +1,15 @@
 // Steps taken one after the other, with what each changes.
 
 ghost use Rattle.std.specs.Prelude.{◌≡◌, ◌≤◌, length, map, option_map, IfOk};
-ghost use Rattle.net_syntax.specs.{ChildParts.seen, LawStep.part_of, LawStep.step_of};
+ghost use Rattle.net_syntax.specs.{ChildParts.seen};
+ghost use Rattle.net_tree.specs.{LawStep.part_of, LawStep.step_of};
 ghost use Rattle.cert_check.specs.Derives.{tree_at};
 ghost use Rattle.net_view.specs.Trace.{IsLedTo, IsRefusedSo, IsStepTrace, TraceAnswer, TracesSteps, first_steps};
 
 use crate::positions::tree_at;
 use cert_check::{CheckFault, MOST_STEPS, answer_at, place_in, take_step};
-use net_syntax::{Direction, LawStep, Place, Tree, TreeRef, TypedNet};
+use net_syntax::{Place, TreeRef, TypedNet};
+use net_tree::{Direction, LawStep, Tree};
 use sample_core::Memory;
 use std::alloc::Global;
 

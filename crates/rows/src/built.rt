@@ -5,10 +5,9 @@ use crate::network_types::{arrow_told, checked_told};
 use crate::networks::{printed_told, text_fault_told};
 use crate::texts::{numbered, parted, say, say_at};
 use leaf_expr::{Expr, Literal};
-use net_syntax::{
-    Arrow, Members, Net, NetChild, Position, height, is_oversized, print_position, weight,
-};
+use net_syntax::Arrow;
 use net_text::read_net;
+use net_tree::{Members, Net, NetChild, Position, height, is_oversized, print_position, weight};
 use net_types::check_types;
 use sample_core::{Memory, Ty};
 use std::alloc::Global;

@@ -3,8 +3,8 @@
 use crate::found::{LawProbe, Probe, all_are_found};
 use crate::networks::{printed_told, text_fault_told};
 use crate::texts::{bytes_in, say};
-use net_syntax::LawStep;
 use net_text::{NetTextFault, print_cert, read_cert};
+use net_tree::LawStep;
 use std::alloc::Global;
 
 /// Tells how the certificate file is printed once it is read, and where what is printed isn't read

@@ -8,8 +8,9 @@ use crate::runs::{Trial, network, trial_told};
 use crate::scarce::MOST_TRIES;
 use crate::texts::{parted, say, say_at};
 use cert_check::{Accepted, CheckFault, check};
-use net_syntax::{LawStep, TypedNet};
+use net_syntax::TypedNet;
 use net_text::print_net;
+use net_tree::LawStep;
 use std::alloc::Global;
 
 /// What is tried of a certificate.

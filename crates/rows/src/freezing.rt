@@ -4,7 +4,7 @@ use crate::ballast::take_all;
 use crate::texts::say;
 use cell_core::{Cell, Form};
 use leaf_table::LeafId;
-use net_syntax::{Members, Net, NetChild};
+use net_tree::{Members, Net, NetChild};
 use sample_core::{Memory, Sample};
 use state_core::{Env, Frozen, Places, Running, State, freeze};
 use std::alloc::Global;

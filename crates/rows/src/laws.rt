@@ -5,8 +5,8 @@ use crate::texts::{expr_in, net_in, number_in, parted, say};
 use expr_laws::apply_expr;
 use law_rules::apply_law;
 use leaf_expr::{Expr, push_expr};
-use net_syntax::{Direction, Law, Net};
 use net_text::push_net;
+use net_tree::{Direction, Law, Net};
 use sample_core::Memory;
 use std::alloc::Global;
 

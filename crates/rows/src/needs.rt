@@ -5,7 +5,8 @@ use crate::network_types::arrow_told;
 use crate::runs::network;
 use crate::texts::{number_in, parted, say};
 use leaf_expr::push_expr;
-use net_syntax::{LeafNeed, leaves, push_position};
+use net_syntax::{LeafNeed, leaves};
+use net_tree::push_position;
 use sample_core::{Memory, push_type};
 use std::alloc::Global;
 

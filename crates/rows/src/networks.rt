@@ -3,8 +3,8 @@
 use crate::found::{Probe, all_are_found};
 use crate::texts::{bytes_in, say, say_at};
 use leaf_expr::Expr;
-use net_syntax::Net;
 use net_text::{NetTextFault, print_net, read_net};
+use net_tree::Net;
 use sample_core::{Memory, Ty};
 use std::alloc::Global;
 

@@ -9,8 +9,9 @@ use crate::scarce::MOST_TRIES;
 use crate::texts::{parted, say};
 use leaf_expr::Expr;
 use net_opt::optimise;
-use net_syntax::{LawStep, Net, TypedNet};
+use net_syntax::TypedNet;
 use net_text::{print_cert, print_net};
+use net_tree::{LawStep, Net};
 use sample_core::Memory;
 use std::alloc::Global;
 

@@ -7,10 +7,9 @@ use crate::networks::text_fault_told;
 use crate::runs::network;
 use crate::texts::{parted, say, say_at};
 use leaf_expr::push_expr;
-use net_syntax::{
-    LawStep, Place, Position, Tree, TreeRef, TypedNet, at, replace, same_net, type_at,
-};
+use net_syntax::{Place, TreeRef, TypedNet, at, replace, type_at};
 use net_text::push_net;
+use net_tree::{LawStep, Position, Tree, same_net};
 use net_types::{Rewritten, rewrite};
 use sample_core::{Memory, Ty, push_type};
 use std::alloc::Global;

@@ -3,7 +3,7 @@
 use crate::found::{Probe, all_are_found};
 use crate::texts::{parted, say, say_at, type_in, value_in};
 use leaf_table::LeafId;
-use net_syntax::Net;
+use net_tree::Net;
 use sample_core::{Memory, Sample, Ty};
 use state_core::{Env, Frozen, select};
 use std::alloc::Global;

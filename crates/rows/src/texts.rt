@@ -2,8 +2,8 @@
 
 use crate::named::network_named;
 use leaf_expr::{Expr, read_expr, read_type_at};
-use net_syntax::Net;
 use net_text::read_net;
+use net_tree::Net;
 use sample_core::{Sample, Ty, read_value};
 use std::alloc::Global;
 

@@ -1,8 +1,8 @@
 -- What is in scope, with its visits, and the counted function of a network there.
 use Rattle.std.specs.Prelude.{List, [], ◌∷◌, ◌++◌}
 use Rattle.sample_core.specs.Datum.{Datum}
-use Rattle.net_syntax.specs.Network.{Network, Networks, no_members, and_member}
-use Rattle.net_syntax.specs.Meaning.{Context, meaning}
+use Rattle.net_tree.specs.Network.{Network, Networks, no_members, and_member}
+use Rattle.net_meaning.specs.Meaning.{Context, meaning}
 use Rattle.state_core.specs.Visits.{visits}
 use Rattle.state_core.specs.CountedFunction.{CountedFunction}
 use Rattle.state_core.specs.CountedForms.{functions_of, counts_of_all}

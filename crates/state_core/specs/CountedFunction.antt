@@ -1,7 +1,7 @@
 -- A signal function with the visits of each of its samples, and how counted functions go on.
 use Rattle.std.specs.Prelude.{◌≡◌, ℕ, [], ◌∷◌, ◌++◌}
 use Rattle.sample_core.specs.Datum.{Datum}
-use Rattle.net_syntax.specs.SignalFunction.{TimedList, SignalFunction, last_or, IsSignalFunction, answer}
+use Rattle.net_meaning.specs.SignalFunction.{TimedList, SignalFunction, last_or, IsSignalFunction, answer}
 use Rattle.state_core.specs.Visits.{IsCount, VisitCounts}
 
 -- what a network outputs, and how many nodes each of its samples visits

@@ -1,9 +1,9 @@
 -- What the code's networks of rows are as trees.
 use Rattle.std.specs.Prelude.{ℕ}
 use Rattle.leaf_table.specs.declared.table.LeafId.{LeafId}
-use Rattle.net_syntax.specs.Network.{Network, map_network}
-use Rattle.net_syntax.specs.NetworkView.{network_of}
-use Rattle.net_syntax.specs.declared.net.Net.{Net}
+use Rattle.net_tree.specs.Network.{Network, map_network}
+use Rattle.net_tree.specs.NetworkView.{network_of}
+use Rattle.net_tree.specs.declared.net.Net.{Net}
 
 -- the number of a row
 abbrev pub row_number : LeafId → ℕ

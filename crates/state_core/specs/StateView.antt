@@ -1,7 +1,7 @@
 -- What the code's states, scopes and frozen networks are as clean ones.
 use Rattle.std.specs.Prelude.{◌≡◌, ℕ, List, [], ◌∷◌, Option, Some, None}
 use Rattle.std.proofs.Common.{Bor}
-use Rattle.net_syntax.specs.Network.{Network}
+use Rattle.net_tree.specs.Network.{Network}
 use Rattle.state_core.specs.RowsView.{rows_in}
 use Rattle.state_core.specs.State.{State, Scope, Frozens, Frozen, par_state, no_state, scope, no_frozen, and_frozen, unstarted, paused, frozen_at}
 use Rattle.state_core.specs.Tree as T

@@ -2,7 +2,7 @@
 
 ghost use Rattle.std.specs.Prelude.{◌≡◌, ◌∷◌, [], IfOk, MatchOption, map};
 ghost use Rattle.sample_core.specs.ValueView.{datum_of};
-ghost use Rattle.net_syntax.specs.SignalFunction.{item_named, items_of};
+ghost use Rattle.net_meaning.specs.SignalFunction.{item_named, items_of};
 ghost use Rattle.state_core.specs.State.{selected};
 ghost use Rattle.state_core.specs.StateView.{frozen_of};
 

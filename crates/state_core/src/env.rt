@@ -9,7 +9,7 @@ ghost use Rattle.state_core.specs.RowsView.{rows_in};
 use crate::params::Params;
 use crate::state::State;
 use leaf_table::LeafId;
-use net_syntax::Net;
+use net_tree::Net;
 use sample_core::{Memory, Sample};
 use std::alloc::Global;
 use std::marker::Model;

@@ -7,7 +7,7 @@ ghost use Rattle.state_core.specs.{StateView.kept_of, StateView.state_of, StateV
 use crate::cells::Cells;
 use crate::env::Env;
 use leaf_table::LeafId;
-use net_syntax::Net;
+use net_tree::Net;
 use sample_core::Memory;
 use std::alloc::Global;
 use std::marker::Model;

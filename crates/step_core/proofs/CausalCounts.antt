@@ -3,13 +3,13 @@ use Rattle.std.proofs.Common.{◌≡◌, ℕ, zero, suc, ◌+◌, ◌-◌, ◌�
 use Rattle.std.proofs.lemmas.List.{length-map, take-map, drop-take, take-append-le, take_at}
 use Rattle.std.proofs.lemmas.Bool.{cases_lt}
 use Rattle.sample_core.specs.Datum.{Datum, left, pair, event}
-use Rattle.net_syntax.specs.SignalFunction.{TimedList, SignalFunction, zip_with, pieces, route, first_event, step_of, IsSignalFunction}
+use Rattle.net_meaning.specs.SignalFunction.{TimedList, SignalFunction, zip_with, pieces, route, first_event, step_of, IsSignalFunction}
 use Rattle.state_core.specs.Visits.{VisitCounts, add_counts, and_one, first_and_one, both_at_first, switch_counts, resume_counts, freeze_counts, sum_by_route, sum_of_all, counts_at, zeros, at_first, late_counts}
-use Rattle.net_syntax.proofs.Zips.{length-zip_with, take-zip_with}
-use Rattle.net_syntax.proofs.Events.{IsFirst, Outlook, never, once, outlook}
-use Rattle.net_syntax.proofs.Switched.{take_into, take_into_at}
-use Rattle.net_syntax.proofs.Restarting.{IsUncut, uncut_or_cut}
-use Rattle.net_syntax.proofs.LateRestarts.{KeepsPace, late_keeps}
+use Rattle.net_meaning.proofs.Zips.{length-zip_with, take-zip_with}
+use Rattle.net_meaning.proofs.Events.{IsFirst, Outlook, never, once, outlook}
+use Rattle.net_meaning.proofs.Switched.{take_into, take_into_at}
+use Rattle.net_meaning.proofs.Restarting.{IsUncut, uncut_or_cut}
+use Rattle.net_meaning.proofs.LateRestarts.{KeepsPace, late_keeps}
 use Rattle.step_core.proofs.VisitSums.{length-taken_over, length-at_first}
 
 -- as many counts as samples, and no look ahead

@@ -2,19 +2,19 @@
 use Rattle.std.proofs.Common.{◌≡◌, ℕ, List, [], ◌∷◌, ◌++◌, length, take, drop, refl, sym, ap, ◌∙◌, arith, length-append, length-drop, take-append-drop}
 use Rattle.std.proofs.lemmas.List.{take_at}
 use Rattle.sample_core.specs.Datum.{Datum, unit}
-use Rattle.net_syntax.specs.SignalFunction.{TimedList, SignalFunction, last_or, rights, watch, collect, resume, freeze_all, pair_samples, with_first, IsSignalFunction}
-use Rattle.net_syntax.specs.Network.{Network, Networks, arr, seq, first, par, loop_pre, initial_out, initial_in, i_pre, delay, hold, accum_by, after, repeatedly, time, integral, switch, d_switch, r_switch, dr_switch, rp_switch, k_switch, p_switch, old, no_members, and_member}
-use Rattle.net_syntax.specs.Meaning.{Context, with_param, with_olds, meaning, meanings}
-use Rattle.net_syntax.specs.Environment.{Environment, context_of, closed, param, frozen}
+use Rattle.net_meaning.specs.SignalFunction.{TimedList, SignalFunction, last_or, rights, watch, collect, resume, freeze_all, pair_samples, with_first, IsSignalFunction}
+use Rattle.net_tree.specs.Network.{Network, Networks, arr, seq, first, par, loop_pre, initial_out, initial_in, i_pre, delay, hold, accum_by, after, repeatedly, time, integral, switch, d_switch, r_switch, dr_switch, rp_switch, k_switch, p_switch, old, no_members, and_member}
+use Rattle.net_meaning.specs.Meaning.{Context, with_param, with_olds, meaning, meanings}
+use Rattle.net_meaning.specs.Environment.{Environment, context_of, closed, param, frozen}
 use Rattle.state_core.specs.Visits.{VisitCounts, resume_counts, freeze_counts, sum_by_route, counts_at, visits, visits_all}
 use Rattle.step_core.specs.EnvironmentVisits.{counts_of, visits_of}
-use Rattle.net_syntax.proofs.Plain.{AllSignals, no_signal, and_signal, IsSignal-watching}
-use Rattle.net_syntax.proofs.Feedback.{fed, length-fed, fed-take}
-use Rattle.net_syntax.proofs.Openings.{length-with_first, take-with_first}
-use Rattle.net_syntax.proofs.Resumed.{IsSignal-resume}
-use Rattle.net_syntax.proofs.Switches.{IsSignal-rights, IsSignal-collect, AllSignals-frozen_all}
-use Rattle.net_syntax.proofs.Meanings.{IsSignal-meaning, AllSignals-meanings, AllSignals-append, AllSignals-context_of}
-use Rattle.net_syntax.proofs.Steps.{last_or-push}
+use Rattle.net_meaning.proofs.Plain.{AllSignals, no_signal, and_signal, IsSignal-watching}
+use Rattle.net_meaning.proofs.Feedback.{fed, length-fed, fed-take}
+use Rattle.net_meaning.proofs.Openings.{length-with_first, take-with_first}
+use Rattle.net_meaning.proofs.Resumed.{IsSignal-resume}
+use Rattle.net_meaning.proofs.Switches.{IsSignal-rights, IsSignal-collect, AllSignals-frozen_all}
+use Rattle.net_meaning.proofs.Meanings.{IsSignal-meaning, AllSignals-meanings, AllSignals-append, AllSignals-context_of}
+use Rattle.net_meaning.proofs.Steps.{last_or-push}
 use Rattle.step_core.proofs.CausalCounts.{IsCausal, IsCausal-constant, IsCausal-and_one, IsCausal-first_and_one, IsCausal-added, IsCausal-before, IsCausal-each, IsCausal-beside, IsCausal-taken_over, IsCausal-pieces, IsCausal-late, IsCausal-resume, AllCausal, none_causal, and_causal, AllCausal-append, AllCausal-frozen, IsCausal-sum_of_all, IsCausal-sum_by_route, IsCausal-counts_at}
 use Rattle.step_core.proofs.MemberVisits.{IsCausal-collection}
 

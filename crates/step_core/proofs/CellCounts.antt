@@ -4,14 +4,14 @@ use Rattle.std.proofs.Math.Nat.{div-eq_of_lt}
 use Rattle.std.proofs.lemmas.Bool.{le-leb, lt-leb, le-ltb}
 use Rattle.std.specs.Int.{int_wrap, w64}
 use Rattle.sample_core.specs.Datum.{Datum, unit, bool, int, pair, no_event, event, list, right, int_of}
-use Rattle.net_syntax.specs.SignalFunction.{TimedList, last_or, values, fold_events, accum_by_value, if_event, delay_value, after_value, repeatedly_value, time_value, integral_value, when}
+use Rattle.net_meaning.specs.SignalFunction.{TimedList, last_or, values, fold_events, accum_by_value, if_event, delay_value, after_value, repeatedly_value, time_value, integral_value, when}
 use Rattle.state_core.specs.CountedFunction.{StandsVia, TakesSample}
 use Rattle.state_core.specs.CountedForms.{counted_cell}
 use Rattle.cell_core.specs.Cell.{Cell, Keeps, cell_step, after_cell, previous, queue, latest, accumulating, waiting, over, recurring, ticking, summing}
 use Rattle.state_core.specs.StandsByForm.{CellStands, AccumStands}
-use Rattle.net_syntax.proofs.Steps.{last_or-push}
-use Rattle.net_syntax.proofs.PlainSteps.{answer-by_past}
-use Rattle.net_syntax.proofs.CellSteps.{values_push, fold_events-append}
+use Rattle.net_meaning.proofs.Steps.{last_or-push}
+use Rattle.net_meaning.proofs.PlainSteps.{answer-by_past}
+use Rattle.net_meaning.proofs.CellSteps.{values_push, fold_events-append}
 use Rattle.step_core.proofs.CountedFunctions.{Via-here}
 use Rattle.cell_core.specs.CellLaws.{handed_next, put_in, IsRight}
 use Rattle.cell_core.proofs.DelayCells.{pick, waits-out, waits_first}

@@ -2,16 +2,16 @@
 use Rattle.std.proofs.Common.{◌≡◌, ℕ, zero, suc, ◌+◌, ◌<◌, List, [], ◌∷◌, ◌++◌, map, length, drop, refl, sym, ap, ap₂, ◌∙◌, arith, None, append_assoc, append-nil, length-append, length-drop, subst}
 use Rattle.std.proofs.lemmas.List.{map_push, length-map}
 use Rattle.sample_core.specs.Datum.{Datum, unit, event, no_event, left, pair, list, list_of}
-use Rattle.net_syntax.specs.SignalFunction.{TimedList, Pieces, Member, last_or, gather, heads, tails, answer, each_value, pieces, put_sample, chosen, moved, by_members, member_outputs}
+use Rattle.net_meaning.specs.SignalFunction.{TimedList, Pieces, Member, last_or, gather, heads, tails, answer, each_value, pieces, put_sample, chosen, moved, by_members, member_outputs}
 use Rattle.state_core.specs.Visits.{and_one, member_counts}
 use Rattle.state_core.specs.CountedFunction.{CountedFunction, IsCountedFunction, Continues, StandsVia, TakesSample, visits_at}
 use Rattle.state_core.specs.CountedForms.{counted_members, member_functions, member_visits}
 use Rattle.state_core.specs.StandsByForm.{Uncut, RpSwitchStands}
 use Rattle.step_core.specs.Stepping.{restart_in}
-use Rattle.net_syntax.proofs.Zips.{length-zip_with, length-gather}
-use Rattle.net_syntax.proofs.PlainSteps.{AllLong, no_rows, and_row}
-use Rattle.net_syntax.proofs.RelatedMembers.{rows_of}
-use Rattle.net_syntax.proofs.MappedMembers.{by_members-map}
+use Rattle.net_meaning.proofs.Zips.{length-zip_with, length-gather}
+use Rattle.net_meaning.proofs.PlainSteps.{AllLong, no_rows, and_row}
+use Rattle.net_meaning.proofs.RelatedMembers.{rows_of}
+use Rattle.net_meaning.proofs.MappedMembers.{by_members-map}
 use Rattle.step_core.proofs.VisitSteps.{last-added, last-and_one}
 use Rattle.step_core.proofs.CountedFunctions.{Via-here, Via-continues}
 use Rattle.step_core.proofs.RestartCounts.{last-behind, Uncut-nil, Uncut-push}

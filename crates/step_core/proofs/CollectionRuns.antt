@@ -4,7 +4,7 @@ use Rattle.std.proofs.Math.Seq.{drop-cons}
 use Rattle.std.proofs.lemmas.List.{drop_all}
 use Rattle.sample_core.specs.Datum.{Datum, unit, left, list, list_of}
 use Rattle.leaf_core.specs.KeyTree.{KeyTree}
-use Rattle.net_syntax.specs.Network.{Network, Networks, initial_out, initial_in, rp_switch}
+use Rattle.net_tree.specs.Network.{Network, Networks, initial_out, initial_in, rp_switch}
 use Rattle.state_core.specs.State.{State, Scope, Frozen, rp_switch_state, params_of}
 use Rattle.state_core.specs.Tree.{Kept, joined, nothing, one_place, all_states, running}
 use Rattle.step_core.specs.Called.{Called}

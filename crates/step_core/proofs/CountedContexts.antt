@@ -3,18 +3,18 @@ use Rattle.std.proofs.Common.{◌≡◌, ℕ, zero, suc, List, [], ◌∷◌, �
 use Rattle.std.proofs.lemmas.List.{take-map}
 use mathlib.Core.Path.{fun_ext}
 use Rattle.sample_core.specs.Datum.{Datum}
-use Rattle.net_syntax.specs.SignalFunction.{TimedList, SignalFunction, route, par_function, switch_at, watch, first_event, pair_samples, step_of, freeze_all, resume, collect, pieces, Member, new_members, first_members, by_members, member_outputs}
-use Rattle.net_syntax.specs.Network.{Network, Networks, par, rp_switch, k_switch, p_switch, no_members, and_member}
-use Rattle.net_syntax.specs.Meaning.{old_at, meaning, meanings}
+use Rattle.net_meaning.specs.SignalFunction.{TimedList, SignalFunction, route, par_function, switch_at, watch, first_event, pair_samples, step_of, freeze_all, resume, collect, pieces, Member, new_members, first_members, by_members, member_outputs}
+use Rattle.net_tree.specs.Network.{Network, Networks, par, rp_switch, k_switch, p_switch, no_members, and_member}
+use Rattle.net_meaning.specs.Meaning.{old_at, meaning, meanings}
 use Rattle.state_core.specs.Visits.{VisitCounts, counts_at, visits, visits_all, freeze_counts, and_one, add_counts, sum_of_all, sum_by_route, switch_counts, resume_counts, member_counts}
-use Rattle.net_syntax.specs.Weight.{weight}
+use Rattle.net_tree.specs.Weight.{weight}
 use Rattle.state_core.specs.CountedFunction.{CountedFunction, IsCountedFunction}
 use Rattle.state_core.specs.CountedForms.{functions_of, counts_of_all, route_by, counted_resume, counted_resume_each, counted_par, counted_rp_switch, counted_k_switch, counted_p_switch}
 use Rattle.state_core.specs.CountedContext.{CountedContext, context_in, context_with_param, context_with_olds, counted_meaning, counted_meanings}
 use Rattle.state_core.specs.State.{States, Scope, Frozens, Frozen, no_state, and_state, scope, no_frozen, and_frozen, append_frozens, frozen_at, push_param, push_olds, all_unstarted, all_paused}
 use Rattle.state_core.specs.Stands.{StandDirectly, Denotes, AllDenote, FrozenDenotes}
-use Rattle.net_syntax.proofs.Meanings.{IsSignal-meaning}
-use Rattle.net_syntax.proofs.MappedMembers.{new_members-map}
+use Rattle.net_meaning.proofs.Meanings.{IsSignal-meaning}
+use Rattle.net_meaning.proofs.MappedMembers.{new_members-map}
 use Rattle.step_core.proofs.VisitBounds.{IsCount-visits}
 use Rattle.step_core.proofs.VisitSums.{AllCounts}
 use Rattle.step_core.proofs.MemberCounts.{AllCounted, no_counted, and_counted, AllCounted-signals, heaviest_of, IsCounted-resume, together}

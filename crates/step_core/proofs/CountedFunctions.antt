@@ -1,7 +1,7 @@
 -- How counted functions go on, and the visits of one sample more.
 use Rattle.std.proofs.Common.{◌≡◌, ℕ, suc, ◌+◌, ◌<◌, List, [], ◌∷◌, ◌++◌, length, refl, sym, ap, ◌∙◌, arith, append_assoc, append-nil, length-append}
 use Rattle.sample_core.specs.Datum.{Datum}
-use Rattle.net_syntax.specs.SignalFunction.{TimedList, answer}
+use Rattle.net_meaning.specs.SignalFunction.{TimedList, answer}
 use Rattle.state_core.specs.Visits.{IsCount, VisitCounts, add_counts, and_one}
 use Rattle.state_core.specs.CountedFunction.{CountedFunction, Continues, StandsVia, TakesSample, visits_at}
 use Rattle.step_core.proofs.VisitSteps.{last-added, last-and_one}

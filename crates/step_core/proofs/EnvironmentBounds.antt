@@ -1,12 +1,12 @@
 -- The bound of visits in environments as data.
 use Rattle.std.proofs.Common.{List, [], ◌∷◌}
 use Rattle.sample_core.specs.Datum.{Datum}
-use Rattle.net_syntax.specs.Network.{Network}
-use Rattle.net_syntax.specs.Environment.{Environment, context_of, closed, param, frozen}
+use Rattle.net_tree.specs.Network.{Network}
+use Rattle.net_meaning.specs.Environment.{Environment, context_of, closed, param, frozen}
 use Rattle.state_core.specs.Visits.{visits}
-use Rattle.net_syntax.specs.Weight.{weight}
+use Rattle.net_tree.specs.Weight.{weight}
 use Rattle.step_core.specs.EnvironmentVisits.{counts_of, weights_of, visits_of}
-use Rattle.net_syntax.proofs.Meanings.{AllSignals-context_of}
+use Rattle.net_meaning.proofs.Meanings.{AllSignals-context_of}
 use Rattle.step_core.proofs.VisitSums.{IsCount, AllCounts, no_count, and_count, AllCounts-append, IsCount-resume}
 use Rattle.step_core.proofs.VisitBounds.{IsCount-visits}
 

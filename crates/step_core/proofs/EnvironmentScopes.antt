@@ -1,10 +1,10 @@
 -- What scopes stand for, as environments.
 use Rattle.std.proofs.Common.{◌≡◌, ℕ, List, [], ◌∷◌, ◌++◌, refl, ap, ap₂, ◌∙◌}
 use Rattle.sample_core.specs.Datum.{Datum}
-use Rattle.net_syntax.specs.SignalFunction.{TimedList, resume}
-use Rattle.net_syntax.specs.Network.{Network}
-use Rattle.net_syntax.specs.Meaning.{Context, meaning}
-use Rattle.net_syntax.specs.Environment.{Environment, closed, param, frozen, context_of}
+use Rattle.net_meaning.specs.SignalFunction.{TimedList, resume}
+use Rattle.net_tree.specs.Network.{Network}
+use Rattle.net_meaning.specs.Meaning.{Context, meaning}
+use Rattle.net_meaning.specs.Environment.{Environment, closed, param, frozen, context_of}
 use Rattle.state_core.specs.Visits.{visits, resume_counts}
 use Rattle.state_core.specs.CountedFunction.{IsCountedFunction}
 use Rattle.state_core.specs.CountedForms.{functions_of, counts_of_all, counted_resume}

@@ -1,8 +1,8 @@
 -- Each part of what runs weighs less than it.
 use Rattle.std.proofs.Common.{◌≡◌, ℕ, ◌+◌, ◌<◌, ◌≤◌, List, [], ◌∷◌, ◌++◌, ap, ◌∙◌, arith}
 use Rattle.sample_core.specs.Datum.{Datum}
-use Rattle.net_syntax.specs.Network.{Network, arr, seq, first, par, loop_pre, initial_out, initial_in, i_pre, delay, hold, accum_by, after, repeatedly, time, integral, switch, d_switch, r_switch, dr_switch, rp_switch, k_switch, p_switch, old}
-use Rattle.net_syntax.specs.Weight.{weight, weights, weight_at, total}
+use Rattle.net_tree.specs.Network.{Network, arr, seq, first, par, loop_pre, initial_out, initial_in, i_pre, delay, hold, accum_by, after, repeatedly, time, integral, switch, d_switch, r_switch, dr_switch, rp_switch, k_switch, p_switch, old}
+use Rattle.net_tree.specs.Weight.{weight, weights, weight_at, total}
 use Rattle.state_core.specs.State.{State, Scope, Frozen, Frozens, arr_state, seq_state, first_state, par_state, loop_state, cell_state, accum_state, switch_state, d_switch_state, r_switch_state, k_switch_state, p_switch_state, dr_switch_state, rp_switch_state, no_frozen, and_frozen, unstarted, paused, push_param, push_old, push_olds, all_unstarted, all_paused}
 use Rattle.step_core.specs.Rank.{rank, ranks, ranks_in, frozen_rank, frozen_ranks}
 use Rattle.step_core.specs.Runs as R

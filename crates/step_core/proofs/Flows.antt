@@ -5,8 +5,8 @@ use Rattle.std.proofs.lemmas.List.{length-append}
 use Rattle.std.proofs.Math.Seq.{set-append_seam}
 use Rattle.sample_core.specs.Datum.{Datum, unit, left, right, pair, list, list_of}
 use Rattle.leaf_core.specs.KeyTree.{KeyTree}
-use Rattle.net_syntax.specs.Network.{Network, Networks, arr, seq, first, par, loop_pre, initial_out, initial_in, accum_by, switch, d_switch, r_switch, dr_switch, rp_switch, k_switch, p_switch, old, no_members, and_member}
-use Rattle.net_syntax.specs.Typing as N
+use Rattle.net_tree.specs.Network.{Network, Networks, arr, seq, first, par, loop_pre, initial_out, initial_in, accum_by, switch, d_switch, r_switch, dr_switch, rp_switch, k_switch, p_switch, old, no_members, and_member}
+use Rattle.net_meaning.specs.Typing as N
 use Rattle.cell_core.specs.Cell.{Cell, previous, accumulator_of, cell_step}
 use Rattle.cell_core.specs.declared.form.Form.{Form}
 use Rattle.state_core.specs.State.{State, Scope, arr_state, seq_state, cell_state, accum_state, no_state, and_state, and_frozen, unstarted, paused, params_of, push_param}

@@ -1,7 +1,7 @@
 -- Each form's step, by the steps of its parts.
 use Rattle.std.proofs.Common.{◌≡◌, ℕ, suc, ◌+◌, List, [], ◌∷◌, sym, subst, Some, None}
 use Rattle.sample_core.specs.Datum.{Datum, left, right, pair, list, list_of}
-use Rattle.net_syntax.specs.SignalFunction.{TimedList, if_event, fold_events}
+use Rattle.net_meaning.specs.SignalFunction.{TimedList, if_event, fold_events}
 use Rattle.state_core.specs.CountedFunction.{CountedFunction, IsCountedFunction, StandsVia, TakesSample}
 use Rattle.state_core.specs.CountedForms.{counted_cell, counted_switch, counted_d_switch, same_input, route_by, counted_resume, counted_resume_each}
 use Rattle.state_core.specs.StandsByForm.{ArrStands, SeqStands, FirstStands, ParStands, LoopStands, AccumStands, SwitchStands, RSwitchStands, DrSwitchStands, KSwitchStands, PSwitchStands, CellStands}

@@ -1,7 +1,7 @@
 -- Members frozen one by one.
 use Rattle.std.proofs.Common.{◌≡◌, ℕ, ◌+◌, List, [], ◌∷◌, ◌++◌, Some, None, refl, sym, ap, ap₂, ◌∙◌, length}
 use Rattle.std.proofs.lemmas.List.{length-append}
-use Rattle.net_syntax.specs.Network.{Network, Networks, no_members, and_member}
+use Rattle.net_tree.specs.Network.{Network, Networks, no_members, and_member}
 use Rattle.state_core.specs.State.{Scope, Frozens, no_frozen, and_frozen, append_frozens}
 use Rattle.state_core.specs.StateView.{frozen_of, frozens_in}
 use Rattle.state_core.specs.declared.env.Frozen.{Frozen as CodeFrozen}

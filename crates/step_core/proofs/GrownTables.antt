@@ -2,10 +2,10 @@
 use Rattle.std.proofs.Common.{◌≡◌, ℕ, zero, suc, List, [], ◌∷◌, ◌++◌, Some, slice_get, refl, sym, ap, ap₂, ◌∙◌}
 use Rattle.sample_core.specs.TypeTree.{TypeTree}
 use Rattle.leaf_core.specs.KeyTree.{KeyTree}
-use Rattle.net_syntax.specs.Network.{Network, Networks, map_networks, arr, seq, first, par, loop_pre, initial_out, initial_in, i_pre, delay, hold, accum_by, after, repeatedly, switch, d_switch, r_switch, dr_switch, rp_switch, k_switch, p_switch, and_member}
-use Rattle.net_syntax.specs.Typing as T
-use Rattle.net_syntax.specs.Typing.{Arrow, Typed, AllTyped}
-use Rattle.net_syntax.proofs.TypingMap.{map_typed}
+use Rattle.net_tree.specs.Network.{Network, Networks, map_networks, arr, seq, first, par, loop_pre, initial_out, initial_in, i_pre, delay, hold, accum_by, after, repeatedly, switch, d_switch, r_switch, dr_switch, rp_switch, k_switch, p_switch, and_member}
+use Rattle.net_meaning.specs.Typing as T
+use Rattle.net_meaning.specs.Typing.{Arrow, Typed, AllTyped}
+use Rattle.net_meaning.proofs.TypingMap.{map_typed}
 use Rattle.step_core.specs.RowTyping.{RowTyped, row_expression, expression_in, network_by}
 use Rattle.step_core.specs.BindingLaws.{GrownTableLaw}
 

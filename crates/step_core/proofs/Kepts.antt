@@ -4,8 +4,8 @@ use Rattle.std.specs.Prelude.{slice_get}
 use Rattle.std.proofs.lemmas.List.{drop-append-le, length-drop, length-append}
 use Rattle.std.proofs.Math.Seq.{drop-append_seam}
 use Rattle.cell_core.specs.Cell.{Cell, accumulator_of}
-use Rattle.net_syntax.specs.Network.{Network, Networks, arr, seq, first, par, loop_pre, initial_out, initial_in, i_pre, delay, hold, accum_by, after, repeatedly, time, integral, switch, d_switch, r_switch, dr_switch, rp_switch, k_switch, p_switch, old, no_members, and_member}
-use Rattle.net_syntax.specs.Typing.{members}
+use Rattle.net_tree.specs.Network.{Network, Networks, arr, seq, first, par, loop_pre, initial_out, initial_in, i_pre, delay, hold, accum_by, after, repeatedly, time, integral, switch, d_switch, r_switch, dr_switch, rp_switch, k_switch, p_switch, old, no_members, and_member}
+use Rattle.net_meaning.specs.Typing.{members}
 use Rattle.state_core.specs.State.{State, Scope, seq_state, first_state, par_state, loop_state, cell_state, accum_state, r_switch_state, dr_switch_state, and_state, params_of}
 use Rattle.state_core.specs.Tree.{Kept, Width, wider, width_of, width, widths, behind, joined, nothing, head_cell, head_state, fed_back, tree, trees, member_states}
 use Rattle.step_core.specs.Flow.{Past, past_behind}

@@ -2,14 +2,14 @@
 use Rattle.std.proofs.Common.{◌≡◌, ℕ, suc, ◌+◌, ◌<◌, List, [], ◌∷◌, ◌++◌, flat_map, length, take, drop, refl, sym, ap, ap₂, ◌∙◌, arith, inl, inr, None, append_assoc, append-nil, length-append, length-drop, subst}
 use Rattle.std.proofs.lemmas.List.{map_push, length-map, length-take}
 use Rattle.sample_core.specs.Datum.{Datum, unit, event, no_event, left, pair}
-use Rattle.net_syntax.specs.SignalFunction.{TimedList, Pieces, last_or, each_value, pieces, put_sample, next_sample, each_late}
+use Rattle.net_meaning.specs.SignalFunction.{TimedList, Pieces, last_or, each_value, pieces, put_sample, next_sample, each_late}
 use Rattle.state_core.specs.Visits.{VisitCounts, zeros, add_counts, and_one, at_first}
 use Rattle.state_core.specs.CountedFunction.{CountedFunction, IsCountedFunction, Continues, StandsVia, TakesSample}
 use Rattle.state_core.specs.CountedForms.{counted_dr_switch}
 use Rattle.state_core.specs.StandsByForm.{Uncut, DrSwitchStands}
 use Rattle.step_core.specs.Stepping.{restart_in}
-use Rattle.net_syntax.proofs.Zips.{length-zip_with}
-use Rattle.net_syntax.proofs.Restarting.{uncut_or_cut}
+use Rattle.net_meaning.proofs.Zips.{length-zip_with}
+use Rattle.net_meaning.proofs.Restarting.{uncut_or_cut}
 use Rattle.step_core.proofs.VisitSums.{length-at_first}
 use Rattle.step_core.proofs.VisitSteps.{last-added, last-and_one}
 use Rattle.step_core.proofs.CountedFunctions.{Via-here, Via-continues, counts-some}

@@ -1,6 +1,6 @@
 -- What falls at each call of the engine where the same network runs on.
 use Rattle.std.proofs.Common.{ℕ, ◌≤◌, arith}
-use Rattle.net_syntax.specs.Network.{Network, arr, seq, first, par, loop_pre, initial_out, initial_in, i_pre, delay, hold, accum_by, after, repeatedly, time, integral, switch, d_switch, r_switch, dr_switch, rp_switch, k_switch, p_switch, old}
+use Rattle.net_tree.specs.Network.{Network, arr, seq, first, par, loop_pre, initial_out, initial_in, i_pre, delay, hold, accum_by, after, repeatedly, time, integral, switch, d_switch, r_switch, dr_switch, rp_switch, k_switch, p_switch, old}
 
 -- a network that runs at a place of its own is handed on to it; a `-->` or a `>--` that has started
 -- is its part

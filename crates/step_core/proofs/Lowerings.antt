@@ -10,14 +10,14 @@ use Rattle.leaf_core.specs.KeyTree.{KeyTree}
 use Rattle.leaf_core.specs.declared.expr.Expr.{Expr}
 use Rattle.leaf_table.specs.declared.table.LeafId.{LeafId}
 use Rattle.net_syntax.specs.Leaves.{Need, need_at, LeavesOf, leaves_by, member_leaves_by}
-use Rattle.net_syntax.specs.Network.{Network, Networks, arr, seq, first, par, loop_pre, initial_out, initial_in, i_pre, delay, hold, accum_by, after, repeatedly, time, integral, switch, d_switch, r_switch, dr_switch, rp_switch, k_switch, p_switch, old, networks_of, no_members, and_member, map_networks}
-use Rattle.net_syntax.specs.NetworkView.{members_of}
-use Rattle.net_syntax.specs.Place.{◌>>=◌}
-use Rattle.net_syntax.specs.Typing.{Arrow, arrow, copies, members, Typed, AllTyped, AnyType, arr_typed, seq_typed, first_typed, par_typed, loop_typed, i_pre_typed, delay_typed, hold_typed, accum_typed, after_typed, repeatedly_typed, time_typed, integral_typed, switch_typed, d_switch_typed, r_switch_typed, k_switch_typed, p_switch_typed, old_typed, initial_out_typed, initial_in_typed, dr_switch_typed, rp_switch_typed, no_members_typed, and_member_typed}
-use Rattle.net_syntax.specs.TypedNetwork.{TypedNetwork, NetTyped}
-use Rattle.net_syntax.specs.Weight.{weight}
-use Rattle.net_syntax.specs.declared.net.Net.{Net}
-use Rattle.net_syntax.proofs.MappedMeasures.{weight_map}
+use Rattle.net_tree.specs.Network.{Network, Networks, arr, seq, first, par, loop_pre, initial_out, initial_in, i_pre, delay, hold, accum_by, after, repeatedly, time, integral, switch, d_switch, r_switch, dr_switch, rp_switch, k_switch, p_switch, old, networks_of, no_members, and_member, map_networks}
+use Rattle.net_tree.specs.NetworkView.{members_of}
+use Rattle.net_tree.specs.Place.{◌>>=◌}
+use Rattle.net_meaning.specs.Typing.{Arrow, arrow, copies, members, Typed, AllTyped, AnyType, arr_typed, seq_typed, first_typed, par_typed, loop_typed, i_pre_typed, delay_typed, hold_typed, accum_typed, after_typed, repeatedly_typed, time_typed, integral_typed, switch_typed, d_switch_typed, r_switch_typed, k_switch_typed, p_switch_typed, old_typed, initial_out_typed, initial_in_typed, dr_switch_typed, rp_switch_typed, no_members_typed, and_member_typed}
+use Rattle.net_meaning.specs.TypedNetwork.{TypedNetwork, NetTyped}
+use Rattle.net_tree.specs.Weight.{weight}
+use Rattle.net_tree.specs.declared.net.Net.{Net}
+use Rattle.net_tree.proofs.MappedMeasures.{weight_map}
 use Rattle.state_core.specs.RowsView.{row_number, rows_in}
 use Rattle.step_core.specs.RowTyping.{RowTyped, RowsTyped, row_expression, network_by, expression_in}
 use Rattle.step_core.specs.Lookup.{AllFound, FirstMissing, Misses, MissesIn, RowsOf, no_rows, and_row, AddsRows}

@@ -2,9 +2,9 @@
 use Rattle.std.proofs.Common.{◌≡◌, List, [], ◌∷◌, ◌++◌, refl, length, take, drop, map}
 use Rattle.std.specs.List.{flat_map}
 use Rattle.sample_core.specs.Datum.{Datum, unit, left, right}
-use Rattle.net_syntax.specs.SignalFunction.{with_values, each_value, pair_samples, feedback_values, first_event, pieces, resume, step_of, collect, freeze_all, seq_function, first_function, par_function, loop_pre_function, switch_function, d_switch_function, r_switch_function, k_switch_function, p_switch_function, initial_out_function, initial_in_function, dr_switch_function, rp_switch_function, with_first, by_members, first_members}
-use Rattle.net_syntax.specs.Network.{Network, Networks, arr, seq, first, par, loop_pre, initial_out, initial_in, i_pre, delay, hold, accum_by, after, repeatedly, time, integral, switch, d_switch, r_switch, dr_switch, rp_switch, k_switch, p_switch, old, no_members, and_member, map_network, map_networks}
-use Rattle.net_syntax.specs.Meaning.{Context, with_param, with_olds, meaning, meanings}
+use Rattle.net_meaning.specs.SignalFunction.{with_values, each_value, pair_samples, feedback_values, first_event, pieces, resume, step_of, collect, freeze_all, seq_function, first_function, par_function, loop_pre_function, switch_function, d_switch_function, r_switch_function, k_switch_function, p_switch_function, initial_out_function, initial_in_function, dr_switch_function, rp_switch_function, with_first, by_members, first_members}
+use Rattle.net_tree.specs.Network.{Network, Networks, arr, seq, first, par, loop_pre, initial_out, initial_in, i_pre, delay, hold, accum_by, after, repeatedly, time, integral, switch, d_switch, r_switch, dr_switch, rp_switch, k_switch, p_switch, old, no_members, and_member, map_network, map_networks}
+use Rattle.net_meaning.specs.Meaning.{Context, with_param, with_olds, meaning, meanings}
 use Rattle.state_core.specs.Visits.{VisitCounts, visits, visits_all, add_counts, and_one, sum_of_all, sum_by_route, switch_counts, resume_counts, freeze_counts, first_and_one, late_counts, member_counts}
 
 module _ {L M : Type 0} (h : M → L) (val : L → List Datum → Datum → Datum) where

@@ -4,12 +4,12 @@ use Rattle.std.proofs.Common.{◌≡◌, ℕ, suc, ◌+◌, ◌*◌, ◌≤◌, 
 use Rattle.std.proofs.Math.Nat.{mul-le-mul_right}
 use Rattle.std.proofs.lemmas.List.{length-map, take-map, drop-take}
 use Rattle.sample_core.specs.Datum.{Datum, left, right}
-use Rattle.net_syntax.specs.SignalFunction.{TimedList, zip_with, pieces, Member, items_named, items_of, new_members, first_members, chosen, moved, by_members}
-use Rattle.net_syntax.specs.Height.{greatest}
-use Rattle.net_syntax.proofs.Switched.{take_into}
-use Rattle.net_syntax.proofs.Zips.{length-zip_with, take-zip_with}
-use Rattle.net_syntax.proofs.RelatedMembers.{any_values, AllRelated, no_member, and_member, related-take, related-selected, related-moved}
-use Rattle.net_syntax.proofs.MemberPieces.{length-members, members_keep}
+use Rattle.net_meaning.specs.SignalFunction.{TimedList, zip_with, pieces, Member, items_named, items_of, new_members, first_members, chosen, moved, by_members}
+use Rattle.net_tree.specs.Height.{greatest}
+use Rattle.net_meaning.proofs.Switched.{take_into}
+use Rattle.net_meaning.proofs.Zips.{length-zip_with, take-zip_with}
+use Rattle.net_meaning.proofs.RelatedMembers.{any_values, AllRelated, no_member, and_member, related-take, related-selected, related-moved}
+use Rattle.net_meaning.proofs.MemberPieces.{length-members, members_keep}
 use Rattle.state_core.specs.Visits.{VisitCounts, member_counts}
 use Rattle.step_core.proofs.VisitSums.{AtMost, IsCount, AtMost-weaker, AtMost-append, AtMost-drop, AtMost-added, AtMost-map, IsCount-weaker, AllCounts, no_count, and_count}
 use Rattle.step_core.proofs.CausalCounts.{IsCausal, AllCausal, none_causal, and_causal}

@@ -1,11 +1,11 @@
 -- A frozen network takes its first resumed sample in.
 use Rattle.std.proofs.Common.{◌≡◌, ℕ, suc, ◌+◌, ◌<◌, List, [], ◌∷◌, ◌++◌, length, refl, sym, ap, ◌∙◌, arith, length-append, length-drop, append_assoc}
 use Rattle.sample_core.specs.Datum.{Datum}
-use Rattle.net_syntax.specs.SignalFunction.{TimedList, last_or, answer}
+use Rattle.net_meaning.specs.SignalFunction.{TimedList, last_or, answer}
 use Rattle.state_core.specs.Visits.{first_and_one, resume_counts}
 use Rattle.state_core.specs.CountedFunction.{CountedFunction, IsCountedFunction, Continues, StandsVia, TakesSample}
 use Rattle.state_core.specs.CountedForms.{counted_resume}
-use Rattle.net_syntax.proofs.SwitchSteps.{answer-resume_first, answer-resume}
+use Rattle.net_meaning.proofs.SwitchSteps.{answer-resume_first, answer-resume}
 use Rattle.step_core.proofs.VisitSteps.{last-resume_counts}
 use Rattle.step_core.proofs.CountedFunctions.{Via-continues}
 

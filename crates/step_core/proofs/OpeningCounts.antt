@@ -1,7 +1,7 @@
 -- `-->` and `>--` take their first sample in, and go on as what they hold.
 use Rattle.std.proofs.Common.{◌≡◌, ℕ, suc, ◌<◌, List, [], ◌∷◌, ◌++◌, length, drop, refl, sym, ap, ◌∙◌, arith, length-append}
 use Rattle.sample_core.specs.Datum.{Datum, unit}
-use Rattle.net_syntax.specs.SignalFunction.{TimedList, last_or}
+use Rattle.net_meaning.specs.SignalFunction.{TimedList, last_or}
 use Rattle.state_core.specs.CountedFunction.{CountedFunction, IsCountedFunction, Continues, StandsVia, TakesSample}
 use Rattle.state_core.specs.CountedForms.{counted_initial_out, counted_initial_in}
 use Rattle.step_core.proofs.OldCounts.{first_counted, later_counted}

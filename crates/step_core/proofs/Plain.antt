@@ -3,9 +3,9 @@ use Rattle.std.proofs.Common.{◌≡◌, ◌≢◌, ℕ, List, Some, None, refl,
 use Rattle.sample_core.specs.Datum.{Datum}
 use Rattle.leaf_core.specs.KeyTree.{KeyTree}
 use Rattle.leaf_table.specs.declared.table.LeafId.{LeafId}
-use Rattle.net_syntax.specs.Network.{Network, Networks}
-use Rattle.net_syntax.specs.declared.net.Net.{Net}
-use Rattle.net_syntax.specs.declared.net.Net.TheVariants as V
+use Rattle.net_tree.specs.Network.{Network, Networks}
+use Rattle.net_tree.specs.declared.net.Net.{Net}
+use Rattle.net_tree.specs.declared.net.Net.TheVariants as V
 use Rattle.state_core.specs.RowsView.{rows_in}
 use Rattle.state_core.specs.State.{State, Scope, paused}
 use Rattle.state_core.specs.Tree.{Kept, width_of, joined, nothing, tree, running}

@@ -2,15 +2,15 @@
 use Rattle.std.proofs.Common.{◌≡◌, ℕ, suc, ◌+◌, ◌<◌, List, [], ◌∷◌, ◌++◌, map, length, refl, sym, ap, ap₂, ◌∙◌, arith, length-append, subst}
 use Rattle.std.proofs.lemmas.List.{map_push, length-map}
 use Rattle.sample_core.specs.Datum.{Datum, left, right, pair}
-use Rattle.net_syntax.specs.SignalFunction.{TimedList, with_values, each_value, last_or, IsSignalFunction, answer}
+use Rattle.net_meaning.specs.SignalFunction.{TimedList, with_values, each_value, last_or, IsSignalFunction, answer}
 use Rattle.state_core.specs.Visits.{VisitCounts, ones, add_counts}
 use Rattle.state_core.specs.CountedFunction.{CountedFunction, IsCountedFunction, StandsVia, TakesSample, visits_at}
 use Rattle.state_core.specs.CountedForms.{counted_arr, counted_seq, counted_first, counted_loop}
 use Rattle.state_core.specs.StandsByForm.{ArrStands, SeqStands, FirstStands, LoopStands}
-use Rattle.net_syntax.proofs.Zips.{length-zip_with}
-use Rattle.net_syntax.proofs.Feedback.{fed, length-fed}
-use Rattle.net_syntax.proofs.Steps.{last_or-push, signal-push}
-use Rattle.net_syntax.proofs.PlainSteps.{answer-map, answer-sequence, answer-on_left, answer-feedback, push_with_values, fed_next, fed_push}
+use Rattle.net_meaning.proofs.Zips.{length-zip_with}
+use Rattle.net_meaning.proofs.Feedback.{fed, length-fed}
+use Rattle.net_meaning.proofs.Steps.{last_or-push, signal-push}
+use Rattle.net_meaning.proofs.PlainSteps.{answer-map, answer-sequence, answer-on_left, answer-feedback, push_with_values, fed_next, fed_push}
 use Rattle.step_core.proofs.CountedFunctions.{Via-here, counts-some, tally-and_one, tally-added, length-added}
 
 pub tally-ones : (p : TimedList) (x : ℕ × Datum) → visits_at ones p x ≡ 1

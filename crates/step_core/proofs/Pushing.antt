@@ -5,12 +5,12 @@ use Rattle.sample_core.specs.Datum.{Datum}
 use Rattle.sample_core.specs.TypeTree.{TypeTree}
 use Rattle.sample_core.specs.HasType.{HasType}
 use Rattle.leaf_core.specs.ExpressionValue.{value_of}
-use Rattle.net_syntax.specs.Environment.{closed, context_of, outputs}
-use Rattle.net_syntax.specs.Network.{Network}
-use Rattle.net_syntax.specs.SignalFunction.{TimedList, last_or}
-use Rattle.net_syntax.specs.TypedNetwork.{stream_of}
-use Rattle.net_syntax.specs.Weight.{weight}
-use Rattle.net_syntax.proofs.MappedMeasures.{weight_map}
+use Rattle.net_meaning.specs.Environment.{closed, context_of, outputs}
+use Rattle.net_tree.specs.Network.{Network}
+use Rattle.net_meaning.specs.SignalFunction.{TimedList, last_or}
+use Rattle.net_meaning.specs.TypedNetwork.{stream_of}
+use Rattle.net_tree.specs.Weight.{weight}
+use Rattle.net_tree.proofs.MappedMeasures.{weight_map}
 use Rattle.state_core.specs.CountedContext.{counted_meaning}
 use Rattle.state_core.specs.CountedFunction.{TakesSample}
 use Rattle.state_core.specs.EmptyScope.{empty_context, empty_scope}

@@ -1,8 +1,8 @@
 -- What scopes weigh, by what is put in them.
 use Rattle.std.proofs.Common.{◌≡◌, ℕ, zero, suc, ◌∷◌, ◌++◌, refl, sym, ap, Option, Some, None}
 use Rattle.sample_core.specs.Datum.{Datum}
-use Rattle.net_syntax.specs.Network.{Networks, no_members, and_member}
-use Rattle.net_syntax.specs.Weight.{weight, weights, weight_at}
+use Rattle.net_tree.specs.Network.{Networks, no_members, and_member}
+use Rattle.net_tree.specs.Weight.{weight, weights, weight_at}
 use Rattle.state_core.specs.State.{States, Scope, Frozens, Frozen, no_state, and_state, scope, no_frozen, and_frozen, append_frozens, frozens_of, frozen_at, push_param, push_olds, all_unstarted, all_paused}
 use Rattle.step_core.specs.Rank.{rank, ranks, ranks_in, frozen_ranks, frozen_rank}
 

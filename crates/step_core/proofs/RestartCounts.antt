@@ -2,13 +2,13 @@
 use Rattle.std.proofs.Common.{◌≡◌, ℕ, suc, ◌<◌, List, [], ◌∷◌, ◌++◌, flat_map, length, refl, sym, ap, ◌∙◌, arith, Option, Some, None, append_assoc, append-nil, length-append, subst}
 use Rattle.std.proofs.lemmas.List.{map_push}
 use Rattle.sample_core.specs.Datum.{Datum, unit, event, no_event, left, pair}
-use Rattle.net_syntax.specs.SignalFunction.{TimedList, Pieces, last_or, each_value, pieces, put_sample}
+use Rattle.net_meaning.specs.SignalFunction.{TimedList, Pieces, last_or, each_value, pieces, put_sample}
 use Rattle.state_core.specs.Visits.{and_one}
 use Rattle.state_core.specs.CountedFunction.{CountedFunction, IsCountedFunction, Continues, StandsVia, TakesSample}
 use Rattle.state_core.specs.CountedForms.{counted_r_switch}
 use Rattle.state_core.specs.StandsByForm.{Uncut, RSwitchStands}
 use Rattle.step_core.specs.Stepping.{restart_in}
-use Rattle.net_syntax.proofs.Restarting.{IsUncut}
+use Rattle.net_meaning.proofs.Restarting.{IsUncut}
 use Rattle.step_core.proofs.VisitSteps.{last-and_one}
 use Rattle.step_core.proofs.CountedFunctions.{Via-here, Via-continues, counts-some}
 

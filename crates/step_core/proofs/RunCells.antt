@@ -7,10 +7,10 @@ use Rattle.sample_core.specs.declared.sample.Sample.TheVariants as V
 use Rattle.sample_core.specs.TypeTree.{TypeTree, pair_ty, event_ty}
 use Rattle.sample_core.specs.HasType.{HasType, TypedParams, pair_has, unit_has}
 use Rattle.leaf_core.specs.KeyTree.{KeyTree}
-use Rattle.net_syntax.specs.SignalFunction.{latest_event, fold_events, if_event}
-use Rattle.net_syntax.specs.Network.{Network, accum_by}
-use Rattle.net_syntax.specs.Typing as N
-use Rattle.net_syntax.proofs.TypedLists.{typed_event}
+use Rattle.net_meaning.specs.SignalFunction.{latest_event, fold_events, if_event}
+use Rattle.net_tree.specs.Network.{Network, accum_by}
+use Rattle.net_meaning.specs.Typing as N
+use Rattle.net_meaning.proofs.TypedLists.{typed_event}
 use Rattle.cell_core.specs.Cell.{Cell, cell_step, accumulating, accumulator_of}
 use Rattle.cell_core.specs.Start.{cell_start}
 use Rattle.cell_core.specs.CellLaws.{put_in}

@@ -4,9 +4,9 @@ use Rattle.sample_core.specs.Datum.{Datum, left, list, list_of}
 use Rattle.sample_core.specs.TypeTree.{TypeTree, pair_ty, event_ty, int_ty, list_ty}
 use Rattle.sample_core.specs.HasType.{HasType, pair_has, event_has, no_event_has}
 use Rattle.leaf_core.specs.KeyTree.{KeyTree}
-use Rattle.net_syntax.specs.Network.{Network}
-use Rattle.net_syntax.specs.Typing as N
-use Rattle.net_syntax.specs.Typing.{Arrow, AnyType, Typed, AllTyped}
+use Rattle.net_tree.specs.Network.{Network}
+use Rattle.net_meaning.specs.Typing as N
+use Rattle.net_meaning.specs.Typing.{Arrow, AnyType, Typed, AllTyped}
 use Rattle.state_core.specs.State.{State, States, Scope, Frozen, rp_switch_state, no_state, and_state, params_of, all_paused, frozen_list, first_frozen, chosen_frozen, turned}
 use Rattle.step_core.specs.Stepping as G
 use Rattle.step_core.specs.Stepping.{Resumes, ResumesEach, restart_in}

@@ -4,9 +4,9 @@ use Rattle.sample_core.specs.Datum.{Datum, unit, left, right, pair}
 use Rattle.sample_core.specs.TypeTree.{TypeTree, pair_ty, event_ty}
 use Rattle.sample_core.specs.HasType.{HasType, pair_has, unit_has}
 use Rattle.leaf_core.specs.KeyTree.{KeyTree}
-use Rattle.net_syntax.specs.Network.{Network, initial_out, initial_in}
-use Rattle.net_syntax.specs.Typing as N
-use Rattle.net_syntax.specs.Typing.{Arrow, AnyType, Typed, AllTyped, copies, members}
+use Rattle.net_tree.specs.Network.{Network, initial_out, initial_in}
+use Rattle.net_meaning.specs.Typing as N
+use Rattle.net_meaning.specs.Typing.{Arrow, AnyType, Typed, AllTyped, copies, members}
 use Rattle.state_core.specs.State.{State, Scope, Frozen, seq_state, first_state, loop_state, switch_state, d_switch_state, r_switch_state, dr_switch_state, k_switch_state, unstarted, paused, params_of, push_param, push_old}
 use Rattle.step_core.specs.Stepping.{event_in, restart_in}
 use Rattle.step_core.specs.Stepping as G

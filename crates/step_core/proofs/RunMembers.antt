@@ -4,9 +4,9 @@ use Rattle.sample_core.specs.Datum.{Datum, pair, int, list, list_of}
 use Rattle.sample_core.specs.TypeTree.{TypeTree, pair_ty, event_ty, list_ty}
 use Rattle.sample_core.specs.HasType.{HasType, pair_has, list_has}
 use Rattle.leaf_core.specs.KeyTree.{KeyTree}
-use Rattle.net_syntax.specs.Network.{Network, Networks, no_members, and_member}
-use Rattle.net_syntax.specs.Typing as N
-use Rattle.net_syntax.specs.Typing.{members}
+use Rattle.net_tree.specs.Network.{Network, Networks, no_members, and_member}
+use Rattle.net_meaning.specs.Typing as N
+use Rattle.net_meaning.specs.Typing.{members}
 use Rattle.state_core.specs.CountedForms.{same_input, route_by}
 use Rattle.state_core.specs.State.{State, States, Scope, Frozen, Frozens, par_state, p_switch_state, no_state, and_state, no_frozen, and_frozen, unstarted, paused, params_of, push_param, push_olds, all_unstarted, all_paused}
 use Rattle.step_core.specs.Stepping as G

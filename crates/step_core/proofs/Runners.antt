@@ -1,11 +1,11 @@
 -- What a push answers is the next output of the meaning; what it visits is counted, and at most the weight.
 use Rattle.std.proofs.Common.{◌≡◌, ℕ, ◌≤◌, List, [], ◌∷◌, ◌++◌, refl, sym, ap, ◌∙◌, arith}
 use Rattle.sample_core.specs.Datum.{Datum}
-use Rattle.net_syntax.specs.SignalFunction.{TimedList, last_or}
-use Rattle.net_syntax.specs.Network.{Network}
-use Rattle.net_syntax.specs.Environment.{closed, outputs}
+use Rattle.net_meaning.specs.SignalFunction.{TimedList, last_or}
+use Rattle.net_tree.specs.Network.{Network}
+use Rattle.net_meaning.specs.Environment.{closed, outputs}
 use Rattle.step_core.specs.EnvironmentVisits.{visits_of}
-use Rattle.net_syntax.specs.Weight.{weight}
+use Rattle.net_tree.specs.Weight.{weight}
 use Rattle.state_core.specs.Visits.{AtMost, no_item, and_item}
 use Rattle.state_core.specs.CountedFunction.{CountedFunction, IsCountedFunction, TakesSample}
 use Rattle.state_core.specs.CountedContext.{counted_meaning}
@@ -13,7 +13,7 @@ use Rattle.state_core.specs.State.{State}
 use Rattle.state_core.specs.Stands.{Stands}
 use Rattle.step_core.specs.Stepping.{Starts, Steps}
 use Rattle.state_core.specs.EmptyScope.{empty_context, empty_scope}
-use Rattle.net_syntax.proofs.Steps.{signal-push}
+use Rattle.net_meaning.proofs.Steps.{signal-push}
 use Rattle.step_core.proofs.EnvironmentBounds.{IsCount-visited}
 use Rattle.step_core.proofs.MemberCounts.{no_counted}
 use Rattle.step_core.proofs.CountedContexts.{IsCounted-counted}

@@ -2,20 +2,20 @@
 use Rattle.std.proofs.Common.{◌≡◌, ℕ, suc, ◌+◌, ◌<◌, List, [], ◌∷◌, ◌++◌, length, take, drop, refl, sym, ap, ap₂, ◌∙◌, arith, Option, Some, None, append_assoc, length-append, length-drop, subst}
 use Rattle.std.proofs.lemmas.List.{take_at, drop_at}
 use Rattle.sample_core.specs.Datum.{Datum, event, left, right, pair}
-use Rattle.net_syntax.specs.SignalFunction.{TimedList, SignalFunction, last_or, first_event, step_of, lefts, rights, watch, pair_samples, resume, IsSignalFunction, answer}
+use Rattle.net_meaning.specs.SignalFunction.{TimedList, SignalFunction, last_or, first_event, step_of, lefts, rights, watch, pair_samples, resume, IsSignalFunction, answer}
 use Rattle.state_core.specs.Visits.{VisitCounts, both_at_first, switch_counts, and_one, add_counts}
 use Rattle.state_core.specs.CountedFunction.{CountedFunction, IsCountedFunction, Continues, StandsVia, TakesSample, visits_at}
 use Rattle.state_core.specs.CountedForms.{counted_switch_at, counted_switch, counted_d_switch, counted_watch, counted_k_switch, counted_resume}
 use Rattle.state_core.specs.StandsByForm.{SwitchStands, KSwitchStands}
 use Rattle.step_core.specs.Stepping.{event_in}
-use Rattle.net_syntax.proofs.Zips.{length-zip_with}
-use Rattle.net_syntax.proofs.Events.{IsPlain}
-use Rattle.net_syntax.proofs.Plain.{IsSignal-watching}
-use Rattle.net_syntax.proofs.Switches.{lately, switching_late-is, IsSignal-lefts, IsSignal-rights, IsSignal-late}
+use Rattle.net_meaning.proofs.Zips.{length-zip_with}
+use Rattle.net_meaning.proofs.Events.{IsPlain}
+use Rattle.net_meaning.proofs.Plain.{IsSignal-watching}
+use Rattle.net_meaning.proofs.Switches.{lately, switching_late-is, IsSignal-lefts, IsSignal-rights, IsSignal-late}
 use Rattle.step_core.proofs.VisitSums.{IsCount-and_one, IsCount-added, IsCount-before}
-use Rattle.net_syntax.proofs.PlainSteps.{answer-after, answer-watching, push_pair_samples}
-use Rattle.net_syntax.proofs.SwitchSteps.{quiet_push, answer_before, event_seen, GoesOn, GoesOn-switch_at, answer-first, answer-later, answer-late_first, answer-late, answer-resume_first}
-use Rattle.net_syntax.proofs.Resumed.{IsSignal-resume}
+use Rattle.net_meaning.proofs.PlainSteps.{answer-after, answer-watching, push_pair_samples}
+use Rattle.net_meaning.proofs.SwitchSteps.{quiet_push, answer_before, event_seen, GoesOn, GoesOn-switch_at, answer-first, answer-later, answer-late_first, answer-late, answer-resume_first}
+use Rattle.net_meaning.proofs.Resumed.{IsSignal-resume}
 use Rattle.step_core.proofs.VisitSteps.{last-append_from, last-drop}
 use Rattle.step_core.proofs.CountedFunctions.{Via-here, Via-continues, counts-some, tally-and_one, tally-added, length-added}
 

@@ -5,9 +5,9 @@ use Rattle.std.proofs.lemmas.List.{length-append}
 use Rattle.cell_core.specs.Cell.{Cell}
 use Rattle.sample_core.specs.Datum.{Datum, left, right, pair, int, list, list_of}
 use Rattle.leaf_core.specs.KeyTree.{KeyTree}
-use Rattle.net_syntax.specs.Network.{Network, Networks, seq, par, loop_pre, switch, d_switch, dr_switch, k_switch, p_switch, old, no_members, and_member}
-use Rattle.net_syntax.specs.Typing.{members}
-use Rattle.net_syntax.specs.Weight.{weight, total}
+use Rattle.net_tree.specs.Network.{Network, Networks, seq, par, loop_pre, switch, d_switch, dr_switch, k_switch, p_switch, old, no_members, and_member}
+use Rattle.net_meaning.specs.Typing.{members}
+use Rattle.net_tree.specs.Weight.{weight, total}
 use Rattle.state_core.specs.State.{State, Scope, Frozen, switch_state, d_switch_state, k_switch_state, p_switch_state, and_state, and_frozen, unstarted, paused, params_of, frozens_of, frozen_at, push_param, push_old, push_olds}
 use Rattle.state_core.specs.Tree.{Kept, wider, width_of, width, joined, nothing, one_place, head_state, member_states, running}
 use Rattle.step_core.specs.Called.{Called}

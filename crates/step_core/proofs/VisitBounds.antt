@@ -2,20 +2,20 @@
 use Rattle.std.proofs.Common.{ℕ, suc, ◌+◌, ◌*◌, ◌-◌, List, [], ◌∷◌, ◌++◌, take, drop, sym, ap, ◌∙◌, arith, length-drop}
 use Rattle.std.proofs.lemmas.List.{length-map}
 use Rattle.sample_core.specs.Datum.{Datum, unit, left}
-use Rattle.net_syntax.specs.SignalFunction.{TimedList, SignalFunction, with_values, pair_samples, each_value, first_event, step_of, rights, watch, collect, resume, freeze_all, with_first, IsSignalFunction}
-use Rattle.net_syntax.specs.Network.{Network, Networks, arr, seq, first, par, loop_pre, initial_out, initial_in, i_pre, delay, hold, accum_by, after, repeatedly, time, integral, switch, d_switch, r_switch, dr_switch, rp_switch, k_switch, p_switch, old, no_members, and_member}
-use Rattle.net_syntax.specs.Meaning.{Context, with_param, with_olds, meaning, meanings}
+use Rattle.net_meaning.specs.SignalFunction.{TimedList, SignalFunction, with_values, pair_samples, each_value, first_event, step_of, rights, watch, collect, resume, freeze_all, with_first, IsSignalFunction}
+use Rattle.net_tree.specs.Network.{Network, Networks, arr, seq, first, par, loop_pre, initial_out, initial_in, i_pre, delay, hold, accum_by, after, repeatedly, time, integral, switch, d_switch, r_switch, dr_switch, rp_switch, k_switch, p_switch, old, no_members, and_member}
+use Rattle.net_meaning.specs.Meaning.{Context, with_param, with_olds, meaning, meanings}
 use Rattle.state_core.specs.Visits.{VisitCounts, add_counts, and_one, switch_counts, resume_counts, freeze_counts, sum_by_route, counts_at, visits, visits_all}
-use Rattle.net_syntax.specs.Height.{greatest}
-use Rattle.net_syntax.specs.Weight.{weight, weights, weight_at, total}
-use Rattle.net_syntax.proofs.Zips.{length-zip_with}
-use Rattle.net_syntax.proofs.Events.{outlook}
-use Rattle.net_syntax.proofs.Plain.{AllSignals, no_signal, and_signal, IsSignal-watching}
-use Rattle.net_syntax.proofs.Feedback.{fed, length-fed}
-use Rattle.net_syntax.proofs.Openings.{length-with_first}
-use Rattle.net_syntax.proofs.Resumed.{IsSignal-resume}
-use Rattle.net_syntax.proofs.Switches.{IsSignal-rights, IsSignal-collect, AllSignals-frozen_all}
-use Rattle.net_syntax.proofs.Meanings.{IsSignal-meaning, AllSignals-meanings, AllSignals-append}
+use Rattle.net_tree.specs.Height.{greatest}
+use Rattle.net_tree.specs.Weight.{weight, weights, weight_at, total}
+use Rattle.net_meaning.proofs.Zips.{length-zip_with}
+use Rattle.net_meaning.proofs.Events.{outlook}
+use Rattle.net_meaning.proofs.Plain.{AllSignals, no_signal, and_signal, IsSignal-watching}
+use Rattle.net_meaning.proofs.Feedback.{fed, length-fed}
+use Rattle.net_meaning.proofs.Openings.{length-with_first}
+use Rattle.net_meaning.proofs.Resumed.{IsSignal-resume}
+use Rattle.net_meaning.proofs.Switches.{IsSignal-rights, IsSignal-collect, AllSignals-frozen_all}
+use Rattle.net_meaning.proofs.Meanings.{IsSignal-meaning, AllSignals-meanings, AllSignals-append}
 use Rattle.step_core.proofs.VisitSums.{IsCount, IsCount-weaker, AtMost-taken_over, length-taken_over, IsCount-ones, IsCount-and_one, IsCount-first_and_one, IsCount-added, IsCount-before, IsCount-pieces, IsCount-late, IsCount-resume, AllCounts, no_count, and_count, AllCounts-append, AllCounts-frozen, IsCount-sum_of_all, IsCount-sum_by_route, IsCount-counts_at}
 use Rattle.step_core.proofs.MemberVisits.{IsCount-collection}
 

@@ -1,7 +1,7 @@
 -- The visits of the last sample, by those of the parts.
 use Rattle.std.proofs.Common.{◌≡◌, ℕ, suc, ◌+◌, ◌<◌, List, [], ◌∷◌, ◌++◌, length, take, drop, refl, sym, ap, ◌∙◌, arith, length-drop, take-append-drop}
 use Rattle.sample_core.specs.Datum.{Datum}
-use Rattle.net_syntax.specs.SignalFunction.{TimedList, last_or}
+use Rattle.net_meaning.specs.SignalFunction.{TimedList, last_or}
 use Rattle.state_core.specs.Visits.{VisitCounts, add_counts, and_one, resume_counts}
 
 -- the last count, 0 where there is none

@@ -2,13 +2,13 @@
 use Rattle.std.proofs.Common.{◌≡◌, ℕ, zero, suc, ◌+◌, ◌-◌, ◌≤◌, ◌<◌, List, [], ◌∷◌, ◌++◌, map, flat_map, length, take, drop, refl, sym, ap, ◌∙◌, arith, inl, inr, length-take, length-drop, length-append, le_trans}
 use Rattle.std.proofs.lemmas.List.{length-map}
 use Rattle.sample_core.specs.Datum.{Datum}
-use Rattle.net_syntax.specs.SignalFunction.{TimedList, pieces, next_sample, each_late, route, first_event}
+use Rattle.net_meaning.specs.SignalFunction.{TimedList, pieces, next_sample, each_late, route, first_event}
 use Rattle.state_core.specs.Visits.{VisitCounts, ones, zeros, add_counts, and_one, first_and_one, both_at_first, switch_counts, resume_counts, freeze_counts, sum_by_route, sum_of_all, counts_at, at_first, late_counts}
-use Rattle.net_syntax.specs.Weight.{total, weight_at}
-use Rattle.net_syntax.proofs.Zips.{length-zip_with}
-use Rattle.net_syntax.proofs.Events.{Outlook, never, once}
-use Rattle.net_syntax.proofs.Restarting.{uncut_or_cut}
-use Rattle.net_syntax.proofs.LateRestarts.{length-late}
+use Rattle.net_tree.specs.Weight.{total, weight_at}
+use Rattle.net_meaning.proofs.Zips.{length-zip_with}
+use Rattle.net_meaning.proofs.Events.{Outlook, never, once}
+use Rattle.net_meaning.proofs.Restarting.{uncut_or_cut}
+use Rattle.net_meaning.proofs.LateRestarts.{length-late}
 pub use Rattle.state_core.specs.Visits.{AtMost, no_item, and_item, IsCount}
 
 pub AtMost-weaker : (v w : ℕ) (ns : List ℕ) → v ≤ w → AtMost v ns → AtMost w ns

@@ -4,9 +4,9 @@ use Rattle.std.specs.Coded.{Coded, code_by, coded×, coded_ℕ}
 use Rattle.sample_core.specs.TypeTree.{TypeTree}
 use Rattle.sample_core.specs.TypeCode.{type_code}
 use Rattle.leaf_core.specs.KeyTree.{KeyTree}
-use Rattle.net_syntax.specs.Network.{Network}
-use Rattle.net_syntax.specs.NetworkCode.{network_code}
-use Rattle.net_syntax.specs.Weight.{weight}
+use Rattle.net_tree.specs.Network.{Network}
+use Rattle.net_tree.specs.NetworkCode.{network_code}
+use Rattle.net_tree.specs.Weight.{weight}
 use Rattle.step_core.specs.RowTyping.{RowsTyped}
 
 -- a network over the numbers of rows, and its input type

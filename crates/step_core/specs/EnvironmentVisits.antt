@@ -1,11 +1,11 @@
 -- Visits and weights in environments as data.
 use Rattle.std.specs.Prelude.{ℕ, List, [], ◌∷◌, ◌++◌}
 use Rattle.sample_core.specs.Datum.{Datum}
-use Rattle.net_syntax.specs.SignalFunction.{TimedList}
-use Rattle.net_syntax.specs.Network.{Network}
-use Rattle.net_syntax.specs.Environment.{Environment, context_of, closed, param, frozen}
+use Rattle.net_meaning.specs.SignalFunction.{TimedList}
+use Rattle.net_tree.specs.Network.{Network}
+use Rattle.net_meaning.specs.Environment.{Environment, context_of, closed, param, frozen}
 use Rattle.state_core.specs.Visits.{VisitCounts, visits, resume_counts}
-use Rattle.net_syntax.specs.Weight.{weight}
+use Rattle.net_tree.specs.Weight.{weight}
 
 -- the counts of the frozen networks in scope, each resumed with the step that it was frozen with
 abbrev pub counts_of : {L : Type 0} → (L → List Datum → Datum → Datum) → Environment L

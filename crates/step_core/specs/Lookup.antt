@@ -2,7 +2,7 @@
 use Rattle.std.specs.Prelude.{◌≡◌, ℕ, List, [], ◌∷◌, ◌++◌, All, Contains, Some, slice_get, ◌⊎◌}
 use Rattle.leaf_core.specs.KeyTree.{KeyTree}
 use Rattle.net_syntax.specs.Leaves.{Need, LeavesOf}
-use Rattle.net_syntax.specs.TypedNetwork.{TypedNetwork}
+use Rattle.net_meaning.specs.TypedNetwork.{TypedNetwork}
 use Rattle.step_core.specs.declared.fault.BindFault.{BindFault}
 use Rattle.step_core.specs.declared.fault.BindFault.TheVariants as F
 

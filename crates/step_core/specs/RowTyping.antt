@@ -5,8 +5,8 @@ use Rattle.sample_core.specs.TypeTree.{TypeTree}
 use Rattle.leaf_core.specs.Expression.{Expression, input}
 use Rattle.leaf_core.specs.ExpressionTyping.{ExpressionTyped}
 use Rattle.leaf_core.specs.KeyTree.{KeyTree}
-use Rattle.net_syntax.specs.Network.{Network, map_network}
-use Rattle.net_syntax.specs.Typing.{Typed, AnyType}
+use Rattle.net_tree.specs.Network.{Network, map_network}
+use Rattle.net_meaning.specs.Typing.{Typed, AnyType}
 
 -- the expression of a key, `x` where there is no key
 abbrev pub expression_in : Option KeyTree → Expression

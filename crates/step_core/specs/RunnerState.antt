@@ -5,11 +5,11 @@ use Rattle.sample_core.specs.TypeTree.{TypeTree}
 use Rattle.leaf_core.specs.Expression.{Expression}
 use Rattle.leaf_core.specs.ExpressionValue.{value_of}
 use Rattle.leaf_core.specs.KeyTree.{KeyTree}
-use Rattle.net_syntax.specs.Environment.{closed}
-use Rattle.net_syntax.specs.Network.{Network}
-use Rattle.net_syntax.specs.SignalFunction.{TimedList, last_or}
-use Rattle.net_syntax.specs.TypedNetwork.{stream_of}
-use Rattle.net_syntax.specs.Weight.{weight}
+use Rattle.net_meaning.specs.Environment.{closed}
+use Rattle.net_tree.specs.Network.{Network}
+use Rattle.net_meaning.specs.SignalFunction.{TimedList, last_or}
+use Rattle.net_meaning.specs.TypedNetwork.{stream_of}
+use Rattle.net_tree.specs.Weight.{weight}
 use Rattle.state_core.specs.CountedContext.{counted_meaning}
 use Rattle.state_core.specs.EmptyScope.{empty_context}
 use Rattle.state_core.specs.Stands.{Stands}

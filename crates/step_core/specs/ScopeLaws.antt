@@ -1,9 +1,9 @@
 -- What a scope stands for: an environment, binder by binder.
 use Rattle.std.specs.Prelude.{◌≡◌, ℕ, List, [], ◌∷◌}
 use Rattle.sample_core.specs.Datum.{Datum}
-use Rattle.net_syntax.specs.SignalFunction.{TimedList}
-use Rattle.net_syntax.specs.Network.{Network}
-use Rattle.net_syntax.specs.Environment.{Environment, closed, param, frozen, context_of}
+use Rattle.net_meaning.specs.SignalFunction.{TimedList}
+use Rattle.net_tree.specs.Network.{Network}
+use Rattle.net_meaning.specs.Environment.{Environment, closed, param, frozen, context_of}
 use Rattle.state_core.specs.CountedForms.{counted_resume, counts_of_all}
 use Rattle.state_core.specs.CountedContext.{CountedContext, context_in, context_with_param, context_with_olds, counted_meaning}
 use Rattle.state_core.specs.State.{State, Scope, Frozen, scope, no_frozen, unstarted, paused, push_param, push_old}

@@ -2,7 +2,7 @@
 use Rattle.std.specs.Prelude.{◌≡◌, ℕ, List, [], Option, Some, None}
 use Rattle.sample_core.specs.Datum.{Datum, left, list, list_of}
 use Rattle.leaf_core.specs.KeyTree.{KeyTree}
-use Rattle.net_syntax.specs.Network.{Network, Networks}
+use Rattle.net_tree.specs.Network.{Network, Networks}
 use Rattle.state_core.specs.RowsView.{rows_in}
 use Rattle.state_core.specs.State.{Scope, Frozen, params_of, chosen_frozen}
 use Rattle.state_core.specs.StateView.{kept_of, scope_of}

@@ -2,10 +2,10 @@
 use Rattle.std.specs.Prelude.{◌≡◌, ℕ, take}
 use Rattle.leaf_core.specs.Expression.{Expression}
 use Rattle.leaf_core.specs.ExpressionValue.{value_of}
-use Rattle.net_syntax.specs.SignalFunction.{TimedList}
-use Rattle.net_syntax.specs.Network.{Network}
-use Rattle.net_syntax.specs.Environment.{Environment}
-use Rattle.net_syntax.specs.Weight.{weight}
+use Rattle.net_meaning.specs.SignalFunction.{TimedList}
+use Rattle.net_tree.specs.Network.{Network}
+use Rattle.net_meaning.specs.Environment.{Environment}
+use Rattle.net_tree.specs.Weight.{weight}
 use Rattle.state_core.specs.Visits.{IsCount}
 use Rattle.step_core.specs.EnvironmentVisits.{weights_of, visits_of}
 

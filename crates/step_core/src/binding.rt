@@ -11,7 +11,8 @@ use crate::bound::Bound;
 use crate::fault::BindFault;
 use crate::lowering::lower;
 use leaf_table::{LeafId, LeafTable};
-use net_syntax::{LeafNeed, Position, TypedNet, leaves};
+use net_syntax::{LeafNeed, TypedNet, leaves};
+use net_tree::Position;
 use sample_core::Memory;
 use std::alloc::Global;
 

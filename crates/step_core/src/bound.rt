@@ -5,7 +5,7 @@ ghost use Rattle.sample_core.specs.TypeView.{type_of};
 ghost use Rattle.state_core.specs.RowsView.{rows_in};
 
 use leaf_table::LeafId;
-use net_syntax::Net;
+use net_tree::Net;
 use sample_core::Ty;
 use std::marker::Model;
 

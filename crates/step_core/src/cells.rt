@@ -3,7 +3,7 @@
 ghost use Rattle.std.specs.Prelude.{◌≡◌, ℕ, IfOk, IsTrue, map};
 ghost use Rattle.sample_core.specs.{Datum.event, ValueView.datum_of};
 ghost use Rattle.cell_core.specs.{Cell.accumulator_of, CellView.cell_of, Start.IsWithin};
-ghost use Rattle.net_syntax.specs.Network.{Network, accum_by};
+ghost use Rattle.net_tree.specs.Network.{Network, accum_by};
 ghost use Rattle.state_core.specs.RowsView.{row_number};
 ghost use Rattle.state_core.specs.State.{Scope, accum_state, cell_state, params_of, unstarted};
 ghost use Rattle.step_core.specs.{Called.IsConstant, Called.IsPutIn, Flow.IsAccumAdded, Flow.IsCell, Flow.number_of};

@@ -2,7 +2,7 @@
 
 ghost use Rattle.std.specs.Prelude.{◌≡◌, ◌++◌, ◌-◌, IfOk, length, map, take};
 ghost use Rattle.sample_core.specs.ValueView.{datum_of};
-ghost use Rattle.net_syntax.specs.{Network.map_networks, NetworkView.members_of};
+ghost use Rattle.net_tree.specs.{Network.map_networks, NetworkView.members_of};
 ghost use Rattle.state_core.specs.RowsView.{rows_in, row_number};
 ghost use Rattle.state_core.specs.State.{chosen_frozen, each_started, first_frozen, paused};
 ghost use Rattle.state_core.specs.StateView.{frozen_of, scope_of, state_of};
@@ -13,7 +13,7 @@ use crate::on::On;
 use crate::part::{elements, first, second};
 use crate::rows::Rows;
 use leaf_table::LeafId;
-use net_syntax::Net;
+use net_tree::Net;
 use sample_core::{Memory, Sample};
 use state_core::{Frozen, MOST_RUNNING, State, freeze, pause, push_param, select};
 use std::alloc::Global;

@@ -2,8 +2,8 @@
 
 ghost use Rattle.std.specs.Prelude.{◌≡◌, [], IfOk, map};
 ghost use Rattle.sample_core.specs.ValueView.{datum_of};
-ghost use Rattle.net_syntax.specs.Network.{map_networks, rp_switch};
-ghost use Rattle.net_syntax.specs.NetworkView.{members_of};
+ghost use Rattle.net_tree.specs.Network.{map_networks, rp_switch};
+ghost use Rattle.net_tree.specs.NetworkView.{members_of};
 ghost use Rattle.state_core.specs.RowsView.{rows_in, row_number};
 ghost use Rattle.state_core.specs.State.{paused};
 ghost use Rattle.state_core.specs.StateView.{frozen_of, kept_of, running_of, scope_of, state_of};
@@ -17,7 +17,7 @@ use crate::part::{first, make_place, restart_of};
 use crate::rows::Rows;
 use crate::run::{on_frozen, on_state, run_at_next};
 use leaf_table::LeafId;
-use net_syntax::Net;
+use net_tree::Net;
 use sample_core::{Memory, Sample};
 use state_core::{Frozen, Kept, Running, State};
 

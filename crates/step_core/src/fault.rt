@@ -2,7 +2,7 @@
 
 ghost use Rattle.std.specs.Prelude.{◌≡◌};
 
-use net_syntax::Position;
+use net_tree::Position;
 use sample_core::OutOfMemory;
 use thiserror::Error;
 

@@ -2,7 +2,7 @@
 
 ghost use Rattle.std.specs.Prelude.{◌≡◌, IfOk, length};
 ghost use Rattle.sample_core.specs.ValueView.{datum_of};
-ghost use Rattle.net_syntax.specs.{Network.map_networks, NetworkView.members_of};
+ghost use Rattle.net_tree.specs.{Network.map_networks, NetworkView.members_of};
 ghost use Rattle.state_core.specs.RowsView.{rows_in, row_number};
 ghost use Rattle.state_core.specs.State.{append_frozens, push_param as with_param, push_old as with_old, push_olds as with_olds};
 ghost use Rattle.state_core.specs.StateView.{scope_of, frozen_of, frozens_in};
@@ -13,7 +13,7 @@ use crate::on::On;
 use crate::part::event_of;
 use crate::rows::Rows;
 use leaf_table::LeafId;
-use net_syntax::Net;
+use net_tree::Net;
 use sample_core::{Memory, Sample};
 use state_core::{Env, Frozen, freeze, pause, push_old, push_olds, push_param};
 use std::alloc::Global;

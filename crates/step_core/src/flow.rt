@@ -2,8 +2,8 @@
 
 ghost use Rattle.std.specs.Prelude.{◌≡◌, ◌<◌, ◌++◌, ◌∷◌, [], None, Some, IfOk, IfSome, length, map, slice_get, slice_set};
 ghost use Rattle.sample_core.specs.{Datum.left, Datum.pair, Datum.right, ValueView.datum_of};
-ghost use Rattle.net_syntax.specs.Network.{map_networks, seq, first, par, loop_pre, initial_out, initial_in, accum_by, r_switch, dr_switch};
-ghost use Rattle.net_syntax.specs.NetworkView.{members_of};
+ghost use Rattle.net_tree.specs.Network.{map_networks, seq, first, par, loop_pre, initial_out, initial_in, accum_by, r_switch, dr_switch};
+ghost use Rattle.net_tree.specs.NetworkView.{members_of};
 ghost use Rattle.cell_core.specs.Cell.{previous};
 ghost use Rattle.state_core.specs.RowsView.{rows_in, row_number};
 ghost use Rattle.state_core.specs.StateView.{kept_of, scope_of};
@@ -18,7 +18,7 @@ use crate::rows::Rows;
 use crate::run::{go_on, run_place, start_under};
 use cell_core::Form;
 use leaf_table::LeafId;
-use net_syntax::Net;
+use net_tree::Net;
 use sample_core::{Memory, Sample};
 use state_core::{Cells, Kept, push_param};
 use std::alloc::Global;

@@ -2,15 +2,15 @@
 
 ghost use Rattle.std.specs.Prelude.{◌≡◌, ◌≢◌, ◌++◌, [], IfOk, None, Some, map, zero};
 ghost use Rattle.leaf_core.specs.{Expression.input, ExpressionView.expression_of};
-ghost use Rattle.net_syntax.specs.Network.{first, par, accum_by, k_switch, p_switch, rp_switch, map_network, map_networks};
-ghost use Rattle.net_syntax.specs.FormView.{fed_tree};
-ghost use Rattle.net_syntax.specs.NetworkView.{members_of, tree_of};
+ghost use Rattle.net_tree.specs.Network.{first, par, accum_by, k_switch, p_switch, rp_switch, map_network, map_networks};
+ghost use Rattle.net_tree.specs.FormView.{fed_tree};
+ghost use Rattle.net_tree.specs.NetworkView.{members_of, tree_of};
 ghost use Rattle.state_core.specs.RowsView.{row_number, rows_in};
 ghost use Rattle.step_core.specs.Lowering.{AddsMembers, fill, fill_leaf, fill_members, fill_pair, fill_routed, leaf_tree, pair_tree};
 
 use leaf_core::Expr;
 use leaf_table::LeafId;
-use net_syntax::{FedForm, LeafForm, Members, Net, NetChild, PairForm};
+use net_tree::{FedForm, LeafForm, Members, Net, NetChild, PairForm};
 use sample_core::Memory;
 use std::alloc::Global;
 

@@ -2,7 +2,7 @@
 
 ghost use Rattle.std.specs.Prelude.{◌≡◌, ◌≤◌, ◌<◌, IfOk, length, map, take};
 ghost use Rattle.sample_core.specs.{Datum.left, Datum.right, Datum.pair, ValueView.datum_of};
-ghost use Rattle.net_syntax.specs.SignalFunction.{items_of};
+ghost use Rattle.net_meaning.specs.SignalFunction.{items_of};
 ghost use Rattle.step_core.specs.Stepping.{event_in, restart_in};
 ghost use Rattle.step_core.specs.EventView.{event_found, restart_found};
 

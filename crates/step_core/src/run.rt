@@ -2,8 +2,8 @@
 
 ghost use Rattle.std.specs.Prelude.{◌≡◌, ◌<◌, ◌^◌, [], IfOk, length, map, pos};
 ghost use Rattle.sample_core.specs.{Datum.int, Datum.pair, ValueView.datum_of};
-ghost use Rattle.net_syntax.specs.Network.{map_networks, initial_out, initial_in, switch, d_switch, k_switch, p_switch, old};
-ghost use Rattle.net_syntax.specs.NetworkView.{members_of};
+ghost use Rattle.net_tree.specs.Network.{map_networks, initial_out, initial_in, switch, d_switch, k_switch, p_switch, old};
+ghost use Rattle.net_tree.specs.NetworkView.{members_of};
 ghost use Rattle.state_core.specs.RowsView.{rows_in, row_number};
 ghost use Rattle.state_core.specs.State.{paused, push_param as with_param, unstarted};
 ghost use Rattle.state_core.specs.StateView.{frozen_of, kept_of, running_of, scope_of, state_of};
@@ -20,7 +20,7 @@ use crate::on::{On, both, node};
 use crate::part::{answer_places, first, let_second_go, make_place, second};
 use crate::rows::Rows;
 use leaf_table::LeafId;
-use net_syntax::Net;
+use net_tree::Net;
 use sample_core::{Memory, Sample};
 use state_core::{Frozen, Kept, Running, State, push_param};
 use std::alloc::Global;

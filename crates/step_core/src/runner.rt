@@ -11,7 +11,7 @@ use crate::on::On;
 use crate::rows::{Rows, Workspace};
 use crate::run::{on_state, run_over};
 use leaf_table::{LeafId, LeafTable};
-use net_syntax::Net;
+use net_tree::Net;
 use sample_core::{Memory, Sample};
 use state_core::{Env, State};
 use std::alloc::Global;

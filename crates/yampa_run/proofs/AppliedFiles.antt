@@ -1,8 +1,8 @@
 -- What the command `apply` prints is read back, and is derived.
 use Rattle.std.proofs.Common.{◌≡◌, ℕ, List, Option, Some, refl, sym, ap, ◌∙◌, subst}
-use Rattle.net_syntax.specs.LawStep.{Step}
-use Rattle.net_syntax.specs.NetworkLimits.{WithinLimits}
-use Rattle.net_syntax.specs.TypedNetwork.{TypedNetwork}
+use Rattle.net_tree.specs.LawStep.{Step}
+use Rattle.net_meaning.specs.NetworkLimits.{WithinLimits}
+use Rattle.net_meaning.specs.TypedNetwork.{TypedNetwork}
 use Rattle.net_text.specs.FileLaws.{IsFile, PrintedFileLaw}
 use Rattle.net_text.specs.Printing.{file_spelling}
 use Rattle.cert_check.specs.Derives.{Derives}

@@ -4,8 +4,8 @@ use Rattle.std.specs.Prelude.{◌||◌, ◌&&◌}
 use Rattle.sample_core.specs.Datum.{Datum}
 use Rattle.sample_core.specs.TypeTree.{TypeTree}
 use Rattle.leaf_core.specs.Expression.{Expression}
-use Rattle.net_syntax.specs.Network.{Network}
-use Rattle.net_syntax.specs.TypedNetwork.{stream_of}
+use Rattle.net_tree.specs.Network.{Network}
+use Rattle.net_meaning.specs.TypedNetwork.{stream_of}
 use Rattle.stream_text.specs.Hearing.{BeginsWith}
 use Rattle.stream_text.specs.StreamText.{front, line_after, line_read, samples, samples_from, then_samples}
 use Rattle.stream_text.specs.TextLines.{Split, split, led_by, last_line, lines_of, shows_fault}

@@ -5,9 +5,9 @@ use Rattle.sample_core.specs.Datum.{Datum}
 use Rattle.sample_core.specs.HasType.{HasType}
 use Rattle.sample_core.specs.ReadingLaws.{ReadingLaw}
 use Rattle.sample_core.specs.TypeTree.{TypeTree}
-use Rattle.net_syntax.specs.LawStep.{Step}
-use Rattle.net_syntax.specs.TypedNetwork.{TypedNetwork, HasItsTypes, stream_of}
-use Rattle.net_syntax.specs.Typing.{TypedSamples, no_sample, and_sample}
+use Rattle.net_tree.specs.LawStep.{Step}
+use Rattle.net_meaning.specs.TypedNetwork.{TypedNetwork, HasItsTypes, stream_of}
+use Rattle.net_meaning.specs.Typing.{TypedSamples, no_sample, and_sample}
 use Rattle.cert_check.specs.Derives.{Derives}
 use Rattle.cert_check.specs.Laws.{SameStreamLaw}
 use Rattle.stream_text.specs.Hearing.{HoldsOfText}

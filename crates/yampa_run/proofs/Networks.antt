@@ -3,12 +3,12 @@ use Rattle.std.proofs.Common.{◌≡◌, ◌≢◌, ◌≤◌, inr, ℕ, true, L
 use Rattle.cert_check.specs.declared.answer.CheckFault.TheVariants as C
 use Rattle.std.specs.Result.{IfErr}
 use Rattle.command_line.specs.CommandLine.{LeadingNames}
-use Rattle.net_syntax.specs.LawStep.{Step}
+use Rattle.net_tree.specs.LawStep.{Step}
 use Rattle.yampa_run.specs.Words.{TellsPlace}
 use Rattle.sample_core.specs.TypeTree.{TypeTree}
 use Rattle.leaf_core.specs.Expression.{Expression}
-use Rattle.net_syntax.specs.Network.{Network}
-use Rattle.net_syntax.specs.TypedNetwork.{TypedNetwork}
+use Rattle.net_tree.specs.Network.{Network}
+use Rattle.net_meaning.specs.TypedNetwork.{TypedNetwork}
 use Rattle.net_text.specs.FileLaws.{IsFile, IsFileFault}
 use Rattle.net_text.specs.declared.fault.NetTextFault.{NetTextFault}
 use Rattle.net_types.proofs.Checks.{check_exact}

@@ -7,12 +7,12 @@ use Rattle.std.proofs.lemmas.List.Folds.{list_all_at}
 use Rattle.std.proofs.Math.Dec.{leb}
 use Rattle.leaf_expr.specs.Sexpr.{depths}
 use Rattle.leaf_core.specs.Expression.{Expression}
-use Rattle.net_syntax.specs.LawStep.{Step}
-use Rattle.net_syntax.specs.Network.{Network}
-use Rattle.net_syntax.specs.NetworkLimits.{WithinLimits}
-use Rattle.net_syntax.specs.TypedNetwork.{TypedNetwork}
-use Rattle.net_syntax.specs.declared.law_step.Law.{Law}
-use Rattle.net_syntax.specs.declared.law_step.Law.TheVariants as L
+use Rattle.net_tree.specs.LawStep.{Step}
+use Rattle.net_tree.specs.Network.{Network}
+use Rattle.net_meaning.specs.NetworkLimits.{WithinLimits}
+use Rattle.net_meaning.specs.TypedNetwork.{TypedNetwork}
+use Rattle.net_tree.specs.declared.law_step.Law.{Law}
+use Rattle.net_tree.specs.declared.law_step.Law.TheVariants as L
 use Rattle.net_text.specs.CertificateLaws.{IsCertificate}
 use Rattle.net_text.specs.CertificatePrinting.{ChildrenFit, GivenFits, IsLaw, PrintedCertificateLaw, StepFits, StepsFit, certificate_spelling, child_sexprs}
 use Rattle.net_text.specs.FileLaws.{IsFile, PrintedFileLaw}

@@ -3,8 +3,8 @@ use Rattle.std.proofs.Common.{◌≡◌, ◌≢◌, ◌∙◌, ◌≤◌, ◌++�
 use Rattle.std.proofs.lemmas.Fmt.{decimal_digit}
 use Rattle.std.specs.Result.{IfOk}
 use Rattle.leaf_expr.specs.Sexpr.{depths}
-use Rattle.net_syntax.specs.LawStep.{Step}
-use Rattle.net_syntax.specs.Position.{position_spelling}
+use Rattle.net_tree.specs.LawStep.{Step}
+use Rattle.net_tree.specs.Position.{position_spelling}
 use Rattle.net_text.specs.CertificateLaws.{IsCertificate}
 use Rattle.net_text.specs.declared.fault.NetTextFault.{NetTextFault}
 use Rattle.net_text.specs.declared.fault.NetTextFault.TheVariants as V

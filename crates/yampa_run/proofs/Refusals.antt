@@ -3,9 +3,9 @@ use Rattle.std.proofs.Common.{◌≡◌, ◌≢◌, ◌<◌, ◌≤◌, ℕ, Boo
 use Rattle.std.specs.Prelude.{IsSome, string_bytes}
 use Rattle.sample_core.specs.TypeTree.{TypeTree}
 use Rattle.leaf_core.specs.Expression.{Expression}
-use Rattle.net_syntax.specs.Network.{Network}
-use Rattle.net_syntax.specs.LawStep.{Step}
-use Rattle.net_syntax.specs.TypedNetwork.{TypedNetwork}
+use Rattle.net_tree.specs.Network.{Network}
+use Rattle.net_tree.specs.LawStep.{Step}
+use Rattle.net_meaning.specs.TypedNetwork.{TypedNetwork}
 use Rattle.net_text.specs.CertificateLaws.{IsCertificate, IsCertificateFault}
 use Rattle.net_text.specs.FileLaws.{IsFile, IsFileFault}
 use Rattle.net_text.specs.declared.fault.NetTextFault.{NetTextFault}
@@ -22,7 +22,7 @@ use Rattle.cert_check.specs.declared.answer.CheckFault.{CheckFault}
 use Rattle.cert_check.specs.declared.answer.CheckFault.TheVariants as C
 use Rattle.cert_check.proofs.OneAnswer.{one_answer}
 use Rattle.cert_check.proofs.Taken.{applied}
-use Rattle.net_syntax.specs.NetworkLimits.{WithinLimits}
+use Rattle.net_meaning.specs.NetworkLimits.{WithinLimits}
 use Rattle.net_view.specs.Listed.{IsThere}
 use Rattle.net_view.specs.Trace.{TraceAnswer, first_steps}
 use Rattle.yampa_run.specs.Words.{TellsFirst}

@@ -10,11 +10,11 @@ use Rattle.sample_core.specs.TypeTree.{TypeTree}
 use Rattle.sample_core.specs.declared.sample.Sample.{Sample}
 use Rattle.leaf_core.specs.Expression.{Expression}
 use Rattle.leaf_core.specs.ExpressionValue.{value_of}
-use Rattle.net_syntax.specs.Environment.{closed}
-use Rattle.net_syntax.specs.Network.{Network}
-use Rattle.net_syntax.specs.SignalFunction.{TimedList}
-use Rattle.net_syntax.specs.TypedNetwork.{stream_of}
-use Rattle.net_syntax.proofs.Meanings.{outputs-take, length-outputs}
+use Rattle.net_meaning.specs.Environment.{closed}
+use Rattle.net_tree.specs.Network.{Network}
+use Rattle.net_meaning.specs.SignalFunction.{TimedList}
+use Rattle.net_meaning.specs.TypedNetwork.{stream_of}
+use Rattle.net_meaning.proofs.Meanings.{outputs-take, length-outputs}
 use Rattle.step_core.specs.EnvironmentVisits.{visits_of}
 use Rattle.step_core.specs.RunnerState.{RunnerState, StandsFor, network_in, last_visits_of}
 use Rattle.step_core.proofs.CausalVisits.{visits-take, visits-push}

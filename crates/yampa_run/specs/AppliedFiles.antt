@@ -2,8 +2,8 @@
 use Rattle.std.specs.Prelude.{◌≡◌, ◌≤◌, ℕ, List, length, Some, None, false}
 use Rattle.leaf_expr.specs.Printing.{type_sexpr}
 use Rattle.leaf_expr.specs.Sexpr.{depth}
-use Rattle.net_syntax.specs.LawStep.{Step}
-use Rattle.net_syntax.specs.TypedNetwork.{TypedNetwork}
+use Rattle.net_tree.specs.LawStep.{Step}
+use Rattle.net_meaning.specs.TypedNetwork.{TypedNetwork}
 use Rattle.net_text.specs.Printing.{Writable, file_spelling, network_sexpr}
 use Rattle.net_view.specs.Applied.{PrintsApplied}
 use Rattle.command_line.specs.CommandLine.{DerivationNames, LeadingNames}

@@ -2,8 +2,8 @@
 -- same.
 use Rattle.std.specs.Prelude.{◌≡◌, ◌⊎◌, ℕ, List, length, Option, Some, None, Result, Ok, Err, ⊤}
 use Rattle.std.specs.Io.KnownBytes.{Appends}
-use Rattle.net_syntax.specs.LawStep.{Step}
-use Rattle.net_syntax.specs.TypedNetwork.{TypedNetwork, HasItsTypes}
+use Rattle.net_tree.specs.LawStep.{Step}
+use Rattle.net_meaning.specs.TypedNetwork.{TypedNetwork, HasItsTypes}
 use Rattle.cert_check.specs.Derives.{Derives}
 use Rattle.stream_text.specs.StreamText.{samples}
 use Rattle.stream_text.specs.declared.fault.StreamFault.{StreamFault}

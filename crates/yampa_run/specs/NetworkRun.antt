@@ -1,7 +1,7 @@
 -- A run of a typed network over a table of stored closures: what it does, and what is told of it.
 use Rattle.std.specs.Prelude.{◌≡◌, ◌⊎◌, ℕ, List, [], Option, Result, Ok, Err, codes, string_bytes, ⊤}
 use Rattle.leaf_core.specs.KeyTree.{KeyTree}
-use Rattle.net_syntax.specs.TypedNetwork.{TypedNetwork}
+use Rattle.net_meaning.specs.TypedNetwork.{TypedNetwork}
 use Rattle.step_core.specs.Lookup.{FindsAll, MissesIn}
 use Rattle.step_core.specs.declared.fault.BindFault.{BindFault}
 use Rattle.step_core.specs.declared.fault.BindFault.TheVariants as B

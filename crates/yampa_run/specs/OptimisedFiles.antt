@@ -6,9 +6,9 @@ use Rattle.sample_core.specs.TypeTree.{TypeTree}
 use Rattle.leaf_core.specs.Expression.{Expression}
 use Rattle.leaf_expr.specs.Printing.{type_sexpr}
 use Rattle.leaf_expr.specs.Sexpr.{depth}
-use Rattle.net_syntax.specs.LawStep.{Step}
-use Rattle.net_syntax.specs.Network.{Network}
-use Rattle.net_syntax.specs.TypedNetwork.{TypedNetwork}
+use Rattle.net_tree.specs.LawStep.{Step}
+use Rattle.net_tree.specs.Network.{Network}
+use Rattle.net_meaning.specs.TypedNetwork.{TypedNetwork}
 use Rattle.net_text.specs.CertificatePrinting.{ChildrenFit, certificate_spelling}
 use Rattle.net_text.specs.Printing.{Writable, file_spelling, network_sexpr}
 use Rattle.command_line.specs.CommandLine.{DerivationNames}

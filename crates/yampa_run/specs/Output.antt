@@ -5,10 +5,10 @@ use Rattle.sample_core.specs.Spelling.{spelling}
 use Rattle.sample_core.specs.TypeTree.{TypeTree}
 use Rattle.leaf_core.specs.Expression.{Expression}
 use Rattle.leaf_core.specs.ExpressionValue.{value_of}
-use Rattle.net_syntax.specs.Environment.{closed}
-use Rattle.net_syntax.specs.Network.{Network}
-use Rattle.net_syntax.specs.SignalFunction.{TimedList}
-use Rattle.net_syntax.specs.TypedNetwork.{stream_of}
+use Rattle.net_meaning.specs.Environment.{closed}
+use Rattle.net_tree.specs.Network.{Network}
+use Rattle.net_meaning.specs.SignalFunction.{TimedList}
+use Rattle.net_meaning.specs.TypedNetwork.{stream_of}
 use Rattle.step_core.specs.EnvironmentVisits.{visits_of}
 use Rattle.stream_text.specs.StreamText.{Samples, front, samples}
 use Rattle.stream_text.specs.declared.fault.StreamFault.{StreamFault}

@@ -4,12 +4,12 @@ use Rattle.std.specs.Fmt.{decimal}
 use Rattle.sample_core.specs.TypeTree.{TypeTree}
 use Rattle.sample_core.specs.Spelling.{type_spelling}
 use Rattle.leaf_core.specs.Expression.{Expression}
-use Rattle.net_syntax.specs.Network.{Network}
-use Rattle.net_syntax.specs.TypedNetwork.{TypedNetwork}
-use Rattle.net_syntax.specs.NetworkLimits.{WithinLimits}
-use Rattle.net_syntax.specs.LawStep.{Step}
-use Rattle.net_syntax.specs.Place.{Tree}
-use Rattle.net_syntax.specs.Position.{position_spelling}
+use Rattle.net_tree.specs.Network.{Network}
+use Rattle.net_meaning.specs.TypedNetwork.{TypedNetwork}
+use Rattle.net_meaning.specs.NetworkLimits.{WithinLimits}
+use Rattle.net_tree.specs.LawStep.{Step}
+use Rattle.net_tree.specs.Place.{Tree}
+use Rattle.net_tree.specs.Position.{position_spelling}
 use Rattle.net_text.specs.CertificateLaws.{IsCertificate, IsCertificateFault}
 use Rattle.net_text.specs.CertificatePrinting.{certificate_spelling}
 use Rattle.net_text.specs.FileLaws.{IsFile, IsFileFault}

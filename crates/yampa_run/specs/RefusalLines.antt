@@ -3,7 +3,7 @@ use Rattle.std.specs.Prelude.{ℕ, List, ◌++◌, Result, Ok, Err, codes, strin
 use Rattle.std.specs.Fmt.{decimal}
 use Rattle.leaf_core.specs.declared.typing.ExprFault.{ExprFault}
 use Rattle.leaf_core.specs.declared.typing.ExprFault.TheVariants as X
-use Rattle.net_syntax.specs.Position.{position_spelling}
+use Rattle.net_tree.specs.Position.{position_spelling}
 use Rattle.net_text.specs.declared.fault.NetTextFault.{NetTextFault}
 use Rattle.net_text.specs.declared.fault.NetTextFault.TheVariants as V
 use Rattle.net_types.specs.declared.fault.TypeFault.{TypeFault}

@@ -4,7 +4,7 @@ use Rattle.std.specs.Io.KnownBytes.{Appends, Consumes, IsAtEnd}
 use Rattle.sample_core.specs.Datum.{Datum}
 use Rattle.sample_core.specs.TypeTree.{TypeTree}
 use Rattle.leaf_core.specs.Expression.{Expression}
-use Rattle.net_syntax.specs.Network.{Network}
+use Rattle.net_tree.specs.Network.{Network}
 use Rattle.step_core.specs.RunnerState.{RunnerState, Pushes}
 use Rattle.stream_text.specs.Failures.{Rose}
 use Rattle.stream_text.specs.Hearing.{HoldsOfText}

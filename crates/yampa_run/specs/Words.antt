@@ -2,10 +2,10 @@
 use Rattle.std.specs.Prelude.{◌≡◌, ◌≤◌, ◌^◌, ◌-◌, ◌&&◌, ℕ, Bool, true, List, [], ◌++◌, length, min, nat_lt, Option, Some, None, MatchOption, IsSome, ◌∷◌, codes, if◌then◌else◌}
 use Rattle.std.specs.Str.{all_ascii_digits}
 use Rattle.std.specs.Str.Parse.{digits_value}
-use Rattle.net_syntax.specs.LawStep.{Step}
-use Rattle.net_syntax.specs.Position.{position_spelling}
-use Rattle.net_syntax.specs.declared.law_step.Direction.TheVariants.{Forward}
-use Rattle.net_syntax.specs.declared.law_step.Law.TheVariants as L
+use Rattle.net_tree.specs.LawStep.{Step}
+use Rattle.net_tree.specs.Position.{position_spelling}
+use Rattle.net_tree.specs.declared.law_step.Direction.TheVariants.{Forward}
+use Rattle.net_tree.specs.declared.law_step.Law.TheVariants as L
 use Rattle.net_text.specs.CertificatePrinting.{ChildrenFit}
 
 -- a word of digits, and at least one

@@ -2,7 +2,7 @@
 
 ghost use Rattle.std.specs.Prelude.{IfErr, IfOk, false, map, true};
 ghost use Rattle.command_line.specs.CommandLine.{leading_view};
-ghost use Rattle.net_syntax.specs.LawStep.{step_of};
+ghost use Rattle.net_tree.specs.LawStep.{step_of};
 ghost use Rattle.yampa_run.specs.Preparation.{IsApplied, IsNotApplied, IsShown, RefusesSteps, TellsApplied};
 
 use crate::certificate::{check_refusal, load_steps};
@@ -11,7 +11,8 @@ use crate::preparation::{Job, Refusal, load};
 use crate::refused::{Role, check_line};
 use crate::words::first_of;
 use command_line::Leading;
-use net_syntax::{LawStep, TypedNet};
+use net_syntax::TypedNet;
+use net_tree::LawStep;
 use net_view::{Trace, applied_text, first_steps, trace_steps, trace_text};
 use sample_core::Memory;
 use std::alloc::Global;

@@ -2,7 +2,7 @@
 
 ghost use Rattle.std.specs.Prelude.{◌≡◌, ◌++◌, Some, IfErr, IfOk, OnOk, map, string_bytes};
 ghost use Rattle.command_line.specs.CommandLine.{derivation_view};
-ghost use Rattle.net_syntax.specs.LawStep.{step_of};
+ghost use Rattle.net_tree.specs.LawStep.{step_of};
 ghost use Rattle.yampa_run.specs.Preparation.{AreStepsOf, HasNoDerivation, HasNoNetwork, HasNoSteps, IsDerivedIn, IsNetworkOf, RefusesCheck, TellsAccepted, accepted_line};
 
 use crate::files::{Files, read_file};
@@ -11,8 +11,9 @@ use crate::printed::{push_number, push_words};
 use crate::refused::{Role, check_line};
 use cert_check::{CheckFault, check};
 use command_line::Derivation;
-use net_syntax::{LawStep, TypedNet};
+use net_syntax::TypedNet;
 use net_text::read_cert;
+use net_tree::LawStep;
 use sample_core::Memory;
 use std::alloc::Global;
 

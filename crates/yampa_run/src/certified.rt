@@ -1,7 +1,7 @@
 // Certificates between the networks of two files, and where none is found.
 
 ghost use Rattle.std.specs.Prelude.{◌≡◌, ◌++◌, ◌∷◌, IfErr, IfOk, OnOk, string_bytes};
-ghost use Rattle.net_syntax.specs.LawStep.{part_of};
+ghost use Rattle.net_tree.specs.LawStep.{part_of};
 ghost use Rattle.net_view.specs.TraceText.{marked_line};
 ghost use Rattle.yampa_run.specs.Preparation.{HaveOtherInputs, IsCertified, IsNotCertified, TellsCertified, difference_lines};
 ghost use Rattle.yampa_run.specs.RefusalLines.{none_found_words};
@@ -13,8 +13,9 @@ use crate::printed::push_words;
 use crate::refused::{Role, none_found_line};
 use cert_check::CheckFault;
 use net_certify::{Certified, certify};
-use net_syntax::{Position, Tree, TypedNet, push_position};
+use net_syntax::TypedNet;
 use net_text::{print_cert, push_tree};
+use net_tree::{Position, Tree, push_position};
 use sample_core::Memory;
 use std::alloc::Global;
 

@@ -7,7 +7,8 @@ use crate::files::Files;
 use crate::preparation::{Refusal, load};
 use crate::refused::{Role, not_there_line};
 use crate::words::place_of;
-use net_syntax::{Position, TypedNet};
+use net_syntax::TypedNet;
+use net_tree::Position;
 use net_view::{has_position, possible_text};
 use std::alloc::Global;
 

@@ -6,8 +6,8 @@ ghost use Rattle.yampa_run.specs.RefusalLines.{byte_words, check_words, expressi
 use crate::printed::{push_number, push_words};
 use cert_check::CheckFault;
 use leaf_core::ExprFault;
-use net_syntax::{Position, push_position};
 use net_text::NetTextFault;
+use net_tree::{Position, push_position};
 use net_types::TypeFault;
 use sample_core::Memory;
 use std::alloc::Global;

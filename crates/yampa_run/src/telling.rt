@@ -2,8 +2,8 @@
 
 ghost use Rattle.std.specs.Prelude.{◌≡◌, ◌++◌, IfErr, IfOk, OnOk, map, string_bytes};
 ghost use Rattle.sample_core.specs.TypeView.{type_of};
-ghost use Rattle.net_syntax.specs.LawStep.{step_of};
-ghost use Rattle.net_syntax.specs.NetworkView.{tree_of};
+ghost use Rattle.net_tree.specs.LawStep.{step_of};
+ghost use Rattle.net_tree.specs.NetworkView.{tree_of};
 ghost use Rattle.yampa_run.specs.Preparation.{HasNoNetwork, Tells, TellsOf, arrow_line, size_lines, types_lines, wanted_text};
 
 use crate::files::Files;
@@ -14,8 +14,9 @@ use command_line::Wanted;
 use leaf_core::Expr;
 use net_improve::improve;
 use net_opt::optimise;
-use net_syntax::{LawStep, Net, TypedNet};
+use net_syntax::TypedNet;
 use net_text::{print_cert, print_net};
+use net_tree::{LawStep, Net};
 use net_view::outline_text;
 use sample_core::{Memory, Ty, push_type};
 use std::alloc::Global;

@@ -1,8 +1,8 @@
 // What the words of options tell: a number of steps, and a position.
 
 ghost use Rattle.std.specs.Prelude.{◌≡◌, ◌≢◌, ◌↔◌, IfErr, IfOk, IsTrue, OnOk, map, option_map, string_bytes};
-ghost use Rattle.net_syntax.specs.LawStep.{step_of};
-ghost use Rattle.net_syntax.specs.Position.{position_spelling};
+ghost use Rattle.net_tree.specs.LawStep.{step_of};
+ghost use Rattle.net_tree.specs.Position.{position_spelling};
 ghost use Rattle.net_text.specs.CertificatePrinting.{ChildrenFit};
 ghost use Rattle.net_text.specs.declared.fault.NetTextFault.TheVariants as Fault;
 ghost use Rattle.yampa_run.specs.Preparation.{IsNoNumber, IsNowhere};
@@ -11,8 +11,8 @@ ghost use Rattle.yampa_run.specs.Words.{IsPlaceIn, IsPlaceOfStep, TellsFirst, Te
 use crate::preparation::Refusal;
 use crate::printed::push_words;
 use crate::refused::{no_number_line, no_place_line};
-use net_syntax::{LawStep, Position, push_position};
 use net_text::{NetTextFault, read_cert};
+use net_tree::{LawStep, Position, push_position};
 use sample_core::Memory;
 use std::alloc::Global;
 

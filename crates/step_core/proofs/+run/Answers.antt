@@ -2,8 +2,8 @@ use Rattle.std.proofs.Common.{rules, ◌≡◌, ◌++◌, ◌∷◌, [], Some, N
 use Rattle.std.specs.Prelude.{slice_set}
 use Rattle.sample_core.specs.Datum.{right, unit}
 use Rattle.sample_core.specs.ValueView.{datum_of}
-use Rattle.net_syntax.specs.Network.{map_network, map_networks, seq, initial_out, initial_in}
-use Rattle.net_syntax.specs.NetworkView.{members_of}
+use Rattle.net_tree.specs.Network.{map_network, map_networks, seq, initial_out, initial_in}
+use Rattle.net_tree.specs.NetworkView.{members_of}
 use Rattle.cell_core.specs.Cell.{previous}
 use Rattle.state_core.specs.RowsView.{rows_in, row_number}
 use Rattle.state_core.specs.State.{paused, push_param, push_old, push_olds}

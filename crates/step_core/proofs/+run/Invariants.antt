@@ -1,14 +1,14 @@
 use Rattle.std.proofs.Common.{◌+◌, ◌*◌, ◌≡◌, ◌≤◌, drop, length, map, take}
-use Rattle.net_syntax.specs.Network.{map_networks, seq, first, par, loop_pre, initial_out, initial_in, switch, d_switch, r_switch, dr_switch, rp_switch, k_switch, p_switch, old}
-use Rattle.net_syntax.specs.NetworkView.{members_of}
-use Rattle.net_syntax.specs.Weight.{total}
+use Rattle.net_tree.specs.Network.{map_networks, seq, first, par, loop_pre, initial_out, initial_in, switch, d_switch, r_switch, dr_switch, rp_switch, k_switch, p_switch, old}
+use Rattle.net_tree.specs.NetworkView.{members_of}
+use Rattle.net_tree.specs.Weight.{total}
 use Rattle.state_core.specs.RowsView.{rows_in, row_number}
 use Rattle.state_core.specs.State.{paused, unstarted, push_param}
 use Rattle.state_core.specs.StateView.{frozen_of, kept_of, scope_of, state_of}
 use Rattle.state_core.specs.Tree.{width_of}
 use Rattle.step_core.specs.Flow.{flowed, all_flowed, placed, all_placed, standing, past_behind, past_in}
 use Rattle.step_core.specs.Rank.{frozen_rank, frozen_ranks}
-use Rattle.net_syntax.proofs.Sizes.{net_size}
+use Rattle.net_tree.proofs.Sizes.{net_size}
 use Rattle.sample_core.specs.ValueView.{datum_of}
 use Rattle.step_core.proofs.Flows.{ChainFlows, EachFlows}
 use Rattle.step_core.proofs.CollectionRuns.{MembersGo}

@@ -1,5 +1,5 @@
 use Rattle.std.proofs.Common.{map, subst}
-use Rattle.net_syntax.specs.LawStep.{step_of}
+use Rattle.net_tree.specs.LawStep.{step_of}
 use Rattle.cert_check.specs.CheckAnswer.{CheckAnswer}
 use Rattle.cert_check.proofs.Taken.{accepted_types, accepted_same}
 use Rattle.cert_check.proofs.derivation.check.Goals as goal

@@ -1,5 +1,5 @@
 use Rattle.std.proofs.Common.{◌+◌, map, refl, arith}
-use Rattle.net_syntax.specs.LawStep.{step_of}
+use Rattle.net_tree.specs.LawStep.{step_of}
 use Rattle.cert_check.specs.StepAnswers.{StepsAnswer}
 use Rattle.cert_check.specs.Derives.{no_step}
 use Rattle.cert_check.proofs.Taken.{taken_more, fault_first, passed_on}

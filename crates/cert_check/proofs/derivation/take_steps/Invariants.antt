@@ -1,5 +1,5 @@
 use Rattle.std.proofs.Common.{◌≡◌, map, take}
-use Rattle.net_syntax.specs.LawStep.{step_of}
+use Rattle.net_tree.specs.LawStep.{step_of}
 use Rattle.cert_check.specs.Derives.{Steps}
 use Rattle.cert_check.proofs.derivation.take_steps.Given as goal
 

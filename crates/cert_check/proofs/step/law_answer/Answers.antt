@@ -1,7 +1,7 @@
 use Rattle.std.proofs.Common.{◌≡◌, Some, refl, sym, ap, ◌∙◌, subst, option_map}
-use Rattle.net_syntax.specs.Place.{a_network}
+use Rattle.net_tree.specs.Place.{a_network}
 use Rattle.net_syntax.specs.Placed.{placed_at}
-use Rattle.net_syntax.specs.LawStep.{step_of}
+use Rattle.net_tree.specs.LawStep.{step_of}
 use Rattle.net_syntax.specs.ChildParts.{seen, seen_place}
 use Rattle.cert_check.specs.StepAnswers.{IsTreeAnswer}
 use Rattle.cert_check.proofs.Taken.{answered_there, unmatched_there}

@@ -1,5 +1,5 @@
 use Rattle.std.proofs.Common.{sym, ap, ◌∙◌, subst}
-use Rattle.net_syntax.specs.Place.{a_network}
+use Rattle.net_tree.specs.Place.{a_network}
 use Rattle.net_syntax.specs.Placed.{placed_at, FewBound}
 use Rattle.cert_check.proofs.FewBound.{few_bound}
 use Rattle.cert_check.proofs.step.place_in.Goals as goal

@@ -1,5 +1,5 @@
 use Rattle.std.proofs.Common.{◌≡◌, drop, ◌∷◌, []}
-use Rattle.net_syntax.specs.NetworkView.{tree_of}
+use Rattle.net_tree.specs.NetworkView.{tree_of}
 use Rattle.law_patterns.specs.NetMatching.{net_matching, net_matched, no_nets_found, nets_found_of}
 use Rattle.law_patterns.proofs.net_matching.fit_net.Given as goal
 

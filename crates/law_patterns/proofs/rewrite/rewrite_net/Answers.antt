@@ -1,4 +1,4 @@
-use Rattle.net_syntax.specs.NetworkView.{tree_of}
+use Rattle.net_tree.specs.NetworkView.{tree_of}
 use Rattle.law_patterns.proofs.NetRows.{net_rewritten-answers}
 use Rattle.law_patterns.proofs.rewrite.rewrite_net.Goals as goal
 

@@ -1,5 +1,5 @@
 use Rattle.std.proofs.Common.{ap}
-use Rattle.net_syntax.specs.NetworkView.{tree_of}
+use Rattle.net_tree.specs.NetworkView.{tree_of}
 use Rattle.law_rules.specs.Answer.{given_net}
 use Rattle.law_rules.proofs.Answered.{forward-answered, backward-answered}
 use Rattle.law_rules.proofs.apply.apply_law.Goals as goal

@@ -1,6 +1,6 @@
 use Rattle.std.proofs.Common.{arith}
 use Rattle.std.proofs.lemmas.Grind.{common_steps}
-use Rattle.net_syntax.specs.NetworkView.{tree_of}
+use Rattle.net_tree.specs.NetworkView.{tree_of}
 use Rattle.law_rules.specs.NetworkRow.{NetworkRow}
 use Rattle.law_rules.proofs.Answered.{found-row, other-side}
 use Rattle.law_rules.proofs.apply.backward.Goals as goal

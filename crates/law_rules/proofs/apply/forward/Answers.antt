@@ -1,5 +1,5 @@
 use Rattle.std.proofs.Common.{subst}
-use Rattle.net_syntax.specs.NetworkView.{tree_of}
+use Rattle.net_tree.specs.NetworkView.{tree_of}
 use Rattle.law_patterns.proofs.NetRules.{by-net_rule}
 use Rattle.law_rules.specs.NetworkRow.{NetworkRow}
 use Rattle.law_rules.specs.Forward.{law20, law38, law39, law40, law41, law42, law46}

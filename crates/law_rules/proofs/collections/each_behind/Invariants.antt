@@ -1,6 +1,6 @@
 use Rattle.std.proofs.Common.{◌≡◌, map, take}
-use Rattle.net_syntax.specs.Network.{seq}
-use Rattle.net_syntax.specs.NetworkView.{tree, tree_of}
+use Rattle.net_tree.specs.Network.{seq}
+use Rattle.net_tree.specs.NetworkView.{tree, tree_of}
 use Rattle.law_rules.proofs.collections.each_behind.Given as goal
 
 abbrev pub invariant-loop-f : goal.invariant-loop-f

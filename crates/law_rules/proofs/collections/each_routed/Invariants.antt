@@ -1,5 +1,5 @@
 use Rattle.std.proofs.Common.{◌≡◌, ◌++◌, map, drop}
-use Rattle.net_syntax.specs.NetworkView.{tree_of}
+use Rattle.net_tree.specs.NetworkView.{tree_of}
 use Rattle.law_rules.specs.Forward.{routed_each}
 use Rattle.law_rules.proofs.collections.each_routed.Given as goal
 

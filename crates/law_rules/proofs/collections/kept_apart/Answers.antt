@@ -1,7 +1,7 @@
 use Rattle.std.proofs.Common.{◌≡◌, Some, true, false, length, ap, ap₂, ◌∙◌, arith}
 use Rattle.leaf_core.specs.ExpressionView.{expression_of}
-use Rattle.net_syntax.specs.Network.{par, seq}
-use Rattle.net_syntax.specs.NetworkView.{tree}
+use Rattle.net_tree.specs.Network.{par, seq}
+use Rattle.net_tree.specs.NetworkView.{tree}
 use Rattle.law_rules.specs.Forward.{one_to_64}
 use Rattle.law_rules.proofs.Gathered.{not_kept, gathered-kept}
 use Rattle.law_rules.proofs.collections.kept_apart.Goals as goal

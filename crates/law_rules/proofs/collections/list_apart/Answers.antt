@@ -1,7 +1,7 @@
 use Rattle.std.proofs.Common.{ap, sym}
 use Rattle.sample_core.specs.TypeView.{type_of}
 use Rattle.leaf_core.specs.ExpressionView.{expression_of}
-use Rattle.net_syntax.specs.Network.{arr}
+use Rattle.net_tree.specs.Network.{arr}
 use Rattle.law_rules.specs.Forward.{law42}
 use Rattle.law_rules.proofs.AnsweredParts.{answered}
 use Rattle.law_rules.proofs.collections.list_apart.Goals as goal

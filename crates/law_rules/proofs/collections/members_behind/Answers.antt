@@ -1,5 +1,5 @@
 use Rattle.std.proofs.Common.{◌≡◌, true, false, length, arith}
-use Rattle.net_syntax.specs.NetworkView.{tree}
+use Rattle.net_tree.specs.NetworkView.{tree}
 use Rattle.law_rules.specs.Forward.{one_to_64}
 use Rattle.law_rules.proofs.AnsweredParts.{answered}
 use Rattle.law_rules.proofs.Gathered.{not_gathered, gathered-behind}

@@ -1,4 +1,4 @@
-use Rattle.net_syntax.specs.NetworkView.{tree}
+use Rattle.net_tree.specs.NetworkView.{tree}
 use Rattle.law_rules.proofs.AnsweredParts.{answered, behind}
 use Rattle.law_rules.proofs.parts.without_input.Goals as goal
 

@@ -1,5 +1,5 @@
 use Rattle.std.proofs.Common.{ap, ◌∙◌}
-use Rattle.net_syntax.specs.NetworkView.{tree_of}
+use Rattle.net_tree.specs.NetworkView.{tree_of}
 use Rattle.net_opt.proofs.Walked.{reached_start, settled_start, from_root}
 use Rattle.net_opt.proofs.optimiser.first_step.Goals as goal
 

@@ -1,9 +1,9 @@
 use Rattle.std.proofs.Common.{◌≡◌, List, [], ◌∷◌, ◌++◌, length, map, sym, ap, subst, arith, length-append}
 use Rattle.std.proofs.lemmas.List.{length-map}
 use Rattle.std.specs.List.{All}
-use Rattle.net_syntax.specs.LawStep.{Step, step_of}
-use Rattle.net_syntax.specs.TypedNetwork.{TypedNetwork}
-use Rattle.net_syntax.specs.declared.law_step.LawStep.{LawStep}
+use Rattle.net_tree.specs.LawStep.{Step, step_of}
+use Rattle.net_meaning.specs.TypedNetwork.{TypedNetwork}
+use Rattle.net_tree.specs.declared.law_step.LawStep.{LawStep}
 use Rattle.cert_check.specs.Derives.{Steps}
 use Rattle.net_opt.specs.Optimising.{FirstSteps, MayTake, NoneLeft}
 use Rattle.net_opt.specs.Search.{FirstWithin, Settled}

@@ -1,6 +1,6 @@
 use Rattle.std.proofs.Common.{◌-◌, ◌≤◌, [], length, map}
 use Rattle.std.specs.List.{All}
-use Rattle.net_syntax.specs.LawStep.{step_of}
+use Rattle.net_tree.specs.LawStep.{step_of}
 use Rattle.cert_check.specs.Derives.{Steps}
 use Rattle.net_opt.specs.Optimising.{FirstSteps, MayTake}
 use Rattle.net_opt.specs.Search.{Settled}

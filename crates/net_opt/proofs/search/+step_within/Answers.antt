@@ -2,7 +2,7 @@ use Rattle.std.proofs.Common.{◌≡◌, [], ◌∷◌, Some, option_map, sym, a
 use Rattle.std.proofs.lemmas.Grind.{common_steps}
 use Rattle.net_syntax.specs.ChildParts.{seen, seen_place}
 use Rattle.net_syntax.specs.Placed.{placed_at}
-use Rattle.net_syntax.specs.LawStep.{step_of}
+use Rattle.net_tree.specs.LawStep.{step_of}
 use Rattle.net_opt.specs.Search.{PassedAt, PassedWithin, FirstAt, FirstWithin}
 use Rattle.net_opt.proofs.Tried.{found_none, found_some}
 use Rattle.net_opt.proofs.Walked.{reached_more, settled_more, settled_before, lower_inside, low_number, few_there, none_within, one_deeper, nothing_below, passed_on_at, first_here, first_deeper}

@@ -1,7 +1,7 @@
 use Rattle.std.proofs.Common.{◌≡◌, length, refl, ◌∙◌, get_or, arith}
 use Rattle.leaf_core.specs.ExpressionView.{expression_of}
-use Rattle.net_syntax.specs.LawStep.{step_of}
-use Rattle.net_syntax.specs.declared.law_step.Law.TheVariants as L
+use Rattle.net_tree.specs.LawStep.{step_of}
+use Rattle.net_tree.specs.declared.law_step.Law.TheVariants as L
 use Rattle.net_opt.specs.Optimising.{expression_laws, forward_step}
 use Rattle.net_opt.specs.Search.{Passed}
 use Rattle.net_opt.proofs.Tried.{found_none, found_some, leaf_law_more, first_leaf_law, passed_at_leaf}

@@ -1,5 +1,5 @@
 use Rattle.std.proofs.Common.{◌≡◌, ℕ, ◌<◌, true, get_or}
-use Rattle.net_syntax.specs.declared.law_step.Law.TheVariants as L
+use Rattle.net_tree.specs.declared.law_step.Law.TheVariants as L
 use Rattle.net_opt.specs.Optimising.{network_laws}
 use Rattle.net_opt.specs.Search.{Passed}
 use Rattle.net_opt.proofs.step.step_at_net.Given as goal

@@ -1,7 +1,7 @@
 use Rattle.std.proofs.Common.{None, refl, subst}
 use Rattle.leaf_core.specs.ExpressionView.{expression_of}
-use Rattle.net_syntax.specs.declared.law_step.Law.TheVariants as L
-use Rattle.net_syntax.specs.declared.law_step.Direction.TheVariants.{Forward}
+use Rattle.net_tree.specs.declared.law_step.Law.TheVariants as L
+use Rattle.net_tree.specs.declared.law_step.Direction.TheVariants.{Forward}
 use Rattle.expr_laws.specs.Answer.{IsExpressionAnswer}
 use Rattle.net_opt.proofs.Tried.{leaf_step, no_leaf_match}
 use Rattle.net_opt.proofs.step.step_by_expr_law.Goals as goal

@@ -1,7 +1,7 @@
 use Rattle.std.proofs.Common.{None, refl, subst}
-use Rattle.net_syntax.specs.NetworkView.{tree_of}
-use Rattle.net_syntax.specs.declared.law_step.Law.TheVariants as L
-use Rattle.net_syntax.specs.declared.law_step.Direction.TheVariants.{Forward}
+use Rattle.net_tree.specs.NetworkView.{tree_of}
+use Rattle.net_tree.specs.declared.law_step.Law.TheVariants as L
+use Rattle.net_tree.specs.declared.law_step.Direction.TheVariants.{Forward}
 use Rattle.law_rules.specs.Answer.{IsNetworkAnswer}
 use Rattle.net_opt.proofs.Tried.{net_step, no_net_match}
 use Rattle.net_opt.proofs.step.step_by_net_law.Goals as goal

@@ -1,4 +1,4 @@
-use Rattle.net_syntax.proofs.StreamLaws.{outputs-typed, alike-outputs, same-outputs, one-output-type, within-typed}
+use Rattle.net_meaning.proofs.StreamLaws.{outputs-typed, alike-outputs, same-outputs, one-output-type, within-typed}
 use Rattle.net_syntax.proofs.NeedPlaces.{stands-at}
 use Rattle.net_syntax.proofs.NeedOrder.{all-reached, in-order}
 use Rattle.net_syntax.proofs.OneList.{one-list}

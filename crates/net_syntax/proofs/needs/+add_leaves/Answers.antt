@@ -3,8 +3,8 @@ use Rattle.std.proofs.lemmas.Grind.{common_steps}
 use Rattle.sample_core.specs.TypeView.{type_of}
 use Rattle.leaf_core.specs.ExpressionView.{expression_of}
 use Rattle.net_syntax.specs.Leaves.{Need}
-use Rattle.net_syntax.specs.Network.{map_network}
-use Rattle.net_syntax.specs.NetworkView.{tree_of}
+use Rattle.net_tree.specs.Network.{map_network}
+use Rattle.net_tree.specs.NetworkView.{tree_of}
 use Rattle.net_syntax.specs.NeedView.{need_of}
 use Rattle.net_syntax.specs.LeafWalk.{find}
 use Rattle.net_syntax.proofs.LeafWalks.{code_collection_adds, code_members_found, code_rest_found, code_routed_adds, code_start_found, code_watch_found, collection_few, if_ok, joined_copies, par_members, route_found, still}

@@ -1,6 +1,6 @@
 use Rattle.std.proofs.Common.{◌+◌, ◌*◌}
-use Rattle.net_syntax.specs.Network.{network_size, networks_size}
-use Rattle.net_syntax.proofs.Sizes.{net_size, nets_size}
+use Rattle.net_tree.specs.Network.{network_size, networks_size}
+use Rattle.net_tree.proofs.Sizes.{net_size, nets_size}
 use Rattle.net_syntax.proofs.needs.+add_leaves.Given as goal
 
 abbrev pub decreases-add_leaves : goal.decreases-add_leaves

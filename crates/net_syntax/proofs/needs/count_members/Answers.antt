@@ -1,6 +1,6 @@
 use Rattle.std.proofs.Common.{arith, ap, sym, ◌∙◌}
 use Rattle.std.proofs.lemmas.Grind.{common_steps}
-use Rattle.net_syntax.specs.Typing.{members}
+use Rattle.net_meaning.specs.Typing.{members}
 use Rattle.net_syntax.proofs.LeafWalks.{members_length}
 use Rattle.net_syntax.proofs.needs.count_members.Goals as goal
 

@@ -1,6 +1,6 @@
 use Rattle.std.proofs.Common.{◌+◌, ◌*◌}
-use Rattle.net_syntax.specs.Network.{network_size, networks_size}
-use Rattle.net_syntax.specs.NetworkView.{tree_of, tree, trees}
+use Rattle.net_tree.specs.Network.{network_size, networks_size}
+use Rattle.net_tree.specs.NetworkView.{tree_of, tree, trees}
 use Rattle.net_syntax.proofs.output.+output.Given as goal
 
 abbrev pub decreases-output_in : goal.decreases-output_in

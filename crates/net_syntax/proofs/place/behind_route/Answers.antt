@@ -1,5 +1,5 @@
 use Rattle.std.proofs.Common.{arith}
-use Rattle.net_syntax.specs.NetworkView.{tree}
+use Rattle.net_tree.specs.NetworkView.{tree}
 use Rattle.net_syntax.proofs.ChildNumbers.{behind_here, behind_past, behind_none}
 use Rattle.std.proofs.lemmas.Grind.{common_steps}
 use Rattle.net_syntax.proofs.place.behind_route.Goals as goal

@@ -1,7 +1,7 @@
 use Rattle.std.proofs.Common.{arith}
 use Rattle.std.proofs.lemmas.Grind.{common_steps}
 use Rattle.leaf_core.specs.ExpressionView.{expression_of}
-use Rattle.net_syntax.specs.NetworkView.{tree}
+use Rattle.net_tree.specs.NetworkView.{tree}
 use Rattle.net_syntax.proofs.place.bound_in.Goals as goal
 
 pub returns-in-PSwitch : goal.returns-in-PSwitch

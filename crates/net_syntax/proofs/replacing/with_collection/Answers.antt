@@ -1,7 +1,7 @@
 use Rattle.std.proofs.Common.{◌≡◌, IfOk, option_map, arith, sym, subst}
 use Rattle.std.proofs.lemmas.Grind.{common_steps}
 use Rattle.leaf_core.specs.ExpressionView.{expression_of}
-use Rattle.net_syntax.specs.NetworkView.{tree, tree_of}
+use Rattle.net_tree.specs.NetworkView.{tree, tree_of}
 use Rattle.net_syntax.proofs.CollectionChildren.{collected_put, no_network_put, start_put}
 use Rattle.net_syntax.proofs.replacing.with_collection.Goals as goal
 

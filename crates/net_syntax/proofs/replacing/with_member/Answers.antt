@@ -1,6 +1,6 @@
 use Rattle.std.proofs.Common.{arith, sym}
 use Rattle.std.proofs.lemmas.Grind.{common_steps}
-use Rattle.net_syntax.specs.NetworkView.{tree_of}
+use Rattle.net_tree.specs.NetworkView.{tree_of}
 use Rattle.net_syntax.proofs.ChangedChildren.{member_put, no_member_put}
 use Rattle.net_syntax.proofs.replacing.with_member.Goals as goal
 

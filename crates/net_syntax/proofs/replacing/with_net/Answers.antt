@@ -1,6 +1,6 @@
 use Rattle.std.proofs.Common.{arith}
 use Rattle.std.proofs.lemmas.Grind.{common_steps}
-use Rattle.net_syntax.specs.NetworkView.{tree}
+use Rattle.net_tree.specs.NetworkView.{tree}
 use Rattle.net_syntax.proofs.replacing.with_net.Goals as goal
 
 pub returns-in-First : goal.returns-in-First

@@ -1,6 +1,6 @@
 use Rattle.std.proofs.Common.{◌≡◌, ◌-◌, length, IfOk, option_map, arith, sym, subst}
 use Rattle.leaf_core.specs.ExpressionView.{expression_of}
-use Rattle.net_syntax.specs.NetworkView.{tree, tree_of}
+use Rattle.net_tree.specs.NetworkView.{tree, tree_of}
 use Rattle.net_syntax.proofs.ChangedChildren.{member_put_at, behind_put}
 use Rattle.net_syntax.proofs.replacing.with_p_switch.Goals as goal
 

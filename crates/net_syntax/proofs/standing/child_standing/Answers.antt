@@ -1,5 +1,5 @@
 use Rattle.std.proofs.Common.{None, Some, sym}
-use Rattle.net_syntax.specs.NetworkView.{tree_of}
+use Rattle.net_tree.specs.NetworkView.{tree_of}
 use Rattle.net_syntax.specs.StandingWalk.{standing_of}
 use Rattle.net_syntax.proofs.FoundOutputs.{nothing_found}
 use Rattle.net_syntax.proofs.FoundTypes.{child_found}

@@ -1,6 +1,6 @@
 use Rattle.std.proofs.Common.{◌-◌, suc, length, ap, sym, ◌∙◌, arith}
-use Rattle.net_syntax.specs.NetworkView.{trees}
-use Rattle.net_syntax.specs.Place.{p_switch_child}
+use Rattle.net_tree.specs.NetworkView.{trees}
+use Rattle.net_tree.specs.Place.{p_switch_child}
 use Rattle.net_syntax.proofs.ChildNumbers.{below, past}
 use Rattle.net_syntax.proofs.standing.kind_behind.Goals as goal
 

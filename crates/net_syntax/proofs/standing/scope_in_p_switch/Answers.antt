@@ -2,10 +2,10 @@ use Rattle.std.proofs.Common.{◌≡◌, ◌-◌, ap, sym, ◌∙◌, subst, ari
 use Rattle.sample_core.specs.TypeView.{type_of}
 use Rattle.net_syntax.specs.ArrowView.{arrow_of}
 use Rattle.net_syntax.specs.FoundType.{Finds}
-use Rattle.net_syntax.specs.NetworkView.{tree, trees}
-use Rattle.net_syntax.specs.Place.{◌>>=◌}
+use Rattle.net_tree.specs.NetworkView.{tree, trees}
+use Rattle.net_tree.specs.Place.{◌>>=◌}
 use Rattle.net_syntax.specs.StandingWalk.{frozen, standing_of}
-use Rattle.net_syntax.specs.Typing.{members}
+use Rattle.net_meaning.specs.Typing.{members}
 use Rattle.net_syntax.proofs.ChildNumbers.{continuation_at}
 use Rattle.net_syntax.proofs.standing.scope_in_p_switch.Goals as goal
 

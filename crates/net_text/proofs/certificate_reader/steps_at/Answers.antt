@@ -1,6 +1,6 @@
 use Rattle.std.proofs.Common.{◌≡◌, ◌∷◌, ◌++◌, [], length, map, arith}
 use Rattle.std.proofs.lemmas.Grind.{common_steps}
-use Rattle.net_syntax.specs.LawStep.{step_of}
+use Rattle.net_tree.specs.LawStep.{step_of}
 use Rattle.net_text.specs.Form.{version_of}
 use Rattle.net_text.specs.ReadNet.{from_byte}
 use Rattle.net_text.specs.ReadCertificate.{steps_from}

@@ -1,6 +1,6 @@
 use Rattle.std.proofs.Common.{◌≡◌, length, map}
 use Rattle.net_text.specs.ReadNet.{from_byte}
-use Rattle.net_syntax.specs.LawStep.{step_of}
+use Rattle.net_tree.specs.LawStep.{step_of}
 use Rattle.net_text.specs.ReadCertificate.{steps_from}
 use Rattle.net_text.proofs.CertificateRead.{with_steps}
 use Rattle.net_text.proofs.certificate_reader.steps_at.Given as goal

@@ -11,10 +11,10 @@ use Rattle.leaf_expr.proofs.ItemSteps.{more}
 use Rattle.leaf_expr.proofs.ReadCounts.{read_shortens}
 use Rattle.leaf_expr.proofs.ReadSteps.{given, made, told}
 use Rattle.leaf_expr.proofs.PartSteps.{named, unnamed, parts_made, parts_refused}
-use Rattle.net_syntax.specs.Network.{Network, Networks, networks_of, par, p_switch, map_network, map_networks}
+use Rattle.net_tree.specs.Network.{Network, Networks, networks_of, par, p_switch, map_network, map_networks}
 use Rattle.leaf_core.specs.Expression.{Expression}
-use Rattle.net_syntax.specs.FormView.{fed_tree}
-use Rattle.net_syntax.specs.NetworkView.{tree_of}
+use Rattle.net_tree.specs.FormView.{fed_tree}
+use Rattle.net_tree.specs.NetworkView.{tree_of}
 use Rattle.net_text.specs.Grammar.{network_sort, members_sort, row, e, f, col}
 use Rattle.net_text.proofs.ReadSteps.{col_named, col_unnamed, col_no_word, leaf_part, no_leaf, fed_made, members_are, read_behind, refused_behind}
 use Rattle.net_text.proofs.network_reader.+network.Goals as goal

@@ -1,7 +1,7 @@
 use Rattle.std.proofs.Common.{◌≡◌, ◌+◌, ◌*◌, length, map}
 use Rattle.leaf_expr.specs.Language.{places}
 use Rattle.leaf_expr.proofs.ItemSteps.{with_front}
-use Rattle.net_syntax.specs.NetworkView.{tree_of}
+use Rattle.net_tree.specs.NetworkView.{tree_of}
 use Rattle.net_text.specs.Grammar.{network_sort}
 use Rattle.net_text.specs.ReadNet.{from_byte, parts_at}
 use Rattle.net_text.proofs.network_reader.+network.Given as goal

@@ -3,7 +3,7 @@ use Rattle.leaf_expr.specs.Grammar.{index_sort}
 use Rattle.leaf_expr.specs.Language.{no_place}
 use Rattle.leaf_expr.proofs.ReadSteps.{told, given}
 use Rattle.leaf_expr.proofs.PartSteps.{ended, no_end}
-use Rattle.net_syntax.specs.Network.{old}
+use Rattle.net_tree.specs.Network.{old}
 use Rattle.net_text.specs.ReadNet.{language}
 use Rattle.net_text.proofs.ReadSteps.{leaf_part, no_leaf}
 use Rattle.net_text.proofs.network_reader.old_at.Goals as goal

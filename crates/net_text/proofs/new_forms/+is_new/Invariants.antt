@@ -1,8 +1,8 @@
 use Rattle.std.proofs.Common.{◌≡◌, ◌+◌, ◌*◌, drop}
 use Rattle.leaf_core.specs.ExpressionView.{expression_of}
-use Rattle.net_syntax.specs.Network.{networks_size, map_networks}
-use Rattle.net_syntax.specs.NetworkView.{members_of}
-use Rattle.net_syntax.proofs.Sizes.{net_size}
+use Rattle.net_tree.specs.Network.{networks_size, map_networks}
+use Rattle.net_tree.specs.NetworkView.{members_of}
+use Rattle.net_tree.proofs.Sizes.{net_size}
 use Rattle.net_text.specs.Printing.{are_new}
 use Rattle.net_text.proofs.new_forms.+is_new.Given as goal
 

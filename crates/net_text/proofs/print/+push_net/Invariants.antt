@@ -2,10 +2,10 @@ use Rattle.std.proofs.Common.{◌≡◌, ◌+◌, ◌*◌, ◌++◌, string_byte
 use Rattle.sample_core.specs.Adding.{Extends}
 use Rattle.leaf_core.specs.ExpressionView.{expression_of}
 use Rattle.leaf_expr.specs.Sexpr.{spellings}
-use Rattle.net_syntax.specs.Network.{network_size, networks_size, map_networks}
-use Rattle.net_syntax.specs.NetworkView.{members_of}
+use Rattle.net_tree.specs.Network.{network_size, networks_size, map_networks}
+use Rattle.net_tree.specs.NetworkView.{members_of}
 use Rattle.net_text.specs.Printing.{network_sexprs}
-use Rattle.net_syntax.proofs.Sizes.{net_size}
+use Rattle.net_tree.proofs.Sizes.{net_size}
 use Rattle.net_text.proofs.print.+push_net.Given as goal
 
 -- the text begins as it did, and what stands there and the spelling of the members to come is the whole

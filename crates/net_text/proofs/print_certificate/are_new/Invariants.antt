@@ -1,5 +1,5 @@
 use Rattle.std.proofs.Common.{◌≡◌, drop, map}
-use Rattle.net_syntax.specs.LawStep.{step_of}
+use Rattle.net_tree.specs.LawStep.{step_of}
 use Rattle.net_text.specs.CertificatePrinting.{are_new_steps}
 use Rattle.net_text.proofs.print_certificate.are_new.Given as goal
 

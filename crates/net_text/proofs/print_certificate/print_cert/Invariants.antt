@@ -1,5 +1,5 @@
 use Rattle.std.proofs.Common.{◌≡◌, ◌++◌, string_bytes, drop, map}
-use Rattle.net_syntax.specs.LawStep.{step_of}
+use Rattle.net_tree.specs.LawStep.{step_of}
 use Rattle.net_text.specs.CertificatePrinting.{step_lines, certificate_spelling}
 use Rattle.net_text.proofs.print_certificate.print_cert.Given as goal
 

@@ -2,8 +2,8 @@ use Rattle.std.proofs.Common.{◌∙◌, ap, sym, subst, ◌∷◌, ◌++◌, []
 use Rattle.std.specs.Prelude.{codes}
 use Rattle.sample_core.specs.Adding.{Adds}
 use Rattle.leaf_expr.specs.Sexpr.{spellings}
-use Rattle.net_syntax.specs.Position.{position_spelling}
-use Rattle.net_syntax.specs.LawStep.{step_of}
+use Rattle.net_tree.specs.Position.{position_spelling}
+use Rattle.net_tree.specs.LawStep.{step_of}
 use Rattle.net_text.specs.CertificatePrinting.{law_spelling, direction_spelling, given_sexprs}
 use Rattle.net_text.proofs.CertificateLines.{step_spelled, six_added}
 use Rattle.net_text.proofs.print_certificate.push_step.Goals as goal

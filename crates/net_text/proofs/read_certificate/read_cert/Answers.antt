@@ -1,5 +1,5 @@
 use Rattle.std.proofs.Common.{map}
-use Rattle.net_syntax.specs.LawStep.{step_of}
+use Rattle.net_tree.specs.LawStep.{step_of}
 use Rattle.net_text.proofs.CertificateRead.{cert_found, cert_only, certificate_refused}
 use Rattle.net_text.proofs.read_certificate.read_cert.Goals as goal
 

@@ -1,8 +1,8 @@
 use Rattle.std.proofs.Common.{arith}
 use Rattle.std.proofs.lemmas.Bool.Decides.{nat_tests}
 use Rattle.sample_core.specs.TypeView.{type_of}
-use Rattle.net_syntax.specs.LawStep.{part_of}
-use Rattle.net_syntax.specs.NetworkView.{tree_of}
+use Rattle.net_tree.specs.LawStep.{part_of}
+use Rattle.net_tree.specs.NetworkView.{tree_of}
 use Rattle.net_types.proofs.Rewritings.{rewritten, none_large, none_unkept}
 use Rattle.net_types.proofs.rewriting.retyped.Goals as goal
 

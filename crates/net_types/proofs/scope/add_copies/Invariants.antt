@@ -1,6 +1,6 @@
 use Rattle.std.proofs.Common.{◌≡◌, ◌++◌, map}
 use Rattle.net_syntax.specs.ArrowView.{arrow_of}
-use Rattle.net_syntax.specs.Typing.{copies}
+use Rattle.net_meaning.specs.Typing.{copies}
 use Rattle.net_types.proofs.scope.add_copies.Given as goal
 
 abbrev pub invariant-loop : goal.invariant-loop

@@ -3,8 +3,8 @@ use Rattle.std.proofs.lemmas.Result.{err_from_is_err_and}
 use Rattle.sample_core.specs.TypeView.{type_of}
 use Rattle.leaf_core.specs.ExpressionView.{expression_of}
 use Rattle.net_syntax.specs.ArrowView.{arrow_of}
-use Rattle.net_syntax.specs.Network.{map_network, map_networks}
-use Rattle.net_syntax.specs.NetworkView.{members_of}
+use Rattle.net_tree.specs.Network.{map_network, map_networks}
+use Rattle.net_tree.specs.NetworkView.{members_of}
 use Rattle.net_types.proofs.WalkParts.{freezing_gives, p_switch_gives, rp_switch_gives, collection_gives, collection_stops, collection_fails}
 use Rattle.net_types.proofs.walk.+walk.Goals as goal
 

@@ -1,6 +1,6 @@
 use Rattle.std.proofs.Common.{◌+◌, ◌*◌}
-use Rattle.net_syntax.specs.Network.{network_size, networks_size}
-use Rattle.net_syntax.proofs.Sizes.{net_size, nets_size}
+use Rattle.net_tree.specs.Network.{network_size, networks_size}
+use Rattle.net_tree.proofs.Sizes.{net_size, nets_size}
 use Rattle.net_types.proofs.walk.+walk.Given as goal
 
 abbrev pub decreases-walk_k_switch : goal.decreases-walk_k_switch

@@ -1,7 +1,7 @@
 use Rattle.std.proofs.Common.{◌≡◌, Some, option_map, sym, ap, ◌∙◌, subst, arith}
 use Rattle.std.proofs.lemmas.Grind.{common_steps}
 use Rattle.net_syntax.specs.ChildParts.{seen_place}
-use Rattle.net_syntax.specs.Place.{a_network}
+use Rattle.net_tree.specs.Place.{a_network}
 use Rattle.net_syntax.specs.Placed.{placed_at}
 use Rattle.net_opt.specs.Walk.{Reached}
 use Rattle.net_opt.proofs.Walked.{nothing_below}

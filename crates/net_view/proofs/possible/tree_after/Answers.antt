@@ -1,4 +1,4 @@
-use Rattle.net_syntax.specs.LawStep.{step_of}
+use Rattle.net_tree.specs.LawStep.{step_of}
 use Rattle.net_view.proofs.Stepping.{ok_after, none_after}
 use Rattle.net_view.proofs.possible.tree_after.Goals as goal
 use Rattle.net_view.proofs.possible.tree_after.Goals.{in-Ok, in-Err}

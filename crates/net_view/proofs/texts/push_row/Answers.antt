@@ -1,7 +1,7 @@
 use Rattle.std.proofs.Common.{◌∙◌, ap, [], ◌∷◌, ◌++◌, string_bytes}
 use Rattle.std.specs.Prelude.{codes}
 use Rattle.sample_core.specs.Spelling.{type_spelling}
-use Rattle.net_syntax.specs.Position.{position_spelling}
+use Rattle.net_tree.specs.Position.{position_spelling}
 use Rattle.net_view.proofs.TextParts.{adds_behind}
 use Rattle.net_view.specs.Rows.{row_of}
 use Rattle.net_view.specs.Texts.{indent, form_word, weight_spelling}

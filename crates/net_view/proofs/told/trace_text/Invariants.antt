@@ -1,6 +1,6 @@
 use Rattle.std.proofs.Common.{◌≡◌, ◌++◌, map, drop, option_map}
 use Rattle.std.specs.Prelude.{string_bytes}
-use Rattle.net_syntax.specs.LawStep.{step_of}
+use Rattle.net_tree.specs.LawStep.{step_of}
 use Rattle.net_view.specs.Trace.{changed_of, stopped_of}
 use Rattle.net_view.specs.TraceText.{trace_lines}
 use Rattle.net_view.proofs.told.trace_text.Given as goal

@@ -1,6 +1,6 @@
 use Rattle.std.proofs.Common.{map, take, sym, ap, ◌∙◌}
 use Rattle.std.proofs.lemmas.List.{take_min, take-map}
-use Rattle.net_syntax.specs.LawStep.{step_of}
+use Rattle.net_tree.specs.LawStep.{step_of}
 use Rattle.net_view.specs.Trace.{first_steps}
 use Rattle.net_view.proofs.trace.first_steps.Goals as goal
 

@@ -1,7 +1,7 @@
 use Rattle.std.proofs.Common.{IfOk, None, option_map, sym, ap, ◌∙◌, subst}
 use Rattle.net_syntax.specs.ChildParts.{seen_place}
-use Rattle.net_syntax.specs.LawStep.{part_of, step_of}
-use Rattle.net_syntax.specs.declared.law_step.Direction.TheVariants.{Forward}
+use Rattle.net_tree.specs.LawStep.{part_of, step_of}
+use Rattle.net_tree.specs.declared.law_step.Direction.TheVariants.{Forward}
 use Rattle.cert_check.specs.StepAnswers.{IsTreeAnswer}
 use Rattle.net_view.proofs.Traces.{led_by}
 use Rattle.net_view.proofs.trace.led_by.Goals as goal

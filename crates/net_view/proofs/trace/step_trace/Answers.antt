@@ -1,4 +1,4 @@
-use Rattle.net_syntax.specs.LawStep.{step_of}
+use Rattle.net_tree.specs.LawStep.{step_of}
 use Rattle.net_view.proofs.Traces.{after_there, stops_so}
 use Rattle.net_view.proofs.trace.step_trace.Goals as goal
 

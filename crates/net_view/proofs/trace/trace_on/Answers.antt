@@ -1,5 +1,5 @@
 use Rattle.std.proofs.Common.{◌+◌, [], map, refl, sym, subst, arith}
-use Rattle.net_syntax.specs.LawStep.{step_of}
+use Rattle.net_tree.specs.LawStep.{step_of}
 use Rattle.net_view.specs.Trace.{AreChanges, IsStepTrace, changed_of, no_change, stopped_of}
 use Rattle.net_view.proofs.Traces.{changed_more, stopped_at}
 use Rattle.net_view.proofs.trace.trace_on.Goals as goal

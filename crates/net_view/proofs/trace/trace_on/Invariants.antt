@@ -1,5 +1,5 @@
 use Rattle.std.proofs.Common.{◌≡◌, map, take}
-use Rattle.net_syntax.specs.LawStep.{step_of}
+use Rattle.net_tree.specs.LawStep.{step_of}
 use Rattle.net_view.specs.Trace.{AreChanges, changed_of}
 use Rattle.net_view.proofs.trace.trace_on.Given as goal
 

@@ -1,5 +1,5 @@
 use Rattle.std.proofs.Common.{sym, subst}
-use Rattle.net_syntax.specs.Place.{a_network}
+use Rattle.net_tree.specs.Place.{a_network}
 use Rattle.net_syntax.specs.Placed.{FewBound}
 use Rattle.cert_check.proofs.FewBound.{few_bound}
 use Rattle.rows.proofs.places.stands_told.Goals as goal

@@ -2,8 +2,8 @@ use Rattle.std.proofs.Common.{rules, ◌≡◌, ◌≤◌, [], map, ap, sym, sub
 use Rattle.sample_core.specs.TypeView.{type_of}
 use Rattle.leaf_table.specs.Rows.{rows_of}
 use Rattle.net_syntax.specs.NeedView.{need_of}
-use Rattle.net_syntax.specs.NetworkView.{tree_of}
-use Rattle.net_syntax.specs.Weight.{weight}
+use Rattle.net_tree.specs.NetworkView.{tree_of}
+use Rattle.net_tree.specs.Weight.{weight}
 use Rattle.state_core.specs.RowsView.{row_number, rows_in}
 use Rattle.step_core.specs.Lookup.{Misses, AddsRows}
 use Rattle.step_core.specs.RowTyping.{RowsTyped, network_by}

@@ -1,6 +1,6 @@
 use Rattle.std.proofs.Common.{rules, arith, ap, ◌∙◌, length}
-use Rattle.net_syntax.specs.Network.{map_networks}
-use Rattle.net_syntax.specs.NetworkView.{members_of}
+use Rattle.net_tree.specs.Network.{map_networks}
+use Rattle.net_tree.specs.NetworkView.{members_of}
 use Rattle.state_core.specs.RowsView.{rows_in, row_number}
 use Rattle.state_core.specs.StateView.{scope_of}
 use Rattle.step_core.specs.Flow.{past_behind, past_in, placed}

@@ -1,7 +1,7 @@
 use Rattle.std.proofs.Common.{◌∙◌, List, ap, map}
 use Rattle.command_line.specs.CommandLine.{leading_view}
-use Rattle.net_syntax.specs.LawStep.{step_of}
-use Rattle.net_syntax.specs.declared.law_step.LawStep.{LawStep}
+use Rattle.net_tree.specs.LawStep.{step_of}
+use Rattle.net_tree.specs.declared.law_step.LawStep.{LawStep}
 use Rattle.net_view.specs.Trace.{first_steps}
 use Rattle.yampa_run.specs.Preparation.{without_steps}
 use Rattle.yampa_run.proofs.Networks.{not_taken}

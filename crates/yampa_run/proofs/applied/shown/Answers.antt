@@ -1,5 +1,5 @@
 use Rattle.std.proofs.Common.{map, rules}
-use Rattle.net_syntax.specs.LawStep.{step_of}
+use Rattle.net_tree.specs.LawStep.{step_of}
 use Rattle.yampa_run.proofs.Networks.{short_of_memory}
 use Rattle.yampa_run.proofs.applied.shown.Goals as goal
 

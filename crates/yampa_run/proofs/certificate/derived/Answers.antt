@@ -1,6 +1,6 @@
 use Rattle.std.proofs.Common.{List, Err, map, subst}
-use Rattle.net_syntax.specs.LawStep.{step_of}
-use Rattle.net_syntax.specs.declared.law_step.LawStep.{LawStep}
+use Rattle.net_tree.specs.LawStep.{step_of}
+use Rattle.net_tree.specs.declared.law_step.LawStep.{LawStep}
 use Rattle.cert_check.specs.CheckAnswer.{CheckAnswer}
 use Rattle.yampa_run.specs.Preparation.{no_target, no_steps, not_accepted}
 use Rattle.yampa_run.proofs.certificate.derived.Goals as goal

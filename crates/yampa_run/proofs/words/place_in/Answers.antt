@@ -1,5 +1,5 @@
 use Rattle.std.proofs.Common.{◌∙◌, ap, map, sym, arith, Ok}
-use Rattle.net_syntax.specs.LawStep.{step_of}
+use Rattle.net_tree.specs.LawStep.{step_of}
 use Rattle.yampa_run.proofs.Places.{all_read, unread}
 use Rattle.yampa_run.proofs.words.place_in.Goals as goal
 

@@ -1,4 +1,4 @@
-use Rattle.net_syntax.specs.NetworkView.{tree_of}
+use Rattle.net_tree.specs.NetworkView.{tree_of}
 use Rattle.law_patterns.proofs.NetSteps.{net_bound-again}
 use Rattle.law_patterns.proofs.net_letters.NetLetters.bind.Goals as goal
 

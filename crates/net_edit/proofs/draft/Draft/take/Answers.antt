@@ -1,5 +1,5 @@
 use Rattle.std.proofs.Common.{◌<◌, length, IfSome, subst, arith}
-use Rattle.net_syntax.specs.LawStep.{step_of}
+use Rattle.net_tree.specs.LawStep.{step_of}
 use Rattle.cert_check.specs.Derives.{Next}
 use Rattle.net_edit.proofs.Leading.{taken_led}
 use Rattle.net_edit.proofs.draft.Draft.take.Goals as goal

@@ -1,0 +1,3 @@
+pub mod MappedMeasures
+pub mod Sizes
+pub mod FormLaws
