@@ -6,7 +6,7 @@ use leaf_core::Expr;
 use net_tree::{Members, Net, NetChild};
 
 /// How deep networks are looked into.
-const MOST_DEEP: u32 = 1_000;
+pub(crate) const MOST_DEEP: u32 = 1_000;
 
 /// What a network costs for a sample, in instructions, about.
 pub(crate) fn cost(net: &Net<Expr>) -> u64 {

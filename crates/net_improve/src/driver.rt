@@ -6,7 +6,7 @@ ghost use Rattle.net_tree.specs.LawStep.{step_of};
 ghost use Rattle.net_improve.specs.Improving.{Improved};
 
 use crate::build::copied;
-use crate::cost::cost;
+use crate::cost::{MOST_DEEP, cost};
 use crate::search::{MOST_TRIES, improve_net};
 use crate::sketch::{Clearing, Sketch, Stop};
 use cert_check::MOST_STEPS;
@@ -17,9 +17,6 @@ use net_text::print_cert;
 use net_tree::{LawStep, Net};
 use sample_core::Memory;
 use std::alloc::Global;
-
-/// How deep networks are looked into.
-const MOST_DEEP: u32 = 1_000;
 
 /// The most bytes that a certificate may have, and how many stand before its steps.
 const MOST_BYTES: usize = 1_048_576;

@@ -15,7 +15,7 @@ use sample_core::Memory;
 use std::alloc::Global;
 
 /// The most steps that the optimiser takes.
-pub const MOST_STEPS: usize = 1_000;
+pub const MOST_TAKEN: usize = 1_000;
 
 /// What laws alone make of the source, meant to be faster, with the steps that lead there. Each is
 /// forward and by one of the laws that the optimiser tries, and each is the first that would be
@@ -44,7 +44,7 @@ fn take_steps(alloc: Global, reached: &mut TypedNet) -> Result<Vec<LawStep>, Mem
 {
     let mut steps = Vec::new(alloc);
     let mut settled = Vec::new(alloc);
-    'steps: while steps.len() < MOST_STEPS {
+    'steps: while steps.len() < MOST_TAKEN {
         let mut walk = Walk::at_root(alloc);
         let Some(step) = first_step(alloc, reached, &mut walk, settled.as_slice())? else {
             return Ok(steps);
