@@ -1,10 +1,10 @@
 -- What the code says of what stands behind a route.
 use Rattle.net_tree.specs.Place.{PSwitchChild, member_child, event_child, continuation_child, no_child}
-use Rattle.net_syntax.specs.declared.standing.Behind.{Behind}
-use Rattle.net_syntax.specs.declared.standing.Behind.TheVariants as V
+use Rattle.net_syntax.specs.declared.standing.StandsBehind.{StandsBehind}
+use Rattle.net_syntax.specs.declared.standing.StandsBehind.TheVariants as V
 
--- what a `Behind` says
-abbrev pub behind_of : Behind → PSwitchChild
+-- what a `StandsBehind` says
+abbrev pub behind_of : StandsBehind → PSwitchChild
 behind_of V.Member = member_child
 behind_of V.Event = event_child
 behind_of V.Continuation = continuation_child

@@ -180,52 +180,52 @@ fn in_collection<'n>(
 
 /// How many parameters and frozen networks a network binds in a child.
 #[derive(Clone, Copy)]
-pub(crate) struct Bound {
+pub(crate) struct Binds {
     pub(crate) params: u32,
     pub(crate) olds: u32,
 }
 
 /// How many the network binds in its child k.
-fn bound_in(net: &Net<Expr>, k: u32) -> Bound
+fn bound_in(net: &Net<Expr>, k: u32) -> Binds
     ensures { bound_in (tree_of net.now) k ≡ bound result.params result.olds }
 {
     match net {
         Net::Switch(..) | Net::DSwitch(..) | Net::RSwitch(..) | Net::DrSwitch(..) => match k {
-            1 => Bound { params: 1, olds: 0 },
-            _ => Bound { params: 0, olds: 0 },
+            1 => Binds { params: 1, olds: 0 },
+            _ => Binds { params: 0, olds: 0 },
         },
         Net::KSwitch(..) => match k {
-            2 => Bound { params: 1, olds: 1 },
-            _ => Bound { params: 0, olds: 0 },
+            2 => Binds { params: 1, olds: 1 },
+            _ => Binds { params: 0, olds: 0 },
         },
         Net::PSwitch(_, fs, _, _) => bound_in_p_switch(fs, k),
         Net::RpSwitch(fs, _, _) => bound_in_collection(fs, k),
-        _ => Bound { params: 0, olds: 0 },
+        _ => Binds { params: 0, olds: 0 },
     }
 }
 
 /// How many a `pSwitch` of these members binds in its child k.
-fn bound_in_p_switch(fs: &Members<Expr>, k: u32) -> Bound
+fn bound_in_p_switch(fs: &Members<Expr>, k: u32) -> Binds
     ensures { (r : Expression) (e t : Network Expression)
         → bound_in (p_switch r (trees fs.now) e t) k ≡ bound result.params result.olds }
 {
     let count = fs.as_slice().len();
     if k as usize == count + 2 {
-        return Bound {
+        return Binds {
             params: 1,
             olds: k - 2,
         };
     }
-    Bound { params: 0, olds: 0 }
+    Binds { params: 0, olds: 0 }
 }
 
 /// How many an `rpSwitchB` of these members binds in its child k.
-fn bound_in_collection(fs: &Members<Expr>, k: u32) -> Bound
+fn bound_in_collection(fs: &Members<Expr>, k: u32) -> Binds
     ensures { bound_started (p_switch_child (trees fs.now) k) ≡ bound result.params result.olds }
 {
     let count = fs.as_slice().len();
     if k as usize == count + 1 {
-        return Bound { params: 1, olds: 0 };
+        return Binds { params: 1, olds: 0 };
     }
-    Bound { params: 0, olds: 0 }
+    Binds { params: 0, olds: 0 }
 }

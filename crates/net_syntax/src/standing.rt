@@ -209,15 +209,15 @@ fn input_in_p_switch(
         return Ok(pair_under(alloc, &at.input, Ty::Int)?);
     }
     match kind_behind(fs, k - 1) {
-        Behind::Member => route_type(alloc, at, &at.input, r),
-        Behind::Event => {
+        StandsBehind::Member => route_type(alloc, at, &at.input, r),
+        StandsBehind::Event => {
             let types = routed_types(alloc, at, &at.input, r, fs)?;
             let outputs = list_under(alloc, &types);
             drop(types);
             Ok(pair_under(alloc, &at.input, outputs?)?)
         }
-        Behind::Continuation => Ok(at.input.try_copy(alloc)?),
-        Behind::Nothing => Err(Untyped::NoType),
+        StandsBehind::Continuation => Ok(at.input.try_copy(alloc)?),
+        StandsBehind::Nothing => Err(Untyped::NoType),
     }
 }
 
@@ -232,16 +232,16 @@ fn input_in_collection(
         (collection_input (standing_of at.now) (p_switch_child (trees fs.now) k)) }
 {
     match kind_behind(fs, k) {
-        Behind::Member | Behind::Continuation => left_in(alloc, &at.input),
-        Behind::Event => right_carried_in(alloc, &at.input),
-        Behind::Nothing => Err(Untyped::NoType),
+        StandsBehind::Member | StandsBehind::Continuation => left_in(alloc, &at.input),
+        StandsBehind::Event => right_carried_in(alloc, &at.input),
+        StandsBehind::Nothing => Err(Untyped::NoType),
     }
 }
 
 /// What stands at a number behind the route of a `pSwitch`, or in an `rpSwitchB`, where the choice
 /// stands as the event does there.
 #[derive(Clone, Copy)]
-pub(crate) enum Behind {
+pub(crate) enum StandsBehind {
     Member,
     Event,
     Continuation,
@@ -249,18 +249,18 @@ pub(crate) enum Behind {
 }
 
 /// What stands at number k behind the route, or in the `rpSwitchB`.
-fn kind_behind(fs: &Members<Expr>, k: u32) -> Behind
+fn kind_behind(fs: &Members<Expr>, k: u32) -> StandsBehind
     ensures { p_switch_child (trees fs.now) k ≡ behind_of result }
 {
     let count = fs.as_slice().len();
     let k = k as usize;
     if k < count {
-        return Behind::Member;
+        return StandsBehind::Member;
     }
     match k - count {
-        0 => Behind::Event,
-        1 => Behind::Continuation,
-        _ => Behind::Nothing,
+        0 => StandsBehind::Event,
+        1 => StandsBehind::Continuation,
+        _ => StandsBehind::Nothing,
     }
 }
 
@@ -274,11 +274,11 @@ fn child_scope(alloc: Global, at: Standing, net: &Net<Expr>, k: u32) -> Result<S
         Net::RSwitch(..) | Net::DrSwitch(..) if k > 0 => scope_in_r_switch(alloc, at),
         Net::KSwitch(f, e, _) if k > 1 => scope_in_k_switch(alloc, at, f, e),
         Net::PSwitch(r, fs, e, _) if k > 0 => match kind_behind(fs, k - 1) {
-            Behind::Continuation => scope_in_p_switch(alloc, at, r, fs, e, k - 1),
+            StandsBehind::Continuation => scope_in_p_switch(alloc, at, r, fs, e, k - 1),
             _ => Ok(at),
         },
         Net::RpSwitch(fs, m, _) => match kind_behind(fs, k) {
-            Behind::Continuation => scope_in_collection(alloc, at, m),
+            StandsBehind::Continuation => scope_in_collection(alloc, at, m),
             _ => Ok(at),
         },
         _ => Ok(at),
