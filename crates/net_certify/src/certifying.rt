@@ -6,6 +6,7 @@ ghost use Rattle.net_certify.specs.Certifying.{CertifyAnswer};
 use crate::difference::{Difference, first_difference};
 use crate::forming::normal_steps;
 use net_edit::{Draft, undo};
+use net_improve::count_fitting;
 use net_syntax::TypedNet;
 use net_tree::{LawStep, Position, Tree, same_net};
 use sample_core::{Memory, same_type};
@@ -25,12 +26,14 @@ pub enum Certified {
         first: Tree,
         second: Tree,
     },
-    /// None was found: there is one normal form, and the steps there and back are too many.
+    /// None was found: there is one normal form, and the steps there and back are too many for a
+    /// certificate, or too long.
     TooLong,
 }
 
-/// Looks for a certificate: steps that lead from the source to exactly the target's network, at most
-/// 10,000. Where none is found there may be one. `Memory` where a growth was refused.
+/// Looks for a certificate: steps that lead from the source to exactly the target's network, as many
+/// as a certificate may have. Where none is found there may be one. `Memory` where a growth was
+/// refused.
 pub fn certify(alloc: Global, source: &TypedNet, target: &TypedNet) -> Result<Certified, Memory>
     ensures { IfOk result (CertifyAnswer source.now target.now) }
 {
@@ -50,7 +53,8 @@ pub fn certify(alloc: Global, source: &TypedNet, target: &TypedNet) -> Result<Ce
     }
     let steps = undone_steps(alloc, target, back.steps())?;
     let _took = there.take_all(alloc, steps)?;
-    if same_net(there.net().net(), target.net()) {
+    let has_room = count_fitting(alloc, there.steps())? == there.steps().len();
+    if has_room && same_net(there.net().net(), target.net()) {
         return Ok(found(there, target));
     }
     Ok(Certified::TooLong)

@@ -9,19 +9,12 @@ use crate::build::copied;
 use crate::cost::{MOST_DEEP, cost};
 use crate::search::{MOST_TRIES, improve_net};
 use crate::sketch::{Clearing, Sketch, Stop};
-use cert_check::MOST_STEPS;
 use leaf_core::Expr;
 use net_edit::Draft;
 use net_syntax::TypedNet;
-use net_text::print_cert;
 use net_tree::{LawStep, Net};
 use sample_core::Memory;
 use std::alloc::Global;
-
-/// The most bytes that a certificate may have, and how many stand before its steps.
-const MOST_BYTES: usize = 1_048_576;
-
-const HEAD_BYTES: usize = 7;
 
 /// What laws alone make of the source, meant to be faster, with the steps that lead there: at most
 /// 10,000, and as many as a certificate may have by its bytes. Where nothing was found that costs
@@ -69,7 +62,7 @@ fn make_moves(alloc: Global, draft: &mut Draft, found: Sketch) -> Result<(), Mem
     ensures { draft.new.source ≡ draft.old.source }
 {
     let Sketch { steps, ends, .. } = found;
-    let count = fitting(alloc, &steps)?.min(MOST_STEPS);
+    let count = count_fitting(alloc, &steps)?;
     let mut steps = steps;
     steps.truncate(count);
     steps.reverse();
@@ -112,17 +105,4 @@ fn made_again(
         Err(Stop::Unfit) => Ok(None),
         Err(Stop::Memory) => Err(Memory),
     }
-}
-
-/// How many of the steps a certificate has room for.
-fn fitting(alloc: Global, steps: &[LawStep]) -> Result<usize, Memory> {
-    let mut bytes = HEAD_BYTES;
-    for (count, step) in steps.chunks(1).enumerate() {
-        let printed = print_cert(alloc, step)?.len();
-        bytes = bytes.saturating_add(printed.saturating_sub(HEAD_BYTES));
-        if bytes > MOST_BYTES {
-            return Ok(count);
-        }
-    }
-    Ok(steps.len())
 }
