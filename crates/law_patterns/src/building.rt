@@ -15,7 +15,11 @@ use std::alloc::Global;
 
 /// The expression that the pattern is with these trees for its letters, whose parts it shares;
 /// `None` where it isn't one expression. `Memory` where a growth was refused.
-pub fn build(alloc: Global, pattern: &[Sym], letters: &Letters) -> Result<Option<Expr>, Memory>
+pub(crate) fn build(
+    alloc: Global,
+    pattern: &[Sym],
+    letters: &Letters,
+) -> Result<Option<Expr>, Memory>
     ensures { IfOk result (λ o. MatchOption o
         (filled (completed (found_of letters.now)) pattern.now ≡ None)
         (λ e. filled (completed (found_of letters.now)) pattern.now ≡ Some (expression_of e))) }

@@ -13,7 +13,7 @@ use std::alloc::Global;
 
 /// The trees that the letters of a pattern of expressions have by now.
 #[derive(Clone, Copy)]
-pub struct Letters<'t> {
+pub(crate) struct Letters<'t> {
     pub f: Option<&'t Expr>,
     pub g: Option<&'t Expr>,
     pub h: Option<&'t Expr>,
@@ -23,7 +23,7 @@ pub struct Letters<'t> {
 
 impl<'t> Letters<'t> {
     /// No letter has a tree.
-    pub fn new() -> Letters<'t>
+    pub(crate) fn new() -> Letters<'t>
         ensures { found_of result ≡ nothing_found }
     {
         Letters {
@@ -36,7 +36,7 @@ impl<'t> Letters<'t> {
     }
 
     /// The expression of the letter, if it has one.
-    pub fn get(&self, letter: Letter) -> Option<&'t Expr>
+    pub(crate) fn get(&self, letter: Letter) -> Option<&'t Expr>
         ensures { expression_in result ≡ found_at (found_of self.now) letter }
     {
         match letter {
@@ -60,7 +60,7 @@ impl<'t> Letters<'t> {
     }
 
     /// Lets the letter stand for the expression, where it stands for no other: whether it does.
-    pub fn bind(&mut self, letter: Letter, expr: &'t Expr) -> bool
+    pub(crate) fn bind(&mut self, letter: Letter, expr: &'t Expr) -> bool
         ensures { (es : _) → going result es (found_of self.new) ≡ bound (found_at (found_of self.old) letter) letter (expression_of expr.now) es (found_of self.old) }
     {
         match self.get(letter) {
@@ -73,7 +73,7 @@ impl<'t> Letters<'t> {
     }
 
     /// Lets the type letter stand for the type, where it stands for no other: whether it does.
-    pub fn bind_type(&mut self, ty: &'t Ty) -> bool
+    pub(crate) fn bind_type(&mut self, ty: &'t Ty) -> bool
         ensures { (es : _) → going result es (found_of self.new) ≡ bound_type ((found_of self.old).t) (type_of ty.now) es (found_of self.old) }
     {
         match self.t {
@@ -87,7 +87,7 @@ impl<'t> Letters<'t> {
 
     /// A copy of what the letter stands for; `x` where it stands for nothing. `Memory` where a count
     /// of references is full.
-    pub fn copy_of(&self, alloc: Global, letter: Letter) -> Result<Expr, Memory>
+    pub(crate) fn copy_of(&self, alloc: Global, letter: Letter) -> Result<Expr, Memory>
         ensures { IfOk result (λ e. expression_of e ≡ chosen (completed (found_of self.now)) letter) }
     {
         match letter {
@@ -100,7 +100,7 @@ impl<'t> Letters<'t> {
 
     /// A copy of what the type letter stands for; `Unit` where it stands for nothing. `Memory` where
     /// a count of references is full.
-    pub fn copy_of_type(&self, alloc: Global) -> Result<Ty, Memory>
+    pub(crate) fn copy_of_type(&self, alloc: Global) -> Result<Ty, Memory>
         ensures { IfOk result (λ t. type_of t ≡ (completed (found_of self.now)).t) }
     {
         match self.t {

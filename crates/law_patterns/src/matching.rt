@@ -13,7 +13,7 @@ use std::alloc::Global;
 
 /// Whether the pattern fits the expression; its letters then stand for what they are at. `Memory`
 /// where a growth was refused.
-pub fn fit<'t>(
+pub(crate) fn fit<'t>(
     alloc: Global,
     pattern: &[Sym],
     expr: &'t Expr,

@@ -24,7 +24,7 @@ use std::alloc::Global;
 
 /// The network that the pattern is with these trees for its letters, whose parts it shares; `None`
 /// where it isn't one network. `Memory` where a growth was refused.
-pub fn build_net(
+pub(crate) fn build_net(
     alloc: Global,
     pattern: &[NetSym],
     letters: &NetLetters,

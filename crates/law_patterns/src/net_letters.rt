@@ -17,7 +17,7 @@ use std::alloc::Global;
 
 /// The trees that the letters of a pattern of networks have by now.
 #[derive(Clone, Copy)]
-pub struct NetLetters<'t> {
+pub(crate) struct NetLetters<'t> {
     pub f: Option<&'t Net<Expr>>,
     pub g: Option<&'t Net<Expr>>,
     pub h: Option<&'t Net<Expr>>,
@@ -27,7 +27,7 @@ pub struct NetLetters<'t> {
 
 impl<'t> NetLetters<'t> {
     /// No letter has a tree.
-    pub fn new() -> NetLetters<'t>
+    pub(crate) fn new() -> NetLetters<'t>
         ensures { nets_found_of result ≡ no_nets_found }
     {
         NetLetters {
@@ -40,7 +40,7 @@ impl<'t> NetLetters<'t> {
     }
 
     /// The network of the letter, if it has one.
-    pub fn get(&self, letter: NetLetter) -> Option<&'t Net<Expr>>
+    pub(crate) fn get(&self, letter: NetLetter) -> Option<&'t Net<Expr>>
         ensures { network_in result ≡ net_found_at (nets_found_of self.now) letter }
     {
         match letter {
@@ -63,7 +63,7 @@ impl<'t> NetLetters<'t> {
     }
 
     /// Lets the letter stand for the network, where it stands for no other: whether it does.
-    pub fn bind(&mut self, letter: NetLetter, net: &'t Net<Expr>) -> bool
+    pub(crate) fn bind(&mut self, letter: NetLetter, net: &'t Net<Expr>) -> bool
         ensures { (fs : _) → net_going result fs (nets_found_of self.new)
             ≡ net_bound (net_found_at (nets_found_of self.old) letter) letter (tree_of net.now) fs
             (nets_found_of self.old) }
@@ -93,7 +93,7 @@ impl<'t> NetLetters<'t> {
 
     /// Whether the pattern fits the expression; its letters then stand for what they are at.
     /// `Memory` where a growth was refused.
-    pub fn meet_leaf(
+    pub(crate) fn meet_leaf(
         &mut self,
         alloc: Global,
         pattern: &[Sym],
@@ -114,7 +114,7 @@ impl<'t> NetLetters<'t> {
 
     /// Whether the pattern fits the expression of a form with a number, for which the number letter
     /// stands.
-    pub fn meet_timed(
+    pub(crate) fn meet_timed(
         &mut self,
         alloc: Global,
         pattern: &[Sym],
@@ -133,7 +133,7 @@ impl<'t> NetLetters<'t> {
     }
 
     /// Whether two patterns fit two expressions.
-    pub fn meet_leaves(
+    pub(crate) fn meet_leaves(
         &mut self,
         alloc: Global,
         first: &[Sym],
@@ -154,7 +154,7 @@ impl<'t> NetLetters<'t> {
 
     /// A copy of what the letter stands for; `time` where it stands for nothing. `Memory` where a
     /// count of references is full.
-    pub fn copy_of(&self, alloc: Global, letter: NetLetter) -> Result<Net<Expr>, Memory>
+    pub(crate) fn copy_of(&self, alloc: Global, letter: NetLetter) -> Result<Net<Expr>, Memory>
         ensures { IfOk result
             (λ n. tree_of n ≡ net_chosen (net_completed (nets_found_of self.now)) letter) }
     {
@@ -166,7 +166,7 @@ impl<'t> NetLetters<'t> {
     }
 
     /// What the number letter stands for; 0 where it stands for nothing.
-    pub fn number(&self) -> u64
+    pub(crate) fn number(&self) -> u64
         ensures { result ≡ or_zero (nets_found_of self.now).q }
     {
         match self.q {

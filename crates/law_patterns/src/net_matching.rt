@@ -16,7 +16,7 @@ use std::alloc::Global;
 
 /// The trees of the letters, where the pattern fits the network. `Memory` where a growth was
 /// refused.
-pub fn fit_net<'t>(
+pub(crate) fn fit_net<'t>(
     alloc: Global,
     pattern: &[NetSym],
     net: &'t Net<Expr>,

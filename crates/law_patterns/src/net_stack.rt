@@ -13,7 +13,7 @@ use std::marker::Model;
 
 /// A stack of networks. Contracts see it as their list, the top first.
 #[derive(Drop)]
-pub struct NetStack {
+pub(crate) struct NetStack {
     parts: Vec<NetChild<Expr>>,
 }
 
@@ -35,7 +35,7 @@ impl Model for NetStack {
 
 impl NetStack {
     /// An empty stack.
-    pub fn new(alloc: Global) -> NetStack
+    pub(crate) fn new(alloc: Global) -> NetStack
         ensures { result ≡ [] }
     {
         NetStack {
@@ -44,7 +44,7 @@ impl NetStack {
     }
 
     /// Puts the network on top.
-    pub fn put(&mut self, alloc: Global, net: Net<Expr>) -> Result<(), Memory>
+    pub(crate) fn put(&mut self, alloc: Global, net: Net<Expr>) -> Result<(), Memory>
         ensures { IfOk result (λ _. self.new ≡ tree_of net ∷ self.old) }
     {
         let part = NetChild::new(alloc, net)?;
@@ -53,7 +53,7 @@ impl NetStack {
     }
 
     /// Takes the top off, if there is one.
-    pub fn pop(&mut self) -> Option<NetChild<Expr>>
+    pub(crate) fn pop(&mut self) -> Option<NetChild<Expr>>
         ensures { MatchOption result ((self.old ≡ []) × (self.new ≡ []))
             (λ p. self.old ≡ tree p ∷ self.new) }
     {
@@ -61,7 +61,7 @@ impl NetStack {
     }
 
     /// Takes two off, if there are two; the first was on top.
-    pub fn pop_two(&mut self) -> Option<(NetChild<Expr>, NetChild<Expr>)>
+    pub(crate) fn pop_two(&mut self) -> Option<(NetChild<Expr>, NetChild<Expr>)>
         ensures { MatchOption result (around_two seq self.old ≡ None)
             (λ p. self.old ≡ tree p.0 ∷ tree p.1 ∷ self.new) }
     {
@@ -76,7 +76,7 @@ impl NetStack {
     }
 
     /// The network on it, where it is the only one.
-    pub fn only(mut self, alloc: Global) -> Result<Option<Net<Expr>>, Memory>
+    pub(crate) fn only(mut self, alloc: Global) -> Result<Option<Net<Expr>>, Memory>
         ensures { IfOk result (λ o. MatchOption o (only (Some self) ≡ None)
             (λ n. only (Some self) ≡ Some (tree_of n))) }
     {

@@ -11,7 +11,7 @@ use std::marker::Model;
 
 /// The networks that are still to be matched. Contracts see them as their list, the next first.
 #[derive(Drop)]
-pub struct NetTodo<'t> {
+pub(crate) struct NetTodo<'t> {
     all: Vec<&'t Net<Expr>>,
 }
 
@@ -33,7 +33,7 @@ impl<'t> Model for NetTodo<'t> {
 
 impl<'t> NetTodo<'t> {
     /// Nothing to match.
-    pub fn new(alloc: Global) -> NetTodo<'t>
+    pub(crate) fn new(alloc: Global) -> NetTodo<'t>
         ensures { result ≡ [] }
     {
         NetTodo {
@@ -42,7 +42,7 @@ impl<'t> NetTodo<'t> {
     }
 
     /// Puts the network first.
-    pub fn push(&mut self, net: &'t Net<Expr>) -> Result<(), Memory>
+    pub(crate) fn push(&mut self, net: &'t Net<Expr>) -> Result<(), Memory>
         ensures { IfOk result (λ _. self.new ≡ tree_of net.now ∷ self.old) }
     {
         self.all.push(net)?;
@@ -50,7 +50,7 @@ impl<'t> NetTodo<'t> {
     }
 
     /// Takes the first, if there is one.
-    pub fn pop(&mut self) -> Option<&'t Net<Expr>>
+    pub(crate) fn pop(&mut self) -> Option<&'t Net<Expr>>
         ensures { MatchOption result ((self.old ≡ []) × (self.new ≡ []))
             (λ n. self.old ≡ tree_of n.now ∷ self.new) }
     {
@@ -58,7 +58,7 @@ impl<'t> NetTodo<'t> {
     }
 
     /// Puts one part first, and answers true.
-    pub fn put_one(&mut self, f: &'t NetChild<Expr>) -> Result<bool, Memory>
+    pub(crate) fn put_one(&mut self, f: &'t NetChild<Expr>) -> Result<bool, Memory>
         ensures { IfOk result (λ b. (b ≡ true) × (self.new ≡ tree f.now ∷ self.old)) }
     {
         self.push(f.get())?;
@@ -66,7 +66,11 @@ impl<'t> NetTodo<'t> {
     }
 
     /// Puts two parts first, in their order, and answers true.
-    pub fn put_two(&mut self, f: &'t NetChild<Expr>, g: &'t NetChild<Expr>) -> Result<bool, Memory>
+    pub(crate) fn put_two(
+        &mut self,
+        f: &'t NetChild<Expr>,
+        g: &'t NetChild<Expr>,
+    ) -> Result<bool, Memory>
         ensures { IfOk result (λ b. (b ≡ true) × (self.new ≡ tree f.now ∷ tree g.now ∷ self.old)) }
     {
         self.push(g.get())?;
@@ -74,7 +78,7 @@ impl<'t> NetTodo<'t> {
     }
 
     /// Puts three parts first, in their order, and answers true.
-    pub fn put_three(
+    pub(crate) fn put_three(
         &mut self,
         f: &'t NetChild<Expr>,
         g: &'t NetChild<Expr>,

@@ -12,7 +12,7 @@ use std::marker::Model;
 
 /// A stack of expressions. Contracts see it as their list, the top first.
 #[derive(Drop)]
-pub struct Stack {
+pub(crate) struct Stack {
     parts: Vec<ExprChild>,
 }
 
@@ -31,7 +31,7 @@ impl Model for Stack {
 
 impl Stack {
     /// An empty stack.
-    pub fn new(alloc: Global) -> Stack
+    pub(crate) fn new(alloc: Global) -> Stack
         ensures { result ≡ [] }
     {
         Stack {
@@ -40,7 +40,7 @@ impl Stack {
     }
 
     /// Puts the expression on top.
-    pub fn put(&mut self, alloc: Global, expr: Expr) -> Result<(), Memory>
+    pub(crate) fn put(&mut self, alloc: Global, expr: Expr) -> Result<(), Memory>
         ensures { IfOk result (λ _. self.new ≡ expression_of expr ∷ self.old) }
     {
         let part = ExprChild::new(alloc, expr)?;
@@ -49,14 +49,14 @@ impl Stack {
     }
 
     /// Takes the top off, if there is one.
-    pub fn pop(&mut self) -> Option<ExprChild>
+    pub(crate) fn pop(&mut self) -> Option<ExprChild>
         ensures { MatchOption result ((self.old ≡ []) × (self.new ≡ [])) (λ p. self.old ≡ p ∷ self.new) }
     {
         self.parts.pop()
     }
 
     /// Takes two off, if there are two; the first was on top.
-    pub fn pop_two(&mut self) -> Option<(ExprChild, ExprChild)>
+    pub(crate) fn pop_two(&mut self) -> Option<(ExprChild, ExprChild)>
         ensures { MatchOption result (around_two pair_expr self.old ≡ None) (λ p. self.old ≡ p.0 ∷ p.1 ∷ self.new) }
     {
         let a = self.pop()?;
@@ -70,7 +70,7 @@ impl Stack {
     }
 
     /// The expression on it, where it is the only one.
-    pub fn only(mut self, alloc: Global) -> Result<Option<Expr>, Memory>
+    pub(crate) fn only(mut self, alloc: Global) -> Result<Option<Expr>, Memory>
         ensures { IfOk result (λ o. MatchOption o (only (Some self) ≡ None) (λ e. only (Some self) ≡ Some (expression_of e))) }
     {
         let Some(top) = self.pop() else {

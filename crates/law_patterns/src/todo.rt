@@ -10,7 +10,7 @@ use std::marker::Model;
 
 /// The expressions that are still to be matched. Contracts see them as their list, the next first.
 #[derive(Drop)]
-pub struct Todo<'t> {
+pub(crate) struct Todo<'t> {
     all: Vec<&'t Expr>,
 }
 
@@ -30,7 +30,7 @@ impl<'t> Model for Todo<'t> {
 
 impl<'t> Todo<'t> {
     /// Nothing to match.
-    pub fn new(alloc: Global) -> Todo<'t>
+    pub(crate) fn new(alloc: Global) -> Todo<'t>
         ensures { result ≡ [] }
     {
         Todo {
@@ -39,7 +39,7 @@ impl<'t> Todo<'t> {
     }
 
     /// Puts the expression first.
-    pub fn push(&mut self, expr: &'t Expr) -> Result<(), Memory>
+    pub(crate) fn push(&mut self, expr: &'t Expr) -> Result<(), Memory>
         ensures { IfOk result (λ _. self.new ≡ expression_of expr.now ∷ self.old) }
     {
         self.all.push(expr)?;
@@ -47,14 +47,14 @@ impl<'t> Todo<'t> {
     }
 
     /// Takes the first, if there is one.
-    pub fn pop(&mut self) -> Option<&'t Expr>
+    pub(crate) fn pop(&mut self) -> Option<&'t Expr>
         ensures { MatchOption result ((self.old ≡ []) × (self.new ≡ [])) (λ e. self.old ≡ expression_of e.now ∷ self.new) }
     {
         self.all.pop()
     }
 
     /// Puts one part first, and answers true.
-    pub fn put_one(&mut self, a: &'t ExprChild) -> Result<bool, Memory>
+    pub(crate) fn put_one(&mut self, a: &'t ExprChild) -> Result<bool, Memory>
         ensures { IfOk result (λ b. (b ≡ true) × (self.new ≡ a.now ∷ self.old)) }
     {
         self.push(a.get())?;
@@ -62,7 +62,7 @@ impl<'t> Todo<'t> {
     }
 
     /// Puts two parts first, in their order, and answers true.
-    pub fn put_two(&mut self, a: &'t ExprChild, b: &'t ExprChild) -> Result<bool, Memory>
+    pub(crate) fn put_two(&mut self, a: &'t ExprChild, b: &'t ExprChild) -> Result<bool, Memory>
         ensures { IfOk result (λ r. (r ≡ true) × (self.new ≡ a.now ∷ b.now ∷ self.old)) }
     {
         self.push(b.get())?;
@@ -70,7 +70,7 @@ impl<'t> Todo<'t> {
     }
 
     /// Puts three parts first, in their order, and answers true.
-    pub fn put_three(
+    pub(crate) fn put_three(
         &mut self,
         a: &'t ExprChild,
         b: &'t ExprChild,

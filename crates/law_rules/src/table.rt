@@ -12,7 +12,7 @@ use law_patterns::{
 
 /// What a law is.
 #[derive(Clone, Copy)]
-pub enum NetLaw {
+pub(crate) enum NetLaw {
     /// No law.
     Nothing,
     /// A left and a right side.
@@ -73,7 +73,7 @@ const LOOP_F: NetSym = LoopPre(&[F]);
 const OUT_F: NetSym = InitialOut(&[F]);
 
 /// The law of this number: a side is written with each form before its parts.
-pub fn law_rule(number: u8) -> NetLaw
+pub(crate) fn law_rule(number: u8) -> NetLaw
     ensures { IsRule number result }
 {
     match number {

@@ -97,7 +97,7 @@ fn cost_between(f: &Net<Expr>, next: &Net<Expr>) -> u64 {
 
 /// What it costs that a stage's answer is kept: by the cell behind it, or fed back where it is the
 /// last of a loop.
-pub fn cost_kept(stage: &Net<Expr>, next: Option<&Net<Expr>>, in_loop: bool) -> u64 {
+pub(crate) fn cost_kept(stage: &Net<Expr>, next: Option<&Net<Expr>>, in_loop: bool) -> u64 {
     let Net::Arr(e) = stage else {
         return 0;
     };
@@ -114,11 +114,11 @@ pub fn cost_kept(stage: &Net<Expr>, next: Option<&Net<Expr>>, in_loop: bool) -> 
 }
 
 /// Whether the network keeps what it gets, as `iPre` and `delay` do.
-pub fn is_cell(net: &Net<Expr>) -> bool {
+pub(crate) fn is_cell(net: &Net<Expr>) -> bool {
     matches!(net, Net::IPre(_) | Net::Delay(..))
 }
 
 /// What a chain costs where this stands behind it, or where it is the body of a loop.
-pub fn cost_before(chain: &Net<Expr>, next: Option<&Net<Expr>>, in_loop: bool) -> u64 {
+pub(crate) fn cost_before(chain: &Net<Expr>, next: Option<&Net<Expr>>, in_loop: bool) -> u64 {
     sum(&[cost(chain), cost_kept(last(chain), next, in_loop)])
 }

@@ -35,7 +35,7 @@ pub enum Built {
 }
 
 /// The moves in their order.
-pub const MOVES: [Move; 48] = [
+pub(crate) const MOVES: [Move; 48] = [
     Move::Law(1, 2),
     Move::Law(2, 2),
     Move::Arr(ArrMove::Source),

@@ -15,7 +15,7 @@ use sample_core::Memory;
 use std::alloc::Global;
 
 /// The most steps that the optimiser takes.
-pub const MOST_TAKEN: usize = 1_000;
+pub(crate) const MOST_TAKEN: usize = 1_000;
 
 /// What laws alone make of the source, meant to be faster, with the steps that lead there. Each is
 /// forward and by one of the laws that the optimiser tries, and each is the first that would be

@@ -19,7 +19,11 @@ use std::alloc::Global;
 
 /// What the command `apply` prints on those files. They are read and refused in the order source,
 /// certificate.
-pub fn applied<F: Files>(alloc: Global, names: Leading<'_>, files: &F) -> Result<Job, Refusal>
+pub(crate) fn applied<F: Files>(
+    alloc: Global,
+    names: Leading<'_>,
+    files: &F,
+) -> Result<Job, Refusal>
     ensures applied { IfOk result (TellsApplied (F.told files.now) (leading_view names.entry)) }
     ensures refused { IfErr result (IsNotApplied (F.told files.now) (leading_view names.entry)) }
 {

@@ -18,7 +18,7 @@ use sample_core::Memory;
 use std::alloc::Global;
 
 /// The line of the command `check` on those files.
-pub fn accepted<F: Files>(
+pub(crate) fn accepted<F: Files>(
     alloc: Global,
     names: Derivation<'_>,
     files: &F,
@@ -50,7 +50,7 @@ fn accepted_on(alloc: Global, steps: u32) -> Result<String, Memory>
 
 /// The target of those files, which the certificate derives from the source, and how many steps it
 /// has. The files are read and refused in the order source, target, certificate.
-pub fn derived<F: Files>(
+pub(crate) fn derived<F: Files>(
     alloc: Global,
     names: Derivation<'_>,
     files: &F,
@@ -79,7 +79,11 @@ pub fn derived<F: Files>(
 }
 
 /// The steps of the certificate file of that name.
-pub fn load_steps<F: Files>(alloc: Global, name: &str, files: &F) -> Result<Vec<LawStep>, Refusal>
+pub(crate) fn load_steps<F: Files>(
+    alloc: Global,
+    name: &str,
+    files: &F,
+) -> Result<Vec<LawStep>, Refusal>
     ensures steps { IfOk result
         (λ steps. AreStepsOf (F.told files.now name.now) (map step_of steps.items)) }
     ensures refused { IfErr result (HasNoSteps (F.told files.now name.now)) }
@@ -102,7 +106,7 @@ fn steps_of(alloc: Global, bytes: &[u8]) -> Result<Vec<LawStep>, Refusal>
 }
 
 /// The refusal of a certificate that doesn't lead from its source to its target.
-pub fn check_refusal(alloc: Global, fault: CheckFault) -> Result<Refusal, Memory>
+pub(crate) fn check_refusal(alloc: Global, fault: CheckFault) -> Result<Refusal, Memory>
     ensures { IfOk result (RefusesCheck fault) }
 {
     match &fault {

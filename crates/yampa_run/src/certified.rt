@@ -21,7 +21,7 @@ use std::alloc::Global;
 
 /// What the command `certify` prints on those files. They are read and refused in the order source,
 /// target.
-pub fn certified<F: Files>(
+pub(crate) fn certified<F: Files>(
     alloc: Global,
     source: &str,
     target: &str,

@@ -14,7 +14,7 @@ use std::alloc::Global;
 
 /// The text of the command `laws` on the file of that name, at the place of a word and below; of the
 /// whole network, where there is none.
-pub fn possible<F: Files>(
+pub(crate) fn possible<F: Files>(
     alloc: Global,
     name: &str,
     at: Option<&str>,

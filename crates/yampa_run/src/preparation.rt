@@ -156,7 +156,12 @@ fn told_by(reply: Reply) -> Result<Job, Refusal>
 }
 
 /// The network of the file of that name, with its types.
-pub fn load<F: Files>(alloc: Global, role: Role, name: &str, files: &F) -> Result<TypedNet, Refusal>
+pub(crate) fn load<F: Files>(
+    alloc: Global,
+    role: Role,
+    name: &str,
+    files: &F,
+) -> Result<TypedNet, Refusal>
     ensures network { IfOk result (IsNetworkOf (F.told files.now name.now)) }
     ensures refused { IfErr result (HasNoNetwork role (F.told files.now name.now)) }
 {
@@ -186,7 +191,11 @@ fn network_of(alloc: Global, role: Role, bytes: &[u8]) -> Result<TypedNet, Refus
 }
 
 /// The refusal of a file for its text.
-pub fn text_refusal(alloc: Global, role: Role, fault: &NetTextFault) -> Result<Refusal, Memory>
+pub(crate) fn text_refusal(
+    alloc: Global,
+    role: Role,
+    fault: &NetTextFault,
+) -> Result<Refusal, Memory>
     ensures { IfOk result (RefusesText role fault.now) }
 {
     match fault {

@@ -100,7 +100,7 @@ fn push_place(out: &mut String, line: u64, what: &str, place: usize) -> Result<(
 }
 
 /// Adds the words. `Memory` where a growth was refused.
-pub fn push_words(out: &mut String, words: &str) -> Result<(), Memory>
+pub(crate) fn push_words(out: &mut String, words: &str) -> Result<(), Memory>
     ensures { OnOk result (string_bytes out.new ≡ string_bytes out.old ++ words.now) }
 {
     match out.push_str(words) {
@@ -110,7 +110,7 @@ pub fn push_words(out: &mut String, words: &str) -> Result<(), Memory>
 }
 
 /// Adds the number in digits. `Memory` where a growth was refused.
-pub fn push_number(out: &mut String, number: u64) -> Result<(), Memory>
+pub(crate) fn push_number(out: &mut String, number: u64) -> Result<(), Memory>
     ensures { OnOk result (string_bytes out.new ≡ string_bytes out.old ++ decimal number) }
 {
     push_words(out, Buffer::new().format(number))

@@ -14,7 +14,7 @@ use std::alloc::Global;
 
 /// What a file is read as.
 #[derive(Clone, Copy)]
-pub enum Role {
+pub(crate) enum Role {
     /// The network that a command is about.
     Network,
     /// The network that a certificate begins with.
@@ -46,14 +46,14 @@ fn line_of(alloc: Global, role: Role, what: &str) -> Result<String, Memory>
 }
 
 /// The line on a file that can't be read.
-pub fn unread_line(alloc: Global, role: Role) -> Result<String, Memory>
+pub(crate) fn unread_line(alloc: Global, role: Role) -> Result<String, Memory>
     ensures { IfOk result (λ line. string_bytes line ≡ unread_words role) }
 {
     line_of(alloc, role, "cannot be read")
 }
 
 /// The line on a file whose text is refused.
-pub fn text_line(alloc: Global, role: Role, fault: &NetTextFault) -> Result<String, Memory>
+pub(crate) fn text_line(alloc: Global, role: Role, fault: &NetTextFault) -> Result<String, Memory>
     ensures { IfOk result (λ line. string_bytes line ≡ text_words role fault.now) }
 {
     match fault {
@@ -76,7 +76,7 @@ fn byte_line(alloc: Global, role: Role, what: &str, at: usize) -> Result<String,
 }
 
 /// The line on a network that has no types within the limits.
-pub fn type_line(alloc: Global, role: Role, fault: &TypeFault) -> Result<String, Memory>
+pub(crate) fn type_line(alloc: Global, role: Role, fault: &TypeFault) -> Result<String, Memory>
     ensures { IfOk result (λ line. string_bytes line ≡ type_words role fault.now) }
 {
     match fault {
@@ -118,35 +118,35 @@ fn place_line(alloc: Global, role: Role, what: &str, position: &Position) -> Res
 }
 
 /// The line on a position at which nothing stands in the network.
-pub fn not_there_line(alloc: Global, position: &Position) -> Result<String, Memory>
+pub(crate) fn not_there_line(alloc: Global, position: &Position) -> Result<String, Memory>
     ensures { IfOk result (λ line. string_bytes line ≡ not_there_words position.now) }
 {
     place_line(alloc, Role::Network, "no position ", position)
 }
 
 /// The line on a word that is no number of steps.
-pub fn no_number_line(alloc: Global) -> Result<String, Memory>
+pub(crate) fn no_number_line(alloc: Global) -> Result<String, Memory>
     ensures { IfOk result (λ line. string_bytes line ≡ no_number_words) }
 {
     Ok(String::from_str(alloc, "--first: no number")?)
 }
 
 /// The line on a word that is no position.
-pub fn no_place_line(alloc: Global) -> Result<String, Memory>
+pub(crate) fn no_place_line(alloc: Global) -> Result<String, Memory>
     ensures { IfOk result (λ line. string_bytes line ≡ no_place_words) }
 {
     Ok(String::from_str(alloc, "--at: no position")?)
 }
 
 /// The line where no certificate is found.
-pub fn none_found_line(alloc: Global) -> Result<String, Memory>
+pub(crate) fn none_found_line(alloc: Global) -> Result<String, Memory>
     ensures { IfOk result (λ line. string_bytes line ≡ none_found_words) }
 {
     line_of(alloc, Role::Certificate, "none found")
 }
 
 /// The line on a certificate that doesn't lead from its source to its target.
-pub fn check_line(alloc: Global, fault: &CheckFault) -> Result<String, Memory>
+pub(crate) fn check_line(alloc: Global, fault: &CheckFault) -> Result<String, Memory>
     ensures { IfOk result (λ line. string_bytes line ≡ check_words fault.now) }
 {
     match fault {

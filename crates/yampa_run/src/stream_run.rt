@@ -21,7 +21,7 @@ use stream_text::{Device, LineState, StreamFault};
 
 /// Why a line of output isn't written whole.
 #[derive(Clone, Copy)]
-pub enum WriteStop {
+pub(crate) enum WriteStop {
     /// A write failed.
     Write,
     /// A growth was refused.

@@ -23,7 +23,7 @@ use std::alloc::Global;
 
 /// What is to be told of a network.
 #[derive(Clone, Copy)]
-pub enum Telling {
+pub(crate) enum Telling {
     /// Its types, its weight and its height.
     Types,
     /// A line on each of its parts.
@@ -35,7 +35,7 @@ pub enum Telling {
 }
 
 /// What is to be told of the network of the file of that name.
-pub fn told<F: Files>(
+pub(crate) fn told<F: Files>(
     alloc: Global,
     telling: Telling,
     name: &str,

@@ -24,7 +24,7 @@ const LAST_CHILD: u32 = 65_535;
 
 /// How many steps are to be taken, by that word; `None`, for all, where there is no word. Refused
 /// with status 2 where the word is no number.
-pub fn first_of(alloc: Global, word: Option<&str>) -> Result<Option<usize>, Refusal>
+pub(crate) fn first_of(alloc: Global, word: Option<&str>) -> Result<Option<usize>, Refusal>
     ensures first { IfOk result (TellsFirst (option_map (λ w. w.now) word.entry)) }
     ensures refused { IfErr result (IsNoNumber (option_map (λ w. w.now) word.entry)) }
 {
@@ -68,7 +68,7 @@ fn is_number(word: &str) -> bool
 
 /// The position that the word is, as positions are printed; the root, where there is no word.
 /// Refused with status 2 where the word is no position.
-pub fn place_of(alloc: Global, word: Option<&str>) -> Result<Position, Refusal>
+pub(crate) fn place_of(alloc: Global, word: Option<&str>) -> Result<Position, Refusal>
     ensures place { IfOk result (TellsPlace (option_map (λ w. w.now) word.entry)) }
     ensures refused { IfErr result (IsNowhere (option_map (λ w. w.now) word.entry)) }
 {
