@@ -32,7 +32,8 @@ pub use net_meaning::{
     congruence_laws, output_examples, stream_laws, switching_laws, weight_examples,
 };
 pub use net_tree::{
-    Direction, Law, LawStep, Members, Net, NetChild, Position, Tree, height, same_net, weight,
+    Direction, FedForm, Law, LawStep, LeafForm, MOST_HEIGHT, MOST_WEIGHT, Members, Net, NetChild,
+    PairForm, Position, Tree, height, print_position, push_position, same_net, weight,
 };
 pub use place::{Place, TreeRef, at, child, place_below};
 pub use replacing::replace;

@@ -23,4 +23,4 @@ pub use forms::{FedForm, LeafForm, PairForm, copied_children};
 pub use law_step::{Direction, Law, LawStep, Tree};
 pub use measure::{MOST_HEIGHT, MOST_WEIGHT, height, is_oversized, weight};
 pub use net::{Members, Net, NetChild};
-pub use position::{Position, push_position};
+pub use position::{Position, print_position, push_position};
