@@ -1,16 +1,17 @@
 -- Each form does the same where its parts do.
-use Rattle.std.proofs.Common.{◌≡◌, ℕ, ◌≤◌, List, [], ◌∷◌, ◌++◌, refl, sym, ◌∙◌}
+use Rattle.std.proofs.Common.{List, [], ◌∷◌, ◌++◌, refl, ◌∙◌}
 use Rattle.sample_core.specs.TypeTree.{TypeTree, unit_ty, int_ty, pair_ty, event_ty, list_ty}
 use Rattle.leaf_core.specs.Expression.{Expression}
 use Rattle.leaf_core.specs.ExpressionValue.{value_of}
 use Rattle.leaf_core.specs.ExpressionTyping.{ExpressionTyped}
+use Rattle.leaf_core.specs.SameValue.{SameValue}
 use Rattle.leaf_core.proofs.Soundness.{typed_value}
-use Rattle.net_tree.specs.Network.{Network, Networks, arr, loop_pre, i_pre, delay, hold, accum_by, after, repeatedly, p_switch}
+use Rattle.net_tree.specs.Network.{Network, arr, loop_pre, i_pre, delay, hold, accum_by, after, repeatedly, p_switch}
 use Rattle.net_meaning.specs.Typing.{Arrow, arrow, copies, members}
 use Rattle.net_meaning.specs.Environment.{Environment}
 use Rattle.net_meaning.specs.Sameness.{SameLeaf}
 use Rattle.net_meaning.specs.AlikeEnvironments.{AlikeEnvironments, SameOutputs}
-use Rattle.net_meaning.specs.Congruence.{TwinLeaf, Twin, TwinMembers, ArrLaw, SequenceLaw, FirstLaw, ParallelLaw, LoopLaw, PreviousLaw, DelayLaw, HoldLaw, AccumulateLaw, AfterLaw, RepeatedlyLaw, SwitchLaw, LateSwitchLaw, RestartLaw, FreezeLaw, FreezeMembersLaw}
+use Rattle.net_meaning.specs.Congruence.{TwinLeaf, ArrLaw, SequenceLaw, FirstLaw, ParallelLaw, LoopLaw, PreviousLaw, DelayLaw, HoldLaw, AccumulateLaw, AfterLaw, RepeatedlyLaw, SwitchLaw, LateSwitchLaw, RestartLaw, FreezeLaw, FreezeMembersLaw}
 use Rattle.net_meaning.proofs.SameNets.{same-arr, same-loop_pre, same-i_pre, same-delay, same-hold, same-accum_by, same-after, same-repeatedly, same-p_switch, same-typed, same-all_typed}
 use Rattle.net_meaning.proofs.SameForms.{seq_same, first_same, loop_same, switch_same, d_switch_same, r_switch_same, k_switch_same, par_same, p_switch_same, twins_left}
 use Rattle.net_meaning.proofs.StreamLaws.{same-outputs}

@@ -1,7 +1,7 @@
 -- Worked examples of what networks output, and of their weight.
 use Rattle.std.specs.Prelude.{◌≡◌, ℕ, zero, suc, ◌<◌, pos, negsuc, true, false, List, [], ◌∷◌, map}
 use Rattle.sample_core.specs.Datum.{Datum, unit, bool, int, pair, no_event, event, list, list_of}
-use Rattle.sample_core.specs.TypeTree.{unit_ty, int_ty, list_ty}
+use Rattle.sample_core.specs.TypeTree.{unit_ty, int_ty}
 use Rattle.leaf_core.specs.Expression.{Expression, input, param, unit_expr, bool_expr, int_expr, pair_expr, fst, snd, neg, add, mul, less, equal, not_expr, and_expr, if_expr, no_event_expr, event_expr, list_expr, expressions_of}
 use Rattle.net_meaning.specs.SignalFunction.{TimedList}
 use Rattle.net_tree.specs.Network.{Network, arr, seq, first, par, loop_pre, initial_out, initial_in, i_pre, delay, hold, accum_by, after, repeatedly, time, integral, switch, d_switch, r_switch, dr_switch, rp_switch, k_switch, p_switch, old, networks_of}

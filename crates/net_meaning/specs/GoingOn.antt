@@ -1,9 +1,8 @@
 -- Worked examples of networks that go on, start anew or are resumed, in one another.
-use Rattle.std.specs.Prelude.{◌≡◌, ℕ, negsuc, List, [], ◌∷◌, map}
+use Rattle.std.specs.Prelude.{◌≡◌, ℕ, negsuc, List, [], ◌∷◌}
 use Rattle.sample_core.specs.Datum.{Datum, pair, no_event, event, list, list_of}
 use Rattle.sample_core.specs.TypeTree.{unit_ty, int_ty}
 use Rattle.leaf_core.specs.Expression.{Expression, input, param, unit_expr, int_expr, pair_expr, fst, add, mul, less, equal, if_expr, no_event_expr, event_expr, nth}
-use Rattle.net_meaning.specs.SignalFunction.{TimedList}
 use Rattle.net_tree.specs.Network.{Network, arr, seq, par, initial_out, initial_in, i_pre, time, integral, switch, r_switch, dr_switch, rp_switch, k_switch, old, networks_of}
 use Rattle.net_tree.specs.Weight.{weight}
 use Rattle.net_meaning.specs.TypedNetwork.{stream_of}
