@@ -1,3 +1,4 @@
 pub mod MappedMeasures
+pub mod Measuring
 pub mod Sizes
 pub mod FormLaws

@@ -7,7 +7,7 @@ pub mod Weight
 pub mod Height
 pub mod Position
 pub mod Place
-pub mod Left
+pub mod Measured
 pub mod FormView
 pub mod LawStep
 pub mod FormParts

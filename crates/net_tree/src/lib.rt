@@ -5,8 +5,9 @@
 //!     let is_equal = same_net(&net, &again);
 //!
 //! Contracts see a `Net` as a `Network` (`tree_of`), over leaves of any type; copies share their
-//! parts. `weight` and `height` answer what the definitions of these names say. `Position` is the
-//! list of child numbers that leads to a part; `LawStep` says at which part which law is taken.
+//! parts. `weight`, `height` and `measured` answer what the definitions of these names say.
+//! `Position` is the list of child numbers that leads to a part; `LawStep` says at which part which
+//! law is taken.
 //!
 //! First `specs/Network`, then `specs/Weight` and `Height`, then `src/net.rt`.
 #![tactic(auto)]
@@ -21,6 +22,6 @@ mod position;
 pub use equal::{Parts, parts_inside, same_net};
 pub use forms::{FedForm, LeafForm, PairForm, copied_children};
 pub use law_step::{Direction, Law, LawStep, Tree};
-pub use measure::{MOST_HEIGHT, MOST_WEIGHT, height, is_oversized, weight};
+pub use measure::{MOST_HEIGHT, MOST_SIZE, MOST_WEIGHT, Measures, height, measured, weight};
 pub use net::{Members, Net, NetChild};
 pub use position::{Position, print_position, push_position};

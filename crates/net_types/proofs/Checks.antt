@@ -1,5 +1,5 @@
 -- The walk and the check answer exactly the networks within the limits.
-use Rattle.std.proofs.Common.{◌≡◌, ◌∙◌, ℕ, cond, true, min, arith, leb, [], Ok, Err, refl, ap, ◌≤◌, sym, le-leb, leb-true}
+use Rattle.std.proofs.Common.{◌≡◌, ◌∙◌, ℕ, Bool, cond, true, false, arith, leb, [], Ok, Err, refl, ap, ◌≤◌, sym, le-leb, leb-true}
 use Rattle.sample_core.specs.TypeTree.{TypeTree}
 use Rattle.leaf_core.specs.Expression.{Expression}
 use Rattle.leaf_core.specs.TypeLimits.{type_fits}
@@ -8,6 +8,8 @@ use Rattle.leaf_core.specs.ExpressionLimits.{ExpressionTypedWithin}
 use Rattle.leaf_core.proofs.Exactness.{type_answer-exact}
 use Rattle.net_tree.specs.Network.{Network, network_size}
 use Rattle.net_tree.specs.Height.{height}
+use Rattle.net_tree.specs.Measured.{MeasuresWithin, capped}
+use Rattle.net_tree.specs.declared.measure.Measures.{Measures}
 use Rattle.net_tree.specs.Weight.{weight}
 use Rattle.net_meaning.specs.TypedNetwork.{TypedNetwork}
 use Rattle.net_meaning.specs.NetworkLimits.{WithinLimits}
@@ -71,7 +73,7 @@ check_exact A net t = (λ e. holding (check_sound A net) e, λ h. (λ i. check (
 
 -- what passes every test of the check is within the limits
 pub within_limits : (A B : TypeTree) (net : Network Expression) (w h : ℕ) → type_fits A ≡ true → net_walk [] [] [] A net ≡ Ok B
-    → w ≡ min (weight net []) 1000001 → h ≡ min (height net []) 257 → w ≤ 1000000 → h ≤ 256
+    → w ≡ capped (weight net []) → h ≡ capped (height net []) → w ≤ 1000000 → h ≤ 256
     → WithinLimits (record { input = A; output = B; net = net; weight = w; height = h })
 within_limits A B net w h fits typed is_weight is_height light low =
     record {
@@ -84,3 +86,12 @@ within_limits A B net w h fits typed is_weight is_height light low =
 pub check_faults : (A : TypeTree) (net : Network Expression) (f : TypeFault) → type_fits A ≡ true → network_size net ≤ 5000000 → net_walk [] [] [] A net ≡ Err f
     → check A net ≡ Err f
 check_faults A net f fits small e = of_few A net small ∙ faults_on _ (within_passes A (type_fits-TypeFits A fits)) (stops _ e)
+
+-- what isn't within the limit of the size is too heavy, where the test before is passed
+pub too_large : (A : TypeTree) (net : Network Expression) (most : Measures) → type_fits A ≡ true → 5000000 ≤ most.size → 4294967295 ≤ most.weight
+    → 4294967295 ≤ most.height → (MeasuresWithin most net → ⊥) → check A net ≡ Err Fault.TooHeavy
+too_large A net most fits i j k h = go (leb (network_size net) 5000000) refl
+  where
+    go : (b : Bool) → leb (network_size net) 5000000 ≡ b → check A net ≡ Err Fault.TooHeavy
+    go true e = let few : network_size net ≤ 5000000 = leb-true (network_size net) 5000000 e in absurd (h (omega arith, omega arith, omega arith))
+    go false e = ap (λ b. cond b (first_fault A net) (within A >> Err Fault.TooHeavy)) e ∙ faults_on _ (within_passes A (type_fits-TypeFits A fits)) refl

@@ -1,5 +1,5 @@
 -- A type is kept at a position, as the code finds it, exactly where the tree with another there is typed within the limits.
-use Rattle.std.proofs.Common.{◌≡◌, ◌≤◌, ◌<◌, ℕ, min, leb, leb-true, le-leb, arith, Bool, true, false, ◌&&◌, List, [], ◌∷◌, Option, Some, None, IfSome, option_map, Result, Ok, Err, refl, sym, ap, subst, ◌∙◌}
+use Rattle.std.proofs.Common.{◌≡◌, ◌≤◌, ◌<◌, ℕ, leb, leb-true, le-leb, arith, Bool, true, false, ◌&&◌, List, [], ◌∷◌, Option, Some, None, IfSome, option_map, Result, Ok, Err, refl, sym, ap, subst, ◌∙◌}
 use Rattle.std.specs.Option.{option_and_then}
 use Rattle.std.specs.Result.{result_ok}
 use Rattle.std.proofs.lemmas.Option.{none-some, same_Some}
@@ -15,8 +15,10 @@ use Rattle.leaf_core.proofs.Uniqueness.{one_type}
 use Rattle.leaf_core.proofs.PartTypes.{TypedThere, there_typed, one_input, kept_there, inner}
 use Rattle.leaf_core.proofs.WithinParts.{put_there}
 use Rattle.net_tree.specs.Network.{Network, network_size}
+use Rattle.net_tree.specs.Measured.{MeasuresWithin, capped}
 use Rattle.net_tree.specs.Weight.{weight}
 use Rattle.net_tree.specs.Height.{height}
+use Rattle.net_tree.specs.declared.measure.Measures.{Measures}
 use Rattle.net_syntax.specs.Rewriting.{Rewrites}
 use Rattle.net_tree.specs.Place.{◌>>=◌, Tree, a_network, a_leaf, child}
 use Rattle.net_syntax.specs.Placed.{with_child, replaced}
@@ -29,7 +31,7 @@ use Rattle.net_syntax.proofs.FoundTypes.{TreeWithin, forget}
 use Rattle.net_syntax.proofs.SamePlaces.{Filler, filled}
 use Rattle.net_types.specs.KeptTypes.{checked_output, same_type, kept_in_leaf, both_there, type_kept}
 use Rattle.net_types.specs.Answered.{NoRewriting}
-use Rattle.net_types.proofs.Sizes.{many_weigh}
+use Rattle.net_types.proofs.Sizes.{few_inside}
 use Rattle.net_types.proofs.Checks.{walk_exact}
 use Rattle.net_types.proofs.Holes.{output_found, Hole, hole, found_there}
 use Rattle.net_types.proofs.ChangedPlaces.{kept}
@@ -256,7 +258,7 @@ type_is_kept R Q tree there p s w B B' C d x q (inside_network {R = P} {f = f} {
 -- the network that is made is the rewriting
 pub rewritten : (t : TypedNetwork) (p : List ℕ) (s : Tree Expression) (A B : TypeTree) (v : Network Expression) (w h : ℕ) → WithinLimits t
     → replaced (a_network t.net) p s ≡ Some (a_network v) → A ≡ t.input → B ≡ t.output → type_kept (alone t.input) (a_network t.net) p s ≡ true
-    → w ≡ min (weight v []) 1000001 → h ≡ min (height v []) 257 → w ≤ 1000000 → h ≤ 256
+    → w ≡ capped (weight v []) → h ≡ capped (height v []) → w ≤ 1000000 → h ≤ 256
     → Rewrites t p s (record { input = A; output = B; net = v; weight = w; height = h })
 rewritten t p s A B v w h d q is_input is_output i is_weight is_height light low =
     let a : Alike (alone t.input) (a_network t.net) p s × NetTypedWithin [] [] v t.input t.output =
@@ -310,25 +312,13 @@ none_unkept t p s v d q i u r =
     true_is_false : true ≡ false → ⊥
     true_is_false e = cc
 
--- nor where a limit is exceeded
-pub none_large : (t : TypedNetwork) (p : List ℕ) (s : Tree Expression) (v : Network Expression) → replaced (a_network t.net) p s ≡ Some (a_network v)
-    → 5000000 < network_size v → NoRewriting t p s
-none_large t p s v q h u r =
+-- nor where it isn't within the limits
+pub none_outside : (t : TypedNetwork) (p : List ℕ) (s : Tree Expression) (v : Network Expression) (most : Measures) → replaced (a_network t.net) p s ≡ Some (a_network v)
+    → 5000000 ≤ most.size → 1000000 ≤ most.weight → 256 ≤ most.height → (MeasuresWithin most v → ⊥) → NoRewriting t p s
+none_outside t p s v most q i j k h u r =
     let e : u.net ≡ v = result_is t u p s v q r in
-    let l : weight v [] ≤ 1000000 = subst (λ z. weight z [] ≤ 1000000) e r.within.fits.light in
+    let light : weight v [] ≤ 1000000 = subst (λ z. weight z [] ≤ 1000000) e r.within.fits.light in
+    let low : height v [] ≤ 256 = subst (λ z. height z [] ≤ 256) e r.within.fits.low in
     let d : NetTypedWithin [] [] v u.input u.output = subst (λ z. NetTypedWithin [] [] z u.input u.output) e r.within.fits.typed in
-    omega (arith, many_weigh d h)
-
-pub none_heavy : (t : TypedNetwork) (p : List ℕ) (s : Tree Expression) (v : Network Expression) (w : ℕ) → replaced (a_network t.net) p s ≡ Some (a_network v)
-    → w ≡ min (weight v []) 1000001 → 1000000 < w → NoRewriting t p s
-none_heavy t p s v w q i h u r =
-    let e : u.net ≡ v = result_is t u p s v q r in
-    let l : weight v [] ≤ 1000000 = subst (λ z. weight z [] ≤ 1000000) e r.within.fits.light in
-    omega arith
-
-pub none_high : (t : TypedNetwork) (p : List ℕ) (s : Tree Expression) (v : Network Expression) (w : ℕ) → replaced (a_network t.net) p s ≡ Some (a_network v)
-    → w ≡ min (height v []) 257 → 256 < w → NoRewriting t p s
-none_high t p s v w q i h u r =
-    let e : u.net ≡ v = result_is t u p s v q r in
-    let l : height v [] ≤ 256 = subst (λ z. height z [] ≤ 256) e r.within.fits.low in
-    omega arith
+    let few : network_size v ≤ 5000000 = few_inside d light in
+    h (omega arith, omega arith, omega arith)

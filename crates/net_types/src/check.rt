@@ -9,7 +9,7 @@ use crate::scope::ScopeTypes;
 use crate::walk::walk;
 use leaf_core::{Expr, type_fits};
 use net_syntax::TypedNet;
-use net_tree::{MOST_HEIGHT, MOST_WEIGHT, Net, height, is_oversized, weight};
+use net_tree::{MOST_HEIGHT, MOST_SIZE, MOST_WEIGHT, Measures, Net, measured};
 use sample_core::Ty;
 use std::alloc::Global;
 
@@ -43,19 +43,22 @@ pub fn check_types(alloc: Global, input: Ty, net: Net<Expr>) -> Result<TypedNet,
     if !type_fits(&input) {
         return Err(TypeFault::TooDeep);
     }
-    if is_oversized(&net) {
+    let most = Measures {
+        size: MOST_SIZE,
+        weight: u32::MAX,
+        height: u32::MAX,
+    };
+    let Some(found) = measured(alloc, &net, &most)? else {
         return Err(TypeFault::TooHeavy);
-    }
+    };
     let mut path = Vec::new(alloc);
     let scope = ScopeTypes::new(alloc);
     let output = walk(alloc, &mut path, &scope, &input, &net)?;
-    let height = height(alloc, &net)?;
-    if height > MOST_HEIGHT {
+    if found.height > MOST_HEIGHT {
         return Err(TypeFault::TooDeep);
     }
-    let weight = weight(alloc, &net)?;
-    if weight > MOST_WEIGHT {
+    if found.weight > MOST_WEIGHT {
         return Err(TypeFault::TooHeavy);
     }
-    Ok(TypedNet::new(input, output, net, weight, height))
+    Ok(TypedNet::new(input, output, net, found.weight, found.height))
 }

@@ -15,7 +15,7 @@ use crate::scope::ScopeTypes;
 use crate::walk::walk;
 use leaf_core::{Expr, expr_fits, part_type, with_part_at};
 use net_syntax::{Standing, TreeRef, TypedNet, child, child_standing, replace};
-use net_tree::{MOST_HEIGHT, MOST_WEIGHT, Net, Position, Tree, height, is_oversized, weight};
+use net_tree::{MOST_HEIGHT, MOST_SIZE, MOST_WEIGHT, Measures, Net, Position, Tree, measured};
 use sample_core::{Memory, Ty, same_type};
 use std::alloc::Global;
 
@@ -86,23 +86,22 @@ fn retyped(
         (NoRewriting net.now path.now (part_of tree.now))
         (λ t. Rewrites net.now path.now (part_of tree.now) t)) }
 {
-    if is_oversized(&changed) {
+    let most = Measures {
+        size: MOST_SIZE,
+        weight: MOST_WEIGHT,
+        height: MOST_HEIGHT,
+    };
+    let Some(found) = measured(alloc, &changed, &most)? else {
         drop(changed);
         return Ok(None);
-    }
+    };
     if !keeps_type(alloc, net, path, tree)? {
-        drop(changed);
-        return Ok(None);
-    }
-    let height = height(alloc, &changed)?;
-    let weight = weight(alloc, &changed)?;
-    if height > MOST_HEIGHT || weight > MOST_WEIGHT {
         drop(changed);
         return Ok(None);
     }
     let input = net.input().try_copy(alloc)?;
     let output = net.output().try_copy(alloc)?;
-    Ok(Some(TypedNet::new(input, output, changed, weight, height)))
+    Ok(Some(TypedNet::new(input, output, changed, found.weight, found.height)))
 }
 
 /// Whether the tree has, at the path of the network, the type of what stands there.

@@ -7,7 +7,9 @@ use crate::texts::{numbered, parted, say, say_at};
 use leaf_expr::{Expr, Literal};
 use net_syntax::Arrow;
 use net_text::read_net;
-use net_tree::{Members, Net, NetChild, Position, height, is_oversized, print_position, weight};
+use net_tree::{
+    MOST_SIZE, Measures, Members, Net, NetChild, Position, height, measured, print_position, weight,
+};
 use net_types::check_types;
 use sample_core::{Memory, Ty};
 use std::alloc::Global;
@@ -45,7 +47,21 @@ fn measure_told(alloc: Global, kind: &str, net: &Net<Expr>, out: &mut String) {
     match kind {
         "weight" => number_told(weight(alloc, net), out),
         "height" => number_told(height(alloc, net), out),
-        _ => say(out, if is_oversized(net) { "yes" } else { "no" }),
+        _ => oversized_told(alloc, net, out),
+    }
+}
+
+/// Tells whether the network's size is over the greatest that is walked.
+fn oversized_told(alloc: Global, net: &Net<Expr>, out: &mut String) {
+    let most = Measures {
+        size: MOST_SIZE,
+        weight: u32::MAX,
+        height: u32::MAX,
+    };
+    match measured(alloc, net, &most) {
+        Ok(Some(_)) => say(out, "no"),
+        Ok(None) => say(out, "yes"),
+        Err(Memory) => say(out, "memory"),
     }
 }
 
