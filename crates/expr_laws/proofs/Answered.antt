@@ -13,34 +13,44 @@ use Rattle.net_tree.specs.declared.law_step.Law.TheVariants as L
 use Rattle.net_tree.specs.declared.law_step.Direction.{Direction}
 use Rattle.net_tree.specs.declared.law_step.Direction.TheVariants.{Forward, Backward}
 use Rattle.expr_laws.specs.Rows.{ExpressionRow}
-use Rattle.expr_laws.specs.Table.{LawRule, no_rule, Becomes, rule_at}
+use Rattle.expr_laws.specs.Table.{rule_at, left_at, right_at}
 use Rattle.expr_laws.specs.Answer.{ExpressionAnswer, forward_answer, backward_answer, IsExpressionAnswer, IsRightSide}
-use Rattle.expr_laws.proofs.RulesExact.{rule-sound, rule-complete}
+use Rattle.expr_laws.specs.declared.table.Rule.{Rule}
+use Rattle.expr_laws.specs.declared.table.Rule.TheVariants as R
+use Rattle.law_patterns.specs.declared.sym.Sym.{Sym}
+use Rattle.law_patterns.proofs.Rules.{ByPatterns, by-rule}
+use Rattle.expr_laws.proofs.NamedLaws.{IsRight}
+use Rattle.expr_laws.proofs.TableRows.{made, made-is, Stands, stands, two-patterns}
 use Rattle.expr_laws.proofs.RowValues.{row_value}
 use Rattle.expr_laws.proofs.Numbers.{one_right_side}
 
--- what an expression becomes by a rule, or nothing
-abbrev ByRule : LawRule → Expression → Option Expr → Type 0
-ByRule rule e o = MatchOption o ((r : Expression) → Becomes rule e r → ⊥) (λ r. Becomes rule e (expression_of r))
+-- what a rule makes right sides of
+abbrev MakesRight : ℕ → Rule → Type 0
+MakesRight n rule = (e : Expression) → IsRight n e (made rule (left_at n) (right_at n) e)
 
-by-number : {E : Type 0} (n : ℕ) (e : Expression) (x : Result (Option Expr) E) → IfOk x (ByRule (rule_at n) e) → IfOk x (IsRightSide n e)
-by-number n e (Ok None) h = λ r k. h r (rule-complete k)
-by-number n e (Ok (Some r)) h = rule-sound n e (expression_of r) h
-by-number n e (Err f) h = tt
+only-made : (n : ℕ) (e r : Expression) (rule : Rule) → rule ≡ rule_at n → ExpressionRow n e r → made rule (left_at n) (right_at n) e ≡ Some r
+only-made n e r rule q k = subst (λ v. made v (left_at n) (right_at n) e ≡ Some r) (sym q) (made-is k)
 
--- what a rule answers is what the law of its number does
-pub by-rule : {E : Type 0} (n : ℕ) (e : Expression) (rule : LawRule) (x : Result (Option Expr) E) → rule ≡ rule_at n → IfOk x (ByRule rule e) → IfOk x (IsRightSide n e)
-by-rule n e rule x q h = by-number n e x (subst (λ r. IfOk x (ByRule r e)) q h)
+-- a number whose rule is none has no row
+pub no-law : (n : ℕ) (e : Expression) → R.Nothing ≡ rule_at n → (r : Expression) → ExpressionRow n e r → ⊥
+no-law n e q r k = let p : None ≡ Some r = only-made n e r R.Nothing q k in absurd (cc)
 
-no-some : {A : Type 0} (r : A) → None ≡ Some r → ⊥
-no-some r q = absurd (cc)
+right-answer : {E : Type 0} (n : ℕ) (e : Expression) (rule : Rule) (x : Result (Option Expr) E) → rule ≡ rule_at n → MakesRight n rule
+    → IfOk x (λ o. option_map expression_of o ≡ made rule (left_at n) (right_at n) e) → IfOk x (IsRightSide n e)
+right-answer n e rule (Ok None) q g h = λ r k. let p : None ≡ Some r = h ∙ only-made n e r rule q k in absurd (cc)
+right-answer n e rule (Ok (Some r)) q g h = subst (IsRight n e) (sym h) (g e)
+right-answer n e rule (Err f) q g h = tt
 
--- an answer that is said by an equation
-pub told : {E : Type 0} (y : Option Expression) (x : Result (Option Expr) E) → IfOk x (λ o. option_map expression_of o ≡ y)
-    → IfOk x (λ o. MatchOption o ((r : Expression) → y ≡ Some r → ⊥) (λ r. y ≡ Some (expression_of r)))
-told y (Ok None) h = λ r q. no-some r (h ∙ q)
-told y (Ok (Some r)) h = sym h
-told y (Err f) h = tt
+-- what a rule by name answers is what the law of its number does
+pub by-name : {E : Type 0} (n : ℕ) (e : Expression) (rule : Rule) (x : Result (Option Expr) E) → rule ≡ rule_at n → (Stands n rule (left_at n) (right_at n) → MakesRight n rule)
+    → IfOk x (λ o. option_map expression_of o ≡ made rule (left_at n) (right_at n) e) → IfOk x (IsRightSide n e)
+by-name n e rule x q g h = right-answer n e rule x q (g (subst (λ v. Stands n v (left_at n) (right_at n)) (sym q) (stands n))) h
+
+-- what two patterns answer is what the law of their number does
+pub by-patterns : {E : Type 0} (n : ℕ) (e : Expression) (left right : List Sym) (x : Result (Option Expr) E) → R.Sides ≡ rule_at n → left ≡ left_at n → right ≡ right_at n
+    → ByPatterns left right e x → IfOk x (IsRightSide n e)
+by-patterns n e left right x q s t h =
+    by-rule (ExpressionRow n) (left_at n) (right_at n) e x (two-patterns n q) (subst (λ v. ByPatterns v (right_at n) e x) s (subst (λ v. ByPatterns left v e x) t h))
 
 forward-none : (n : ℕ) (e : Expression) → ((r : Expression) → ExpressionRow n e r → ⊥) → (r : Expression) → ExpressionAnswer (L.E n) Forward e None r → ⊥
 forward-none n e q r (forward_answer h) = q r h
@@ -79,10 +89,6 @@ backward-answered l d n e v g x p q r h = moved l (L.E n) d Backward e g (Some v
 pub one_answer : (l : Law) (d : Direction) (e : Expression) (g : Option Expression) (r s : Expression) → ExpressionAnswer l d e g r → ExpressionAnswer l d e g s → r ≡ s
 one_answer l d e g r s (forward_answer {n = n} h) (forward_answer k) = one_right_side n e r s h k
 one_answer l d e g r s (backward_answer h) (backward_answer k) = refl
-
--- a number whose rule is none has no row
-pub no-row : (n : ℕ) (e : Expression) → no_rule ≡ rule_at n → (r : Expression) → ExpressionRow n e r → ⊥
-no-row n e q r h = subst (λ v. Becomes v e r) (sym q) (rule-complete h)
 
 -- the answer, where there is one, is a right side
 pub found-row : (n : ℕ) (e : Expression) (o : Option Expr) (r : Expr) → IsRightSide n e o → o ≡ Some r → ExpressionRow n e (expression_of r)

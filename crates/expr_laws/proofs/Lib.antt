@@ -1,6 +1,7 @@
+pub mod NamedLaws
+pub mod TableRows
 pub mod Numbers
 pub mod RowValues
 pub mod RowTypes
 pub mod Elements
-pub mod RulesExact
 pub mod Answered

@@ -44,9 +44,10 @@ pub fn apply_expr(
 fn forward(alloc: Global, number: u8, expr: &Expr) -> Result<Option<Expr>, Memory>
     ensures { IfOk result (IsRightSide number (expression_of expr.now)) }
 {
-    match law_rule(number) {
+    let (rule, left, right) = law_rule(number);
+    match rule {
         Rule::Nothing => Ok(None),
-        Rule::Sides(left, right) => rewrite_expr(alloc, left, right, expr),
+        Rule::Sides => rewrite_expr(alloc, left, right, expr),
         Rule::Spread => spread_then(alloc, expr),
         Rule::Constant => constant_behind(alloc, expr),
         Rule::Compute => computed(alloc, expr),

@@ -1,8 +1,9 @@
 // The laws as a table.
 
-ghost use Rattle.std.specs.Prelude.{◌≡◌};
-ghost use Rattle.expr_laws.specs.Table.{rule_at, rule_of};
+ghost use Rattle.std.specs.Prelude.{◌≡◌, [], get_or, map};
+ghost use Rattle.expr_laws.specs.Table.{left_at, right_at, rule_at};
 
+use Rule::{Compute, Constant, Nothing, Pick, Sides, Spread};
 use law_patterns::{
     ADD, EVENT, F, FALSE, FST, G, H, I, IF, NONE, ON, PAIR, SND, Sym, THEN, TRUE, X,
 };
@@ -13,7 +14,7 @@ pub enum Rule {
     /// No law.
     Nothing,
     /// A left and a right side.
-    Sides(&'static [Sym], &'static [Sym]),
+    Sides,
     /// An operator behind an expression has each of its parts behind it.
     Spread,
     /// What doesn't see the input is the same behind an expression.
@@ -24,36 +25,55 @@ pub enum Rule {
     Pick,
 }
 
-use Rule::Sides;
+/// What a law is, and its two sides, if it has any: each form is written before its parts.
+pub type Row = (Rule, &'static [Sym], &'static [Sym]);
 
-/// The law of this number: a side is written with each form before its parts.
-pub fn law_rule(number: u8) -> Rule
-    ensures { rule_of result ≡ rule_at number }
+/// The laws by number, from 0.
+pub const LAWS: [Row; 19] = [
+    (Nothing, &[], &[]),
+    (Sides, &[THEN, X, F], &[F]),
+    (Sides, &[THEN, F, X], &[F]),
+    (Sides, &[THEN, THEN, F, G, H], &[THEN, F, THEN, G, H]),
+    (Spread, &[], &[]),
+    (
+        Sides,
+        &[THEN, F, ON, G, H, I],
+        &[
+            ON, THEN, F, G, THEN, F, H, THEN, PAIR, THEN, FST, X, F, SND, X, I,
+        ],
+    ),
+    (Constant, &[], &[]),
+    (Sides, &[FST, PAIR, F, G], &[F]),
+    (Sides, &[SND, PAIR, F, G], &[G]),
+    (Sides, &[PAIR, FST, F, SND, F], &[F]),
+    (Sides, &[IF, TRUE, F, G], &[F]),
+    (Sides, &[IF, FALSE, F, G], &[G]),
+    (Sides, &[IF, F, G, G], &[G]),
+    (Sides, &[ON, NONE, F, G], &[F]),
+    (Sides, &[ON, EVENT, F, G, H], &[THEN, PAIR, X, F, H]),
+    (Compute, &[], &[]),
+    (Sides, &[ADD, F, G], &[ADD, G, F]),
+    (Sides, &[ADD, ADD, F, G, H], &[ADD, F, ADD, G, H]),
+    (Pick, &[], &[]),
+];
+
+/// The law of this number.
+pub fn law_rule(number: u8) -> Row
+    ensures rule { result.0 ≡ rule_at number }
+    ensures left { result.1.now ≡ left_at number }
+    ensures right { result.2.now ≡ right_at number }
 {
-    match number {
-        1 => Sides(&[THEN, X, F], &[F]),
-        2 => Sides(&[THEN, F, X], &[F]),
-        3 => Sides(&[THEN, THEN, F, G, H], &[THEN, F, THEN, G, H]),
-        4 => Rule::Spread,
-        5 => Sides(
-            &[THEN, F, ON, G, H, I],
-            &[
-                ON, THEN, F, G, THEN, F, H, THEN, PAIR, THEN, FST, X, F, SND, X, I,
-            ],
-        ),
-        6 => Rule::Constant,
-        7 => Sides(&[FST, PAIR, F, G], &[F]),
-        8 => Sides(&[SND, PAIR, F, G], &[G]),
-        9 => Sides(&[PAIR, FST, F, SND, F], &[F]),
-        10 => Sides(&[IF, TRUE, F, G], &[F]),
-        11 => Sides(&[IF, FALSE, F, G], &[G]),
-        12 => Sides(&[IF, F, G, G], &[G]),
-        13 => Sides(&[ON, NONE, F, G], &[F]),
-        14 => Sides(&[ON, EVENT, F, G, H], &[THEN, PAIR, X, F, H]),
-        15 => Rule::Compute,
-        16 => Sides(&[ADD, F, G], &[ADD, G, F]),
-        17 => Sides(&[ADD, ADD, F, G, H], &[ADD, F, ADD, G, H]),
-        18 => Rule::Pick,
-        _ => Rule::Nothing,
+    row_at(&LAWS, number)
+}
+
+/// The row of a number, in a table from 0; no law outside.
+fn row_at(laws: &'static [Row], number: u8) -> Row
+    ensures rule { result.0 ≡ get_or (map (λ row. row.0) laws.now) number Rule.Nothing }
+    ensures left { result.1.now ≡ get_or (map (λ row. row.1.now) laws.now) number [] }
+    ensures right { result.2.now ≡ get_or (map (λ row. row.2.now) laws.now) number [] }
+{
+    match laws.get(usize::from(number)) {
+        Some(row) => *row,
+        None => (Nothing, &[], &[]),
     }
 }

@@ -1,34 +1,25 @@
-use Rattle.std.proofs.Common.{sym, ap, ◌∙◌}
+use Rattle.std.proofs.Common.{sym, ◌∙◌}
 use Rattle.leaf_core.specs.ExpressionView.{expression_of}
-use Rattle.expr_laws.specs.Direct.{law4, law6, law15, law18}
-use Rattle.expr_laws.specs.Table.{rule_of, sides, spreading, keeping, computing, picking}
-use Rattle.expr_laws.proofs.Answered.{by-rule, told, no-row}
+use Rattle.expr_laws.specs.declared.table.Rule.TheVariants.{Spread, Constant, Compute, Pick}
+use Rattle.expr_laws.proofs.Answered.{no-law, by-name, by-patterns}
 use Rattle.expr_laws.proofs.apply.forward.Goals as goal
 
 pub returns-in-Nothing : goal.returns-in-Nothing
-returns-in-Nothing c = no-row c.args.number (expression_of c.args.expr.now) (ap rule_of (sym c.in-Nothing.is) ∙ c.law_rule.ensures)
+returns-in-Nothing c = no-law c.args.number (expression_of c.args.expr.now) (sym c.in-Nothing.is ∙ c.law_rule-rule.ensures.rule)
 
 pub returns-in-Sides : goal.returns-in-Sides
 returns-in-Sides c =
-    by-rule c.args.number (expression_of c.args.expr.now) (sides c.in-Sides.left.now c.in-Sides.right.now) c.rewrite_expr.result (ap rule_of (sym c.in-Sides.is) ∙ c.law_rule.ensures)
-    c.rewrite_expr.ensures
+    by-patterns c.args.number (expression_of c.args.expr.now) c.law_rule-rule.result.1.now c.law_rule-rule.result.2.now c.rewrite_expr.result (sym c.in-Sides.is ∙ c.law_rule-rule.ensures.rule)
+    c.law_rule-rule.ensures.left c.law_rule-rule.ensures.right c.rewrite_expr.ensures
 
 pub returns-in-Spread : goal.returns-in-Spread
-returns-in-Spread c =
-    by-rule c.args.number (expression_of c.args.expr.now) spreading c.spread_then.result (ap rule_of (sym c.in-Spread.is) ∙ c.law_rule.ensures)
-    (told (law4 (expression_of c.args.expr.now)) c.spread_then.result c.spread_then.ensures)
+returns-in-Spread c = by-name c.args.number (expression_of c.args.expr.now) Spread c.spread_then.result (sym c.in-Spread.is ∙ c.law_rule-rule.ensures.rule) (λ h. h.1) c.spread_then.ensures
 
 pub returns-in-Constant : goal.returns-in-Constant
-returns-in-Constant c =
-    by-rule c.args.number (expression_of c.args.expr.now) keeping c.constant_behind.result (ap rule_of (sym c.in-Constant.is) ∙ c.law_rule.ensures)
-    (told (law6 (expression_of c.args.expr.now)) c.constant_behind.result c.constant_behind.ensures)
+returns-in-Constant c = by-name c.args.number (expression_of c.args.expr.now) Constant c.constant_behind.result (sym c.in-Constant.is ∙ c.law_rule-rule.ensures.rule) (λ h. h.1) c.constant_behind.ensures
 
 pub returns-in-Compute : goal.returns-in-Compute
-returns-in-Compute c =
-    by-rule c.args.number (expression_of c.args.expr.now) computing c.computed.result (ap rule_of (sym c.in-Compute.is) ∙ c.law_rule.ensures)
-    (told (law15 (expression_of c.args.expr.now)) c.computed.result c.computed.ensures)
+returns-in-Compute c = by-name c.args.number (expression_of c.args.expr.now) Compute c.computed.result (sym c.in-Compute.is ∙ c.law_rule-rule.ensures.rule) (λ h. h.1) c.computed.ensures
 
 pub returns-in-Pick : goal.returns-in-Pick
-returns-in-Pick c =
-    by-rule c.args.number (expression_of c.args.expr.now) picking c.pick_element.result (ap rule_of (sym c.in-Pick.is) ∙ c.law_rule.ensures)
-    (told (law18 (expression_of c.args.expr.now)) c.pick_element.result c.pick_element.ensures)
+returns-in-Pick c = by-name c.args.number (expression_of c.args.expr.now) Pick c.pick_element.result (sym c.in-Pick.is ∙ c.law_rule-rule.ensures.rule) (λ h. h.1) c.pick_element.ensures

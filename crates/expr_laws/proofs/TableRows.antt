@@ -1,0 +1,127 @@
+-- The table's laws are the rows.
+use Rattle.std.proofs.Common.{◌≡◌, ℕ, zero, suc, ◌+◌, ◌≤◌, pos, cond, length, get_or, map, List, [], ◌∷◌, Option, Some, None, refl, sym, ap, ◌∙◌, subst, arith}
+use Rattle.sample_core.specs.Datum.{unit}
+use Rattle.sample_core.specs.TypeTree.{unit_ty}
+use Rattle.leaf_core.specs.Expression.{Expression, input, no_more}
+use Rattle.leaf_core.specs.ExpressionCode.{expression_code}
+use Rattle.leaf_core.specs.ExpressionValue.{value_of}
+use Rattle.leaf_core.specs.EqualityByCode.{same_by, same_by_decides}
+use Rattle.law_patterns.specs.declared.sym.Sym.{Sym}
+use Rattle.law_patterns.specs.Matching.{Found, going, ended, built, rewritten}
+use Rattle.law_patterns.specs.Pattern.{Assignment, filled}
+use Rattle.law_patterns.specs.Rule.{Related, RuleInstance}
+use Rattle.law_patterns.proofs.Rows.{rewritten-some}
+use Rattle.expr_laws.specs.Rows.{literal_for, neg_spread, unit_constant, equal_units, ExpressionRow, row_e1, row_e2, row_e3, row_e4, row_e5, row_e6, row_e7, row_e8, row_e9, row_e10, row_e11, row_e12, row_e13, row_e14, row_e15, row_e16, row_e17, row_e18}
+use Rattle.expr_laws.specs.Direct.{law4, law6, law15, law18}
+use Rattle.expr_laws.specs.Table.{rule_at, left_at, right_at}
+use Rattle.expr_laws.specs.declared.table.Rule.{Rule}
+use Rattle.expr_laws.specs.declared.table.Rule.TheVariants as R
+use Rattle.expr_laws.specs.declared.table.TheConstants.{LAWS}
+use Rattle.expr_laws.proofs.NamedLaws.{IsRight, law4-gives, law6-gives, law15-gives, law18-gives, spread-is, constant-is, on_literals-is}
+
+-- what a rule makes of an expression, if anything
+abbrev pub made : Rule → List Sym → List Sym → Expression → Option Expression
+made R.Nothing left right e = None
+made R.Sides left right e = rewritten left right e
+made R.Spread left right e = law4 e
+made R.Constant left right e = law6 e
+made R.Compute left right e = law15 e
+made R.Pick left right e = law18 e
+
+-- at the second place of a letter the same expression stands
+again : (n : ℕ) (s : Found) (e : Expression) → built (right_at n) (ended (going (same_by expression_code e e) [] s)) ≡ built (right_at n) (Some s)
+again n s e = ap (λ b. built (right_at n) (ended (going b [] s))) ((same_by_decides expression_code e e).1 refl)
+
+-- a right side is what the law of its number makes of the left one
+pub made-is : {n : ℕ} {l r : Expression} → ExpressionRow n l r → made (rule_at n) (left_at n) (right_at n) l ≡ Some r
+made-is (row_e4 s) = spread-is s
+made-is (row_e6 {k = k} c) = ap (λ b. cond b (Some k) None) (constant-is c)
+made-is (row_e9 {e = e}) = again 9 _ e
+made-is (row_e12 {e = e}) = again 12 _ e
+made-is (row_e15 {o = o} c) = ap (λ b. cond b (Some (literal_for (value_of o [] unit))) None) (on_literals-is c)
+made-is row_e1 = refl
+made-is _ = refl
+
+abbrev pub SomeRow : ℕ → Type 0
+SomeRow n = (l : Expression) × (r : Expression) × ExpressionRow n l r
+
+-- what stands in the table at a number: no law outside of the laws' numbers; two sides that are
+-- filled to a row's; or a rule that makes right sides, and a row
+abbrev pub Stands : ℕ → Rule → List Sym → List Sym → Type 0
+Stands n R.Nothing left right = 1 ≤ n → n + 1 ≤ length LAWS → ⊥
+Stands n R.Sides left right = (a : Assignment) → Related (ExpressionRow n) (filled a left) (filled a right)
+Stands n rule left right = SomeRow n × ((e : Expression) → IsRight n e (made rule left right e))
+
+infixr 5 ◌and◌
+◌and◌ : {A B : Type 0} → A → B → A × B
+a and b = (a, b)
+
+-- what stands in each row of a table, from number k on
+abbrev Each : {A : Type 0} → List A → (A → Rule) → (A → List Sym) → (A → List Sym) → ℕ → Type 0
+Each [] rule left right k = Unit {0}
+Each (x ∷ xs) rule left right k = Stands k (rule x) (left x) (right x) × Each xs rule left right (suc k)
+
+abbrev shifted : ℕ → ℕ → ℕ
+shifted k zero = k
+shifted k (suc n) = shifted (suc k) n
+
+shifted-is : (k n : ℕ) → shifted k n ≡ k + n
+shifted-is k zero = omega arith
+shifted-is k (suc n) = let e : shifted (suc k) n ≡ suc k + n = shifted-is (suc k) n in omega arith
+
+each-at : {A : Type 0} (xs : List A) (rule : A → Rule) (left right : A → List Sym) (k n : ℕ) → length LAWS ≤ k + length xs → Each xs rule left right k
+    → Stands (shifted k n) (get_or (map rule xs) n R.Nothing) (get_or (map left xs) n []) (get_or (map right xs) n [])
+each-at [] rule left right k n b e = let q = shifted-is k n in λ h l. absurd (omega (arith, q, b, l))
+each-at (x ∷ xs) rule left right k zero b e = e.0
+each-at (x ∷ xs) rule left right k (suc n) b e = each-at xs rule left right (suc k) n (omega (arith, b)) e.1
+
+found : {n : ℕ} {l r : Expression} → ExpressionRow n l r → SomeRow n
+found {l = l} {r = r} h = (l, r, h)
+
+all : Each LAWS (λ row. row.0) (λ row. row.1.now) (λ row. row.2.now) 0
+all =
+    (λ h k. absurd (omega (arith, h))) and
+    (λ a. row_e1) and
+    (λ a. row_e2) and
+    (λ a. row_e3) and
+    (found (row_e4 {f = input} (neg_spread {a = input})), law4-gives) and
+    (λ a. row_e5) and
+    (found (row_e6 {f = input} unit_constant), law6-gives) and
+    (λ a. row_e7) and
+    (λ a. row_e8) and
+    (λ a. row_e9) and
+    (λ a. row_e10) and
+    (λ a. row_e11) and
+    (λ a. row_e12) and
+    (λ a. row_e13) and
+    (λ a. row_e14) and
+    (found (row_e15 equal_units), law15-gives) and
+    (λ a. row_e16) and
+    (λ a. row_e17) and
+    (found (row_e18 {T = unit_ty} {e = input} {es = no_more} {i = pos 0} {d = input}), law18-gives) and
+    tt
+
+-- what stands at any number
+pub stands : (n : ℕ) → Stands n (rule_at n) (left_at n) (right_at n)
+stands n =
+    subst (λ k. Stands k (rule_at n) (left_at n) (right_at n)) (shifted-is 0 n ∙ omega arith)
+    (each-at LAWS (λ row. row.0) (λ row. row.1.now) (λ row. row.2.now) 0 n (omega arith) all)
+
+-- what a law of two patterns makes is a right side, and no other is
+pub two-patterns : (n : ℕ) → R.Sides ≡ rule_at n → RuleInstance (ExpressionRow n) (left_at n) (right_at n)
+two-patterns n q = record {
+  gives = subst (λ v. Stands n v (left_at n) (right_at n)) (sym q) (stands n);
+  comes = λ l r h. rewritten-some (left_at n) (right_at n) l r (subst (λ v. made v (left_at n) (right_at n) l ≡ Some r) (sym q) (made-is h));
+}
+
+some-related : (n : ℕ) (l r : Option Expression) → Related (ExpressionRow n) l r → SomeRow n
+some-related n (Some l) (Some r) h = (l, r, h)
+some-related n _ _ h = absurd h
+
+-- where a law stands there is a row
+pub some-row : (n : ℕ) (rule : Rule) (left right : List Sym) → 1 ≤ n → n + 1 ≤ length LAWS → Stands n rule left right → SomeRow n
+some-row n R.Nothing left right p q h = absurd (h p q)
+some-row n R.Sides left right p q h =
+    let a : Assignment = record { f = input; g = input; h = input; i = input; t = unit_ty } in
+    some-related n (filled a left) (filled a right) (h a)
+some-row n _ left right p q h = h.0
