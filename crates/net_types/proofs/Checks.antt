@@ -1,5 +1,5 @@
 -- The walk and the check answer exactly the networks within the limits.
-use Rattle.std.proofs.Common.{◌≡◌, ◌∙◌, ℕ, Bool, cond, true, false, arith, leb, [], Ok, Err, refl, ap, ◌≤◌, sym, le-leb, leb-true}
+use Rattle.std.proofs.Common.{◌≡◌, ◌∙◌, ℕ, Bool, cond, true, false, arith, leb, [], Option, Some, None, Ok, Err, refl, ap, subst, ◌≤◌, sym, le-leb, leb-true}
 use Rattle.sample_core.specs.TypeTree.{TypeTree}
 use Rattle.leaf_core.specs.Expression.{Expression}
 use Rattle.leaf_core.specs.TypeLimits.{type_fits}
@@ -8,7 +8,7 @@ use Rattle.leaf_core.specs.ExpressionLimits.{ExpressionTypedWithin}
 use Rattle.leaf_core.proofs.Exactness.{type_answer-exact}
 use Rattle.net_tree.specs.Network.{Network, network_size}
 use Rattle.net_tree.specs.Height.{height}
-use Rattle.net_tree.specs.Measured.{MeasuresWithin, capped}
+use Rattle.net_tree.specs.Measured.{Measured, MeasuresWithin, capped}
 use Rattle.net_tree.specs.declared.measure.Measures.{Measures}
 use Rattle.net_tree.specs.Weight.{weight}
 use Rattle.net_meaning.specs.TypedNetwork.{TypedNetwork}
@@ -87,10 +87,20 @@ pub check_faults : (A : TypeTree) (net : Network Expression) (f : TypeFault) →
     → check A net ≡ Err f
 check_faults A net f fits small e = of_few A net small ∙ faults_on _ (within_passes A (type_fits-TypeFits A fits)) (stops _ e)
 
+-- what is measured, where something is
+pub is_measured : (o : Option Measures) (m : Measures) (most : Measures) (net : Network Expression) → o ≡ Some m → Measured o most net → Measured (Some m) most net
+is_measured o m most net e h = subst (λ z. Measured z most net) e h
+
+-- where nothing is, the network isn't within the limits
+pub none_measured : (o : Option Measures) (most : Measures) (net : Network Expression) → ((m : Measures) → o ≡ Some m → ⊥) → Measured o most net
+    → MeasuresWithin most net → ⊥
+none_measured None most net never h = h
+none_measured (Some m) most net never h = absurd (never m refl)
+
 -- what isn't within the limit of the size is too heavy, where the test before is passed
-pub too_large : (A : TypeTree) (net : Network Expression) (most : Measures) → type_fits A ≡ true → 5000000 ≤ most.size → 4294967295 ≤ most.weight
-    → 4294967295 ≤ most.height → (MeasuresWithin most net → ⊥) → check A net ≡ Err Fault.TooHeavy
-too_large A net most fits i j k h = go (leb (network_size net) 5000000) refl
+pub too_large : (A : TypeTree) (net : Network Expression) (most : Measures) → (MeasuresWithin most net → ⊥) → type_fits A ≡ true → 5000000 ≤ most.size
+    → 4294967295 ≤ most.weight → 4294967295 ≤ most.height → check A net ≡ Err Fault.TooHeavy
+too_large A net most h fits i j k = go (leb (network_size net) 5000000) refl
   where
     go : (b : Bool) → leb (network_size net) 5000000 ≡ b → check A net ≡ Err Fault.TooHeavy
     go true e = let few : network_size net ≤ 5000000 = leb-true (network_size net) 5000000 e in absurd (h (omega arith, omega arith, omega arith))

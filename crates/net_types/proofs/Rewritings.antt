@@ -313,9 +313,9 @@ none_unkept t p s v d q i u r =
     true_is_false e = cc
 
 -- nor where it isn't within the limits
-pub none_outside : (t : TypedNetwork) (p : List ℕ) (s : Tree Expression) (v : Network Expression) (most : Measures) → replaced (a_network t.net) p s ≡ Some (a_network v)
-    → 5000000 ≤ most.size → 1000000 ≤ most.weight → 256 ≤ most.height → (MeasuresWithin most v → ⊥) → NoRewriting t p s
-none_outside t p s v most q i j k h u r =
+pub none_outside : (t : TypedNetwork) (p : List ℕ) (s : Tree Expression) (v : Network Expression) (most : Measures) → (MeasuresWithin most v → ⊥)
+    → replaced (a_network t.net) p s ≡ Some (a_network v) → 5000000 ≤ most.size → 1000000 ≤ most.weight → 256 ≤ most.height → NoRewriting t p s
+none_outside t p s v most h q i j k u r =
     let e : u.net ≡ v = result_is t u p s v q r in
     let light : weight v [] ≤ 1000000 = subst (λ z. weight z [] ≤ 1000000) e r.within.fits.light in
     let low : height v [] ≤ 256 = subst (λ z. height z [] ≤ 256) e r.within.fits.low in
