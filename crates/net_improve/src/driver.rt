@@ -7,6 +7,7 @@ ghost use Rattle.net_improve.specs.Improving.{Improved};
 
 use crate::build::copied;
 use crate::cost::{MOST_DEEP, cost};
+use crate::room::count_fitting;
 use crate::search::{MOST_TRIES, improve_net};
 use crate::sketch::{Clearing, Sketch, Stop};
 use leaf_core::Expr;
