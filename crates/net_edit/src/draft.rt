@@ -1,6 +1,6 @@
 // A network and the steps that made it.
 
-ghost use Rattle.std.specs.Prelude.{◌≡◌, ◌++◌, ◌∷◌, [], ◌≤◌, length, map, false, IfOk, IfSome, MatchBool};
+ghost use Rattle.std.specs.Prelude.{◌≡◌, ◌++◌, ◌∷◌, [], ◌≤◌, length, map, IfOk, IfSome, MatchBool, OnErr};
 ghost use Rattle.net_tree.specs.LawStep.{step_of};
 ghost use Rattle.cert_check.specs.Derives.{Next, Steps};
 ghost use Rattle.net_edit.specs.Drafted.{begun, TakesOneMore};
@@ -85,6 +85,7 @@ impl Draft {
         ensures source { self.new.source ≡ self.old.source }
         ensures taken { IfOk result (λ b.
             MatchBool b (TakesOneMore self.old (step_of step) self.new) (self.new ≡ self.old)) }
+        ensures unchanged { OnErr result (self.new ≡ self.old) }
     {
         if self.steps.len() >= MOST_STEPS {
             return Ok(false);
@@ -101,7 +102,9 @@ impl Draft {
     /// is as before. `Memory` where a growth was refused, as before too.
     pub fn take_all(&mut self, alloc: Global, steps: Vec<LawStep>) -> Result<bool, Memory>
         ensures source { self.new.source ≡ self.old.source }
-        ensures refused { IfOk result (λ b. b ≡ false → self.new ≡ self.old) }
+        ensures taken { IfOk result (λ b. MatchBool b
+            (self.new.steps ≡ self.old.steps ++ map step_of steps.items) (self.new ≡ self.old)) }
+        ensures unchanged { OnErr result (self.new ≡ self.old) }
     {
         let mut more = Draft::new(alloc, &self.net)?;
         for step in steps {
@@ -117,7 +120,9 @@ impl Draft {
     fn go_on(&mut self, more: Draft) -> Result<bool, Memory>
         requires { more.source ≡ self.old.net }
         ensures source { self.new.source ≡ self.old.source }
-        ensures refused { IfOk result (λ b. b ≡ false → self.new ≡ self.old) }
+        ensures taken { IfOk result (λ b. MatchBool b
+            (self.new.steps ≡ self.old.steps ++ more.steps) (self.new ≡ self.old)) }
+        ensures unchanged { OnErr result (self.new ≡ self.old) }
     {
         let (net, mut steps) = more.into_parts();
         if self.steps.len() + steps.len() > MOST_STEPS {

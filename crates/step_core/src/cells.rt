@@ -1,6 +1,6 @@
 // The first sample of a cell, and a sample of an `accumBy`.
 
-ghost use Rattle.std.specs.Prelude.{◌≡◌, ℕ, IfOk, IsTrue, map};
+ghost use Rattle.std.specs.Prelude.{◌≡◌, ◌↔◌, ℕ, IfOk, IsTrue, map};
 ghost use Rattle.sample_core.specs.{Datum.event, ValueView.datum_of};
 ghost use Rattle.cell_core.specs.{Cell.accumulator_of, CellView.cell_of, Start.IsWithin};
 ghost use Rattle.net_tree.specs.Network.{Network, accum_by};
@@ -41,7 +41,7 @@ pub(crate) fn start_cell<R: Rows>(
 
 /// Whether a cell of this form can start.
 fn is_within(form: Form) -> bool
-    ensures { IsTrue result → IsWithin form }
+    ensures { IsTrue result ↔ IsWithin form }
 {
     match form {
         Form::Delay(q) | Form::Repeatedly(q) => 1 <= q,

@@ -1,7 +1,7 @@
 // One sample through a network, node by node.
 
-ghost use Rattle.std.specs.Prelude.{◌≡◌, ◌<◌, ◌++◌, ◌∷◌, [], None, Some, IfOk, IfSome, length, map, slice_get, slice_set};
-ghost use Rattle.sample_core.specs.{Datum.left, Datum.pair, Datum.right, ValueView.datum_of};
+ghost use Rattle.std.specs.Prelude.{◌≡◌, ◌≢◌, ◌<◌, ◌++◌, ◌∷◌, [], None, Some, IfOk, MatchOption, length, map, slice_get, slice_set};
+ghost use Rattle.sample_core.specs.{Datum.Datum, Datum.left, Datum.pair, Datum.right, ValueView.datum_of};
 ghost use Rattle.net_tree.specs.Network.{map_networks, seq, first, par, loop_pre, initial_out, initial_in, accum_by, r_switch, dr_switch};
 ghost use Rattle.net_tree.specs.NetworkView.{members_of};
 ghost use Rattle.cell_core.specs.Cell.{previous};
@@ -362,7 +362,9 @@ fn feed<R: Rows>(
 /// What cell i keeps, where it is an `iPre`.
 #[inline(always)]
 fn kept_at(before: &Cells, i: usize) -> Option<&Sample>
-    ensures { IfSome result (λ v. slice_get before.now i ≡ Some (previous (datum_of v.now))) }
+    ensures { MatchOption result
+        ((v : Datum) → slice_get before.now i ≢ Some (previous v))
+        (λ v. slice_get before.now i ≡ Some (previous (datum_of v.now))) }
 {
     match before.get(i) {
         Some(cell) => cell.previous(),
