@@ -208,7 +208,7 @@ pub(crate) fn joined(alloc: Global, scope: &[u32], frozen: &[u32]) -> Result<Vec
     Ok(all)
 }
 
-/// AddsMeasures a number to the list.
+/// Adds a number to the list.
 pub(crate) fn pushed(numbers: &mut Vec<u32>, number: u32) -> Result<(), Memory>
     ensures { OnOk result (numbers.new.items ≡ numbers.old.items ++ number ∷ []) }
 {
